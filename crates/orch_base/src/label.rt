@@ -1,0 +1,50 @@
+//! Texts that contracts see as their bytes.
+
+use std::alloc::{AllocError, Global};
+use std::marker::Model;
+
+/// A text, as a cluster's label, which contracts see as the list of its bytes.
+#[derive(Drop)]
+pub struct Label {
+    text: String,
+}
+
+impl Model for Label {
+    ghost use Rattle.std.specs.Prelude.{ℕ, List, string_bytes};
+
+    ghost Value = { List ℕ };
+
+    ghost view = { λ l. string_bytes l.text };
+}
+
+impl Label {
+    ghost use Rattle.std.specs.Prelude.{◌≡◌, IfOk, string_bytes};
+
+    /// The label of this text. It takes no memory.
+    pub fn new(text: String) -> Label
+        ensures { result ≡ string_bytes text }
+    {
+        Label { text }
+    }
+
+    pub fn as_str(&self) -> &str
+        ensures { result.now ≡ self.now }
+    {
+        &self.text
+    }
+
+    /// The same label once more.
+    pub fn copy(&self, alloc: Global) -> Result<Label, AllocError>
+        ensures { IfOk result (λ l. l ≡ self.now) }
+    {
+        let text = String::from_str(alloc, self.text.as_str())?;
+        Ok(Label { text })
+    }
+
+    /// Gives the text back. It takes no memory.
+    pub fn into_string(self) -> String
+        ensures { string_bytes result ≡ self }
+    {
+        self.text
+    }
+}

@@ -1,0 +1,18 @@
+//! What every layer stands on: servers by name and number, and sources and sinks that count their faults.
+#![tactic(auto)]
+
+mod failed;
+mod label;
+mod memory;
+mod name;
+mod server;
+mod sink;
+mod source;
+
+pub use failed::{Failed, NotRead};
+pub use label::Label;
+pub use memory::{MemSink, MemSource};
+pub use name::{Name, NameFault, printed_reads};
+pub use server::{IoState, Moment, ServerNo, Settings, SourceState, Txn, Version};
+pub use sink::{Sink, write_all};
+pub use source::{LIMIT, Source, read_all};

@@ -1,0 +1,163 @@
+//! Names of servers.
+
+ghost use Rattle.std.specs.Prelude.{◌≡◌, ◌++◌, Ok, IfOk, OnOk, OnErr, Some, option_map, string_bytes, position, not, nat_le, slice_index};
+ghost use Rattle.std.specs.Io.{StartsWith};
+ghost use Rattle.orch_base.specs.Gives.{Gives};
+ghost use Rattle.orch_base.specs.Names.{fault_of, is_host_byte, host_of, port_of, host_at, port_at, port_value, name_at, printed, same_name, HostPort, IsName};
+ghost use Rattle.orch_base.specs.declared.name.NameFault.TheVariants.{Memory};
+
+use itoa::Buffer;
+use std::alloc::{AllocError, Global};
+use std::marker::Model;
+
+/// What is wrong with a text that is no name: the first fault in this order.
+#[derive(Clone, Copy, Debug, PartialEq, Eq)]
+pub enum NameFault {
+    /// No host.
+    Empty,
+    /// A host of more than 255 bytes.
+    TooLong,
+    /// A byte of the host, by its place, that is no letter, digit, `.`, `-` or `_`.
+    BadByte(usize),
+    /// No decimal of 1 to 65535 without leading zero.
+    BadPort,
+    /// Want of memory.
+    Memory,
+}
+
+impl From<AllocError> for NameFault {
+    ghost from_gives = { λ _ e. e ≡ Memory };
+
+    fn from(_e: AllocError) -> NameFault {
+        NameFault::Memory
+    }
+}
+
+/// A server's name: its host and port.
+#[derive(Drop)]
+pub struct Name {
+    host: String,
+    port: u16,
+}
+
+impl Model for Name {
+    ghost use Rattle.std.specs.Prelude.{string_bytes};
+    ghost use Rattle.orch_base.specs.Names.{HostPort};
+
+    ghost Value = { HostPort };
+
+    ghost view = { λ n. record { host = string_bytes n.host; port = n.port } };
+}
+
+fn is_host_byte(b: u8) -> bool
+    ensures { result ≡ is_host_byte b }
+{
+    matches!(b, b'a'..=b'z' | b'A'..=b'Z' | b'0'..=b'9' | b'.' | b'-' | b'_')
+}
+
+// The text before the first colon, and the text behind it.
+fn parts(text: &str) -> (&str, Option<&str>)
+    ensures host { result.0.now ≡ host_of text.now }
+    ensures port { option_map (λ s. s.now) result.1 ≡ port_of text.now }
+{
+    match text.split_once(':') {
+        Some((host, port)) => (host, Some(port)),
+        None => (text, None),
+    }
+}
+
+fn first_bad_byte(host: &[u8]) -> Option<usize>
+    ensures { result ≡ position (λ b. not (is_host_byte b)) host.now }
+{
+    host.iter().position(|b| !is_host_byte(*b))
+}
+
+fn read_host(alloc: Global, host: &str) -> Result<String, NameFault>
+    ensures { Gives string_bytes fault_of result (host_at host.now) }
+{
+    if host.is_empty() {
+        return Err(NameFault::Empty);
+    }
+    if host.len() > 255 {
+        return Err(NameFault::TooLong);
+    }
+    match first_bad_byte(host.as_bytes()) {
+        Some(place) => Err(NameFault::BadByte(place)),
+        None => Ok(String::from_str(alloc, host)?),
+    }
+}
+
+fn read_port(port: Option<&str>) -> Result<u16, NameFault>
+    ensures { Gives (λ n. n) fault_of result (port_at (option_map (λ s. s.now) port.entry)) }
+{
+    match port {
+        None => Ok(3306),
+        Some(digits) => match port_number(digits) {
+            Some(number) => Ok(number),
+            None => Err(NameFault::BadPort),
+        },
+    }
+}
+
+fn begins_above_zero(digits: &[u8]) -> bool
+    ensures { result ≡ nat_le 49 (slice_index digits.now 0) }
+{
+    !digits.is_empty() && digits[0] >= b'1'
+}
+
+fn port_number(digits: &str) -> Option<u16>
+    ensures { result ≡ port_value (Some digits.now) }
+{
+    if !begins_above_zero(digits.as_bytes()) {
+        return None;
+    }
+    digits.parse::<u16>().ok()
+}
+
+impl Name {
+    /// Reads HOST or HOST:PORT. Where there is no port it is 3306.
+    #[tactic(auto, unfolding(crate::specs::Names::name_at))]
+    pub fn read(alloc: Global, text: &str) -> Result<Name, NameFault>
+        ensures { Gives (λ n. n) fault_of result (name_at text.now) }
+    {
+        let (host, port) = parts(text);
+        let host = read_host(alloc, host)?;
+        let port = read_port(port)?;
+        Ok(Name { host, port })
+    }
+
+    /// The same name once more.
+    pub fn copy(&self, alloc: Global) -> Result<Name, AllocError>
+        ensures { IfOk result (λ n. n ≡ self.now) }
+    {
+        let host = String::from_str(alloc, self.host.as_str())?;
+        Ok(Name {
+            host,
+            port: self.port,
+        })
+    }
+
+    /// Whether host and port are the same, byte for byte.
+    pub fn is_same(&self, other: &Name) -> bool
+        ensures { result ≡ same_name self.now other.now }
+    {
+        self.host.as_bytes() == other.host.as_bytes() && self.port == other.port
+    }
+
+    /// Appends HOST:PORT.
+    pub fn print(&self, out: &mut Vec<u8>) -> Result<(), AllocError>
+        ensures ok { OnOk result (out.new.items ≡ out.old.items ++ printed self.now) }
+        ensures err { OnErr result (StartsWith out.new.items out.old.items) }
+    {
+        let mut buffer = Buffer::new();
+        out.extend_from_slice(self.host.as_bytes())?;
+        out.push(b':')?;
+        out.extend_from_slice(buffer.format(self.port).as_bytes())?;
+        Ok(())
+    }
+}
+
+/// What is printed reads as the same name.
+pub fn printed_reads()
+    ensures { (name : HostPort) → IsName name → name_at (printed name) ≡ Ok name }
+{}
