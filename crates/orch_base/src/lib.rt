@@ -9,6 +9,7 @@ mod server;
 mod sink;
 mod source;
 
+pub use std::alloc::AllocError as Memory;
 pub use failed::{Failed, NotRead};
 pub use label::Label;
 pub use memory::{MemSink, MemSource};

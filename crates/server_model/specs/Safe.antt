@@ -1,0 +1,47 @@
+-- When a world is safe: each replica has executed a beginning of its source's transactions, and stands at its end.
+use Rattle.std.specs.Prelude.{◌≡◌, ℕ, ◌+◌, true, List, length, take, Option, Some, None, slice_get}
+use Rattle.binlog_coords.specs.Log.{place, is_at_or_before}
+use Rattle.orch_base.specs.declared.server.Txn.{Txn}
+use Rattle.server_model.specs.Histories.{same_txn, count_own}
+use Rattle.server_model.specs.Layout.{LaysOut}
+use Rattle.server_model.specs.Worlds.{World, server_at, histories, sources, source_no}
+use Rattle.server_model.specs.declared.server.Server.{Server}
+
+-- A replica stands well under its source: what it executed is a beginning of what the source executed, its executed
+-- coordinate is where that beginning ends, and what it has read is not behind.
+pub record AttachedWell (r s : Server) : Type 0 where
+  pub prefix : take (length r.history.txns) s.history.txns ≡ r.history.txns
+  pub exec_place : place s.log.log r.exec ≡ Some (length r.history.txns)
+  pub read_place : (k : ℕ) × (place s.log.log r.read ≡ Some k)
+  pub order : is_at_or_before r.exec r.read ≡ true
+
+-- the histories are kin
+pub record IsKin (h : ℕ → List Txn) : Type 0 where
+  -- where two histories hold the same transaction they are equal up to and including it
+  pub alike : (a b i j : ℕ) (x y : Txn) → slice_get (h a) i ≡ Some x → slice_get (h b) j ≡ Some y → same_txn x y ≡ true → take (i + 1) (h a) ≡ take (j + 1) (h b)
+  -- the numbers of one origin are 1, 2, 3 and so on, in order
+  pub numbered : (a i : ℕ) (x : Txn) → slice_get (h a) i ≡ Some x → x.seq ≡ count_own x.origin.0 (take i (h a)) + 1
+  -- a transaction is in its origin's history
+  pub home : (a i : ℕ) (x : Txn) → slice_get (h a) i ≡ Some x → (j : ℕ) × (slice_get (h x.origin.0) j ≡ Some x)
+
+-- the chain of sources above a server ends
+pub data Grounded (up : ℕ → Option ℕ) : ℕ → Type 0 where
+  Root : (n : ℕ) → up n ≡ None → Grounded up n
+  Under : (n m : ℕ) → up n ≡ Some m → Grounded up m → Grounded up n
+
+-- a source's server is there and logs
+abbrev pub IsSource : World → ℕ → Type 0
+IsSource w m = (s : Server) × (server_at w m ≡ Some s) × (s.settings.logs ≡ true)
+
+-- Every server with a source stands well under it, all histories are kin, no server is below itself, every source
+-- logs, and every log lays out its server's history.
+pub record Safe (w : World) : Type 0 where
+  pub laid : (n : ℕ) (s : Server) → server_at w n ≡ Some s → s.settings.logs ≡ true → LaysOut s.history.txns s.log.log
+  pub well : (n m : ℕ) (r s : Server) → server_at w n ≡ Some r → source_no r.source ≡ Some m → server_at w m ≡ Some s → AttachedWell r s
+  pub logging : (n m : ℕ) (r : Server) → server_at w n ≡ Some r → source_no r.source ≡ Some m → IsSource w m
+  pub kin : IsKin (histories w)
+  pub grounded : (n : ℕ) → Grounded (sources w) n
+
+-- no write was accepted by a server that had a source
+abbrev pub IsQuiet : World → Type 0
+IsQuiet w = w.errant ≡ 0

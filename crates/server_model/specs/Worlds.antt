@@ -1,0 +1,45 @@
+-- Servers and the world of them.
+use Rattle.std.specs.Prelude.{ℕ, Bool, true, false, List, [], Option, Some, None, slice_get, slice_set}
+use Rattle.orch_base.specs.declared.server.Txn.{Txn}
+use Rattle.orch_base.specs.declared.server.SourceState.{SourceState}
+use Rattle.orch_base.specs.declared.server.SourceState.TheVariants.{Without, Attached, Detached}
+use Rattle.server_model.specs.declared.server.Server.{Server}
+
+-- the servers by their numbers, whether they use GTIDs, and how many writes a server with a source accepted
+pub record World : Type 0 where
+  pub servers : List Server
+  pub gtid : Bool
+  pub errant : ℕ
+
+-- the server that a server is attached to or detached from
+abbrev pub source_no : SourceState → Option ℕ
+source_no Without = None
+source_no (Attached m) = Some m.0
+source_no (Detached m) = Some m.0
+
+abbrev pub has_source : SourceState → Bool
+has_source Without = false
+has_source (Attached m) = true
+has_source (Detached m) = true
+
+abbrev pub server_at : World → ℕ → Option Server
+server_at w n = slice_get w.servers n
+
+abbrev pub history_of : Option Server → List Txn
+history_of None = []
+history_of (Some s) = s.history.txns
+
+abbrev pub source_of : Option Server → Option ℕ
+source_of None = None
+source_of (Some s) = source_no s.source
+
+-- the history of each server, and the server above it
+abbrev pub histories : World → ℕ → List Txn
+histories w n = history_of (server_at w n)
+
+abbrev pub sources : World → ℕ → Option ℕ
+sources w n = source_of (server_at w n)
+
+-- the world with another server n
+abbrev pub with_server : World → ℕ → Server → World
+with_server w n s = record { servers = slice_set w.servers n s; gtid = w.gtid; errant = w.errant }

@@ -1,0 +1,95 @@
+//! The transactions that a server has executed.
+
+ghost use Rattle.std.specs.Prelude.{◌≡◌, ◌+◌, ◌<◌, ◌≤◌, [], ◌∷◌, ◌++◌, length, IfOk, slice_get};
+ghost use Rattle.server_model.specs.Histories.{holds, same_txn};
+
+use orch_base::{Memory, Txn};
+use std::alloc::Global;
+use std::marker::Model;
+
+/// The transactions that a server has executed, in order, in room that was reserved.
+#[derive(Drop)]
+pub struct History {
+    txns: Vec<Txn>,
+    room: u64,
+}
+
+impl Model for History {
+    ghost use Rattle.server_model.specs.Kept.{Kept};
+
+    ghost Value = { Kept };
+
+    ghost use Rattle.server_model.specs.KeptBy.{kept_of, IsReserved};
+
+    ghost view = { kept_of };
+
+    ghost invariant = { IsReserved };
+}
+
+impl History {
+    /// An empty history with room for so many transactions: at most 4,000,000.
+    pub fn with_room(alloc: Global, room: u64) -> Result<History, Memory>
+        requires { room ≤ 4000000 }
+        ensures { IfOk result (λ h. h ≡ record { txns = []; room = room }) }
+    {
+        let txns = Vec::with_capacity(alloc, room as usize)?;
+        Ok(History { txns, room })
+    }
+
+    /// How many transactions there are.
+    pub fn len(&self) -> u64
+        ensures value { result ≡ length self.now.txns }
+        ensures within { result ≤ self.now.room }
+    {
+        self.txns.len() as u64
+    }
+
+    /// How many transactions there is room for.
+    pub fn room(&self) -> u64
+        ensures value { result ≡ self.now.room }
+        ensures within { result ≤ 4000000 }
+    {
+        self.room
+    }
+
+    /// Adds a transaction at the end.
+    pub fn push(&mut self, t: Txn)
+        requires { length self.old.txns < self.old.room }
+        ensures { self.new ≡ record self.old { txns = self.old.txns ++ t ∷ [] } }
+    {
+        self.txns.push_reserved(t);
+    }
+
+    /// The transaction of this index, from 0.
+    pub fn get(&self, k: u64) -> Option<Txn>
+        ensures { result ≡ slice_get self.now.txns k }
+    {
+        self.txns.get(k as usize).copied()
+    }
+
+    /// Whether the transaction is among them.
+    pub fn holds(&self, t: Txn) -> bool
+        ensures { result ≡ holds t self.now.txns }
+    {
+        holds(&self.txns, t)
+    }
+
+    /// The transactions in order.
+    pub fn as_slice(&self) -> &[Txn]
+        ensures { result.now ≡ self.now.txns }
+    {
+        &self.txns
+    }
+}
+
+fn same_txn(x: Txn, y: Txn) -> bool
+    ensures { result ≡ same_txn x y }
+{
+    x.origin.0 == y.origin.0 && x.seq == y.seq
+}
+
+fn holds(txns: &[Txn], t: Txn) -> bool
+    ensures { result ≡ holds t txns.now }
+{
+    txns.iter().any(|x| same_txn(*x, t))
+}

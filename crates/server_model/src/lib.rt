@@ -1,0 +1,18 @@
+//! The modelled servers: each exchange with them is one step of a world.
+#![tactic(auto)]
+
+mod answers;
+mod history;
+mod opening;
+mod plain;
+mod relay;
+mod server;
+//mod world;
+
+pub use answers::{ApplyAnswer, ApplyStep, FetchAnswer, FetchStep, WriteAnswer};
+pub use history::History;
+pub use opening::{Opening, Part, Parts, ServerInit};
+pub use plain::Plain;
+pub use relay::Relay;
+pub use server::Server;
+//pub use world::{Ledger, World};

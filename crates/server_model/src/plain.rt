@@ -1,0 +1,24 @@
+//! What is told of a server for the tables.
+
+use binlog_coords::Coord;
+use orch_base::SourceState;
+
+/// A server's state but for what it has executed and logged.
+#[derive(Clone, Copy, Debug, PartialEq, Eq)]
+pub struct Plain {
+    pub up: bool,
+    /// Whether orchestrator's link to the server is joined.
+    pub desk: bool,
+    /// Whether the server's link to its source is joined.
+    pub feed: bool,
+    pub read_only: bool,
+    pub source: SourceState,
+    /// The executed coordinate.
+    pub exec: Coord,
+    /// The read coordinate.
+    pub read: Coord,
+    pub auto: bool,
+    pub receiver: bool,
+    pub applier: bool,
+    pub until: Option<Coord>,
+}
