@@ -68,9 +68,13 @@ abbrev pub fetch_from : Server → Option Server → FetchStep
 fetch_from r None = receiving.Unlinked
 fetch_from r (Some s) = if s.up && r.feed then receiving.Take (next_after s.log.log r.read) else receiving.Unlinked
 
+-- the receiver of a replica is on
+abbrev pub is_receiving : Server → Bool
+is_receiving r = r.up && (is_attached r.source && r.receiver)
+
 abbrev pub fetch_step : World → Option Server → FetchStep
 fetch_step w None = receiving.Halt
-fetch_step w (Some r) = if r.up && (is_attached r.source && r.receiver) then fetch_from r (attached_at w r.source) else receiving.Halt
+fetch_step w (Some r) = if is_receiving r then fetch_from r (attached_at w r.source) else receiving.Halt
 
 -- what is answered of a step
 abbrev pub fetch_answer : FetchStep → FetchAnswer
@@ -111,10 +115,14 @@ abbrev pub apply_from : Bool → Server → Option Server → ApplyStep
 apply_from gtid r None = applying.Idle
 apply_from gtid r (Some s) = if same_coord r.exec r.read then applying.Idle else applied gtid r s (next_after s.log.log r.exec)
 
+-- the applier of a replica is on
+abbrev pub is_applying : Server → Bool
+is_applying r = r.up && (is_attached r.source && r.applier)
+
 abbrev pub apply_step : World → Option Server → ApplyStep
 apply_step w None = applying.Halt
 apply_step w (Some r) =
-    if not (r.up && (is_attached r.source && r.applier)) then applying.Halt
+    if not (is_applying r) then applying.Halt
     else if is_reached r.until r.exec then applying.ForgetUntil
     else apply_from w.gtid r (attached_at w r.source)
 

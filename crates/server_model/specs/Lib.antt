@@ -8,3 +8,6 @@ pub mod Worlds
 pub mod Exchanges
 pub mod Safe
 pub mod Run
+pub mod Plains
+pub mod Links
+pub mod WorldsBy

@@ -3,11 +3,13 @@
 
 mod answers;
 mod history;
+mod ledger;
 mod opening;
 mod plain;
 mod relay;
 mod server;
-//mod world;
+mod steps;
+mod world;
 
 pub use answers::{ApplyAnswer, ApplyStep, FetchAnswer, FetchStep, WriteAnswer};
 pub use history::History;
@@ -15,4 +17,5 @@ pub use opening::{Opening, Part, Parts, ServerInit};
 pub use plain::Plain;
 pub use relay::Relay;
 pub use server::Server;
-//pub use world::{Ledger, World};
+pub use ledger::Ledger;
+pub use world::World;

@@ -1,0 +1,38 @@
+use Rattle.std.proofs.Common.{◌≡◌, ◌<◌, length, Some, arith, subst, sym, ap, ◌∙◌}
+use Rattle.std.specs.Prelude.{slice_get}
+use Rattle.server_model.specs.Worlds.{World, server_at}
+use Rattle.server_model.specs.Exchanges.{fetch_step}
+use Rattle.server_model.specs.declared.answers.FetchStep.TheVariants as receiving
+use Rattle.server_model.proofs.Lists.{slice_get-index}
+use Rattle.server_model.proofs.Fetched.{IsTake, take_in, goes_from, room-receive, IsKept-receive, receive-left}
+use Rattle.server_model.proofs.world.World.receive.Goals as goal
+
+pub push-requires : goal.push-requires
+push-requires c =
+    let within : c.args.no.0 < length c.self.inside.servers.items = subst (λ (w : World). c.args.no.0 < length w.servers) (sym c.self.view_is) c.requires.server in
+    let beyond : c.args.no.0 < length c.self.inside.ledgers.items = let e = c.self.invariant.paired in omega arith in
+    let here = slice_get-index c.self.inside.servers.items c.args.no.0 c.index_mut-r.result.now within c.index_mut-r.ensures.value in
+    let beside = slice_get-index c.self.inside.ledgers.items c.args.no.0 c.index_mut-l.result.now beyond c.index_mut-l.ensures.value in
+    room-receive c.self.inside.servers.items c.self.inside.ledgers.items c.self.inside.errant c.args.no.0 c.index_mut-r.result.now c.index_mut-l.result.now c.args.next c.args.to
+    c.self.invariant here beside
+    (take_in c.args.self.now c.self.inside.servers.items c.self.inside.gtid c.self.inside.errant c.args.no.0 c.index_mut-r.result.now c.args.next c.self.view_is here c.requires.step)
+    (goes_from c.args.next c.args.to c.requires.end)
+
+pub invariant_of-self : goal.invariant_of-self
+invariant_of-self c =
+    let within : c.args.no.0 < length c.self.inside.servers.items = subst (λ (w : World). c.args.no.0 < length w.servers) (sym c.self.view_is) c.requires.server in
+    let beyond : c.args.no.0 < length c.self.inside.ledgers.items = let e = c.self.invariant.paired in omega arith in
+    let here = slice_get-index c.self.inside.servers.items c.args.no.0 c.index_mut-r.result.now within c.index_mut-r.ensures.value in
+    let beside = slice_get-index c.self.inside.ledgers.items c.args.no.0 c.index_mut-l.result.now beyond c.index_mut-l.ensures.value in
+    rw c.push.ensures
+    (IsKept-receive c.self.inside.servers.items c.self.inside.ledgers.items c.self.inside.errant c.args.no.0 c.index_mut-r.result.now c.index_mut-l.result.now c.args.next c.args.to
+    c.self.invariant here beside
+    (take_in c.args.self.now c.self.inside.servers.items c.self.inside.gtid c.self.inside.errant c.args.no.0 c.index_mut-r.result.now c.args.next c.self.view_is here c.requires.step)
+    (goes_from c.args.next c.args.to c.requires.end))
+
+pub returns : goal.returns
+returns c =
+    let within : c.args.no.0 < length c.self.inside.servers.items = subst (λ (w : World). c.args.no.0 < length w.servers) (sym c.self.view_is) c.requires.server in
+    receive-left c.args.self.now c.self.inside.servers.items c.self.inside.gtid c.self.inside.errant c.args.no.0 c.index_mut-r.result.now c.args.next c.args.to c.self.view_is
+    (slice_get-index c.self.inside.servers.items c.args.no.0 c.index_mut-r.result.now within c.index_mut-r.ensures.value)
+    (goes_from c.args.next c.args.to c.requires.end)

@@ -1,0 +1,64 @@
+-- What is kept of each server beside its state: its relay log, and what lets every exchange go without a search.
+use Rattle.std.specs.Prelude.{◌≡◌, ◌⊎◌, ℕ, ◌+◌, ◌*◌, ◌<◌, ◌≤◌, Bool, true, List, [], ◌∷◌, length, sum_by, All, Option, Some, None, slice_get}
+use Rattle.binlog_coords.specs.declared.Coord.{Coord}
+use Rattle.binlog_coords.specs.declared.Next.{Next}
+use Rattle.binlog_coords.specs.declared.Next.TheVariants as next
+use Rattle.binlog_coords.specs.Grown.{Grown}
+use Rattle.binlog_coords.specs.Log.{place}
+use Rattle.binlog_coords.specs.Relay.{IsRelay}
+use Rattle.orch_base.specs.declared.server.Txn.{Txn}
+use Rattle.server_model.specs.Histories.{count_own}
+use Rattle.server_model.specs.Exchanges.{applied}
+use Rattle.server_model.specs.Worlds.{source_no}
+use Rattle.server_model.specs.declared.answers.ApplyStep.{ApplyStep}
+use Rattle.server_model.specs.declared.answers.ApplyStep.TheVariants as applying
+use Rattle.server_model.specs.declared.server.Server.{Server}
+use Rattle.server_model.specs.declared.ledger.Ledger.{Ledger}
+
+-- where a step of a log ends, if there is one
+abbrev pub end_of_step : Next → Option Coord
+end_of_step (next.Entry index to) = Some to
+end_of_step (next.Rotate to) = Some to
+end_of_step next.End = None
+
+-- what the applier does with this relay log
+abbrev pub relay_step : Bool → Server → Server → List Next → ApplyStep
+relay_step gtid r s [] = applying.Idle
+relay_step gtid r s (x ∷ xs) = applied gtid r s x
+
+-- the step moves the executed coordinate there and executes nothing
+abbrev pub Passes : ApplyStep → Coord → Type 0
+Passes step to = (step ≡ applying.Pass to) ⊎ (step ≡ applying.Skip to)
+
+abbrev pub HasSize : Txn → Type 0
+HasSize t = (0 < t.size) × (t.size ≤ 1000000)
+
+-- a server's numbers are in their ranges, and its log has as much room as its history
+pub record IsFit (s : Server) : Type 0 where
+  pub high : s.history.room ≤ 4000000
+  pub room : s.history.room ≤ s.log.room
+  pub within : length s.history.txns ≤ s.history.room
+  pub entries : length s.log.log.entries ≤ length s.history.txns
+  pub sizes : All HasSize s.history.txns
+  pub grown : Grown s.log.log
+
+-- the relay log has room for all that a server's log can come to hold
+pub record IsRoomy (l : Ledger) (s : Server) : Type 0 where
+  pub enough : s.log.log.files + s.log.flushes + 2 * s.log.room ≤ l.relay.room + length s.log.log.entries
+
+-- the relay log of r is the part of the log of its source s from the executed to the read coordinate, which both have places
+pub record IsLinked (r s : Server) (l : Ledger) : Type 0 where
+  pub relay : IsRelay s.log.log r.exec l.relay.steps r.read
+  pub exec_place : (k : ℕ) × (place s.log.log r.exec ≡ Some k)
+  pub read_place : (k : ℕ) × (place s.log.log r.read ≡ Some k)
+
+-- the servers, with what is kept beside each, and the count of errant writes
+pub record IsKept (servers : List Server) (ledgers : List Ledger) (errant : ℕ) : Type 0 where
+  pub few : length servers ≤ 1000
+  pub paired : length ledgers ≡ length servers
+  pub errant_few : errant ≤ sum_by (λ s. length s.history.txns) servers
+  pub fit : (n : ℕ) (s : Server) → slice_get servers n ≡ Some s → IsFit s
+  pub own : (n : ℕ) (s : Server) (l : Ledger) → slice_get servers n ≡ Some s → slice_get ledgers n ≡ Some l → l.own ≡ count_own n s.history.txns
+  pub roomy : (n m : ℕ) (l : Ledger) (s : Server) → slice_get ledgers n ≡ Some l → slice_get servers m ≡ Some s → IsRoomy l s
+  pub apart : (n : ℕ) (s : Server) → slice_get servers n ≡ Some s → source_no s.source ≡ Some n → ⊥
+  pub linked : (n m : ℕ) (r s : Server) (l : Ledger) → slice_get servers n ≡ Some r → source_no r.source ≡ Some m → slice_get servers m ≡ Some s → slice_get ledgers n ≡ Some l → IsLinked r s l

@@ -1,0 +1,142 @@
+//! What a receiver and an applier are to do next.
+
+ghost use Rattle.std.specs.Prelude.{◌≡◌, ◌<◌, ◌≤◌, All, Some, true, ◌==◌, if◌then◌else◌};
+ghost use Rattle.binlog_coords.specs.Log.{has_place};
+ghost use Rattle.server_model.specs.Exchanges.{applied, apply_answer, fetch_answer, fetch_from, is_applying, is_attached, is_reached, is_receiving, IsReady};
+ghost use Rattle.server_model.specs.Worlds.{has_source};
+ghost use Rattle.server_model.specs.Links.{end_of_step, relay_step, HasSize};
+
+use crate::{ApplyAnswer, ApplyStep, FetchAnswer, FetchStep, Relay, Server};
+use binlog_coords::{Coord, Next};
+use orch_base::{ServerNo, SourceState, Txn};
+
+fn is_attached(source: SourceState) -> bool
+    ensures { result ≡ is_attached source }
+{
+    matches!(source, SourceState::Attached(_))
+}
+
+/// Whether the receiver of a replica is on.
+pub(crate) fn is_receiving(r: &Server) -> bool
+    ensures { result ≡ is_receiving r.now }
+{
+    r.up && (is_attached(r.source) && r.receiver)
+}
+
+/// Whether the applier of a replica is on.
+pub(crate) fn is_applying(r: &Server) -> bool
+    ensures { result ≡ is_applying r.now }
+{
+    r.up && (is_attached(r.source) && r.applier)
+}
+
+/// How many of the writes that a server with this source accepts are errant: each, or none.
+pub(crate) fn errant_writes(source: SourceState) -> u64
+    ensures value { result ≡ (if has_source source then 1 else 0) }
+    ensures within { result ≤ 1 }
+{
+    match source {
+        SourceState::Without => 0,
+        SourceState::Attached(_) | SourceState::Detached(_) => 1,
+    }
+}
+
+pub(crate) fn is_reached(until: Option<Coord>, exec: Coord) -> bool
+    ensures { result ≡ is_reached until exec }
+{
+    match until {
+        None => false,
+        Some(until) => until.file < exec.file || (until.file == exec.file && until.pos <= exec.pos),
+    }
+}
+
+/// What the receiver of `r`, which is on, is to do under its source `s`.
+pub(crate) fn receiver_step(r: &Server, s: &Server) -> FetchStep
+    requires { has_place s.now.log.log r.now.read ≡ true }
+    ensures { result ≡ fetch_from r.now (Some s.now) }
+{
+    if s.up && r.feed {
+        FetchStep::Take(s.log.next_after(r.read))
+    } else {
+        FetchStep::Unlinked
+    }
+}
+
+/// Where a step of a log ends, if there is one.
+pub(crate) fn end_of_step(next: Next) -> Option<Coord>
+    ensures { result ≡ end_of_step next }
+{
+    match next {
+        Next::Entry(_, to) | Next::Rotate(to) => Some(to),
+        Next::End => None,
+    }
+}
+
+pub(crate) fn fetch_answer(step: FetchStep) -> FetchAnswer
+    ensures { result ≡ fetch_answer step }
+{
+    match step {
+        FetchStep::Halt => FetchAnswer::Stopped,
+        FetchStep::Unlinked => FetchAnswer::NoLink,
+        FetchStep::Take(Next::Entry(_, to)) => FetchAnswer::Got(to),
+        FetchStep::Take(Next::Rotate(to)) => FetchAnswer::Rotated(to),
+        FetchStep::Take(Next::End) => FetchAnswer::Nothing,
+    }
+}
+
+/// One where the transaction is of this server, else none.
+pub(crate) fn own_of(no: ServerNo, t: Txn) -> u64
+    ensures value { result ≡ (if t.origin.0 == no.0 then 1 else 0) }
+    ensures within { result ≤ 1 }
+{
+    if t.origin.0 == no.0 { 1 } else { 0 }
+}
+
+pub(crate) fn apply_answer(step: ApplyStep) -> ApplyAnswer
+    ensures { result ≡ apply_answer step }
+{
+    match step {
+        ApplyStep::Halt => ApplyAnswer::Stopped,
+        ApplyStep::ForgetUntil => ApplyAnswer::AtUntil,
+        ApplyStep::Idle => ApplyAnswer::Nothing,
+        ApplyStep::Pass(to) => ApplyAnswer::Rotated(to),
+        ApplyStep::Skip(to) => ApplyAnswer::Skipped(to),
+        ApplyStep::NoRoom => ApplyAnswer::Full,
+        ApplyStep::Execute(_, to) => ApplyAnswer::Done(to),
+    }
+}
+
+/// What the applier of `r`, which is on and isn't where it is to stop, is to do under its source `s`.
+pub(crate) fn relay_step(gtid: bool, r: &Server, s: &Server, relay: &Relay) -> ApplyStep
+    requires { All HasSize s.now.history.txns }
+    ensures step { result ≡ relay_step gtid r.now s.now relay.now.steps }
+    ensures ready { IsReady (Some r.now) result }
+{
+    match relay.front() {
+        None => ApplyStep::Idle,
+        Some(next) => applied(gtid, r, s, next),
+    }
+}
+
+fn applied(gtid: bool, r: &Server, s: &Server, next: Next) -> ApplyStep
+    requires { All HasSize s.now.history.txns }
+    ensures step { result ≡ applied gtid r.now s.now next }
+    ensures ready { IsReady (Some r.now) result }
+{
+    match next {
+        Next::Entry(index, to) => match s.history.get(index) {
+            None => ApplyStep::Idle,
+            Some(t) => {
+                if gtid && r.history.holds(t) {
+                    ApplyStep::Skip(to)
+                } else if r.history.room() <= r.history.len() {
+                    ApplyStep::NoRoom
+                } else {
+                    ApplyStep::Execute(t, to)
+                }
+            }
+        },
+        Next::Rotate(to) => ApplyStep::Pass(to),
+        Next::End => ApplyStep::Idle,
+    }
+}

@@ -1,0 +1,264 @@
+//! The world of servers.
+
+ghost use Rattle.std.specs.Prelude.{◌≡◌, ◌+◌, ◌<◌, ◌≤◌, length, Some, slice_get, slice_index, option_map};
+ghost use Rattle.std.specs.Option.{option_copied};
+ghost use Rattle.server_model.specs.Worlds.{server_at};
+ghost use Rattle.server_model.specs.Exchanges.{write_answer, after_write, fetch_step, fetch_answer, after_fetch, attached_at, apply_step, apply_answer, after_apply, IsReady};
+ghost use Rattle.server_model.specs.Links.{end_of_step, Passes};
+ghost use Rattle.server_model.specs.Plains.{plain_of, log_of};
+
+use crate::steps::{
+    apply_answer, end_of_step, errant_writes, fetch_answer, is_applying, is_reached, is_receiving, own_of, receiver_step,
+    relay_step,
+};
+use crate::{
+    ApplyAnswer, ApplyStep, FetchAnswer, FetchStep, Ledger, Plain, Server, WriteAnswer,
+};
+use binlog_coords::{Coord, LogIndex, Next};
+use orch_base::{ServerNo, Settings, SourceState, Txn};
+use std::marker::Model;
+
+/// All servers.
+#[derive(Drop)]
+pub struct World {
+    servers: Vec<Server>,
+    ledgers: Vec<Ledger>,
+    gtid: bool,
+    errant: u64,
+}
+
+impl Model for World {
+    ghost use Rattle.server_model.specs.Worlds.{World as WorldState};
+
+    ghost Value = { WorldState };
+
+    ghost use Rattle.server_model.specs.WorldsBy.{world_of, IsKeptInside};
+
+    ghost view = { world_of };
+
+    ghost invariant = { IsKeptInside };
+}
+
+impl World {
+    /// How many servers there are: 1 to 1,000.
+    pub fn servers(&self) -> u32
+        ensures { result ≡ length self.now.servers }
+    {
+        self.servers.len() as u32
+    }
+
+    /// The settings of a server.
+    pub fn settings(&self, no: ServerNo) -> &Settings
+        requires { no.0 < length self.now.servers }
+        ensures { option_map (λ s. s.settings) (server_at self.now no.0) ≡ Some result.now }
+    {
+        &self.servers[no.0 as usize].settings
+    }
+
+    /// How many writes were accepted by servers with a source.
+    pub fn errant(&self) -> u64
+        ensures { result ≡ self.now.errant }
+    {
+        self.errant
+    }
+
+    /// How many transactions a server has executed.
+    pub fn executed(&self, no: ServerNo) -> u64
+        requires { no.0 < length self.now.servers }
+        ensures { option_map (λ s. length s.history.txns) (server_at self.now no.0) ≡ Some result }
+    {
+        self.servers[no.0 as usize].history.len()
+    }
+
+    /// What the tables tell of a server, reachable or not.
+    pub fn plain(&self, no: ServerNo) -> Plain
+        requires { no.0 < length self.now.servers }
+        ensures { option_map plain_of (server_at self.now no.0) ≡ Some result }
+    {
+        let s = &self.servers[no.0 as usize];
+        Plain {
+            up: s.up,
+            desk: s.desk,
+            feed: s.feed,
+            read_only: s.read_only,
+            source: s.source,
+            exec: s.exec,
+            read: s.read,
+            auto: s.auto,
+            receiver: s.receiver,
+            applier: s.applier,
+            until: s.until,
+        }
+    }
+
+    /// The binary log of a server; None exactly for a server that doesn't log.
+    pub fn log(&self, no: ServerNo) -> Option<&LogIndex>
+        requires { no.0 < length self.now.servers }
+        ensures { option_map log_of (server_at self.now no.0) ≡ Some (option_copied result) }
+    {
+        let s = &self.servers[no.0 as usize];
+        if s.settings.logs {
+            Some(&s.log)
+        } else {
+            None
+        }
+    }
+
+    /// An ordinary client's transaction of this size, 1 to 1,000,000 bytes.
+    pub fn write(&mut self, no: ServerNo, size: u32) -> WriteAnswer
+        requires server { no.0 < length self.old.servers }
+        requires some { 0 < size }
+        requires size { size ≤ 1000000 }
+        ensures answer { result ≡ write_answer no.0 (server_at self.old no.0) }
+        ensures world { self.new ≡ after_write self.old no.0 size (server_at self.old no.0) result }
+    {
+        let n = no.0 as usize;
+        let s = &mut self.servers[n];
+        if !s.up {
+            return WriteAnswer::Down;
+        }
+        if s.read_only {
+            return WriteAnswer::ReadOnly;
+        }
+        if s.history.room() <= s.history.len() {
+            return WriteAnswer::Full;
+        }
+        let l = &mut self.ledgers[n];
+        let seq = l.own + 1;
+        l.own = seq;
+        self.errant += errant_writes(s.source);
+        s.take(Txn {
+            origin: no,
+            seq,
+            size,
+        });
+        WriteAnswer::Done(seq)
+    }
+
+    /// The receiver of a replica reads one step of its source's log.
+    pub fn fetch(&mut self, no: ServerNo) -> FetchAnswer
+        requires { no.0 < length self.old.servers }
+        ensures answer { result ≡ fetch_answer (fetch_step self.old (server_at self.old no.0)) }
+        ensures world { self.new ≡ after_fetch self.old no.0 (server_at self.old no.0) (fetch_step self.old (server_at self.old no.0)) }
+    {
+        let step = self.fetch_step(no);
+        if let FetchStep::Take(next) = step
+            && let Some(to) = end_of_step(next)
+        {
+            self.receive(no, next, to);
+        }
+        fetch_answer(step)
+    }
+
+    fn fetch_step(&self, no: ServerNo) -> FetchStep
+        requires { no.0 < length self.now.servers }
+        ensures { result ≡ fetch_step self.now (server_at self.now no.0) }
+    {
+        let r = &self.servers[no.0 as usize];
+        if !is_receiving(r) {
+            return FetchStep::Halt;
+        }
+        match self.source_of(r.source) {
+            None => FetchStep::Unlinked,
+            Some(s) => receiver_step(r, s),
+        }
+    }
+
+    // The step joins the relay log, and the read coordinate moves to its end.
+    fn receive(&mut self, no: ServerNo, next: Next, to: Coord)
+        requires server { no.0 < length self.old.servers }
+        requires end { end_of_step next ≡ Some to }
+        requires step { fetch_step self.old (server_at self.old no.0) ≡ FetchStep.Take next }
+        ensures { self.new ≡ after_fetch self.old no.0 (server_at self.old no.0) (FetchStep.Take next) }
+    {
+        let n = no.0 as usize;
+        let r = &mut self.servers[n];
+        r.read = to;
+        let l = &mut self.ledgers[n];
+        l.relay.push(next);
+    }
+
+    /// The applier of a replica executes one step of its relay log.
+    pub fn apply(&mut self, no: ServerNo) -> ApplyAnswer
+        requires { no.0 < length self.old.servers }
+        ensures answer { result ≡ apply_answer (apply_step self.old (server_at self.old no.0)) }
+        ensures world { self.new ≡ after_apply self.old no.0 (server_at self.old no.0) (apply_step self.old (server_at self.old no.0)) }
+    {
+        let step = self.apply_step(no);
+        match step {
+            ApplyStep::Halt | ApplyStep::Idle | ApplyStep::NoRoom => {}
+            ApplyStep::ForgetUntil => self.forget_until(no),
+            ApplyStep::Pass(to) | ApplyStep::Skip(to) => self.pass(no, to),
+            ApplyStep::Execute(t, to) => self.execute(no, t, to),
+        }
+        apply_answer(step)
+    }
+
+    fn apply_step(&self, no: ServerNo) -> ApplyStep
+        requires { no.0 < length self.now.servers }
+        ensures step { result ≡ apply_step self.now (server_at self.now no.0) }
+        ensures ready { IsReady (server_at self.now no.0) result }
+    {
+        let n = no.0 as usize;
+        let r = &self.servers[n];
+        if !is_applying(r) {
+            return ApplyStep::Halt;
+        }
+        if is_reached(r.until, r.exec) {
+            return ApplyStep::ForgetUntil;
+        }
+        match self.source_of(r.source) {
+            None => ApplyStep::Idle,
+            Some(s) => relay_step(self.gtid, r, s, &self.ledgers[n].relay),
+        }
+    }
+
+    // The applier stops, and how far it was to go is forgotten.
+    fn forget_until(&mut self, no: ServerNo)
+        requires server { no.0 < length self.old.servers }
+        ensures { self.new ≡ after_apply self.old no.0 (server_at self.old no.0) ApplyStep.ForgetUntil }
+    {
+        let r = &mut self.servers[no.0 as usize];
+        r.applier = false;
+        r.until = None;
+    }
+
+    // The executed coordinate passes the first step of the relay log.
+    fn pass(&mut self, no: ServerNo, to: Coord)
+        requires server { no.0 < length self.old.servers }
+        requires step { Passes (apply_step self.old (server_at self.old no.0)) to }
+        ensures { self.new ≡ after_apply self.old no.0 (server_at self.old no.0) (apply_step self.old (server_at self.old no.0)) }
+    {
+        let n = no.0 as usize;
+        let r = &mut self.servers[n];
+        r.exec = to;
+        let l = &mut self.ledgers[n];
+        l.relay.pop();
+    }
+
+    // The server executes the transaction of the first step of its relay log.
+    fn execute(&mut self, no: ServerNo, t: Txn, to: Coord)
+        requires server { no.0 < length self.old.servers }
+        requires step { apply_step self.old (server_at self.old no.0) ≡ ApplyStep.Execute t to }
+        requires ready { IsReady (server_at self.old no.0) (ApplyStep.Execute t to) }
+        ensures { self.new ≡ after_apply self.old no.0 (server_at self.old no.0) (ApplyStep.Execute t to) }
+    {
+        let n = no.0 as usize;
+        let r = &mut self.servers[n];
+        r.take(t);
+        r.exec = to;
+        let l = &mut self.ledgers[n];
+        l.relay.pop();
+        l.own += own_of(no, t);
+    }
+
+    // The server that a replica is attached to.
+    fn source_of(&self, source: SourceState) -> Option<&Server>
+        ensures { option_copied result ≡ attached_at self.now source }
+    {
+        match source {
+            SourceState::Attached(m) => self.servers.get(m.0 as usize),
+            SourceState::Without | SourceState::Detached(_) => None,
+        }
+    }
+}
