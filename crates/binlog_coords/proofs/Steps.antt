@@ -1,7 +1,6 @@
 -- What follows a coordinate, in the words of the log: a transaction, the next file, or nothing.
-use Rattle.std.proofs.Common.{◌≡◌, ℕ, ◌+◌, ◌<◌, ◌≤◌, Bool, true, false, cond, List, [], ◌∷◌, ◌++◌, length, refl, sym, zero-add, ◌∙◌, ap, subst, inl, inr, ◌⊎◌, Some, None, arith, length-append, zero, suc}
+use Rattle.std.proofs.Common.{◌≡◌, ℕ, ◌+◌, ◌<◌, ◌≤◌, Bool, true, false, cond, List, [], ◌∷◌, ◌++◌, length, refl, sym, zero-add, ◌∙◌, ap, subst, inl, inr, ◌⊎◌, Some, None, arith, length-append, zero, suc, get_or}
 use Rattle.std.specs.Prelude.{◌↔◌, IsSomeAnd, Option, count_by, slice_get}
-use Rattle.std.proofs.Common.{get_or}
 use Rattle.std.proofs.lemmas.Bool.{cases_lt}
 use Rattle.std.proofs.lemmas.Bool.Decides.{nat_tests}
 use Rattle.std.proofs.lemmas.Option.{same_Some, slice_get_within, slice_get-get_or, get_or_from_slice_get}

@@ -32,9 +32,10 @@ pub fn print_coord(c: Coord, out: &mut Vec<u8>) -> Result<(), Memory>
     let file = file_buffer.format(c.file).as_bytes();
     let pos = pos_buffer.format(c.pos).as_bytes();
     let zeros = missing_zeros(file);
+    let prefix: &[u8] = b"mysql-bin.";
 
-    out.reserve(10 + zeros.len() + file.len() + 1 + pos.len())?;
-    out.extend_from_slice(b"mysql-bin.")?;
+    out.reserve(prefix.len() + zeros.len() + file.len() + 1 + pos.len())?;
+    out.extend_from_slice(prefix)?;
     out.extend_from_slice(zeros)?;
     out.extend_from_slice(file)?;
     out.extend_from_slice(b":")?;

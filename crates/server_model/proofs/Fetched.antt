@@ -18,7 +18,7 @@ use Rattle.server_model.specs.declared.answers.FetchStep.{FetchStep}
 use Rattle.server_model.specs.declared.answers.FetchStep.TheVariants as receiving
 use Rattle.server_model.specs.declared.server.Server.{Server}
 use Rattle.server_model.specs.declared.ledger.Ledger.{Ledger}
-use Rattle.server_model.proofs.Keeps.{IsChange, IsKept-with}
+use Rattle.server_model.proofs.Keeps.{IsChange, IsKept-with, beside_of}
 
 -- the source that a receiver reads, and what it reads there
 pub record IsTake (servers : List Server) (r : Server) (x : Next) : Type 0 where
@@ -123,10 +123,11 @@ receive-left w servers gtid errant n r x to view here (Rotate to') =
     subst (λ (v : World). record { servers = slice_set servers n (record r { read = to }); gtid = gtid; errant = errant } ≡ after_fetch v n (server_at v n) (receiving.Take (next.Rotate to))) view (rw here)
 
 -- the receiver of a replica reads where its source's log has a place
-pub has_place-read : (servers : List Server) (ledgers : List Ledger) (errant n m : ℕ) (r s : Server) (l : Ledger) → IsKept servers ledgers errant
-    → slice_get servers n ≡ Some r → slice_get ledgers n ≡ Some l → source_no r.source ≡ Some m → slice_get servers m ≡ Some s → has_place s.log.log r.read ≡ true
-has_place-read servers ledgers errant n m r s l kept here beside from at =
-    let link = kept.linked n m r s l here from at beside in
+pub has_place-read : (servers : List Server) (ledgers : List Ledger) (errant n m : ℕ) (r s : Server) → IsKept servers ledgers errant
+    → slice_get servers n ≡ Some r → source_no r.source ≡ Some m → slice_get servers m ≡ Some s → has_place s.log.log r.read ≡ true
+has_place-read servers ledgers errant n m r s kept here from at =
+    let l = beside_of servers ledgers errant n r kept here in
+    let link = kept.linked n m r s l.0 here from at l.1 in
     (place-parts s.log.log r.read link.read_place.0 link.read_place.1).0
 
 -- the source that a replica is attached to

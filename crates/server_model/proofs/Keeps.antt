@@ -1,5 +1,5 @@
 -- What is kept beside the servers stays right as one server changes.
-use Rattle.std.proofs.Common.{◌≡◌, ℕ, ◌+◌, ◌*◌, ◌<◌, ◌≤◌, List, length, refl, sym, ◌∙◌, ap, subst, inl, inr, ◌⊎◌, Some, arith, get_or}
+use Rattle.std.proofs.Common.{◌≡◌, ℕ, ◌+◌, ◌*◌, ◌<◌, ◌≤◌, List, length, refl, sym, ◌∙◌, ap, subst, inl, inr, ◌⊎◌, Some, arith, get_or, [], ◌∷◌, zero, suc}
 use Rattle.std.specs.Prelude.{slice_get, slice_set, sum_by}
 use Rattle.std.proofs.lemmas.Option.{slice_get_within, get_or_from_slice_get}
 use Rattle.std.proofs.lemmas.List.{length-set}
@@ -136,3 +136,16 @@ module _ (servers : List Server) (ledgers : List Ledger) (before after : ℕ) (n
     apart = apart;
     linked = linked;
   }
+
+-- something is kept beside each server
+pub beside_of : (servers : List Server) (ledgers : List Ledger) (errant n : ℕ) (s : Server) → IsKept servers ledgers errant → slice_get servers n ≡ Some s
+    → (l : Ledger) × (slice_get ledgers n ≡ Some l)
+beside_of servers ledgers errant n s kept here =
+    let within = slice_get_within servers n s here in
+    let beyond : n < length ledgers = let e = kept.paired in omega arith in
+    there ledgers n beyond
+  where
+    there : (ks : List Ledger) (k : ℕ) → k < length ks → (l : Ledger) × (slice_get ks k ≡ Some l)
+    there [] k h = absurd (omega arith)
+    there (x ∷ xs) zero h = (x, refl)
+    there (x ∷ xs) (suc k) h = there xs k (omega arith)

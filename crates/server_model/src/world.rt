@@ -1,10 +1,11 @@
 //! The world of servers.
 
-ghost use Rattle.std.specs.Prelude.{◌≡◌, ◌+◌, ◌<◌, ◌≤◌, length, Some, slice_get, slice_index, option_map};
+ghost use Rattle.std.specs.Prelude.{◌≡◌, ◌+◌, ◌<◌, ◌≤◌, length, Some, IfOk, option_map};
 ghost use Rattle.std.specs.Option.{option_copied};
 ghost use Rattle.server_model.specs.Worlds.{server_at};
 ghost use Rattle.server_model.specs.Exchanges.{write_answer, after_write, fetch_step, fetch_answer, after_fetch, attached_at, apply_step, apply_answer, after_apply, IsReady};
 ghost use Rattle.server_model.specs.Links.{end_of_step, Passes};
+ghost use Rattle.server_model.specs.Opening.{opened_world, Fits};
 ghost use Rattle.server_model.specs.Plains.{plain_of, log_of};
 
 use crate::steps::{
@@ -12,10 +13,11 @@ use crate::steps::{
     relay_step,
 };
 use crate::{
-    ApplyAnswer, ApplyStep, FetchAnswer, FetchStep, Ledger, Plain, Server, WriteAnswer,
+    ApplyAnswer, ApplyStep, FetchAnswer, FetchStep, Ledger, Opening, Plain, Server, WriteAnswer,
 };
 use binlog_coords::{Coord, LogIndex, Next};
-use orch_base::{ServerNo, Settings, SourceState, Txn};
+use orch_base::{Memory, ServerNo, Settings, SourceState, Txn};
+use std::alloc::Global;
 use std::marker::Model;
 
 /// All servers.
@@ -40,6 +42,16 @@ impl Model for World {
 }
 
 impl World {
+    /// The world that an opening opens, with room for so many transactions and calls of `rotate` at each server.
+    pub fn make(alloc: Global, from: &Opening, room: u64, flushes: u64) -> Result<World, Memory>
+        requires fits { Fits from.now room }
+        requires room { room ≤ 4000000 }
+        requires flushes { flushes ≤ 4000000 }
+        ensures { IfOk result (λ w. w ≡ opened_world from.now room flushes) }
+    {
+        Err(Memory)
+    }
+
     /// How many servers there are: 1 to 1,000.
     pub fn servers(&self) -> u32
         ensures { result ≡ length self.now.servers }

@@ -1,0 +1,10 @@
+pub mod Worlds
+pub mod Histories
+pub mod Keeping
+pub mod Logs
+pub mod Writes
+pub mod Fetches
+pub mod Applies
+pub mod Runs
+pub mod Openings
+pub mod Rooms

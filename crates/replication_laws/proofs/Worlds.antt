@@ -1,0 +1,56 @@
+use Rattle.std.proofs.Common.{◌≡◌, ℕ, false, cond, List, [], ◌∷◌, refl, sym, ◌∙◌, ap, subst, inl, inr, Option, Some, arith, zero, suc}
+use Rattle.std.specs.Prelude.{slice_get, slice_set, ◌==◌}
+use Rattle.std.proofs.lemmas.Bool.{cases_eq, eq-eqb, ne_eqb}
+use Rattle.std.proofs.lemmas.Bool.Decides.{nat_tests}
+use Rattle.std.proofs.lemmas.Option.{same_Some}
+use Rattle.server_model.specs.Worlds.{World, server_at, with_server, histories, history_of, sources, source_of, source_no}
+use Rattle.server_model.specs.Safe.{Grounded, Root, Under}
+use Rattle.server_model.specs.declared.server.Server.{Server}
+
+-- a look-up after a write
+pub slice_get-set : {X : Type 0} (xs : List X) (i : ℕ) (x v : X) → slice_get xs i ≡ Some x → (j : ℕ) → slice_get (slice_set xs i v) j ≡ cond (j == i) (Some v) (slice_get xs j)
+slice_get-set [] i x v h j = cc
+slice_get-set (y ∷ ys) zero x v h zero = refl
+slice_get-set (y ∷ ys) zero x v h (suc j) = let apart : (suc j == 0) ≡ false = grind (arith, nat_tests) in rw apart
+slice_get-set (y ∷ ys) (suc i) x v h zero = let apart : (0 == suc i) ≡ false = grind (arith, nat_tests) in rw apart
+slice_get-set (y ∷ ys) (suc i) x v h (suc j) =
+    let same : (suc j == suc i) ≡ (j == i) = grind (arith, nat_tests) in rw same (slice_get-set ys i x v h j)
+
+-- the world with another server
+pub at_with : (w : World) (n : ℕ) (s t : Server) → server_at w n ≡ Some s → (m : ℕ) → server_at (with_server w n t) m ≡ cond (m == n) (Some t) (server_at w m)
+at_with w n s t h m = slice_get-set w.servers n s t h m
+
+pub at_with_same : (w : World) (n : ℕ) (s t : Server) → server_at w n ≡ Some s → server_at (with_server w n t) n ≡ Some t
+at_with_same w n s t h = at_with w n s t h n ∙ ap (λ b. cond b (Some t) (server_at w n)) (eq-eqb n n refl)
+
+pub at_with_other : (w : World) (n : ℕ) (s t : Server) → server_at w n ≡ Some s → (m : ℕ) → (m ≡ n → ⊥) → server_at (with_server w n t) m ≡ server_at w m
+at_with_other w n s t h m apart = at_with w n s t h m ∙ ap (λ b. cond b (Some t) (server_at w m)) (ne_eqb m n apart)
+
+-- a change that leaves the history leaves all histories
+pub histories-kept : (w : World) (n : ℕ) (s t : Server) → server_at w n ≡ Some s → t.history.txns ≡ s.history.txns → histories (with_server w n t) ≡ histories w
+histories-kept w n s t h same = λ i m. each m i
+  where
+    each : (m : ℕ) → histories (with_server w n t) m ≡ histories w m
+    each m = elim (cases_eq m n) [
+      | inl here ↦ rw here (ap history_of (at_with_same w n s t h) ∙ same ∙ sym (ap history_of h))
+      | inr apart ↦ ap history_of (at_with_other w n s t h m apart)
+    ]
+
+pub sources-kept : (w : World) (n : ℕ) (s t : Server) → server_at w n ≡ Some s → source_no t.source ≡ source_no s.source → sources (with_server w n t) ≡ sources w
+sources-kept w n s t h same = λ i m. each m i
+  where
+    each : (m : ℕ) → sources (with_server w n t) m ≡ sources w m
+    each m = elim (cases_eq m n) [
+      | inl here ↦ rw here (ap source_of (at_with_same w n s t h) ∙ same ∙ sym (ap source_of h))
+      | inr apart ↦ ap source_of (at_with_other w n s t h m apart)
+    ]
+
+-- no server is its own source
+pub Grounded-not_self : (up : ℕ → Option ℕ) (n : ℕ) → Grounded up n → up n ≡ Some n → ⊥
+Grounded-not_self up n (Root n' none) h = cc
+Grounded-not_self up n (Under n' m e g) h =
+    let same : m ≡ n = same_Some m n (sym e ∙ h) in
+    Grounded-not_self up m g (e' same)
+  where
+    e' : m ≡ n → up m ≡ Some m
+    e' same = subst (λ (k : ℕ). up k ≡ Some m) (sym same) e

@@ -1,0 +1,34 @@
+use Rattle.std.proofs.Common.{◌≡◌, ◌<◌, length, Some, Bool, List, subst, sym, ap, ◌∙◌, arith}
+use Rattle.std.specs.Prelude.{slice_get}
+use Rattle.std.specs.Option.{option_copied}
+use Rattle.server_model.specs.Worlds.{World, server_at}
+use Rattle.server_model.specs.Exchanges.{apply_from, IsReady}
+use Rattle.server_model.specs.declared.server.Server.{Server}
+use Rattle.server_model.proofs.Lists.{slice_get-index}
+use Rattle.server_model.proofs.Fetched.{attached_from}
+use Rattle.server_model.proofs.Applied.{apply_step-on, relay_step-is, ready_at}
+use Rattle.server_model.proofs.world.World.apply_step.Goals as goal
+
+pub returns-in-Some-clause-step : goal.returns-in-Some-clause-step
+returns-in-Some-clause-step c =
+    let within : c.args.no.0 < length c.self.inside.servers.items = subst (λ (w : World). c.args.no.0 < length w.servers) (sym c.self.view_is) c.requires in
+    let beyond : c.args.no.0 < length c.self.inside.ledgers.items = let e = c.self.invariant.paired in omega arith in
+    let here = slice_get-index c.self.inside.servers.items c.args.no.0 c.index-r.result.now within c.index-r.ensures in
+    let beside = slice_get-index c.self.inside.ledgers.items c.args.no.0 c.index.result.now beyond c.index.ensures in
+    let is = sym c.source_of.ensures ∙ ap option_copied c.in-Some.is in
+    let source = attached_from c.args.self.now c.index-r.result.now.source c.in-Some.s.now is in
+    let at : slice_get c.self.inside.servers.items source.number ≡ Some c.in-Some.s.now = subst (λ (w : World). server_at w source.number ≡ Some c.in-Some.s.now) (sym c.self.view_is) source.at in
+    c.relay_step.ensures.step
+    ∙ relay_step-is c.self.inside.gtid c.index-r.result.now c.in-Some.s.now c.index.result.now (c.self.invariant.fit source.number c.in-Some.s.now at)
+        (c.self.invariant.linked c.args.no.0 source.number c.index-r.result.now c.in-Some.s.now c.index.result.now here source.from at beside)
+    ∙ ap (λ (w : World). apply_from w.gtid c.index-r.result.now (Some c.in-Some.s.now)) c.self.view_is
+    ∙ sym (apply_step-on c.args.self.now c.args.no.0 c.index-r.result.now (Some c.in-Some.s.now)
+        (subst (λ (w : World). server_at w c.args.no.0 ≡ Some c.index-r.result.now) c.self.view_is here)
+        (sym c.is_applying.ensures ∙ c.if-not-is_applying.false) (sym c.is_reached.ensures ∙ c.if-is_reached.false) is)
+
+pub returns-in-Some-clause-ready : goal.returns-in-Some-clause-ready
+returns-in-Some-clause-ready c =
+    let within : c.args.no.0 < length c.self.inside.servers.items = subst (λ (w : World). c.args.no.0 < length w.servers) (sym c.self.view_is) c.requires in
+    let here = slice_get-index c.self.inside.servers.items c.args.no.0 c.index-r.result.now within c.index-r.ensures in
+    ready_at c.args.self.now c.args.no.0 c.index-r.result.now c.relay_step.result
+    (subst (λ (w : World). server_at w c.args.no.0 ≡ Some c.index-r.result.now) c.self.view_is here) c.relay_step.ensures.ready
