@@ -1,7 +1,9 @@
 -- HOST or HOST:PORT.
 use Rattle.std.specs.Prelude.{◌≡◌, ◌<◌, ◌≤◌, true, ℕ, ◌^◌, ◌++◌, ◌∷◌, ◌&&◌, ◌||◌, ◌==◌, List, length, slice_index, position, Bool, not, nat_eq, nat_lt, nat_le, if◌then◌else◌, Option, Some, None, Result, Ok, Err, decimal}
 use Rattle.std.specs.List.{list_all, position_or_len, before_first, after_first}
-use Rattle.std.specs.Cmp.Lexicographic.{pointwise}
+use Rattle.std.specs.Cmp.Lexicographic.{pointwise, slice_cmp}
+use Rattle.std.specs.Ordering.{ordering_then, nat_cmp}
+use Rattle.std.specs.declared.cmp.Ordering.{Ordering}
 use Rattle.std.specs.Str.{all_ascii_digits}
 use Rattle.std.specs.Str.Parse.{digits_value}
 use Rattle.orch_base.specs.declared.name.NameFault.{NameFault}
@@ -16,6 +18,10 @@ pub record HostPort : Type 0 where
 -- host and port are the same, byte for byte
 abbrev pub same_name : HostPort → HostPort → Bool
 same_name a b = pointwise nat_eq a.host b.host && (a.port == b.port)
+
+-- the order of names: by the host's bytes, then by the port
+abbrev pub name_cmp : HostPort → HostPort → Ordering
+name_cmp a b = ordering_then (slice_cmp nat_cmp a.host b.host) (nat_cmp a.port b.port)
 
 -- the fault that a text has, and nothing at want of memory
 abbrev pub fault_of : NameFault → Option NameFault
@@ -47,20 +53,21 @@ abbrev pub port_value : Option (List ℕ) → Option ℕ
 port_value None = Some 3306
 port_value (Some digits) = if is_port digits then Some (digits_value 10 digits) else None
 
+-- the host, where it has no bad byte
+abbrev pub without_bad : List ℕ → Option ℕ → Result (List ℕ) NameFault
+without_bad host None = Ok host
+without_bad host (Some place) = Err (BadByte place)
+
 abbrev pub host_at : List ℕ → Result (List ℕ) NameFault
 host_at host = if length host == 0 then Err Empty else
-    (if nat_lt 255 (length host) then Err TooLong else bad_byte (position (λ b. not (is_host_byte b)) host))
-  where
-    bad_byte : Option ℕ → Result (List ℕ) NameFault
-    bad_byte None = Ok host
-    bad_byte (Some place) = Err (BadByte place)
+    (if nat_lt 255 (length host) then Err TooLong else without_bad host (position (λ b. not (is_host_byte b)) host))
+
+abbrev pub port_or_fault : Option ℕ → Result ℕ NameFault
+port_or_fault None = Err BadPort
+port_or_fault (Some port) = Ok port
 
 abbrev pub port_at : Option (List ℕ) → Result ℕ NameFault
-port_at text = ok_or (port_value text)
-  where
-    ok_or : Option ℕ → Result ℕ NameFault
-    ok_or None = Err BadPort
-    ok_or (Some n) = Ok n
+port_at text = port_or_fault (port_value text)
 
 -- the first fault, in this order: the host's, then the port's
 unfoldable pub name_at : List ℕ → Result HostPort NameFault

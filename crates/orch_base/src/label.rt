@@ -1,6 +1,7 @@
 //! Texts that contracts see as their bytes.
 
-use std::alloc::{AllocError, Global};
+use crate::Memory;
+use std::alloc::Global;
 use std::marker::Model;
 
 /// A text, as a cluster's label, which contracts see as the list of its bytes.
@@ -27,6 +28,7 @@ impl Label {
         Label { text }
     }
 
+    /// The text.
     pub fn as_str(&self) -> &str
         ensures { result.now ≡ self.now }
     {
@@ -34,7 +36,7 @@ impl Label {
     }
 
     /// The same label once more.
-    pub fn copy(&self, alloc: Global) -> Result<Label, AllocError>
+    pub fn copy(&self, alloc: Global) -> Result<Label, Memory>
         ensures { IfOk result (λ l. l ≡ self.now) }
     {
         let text = String::from_str(alloc, self.text.as_str())?;

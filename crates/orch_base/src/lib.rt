@@ -8,12 +8,14 @@ mod name;
 mod server;
 mod sink;
 mod source;
+mod threads;
 
-pub use std::alloc::AllocError as Memory;
 pub use failed::{Failed, NotRead};
 pub use label::Label;
 pub use memory::{MemSink, MemSource};
 pub use name::{Name, NameFault, printed_reads};
 pub use server::{IoState, Moment, ServerNo, Settings, SourceState, Txn, Version};
 pub use sink::{Sink, write_all};
-pub use source::{LIMIT, Source, read_all};
+pub use source::{MAX_SCENARIO_LEN, Source, read_all};
+/// Want of memory.
+pub use std::alloc::AllocError as Memory;

@@ -1,13 +1,14 @@
 //! Names of servers.
 
-ghost use Rattle.std.specs.Prelude.{◌≡◌, ◌++◌, Ok, IfOk, OnOk, OnErr, Some, option_map, string_bytes, position, not, nat_le, slice_index};
-ghost use Rattle.std.specs.Io.{StartsWith};
+ghost use Rattle.std.specs.Prelude.{◌≡◌, ◌↔◌, ◌++◌, Ok, IsTrue, IfOk, OnOk, OnErr, Some, option_map, string_bytes, position, not, nat_le, slice_index};
 ghost use Rattle.orch_base.specs.Gives.{Gives};
-ghost use Rattle.orch_base.specs.Names.{fault_of, is_host_byte, host_of, port_of, host_at, port_at, port_value, name_at, printed, same_name, HostPort, IsName};
+ghost use Rattle.orch_base.specs.Names.{fault_of, is_host_byte, host_of, port_of, host_at, port_at, port_value, name_at, printed, same_name, name_cmp, HostPort, IsName};
 ghost use Rattle.orch_base.specs.declared.name.NameFault.TheVariants.{Memory};
 
+use crate::Memory;
 use itoa::Buffer;
-use std::alloc::{AllocError, Global};
+use std::alloc::Global;
+use std::cmp::Ordering;
 use std::marker::Model;
 
 /// What is wrong with a text that is no name: the first fault in this order.
@@ -25,15 +26,15 @@ pub enum NameFault {
     Memory,
 }
 
-impl From<AllocError> for NameFault {
+impl From<Memory> for NameFault {
     ghost from_gives = { λ _ e. e ≡ Memory };
 
-    fn from(_e: AllocError) -> NameFault {
+    fn from(_e: Memory) -> NameFault {
         NameFault::Memory
     }
 }
 
-/// A server's name: its host and port.
+/// A server's name: a host of 1 to 255 letters, digits, `.`, `-` and `_`, and a port of 1 to 65535.
 #[derive(Drop)]
 pub struct Name {
     host: String,
@@ -42,11 +43,13 @@ pub struct Name {
 
 impl Model for Name {
     ghost use Rattle.std.specs.Prelude.{string_bytes};
-    ghost use Rattle.orch_base.specs.Names.{HostPort};
+    ghost use Rattle.orch_base.specs.Names.{HostPort, IsName};
 
     ghost Value = { HostPort };
 
     ghost view = { λ n. record { host = string_bytes n.host; port = n.port } };
+
+    ghost invariant = { λ n. IsName (record { host = string_bytes n.host; port = n.port }) };
 }
 
 fn is_host_byte(b: u8) -> bool
@@ -115,10 +118,11 @@ fn port_number(digits: &str) -> Option<u16>
 }
 
 impl Name {
-    /// Reads HOST or HOST:PORT. Where there is no port it is 3306.
-    #[tactic(auto, unfolding(crate::specs::Names::name_at))]
+    /// Reads HOST or HOST:PORT, which the first `:` divides; without a `:` the port is 3306. The fault is the first that the text has, in the order of `NameFault`.
+    #[tactic(auto, using(crate::proofs::ReadNames::read_is_name), unfolding(crate::specs::Names::name_at))]
     pub fn read(alloc: Global, text: &str) -> Result<Name, NameFault>
-        ensures { Gives (λ n. n) fault_of result (name_at text.now) }
+        ensures gives { Gives (λ n. n) fault_of result (name_at text.now) }
+        ensures name { IfOk result IsName }
     {
         let (host, port) = parts(text);
         let host = read_host(alloc, host)?;
@@ -127,7 +131,7 @@ impl Name {
     }
 
     /// The same name once more.
-    pub fn copy(&self, alloc: Global) -> Result<Name, AllocError>
+    pub fn copy(&self, alloc: Global) -> Result<Name, Memory>
         ensures { IfOk result (λ n. n ≡ self.now) }
     {
         let host = String::from_str(alloc, self.host.as_str())?;
@@ -138,21 +142,34 @@ impl Name {
     }
 
     /// Whether host and port are the same, byte for byte.
+    #[tactic(auto, using(crate::proofs::SameNames::same_name_tells))]
     pub fn is_same(&self, other: &Name) -> bool
-        ensures { result ≡ same_name self.now other.now }
+        ensures same { result ≡ same_name self.now other.now }
+        ensures equal { IsTrue result ↔ (self.now ≡ other.now) }
     {
         self.host.as_bytes() == other.host.as_bytes() && self.port == other.port
     }
 
-    /// Appends HOST:PORT.
-    pub fn print(&self, out: &mut Vec<u8>) -> Result<(), AllocError>
+    /// The order of names: by the host's bytes, then by the port.
+    pub fn compare(&self, other: &Name) -> Ordering
+        ensures { result ≡ name_cmp self.now other.now }
+    {
+        let hosts = self.host.as_bytes().cmp(other.host.as_bytes());
+        hosts.then(self.port.cmp(&other.port))
+    }
+
+    /// Appends HOST:PORT, or nothing at want of memory.
+    pub fn print(&self, out: &mut Vec<u8>) -> Result<(), Memory>
         ensures ok { OnOk result (out.new.items ≡ out.old.items ++ printed self.now) }
-        ensures err { OnErr result (StartsWith out.new.items out.old.items) }
+        ensures err { OnErr result (out.new.items ≡ out.old.items) }
+        ensures name { IsName self.now }
     {
         let mut buffer = Buffer::new();
-        out.extend_from_slice(self.host.as_bytes())?;
-        out.push(b':')?;
-        out.extend_from_slice(buffer.format(self.port).as_bytes())?;
+        let port = buffer.format(self.port);
+        out.reserve(self.host.len() + 1 + port.len())?;
+        out.extend_from_slice(self.host.as_bytes()).unwrap();
+        out.push(b':').unwrap();
+        out.extend_from_slice(port.as_bytes()).unwrap();
         Ok(())
     }
 }
@@ -161,3 +178,89 @@ impl Name {
 pub fn printed_reads()
     ensures { (name : HostPort) → IsName name → name_at (printed name) ≡ Ok name }
 {}
+
+#[cfg(test)]
+mod tests {
+    use super::*;
+    use std::test::Fail;
+
+    #[test]
+    fn reads(rt: HostRuntime) -> Result<(), Fail> {
+        let cases = [
+            ("m", Ok("m:3306")),
+            ("m:3306", Ok("m:3306")),
+            ("m:1", Ok("m:1")),
+            ("m:65535", Ok("m:65535")),
+            ("Db-1.eu_west:13306", Ok("Db-1.eu_west:13306")),
+            ("", Err(NameFault::Empty)),
+            (":1", Err(NameFault::Empty)),
+            (":x", Err(NameFault::Empty)),
+            ("a b", Err(NameFault::BadByte(1))),
+            ("é", Err(NameFault::BadByte(0))),
+            ("a/:x", Err(NameFault::BadByte(1))),
+            ("m:", Err(NameFault::BadPort)),
+            ("m:0", Err(NameFault::BadPort)),
+            ("m:01", Err(NameFault::BadPort)),
+            ("m:+1", Err(NameFault::BadPort)),
+            ("m:65536", Err(NameFault::BadPort)),
+            ("a:b:c", Err(NameFault::BadPort)),
+        ];
+        for (text, want) in cases {
+            let mut out = vec![in rt.alloc(); b'>']?;
+            match Name::read(rt.alloc(), text) {
+                Ok(name) => {
+                    name.print(&mut out)?;
+                    assert_eq!(rt; str::from_utf8(&out[1..]).ok(), want.ok(), "at {text}");
+                }
+                Err(fault) => assert_eq!(rt; Some(fault), want.err(), "at {text}"),
+            }
+        }
+        Ok(())
+    }
+
+    #[test]
+    fn reads_hosts_of_255_bytes(rt: HostRuntime) -> Result<(), Fail> {
+        for (len, tail, want) in [
+            (255, "", None),
+            (255, ":1", None),
+            (255, ":0", Some(NameFault::BadPort)),
+            (256, "", Some(NameFault::TooLong)),
+            (256, "/:0", Some(NameFault::TooLong)),
+        ] {
+            let mut text = String::new(rt.alloc());
+            for _ in 0..len {
+                text.push('h')?;
+            }
+            text.push_str(tail)?;
+            assert_eq!(rt;
+                Name::read(rt.alloc(), &text).err(),
+                want,
+                "at {len}, {tail}"
+            );
+        }
+        Ok(())
+    }
+
+    #[test]
+    fn compares(rt: HostRuntime) -> Result<(), Fail> {
+        let name = Name::read(rt.alloc(), "m")?;
+        let copy = name.copy(rt.alloc())?;
+        for (other, want) in [
+            ("m:3306", Ordering::Equal),
+            ("M", Ordering::Greater),
+            ("m:3307", Ordering::Less),
+            ("m:33", Ordering::Greater),
+            ("m0:1", Ordering::Less),
+            ("n:1", Ordering::Less),
+        ] {
+            let other_name = Name::read(rt.alloc(), other)?;
+            assert_eq!(rt; copy.compare(&other_name), want, "at {other}");
+            assert_eq!(rt;
+                name.is_same(&other_name),
+                want == Ordering::Equal,
+                "at {other}"
+            );
+        }
+        Ok(())
+    }
+}

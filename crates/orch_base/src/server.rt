@@ -1,15 +1,16 @@
-//! Servers by their numbers, and what about them never changes.
+//! Servers by their numbers, and their settings.
 
+use crate::Memory;
 use crate::label::Label;
 use crate::name::Name;
-use std::alloc::{AllocError, Global};
+use std::alloc::Global;
 
 /// A server of the scenario by its number, counted from 0 in the scenario's order.
 #[derive(Clone, Copy, Debug, PartialEq, Eq, PartialOrd, Ord, Hash)]
 pub struct ServerNo(pub u32);
 
-/// A moment, in seconds from the scenario's beginning of time.
-#[derive(Clone, Copy, Debug, PartialEq, Eq, PartialOrd, Ord, Hash)]
+/// A moment, in seconds. Only the scenario says from when they count.
+#[derive(Clone, Copy, Debug, PartialEq, Eq, PartialOrd, Ord)]
 pub struct Moment(pub u64);
 
 /// A transaction (MySQL 8.0 Reference Manual, "The Binary Log").
@@ -24,10 +25,13 @@ pub struct Txn {
 }
 
 /// A server's version, as `8.0.36`.
-#[derive(Clone, Copy, Debug, PartialEq, Eq, PartialOrd, Ord)]
+#[derive(Clone, Copy, Debug, PartialEq, Eq)]
 pub struct Version {
+    /// The first part: 8 of `8.0.36`.
     pub major: u16,
+    /// The second part.
     pub minor: u16,
+    /// The third part.
     pub patch: u16,
 }
 
@@ -45,18 +49,22 @@ pub enum SourceState {
 /// What a replica says of its receiver (MySQL 8.0 Reference Manual, "SHOW REPLICA STATUS Statement", Replica_IO_Running).
 #[derive(Clone, Copy, Debug, PartialEq, Eq)]
 pub enum IoState {
+    /// The receiver is on and connected to the source.
     Yes,
+    /// The receiver is on and has no connection.
     Connecting,
+    /// The receiver is off.
     No,
 }
 
 /// The settings of a server, which never change.
 #[derive(Drop)]
 pub struct Settings {
+    /// The server's name, by which every command and text names it.
     pub name: Name,
     /// The server's UUID, which is the first half of its GTIDs.
     pub uuid: u128,
-    /// 1 to 4,294,967,295.
+    /// The server's `server_id`: 1 to 4,294,967,295.
     pub server_id: u32,
     pub version: Version,
     /// The label of the cluster that the server belongs to: 1 to 261 bytes.
@@ -71,7 +79,7 @@ impl Settings {
     ghost use Rattle.std.specs.Prelude.{◌≡◌, IfOk};
 
     /// The same settings once more.
-    pub fn copy(&self, alloc: Global) -> Result<Settings, AllocError>
+    pub fn copy(&self, alloc: Global) -> Result<Settings, Memory>
         ensures { IfOk result (λ s. s ≡ self.now) }
     {
         Ok(Settings {
@@ -83,5 +91,38 @@ impl Settings {
             logs: self.logs,
             limit: self.limit,
         })
+    }
+}
+
+#[cfg(test)]
+mod tests {
+    use super::*;
+    use std::test::Fail;
+
+    #[test]
+    fn settings_are_copied(rt: HostRuntime) -> Result<(), Fail> {
+        let settings = Settings {
+            name: Name::read(rt.alloc(), "m:3307")?,
+            uuid: 7,
+            server_id: 2,
+            version: Version {
+                major: 8,
+                minor: 0,
+                patch: 36,
+            },
+            cluster: Label::new(String::from_str(rt.alloc(), "main")?),
+            logs: true,
+            limit: 4096,
+        };
+        let copy = settings.copy(rt.alloc())?;
+        assert!(rt; copy.name.is_same(&settings.name));
+        assert_eq!(rt;
+            (copy.uuid, copy.server_id, copy.version),
+            (7, 2, settings.version)
+        );
+        assert_eq!(rt; copy.cluster.as_str(), "main");
+        assert_eq!(rt; copy.cluster.into_string().as_str(), "main");
+        assert_eq!(rt; (copy.logs, copy.limit), (true, 4096));
+        Ok(())
     }
 }

@@ -148,7 +148,6 @@ went_on l own = record l { relay = record l.relay { steps = drop 1 l.relay.steps
 module _ (servers : List Server) (ledgers : List Ledger) (errant n : ℕ) (r : Server) (l : Ledger) (to : Coord)
     (kept : IsKept servers ledgers errant) (here : slice_get servers n ≡ Some r) (beside : slice_get ledgers n ≡ Some l)
     (step : IsStep servers r to) where
-
   link : (m : ℕ) (t : Server) (own : ℕ) → source_no r.source ≡ Some m → slice_get servers m ≡ Some t → IsLinked r t l → IsLinked (record r { exec = to }) t (went_on l own)
   link m t own from at old =
       let number : step.number ≡ m = same_Some step.number m (sym step.from ∙ from) in
@@ -181,11 +180,11 @@ module _ (servers : List Server) (ledgers : List Ledger) (errant n : ℕ) (r : S
   IsKept-execute t room some size =
       IsKept-with servers ledgers errant errant n r (record (took r t) { exec = to }) l (went_on l (l.own + cond (t.origin.0 == n) 1 0)) kept here beside
       (IsChange-took r t to (kept.fit n r here) some size room servers n l (went_on l (l.own + cond (t.origin.0 == n) 1 0)) errant errant
-          (ap (λ (k : ℕ). k + cond (t.origin.0 == n) 1 0) (kept.own n r l here beside) ∙ sym (count_own-push n r.history.txns t))
-          refl (omega arith)
-          (λ m u from at old.
-          let moved = link m u (l.own + cond (t.origin.0 == n) 1 0) from at old in
-          record { relay = moved.relay; exec_place = moved.exec_place; read_place = moved.read_place }))
+      (ap (λ (k : ℕ). k + cond (t.origin.0 == n) 1 0) (kept.own n r l here beside) ∙ sym (count_own-push n r.history.txns t))
+      refl (omega arith)
+      (λ m u from at old.
+      let moved = link m u (l.own + cond (t.origin.0 == n) 1 0) from at old in
+      record { relay = moved.relay; exec_place = moved.exec_place; read_place = moved.read_place }))
 
 -- a stop of the applier keeps what is kept
 pub IsKept-forget : (servers : List Server) (ledgers : List Ledger) (errant n : ℕ) (r : Server) → IsKept servers ledgers errant → slice_get servers n ≡ Some r

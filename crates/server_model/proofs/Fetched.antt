@@ -62,7 +62,7 @@ IsLinked-read : (r s : Server) (l : Ledger) (x : Next) (to : Coord) → IsFit s 
     → IsLinked (record r { read = to }) s (record l { relay = record l.relay { steps = l.relay.steps ++ x ∷ [] } })
 IsLinked-read r s l x to fit (Entry index to') e link =
     let step : StepFrom s.log.log r.read link.read_place.0 (next.Entry index to) = subst (λ (y : Next). StepFrom s.log.log r.read link.read_place.0 y) e
-        (next_after-step s.log.log (Laid-Grown s.log.log fit.grown) r.read link.read_place.0 link.read_place.1) in
+    (next_after-step s.log.log (Laid-Grown s.log.log fit.grown) r.read link.read_place.0 link.read_place.1) in
     record {
       relay = IsRelay-entry s.log.log r.exec r.read to index l.relay.steps link.relay e;
       exec_place = link.exec_place;
@@ -70,7 +70,7 @@ IsLinked-read r s l x to fit (Entry index to') e link =
     }
 IsLinked-read r s l x to fit (Rotate to') e link =
     let step : StepFrom s.log.log r.read link.read_place.0 (next.Rotate to) = subst (λ (y : Next). StepFrom s.log.log r.read link.read_place.0 y) e
-        (next_after-step s.log.log (Laid-Grown s.log.log fit.grown) r.read link.read_place.0 link.read_place.1) in
+    (next_after-step s.log.log (Laid-Grown s.log.log fit.grown) r.read link.read_place.0 link.read_place.1) in
     record {
       relay = IsRelay-rotate s.log.log r.exec r.read to l.relay.steps link.relay e;
       exec_place = link.exec_place;
@@ -80,7 +80,6 @@ IsLinked-read r s l x to fit (Rotate to') e link =
 module _ (servers : List Server) (ledgers : List Ledger) (errant n : ℕ) (r : Server) (l : Ledger) (x : Next) (to : Coord)
     (kept : IsKept servers ledgers errant) (here : slice_get servers n ≡ Some r) (beside : slice_get ledgers n ≡ Some l)
     (took : IsTake servers r x) (goes : Goes x to) where
-
   link : IsLinked (record r { read = to }) took.source (record l { relay = record l.relay { steps = l.relay.steps ++ x ∷ [] } })
   link = IsLinked-read r took.source l x to (kept.fit took.number took.source took.at) goes took.is (kept.linked n took.number r took.source l here took.from took.at beside)
 

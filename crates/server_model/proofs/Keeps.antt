@@ -46,7 +46,6 @@ IsLinked-source r s s' l places relays link = record {
 module _ (servers : List Server) (ledgers : List Ledger) (before after : ℕ) (n : ℕ) (s s' : Server) (l l' : Ledger)
     (kept : IsKept servers ledgers before) (here : slice_get servers n ≡ Some s) (beside : slice_get ledgers n ≡ Some l)
     (change : IsChange servers n s s' l l' before after) where
-
   fit : (m : ℕ) (t : Server) → slice_get (slice_set servers n s') m ≡ Some t → IsFit t
   fit m t at = elim (set_cases servers n s s' here m t at) [
     | inl new ↦ subst (λ (x : Server). IsFit x) (sym new.1) change.fit

@@ -1,7 +1,10 @@
 pub mod Lists
+pub mod Openings
 pub mod Keeps
 pub mod Takes
 pub mod Answered
 pub mod Fetched
 pub mod Applied
-pub mod Openings
+pub mod MakingLemmas
+pub mod MakingServers
+pub mod MakingWorlds

@@ -1,5 +1,5 @@
 -- Look-ups after a write.
-use Rattle.std.proofs.Common.{◌≡◌, ℕ, Bool, true, false, cond, List, [], ◌∷◌, refl, sym, ◌∙◌, ap, inl, inr, ◌⊎◌, Option, Some, None, arith, zero, suc, length, ◌<◌, get_or}
+use Rattle.std.proofs.Common.{◌≡◌, ℕ, Bool, true, false, cond, List, [], ◌∷◌, refl, sym, ◌∙◌, ap, inl, inr, ◌⊎◌, Option, Some, None, arith, zero, suc, length, ◌<◌, ◌+◌, ◌++◌, take, get_or}
 use Rattle.std.specs.Prelude.{slice_get, slice_set, ◌==◌}
 use Rattle.std.proofs.lemmas.Bool.{cases_eq, eq-eqb, ne_eqb}
 use Rattle.std.proofs.lemmas.Bool.Decides.{nat_tests}
@@ -37,3 +37,17 @@ set_self (y ∷ ys) (suc i) x h = ap (λ zs. y ∷ zs) (set_self ys i x h)
 -- what an index finds
 pub slice_get-index : {X : Type 0} (xs : List X) (i : ℕ) (x : X) → i < length xs → x ≡ get_or xs i x → slice_get xs i ≡ Some x
 slice_get-index xs i x within e = slice_get-get_or xs i x within ∙ ap Some (sym e)
+
+-- a front of a list has what the list has there
+pub slice_get-front : {X : Type 0} (xs : List X) (n i : ℕ) (x : X) → i < n → slice_get xs i ≡ Some x → slice_get (take n xs) i ≡ Some x
+slice_get-front [] n i x h e = cc
+slice_get-front (y ∷ ys) zero i x h e = absurd (omega arith)
+slice_get-front (y ∷ ys) (suc n) zero x h e = e
+slice_get-front (y ∷ ys) (suc n) (suc i) x h e = slice_get-front ys n i x (omega arith) e
+
+-- one element more of a list
+pub take-more : {X : Type 0} (xs : List X) (i : ℕ) (x : X) → slice_get xs i ≡ Some x → take (i + 1) xs ≡ take i xs ++ x ∷ []
+take-more [] i x h = cc
+take-more (z ∷ xs) zero x h = let e : z ≡ x = same_Some z x h in ap (λ y. y ∷ []) e
+take-more (z ∷ xs) (suc i) x h =
+    let e : suc i + 1 ≡ suc (i + 1) = omega arith in rw e (ap (λ ys. z ∷ ys) (take-more xs i x h))

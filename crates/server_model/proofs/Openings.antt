@@ -94,14 +94,14 @@ coord_in-under servers i m s under at = rw (under, at) refl
 
 -- the log
 
-length-push : (log : Log) (size : ℕ) → length (push log size).entries ≡ length log.entries + 1
+pub length-push : (log : Log) (size : ℕ) → length (push log size).entries ≡ length log.entries + 1
 length-push log size = go (nat_le log.limit (log.pos + size)) (length-append log.entries (entry_at_end log size ∷ []))
   where
     go : (b : Bool) → length (appended log size).entries ≡ length log.entries + 1 → length (cond b (flush (appended log size)) (appended log size)).entries ≡ length log.entries + 1
     go true e = e
     go false e = e
 
-files-push : (log : Log) (size : ℕ) → (push log size).files ≤ log.files + 1
+pub files-push : (log : Log) (size : ℕ) → (push log size).files ≤ log.files + 1
 files-push log size = go (nat_le log.limit (log.pos + size))
   where
     go : (b : Bool) → (cond b (flush (appended log size)) (appended log size)).files ≤ log.files + 1

@@ -1,6 +1,6 @@
 -- A server that executes one more transaction keeps what is kept beside it.
 use Rattle.std.proofs.Common.{◌≡◌, ℕ, ◌+◌, ◌*◌, ◌<◌, ◌≤◌, Bool, true, false, cond, List, [], ◌∷◌, ◌++◌, length, length-append, refl, sym, ◌∙◌, ap, Some, arith, get_or}
-use Rattle.std.specs.Prelude.{slice_get, slice_set, nat_le, nat_eq, sum_by}
+use Rattle.std.specs.Prelude.{slice_get, slice_set, nat_eq, sum_by}
 use Rattle.std.proofs.lemmas.List.Elements.{All-push}
 use Rattle.std.proofs.lemmas.Bool.{eq-eqb}
 use Rattle.std.proofs.lemmas.List.Sums.{count_by-le-length, sum_by-le}
@@ -12,7 +12,7 @@ use Rattle.binlog_coords.specs.declared.Next.{Next}
 use Rattle.binlog_coords.specs.Grown.{Grown}
 use Rattle.binlog_coords.specs.Grown as grown
 use Rattle.binlog_coords.specs.Index.{Index}
-use Rattle.binlog_coords.specs.Log.{Log, place, push, flush, appended, entry_at_end}
+use Rattle.binlog_coords.specs.Log.{place, push}
 use Rattle.binlog_coords.specs.Relay.{IsRelay}
 use Rattle.binlog_coords.proofs.Places.{stable_push}
 use Rattle.binlog_coords.proofs.Relays.{IsRelay-push}
@@ -24,20 +24,7 @@ use Rattle.server_model.specs.Links.{IsFit, IsLinked, IsKept, HasSize}
 use Rattle.server_model.specs.declared.server.Server.{Server}
 use Rattle.server_model.specs.declared.ledger.Ledger.{Ledger}
 use Rattle.server_model.proofs.Keeps.{IsChange, IsKept-with}
-
-pub length-push : (log : Log) (size : ℕ) → length (push log size).entries ≡ length log.entries + 1
-length-push log size = go (nat_le log.limit (log.pos + size)) (length-append log.entries (entry_at_end log size ∷ []))
-  where
-    go : (b : Bool) → length (appended log size).entries ≡ length log.entries + 1 → length (cond b (flush (appended log size)) (appended log size)).entries ≡ length log.entries + 1
-    go true e = e
-    go false e = e
-
-pub files-push : (log : Log) (size : ℕ) → (push log size).files ≤ log.files + 1
-files-push log size = go (nat_le log.limit (log.pos + size))
-  where
-    go : (b : Bool) → (cond b (flush (appended log size)) (appended log size)).files ≤ log.files + 1
-    go true = omega arith
-    go false = omega arith
+use Rattle.server_model.proofs.Openings.{length-push, files-push}
 
 module _ (s : Server) (t : Txn) (to : Coord) (fit : IsFit s) (some : 0 < t.size) (size : t.size ≤ 1000000) (room : length s.history.txns < s.history.room) where
   -- of a log that took the transaction, and of one that didn't since the server doesn't log
@@ -96,18 +83,18 @@ pub IsKept-write : (servers : List Server) (ledgers : List Ledger) (before after
 IsKept-write servers ledgers before after n size s l kept here beside room some few rise =
     IsKept-with servers ledgers before after n s (took s (own_txn n (l.own + 1) size)) l (record l { own = l.own + 1 }) kept here beside
     (IsChange-took s (own_txn n (l.own + 1) size) s.exec (kept.fit n s here) some few room servers n l (record l { own = l.own + 1 }) before after
-        (ap (λ (k : ℕ). k + 1) (kept.own n s l here beside)
-        ∙ ap (λ b. count_own n s.history.txns + cond b 1 0) (sym (eq-eqb n n refl))
-        ∙ sym (count_own-push n s.history.txns (own_txn n (l.own + 1) size)))
-        refl rise
-        (λ m u from at link. record { relay = link.relay; exec_place = link.exec_place; read_place = link.read_place }))
+    (ap (λ (k : ℕ). k + 1) (kept.own n s l here beside)
+    ∙ ap (λ b. count_own n s.history.txns + cond b 1 0) (sym (eq-eqb n n refl))
+    ∙ sym (count_own-push n s.history.txns (own_txn n (l.own + 1) size)))
+    refl rise
+    (λ m u from at link. record { relay = link.relay; exec_place = link.exec_place; read_place = link.read_place }))
 
 -- the counts stay small
 pub errant-small : (servers : List Server) (ledgers : List Ledger) (errant : ℕ) → IsKept servers ledgers errant → errant ≤ 4000000000
 errant-small servers ledgers errant kept =
     let a = kept.errant_few in let b = kept.few in
     let short : (k : ℕ) (d : Server) → k < length servers → length (get_or servers k d).history.txns ≤ 4000000
-        = λ k d h. let fit = kept.fit k (get_or servers k d) (slice_get-get_or servers k d h) in let e = fit.high in let f = fit.within in omega arith in
+    = λ k d h. let fit = kept.fit k (get_or servers k d) (slice_get-get_or servers k d h) in let e = fit.high in let f = fit.within in omega arith in
     let sum = sum_by-le (λ (s : Server). length s.history.txns) 4000000 servers short in
     omega (arith, mul-le-mul_right 4000000 b)
 

@@ -10,4 +10,5 @@ pub mod Safe
 pub mod Run
 pub mod Plains
 pub mod Links
+pub mod Makings
 pub mod WorldsBy

@@ -40,6 +40,7 @@ impl History {
     pub fn len(&self) -> u64
         ensures value { result ≡ length self.now.txns }
         ensures within { result ≤ self.now.room }
+        ensures few { result ≤ 4000000 }
     {
         self.txns.len() as u64
     }

@@ -4,6 +4,7 @@
 mod answers;
 mod history;
 mod ledger;
+mod making;
 mod opening;
 mod plain;
 mod relay;
@@ -13,9 +14,10 @@ mod world;
 
 pub use answers::{ApplyAnswer, ApplyStep, FetchAnswer, FetchStep, WriteAnswer};
 pub use history::History;
+pub use ledger::Ledger;
+pub use making::transactions;
 pub use opening::{Opening, Part, Parts, ServerInit};
 pub use plain::Plain;
 pub use relay::Relay;
 pub use server::Server;
-pub use ledger::Ledger;
 pub use world::World;

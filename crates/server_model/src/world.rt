@@ -8,9 +8,10 @@ ghost use Rattle.server_model.specs.Links.{end_of_step, Passes};
 ghost use Rattle.server_model.specs.Opening.{opened_world, Fits};
 ghost use Rattle.server_model.specs.Plains.{plain_of, log_of};
 
+use crate::making::{ledger_of, server_of};
 use crate::steps::{
-    apply_answer, end_of_step, errant_writes, fetch_answer, is_applying, is_reached, is_receiving, own_of, receiver_step,
-    relay_step,
+    apply_answer, end_of_step, errant_writes, fetch_answer, is_applying, is_reached, is_receiving,
+    own_of, receiver_step, relay_step,
 };
 use crate::{
     ApplyAnswer, ApplyStep, FetchAnswer, FetchStep, Ledger, Opening, Plain, Server, WriteAnswer,
@@ -49,7 +50,21 @@ impl World {
         requires flushes { flushes ≤ 4000000 }
         ensures { IfOk result (λ w. w ≡ opened_world from.now room flushes) }
     {
-        Err(Memory)
+        let mut servers = Vec::new(alloc);
+        let mut ledgers = Vec::new(alloc);
+        for (n, init) in from.servers().iter().enumerate() {
+            let no = ServerNo(n as u32);
+            let server = server_of(alloc, from, &servers, no, init, room, flushes)?;
+            let ledger = ledger_of(alloc, init, room, flushes)?;
+            servers.push(server)?;
+            ledgers.push(ledger)?;
+        }
+        Ok(World {
+            servers,
+            ledgers,
+            gtid: from.gtid(),
+            errant: 0,
+        })
     }
 
     /// How many servers there are: 1 to 1,000.
@@ -109,11 +124,7 @@ impl World {
         ensures { option_map log_of (server_at self.now no.0) ≡ Some (option_copied result) }
     {
         let s = &self.servers[no.0 as usize];
-        if s.settings.logs {
-            Some(&s.log)
-        } else {
-            None
-        }
+        if s.settings.logs { Some(&s.log) } else { None }
     }
 
     /// An ordinary client's transaction of this size, 1 to 1,000,000 bytes.

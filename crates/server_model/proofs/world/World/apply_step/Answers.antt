@@ -20,11 +20,11 @@ returns-in-Some-clause-step c =
     let at : slice_get c.self.inside.servers.items source.number ≡ Some c.in-Some.s.now = subst (λ (w : World). server_at w source.number ≡ Some c.in-Some.s.now) (sym c.self.view_is) source.at in
     c.relay_step.ensures.step
     ∙ relay_step-is c.self.inside.gtid c.index-r.result.now c.in-Some.s.now c.index.result.now (c.self.invariant.fit source.number c.in-Some.s.now at)
-        (c.self.invariant.linked c.args.no.0 source.number c.index-r.result.now c.in-Some.s.now c.index.result.now here source.from at beside)
+    (c.self.invariant.linked c.args.no.0 source.number c.index-r.result.now c.in-Some.s.now c.index.result.now here source.from at beside)
     ∙ ap (λ (w : World). apply_from w.gtid c.index-r.result.now (Some c.in-Some.s.now)) c.self.view_is
     ∙ sym (apply_step-on c.args.self.now c.args.no.0 c.index-r.result.now (Some c.in-Some.s.now)
-        (subst (λ (w : World). server_at w c.args.no.0 ≡ Some c.index-r.result.now) c.self.view_is here)
-        (sym c.is_applying.ensures ∙ c.if-not-is_applying.false) (sym c.is_reached.ensures ∙ c.if-is_reached.false) is)
+    (subst (λ (w : World). server_at w c.args.no.0 ≡ Some c.index-r.result.now) c.self.view_is here)
+    (sym c.is_applying.ensures ∙ c.if-not-is_applying.false) (sym c.is_reached.ensures ∙ c.if-is_reached.false) is)
 
 pub returns-in-Some-clause-ready : goal.returns-in-Some-clause-ready
 returns-in-Some-clause-ready c =

@@ -24,7 +24,7 @@ invariant_of-self c =
     let here = slice_get-index c.self.inside.servers.items c.args.no.0 c.index_mut-r.result.now within c.index_mut-r.ensures.value in
     let beside = slice_get-index c.self.inside.ledgers.items c.args.no.0 c.index_mut-l.result.now beyond c.index_mut-l.ensures.value in
     let step = step_in c.args.self.now c.self.inside.servers.items c.self.inside.gtid c.self.inside.errant c.args.no.0 c.index_mut-r.result.now c.args.to c.self.view_is here
-        (ap leads_to c.requires.step) in
+    (ap leads_to c.requires.step) in
     let ready = ready_in c.args.self.now c.self.inside.servers.items c.self.inside.gtid c.self.inside.errant c.args.no.0 c.index_mut-r.result.now c.args.t c.args.to c.self.view_is here c.requires.ready in
     rw (c.pop.ensures, c.take.ensures, c.own_of.ensures.value)
     (IsKept-execute c.self.inside.servers.items c.self.inside.ledgers.items c.self.inside.errant c.args.no.0 c.index_mut-r.result.now c.index_mut-l.result.now c.args.to

@@ -12,7 +12,7 @@ invariant_of-self c =
     let here = slice_get-index c.self.inside.servers.items c.args.no.0 c.index_mut-r.result.now within c.index_mut-r.ensures.value in
     let beside = slice_get-index c.self.inside.ledgers.items c.args.no.0 c.index_mut-l.result.now beyond c.index_mut-l.ensures.value in
     let step = step_in c.args.self.now c.self.inside.servers.items c.self.inside.gtid c.self.inside.errant c.args.no.0 c.index_mut-r.result.now c.args.to c.self.view_is here
-        (passes-leads (apply_step c.args.self.now (server_at c.args.self.now c.args.no.0)) c.args.to c.requires.step) in
+    (passes-leads (apply_step c.args.self.now (server_at c.args.self.now c.args.no.0)) c.args.to c.requires.step) in
     rw c.pop.ensures (IsKept-pass c.self.inside.servers.items c.self.inside.ledgers.items c.self.inside.errant c.args.no.0 c.index_mut-r.result.now c.index_mut-l.result.now c.args.to
     c.self.invariant here beside step)
 

@@ -1,0 +1,21 @@
+//! The types of this crate can be moved between threads, and shared by them.
+
+use crate::failed::NotRead;
+use crate::memory::{MemSink, MemSource};
+use crate::name::{Name, NameFault};
+use crate::server::{IoState, Moment, Settings, SourceState, Txn};
+
+fn crosses_threads<T: Send + Sync>() {}
+
+fn all_cross_threads() {
+    crosses_threads::<Name>();
+    crosses_threads::<NameFault>();
+    crosses_threads::<NotRead>();
+    crosses_threads::<Moment>();
+    crosses_threads::<Txn>();
+    crosses_threads::<SourceState>();
+    crosses_threads::<IoState>();
+    crosses_threads::<Settings>();
+    crosses_threads::<MemSource>();
+    crosses_threads::<MemSink>();
+}
