@@ -10,6 +10,8 @@ mod plain;
 mod relay;
 mod server;
 mod steps;
+#[cfg(test)]
+mod tests;
 mod world;
 
 pub use answers::{ApplyAnswer, ApplyStep, FetchAnswer, FetchStep, WriteAnswer};

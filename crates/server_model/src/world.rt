@@ -48,7 +48,8 @@ impl World {
         requires fits { Fits from.now room }
         requires room { room ≤ 4000000 }
         requires flushes { flushes ≤ 4000000 }
-        ensures { IfOk result (λ w. w ≡ opened_world from.now room flushes) }
+        ensures world { IfOk result (λ w. w ≡ opened_world from.now room flushes) }
+        ensures servers { IfOk result (λ w. length w.servers ≡ length from.now.servers) }
     {
         let mut servers = Vec::new(alloc);
         let mut ledgers = Vec::new(alloc);

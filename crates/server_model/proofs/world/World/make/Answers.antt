@@ -8,6 +8,7 @@ use Rattle.server_model.specs.declared.opening.ServerInit.{ServerInit}
 use Rattle.server_model.specs.declared.server.Server.{Server}
 use Rattle.server_model.specs.declared.ledger.Ledger.{Ledger}
 use Rattle.server_model.proofs.Lists.{slice_get-index}
+use Rattle.server_model.proofs.Openings.{length-opened_from}
 use Rattle.server_model.proofs.MakingWorlds.{IsMade, IsMade-none, IsMade-more, IsMade-all, IsKept-opened}
 use Rattle.server_model.proofs.world.World.make.Goals as goal
 
@@ -46,4 +47,4 @@ pub returns : goal.returns
 returns c =
     let all : c.loop-n.n ≡ length c.args.from.now.servers = omega (arith, c.loop-n-test.false, c.loop-n.auto.n-end, ap (λ (is : List ServerInit). length is) c.servers-init-items.ensures.value) in
     let made = IsMade-all c.args.from.now c.args.room c.args.flushes c.loop-n.n c.loop-n.servers.items c.loop-n.ledgers.items all c.loop-n.invariant in
-    rw (made.0, c.gtid.ensures) refl
+    rw (made.0, c.gtid.ensures) (record { world = refl; servers = length-opened_from c.args.from.now.servers c.args.room c.args.flushes 0 c.args.from.now.servers })
