@@ -1,5 +1,5 @@
 -- What an apply executes, and that it keeps what is kept.
-use Rattle.std.proofs.Common.{◌≡◌, ℕ, ◌+◌, ◌*◌, ◌<◌, ◌≤◌, Bool, true, false, not, cond, List, [], ◌∷◌, ◌++◌, length, drop, refl, sym, ◌∙◌, ap, subst, ◌⊎◌, inl, inr, Option, Some, None, arith, ◌&&◌}
+use Rattle.std.proofs.Common.{◌≡◌, ℕ, ◌+◌, ◌<◌, ◌≤◌, Bool, true, false, not, cond, List, [], ◌∷◌, length, drop, refl, sym, ◌∙◌, ap, subst, inl, inr, Option, Some, None, arith, ◌&&◌}
 use Rattle.std.specs.Prelude.{slice_get, slice_set, nat_le, ◌==◌}
 use Rattle.std.proofs.lemmas.Option.{same_Some}
 use Rattle.binlog_coords.specs.declared.Coord.{Coord}
@@ -13,7 +13,7 @@ use Rattle.binlog_coords.proofs.Relays.{IsRelay-nil, IsRelay-some, IsRelay-entry
 use Rattle.orch_base.specs.declared.server.Txn.{Txn}
 use Rattle.orch_base.specs.declared.server.SourceState.{SourceState}
 use Rattle.orch_base.specs.declared.server.SourceState.TheVariants.{Without, Attached, Detached}
-use Rattle.server_model.specs.Histories.{count_own, holds}
+use Rattle.server_model.specs.Histories.{holds}
 use Rattle.server_model.specs.Worlds.{World, server_at, source_no}
 use Rattle.server_model.specs.Exchanges.{took, apply_step, apply_from, apply_txn, applied, attached_at, is_applying, is_reached, after_apply, IsReady}
 use Rattle.server_model.specs.Links.{relay_step, Passes, IsFit, IsLinked, IsKept}
@@ -22,7 +22,7 @@ use Rattle.server_model.specs.declared.answers.ApplyStep.TheVariants as applying
 use Rattle.server_model.specs.declared.server.Server.{Server}
 use Rattle.server_model.specs.declared.ledger.Ledger.{Ledger}
 use Rattle.server_model.proofs.Lists.{set_self}
-use Rattle.server_model.proofs.Keeps.{IsChange, IsKept-with, beside_of}
+use Rattle.server_model.proofs.Keeps.{IsKept-with, beside_of}
 use Rattle.server_model.proofs.Takes.{IsChange-took, count_own-push}
 use Rattle.server_model.proofs.Fetched.{Goes, Entry, Rotate}
 

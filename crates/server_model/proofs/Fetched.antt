@@ -1,24 +1,22 @@
 -- What a fetch reads, and that it keeps what is kept.
-use Rattle.std.proofs.Common.{◌≡◌, ℕ, ◌+◌, ◌*◌, ◌<◌, ◌≤◌, Bool, true, false, not, cond, List, [], ◌∷◌, ◌++◌, length, length-append, refl, sym, ◌∙◌, ap, subst, Option, Some, None, arith, ◌&&◌}
+use Rattle.std.proofs.Common.{◌≡◌, ℕ, ◌+◌, ◌<◌, Bool, true, false, cond, List, [], ◌∷◌, ◌++◌, length, length-append, refl, sym, ◌∙◌, ap, subst, Option, Some, None, arith, ◌&&◌}
 use Rattle.std.specs.Prelude.{slice_get, slice_set}
 use Rattle.std.proofs.lemmas.Option.{same_Some}
 use Rattle.binlog_coords.specs.declared.Coord.{Coord}
 use Rattle.binlog_coords.specs.declared.Next.{Next}
 use Rattle.binlog_coords.specs.declared.Next.TheVariants as next
-use Rattle.binlog_coords.specs.Log.{place, has_place, next_after, StepFrom}
-use Rattle.binlog_coords.specs.Relay.{IsRelay}
+use Rattle.binlog_coords.specs.Log.{has_place, next_after, StepFrom}
 use Rattle.binlog_coords.proofs.Places.{Laid-Grown, next_after-step, place-parts}
 use Rattle.binlog_coords.proofs.Relays.{IsRelay-entry, IsRelay-rotate, IsRelay-bound}
 use Rattle.orch_base.specs.declared.server.SourceState.{SourceState}
 use Rattle.orch_base.specs.declared.server.SourceState.TheVariants.{Without, Attached, Detached}
-use Rattle.server_model.specs.Worlds.{World, server_at, source_no, with_server}
+use Rattle.server_model.specs.Worlds.{World, server_at, source_no}
 use Rattle.server_model.specs.Exchanges.{fetch_step, fetch_from, attached_at, is_attached, is_receiving, after_fetch}
-use Rattle.server_model.specs.Links.{end_of_step, IsFit, IsLinked, IsRoomy, IsKept}
-use Rattle.server_model.specs.declared.answers.FetchStep.{FetchStep}
+use Rattle.server_model.specs.Links.{end_of_step, IsFit, IsLinked, IsKept}
 use Rattle.server_model.specs.declared.answers.FetchStep.TheVariants as receiving
 use Rattle.server_model.specs.declared.server.Server.{Server}
 use Rattle.server_model.specs.declared.ledger.Ledger.{Ledger}
-use Rattle.server_model.proofs.Keeps.{IsChange, IsKept-with, beside_of}
+use Rattle.server_model.proofs.Keeps.{IsKept-with, beside_of}
 
 -- the source that a receiver reads, and what it reads there
 pub record IsTake (servers : List Server) (r : Server) (x : Next) : Type 0 where

@@ -1,17 +1,17 @@
 -- How the histories and logs of an opening are made, step by step.
-use Rattle.std.proofs.Common.{◌≡◌, ℕ, ◌+◌, ◌-◌, ◌<◌, ◌≤◌, Bool, true, false, cond, List, [], ◌∷◌, ◌++◌, length, replicate, drop, take, refl, sym, ◌∙◌, ap, subst, arith, length-append, append_assoc, append-nil, zero, suc, get_or, add-one}
+use Rattle.std.proofs.Common.{◌≡◌, ℕ, ◌+◌, ◌-◌, ◌<◌, ◌≤◌, List, [], ◌∷◌, ◌++◌, length, replicate, drop, refl, sym, ◌∙◌, ap, arith, length-append, append_assoc, append-nil, suc, get_or, add-one}
 use Rattle.std.proofs.Math.Seq.{drop-cons}
 use Rattle.std.proofs.lemmas.List.Sums.{sum_by-cons}
 use Rattle.std.proofs.lemmas.List.{length-replicate}
 use Rattle.binlog_coords.specs.Index.{Index}
-use Rattle.binlog_coords.specs.Log.{Log, opened, push}
+use Rattle.binlog_coords.specs.Log.{opened}
 use Rattle.orch_base.specs.declared.server.Txn.{Txn}
 use Rattle.server_model.specs.Exchanges.{own_txn}
 use Rattle.server_model.specs.Kept.{Kept}
 use Rattle.server_model.specs.Opening.{numbered, sizes, transactions, grown_by}
 use Rattle.server_model.specs.declared.opening.Part.{Part}
 use Rattle.server_model.specs.declared.opening.ServerInit.{ServerInit}
-use Rattle.server_model.proofs.Openings.{length-numbered, length-push}
+use Rattle.server_model.proofs.Openings.{length-numbered}
 
 -- one more of n's own transactions
 numbered-more : (n size k : ℕ) (xs : List Txn)

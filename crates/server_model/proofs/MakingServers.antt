@@ -1,17 +1,14 @@
 -- The servers of an opening, made one after another.
-use Rattle.std.proofs.Common.{◌≡◌, ℕ, ◌+◌, ◌*◌, ◌<◌, ◌≤◌, Bool, true, false, cond, List, [], ◌∷◌, ◌++◌, length, take, refl, sym, ◌∙◌, ap, subst, Option, Some, None, arith, zero, suc}
-use Rattle.std.specs.Prelude.{slice_get, All}
-use Rattle.std.proofs.lemmas.Option.{same_Some, slice_get_within}
-use Rattle.std.proofs.Math.Seq.{take-length}
-use Rattle.binlog_coords.specs.Log.{coord_after, opened}
+use Rattle.std.proofs.Common.{◌≡◌, ℕ, ◌+◌, ◌≤◌, List, length, ◌∙◌, ap, Some, arith}
+use Rattle.std.specs.Prelude.{slice_get}
+use Rattle.binlog_coords.specs.Log.{opened}
 use Rattle.orch_base.specs.declared.server.ServerNo.{ServerNo}
-use Rattle.orch_base.specs.declared.server.Txn.{Txn}
-use Rattle.server_model.specs.Opening.{Opened, transactions, root_history, history_in, log_in, coord_in, opened_server, opened_from, IsSound, IsUnder, Fits}
+use Rattle.server_model.specs.Opening.{Opened, transactions, root_history, history_in, log_in, opened_server, opened_from, IsUnder}
 use Rattle.server_model.specs.Makings.{IsNext, IsSourceDone}
 use Rattle.server_model.specs.declared.opening.ServerInit.{ServerInit}
 use Rattle.server_model.specs.declared.server.Server.{Server}
 use Rattle.server_model.proofs.Lists.{slice_get-front}
-use Rattle.server_model.proofs.Openings.{length-root_history, slice_get-opened_from, length-opened_from, history_in-root, history_in-under, coord_in-under, entries-grown_by, log_in-logs, Fits-at}
+use Rattle.server_model.proofs.Openings.{length-root_history, slice_get-opened_from, history_in-root, entries-grown_by, log_in-logs, Fits-at}
 
 -- the source of the next server is among those that are done
 pub source-done : (o : Opened) (room n : ℕ) (i : ServerInit) (done : List Server) (m : ServerNo) → (next : IsNext o room n i done) → (is : i.source ≡ Some m)

@@ -1,7 +1,7 @@
 -- At the opening what stands beside the servers is right.
 use Rattle.std.proofs.Common.{◌≡◌, ℕ, ◌+◌, ◌*◌, ◌<◌, ◌≤◌, Bool, true, false, cond, List, [], ◌∷◌, ◌++◌, length, take, refl, sym, ◌∙◌, ap, subst, Option, Some, None, arith, zero, suc}
 use Rattle.std.specs.Prelude.{slice_get, All}
-use Rattle.std.proofs.lemmas.Option.{same_Some, slice_get_within}
+use Rattle.std.proofs.lemmas.Option.{same_Some}
 use Rattle.std.proofs.lemmas.List.Elements.{All-weaker}
 use Rattle.binlog_coords.specs.Grown.{Grown}
 use Rattle.binlog_coords.specs.Grown as grown
@@ -15,7 +15,7 @@ use Rattle.orch_base.specs.declared.server.Txn.{Txn}
 use Rattle.server_model.specs.Histories.{count_own}
 use Rattle.server_model.specs.Links.{HasSize, IsFit, IsRoomy, IsLinked, IsKept}
 use Rattle.server_model.specs.Makings.{own_at_opening, opened_ledger, opened_ledgers}
-use Rattle.server_model.specs.Opening.{Opened, transactions, root_history, history_in, grown_by, log_in, coord_in, source_state, opened_server, opened_from, IsSound, IsUnder, Fits}
+use Rattle.server_model.specs.Opening.{Opened, transactions, root_history, history_in, grown_by, log_in, source_state, opened_server, opened_from, IsSound, IsUnder, Fits}
 use Rattle.server_model.specs.Worlds.{source_no}
 use Rattle.server_model.specs.declared.opening.ServerInit.{ServerInit}
 use Rattle.server_model.specs.declared.server.Server.{Server}
@@ -63,9 +63,6 @@ IsLaid-log_in i history sized = go i.settings.logs
     go false = record { entries = omega arith; files = omega arith; grown = grown.Opened i.settings.limit }
 
 module _ (o : Opened) (room flushes : ℕ) (sound : IsSound o) (fits : Fits o room) (few : room ≤ 4000000) where
-  servers : List Server
-  servers = opened_from o.servers room flushes 0 o.servers
-
   at_opening : (n : ℕ) (s : Server) → slice_get (opened_from o.servers room flushes 0 o.servers) n ≡ Some s → Given o.servers room flushes o.servers n n s
   at_opening n s at = given-opened o room flushes n s at
 

@@ -1,6 +1,6 @@
 -- The exchanges with a server: each is a function from a world to an answer and a world
 -- (MySQL 8.0 Reference Manual, "Replication Implementation").
-use Rattle.std.specs.Prelude.{List, ◌<◌, ◌≤◌, ℕ, ◌+◌, Bool, true, false, ◌&&◌, not, if◌then◌else◌, [], ◌∷◌, ◌++◌, length, Option, Some, None, slice_get, nat_le}
+use Rattle.std.specs.Prelude.{◌<◌, ◌≤◌, ℕ, ◌+◌, Bool, true, false, ◌&&◌, not, if◌then◌else◌, [], ◌∷◌, ◌++◌, length, Option, Some, None, slice_get, nat_le}
 use Rattle.binlog_coords.specs.declared.Coord.{Coord}
 use Rattle.binlog_coords.specs.declared.Next.{Next}
 use Rattle.binlog_coords.specs.declared.Next.TheVariants as next

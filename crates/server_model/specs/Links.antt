@@ -1,5 +1,5 @@
 -- What is kept of each server beside its state: its relay log, and what lets every exchange go without a search.
-use Rattle.std.specs.Prelude.{◌≡◌, ◌⊎◌, ℕ, ◌+◌, ◌*◌, ◌<◌, ◌≤◌, Bool, true, List, [], ◌∷◌, length, sum_by, All, Option, Some, None, slice_get}
+use Rattle.std.specs.Prelude.{◌≡◌, ◌⊎◌, ℕ, ◌+◌, ◌*◌, ◌<◌, ◌≤◌, Bool, List, [], ◌∷◌, length, sum_by, All, Option, Some, None, slice_get}
 use Rattle.binlog_coords.specs.declared.Coord.{Coord}
 use Rattle.binlog_coords.specs.declared.Next.{Next}
 use Rattle.binlog_coords.specs.declared.Next.TheVariants as next

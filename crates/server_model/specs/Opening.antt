@@ -1,5 +1,5 @@
 -- The servers as a scenario gives them, and the world that they open.
-use Rattle.std.specs.Prelude.{◌≡◌, ℕ, ◌+◌, ◌*◌, ◌<◌, ◌≤◌, Bool, true, false, if◌then◌else◌, List, [], ◌∷◌, ◌++◌, All, length, replicate, sum_by, take, Option, Some, None, is_some, slice_get}
+use Rattle.std.specs.Prelude.{◌≡◌, ℕ, ◌+◌, ◌<◌, ◌≤◌, Bool, true, false, if◌then◌else◌, List, [], ◌∷◌, ◌++◌, All, length, replicate, sum_by, take, Option, Some, None, is_some, slice_get}
 use Rattle.binlog_coords.specs.declared.Coord.{Coord}
 use Rattle.binlog_coords.specs.Log.{Log, opened, push, file_start, coord_after}
 use Rattle.orch_base.specs.declared.server.ServerNo.{ServerNo}

@@ -3,9 +3,9 @@
 use crate::Relay;
 
 #[derive(Drop)]
-pub struct Ledger {
+pub(crate) struct Ledger {
     /// The part of its source's log from its executed to its read coordinate.
-    pub relay: Relay,
+    pub(crate) relay: Relay,
     /// How many transactions of its own it has executed.
-    pub own: u64,
+    pub(crate) own: u64,
 }

@@ -14,12 +14,13 @@ mod steps;
 mod tests;
 mod world;
 
-pub use answers::{ApplyAnswer, ApplyStep, FetchAnswer, FetchStep, WriteAnswer};
-pub use history::History;
-pub use ledger::Ledger;
+pub use answers::{ApplyAnswer, FetchAnswer, WriteAnswer};
+pub(crate) use answers::{ApplyStep, FetchStep};
+pub(crate) use history::History;
+pub(crate) use ledger::Ledger;
 pub use making::transactions;
 pub use opening::{Opening, Part, Parts, ServerInit};
 pub use plain::Plain;
-pub use relay::Relay;
-pub use server::Server;
+pub(crate) use relay::Relay;
+pub(crate) use server::Server;
 pub use world::World;

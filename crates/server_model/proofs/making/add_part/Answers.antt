@@ -1,4 +1,4 @@
-use Rattle.std.proofs.Common.{◌≡◌, length, arith, subst, ℕ}
+use Rattle.std.proofs.Common.{◌≡◌, arith, subst, ℕ}
 use Rattle.server_model.proofs.MakingLemmas.{Adds, Adds-none, Adds-more, Adds-all}
 use Rattle.server_model.proofs.making.add_part.Goals as goal
 

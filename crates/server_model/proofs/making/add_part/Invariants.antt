@@ -1,5 +1,3 @@
-use Rattle.std.proofs.Common.{◌≡◌, ◌+◌, ◌-◌, ◌≤◌, ◌++◌, length, replicate}
-use Rattle.server_model.specs.Opening.{numbered}
 use Rattle.server_model.proofs.MakingLemmas.{Adds}
 use Rattle.server_model.proofs.making.add_part.Given as goal
 

@@ -1,6 +1,4 @@
-use Rattle.std.proofs.Common.{add-one}
-use Rattle.std.proofs.Math.Seq.{drop-cons}
-use Rattle.server_model.proofs.MakingLemmas.{Joins, Joins-more, drop-here}
+use Rattle.server_model.proofs.MakingLemmas.{Joins-more, drop-here}
 use Rattle.server_model.proofs.making.root_history.Goals as goal
 
 pub loop-part-preserved : goal.loop-part-preserved

@@ -1,9 +1,8 @@
-use Rattle.std.proofs.Common.{◌≡◌, ◌<◌, length, Some, Bool, List, subst, sym, ap, ◌∙◌, arith}
+use Rattle.std.proofs.Common.{◌≡◌, ◌<◌, length, Some, subst, sym, ap, ◌∙◌, arith}
 use Rattle.std.specs.Prelude.{slice_get}
 use Rattle.std.specs.Option.{option_copied}
 use Rattle.server_model.specs.Worlds.{World, server_at}
-use Rattle.server_model.specs.Exchanges.{apply_from, IsReady}
-use Rattle.server_model.specs.declared.server.Server.{Server}
+use Rattle.server_model.specs.Exchanges.{apply_from}
 use Rattle.server_model.proofs.Lists.{slice_get-index}
 use Rattle.server_model.proofs.Fetched.{attached_from}
 use Rattle.server_model.proofs.Applied.{apply_step-on, relay_step-is, ready_at}

@@ -1,8 +1,5 @@
-use Rattle.std.proofs.Common.{◌≡◌, ◌<◌, ◌≤◌, length, Some, subst, sym, ap, arith}
-use Rattle.server_model.specs.Worlds.{World, server_at}
-use Rattle.server_model.specs.Exchanges.{apply_step, IsReady}
-use Rattle.server_model.specs.declared.answers.ApplyStep.TheVariants as applying
-use Rattle.server_model.specs.declared.server.Server.{Server}
+use Rattle.std.proofs.Common.{◌<◌, length, subst, sym, ap, arith}
+use Rattle.server_model.specs.Worlds.{World}
 use Rattle.server_model.proofs.Lists.{slice_get-index}
 use Rattle.server_model.proofs.Takes.{own-small}
 use Rattle.server_model.proofs.Applied.{step_in, leads_to, IsKept-execute, execute-left, ready_in}

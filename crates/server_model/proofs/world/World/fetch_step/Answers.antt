@@ -1,9 +1,7 @@
-use Rattle.std.proofs.Common.{◌≡◌, ◌<◌, length, Some, None, arith, subst, sym, ap, ◌∙◌}
+use Rattle.std.proofs.Common.{◌≡◌, ◌<◌, length, Some, None, subst, sym, ap, ◌∙◌}
 use Rattle.std.specs.Prelude.{slice_get}
 use Rattle.std.specs.Option.{option_copied}
 use Rattle.server_model.specs.Worlds.{World, server_at}
-use Rattle.server_model.specs.Exchanges.{attached_at, fetch_from}
-use Rattle.server_model.specs.declared.server.Server.{Server}
 use Rattle.server_model.proofs.Lists.{slice_get-index}
 use Rattle.server_model.proofs.Fetched.{attached_from, fetch_step-on, has_place-read}
 use Rattle.server_model.proofs.world.World.fetch_step.Goals as goal

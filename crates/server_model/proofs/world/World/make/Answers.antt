@@ -1,15 +1,11 @@
-use Rattle.std.proofs.Common.{◌≡◌, ◌++◌, ◌∷◌, [], length, List, Some, arith, subst, sym, ap, ◌∙◌, refl}
+use Rattle.std.proofs.Common.{◌≡◌, length, List, Some, arith, subst, ap, ◌∙◌, refl}
 use Rattle.std.specs.Prelude.{slice_get}
-use Rattle.server_model.specs.Links.{IsKept}
-use Rattle.server_model.specs.Opening.{opened_server, opened_from}
-use Rattle.server_model.specs.Makings.{opened_ledger, opened_ledgers}
-use Rattle.server_model.specs.Worlds.{World}
+use Rattle.server_model.specs.Opening.{opened_server}
+use Rattle.server_model.specs.Makings.{opened_ledger}
 use Rattle.server_model.specs.declared.opening.ServerInit.{ServerInit}
-use Rattle.server_model.specs.declared.server.Server.{Server}
-use Rattle.server_model.specs.declared.ledger.Ledger.{Ledger}
 use Rattle.server_model.proofs.Lists.{slice_get-index}
 use Rattle.server_model.proofs.Openings.{length-opened_from}
-use Rattle.server_model.proofs.MakingWorlds.{IsMade, IsMade-none, IsMade-more, IsMade-all, IsKept-opened}
+use Rattle.server_model.proofs.MakingWorlds.{IsMade-none, IsMade-more, IsMade-all, IsKept-opened}
 use Rattle.server_model.proofs.world.World.make.Goals as goal
 
 pub loop-n-init : goal.loop-n-init

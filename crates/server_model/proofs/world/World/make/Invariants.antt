@@ -1,4 +1,3 @@
-use Rattle.std.proofs.Common.{◌≡◌}
 use Rattle.server_model.proofs.MakingWorlds.{IsMade}
 use Rattle.server_model.proofs.world.World.make.Given as goal
 

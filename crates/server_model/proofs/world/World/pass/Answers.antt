@@ -1,4 +1,4 @@
-use Rattle.std.proofs.Common.{◌≡◌, ◌<◌, length, Some, subst, sym, arith}
+use Rattle.std.proofs.Common.{◌<◌, length, subst, sym, arith}
 use Rattle.server_model.specs.Worlds.{World, server_at}
 use Rattle.server_model.specs.Exchanges.{apply_step}
 use Rattle.server_model.proofs.Lists.{slice_get-index}

@@ -1,10 +1,7 @@
-use Rattle.std.proofs.Common.{◌≡◌, ◌<◌, length, Some, arith, subst, sym, ap, ◌∙◌}
-use Rattle.std.specs.Prelude.{slice_get}
-use Rattle.server_model.specs.Worlds.{World, server_at}
-use Rattle.server_model.specs.Exchanges.{fetch_step}
-use Rattle.server_model.specs.declared.answers.FetchStep.TheVariants as receiving
+use Rattle.std.proofs.Common.{◌<◌, length, arith, subst, sym}
+use Rattle.server_model.specs.Worlds.{World}
 use Rattle.server_model.proofs.Lists.{slice_get-index}
-use Rattle.server_model.proofs.Fetched.{IsTake, take_in, goes_from, room-receive, IsKept-receive, receive-left}
+use Rattle.server_model.proofs.Fetched.{take_in, goes_from, room-receive, IsKept-receive, receive-left}
 use Rattle.server_model.proofs.world.World.receive.Goals as goal
 
 pub push-requires : goal.push-requires

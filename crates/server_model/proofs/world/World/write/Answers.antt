@@ -1,8 +1,5 @@
-use Rattle.std.proofs.Common.{◌≡◌, ◌+◌, ◌<◌, length, Some, arith, subst, sym, ap}
-use Rattle.std.specs.Prelude.{slice_get}
+use Rattle.std.proofs.Common.{◌≡◌, ◌+◌, ◌<◌, length, Some, arith, subst, sym}
 use Rattle.server_model.specs.Worlds.{World, server_at}
-use Rattle.server_model.specs.Links.{IsKept}
-use Rattle.server_model.specs.declared.server.Server.{Server}
 use Rattle.server_model.proofs.Lists.{slice_get-index}
 use Rattle.server_model.proofs.Takes.{IsKept-write, own-small, errant-small}
 use Rattle.server_model.proofs.Answered.{write-answered, write-left}
