@@ -1,0 +1,4 @@
+pub mod Servers
+pub mod Rooms
+pub mod Shut
+pub mod Runs

@@ -1,0 +1,54 @@
+-- No exchange adds a server or takes one away.
+use Rattle.std.proofs.Common.{◌≡◌, ℕ, false, length, refl, Option, Some, None}
+use Rattle.std.proofs.lemmas.List.{length-set}
+use Rattle.binlog_coords.specs.declared.Next.TheVariants as next
+use Rattle.server_model.specs.declared.answers.ApplyStep.{ApplyStep}
+use Rattle.server_model.specs.declared.answers.ApplyStep.TheVariants as applying
+use Rattle.server_model.specs.declared.answers.FetchStep.{FetchStep}
+use Rattle.server_model.specs.declared.answers.FetchStep.TheVariants as receiving
+use Rattle.server_model.specs.declared.answers.WriteAnswer.{WriteAnswer}
+use Rattle.server_model.specs.declared.answers.WriteAnswer.TheVariants as wrote
+use Rattle.server_model.specs.declared.server.Server.{Server}
+use Rattle.server_model.specs.Exchanges.{took, own_txn, write_answer, after_write, fetch_step, after_fetch, apply_step, after_apply}
+use Rattle.server_model.specs.Run.{Exchange, Write, Fetch, Apply, after}
+use Rattle.server_model.specs.Worlds.{World, server_at}
+use Rattle.server_model.specs.Opening.{Opened, opened_world}
+use Rattle.server_model.proofs.Openings.{length-opened_from}
+use Rattle.orch_core.specs.declared.scenario.Scenario.{Scenario}
+use Rattle.orch_core.specs.Scenarios.{start, room_of}
+
+servers-write : (w : World) (n size : ℕ) (o : Option Server) (a : WriteAnswer) → length (after_write w n size o a).servers ≡ length w.servers
+servers-write w n size None a = refl
+servers-write w n size (Some s) wrote.Down = refl
+servers-write w n size (Some s) wrote.ReadOnly = refl
+servers-write w n size (Some s) wrote.Full = refl
+servers-write w n size (Some s) (wrote.Done seq) = length-set w.servers n (took s (own_txn n seq size))
+
+servers-fetch : (w : World) (n : ℕ) (o : Option Server) (a : FetchStep) → length (after_fetch w n o a).servers ≡ length w.servers
+servers-fetch w n None a = refl
+servers-fetch w n (Some r) receiving.Halt = refl
+servers-fetch w n (Some r) receiving.Unlinked = refl
+servers-fetch w n (Some r) (receiving.Take (next.Entry index to)) = length-set w.servers n (record r { read = to })
+servers-fetch w n (Some r) (receiving.Take (next.Rotate to)) = length-set w.servers n (record r { read = to })
+servers-fetch w n (Some r) (receiving.Take next.End) = refl
+
+servers-apply : (w : World) (n : ℕ) (o : Option Server) (a : ApplyStep) → length (after_apply w n o a).servers ≡ length w.servers
+servers-apply w n None a = refl
+servers-apply w n (Some r) applying.Halt = refl
+servers-apply w n (Some r) applying.ForgetUntil = length-set w.servers n (record r { applier = false; until = None })
+servers-apply w n (Some r) applying.Idle = refl
+servers-apply w n (Some r) applying.NoRoom = refl
+servers-apply w n (Some r) (applying.Pass to) = length-set w.servers n (record r { exec = to })
+servers-apply w n (Some r) (applying.Skip to) = length-set w.servers n (record r { exec = to })
+servers-apply w n (Some r) (applying.Execute t to) = length-set w.servers n (record (took r t) { exec = to })
+
+pub servers-after : (w : World) (e : Exchange) → length (after w e).servers ≡ length w.servers
+servers-after w (Write n size) = servers-write w n size (server_at w n) (write_answer n (server_at w n))
+servers-after w (Fetch n) = servers-fetch w n (server_at w n) (fetch_step w (server_at w n))
+servers-after w (Apply n) = servers-apply w n (server_at w n) (apply_step w (server_at w n))
+
+pub servers-opened : (o : Opened) (room flushes : ℕ) → length (opened_world o room flushes).servers ≡ length o.servers
+servers-opened o room flushes = length-opened_from o.servers room flushes 0 o.servers
+
+pub servers-start : (s : Scenario) → length (start s).world.servers ≡ length s.opening.servers
+servers-start s = servers-opened s.opening (room_of s) 0

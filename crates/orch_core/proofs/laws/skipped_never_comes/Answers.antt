@@ -1,0 +1,5 @@
+use Rattle.orch_core.proofs.Runs.{not_skipped}
+use Rattle.orch_core.proofs.laws.skipped_never_comes.Goals as goal
+
+pub returns : goal.returns
+returns c = not_skipped

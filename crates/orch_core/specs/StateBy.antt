@@ -1,0 +1,5 @@
+use Rattle.orch_core.specs.Runs.{State}
+use Rattle.orch_core.specs.declared.orch.Orch.TheInside.{Inside}
+
+abbrev pub state_of : Inside → State
+state_of a = record { world = a.world; journal = a.journal.items }
