@@ -1,5 +1,5 @@
 -- No exchange adds a server or takes one away.
-use Rattle.std.proofs.Common.{◌≡◌, ℕ, false, length, refl, Option, Some, None}
+use Rattle.std.proofs.Common.{◌≡◌, ◌∙◌, ℕ, false, length, refl, ap, Option, Some, None}
 use Rattle.std.proofs.lemmas.List.{length-set}
 use Rattle.binlog_coords.specs.declared.Next.TheVariants as next
 use Rattle.server_model.specs.declared.answers.ApplyStep.{ApplyStep}
@@ -49,6 +49,10 @@ servers-after w (Apply n) = servers-apply w n (server_at w n) (apply_step w (ser
 
 pub servers-opened : (o : Opened) (room flushes : ℕ) → length (opened_world o room flushes).servers ≡ length o.servers
 servers-opened o room flushes = length-opened_from o.servers room flushes 0 o.servers
+
+-- for the world that was made, whatever room it has
+pub servers_made : (w : World) (o : Opened) (room flushes : ℕ) → w ≡ opened_world o room flushes → length w.servers ≡ length o.servers
+servers_made w o room flushes is = ap (λ (x : World). length x.servers) is ∙ servers-opened o room flushes
 
 pub servers-start : (s : Scenario) → length (start s).world.servers ≡ length s.opening.servers
 servers-start s = servers-opened s.opening (room_of s) 0

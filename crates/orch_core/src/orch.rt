@@ -34,6 +34,7 @@ impl Orch {
 
     /// The opening state of a scenario: its servers as they begin, with an empty journal. Each server gets room for all
     /// transactions of the listed histories and one more for each write turn.
+    #[tactic(auto, using(crate::proofs::Servers::servers_made))]
     pub fn make(alloc: Global, s: &Scenario) -> Result<Orch, Memory>
         requires { IsScenario s.now }
         ensures ok { IfOk result (λ o. o ≡ start s.now) }
