@@ -7,7 +7,7 @@ ghost use Rattle.orch_core.specs.Turns.{exchange_of};
 ghost use Rattle.orch_core.specs.Scenarios.{room_of, IsScenario};
 
 use crate::{Scenario, Turn};
-use server_model::{Part, ServerInit};
+use server_model::{ServerInit, transactions};
 
 /// The transactions of the listed histories, and one for each write turn: at most 4,000,000.
 pub(crate) fn room(s: &Scenario) -> u64
@@ -27,13 +27,6 @@ fn listed(servers: &[ServerInit]) -> u64
         sum += transactions(server.history.as_slice());
     }
     sum
-}
-
-fn transactions(parts: &[Part]) -> u64
-    requires { transactions parts.now ≤ 4000000 }
-    ensures { result ≡ transactions parts.now }
-{
-    parts.iter().map(|p| p.count).sum()
 }
 
 fn writes(turns: &[Turn]) -> u64

@@ -1,0 +1,37 @@
+use Rattle.std.proofs.Common.{◌∙◌, sym, map, refl}
+use Rattle.orch_cli.specs.Report.{report}
+use Rattle.orch_cli.proofs.TopLemmas.{stopped, refused, safe_run}
+use Rattle.orch_cli.proofs.top.orch.Goals as goal
+
+pub returns-then-not-is_taken-clause-err : goal.returns-then-not-is_taken-clause-err
+returns-then-not-is_taken-clause-err g c = refused _ _ _ _ _ (map (λ w. w.items) c.args.words.now) _ _ c.close.ensures.status (λ x. refl) (sym c.is_taken.ensures ∙ c.if-not-is_taken.true) c.close.ensures.took
+
+pub returns-in-Err-Memory-clause-err : goal.returns-in-Err-Memory-clause-err
+returns-in-Err-Memory-clause-err g c = stopped _ _ _ _ _ (report (map (λ w. w.items) c.args.words.now)) 6 _ _ c.close-in-Err-Memory.ensures.status (λ x. refl) c.close-in-Err-Memory.ensures.took
+
+pub returns-in-Err-Source-clause-err : goal.returns-in-Err-Source-clause-err
+returns-in-Err-Source-clause-err g c = stopped _ _ _ _ _ (report (map (λ w. w.items) c.args.words.now)) 3 _ _ c.close-in-Err-Source.ensures.status (λ x. refl) c.close-in-Err-Source.ensures.took
+
+pub returns-clause-err : goal.returns-clause-err
+returns-clause-err g c = stopped _ _ _ _ _ (report (map (λ w. w.items) c.args.words.now)) 4 _ _ c.close-in-Err.ensures.status (λ x. refl) c.close-in-Err.ensures.took
+
+pub returns-then-not-is_taken-clause-safe : goal.returns-then-not-is_taken-clause-safe
+returns-then-not-is_taken-clause-safe g c = safe_run _
+
+pub returns-in-Err-Memory-clause-safe : goal.returns-in-Err-Memory-clause-safe
+returns-in-Err-Memory-clause-safe g c = safe_run _
+
+pub returns-in-Err-Source-clause-safe : goal.returns-in-Err-Source-clause-safe
+returns-in-Err-Source-clause-safe g c = safe_run _
+
+pub returns-in-Err-Fault-clause-safe : goal.returns-in-Err-Fault-clause-safe
+returns-in-Err-Fault-clause-safe g c = safe_run _
+
+pub returns-then-report-clause-safe : goal.returns-then-report-clause-safe
+returns-then-report-clause-safe g c = safe_run _
+
+pub returns-in-Ok-write_all-clause-safe : goal.returns-in-Ok-write_all-clause-safe
+returns-in-Ok-write_all-clause-safe g c = safe_run _
+
+pub returns-clause-safe : goal.returns-clause-safe
+returns-clause-safe g c = safe_run _

@@ -1,0 +1,9 @@
+pub mod Form
+pub mod Plans
+pub mod Scenarios
+pub mod Lines
+pub mod Tables
+pub mod Words
+pub mod Report
+pub mod Made
+pub mod Ends

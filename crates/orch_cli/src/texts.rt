@@ -1,0 +1,18 @@
+//! The bytes of replies and tables. What is named `print` appends, and at want of memory may leave a part behind.
+
+mod replies;
+mod tables;
+
+ghost use Rattle.std.specs.Prelude.{◌≡◌, ◌++◌, decimal, OnOk};
+
+use itoa::Buffer;
+use orch_base::Memory;
+pub use replies::reply_text;
+pub use tables::tables;
+
+fn print_number(number: u64, out: &mut Vec<u8>) -> Result<(), Memory>
+    ensures { OnOk result (out.new.items ≡ out.old.items ++ decimal number) }
+{
+    let mut buffer = Buffer::new();
+    out.extend_from_slice(buffer.format(number).as_bytes())
+}
