@@ -15,7 +15,8 @@ use Rattle.server_model.specs.declared.answers.ApplyStep.{ApplyStep}
 use Rattle.server_model.specs.declared.answers.ApplyStep.TheVariants as applying
 use Rattle.server_model.specs.declared.answers.ApplyAnswer.TheVariants as answers
 use Rattle.server_model.specs.Safe.{Safe, AttachedWell}
-use Rattle.replication_laws.proofs.Histories.{take-snoc, slice_get-take, IsKin-extended, IsKin-once, holds-at}
+use Rattle.server_model.proofs.Lists.{take-more}
+use Rattle.replication_laws.proofs.Histories.{slice_get-take, IsKin-extended, IsKin-once, holds-at}
 use Rattle.replication_laws.proofs.Keeping.{Step, Step-refl, Step-with, Step-still}
 use Rattle.replication_laws.proofs.Logs.{GoesOn-took, LaysOut-took, LaysOut-size}
 use Rattle.replication_laws.proofs.Writes.{Extends-with}
@@ -94,7 +95,7 @@ module _ (w : World) (n m : ℕ) (r s : Server) (u : Under w n m r s) where
     in_source = ap (λ xs. slice_get xs (length r.history.txns)) (ap history_of u.source_at) ∙ here
 
     longer : take (length r.history.txns + 1) s.history.txns ≡ r.history.txns ++ t ∷ []
-    longer = take-snoc s.history.txns (length r.history.txns) t here ∙ ap (λ xs. xs ++ t ∷ []) stands.prefix
+    longer = take-more s.history.txns (length r.history.txns) t here ∙ ap (λ xs. xs ++ t ∷ []) stands.prefix
 
     is_history : histories w n ≡ r.history.txns
     is_history = ap history_of u.at

@@ -7,6 +7,7 @@ use Rattle.std.proofs.lemmas.List.{take-append-le, length-take-le}
 use Rattle.std.proofs.lemmas.List.Sums.{sum_by-append, sum_by-take-le}
 use Rattle.std.proofs.Math.Seq.{take-length, take-append_seam}
 use Rattle.server_model.specs.Histories.{same_txn, count_own, holds}
+use Rattle.server_model.proofs.Lists.{take-more}
 use Rattle.server_model.specs.Exchanges.{own_txn}
 use Rattle.server_model.specs.Safe.{IsKin}
 use Rattle.orch_base.specs.declared.server.Txn.{Txn}
@@ -27,13 +28,6 @@ slice_get-snoc_cases [] y x (suc i) h = cc
 slice_get-snoc_cases (z ∷ xs) y x zero h = inl h
 slice_get-snoc_cases (z ∷ xs) y x (suc i) h =
     elim (slice_get-snoc_cases xs y x i h) [ inl old ↦ inl old | inr new ↦ inr (ap suc new.0, new.1) ]
-
--- one more element is taken
-pub take-snoc : {X : Type 0} (xs : List X) (i : ℕ) (x : X) → slice_get xs i ≡ Some x → take (i + 1) xs ≡ take i xs ++ x ∷ []
-take-snoc [] i x h = cc
-take-snoc (z ∷ xs) zero x h = let e : z ≡ x = same_Some z x h in ap (λ y. y ∷ []) e
-take-snoc (z ∷ xs) (suc i) x h =
-    let e : suc i + 1 ≡ suc (i + 1) = omega arith in rw e (ap (λ ys. z ∷ ys) (take-snoc xs i x h))
 
 -- what is taken of a list is taken of one that goes on
 pub slice_get-take : {X : Type 0} (xs : List X) (n i : ℕ) (x : X) → slice_get (take n xs) i ≡ Some x → slice_get xs i ≡ Some x
@@ -165,7 +159,7 @@ IsKin-fresh h kin n size b j y g same =
     let there : slice_get (h n) home.0 ≡ Some y = subst (λ (m : ℕ). slice_get (h m) home.0 ≡ Some y) origin home.1 in
     let number : y.seq ≡ count_own n (take home.0 (h n)) + 1 = subst (λ (m : ℕ). y.seq ≡ count_own m (take home.0 (h n)) + 1) origin (kin.numbered n home.0 y there) in
     let own : tick (y.origin.0 == n) ≡ 1 = ap tick (eq-eqb y.origin.0 n origin) in
-    omega (arith, number, seq, own, count_own-snoc n (take home.0 (h n)) y, ap (count_own n) (take-snoc (h n) home.0 y there), count_own-take-le n (h n) (home.0 + 1))
+    omega (arith, number, seq, own, count_own-snoc n (take home.0 (h n)) y, ap (count_own n) (take-more (h n) home.0 y there), count_own-take-le n (h n) (home.0 + 1))
 
 -- what a history holds stands somewhere in it
 pub holds-at : (t : Txn) (xs : List Txn) → holds t xs ≡ true → (j : ℕ) × (y : Txn) × (slice_get xs j ≡ Some y) × (same_txn y t ≡ true)

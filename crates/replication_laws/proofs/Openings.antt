@@ -20,7 +20,8 @@ use Rattle.server_model.specs.Layout as layout
 use Rattle.server_model.specs.Opening.{Opened, transactions, sizes, numbered, root_history, history_in, grown_by, log_in, coord_in, source_state, opened_server, opened_world, IsSound}
 use Rattle.server_model.specs.Safe.{Safe, AttachedWell, IsKin, Grounded, Root, Under}
 use Rattle.server_model.specs.Worlds.{World, server_at, histories, history_of, sources, source_of, source_no}
-use Rattle.server_model.proofs.Openings.{length-root_history, length-root_take, server_at-opened, given-opened, history_in-root, history_in-under, coord_in-under, entries-grown_by, Grown-grown_by, log_in-logs, IsOf, root_history-origin, count_own-all, HasSize, root_history-sized, history_in-sized}
+use Rattle.server_model.specs.Links.{HasSize}
+use Rattle.server_model.proofs.Openings.{length-root_history, length-root_take, server_at-opened, given-opened, history_in-root, history_in-under, coord_in-under, entries-grown_by, Grown-grown_by, log_in-logs, IsOf, root_history-origin, count_own-all, root_history-sized, history_in-sized}
 use Rattle.replication_laws.proofs.Histories.{slice_get-take}
 
 -- a log that takes more transactions lays them out

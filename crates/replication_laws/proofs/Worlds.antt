@@ -1,20 +1,11 @@
-use Rattle.std.proofs.Common.{◌≡◌, ℕ, false, cond, List, [], ◌∷◌, refl, sym, ◌∙◌, ap, subst, inl, inr, Option, Some, arith, zero, suc}
-use Rattle.std.specs.Prelude.{slice_get, slice_set, ◌==◌}
+use Rattle.std.proofs.Common.{◌≡◌, ℕ, cond, refl, sym, ◌∙◌, ap, subst, inl, inr, Option, Some}
+use Rattle.std.specs.Prelude.{◌==◌}
 use Rattle.std.proofs.lemmas.Bool.{cases_eq, eq-eqb, ne_eqb}
-use Rattle.std.proofs.lemmas.Bool.Decides.{nat_tests}
 use Rattle.std.proofs.lemmas.Option.{same_Some}
+use Rattle.server_model.proofs.Lists.{slice_get-set}
 use Rattle.server_model.specs.Worlds.{World, server_at, with_server, histories, history_of, sources, source_of, source_no}
 use Rattle.server_model.specs.Safe.{Grounded, Root, Under}
 use Rattle.server_model.specs.declared.server.Server.{Server}
-
--- a look-up after a write
-pub slice_get-set : {X : Type 0} (xs : List X) (i : ℕ) (x v : X) → slice_get xs i ≡ Some x → (j : ℕ) → slice_get (slice_set xs i v) j ≡ cond (j == i) (Some v) (slice_get xs j)
-slice_get-set [] i x v h j = cc
-slice_get-set (y ∷ ys) zero x v h zero = refl
-slice_get-set (y ∷ ys) zero x v h (suc j) = let apart : (suc j == 0) ≡ false = grind (arith, nat_tests) in rw apart
-slice_get-set (y ∷ ys) (suc i) x v h zero = let apart : (0 == suc i) ≡ false = grind (arith, nat_tests) in rw apart
-slice_get-set (y ∷ ys) (suc i) x v h (suc j) =
-    let same : (suc j == suc i) ≡ (j == i) = grind (arith, nat_tests) in rw same (slice_get-set ys i x v h j)
 
 -- the world with another server
 pub at_with : (w : World) (n : ℕ) (s t : Server) → server_at w n ≡ Some s → (m : ℕ) → server_at (with_server w n t) m ≡ cond (m == n) (Some t) (server_at w m)

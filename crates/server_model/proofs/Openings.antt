@@ -16,6 +16,7 @@ use Rattle.server_model.specs.declared.opening.ServerInit.{ServerInit}
 use Rattle.server_model.specs.declared.server.Server.{Server}
 use Rattle.server_model.specs.Exchanges.{own_txn}
 use Rattle.server_model.specs.Histories.{count_own}
+use Rattle.server_model.specs.Links.{HasSize}
 use Rattle.server_model.specs.Opening.{Opened, transactions, sizes, numbered, root_history, history_in, grown_by, log_in, coord_in, opened_server, opened_from, opened_world, IsOwn, IsSound, Fits}
 use Rattle.server_model.specs.Worlds.{server_at}
 
@@ -175,9 +176,6 @@ count_own-root_take_other n m k i apart = count_own-none n m (take k (root_histo
 
 abbrev pub IsSized : ℕ → Type 0
 IsSized size = (0 < size) × (size ≤ 1000000)
-
-abbrev pub HasSize : Txn → Type 0
-HasSize t = (0 < t.size) × (t.size ≤ 1000000)
 
 sizes-sized : (n : ℕ) (ps : List Part) → All (IsOwn n) ps → All IsSized (sizes ps)
 sizes-sized n [] own = All-nil IsSized
