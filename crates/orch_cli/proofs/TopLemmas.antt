@@ -9,7 +9,7 @@ use Rattle.orch_base.specs.Whole.{whole, length_fault}
 use Rattle.orch_core.proofs.Runs.{Safe-run}
 use Rattle.orch_cli.specs.declared.reading.fault.Fault.TheVariants.{TooLong}
 use Rattle.orch_cli.specs.Ends.{err_of, Took, IsSafeRun}
-use Rattle.orch_cli.specs.Made.{text_in}
+use Rattle.orch_cli.specs.Stops.{text_in}
 use Rattle.orch_cli.specs.Report.{Answer, report}
 use Rattle.orch_cli.specs.Words.{is_taken}
 use Rattle.orch_cli.proofs.Read.{scenario_in_sound, scenario_in_too_long}

@@ -5,5 +5,5 @@ pub mod Lines
 pub mod Tables
 pub mod Words
 pub mod Report
-pub mod Made
+pub mod Stops
 pub mod Ends

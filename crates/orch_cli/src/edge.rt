@@ -66,3 +66,51 @@ impl<W: Write> Sink for StreamSink<W> {
         }
     }
 }
+
+#[cfg(test)]
+mod tests {
+    use super::*;
+    use std::io::{self, ErrorKind};
+
+    // A pipe whose other end is closed.
+    #[derive(Drop)]
+    struct Broken;
+
+    impl Read for Broken {
+        fn read(&mut self, _buf: &mut [u8]) -> io::Result<usize> {
+            Err(io::Error::from(ErrorKind::ConnectionReset))
+        }
+    }
+
+    impl Write for Broken {
+        fn write(&mut self, _buf: &[u8]) -> io::Result<usize> {
+            Err(io::Error::from(ErrorKind::BrokenPipe))
+        }
+
+        fn flush(&mut self) -> io::Result<()> {
+            Ok(())
+        }
+    }
+
+    #[test]
+    fn faults_are_counted(rt: HostRuntime) {
+        let mut buf = [0; 4];
+        let mut source = FileSource::new(b"abc".as_slice());
+        assert_eq!(rt; source.read(&mut buf).ok(), Some(3));
+        assert_eq!(rt; source.read(&mut buf).ok(), Some(0));
+        assert_eq!(rt; source.faults, 0);
+        let mut broken = FileSource::new(Broken);
+        assert!(rt; broken.read(&mut buf).is_err());
+        assert_eq!(rt; broken.faults, 1);
+
+        let mut room = [0; 3];
+        let mut sink = StreamSink::new(room.as_mut_slice());
+        for (piece, want, faults) in [(b"ab", Some(2), 0), (b"cd", Some(1), 0), (b"de", None, 1)] {
+            assert_eq!(rt; sink.write(piece).ok(), want);
+            assert_eq!(rt; sink.faults, faults);
+        }
+        let mut broken = StreamSink::new(Broken);
+        assert!(rt; broken.write(b"a").is_err());
+        assert_eq!(rt; broken.faults, 1);
+    }
+}

@@ -2,8 +2,8 @@
 #![tactic(auto)]
 
 mod edge;
-mod made;
 mod reading;
+mod report;
 #[cfg(test)]
 mod tests;
 mod texts;

@@ -7,7 +7,7 @@ ghost use Rattle.orch_cli.specs.Ends.{EndsAs, err_of, Took, WritesOut, IsComplet
 ghost use Rattle.orch_cli.specs.Report.{report};
 ghost use Rattle.orch_cli.specs.Words.{is_taken};
 
-use crate::made::{Stop, report_from};
+use crate::report::{Stop, report_from};
 use crate::words::{fault_line, is_taken};
 use orch_base::{Sink, Source, write_all};
 use std::alloc::Global;

@@ -6,7 +6,7 @@ ghost use Rattle.orch_base.specs.Causes.{Rose};
 ghost use Rattle.orch_base.specs.Gives.{Gives};
 ghost use Rattle.orch_core.specs.Scenarios.{IsScenario};
 ghost use Rattle.orch_cli.specs.Lines.{lines_text};
-ghost use Rattle.orch_cli.specs.Made.{stop_fault, view, text_of, text_in};
+ghost use Rattle.orch_cli.specs.Stops.{stop_fault, view, text_of, text_in};
 ghost use Rattle.orch_cli.specs.Report.{names_of, last_state, report_text, is_refused, any_refused};
 
 use crate::reading::{Fault, ReadFault, read};
@@ -86,7 +86,7 @@ fn run(alloc: Global, scenario: &Scenario) -> Result<Orch, Memory>
     Ok(orch)
 }
 
-fn made_of(alloc: Global, scenario: &Scenario) -> Result<Report, Memory>
+fn report_of(alloc: Global, scenario: &Scenario) -> Result<Report, Memory>
     requires { IsScenario scenario.now }
     ensures { IfOk result (λ r. view r ≡ text_of scenario.now) }
 {
@@ -98,13 +98,13 @@ fn made_of(alloc: Global, scenario: &Scenario) -> Result<Report, Memory>
     Ok(Report { text, is_refused })
 }
 
-fn report_of(alloc: Global, bytes: &[u8]) -> Result<Report, Stop>
+fn report_in(alloc: Global, bytes: &[u8]) -> Result<Report, Stop>
     ensures told { Gives view stop_fault result (text_in bytes.now) }
     ensures not_source { result ≡ Err Stop.Source → ⊥ }
 {
     match read(alloc, bytes) {
-        Ok(scenario) => match made_of(alloc, &scenario) {
-            Ok(made) => Ok(made),
+        Ok(scenario) => match report_of(alloc, &scenario) {
+            Ok(report) => Ok(report),
             Err(_) => Err(Stop::Memory),
         },
         Err(ReadFault::Memory) => Err(Stop::Memory),
@@ -119,7 +119,7 @@ pub(crate) fn report_from<S: Source>(alloc: Global, source: &mut S) -> Result<Re
     ensures cause { result ≡ Err Stop.Source → Rose (S.faults source.old) (S.faults source.new) }
 {
     match read_all(alloc, source) {
-        Ok(bytes) => report_of(alloc, &bytes),
+        Ok(bytes) => report_in(alloc, &bytes),
         Err(NotRead::Memory) => Err(Stop::Memory),
         Err(NotRead::Source) => Err(Stop::Source),
         Err(NotRead::TooLong) => Err(Stop::Fault(Fault::TooLong)),

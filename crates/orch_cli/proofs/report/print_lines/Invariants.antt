@@ -1,6 +1,6 @@
 use Rattle.std.proofs.Common.{◌≡◌, ◌+◌, ◌++◌, drop}
 use Rattle.orch_cli.specs.Lines.{lines_text}
-use Rattle.orch_cli.proofs.made.print_lines.Given as goal
+use Rattle.orch_cli.proofs.report.print_lines.Given as goal
 
 abbrev pub invariant-loop-entry : goal.invariant-loop-entry
 invariant-loop-entry l =

@@ -1,5 +1,5 @@
 use Rattle.orch_cli.proofs.TopLemmas.{too_long}
-use Rattle.orch_cli.proofs.made.report_from.Goals as goal
+use Rattle.orch_cli.proofs.report.report_from.Goals as goal
 
 pub returns-in-Err-TooLong-clause-told : goal.returns-in-Err-TooLong-clause-told
 returns-in-Err-TooLong-clause-told g c = too_long (g.S.Source.left c.args.source.now) _ c.in-Err-TooLong.field-0-is c.in-Err-TooLong.ensures.told

@@ -1,11 +1,11 @@
--- The report of a scenario, or its fault.
+-- The report of a scenario, or what stopped it.
 use Rattle.std.specs.Prelude.{ℕ, Bool, List, Option, None, Some, Result, Ok}
 use Rattle.orch_base.specs.Gives.{◌>>=◌}
 use Rattle.orch_core.specs.declared.scenario.Scenario.{Scenario}
 use Rattle.orch_cli.specs.declared.reading.fault.Fault.{Fault}
-use Rattle.orch_cli.specs.declared.made.Report.{Report}
-use Rattle.orch_cli.specs.declared.made.Stop.{Stop}
-use Rattle.orch_cli.specs.declared.made.Stop.TheVariants as stops
+use Rattle.orch_cli.specs.declared.report.Report.{Report}
+use Rattle.orch_cli.specs.declared.report.Stop.{Stop}
+use Rattle.orch_cli.specs.declared.report.Stop.TheVariants as stops
 use Rattle.orch_cli.specs.Report.{names_of, last_state, report_text, any_refused}
 use Rattle.orch_cli.specs.Scenarios.{scenario_in}
 
