@@ -164,7 +164,7 @@ module _ (servers : List Server) (ledgers : List Ledger) (errant n : ℕ) (r : S
       let fit = kept.fit n r here in
       IsKept-with servers ledgers errant errant n r (record r { exec = to }) l (went_on l l.own) kept here beside
       (record {
-        source = refl;
+        source = λ m h. h;
         places = λ c k h. h;
         relays = λ c d xs h. h;
         fit = record { high = fit.high; room = fit.room; within = fit.within; entries = fit.entries; sizes = fit.sizes; grown = fit.grown };
@@ -195,7 +195,7 @@ IsKept-forget servers ledgers errant n r kept here =
     subst (λ (ks : List Ledger). IsKept (slice_set servers n (record r { applier = false; until = None })) ks errant) (set_self ledgers n l.0 l.1)
     (IsKept-with servers ledgers errant errant n r (record r { applier = false; until = None }) l.0 l.0 kept here l.1
     (record {
-      source = refl;
+      source = λ m h. h;
       places = λ c k h. h;
       relays = λ c d xs h. h;
       fit = record { high = fit.high; room = fit.room; within = fit.within; entries = fit.entries; sizes = fit.sizes; grown = fit.grown };

@@ -96,7 +96,7 @@ module _ (servers : List Server) (ledgers : List Ledger) (errant n : ℕ) (r : S
       let fit = kept.fit n r here in
       IsKept-with servers ledgers errant errant n r (record r { read = to }) l (record l { relay = record l.relay { steps = l.relay.steps ++ x ∷ [] } }) kept here beside
       (record {
-        source = refl;
+        source = λ m h. h;
         places = λ c k h. h;
         relays = λ c d xs h. h;
         fit = record { high = fit.high; room = fit.room; within = fit.within; entries = fit.entries; sizes = fit.sizes; grown = fit.grown };

@@ -17,7 +17,7 @@ use Rattle.server_model.proofs.Lists.{set_cases}
 
 -- what a change of one server owes
 pub record IsChange (servers : List Server) (n : ℕ) (s s' : Server) (l l' : Ledger) (before after : ℕ) : Type 0 where
-  pub source : source_no s'.source ≡ source_no s.source
+  pub source : (m : ℕ) → source_no s'.source ≡ Some m → source_no s.source ≡ Some m
   pub places : (c : Coord) (k : ℕ) → place s.log.log c ≡ Some k → place s'.log.log c ≡ Some k
   pub relays : (c d : Coord) (xs : List Next) → IsRelay s.log.log c xs d → IsRelay s'.log.log c xs d
   pub fit : IsFit s'
@@ -86,14 +86,14 @@ module _ (servers : List Server) (ledgers : List Ledger) (before after : ℕ) (n
 
   apart : (m : ℕ) (t : Server) → slice_get (slice_set servers n s') m ≡ Some t → source_no t.source ≡ Some m → ⊥
   apart m t at from = elim (set_cases servers n s s' here m t at) [
-    | inl new ↦ kept.apart n s here (sym change.source ∙ ap (λ (x : Server). source_no x.source) (sym new.1) ∙ from ∙ ap Some new.0)
+    | inl new ↦ kept.apart n s here (change.source n (ap (λ (x : Server). source_no x.source) (sym new.1) ∙ from ∙ ap Some new.0))
     | inr old ↦ kept.apart m t old.1 from
   ]
 
   linked_new : (a b : ℕ) (r t : Server) (k : Ledger) → a ≡ n → r ≡ s' → k ≡ l' → source_no r.source ≡ Some b
       → ((b ≡ n) × (t ≡ s')) ⊎ ((b ≡ n → ⊥) × (slice_get servers b ≡ Some t)) → IsLinked r t k
   linked_new a b r t k is_n is_s' is_l' source where_b =
-      let from : source_no s.source ≡ Some b = sym change.source ∙ ap (λ (x : Server). source_no x.source) (sym is_s') ∙ source in
+      let from : source_no s.source ≡ Some b = change.source b (ap (λ (x : Server). source_no x.source) (sym is_s') ∙ source) in
       elim where_b [
         | inl new ↦ absurd (kept.apart n s here (from ∙ ap Some new.0))
         | inr old ↦

@@ -55,7 +55,7 @@ module _ (s : Server) (t : Txn) (to : Coord) (fit : IsFit s) (some : 0 < t.size)
       → ((m : ℕ) (u : Server) → source_no s.source ≡ Some m → slice_get servers m ≡ Some u → IsLinked s u l → IsLinked (record (took s t) { exec = to }) u l')
       → IsChange servers n s (record (took s t) { exec = to }) l l' before after
   IsChange-took servers n l l' before after own relay_room few link = record {
-    source = refl;
+    source = λ m h. h;
     places = by_logs (λ i. (c : Coord) (k : ℕ) → place s.log.log c ≡ Some k → place i.log c ≡ Some k)
         (λ c k h. stable_push s.log.log t.size c k fit.grown some h)
         (λ c k h. h);

@@ -6,6 +6,7 @@ pub mod Opening
 pub mod OpeningBy
 pub mod Worlds
 pub mod Exchanges
+pub mod Desk
 pub mod Safe
 pub mod Run
 pub mod Plains

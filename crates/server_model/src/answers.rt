@@ -50,6 +50,23 @@ pub enum ApplyAnswer {
     Done(Coord),
 }
 
+/// The answer where a new file of the binary log was to begin.
+#[derive(Clone, Copy, Debug, PartialEq, Eq)]
+pub enum RotateAnswer {
+    /// The server is down.
+    Down,
+    /// The server has no log.
+    NotLogging,
+    /// There is no room left for a file that is asked for.
+    Full,
+    /// The file begins here.
+    Done(Coord),
+}
+
+/// Orchestrator doesn't reach the server: it is down, or its link to the desk is cut.
+#[derive(Clone, Copy, Debug, PartialEq, Eq)]
+pub struct Unreachable;
+
 /// What a receiver is to do next.
 #[derive(Clone, Copy, Debug, PartialEq, Eq)]
 pub enum FetchStep {

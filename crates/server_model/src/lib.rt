@@ -2,6 +2,7 @@
 #![tactic(auto)]
 
 mod answers;
+mod changes;
 mod history;
 mod ledger;
 mod making;
@@ -14,8 +15,10 @@ mod steps;
 mod tests;
 mod world;
 
-pub use answers::{ApplyAnswer, FetchAnswer, WriteAnswer};
+pub use answers::{ApplyAnswer, FetchAnswer, RotateAnswer, Unreachable, WriteAnswer};
 pub(crate) use answers::{ApplyStep, FetchStep};
+pub use changes::{Link, Threads};
+pub(crate) use changes::{Ask, Event};
 pub(crate) use history::History;
 pub(crate) use ledger::Ledger;
 pub use making::transactions;

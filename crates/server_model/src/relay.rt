@@ -1,6 +1,6 @@
 //! The relay log of a replica.
 
-ghost use Rattle.std.specs.Prelude.{◌≡◌, ◌+◌, ◌<◌, ◌≤◌, [], ◌∷◌, ◌++◌, length, drop, IfOk, slice_get};
+ghost use Rattle.std.specs.Prelude.{◌≡◌, ◌+◌, ◌<◌, ◌≤◌, [], ◌∷◌, ◌++◌, length, drop, IfOk, slice_get, if◌then◌else◌};
 
 use binlog_coords::Next;
 use orch_base::Memory;
@@ -57,5 +57,14 @@ impl Relay {
         ensures { self.new ≡ record self.old { steps = drop 1 self.old.steps } }
     {
         self.steps.pop_front();
+    }
+
+    /// Drops all steps, if it is to.
+    pub fn clear_if(&mut self, all: bool)
+        ensures { self.new ≡ (if all then record self.old { steps = [] } else self.old) }
+    {
+        if all {
+            self.steps.clear();
+        }
     }
 }

@@ -1,6 +1,7 @@
 //! One server.
 
-use crate::History;
+use crate::steps::is_attached;
+use crate::{Ask, Event, History, Link, Threads};
 use binlog_coords::{Coord, LogIndex};
 use orch_base::{Settings, SourceState, Txn};
 
@@ -36,6 +37,7 @@ pub struct Server {
 impl Server {
     ghost use Rattle.std.specs.Prelude.{◌≡◌, ◌+◌, ◌<◌, ◌≤◌, length};
     ghost use Rattle.server_model.specs.Exchanges.{took};
+    ghost use Rattle.server_model.specs.Desk.{stopped, started, detached, reattached, without_source, asked, with_link, healed, befallen, rotated};
 
     /// The history takes the transaction, and so does the log of a server that logs.
     pub fn take(&mut self, t: Txn)
@@ -49,5 +51,134 @@ impl Server {
         if self.settings.logs {
             self.log.push(t.size);
         }
+    }
+
+    fn stop(&mut self, which: Threads)
+        ensures { self.new ≡ stopped which self.old }
+    {
+        match which {
+            Threads::Both => {
+                self.receiver = false;
+                self.applier = false;
+                self.until = None;
+            }
+            Threads::Receiver => {
+                self.receiver = false;
+            }
+            Threads::Applier => {
+                self.applier = false;
+                self.until = None;
+            }
+        }
+    }
+
+    fn start(&mut self, until: Option<Coord>)
+        ensures { self.new ≡ started until self.old }
+    {
+        if is_attached(self.source) {
+            self.receiver = true;
+            self.applier = true;
+            self.until = until;
+        }
+    }
+
+    fn detach(&mut self)
+        ensures { self.new ≡ detached self.old }
+    {
+        if let SourceState::Attached(source) = self.source {
+            self.source = SourceState::Detached(source);
+            self.receiver = false;
+            self.applier = false;
+            self.read = self.exec;
+            self.until = None;
+        }
+    }
+
+    fn reattach(&mut self)
+        ensures { self.new ≡ reattached self.old }
+    {
+        if let SourceState::Detached(source) = self.source {
+            self.source = SourceState::Attached(source);
+            self.receiver = false;
+            self.applier = false;
+        }
+    }
+
+    fn reset(&mut self)
+        ensures { self.new ≡ without_source self.old }
+    {
+        let start = Coord { file: 1, pos: 4 };
+        self.source = SourceState::Without;
+        self.receiver = false;
+        self.applier = false;
+        self.exec = start;
+        self.read = start;
+        self.auto = false;
+        self.until = None;
+    }
+
+    /// Does what orchestrator asks.
+    pub fn ask(&mut self, ask: Ask)
+        ensures { self.new ≡ asked ask self.old }
+    {
+        match ask {
+            Ask::Stop(which) => self.stop(which),
+            Ask::Start => self.start(None),
+            Ask::StartUntil(to) => self.start(Some(to)),
+            Ask::Detach => self.detach(),
+            Ask::Reattach => self.reattach(),
+            Ask::Reset => self.reset(),
+            Ask::SetReadOnly(on) => {
+                self.read_only = on;
+            }
+        }
+    }
+
+    fn set_link(&mut self, link: Link, on: bool)
+        ensures { self.new ≡ with_link link on self.old }
+    {
+        match link {
+            Link::Desk => {
+                self.desk = on;
+            }
+            Link::Feed => {
+                self.feed = on;
+            }
+        }
+    }
+
+    fn heal(&mut self)
+        ensures { self.new ≡ healed self.old }
+    {
+        if self.up {
+            return;
+        }
+        let is_attached = is_attached(self.source);
+        self.up = true;
+        self.until = None;
+        self.receiver = is_attached || self.receiver;
+        self.applier = is_attached || self.applier;
+    }
+
+    /// Takes what befalls the server.
+    pub fn befall(&mut self, event: Event)
+        ensures { self.new ≡ befallen event self.old }
+    {
+        match event {
+            Event::Fail => {
+                self.up = false;
+            }
+            Event::Heal => self.heal(),
+            Event::Cut(link) => self.set_link(link, false),
+            Event::Join(link) => self.set_link(link, true),
+        }
+    }
+
+    /// The next file of its log begins.
+    pub fn rotate(&mut self)
+        requires { 0 < self.old.log.flushes }
+        ensures { self.new ≡ rotated self.old }
+    {
+        self.log.rotate();
     }
 }

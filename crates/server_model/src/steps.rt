@@ -1,19 +1,39 @@
 //! What a receiver and an applier are to do next.
 
-ghost use Rattle.std.specs.Prelude.{◌≡◌, ◌<◌, ◌≤◌, All, Some, true, ◌==◌, if◌then◌else◌};
+ghost use Rattle.std.specs.Prelude.{◌≡◌, ◌<◌, ◌≤◌, All, Some, true, ◌==◌, ◌&&◌, if◌then◌else◌};
 ghost use Rattle.binlog_coords.specs.Log.{has_place};
 ghost use Rattle.server_model.specs.Exchanges.{applied, apply_answer, fetch_answer, fetch_from, is_applying, is_attached, is_reached, is_receiving, IsReady};
+ghost use Rattle.server_model.specs.Desk.{empties};
 ghost use Rattle.server_model.specs.Worlds.{has_source};
 ghost use Rattle.server_model.specs.Links.{end_of_step, relay_step, HasSize};
 
-use crate::{ApplyAnswer, ApplyStep, FetchAnswer, FetchStep, Relay, Server};
+use crate::{ApplyAnswer, ApplyStep, Ask, FetchAnswer, FetchStep, Relay, Server};
 use binlog_coords::{Coord, Next};
 use orch_base::{ServerNo, SourceState, Txn};
 
-fn is_attached(source: SourceState) -> bool
+pub(crate) fn is_attached(source: SourceState) -> bool
     ensures { result ≡ is_attached source }
 {
     matches!(source, SourceState::Attached(_))
+}
+
+/// Whether orchestrator reaches the server.
+pub(crate) fn is_reachable(s: &Server) -> bool
+    ensures { result ≡ (s.now.up && s.now.desk) }
+{
+    s.up && s.desk
+}
+
+/// Whether what is asked of the server empties its relay log.
+pub(crate) fn empties(ask: Ask, s: &Server) -> bool
+    ensures { result ≡ empties ask s.now }
+{
+    match ask {
+        Ask::Detach => is_attached(s.source),
+        Ask::Reset => true,
+        Ask::Stop(_) | Ask::Start | Ask::StartUntil(_) | Ask::Reattach | Ask::SetReadOnly(_) =>
+            false,
+    }
 }
 
 /// Whether the receiver of a replica is on.

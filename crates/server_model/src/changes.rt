@@ -1,0 +1,43 @@
+//! What changes one server: what orchestrator asks of it, and what befalls it.
+
+use binlog_coords::Coord;
+
+/// The threads of a replica (MySQL 8.0 Reference Manual, "STOP REPLICA Statement").
+#[derive(Clone, Copy, Debug, PartialEq, Eq)]
+pub enum Threads {
+    Both,
+    /// The receiver, which reads the source's log (IO_THREAD).
+    Receiver,
+    /// The applier, which executes the relay log (SQL_THREAD).
+    Applier,
+}
+
+/// A link of a server.
+#[derive(Clone, Copy, Debug, PartialEq, Eq)]
+pub enum Link {
+    /// From orchestrator to the server.
+    Desk,
+    /// From the server to its source.
+    Feed,
+}
+
+/// What orchestrator asks of a server.
+#[derive(Clone, Copy, Debug, PartialEq, Eq)]
+pub(crate) enum Ask {
+    Stop(Threads),
+    Start,
+    StartUntil(Coord),
+    Detach,
+    Reattach,
+    Reset,
+    SetReadOnly(bool),
+}
+
+/// What befalls a server.
+#[derive(Clone, Copy, Debug, PartialEq, Eq)]
+pub(crate) enum Event {
+    Fail,
+    Heal,
+    Cut(Link),
+    Join(Link),
+}
