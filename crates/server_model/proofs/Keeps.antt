@@ -24,7 +24,7 @@ pub record IsChange (servers : List Server) (n : ℕ) (s s' : Server) (l l' : Le
   pub own : l'.own ≡ count_own n s'.history.txns
   pub room : s'.log.log.files + s'.log.flushes + 2 * s'.log.room + length s.log.log.entries ≤ s.log.log.files + s.log.flushes + 2 * s.log.room + length s'.log.log.entries
   pub relay_room : l'.relay.room ≡ l.relay.room
-  pub link : (m : ℕ) (t : Server) → source_no s.source ≡ Some m → slice_get servers m ≡ Some t → IsLinked s t l → IsLinked s' t l'
+  pub link : (m : ℕ) (t : Server) → source_no s'.source ≡ Some m → slice_get servers m ≡ Some t → IsLinked s t l → IsLinked s' t l'
   pub errant : after + length s.history.txns ≤ before + length s'.history.txns
 
 sum_by_written : (servers : List Server) (n : ℕ) (s s' : Server) → slice_get servers n ≡ Some s
@@ -93,12 +93,13 @@ module _ (servers : List Server) (ledgers : List Ledger) (before after : ℕ) (n
   linked_new : (a b : ℕ) (r t : Server) (k : Ledger) → a ≡ n → r ≡ s' → k ≡ l' → source_no r.source ≡ Some b
       → ((b ≡ n) × (t ≡ s')) ⊎ ((b ≡ n → ⊥) × (slice_get servers b ≡ Some t)) → IsLinked r t k
   linked_new a b r t k is_n is_s' is_l' source where_b =
-      let from : source_no s.source ≡ Some b = change.source b (ap (λ (x : Server). source_no x.source) (sym is_s') ∙ source) in
+      let new_from : source_no s'.source ≡ Some b = ap (λ (x : Server). source_no x.source) (sym is_s') ∙ source in
+      let from : source_no s.source ≡ Some b = change.source b new_from in
       elim where_b [
         | inl new ↦ absurd (kept.apart n s here (from ∙ ap Some new.0))
         | inr old ↦
             subst (λ (x : Server). IsLinked x t k) (sym is_s')
-            (subst (λ (x : Ledger). IsLinked s' t x) (sym is_l') (change.link b t from old.1 (kept.linked n b s t l here from old.1 beside)))
+            (subst (λ (x : Ledger). IsLinked s' t x) (sym is_l') (change.link b t new_from old.1 (kept.linked n b s t l here from old.1 beside)))
       ]
 
   linked_old : (a b : ℕ) (r t : Server) (k : Ledger) → slice_get servers a ≡ Some r → source_no r.source ≡ Some b → slice_get ledgers a ≡ Some k

@@ -5,6 +5,7 @@ pub mod Takes
 pub mod Answered
 pub mod Fetched
 pub mod Applied
+pub mod Changed
 pub mod MakingLemmas
 pub mod MakingServers
 pub mod MakingWorlds

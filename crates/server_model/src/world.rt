@@ -4,17 +4,19 @@ ghost use Rattle.std.specs.Prelude.{◌≡◌, ◌+◌, ◌<◌, ◌≤◌, leng
 ghost use Rattle.std.specs.Option.{option_copied};
 ghost use Rattle.server_model.specs.Worlds.{server_at};
 ghost use Rattle.server_model.specs.Exchanges.{write_answer, after_write, fetch_step, fetch_answer, after_fetch, attached_at, apply_step, apply_answer, after_apply, IsReady};
+ghost use Rattle.server_model.specs.Desk.{ask as ask_of, befall, desk_answer, rotate_answer, after_rotate};
 ghost use Rattle.server_model.specs.Links.{end_of_step, Passes};
 ghost use Rattle.server_model.specs.Opening.{opened_world, Fits};
 ghost use Rattle.server_model.specs.Plains.{plain_of, log_of};
 
 use crate::making::{ledger_of, server_of};
 use crate::steps::{
-    apply_answer, end_of_step, errant_writes, fetch_answer, is_applying, is_reached, is_receiving,
-    own_of, receiver_step, relay_step,
+    apply_answer, empties, end_of_step, errant_writes, fetch_answer, is_applying, is_reachable,
+    is_reached, is_receiving, own_of, receiver_step, relay_step,
 };
 use crate::{
-    ApplyAnswer, ApplyStep, FetchAnswer, FetchStep, Ledger, Opening, Plain, Server, WriteAnswer,
+    ApplyAnswer, ApplyStep, Ask, Event, FetchAnswer, FetchStep, Ledger, Link, Opening, Plain,
+    RotateAnswer, Server, Threads, Unreachable, WriteAnswer,
 };
 use binlog_coords::{Coord, LogIndex, Next};
 use orch_base::{Memory, ServerNo, Settings, SourceState, Txn};
@@ -284,5 +286,146 @@ impl World {
             SourceState::Attached(m) => self.servers.get(m.0 as usize),
             SourceState::Without | SourceState::Detached(_) => None,
         }
+    }
+
+    /// Stops the named threads (STOP REPLICA). Unreachable exactly where the server is down or its desk link cut.
+    pub fn stop(&mut self, no: ServerNo, which: Threads) -> Result<(), Unreachable>
+        requires { no.0 < length self.old.servers }
+        ensures answer { result ≡ desk_answer (server_at self.old no.0) }
+        ensures world { self.new ≡ (ask_of self.old no.0 (Ask.Stop which)).1 }
+    {
+        self.ask(no, Ask::Stop(which))
+    }
+
+    /// Starts both threads of an attached server and forgets how far its applier was to go (START REPLICA).
+    pub fn start(&mut self, no: ServerNo) -> Result<(), Unreachable>
+        requires { no.0 < length self.old.servers }
+        ensures answer { result ≡ desk_answer (server_at self.old no.0) }
+        ensures world { self.new ≡ (ask_of self.old no.0 Ask.Start).1 }
+    {
+        self.ask(no, Ask::Start)
+    }
+
+    /// Starts both threads of an attached server; its applier is to stop at the coordinate (START REPLICA UNTIL).
+    pub fn start_until(&mut self, no: ServerNo, to: Coord) -> Result<(), Unreachable>
+        requires { no.0 < length self.old.servers }
+        ensures answer { result ≡ desk_answer (server_at self.old no.0) }
+        ensures world { self.new ≡ (ask_of self.old no.0 (Ask.StartUntil to)).1 }
+    {
+        self.ask(no, Ask::StartUntil(to))
+    }
+
+    /// Detaches an attached server: it keeps its source, with its threads off and its relay log empty.
+    pub fn detach(&mut self, no: ServerNo) -> Result<(), Unreachable>
+        requires { no.0 < length self.old.servers }
+        ensures answer { result ≡ desk_answer (server_at self.old no.0) }
+        ensures world { self.new ≡ (ask_of self.old no.0 Ask.Detach).1 }
+    {
+        self.ask(no, Ask::Detach)
+    }
+
+    /// Attaches a detached server to its source again, with its threads off.
+    pub fn reattach(&mut self, no: ServerNo) -> Result<(), Unreachable>
+        requires { no.0 < length self.old.servers }
+        ensures answer { result ≡ desk_answer (server_at self.old no.0) }
+        ensures world { self.new ≡ (ask_of self.old no.0 Ask.Reattach).1 }
+    {
+        self.ask(no, Ask::Reattach)
+    }
+
+    /// Takes a server's source away, with its relay log (RESET REPLICA ALL).
+    pub fn reset(&mut self, no: ServerNo) -> Result<(), Unreachable>
+        requires { no.0 < length self.old.servers }
+        ensures answer { result ≡ desk_answer (server_at self.old no.0) }
+        ensures world { self.new ≡ (ask_of self.old no.0 Ask.Reset).1 }
+    {
+        self.ask(no, Ask::Reset)
+    }
+
+    /// Makes a server read-only or writable (`read_only`).
+    pub fn set_read_only(&mut self, no: ServerNo, on: bool) -> Result<(), Unreachable>
+        requires { no.0 < length self.old.servers }
+        ensures answer { result ≡ desk_answer (server_at self.old no.0) }
+        ensures world { self.new ≡ (ask_of self.old no.0 (Ask.SetReadOnly on)).1 }
+    {
+        self.ask(no, Ask::SetReadOnly(on))
+    }
+
+    fn ask(&mut self, no: ServerNo, ask: Ask) -> Result<(), Unreachable>
+        requires { no.0 < length self.old.servers }
+        ensures answer { result ≡ desk_answer (server_at self.old no.0) }
+        ensures world { self.new ≡ (ask_of self.old no.0 ask).1 }
+    {
+        let n = no.0 as usize;
+        let s = &mut self.servers[n];
+        if !is_reachable(s) {
+            return Err(Unreachable);
+        }
+        let all = empties(ask, s);
+        s.ask(ask);
+        let l = &mut self.ledgers[n];
+        l.relay.clear_if(all);
+        Ok(())
+    }
+
+    /// The server goes down.
+    pub fn fail(&mut self, no: ServerNo)
+        requires { no.0 < length self.old.servers }
+        ensures { self.new ≡ befall self.old no.0 Event.Fail }
+    {
+        self.befall(no, Event::Fail);
+    }
+
+    /// A down server is up again; where it is attached its threads start. Of an up one nothing changes.
+    pub fn heal(&mut self, no: ServerNo)
+        requires { no.0 < length self.old.servers }
+        ensures { self.new ≡ befall self.old no.0 Event.Heal }
+    {
+        self.befall(no, Event::Heal);
+    }
+
+    /// The link of the server is cut.
+    pub fn cut_link(&mut self, no: ServerNo, link: Link)
+        requires { no.0 < length self.old.servers }
+        ensures { self.new ≡ befall self.old no.0 (Event.Cut link) }
+    {
+        self.befall(no, Event::Cut(link));
+    }
+
+    /// The link of the server is joined again.
+    pub fn join_link(&mut self, no: ServerNo, link: Link)
+        requires { no.0 < length self.old.servers }
+        ensures { self.new ≡ befall self.old no.0 (Event.Join link) }
+    {
+        self.befall(no, Event::Join(link));
+    }
+
+    fn befall(&mut self, no: ServerNo, event: Event)
+        requires { no.0 < length self.old.servers }
+        ensures { self.new ≡ befall self.old no.0 event }
+    {
+        let s = &mut self.servers[no.0 as usize];
+        s.befall(event);
+    }
+
+    /// The next file of a server's binary log begins (FLUSH BINARY LOGS).
+    pub fn rotate(&mut self, no: ServerNo) -> RotateAnswer
+        requires { no.0 < length self.old.servers }
+        ensures answer { result ≡ rotate_answer (server_at self.old no.0) }
+        ensures world { self.new ≡ after_rotate self.old no.0 (server_at self.old no.0) result }
+    {
+        let s = &mut self.servers[no.0 as usize];
+        if !s.up {
+            return RotateAnswer::Down;
+        }
+        if !s.settings.logs {
+            return RotateAnswer::NotLogging;
+        }
+        if s.log.flushes_left() == 0 {
+            return RotateAnswer::Full;
+        }
+        s.rotate();
+        let end = s.log.end();
+        RotateAnswer::Done(end)
     }
 }

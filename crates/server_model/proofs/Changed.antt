@@ -1,0 +1,221 @@
+-- A change of one server that leaves its history and log keeps what is kept; so does a new file of its log.
+use Rattle.std.proofs.Common.{◌≡◌, ℕ, ◌+◌, ◌-◌, ◌*◌, ◌<◌, ◌≤◌, Bool, true, false, not, cond, List, [], length, refl, sym, ◌∙◌, ap, subst, Option, Some, None, Result, Ok, Err, arith, ◌&&◌}
+use Rattle.std.specs.Prelude.{slice_get, slice_set, ◌==◌, All}
+use Rattle.std.proofs.lemmas.Bool.Decides.{nat_tests}
+use Rattle.std.proofs.lemmas.Option.{same_Some}
+use Rattle.binlog_coords.specs.declared.Coord.{Coord}
+use Rattle.binlog_coords.specs.declared.Next.{Next}
+use Rattle.binlog_coords.specs.Grown as grown
+use Rattle.binlog_coords.specs.Log.{Log, place, flush, end_of}
+use Rattle.binlog_coords.specs.Relay.{IsRelay, Empty}
+use Rattle.binlog_coords.proofs.Places.{stable_flush}
+use Rattle.binlog_coords.proofs.Relays.{IsRelay-flush}
+use Rattle.orch_base.specs.declared.server.SourceState.{SourceState}
+use Rattle.orch_base.specs.declared.server.SourceState.TheVariants.{Without, Attached, Detached}
+use Rattle.server_model.specs.Desk.{stopped, started, detached, reattached, without_source, asked, detached_source, attached_source, empties, with_link, healed, befallen, rotated, desk_answer, after_desk, befall, rotate_answer, after_rotate, is_detached}
+use Rattle.server_model.specs.Exchanges.{is_attached}
+use Rattle.server_model.specs.Histories.{count_own}
+use Rattle.server_model.specs.Kept.{Kept}
+use Rattle.binlog_coords.specs.Index.{Index}
+use Rattle.server_model.specs.Links.{HasSize, IsFit, IsLinked, IsKept}
+use Rattle.server_model.specs.Worlds.{World, server_at, source_no}
+use Rattle.server_model.specs.declared.answers.RotateAnswer.TheVariants as rotating
+use Rattle.server_model.specs.declared.answers.Unreachable.{Unreachable}
+use Rattle.server_model.specs.declared.changes.Ask.{Ask}
+use Rattle.server_model.specs.declared.changes.Ask.TheVariants as asking
+use Rattle.server_model.specs.declared.changes.Event.{Event}
+use Rattle.server_model.specs.declared.changes.Event.TheVariants as event
+use Rattle.server_model.specs.declared.changes.Link.{Link}
+use Rattle.server_model.specs.declared.changes.Link.TheVariants as link
+use Rattle.server_model.specs.declared.changes.Threads.{Threads}
+use Rattle.server_model.specs.declared.changes.Threads.TheVariants as threads
+use Rattle.server_model.specs.declared.ledger.Ledger.{Ledger}
+use Rattle.server_model.specs.declared.server.Server.{Server}
+use Rattle.server_model.proofs.Keeps.{IsChange, IsKept-with, beside_of}
+use Rattle.server_model.proofs.Lists.{set_self}
+
+-- the ledger of a server whose relay log is emptied, or not
+abbrev pub emptied : Bool → Ledger → Ledger
+emptied all l = record l { relay = cond all (record l.relay { steps = [] }) l.relay }
+
+-- a change that leaves the history and the log, and stands as before under the same source, if under any
+pub record IsMoved (s s' : Server) (all : Bool) : Type 0 where
+  pub history : s'.history ≡ s.history
+  pub log : s'.log ≡ s.log
+  pub source : (m : ℕ) → source_no s'.source ≡ Some m → source_no s.source ≡ Some m
+  pub link : (m : ℕ) → source_no s'.source ≡ Some m → (t : Server) (l : Ledger) → IsLinked s t l → IsLinked s' t (emptied all l)
+
+module _ (s : Server) where
+  -- the same place in the source's log
+  stays : (s' : Server) → s'.exec ≡ s.exec → s'.read ≡ s.read → (t : Server) (l : Ledger) → IsLinked s t l → IsLinked s' t (emptied false l)
+  stays s' exec read t l old = record {
+    relay = subst (λ (c : Coord). IsRelay t.log.log c l.relay.steps s'.read) (sym exec) (subst (λ (c : Coord). IsRelay t.log.log s.exec l.relay.steps c) (sym read) old.relay);
+    exec_place = (old.exec_place.0, ap (place t.log.log) exec ∙ old.exec_place.1);
+    read_place = (old.read_place.0, ap (place t.log.log) read ∙ old.read_place.1);
+  }
+
+  -- what was read and not executed is dropped
+  drops : (s' : Server) → s'.exec ≡ s.exec → s'.read ≡ s.exec → (t : Server) (l : Ledger) → IsLinked s t l → IsLinked s' t (emptied true l)
+  drops s' exec read t l old = record {
+    relay = subst (λ (c : Coord). IsRelay t.log.log s'.exec [] c) (exec ∙ sym read) (Empty s'.exec);
+    exec_place = (old.exec_place.0, ap (place t.log.log) exec ∙ old.exec_place.1);
+    read_place = (old.exec_place.0, ap (place t.log.log) read ∙ old.exec_place.1);
+  }
+
+  still : (s' : Server) → s'.history ≡ s.history → s'.log ≡ s.log → source_no s'.source ≡ source_no s.source → s'.exec ≡ s.exec → s'.read ≡ s.read → IsMoved s s' false
+  still s' history log source exec read = record { history = history; log = log; source = λ m h. sym source ∙ h; link = λ m h t l old. stays s' exec read t l old }
+
+  moved-stopped : (which : Threads) → IsMoved s (stopped which s) false
+  moved-stopped threads.Both = still (stopped threads.Both s) refl refl refl refl refl
+  moved-stopped threads.Receiver = still (stopped threads.Receiver s) refl refl refl refl refl
+  moved-stopped threads.Applier = still (stopped threads.Applier s) refl refl refl refl refl
+
+  moved-started : (until : Option Coord) → IsMoved s (started until s) false
+  moved-started until = go (is_attached s.source)
+    where
+      go : (b : Bool) → IsMoved s (cond b (record s { receiver = true; applier = true; until = until }) s) false
+      go true = still (record s { receiver = true; applier = true; until = until }) refl refl refl refl refl
+      go false = still s refl refl refl refl refl
+
+  moved-detached : IsMoved s (detached s) (is_attached s.source)
+  moved-detached = go s.source refl
+    where
+      go : (source : SourceState) → s.source ≡ source
+          → IsMoved s (cond (is_attached source) (record s { source = detached_source source; receiver = false; applier = false; read = s.exec; until = None }) s) (is_attached source)
+      go Without is = still s refl refl refl refl refl
+      go (Attached m) is = record {
+        history = refl;
+        log = refl;
+        source = λ k h. ap source_no is ∙ h;
+        link = λ k h t l old. drops (record s { source = Detached m; receiver = false; applier = false; read = s.exec; until = None }) refl refl t l old;
+      }
+      go (Detached m) is = still s refl refl refl refl refl
+
+  moved-reattached : IsMoved s (reattached s) false
+  moved-reattached = go s.source refl
+    where
+      go : (source : SourceState) → s.source ≡ source → IsMoved s (cond (is_detached source) (record s { source = attached_source source; receiver = false; applier = false }) s) false
+      go Without is = still s refl refl refl refl refl
+      go (Attached m) is = still s refl refl refl refl refl
+      go (Detached m) is = still (record s { source = Attached m; receiver = false; applier = false }) refl refl (sym (ap source_no is)) refl refl
+
+  moved-reset : IsMoved s (without_source s) true
+  moved-reset = record { history = refl; log = refl; source = λ m h. cc; link = λ m h t l old. cc }
+
+  pub moved-asked : (a : Ask) → IsMoved s (asked a s) (empties a s)
+  moved-asked (asking.Stop which) = moved-stopped which
+  moved-asked asking.Start = moved-started None
+  moved-asked (asking.StartUntil to) = moved-started (Some to)
+  moved-asked asking.Detach = moved-detached
+  moved-asked asking.Reattach = moved-reattached
+  moved-asked asking.Reset = moved-reset
+  moved-asked (asking.SetReadOnly on) = still (record s { read_only = on }) refl refl refl refl refl
+
+  moved-link : (l : Link) (on : Bool) → IsMoved s (with_link l on s) false
+  moved-link link.Desk on = still (record s { desk = on }) refl refl refl refl refl
+  moved-link link.Feed on = still (record s { feed = on }) refl refl refl refl refl
+
+  moved-healed : IsMoved s (healed s) false
+  moved-healed = go s.up
+    where
+      go : (b : Bool) → IsMoved s (cond b s (healed (record s { up = false }))) false
+      go true = still s refl refl refl refl refl
+      go false = still (healed (record s { up = false })) refl refl refl refl refl
+
+  pub moved-befallen : (e : Event) → IsMoved s (befallen e s) false
+  moved-befallen event.Fail = still (record s { up = false }) refl refl refl refl refl
+  moved-befallen event.Heal = moved-healed
+  moved-befallen (event.Cut l) = moved-link l false
+  moved-befallen (event.Join l) = moved-link l true
+
+module _ (servers : List Server) (ledgers : List Ledger) (errant n : ℕ) (s : Server) (kept : IsKept servers ledgers errant) (here : slice_get servers n ≡ Some s) where
+  fit-moved : (s' : Server) → s'.history ≡ s.history → s'.log ≡ s.log → IsFit s'
+  fit-moved s' history log =
+      let f = kept.fit n s here in
+      record {
+        high = rw history f.high;
+        room = rw (history, log) f.room;
+        within = rw history f.within;
+        entries = rw (log, history) f.entries;
+        sizes = subst (λ (h : Kept). All HasSize h.txns) (sym history) f.sizes;
+        grown = rw log f.grown;
+      }
+
+  pub IsKept-moved : (s' : Server) (all : Bool) (l : Ledger) → slice_get ledgers n ≡ Some l → IsMoved s s' all → IsKept (slice_set servers n s') (slice_set ledgers n (emptied all l)) errant
+  IsKept-moved s' all l beside moved =
+      IsKept-with servers ledgers errant errant n s s' l (emptied all l) kept here beside
+      (record {
+        source = moved.source;
+        places = λ c k h. ap (λ (i : Index). place i.log c) moved.log ∙ h;
+        relays = λ c d xs h. subst (λ (i : Index). IsRelay i.log c xs d) (sym moved.log) h;
+        fit = fit-moved s' moved.history moved.log;
+        own = kept.own n s l here beside ∙ ap (λ (h : Kept). count_own n h.txns) (sym moved.history);
+        room = rw moved.log (omega arith);
+        relay_room = same_room all;
+        link = λ m t from at old. moved.link m from t l old;
+        errant = rw moved.history (omega arith);
+      })
+    where
+      same_room : (b : Bool) → (cond b (record l.relay { steps = [] }) l.relay).room ≡ l.relay.room
+      same_room true = refl
+      same_room false = refl
+
+  pub IsKept-still : (s' : Server) → IsMoved s s' false → IsKept (slice_set servers n s') ledgers errant
+  IsKept-still s' moved =
+      let l = beside_of servers ledgers errant n s kept here in
+      subst (λ (ks : List Ledger). IsKept (slice_set servers n s') ks errant) (set_self ledgers n l.0 l.1) (IsKept-moved s' false l.0 l.1 moved)
+
+  -- a new file of the log
+  pub IsKept-rotated : 0 < s.log.flushes → IsKept (slice_set servers n (rotated s)) ledgers errant
+  IsKept-rotated some =
+      let l = beside_of servers ledgers errant n s kept here in
+      let f = kept.fit n s here in
+      subst (λ (ks : List Ledger). IsKept (slice_set servers n (rotated s)) ks errant) (set_self ledgers n l.0 l.1)
+      (IsKept-with servers ledgers errant errant n s (rotated s) l.0 l.0 kept here l.1
+      (record {
+        source = λ m h. h;
+        places = λ c k h. stable_flush s.log.log c k h;
+        relays = λ c d xs h. IsRelay-flush s.log.log c d xs h;
+        fit = record { high = f.high; room = f.room; within = f.within; entries = f.entries; sizes = f.sizes; grown = grown.Flushed s.log.log f.grown };
+        own = kept.own n s l.0 here l.1;
+        room = omega arith;
+        relay_room = refl;
+        link = λ m t from at old. record { relay = old.relay; exec_place = old.exec_place; read_place = old.read_place };
+        errant = omega arith;
+      }))
+
+-- what is answered, and what is left of the world
+
+pub desk-reached : (w : World) (n : ℕ) (s : Server) → server_at w n ≡ Some s → (s.up && s.desk) ≡ true → desk_answer (server_at w n) ≡ Ok tt
+desk-reached w n s at on = ap desk_answer at ∙ ap (λ b. cond b (Ok tt) (Err (record {}))) on
+
+pub desk-unreached : (w : World) (n : ℕ) (s : Server) → server_at w n ≡ Some s → (s.up && s.desk) ≡ false → desk_answer (server_at w n) ≡ Err (record {})
+desk-unreached w n s at off = ap desk_answer at ∙ ap (λ b. cond b (Ok tt) (Err (record {}))) off
+
+pub asked-left : (w : World) (servers : List Server) (gtid : Bool) (errant n : ℕ) (a : Ask) (s s' : Server) → record { servers = servers; gtid = gtid; errant = errant } ≡ w
+    → slice_get servers n ≡ Some s → s' ≡ asked a s → desk_answer (server_at w n) ≡ Ok tt
+    → record { servers = slice_set servers n s'; gtid = gtid; errant = errant } ≡ after_desk w n a (desk_answer (server_at w n))
+asked-left w servers gtid errant n a s s' view here is reached =
+    rw reached (subst (λ (v : World). record { servers = slice_set servers n s'; gtid = gtid; errant = errant } ≡ after_desk v n a (Ok tt)) view (rw (here, is)))
+
+pub unasked-left : (w : World) (servers : List Server) (gtid : Bool) (errant n : ℕ) (a : Ask) (s : Server) → record { servers = servers; gtid = gtid; errant = errant } ≡ w
+    → slice_get servers n ≡ Some s → desk_answer (server_at w n) ≡ Err (record {})
+    → record { servers = slice_set servers n s; gtid = gtid; errant = errant } ≡ after_desk w n a (desk_answer (server_at w n))
+unasked-left w servers gtid errant n a s view here unreached =
+    rw (unreached, set_self servers n s here) view
+
+pub befallen-left : (w : World) (servers : List Server) (gtid : Bool) (errant n : ℕ) (e : Event) (s s' : Server) → record { servers = servers; gtid = gtid; errant = errant } ≡ w
+    → slice_get servers n ≡ Some s → s' ≡ befallen e s
+    → record { servers = slice_set servers n s'; gtid = gtid; errant = errant } ≡ befall w n e
+befallen-left w servers gtid errant n e s s' view here is =
+    subst (λ (v : World). record { servers = slice_set servers n s'; gtid = gtid; errant = errant } ≡ befall v n e) view (rw (here, is))
+
+pub rotated-left : (w : World) (servers : List Server) (gtid : Bool) (errant n : ℕ) (at : Coord) (s s' : Server) → record { servers = servers; gtid = gtid; errant = errant } ≡ w
+    → slice_get servers n ≡ Some s → s' ≡ rotated s
+    → record { servers = slice_set servers n s'; gtid = gtid; errant = errant } ≡ after_rotate w n (server_at w n) (rotating.Done at)
+rotated-left w servers gtid errant n at s s' view here is =
+    subst (λ (v : World). record { servers = slice_set servers n s'; gtid = gtid; errant = errant } ≡ after_rotate v n (server_at v n) (rotating.Done at)) view (rw (here, is))
+
+pub rotate-answered : (w : World) (n : ℕ) (s : Server) (end : Coord) → server_at w n ≡ Some s → s.up ≡ true → s.settings.logs ≡ true → (s.log.flushes == 0) ≡ false → end ≡ end_of (flush s.log.log)
+    → rotating.Done end ≡ rotate_answer (server_at w n)
+rotate-answered w n s end at up logs some is = rw (at, up, logs, some, is)

@@ -1,0 +1,38 @@
+use Rattle.std.proofs.Common.{◌≡◌, ◌<◌, length, Some, arith, subst, sym, ◌∙◌}
+use Rattle.server_model.specs.Worlds.{World, server_at}
+use Rattle.server_model.proofs.Lists.{slice_get-index}
+use Rattle.server_model.proofs.Changed.{moved-asked, IsKept-moved, desk-reached, desk-unreached, asked-left, unasked-left}
+use Rattle.server_model.proofs.world.World.ask.Goals as goal
+
+pub returns-then-not-is_reachable-clause-world : goal.returns-then-not-is_reachable-clause-world
+returns-then-not-is_reachable-clause-world c =
+    let within : c.args.no.0 < length c.self.inside.servers.items = subst (λ (w : World). c.args.no.0 < length w.servers) (sym c.self.view_is) c.requires in
+    let here = slice_get-index c.self.inside.servers.items c.args.no.0 c.index_mut-s.result.now within c.index_mut-s.ensures.value in
+    let at = subst (λ (w : World). server_at w c.args.no.0 ≡ Some c.index_mut-s.result.now) c.self.view_is here in
+    unasked-left c.args.self.now c.self.inside.servers.items c.self.inside.gtid c.self.inside.errant c.args.no.0 c.args.ask c.index_mut-s.result.now c.self.view_is here
+    (desk-unreached c.args.self.now c.args.no.0 c.index_mut-s.result.now at (sym c.is_reachable.ensures ∙ c.if-not-is_reachable.true))
+
+pub invariant_of-self-2 : goal.invariant_of-self-2
+invariant_of-self-2 c =
+    let within : c.args.no.0 < length c.self.inside.servers.items = subst (λ (w : World). c.args.no.0 < length w.servers) (sym c.self.view_is) c.requires in
+    let beyond : c.args.no.0 < length c.self.inside.ledgers.items = let e = c.self.invariant.paired in omega arith in
+    let here = slice_get-index c.self.inside.servers.items c.args.no.0 c.index_mut-s.result.now within c.index_mut-s.ensures.value in
+    let beside = slice_get-index c.self.inside.ledgers.items c.args.no.0 c.index_mut-l.result.now beyond c.index_mut-l.ensures.value in
+    rw (c.ask.ensures, c.clear_if.ensures, c.empties-all.ensures)
+    (IsKept-moved c.self.inside.servers.items c.self.inside.ledgers.items c.self.inside.errant c.args.no.0 c.index_mut-s.result.now c.self.invariant here
+    _ _ c.index_mut-l.result.now beside (moved-asked c.index_mut-s.result.now c.args.ask))
+
+pub returns-clause-answer : goal.returns-clause-answer
+returns-clause-answer c =
+    let within : c.args.no.0 < length c.self.inside.servers.items = subst (λ (w : World). c.args.no.0 < length w.servers) (sym c.self.view_is) c.requires in
+    let here = slice_get-index c.self.inside.servers.items c.args.no.0 c.index_mut-s.result.now within c.index_mut-s.ensures.value in
+    sym (desk-reached c.args.self.now c.args.no.0 c.index_mut-s.result.now (subst (λ (w : World). server_at w c.args.no.0 ≡ Some c.index_mut-s.result.now) c.self.view_is here)
+    (sym c.is_reachable.ensures ∙ c.if-not-is_reachable.false))
+
+pub returns-clause-world : goal.returns-clause-world
+returns-clause-world c =
+    let within : c.args.no.0 < length c.self.inside.servers.items = subst (λ (w : World). c.args.no.0 < length w.servers) (sym c.self.view_is) c.requires in
+    let here = slice_get-index c.self.inside.servers.items c.args.no.0 c.index_mut-s.result.now within c.index_mut-s.ensures.value in
+    asked-left c.args.self.now c.self.inside.servers.items c.self.inside.gtid c.self.inside.errant c.args.no.0 c.args.ask c.index_mut-s.result.now c.ask.new.self c.self.view_is here c.ask.ensures
+    (desk-reached c.args.self.now c.args.no.0 c.index_mut-s.result.now (subst (λ (w : World). server_at w c.args.no.0 ≡ Some c.index_mut-s.result.now) c.self.view_is here)
+    (sym c.is_reachable.ensures ∙ c.if-not-is_reachable.false))

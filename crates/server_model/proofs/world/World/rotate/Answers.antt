@@ -1,0 +1,35 @@
+use Rattle.std.proofs.Common.{◌≡◌, ℕ, ◌+◌, ◌<◌, length, Some, false, subst, sym, ap, ◌∙◌, arith}
+use Rattle.std.specs.Prelude.{◌==◌}
+use Rattle.std.proofs.lemmas.Bool.{ne_eqb}
+use Rattle.binlog_coords.specs.Log.{end_of}
+use Rattle.server_model.specs.Desk.{rotated}
+use Rattle.server_model.specs.Worlds.{World, server_at}
+use Rattle.server_model.specs.declared.server.Server.{Server}
+use Rattle.server_model.proofs.Lists.{slice_get-index}
+use Rattle.server_model.proofs.Changed.{IsKept-rotated, rotated-left, rotate-answered}
+use Rattle.server_model.proofs.world.World.rotate.Goals as goal
+
+left_over : (n : ℕ) → (n ≡ 0 → ⊥) → 0 < n
+left_over n some = omega arith
+
+pub invariant_of-self-2 : goal.invariant_of-self-2
+invariant_of-self-2 c =
+    let within : c.args.no.0 < length c.self.inside.servers.items = subst (λ (w : World). c.args.no.0 < length w.servers) (sym c.self.view_is) c.requires in
+    let here = slice_get-index c.self.inside.servers.items c.args.no.0 c.index_mut-s.result.now within c.index_mut-s.ensures.value in
+    rw c.rotate.ensures
+    (IsKept-rotated c.self.inside.servers.items c.self.inside.ledgers.items c.self.inside.errant c.args.no.0 c.index_mut-s.result.now c.self.invariant here (omega (arith, left_over c.index_mut-s.result.now.log.flushes (λ e. c.if-flushes_left-eq0.false (c.flushes_left.ensures ∙ e)))))
+
+pub returns-clause-answer : goal.returns-clause-answer
+returns-clause-answer c =
+    let within : c.args.no.0 < length c.self.inside.servers.items = subst (λ (w : World). c.args.no.0 < length w.servers) (sym c.self.view_is) c.requires in
+    let here = slice_get-index c.self.inside.servers.items c.args.no.0 c.index_mut-s.result.now within c.index_mut-s.ensures.value in
+    rotate-answered c.args.self.now c.args.no.0 c.index_mut-s.result.now c.end-end.result
+    (subst (λ (w : World). server_at w c.args.no.0 ≡ Some c.index_mut-s.result.now) c.self.view_is here)
+    c.if-not-s.false c.if-not-s-2.false (ne_eqb c.index_mut-s.result.now.log.flushes 0 (λ e. c.if-flushes_left-eq0.false (c.flushes_left.ensures ∙ e)))
+    (c.end-end.ensures ∙ ap (λ (s : Server). end_of s.log.log) c.rotate.ensures)
+
+pub returns-clause-world : goal.returns-clause-world
+returns-clause-world c =
+    let within : c.args.no.0 < length c.self.inside.servers.items = subst (λ (w : World). c.args.no.0 < length w.servers) (sym c.self.view_is) c.requires in
+    rotated-left c.args.self.now c.self.inside.servers.items c.self.inside.gtid c.self.inside.errant c.args.no.0 c.end-end.result c.index_mut-s.result.now c.rotate.new.self c.self.view_is
+    (slice_get-index c.self.inside.servers.items c.args.no.0 c.index_mut-s.result.now within c.index_mut-s.ensures.value) c.rotate.ensures
