@@ -1,24 +1,29 @@
 -- A change of one server that leaves its history and log keeps what is kept; so does a new file of its log.
-use Rattle.std.proofs.Common.{◌≡◌, ℕ, ◌+◌, ◌-◌, ◌*◌, ◌<◌, ◌≤◌, Bool, true, false, not, cond, List, [], length, refl, sym, ◌∙◌, ap, subst, Option, Some, None, Result, Ok, Err, arith, ◌&&◌}
-use Rattle.std.specs.Prelude.{slice_get, slice_set, ◌==◌, All}
-use Rattle.std.proofs.lemmas.Bool.Decides.{nat_tests}
+use Rattle.std.proofs.Common.{◌≡◌, ℕ, ◌+◌, ◌-◌, ◌*◌, ◌<◌, ◌≤◌, Bool, true, false, not, cond, List, [], length, refl, sym, ◌∙◌, ap, subst, Option, Some, None, Result, Ok, Err, arith, ◌&&◌, ◌||◌, zero, suc}
+use Rattle.std.specs.Prelude.{slice_get, slice_set, ◌==◌, All, count_by}
+use Rattle.std.proofs.lemmas.Bool.{eq-eqb}
 use Rattle.std.proofs.lemmas.Option.{same_Some}
 use Rattle.binlog_coords.specs.declared.Coord.{Coord}
 use Rattle.binlog_coords.specs.declared.Next.{Next}
 use Rattle.binlog_coords.specs.Grown as grown
-use Rattle.binlog_coords.specs.Log.{Log, place, flush, end_of}
+use Rattle.binlog_coords.specs.Log.{Log, place, has_place, ends_by, flush, end_of}
 use Rattle.binlog_coords.specs.Relay.{IsRelay, Empty}
-use Rattle.binlog_coords.proofs.Places.{stable_flush}
+use Rattle.binlog_coords.proofs.Places.{stable_flush, place-from}
 use Rattle.binlog_coords.proofs.Relays.{IsRelay-flush}
+use Rattle.orch_base.specs.declared.server.ServerNo.{ServerNo}
 use Rattle.orch_base.specs.declared.server.SourceState.{SourceState}
 use Rattle.orch_base.specs.declared.server.SourceState.TheVariants.{Without, Attached, Detached}
+use Rattle.server_model.specs.Attach.{spot_below, live_spot, same_spot, chain_meets, attach_decision, attach_answer, attached_to, after_attach, IsTarget}
+use Rattle.server_model.specs.declared.attach.Spot.{Spot}
+use Rattle.server_model.specs.declared.attach.AttachFault.{AttachFault}
+use Rattle.server_model.specs.declared.attach.AttachFault.TheVariants as attaching
 use Rattle.server_model.specs.Desk.{stopped, started, detached, reattached, without_source, asked, detached_source, attached_source, empties, with_link, healed, befallen, rotated, desk_answer, after_desk, befall, rotate_answer, after_rotate, is_detached}
 use Rattle.server_model.specs.Exchanges.{is_attached}
 use Rattle.server_model.specs.Histories.{count_own}
 use Rattle.server_model.specs.Kept.{Kept}
 use Rattle.binlog_coords.specs.Index.{Index}
 use Rattle.server_model.specs.Links.{HasSize, IsFit, IsLinked, IsKept}
-use Rattle.server_model.specs.Worlds.{World, server_at, source_no}
+use Rattle.server_model.specs.Worlds.{World, server_at, source_no, sources}
 use Rattle.server_model.specs.declared.answers.RotateAnswer.TheVariants as rotating
 use Rattle.server_model.specs.declared.answers.Unreachable.{Unreachable}
 use Rattle.server_model.specs.declared.changes.Ask.{Ask}
@@ -31,7 +36,7 @@ use Rattle.server_model.specs.declared.changes.Threads.{Threads}
 use Rattle.server_model.specs.declared.changes.Threads.TheVariants as threads
 use Rattle.server_model.specs.declared.ledger.Ledger.{Ledger}
 use Rattle.server_model.specs.declared.server.Server.{Server}
-use Rattle.server_model.proofs.Keeps.{IsChange, IsKept-with, beside_of}
+use Rattle.server_model.proofs.Keeps.{IsChange, IsAny, IsKept-any, IsKept-with, beside_of}
 use Rattle.server_model.proofs.Lists.{set_self}
 
 -- the ledger of a server whose relay log is emptied, or not
@@ -219,3 +224,74 @@ rotated-left w servers gtid errant n at s s' view here is =
 pub rotate-answered : (w : World) (n : ℕ) (s : Server) (end : Coord) → server_at w n ≡ Some s → s.up ≡ true → s.settings.logs ≡ true → (s.log.flushes == 0) ≡ false → end ≡ end_of (flush s.log.log)
     → rotating.Done end ≡ rotate_answer (server_at w n)
 rotate-answered w n s end at up logs some is = rw (at, up, logs, some, is)
+
+-- a change of source to a place of another server's log
+pub IsKept-attached : (servers : List Server) (ledgers : List Ledger) (errant n : ℕ) (s : Server) (l : Ledger) (to : ServerNo) (at : Coord) (target : Server) → IsKept servers ledgers errant
+    → slice_get servers n ≡ Some s → slice_get ledgers n ≡ Some l → slice_get servers to.0 ≡ Some target → has_place target.log.log at ≡ true → (to.0 ≡ n → ⊥)
+    → IsKept (slice_set servers n (attached_to to at s)) (slice_set ledgers n (emptied true l)) errant
+IsKept-attached servers ledgers errant n s l to at target kept here beside there placed apart =
+    let f = kept.fit n s here in
+    IsKept-any servers ledgers errant errant n s (attached_to to at s) l (emptied true l) kept here beside
+    (record {
+      places = λ c k h. h;
+      relays = λ c d xs h. h;
+      fit = record { high = f.high; room = f.room; within = f.within; entries = f.entries; sizes = f.sizes; grown = f.grown };
+      own = kept.own n s l here beside;
+      room = omega arith;
+      relay_room = refl;
+      apart = λ from. apart (same_Some to.0 n from);
+      link = λ m t from at_m.
+          let number : to.0 ≡ m = same_Some to.0 m from in
+          let same : target ≡ t = same_Some target t (sym there ∙ ap (slice_get servers) number ∙ at_m) in
+          let place : (k : ℕ) × (place t.log.log at ≡ Some k) = subst (λ (x : Server). (k : ℕ) × (place x.log.log at ≡ Some k)) same (place-of target.log.log at placed) in
+          record { relay = Empty at; exec_place = place; read_place = place };
+      errant = omega arith;
+    })
+  where
+    place-of : (log : Log) (c : Coord) → has_place log c ≡ true → (k : ℕ) × (place log c ≡ Some k)
+    place-of log c h = (count_by (ends_by c) log.entries, place-from log c (count_by (ends_by c) log.entries) h refl)
+
+-- a walk that doesn't meet a server doesn't begin at it
+pub chain-apart : (up : ℕ → Option ℕ) (steps from n : ℕ) → chain_meets up steps from n ≡ false → from ≡ n → ⊥
+chain-apart up zero from n h e = cc
+chain-apart up (suc k) from n h e =
+    let met : (from == n) ≡ true = eq-eqb from n e in
+    let all : chain_meets up (suc k) from n ≡ true = rw met refl in
+    cc
+
+-- the decision by its four tests
+abbrev decided : Server → Spot → Bool → Bool → Bool → Bool → Result (Unit {0}) AttachFault
+decided s expect reached running same loops =
+    cond (not reached) (Err attaching.Unreachable)
+    (cond running (Err (attaching.Running (spot_below s s.source))) (cond (not same) (Err (attaching.Interfered expect (live_spot s expect))) (cond loops (Err attaching.Loop) (Ok tt))))
+
+-- an attachment that is allowed closes no loop
+pub joined-loops : (s : Server) (expect : Spot) (loops : Bool) → attach_decision s expect loops ≡ Ok tt → loops ≡ false
+joined-loops s expect loops h = go (s.up && s.desk) (s.receiver || s.applier) (same_spot expect (live_spot s expect)) loops h
+  where
+    go : (a b c d : Bool) → decided s expect a b c d ≡ Ok tt → d ≡ false
+    go false b c d h = cc
+    go true true c d h = cc
+    go true false false d h = cc
+    go true false true true h = cc
+    go true false true false h = refl
+
+pub attached-left : (w : World) (servers : List Server) (gtid : Bool) (errant n : ℕ) (to : ServerNo) (at : Coord) (s s' : Server) → record { servers = servers; gtid = gtid; errant = errant } ≡ w
+    → slice_get servers n ≡ Some s → s' ≡ attached_to to at s
+    → record { servers = slice_set servers n s'; gtid = gtid; errant = errant } ≡ after_attach w n to at (server_at w n) (Ok tt)
+attached-left w servers gtid errant n to at s s' view here is =
+    subst (λ (v : World). record { servers = slice_set servers n s'; gtid = gtid; errant = errant } ≡ after_attach v n to at (server_at v n) (Ok tt)) view (rw (here, is))
+
+-- an attachment that is allowed is not to the server itself
+pub joined-apart : (w : World) (servers : List Server) (gtid : Bool) (errant n : ℕ) (expect : Spot) (to : ℕ) (s : Server) → record { servers = servers; gtid = gtid; errant = errant } ≡ w
+    → slice_get servers n ≡ Some s → Ok tt ≡ attach_answer w n expect to (server_at w n) → to ≡ n → ⊥
+joined-apart w servers gtid errant n expect to s view here joined =
+    let at : server_at w n ≡ Some s = subst (λ (v : World). server_at v n ≡ Some s) view here in
+    let decision : attach_decision s expect (chain_meets (sources w) (length w.servers) to n) ≡ Ok tt = sym (joined ∙ ap (attach_answer w n expect to) at) in
+    chain-apart (sources w) (length w.servers) to n (joined-loops s expect (chain_meets (sources w) (length w.servers) to n) decision)
+
+-- the target of an attachment
+pub target-in : (w : World) (servers : List Server) (gtid : Bool) (errant to : ℕ) (at : Coord) → record { servers = servers; gtid = gtid; errant = errant } ≡ w → IsTarget w to at
+    → (t : Server) × (slice_get servers to ≡ Some t) × (has_place t.log.log at ≡ true)
+target-in w servers gtid errant to at view target =
+    (target.target, subst (λ (v : World). server_at v to ≡ Some target.target) (sym view) target.there, target.place)

@@ -15,7 +15,19 @@ use Rattle.server_model.specs.declared.server.Server.{Server}
 use Rattle.server_model.specs.declared.ledger.Ledger.{Ledger}
 use Rattle.server_model.proofs.Lists.{set_cases}
 
--- what a change of one server owes
+-- what any change of one server owes
+pub record IsAny (servers : List Server) (n : ℕ) (s s' : Server) (l l' : Ledger) (before after : ℕ) : Type 0 where
+  pub places : (c : Coord) (k : ℕ) → place s.log.log c ≡ Some k → place s'.log.log c ≡ Some k
+  pub relays : (c d : Coord) (xs : List Next) → IsRelay s.log.log c xs d → IsRelay s'.log.log c xs d
+  pub fit : IsFit s'
+  pub own : l'.own ≡ count_own n s'.history.txns
+  pub room : s'.log.log.files + s'.log.flushes + 2 * s'.log.room + length s.log.log.entries ≤ s.log.log.files + s.log.flushes + 2 * s.log.room + length s'.log.log.entries
+  pub relay_room : l'.relay.room ≡ l.relay.room
+  pub apart : source_no s'.source ≡ Some n → ⊥
+  pub link : (m : ℕ) (t : Server) → source_no s'.source ≡ Some m → slice_get servers m ≡ Some t → IsLinked s' t l'
+  pub errant : after + length s.history.txns ≤ before + length s'.history.txns
+
+-- what a change owes that leaves the source, or takes it away
 pub record IsChange (servers : List Server) (n : ℕ) (s s' : Server) (l l' : Ledger) (before after : ℕ) : Type 0 where
   pub source : (m : ℕ) → source_no s'.source ≡ Some m → source_no s.source ≡ Some m
   pub places : (c : Coord) (k : ℕ) → place s.log.log c ≡ Some k → place s'.log.log c ≡ Some k
@@ -45,7 +57,7 @@ IsLinked-source r s s' l places relays link = record {
 
 module _ (servers : List Server) (ledgers : List Ledger) (before after : ℕ) (n : ℕ) (s s' : Server) (l l' : Ledger)
     (kept : IsKept servers ledgers before) (here : slice_get servers n ≡ Some s) (beside : slice_get ledgers n ≡ Some l)
-    (change : IsChange servers n s s' l l' before after) where
+    (change : IsAny servers n s s' l l' before after) where
   fit : (m : ℕ) (t : Server) → slice_get (slice_set servers n s') m ≡ Some t → IsFit t
   fit m t at = elim (set_cases servers n s s' here m t at) [
     | inl new ↦ subst (λ (x : Server). IsFit x) (sym new.1) change.fit
@@ -86,20 +98,19 @@ module _ (servers : List Server) (ledgers : List Ledger) (before after : ℕ) (n
 
   apart : (m : ℕ) (t : Server) → slice_get (slice_set servers n s') m ≡ Some t → source_no t.source ≡ Some m → ⊥
   apart m t at from = elim (set_cases servers n s s' here m t at) [
-    | inl new ↦ kept.apart n s here (change.source n (ap (λ (x : Server). source_no x.source) (sym new.1) ∙ from ∙ ap Some new.0))
+    | inl new ↦ change.apart (ap (λ (x : Server). source_no x.source) (sym new.1) ∙ from ∙ ap Some new.0)
     | inr old ↦ kept.apart m t old.1 from
   ]
 
   linked_new : (a b : ℕ) (r t : Server) (k : Ledger) → a ≡ n → r ≡ s' → k ≡ l' → source_no r.source ≡ Some b
       → ((b ≡ n) × (t ≡ s')) ⊎ ((b ≡ n → ⊥) × (slice_get servers b ≡ Some t)) → IsLinked r t k
   linked_new a b r t k is_n is_s' is_l' source where_b =
-      let new_from : source_no s'.source ≡ Some b = ap (λ (x : Server). source_no x.source) (sym is_s') ∙ source in
-      let from : source_no s.source ≡ Some b = change.source b new_from in
+      let from : source_no s'.source ≡ Some b = ap (λ (x : Server). source_no x.source) (sym is_s') ∙ source in
       elim where_b [
-        | inl new ↦ absurd (kept.apart n s here (from ∙ ap Some new.0))
+        | inl new ↦ absurd (change.apart (from ∙ ap Some new.0))
         | inr old ↦
             subst (λ (x : Server). IsLinked x t k) (sym is_s')
-            (subst (λ (x : Ledger). IsLinked s' t x) (sym is_l') (change.link b t new_from old.1 (kept.linked n b s t l here from old.1 beside)))
+            (subst (λ (x : Ledger). IsLinked s' t x) (sym is_l') (change.link b t from old.1))
       ]
 
   linked_old : (a b : ℕ) (r t : Server) (k : Ledger) → slice_get servers a ≡ Some r → source_no r.source ≡ Some b → slice_get ledgers a ≡ Some k
@@ -125,8 +136,8 @@ module _ (servers : List Server) (ledgers : List Ledger) (before after : ℕ) (n
   ]
 
   -- the change keeps what is kept
-  pub IsKept-with : IsKept (slice_set servers n s') (slice_set ledgers n l') after
-  IsKept-with = record {
+  pub IsKept-any : IsKept (slice_set servers n s') (slice_set ledgers n l') after
+  IsKept-any = record {
     few = rw length-set kept.few;
     paired = length-set ledgers n l' ∙ kept.paired ∙ sym (length-set servers n s');
     errant_few = let sums = sum_by_written servers n s s' here in let e = kept.errant_few in let f = change.errant in omega arith;
@@ -136,6 +147,23 @@ module _ (servers : List Server) (ledgers : List Ledger) (before after : ℕ) (n
     apart = apart;
     linked = linked;
   }
+
+pub IsKept-with : (servers : List Server) (ledgers : List Ledger) (before after n : ℕ) (s s' : Server) (l l' : Ledger) → IsKept servers ledgers before
+    → slice_get servers n ≡ Some s → slice_get ledgers n ≡ Some l → IsChange servers n s s' l l' before after
+    → IsKept (slice_set servers n s') (slice_set ledgers n l') after
+IsKept-with servers ledgers before after n s s' l l' kept here beside change =
+    IsKept-any servers ledgers before after n s s' l l' kept here beside
+    (record {
+      places = change.places;
+      relays = change.relays;
+      fit = change.fit;
+      own = change.own;
+      room = change.room;
+      relay_room = change.relay_room;
+      apart = λ from. kept.apart n s here (change.source n from);
+      link = λ m t from at. change.link m t from at (kept.linked n m s t l here (change.source m from) at beside);
+      errant = change.errant;
+    })
 
 -- something is kept beside each server
 pub beside_of : (servers : List Server) (ledgers : List Ledger) (errant n : ℕ) (s : Server) → IsKept servers ledgers errant → slice_get servers n ≡ Some s

@@ -6,6 +6,7 @@ pub mod Answered
 pub mod Fetched
 pub mod Applied
 pub mod Changed
+pub mod Chains
 pub mod MakingLemmas
 pub mod MakingServers
 pub mod MakingWorlds

@@ -7,6 +7,7 @@ pub mod OpeningBy
 pub mod Worlds
 pub mod Exchanges
 pub mod Desk
+pub mod Attach
 pub mod Safe
 pub mod Run
 pub mod Plains

@@ -37,8 +37,11 @@ source_of (Some s) = source_no s.source
 abbrev pub histories : World → ℕ → List Txn
 histories w n = history_of (server_at w n)
 
+abbrev pub sources_in : List Server → ℕ → Option ℕ
+sources_in servers n = source_of (slice_get servers n)
+
 abbrev pub sources : World → ℕ → Option ℕ
-sources w n = source_of (server_at w n)
+sources w n = sources_in w.servers n
 
 -- the world with another server n
 abbrev pub with_server : World → ℕ → Server → World

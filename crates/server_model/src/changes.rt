@@ -23,7 +23,7 @@ pub enum Link {
 
 /// What orchestrator asks of a server.
 #[derive(Clone, Copy, Debug, PartialEq, Eq)]
-pub(crate) enum Ask {
+pub enum Ask {
     Stop(Threads),
     Start,
     StartUntil(Coord),
@@ -35,7 +35,7 @@ pub(crate) enum Ask {
 
 /// What befalls a server.
 #[derive(Clone, Copy, Debug, PartialEq, Eq)]
-pub(crate) enum Event {
+pub enum Event {
     Fail,
     Heal,
     Cut(Link),

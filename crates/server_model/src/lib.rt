@@ -2,6 +2,7 @@
 #![tactic(auto)]
 
 mod answers;
+mod attach;
 mod changes;
 mod history;
 mod ledger;
@@ -17,6 +18,7 @@ mod world;
 
 pub use answers::{ApplyAnswer, FetchAnswer, RotateAnswer, Unreachable, WriteAnswer};
 pub(crate) use answers::{ApplyStep, FetchStep};
+pub use attach::{AttachFault, Spot};
 pub use changes::{Link, Threads};
 pub(crate) use changes::{Ask, Event};
 pub(crate) use history::History;

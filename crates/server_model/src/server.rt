@@ -3,7 +3,7 @@
 use crate::steps::is_attached;
 use crate::{Ask, Event, History, Link, Threads};
 use binlog_coords::{Coord, LogIndex};
-use orch_base::{Settings, SourceState, Txn};
+use orch_base::{ServerNo, Settings, SourceState, Txn};
 
 /// A server: what it has executed, its log, and where it stands in its source's log.
 #[derive(Drop)]
@@ -37,6 +37,7 @@ pub struct Server {
 impl Server {
     ghost use Rattle.std.specs.Prelude.{◌≡◌, ◌+◌, ◌<◌, ◌≤◌, length};
     ghost use Rattle.server_model.specs.Exchanges.{took};
+    ghost use Rattle.server_model.specs.Attach.{attached_to};
     ghost use Rattle.server_model.specs.Desk.{stopped, started, detached, reattached, without_source, asked, with_link, healed, befallen, rotated};
 
     /// The history takes the transaction, and so does the log of a server that logs.
@@ -132,6 +133,19 @@ impl Server {
                 self.read_only = on;
             }
         }
+    }
+
+    /// Attaches the server to `to` at `at`, with its threads off.
+    pub fn attach(&mut self, to: ServerNo, at: Coord)
+        ensures { self.new ≡ attached_to to at self.old }
+    {
+        self.source = SourceState::Attached(to);
+        self.exec = at;
+        self.read = at;
+        self.auto = false;
+        self.until = None;
+        self.receiver = false;
+        self.applier = false;
     }
 
     fn set_link(&mut self, link: Link, on: bool)

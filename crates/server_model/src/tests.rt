@@ -2,11 +2,13 @@ ghost use Rattle.std.specs.Prelude.{◌≡◌, length, All, IfOk};
 ghost use Rattle.server_model.specs.Opening.{IsSound, Fits};
 
 use crate::{
-    ApplyAnswer, FetchAnswer, Opening, Part, Parts, ServerInit, World, WriteAnswer, transactions,
+    ApplyAnswer, FetchAnswer, Link, Opening, Part, Parts, RotateAnswer, ServerInit, Threads,
+    Unreachable, World, WriteAnswer, transactions,
 };
 use binlog_coords::Coord;
 use orch_base::{Label, Name, ServerNo, Settings, SourceState, Version};
 use std::alloc::Global;
+use std::process::Abort;
 use std::test::*;
 
 fn settings(alloc: Global, host: &str, server_id: u32, logs: bool) -> Result<Settings, Fail>
@@ -135,6 +137,62 @@ fn replica_follows_over_rotations(rt: HostRuntime) -> Result<(), Fail> {
     assert_eq!(rt; world.executed(r), 4);
     assert_eq!(rt; world.log(r).map(|log| log.end()), Some(at(3, 4)));
     assert_eq!(rt; world.errant(), 0);
+    Ok(())
+}
+
+// The world has its two servers.
+fn has_two(rt: &impl Abort, world: &World)
+    ensures { length world.now.servers ≡ 2 }
+{
+    assert_eq!(rt; world.servers(), 2);
+}
+
+#[test]
+fn threads_links_and_files(rt: HostRuntime) -> Result<(), Fail> {
+    let opening = two_servers(rt.alloc(), true)?;
+    let mut world = World::make(rt.alloc(), &opening, 4, 1)?;
+    let (m, r) = (ServerNo(0), ServerNo(1));
+    assert_eq!(rt; world.stop(r, Threads::Both), Ok(()));
+    has_two(&rt, &world);
+    assert_eq!(rt; world.fetch(r), FetchAnswer::Stopped);
+    has_two(&rt, &world);
+    assert_eq!(rt; world.start_until(r, at(1, 104)), Ok(()));
+    has_two(&rt, &world);
+    assert_eq!(rt; world.fetch(r), FetchAnswer::Got(at(1, 204)));
+    has_two(&rt, &world);
+    assert_eq!(rt; world.apply(r), ApplyAnswer::AtUntil);
+    has_two(&rt, &world);
+    assert_eq!(rt; world.apply(r), ApplyAnswer::Stopped);
+    has_two(&rt, &world);
+    world.cut_link(r, Link::Feed);
+    has_two(&rt, &world);
+    assert_eq!(rt; world.fetch(r), FetchAnswer::NoLink);
+    has_two(&rt, &world);
+    world.cut_link(r, Link::Desk);
+    has_two(&rt, &world);
+    assert_eq!(rt; world.start(r), Err(Unreachable));
+    has_two(&rt, &world);
+    world.join_link(r, Link::Desk);
+    has_two(&rt, &world);
+    assert_eq!(rt; world.detach(r), Ok(()));
+    has_two(&rt, &world);
+    assert_eq!(rt; world.plain(r).source, SourceState::Detached(m));
+    assert_eq!(rt; world.plain(r).read, at(1, 104));
+    assert_eq!(rt; world.reattach(r), Ok(()));
+    has_two(&rt, &world);
+    world.fail(r);
+    has_two(&rt, &world);
+    world.heal(r);
+    has_two(&rt, &world);
+    assert!(rt; world.plain(r).receiver && world.plain(r).applier);
+    assert_eq!(rt; world.reset(r), Ok(()));
+    has_two(&rt, &world);
+    assert_eq!(rt; world.plain(r).exec, at(1, 4));
+    assert_eq!(rt; world.set_read_only(r, false), Ok(()));
+    has_two(&rt, &world);
+    assert_eq!(rt; world.rotate(m), RotateAnswer::Done(at(3, 4)));
+    has_two(&rt, &world);
+    assert_eq!(rt; world.rotate(m), RotateAnswer::Full);
     Ok(())
 }
 

@@ -4,19 +4,21 @@ ghost use Rattle.std.specs.Prelude.{◌≡◌, ◌+◌, ◌<◌, ◌≤◌, leng
 ghost use Rattle.std.specs.Option.{option_copied};
 ghost use Rattle.server_model.specs.Worlds.{server_at};
 ghost use Rattle.server_model.specs.Exchanges.{write_answer, after_write, fetch_step, fetch_answer, after_fetch, attached_at, apply_step, apply_answer, after_apply, IsReady};
+ghost use Rattle.server_model.specs.Attach.{attach_answer, after_attach, IsTarget};
 ghost use Rattle.server_model.specs.Desk.{ask as ask_of, befall, desk_answer, rotate_answer, after_rotate};
 ghost use Rattle.server_model.specs.Links.{end_of_step, Passes};
 ghost use Rattle.server_model.specs.Opening.{opened_world, Fits};
 ghost use Rattle.server_model.specs.Plains.{plain_of, log_of};
 
+use crate::attach::{attach_decision, chain_meets};
 use crate::making::{ledger_of, server_of};
 use crate::steps::{
     apply_answer, empties, end_of_step, errant_writes, fetch_answer, is_applying, is_reachable,
     is_reached, is_receiving, own_of, receiver_step, relay_step,
 };
 use crate::{
-    ApplyAnswer, ApplyStep, Ask, Event, FetchAnswer, FetchStep, Ledger, Link, Opening, Plain,
-    RotateAnswer, Server, Threads, Unreachable, WriteAnswer,
+    ApplyAnswer, ApplyStep, Ask, AttachFault, Event, FetchAnswer, FetchStep, Ledger, Link, Opening,
+    Plain, RotateAnswer, Server, Spot, Threads, Unreachable, WriteAnswer,
 };
 use binlog_coords::{Coord, LogIndex, Next};
 use orch_base::{Memory, ServerNo, Settings, SourceState, Txn};
@@ -427,5 +429,48 @@ impl World {
         s.rotate();
         let end = s.log.end();
         RotateAnswer::Done(end)
+    }
+
+    /// Attaches a server that stands at the expected spot to `to`, a server that logs, at `at`, which has a place in
+    /// its log. Its threads are off then, and its relay log is empty. Nothing changes where it answers a fault.
+    pub fn attach_at(
+        &mut self,
+        no: ServerNo,
+        expect: Spot,
+        to: ServerNo,
+        at: Coord,
+    ) -> Result<(), AttachFault>
+        requires server { no.0 < length self.old.servers }
+        requires target { IsTarget self.old to.0 at }
+        ensures answer { result ≡ attach_answer self.old no.0 expect to.0 (server_at self.old no.0) }
+        ensures world { self.new ≡ after_attach self.old no.0 to at (server_at self.old no.0) result }
+    {
+        match self.test_attach_at(no, expect, to, at) {
+            Err(fault) => return Err(fault),
+            Ok(()) => {}
+        }
+        let n = no.0 as usize;
+        let s = &mut self.servers[n];
+        s.attach(to, at);
+        let l = &mut self.ledgers[n];
+        l.relay.clear_if(true);
+        Ok(())
+    }
+
+    /// What `attach_at` would answer now. It changes nothing.
+    pub fn test_attach_at(
+        &self,
+        no: ServerNo,
+        expect: Spot,
+        to: ServerNo,
+        at: Coord,
+    ) -> Result<(), AttachFault>
+        requires server { no.0 < length self.now.servers }
+        requires target { IsTarget self.now to.0 at }
+        ensures { result ≡ attach_answer self.now no.0 expect to.0 (server_at self.now no.0) }
+    {
+        let _ = at;
+        let loops = chain_meets(&self.servers, to.0, no.0);
+        attach_decision(&self.servers[no.0 as usize], expect, loops)
     }
 }

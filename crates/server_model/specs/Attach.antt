@@ -1,0 +1,66 @@
+-- A change of source by a coordinate (MySQL 8.0 Reference Manual, "CHANGE REPLICATION SOURCE TO Statement").
+use Rattle.std.specs.Prelude.{◌≡◌, ℕ, ◌==◌, Bool, true, false, ◌&&◌, ◌||◌, not, if◌then◌else◌, length, Option, Some, None, Result, Ok, Err, zero, suc}
+use Rattle.binlog_coords.specs.declared.Coord.{Coord}
+use Rattle.binlog_coords.specs.Log.{same_coord, end_of, has_place}
+use Rattle.orch_base.specs.declared.server.ServerNo.{ServerNo}
+use Rattle.orch_base.specs.declared.server.SourceState.{SourceState}
+use Rattle.orch_base.specs.declared.server.SourceState.TheVariants.{Without, Attached, Detached}
+use Rattle.server_model.specs.declared.attach.Spot.{Spot}
+use Rattle.server_model.specs.declared.attach.Spot.TheVariants as spot
+use Rattle.server_model.specs.declared.attach.AttachFault.{AttachFault}
+use Rattle.server_model.specs.declared.attach.AttachFault.TheVariants as attaching
+use Rattle.server_model.specs.declared.server.Server.{Server}
+use Rattle.server_model.specs.Worlds.{World, server_at, sources, with_server}
+
+-- where a server with a source stands
+abbrev pub spot_below : Server → SourceState → Spot
+spot_below s Without = spot.Nowhere
+spot_below s (Attached m) = spot.At m s.exec
+spot_below s (Detached m) = spot.At m s.exec
+
+-- the live spot of the kind that is expected
+abbrev pub live_spot : Server → Spot → Spot
+live_spot s (spot.At m exec) = spot_below s s.source
+live_spot s (spot.OwnEnd at) = if s.settings.logs then spot.OwnEnd (end_of s.log.log) else spot.Nowhere
+live_spot s spot.Nowhere = spot.Nowhere
+
+abbrev pub same_spot : Spot → Spot → Bool
+same_spot (spot.At m c) (spot.At n d) = m.0 == n.0 && same_coord c d
+same_spot (spot.OwnEnd c) (spot.OwnEnd d) = same_coord c d
+same_spot _ _ = false
+
+-- whether the chain of sources from a server meets another; one that is longer than the number of steps counts as
+-- meeting it
+abbrev pub chain_on : (ℕ → Bool) → Option ℕ → Bool
+chain_on go None = false
+chain_on go (Some m) = go m
+
+abbrev pub chain_meets : (ℕ → Option ℕ) → ℕ → ℕ → ℕ → Bool
+chain_meets up zero from number = true
+chain_meets up (suc steps) from number = from == number || chain_on (λ m. chain_meets up steps m number) (up from)
+
+abbrev pub attach_decision : Server → Spot → Bool → Result (Unit {0}) AttachFault
+attach_decision s expect loops =
+    if not (s.up && s.desk) then Err attaching.Unreachable
+    else if s.receiver || s.applier then Err (attaching.Running (spot_below s s.source))
+    else if not (same_spot expect (live_spot s expect)) then Err (attaching.Interfered expect (live_spot s expect))
+    else if loops then Err attaching.Loop
+    else Ok tt
+
+abbrev pub attach_answer : World → ℕ → Spot → ℕ → Option Server → Result (Unit {0}) AttachFault
+attach_answer w n expect to None = Err attaching.Unreachable
+attach_answer w n expect to (Some s) = attach_decision s expect (chain_meets (sources w) (length w.servers) to n)
+
+abbrev pub attached_to : ServerNo → Coord → Server → Server
+attached_to to at s = record s { source = Attached to; exec = at; read = at; auto = false; until = None; receiver = false; applier = false }
+
+abbrev pub after_attach : World → ℕ → ServerNo → Coord → Option Server → Result (Unit {0}) AttachFault → World
+after_attach w n to at (Some s) (Ok t) = with_server w n (attached_to to at s)
+after_attach w n to at _ _ = w
+
+-- the coordinate has a place in the log of a server that is there and logs
+pub record IsTarget (w : World) (to : ℕ) (at : Coord) : Type 0 where
+  pub target : Server
+  pub there : server_at w to ≡ Some target
+  pub logs : target.settings.logs ≡ true
+  pub place : has_place target.log.log at ≡ true

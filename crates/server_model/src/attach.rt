@@ -1,0 +1,125 @@
+//! A change of source by a coordinate.
+
+ghost use Rattle.std.specs.Prelude.{◌≡◌, length};
+ghost use Rattle.server_model.specs.Attach.{attach_decision, chain_meets, live_spot, same_spot, spot_below};
+ghost use Rattle.server_model.specs.Worlds.{sources_in};
+ghost use Rattle.binlog_coords.specs.Log.{same_coord};
+
+use crate::Server;
+use binlog_coords::Coord;
+use orch_base::{ServerNo, SourceState};
+
+/// Where a server stands.
+#[derive(Clone, Copy, Debug, PartialEq, Eq)]
+pub enum Spot {
+    /// Under this source, which it keeps, at this executed coordinate.
+    At(ServerNo, Coord),
+    /// At this end of its own log.
+    OwnEnd(Coord),
+    Nowhere,
+}
+
+/// Why a server wasn't attached. Nothing has changed then.
+#[derive(Clone, Copy, Debug, PartialEq, Eq)]
+pub enum AttachFault {
+    /// Orchestrator doesn't reach the server.
+    Unreachable,
+    /// A thread of the server is on; it stands here.
+    Running(Spot),
+    /// The server was expected at the first spot, and was found at the second.
+    Interfered(Spot, Spot),
+    /// The new source is the server itself or below it.
+    Loop,
+}
+
+fn same_coord(c: Coord, d: Coord) -> bool
+    ensures { result ≡ same_coord c d }
+{
+    c.file == d.file && c.pos == d.pos
+}
+
+fn same_spot(x: Spot, y: Spot) -> bool
+    ensures { result ≡ same_spot x y }
+{
+    match (x, y) {
+        (Spot::At(m, c), Spot::At(n, d)) => m.0 == n.0 && same_coord(c, d),
+        (Spot::OwnEnd(c), Spot::OwnEnd(d)) => same_coord(c, d),
+        _ => false,
+    }
+}
+
+fn spot_below(s: &Server) -> Spot
+    ensures { result ≡ spot_below s.now s.now.source }
+{
+    match s.source {
+        SourceState::Without => Spot::Nowhere,
+        SourceState::Attached(m) | SourceState::Detached(m) => Spot::At(m, s.exec),
+    }
+}
+
+fn live_spot(s: &Server, expect: Spot) -> Spot
+    ensures { result ≡ live_spot s.now expect }
+{
+    match expect {
+        Spot::At(_, _) => spot_below(s),
+        Spot::OwnEnd(_) => {
+            if s.settings.logs {
+                Spot::OwnEnd(s.log.end())
+            } else {
+                Spot::Nowhere
+            }
+        }
+        Spot::Nowhere => Spot::Nowhere,
+    }
+}
+
+/// What an attachment of the server answers, by whether it would close a loop.
+pub(crate) fn attach_decision(s: &Server, expect: Spot, loops: bool) -> Result<(), AttachFault>
+    ensures { result ≡ attach_decision s.now expect loops }
+{
+    if !(s.up && s.desk) {
+        return Err(AttachFault::Unreachable);
+    }
+    if s.receiver || s.applier {
+        return Err(AttachFault::Running(spot_below(s)));
+    }
+    let found = live_spot(s, expect);
+    if !same_spot(expect, found) {
+        return Err(AttachFault::Interfered(expect, found));
+    }
+    if loops {
+        return Err(AttachFault::Loop);
+    }
+    Ok(())
+}
+
+/// The server above a server, if there are both.
+fn source_no(servers: &[Server], n: u32) -> Option<u32>
+    ensures { result ≡ sources_in servers.now n }
+{
+    match servers.get(n as usize) {
+        None => None,
+        Some(s) => match s.source {
+            SourceState::Without => None,
+            SourceState::Attached(m) | SourceState::Detached(m) => Some(m.0),
+        },
+    }
+}
+
+/// Whether the chain of sources from a server meets another.
+#[tactic(auto, using(crate::proofs::Chains::chain_steps))]
+pub(crate) fn chain_meets(servers: &[Server], from: u32, n: u32) -> bool
+    ensures { result ≡ chain_meets (sources_in servers.now) (length servers.now) from n }
+{
+    let mut at = from;
+    for i in 0..servers.len() {
+        if at == n {
+            return true;
+        }
+        match source_no(servers, at) {
+            None => return false,
+            Some(m) => at = m,
+        }
+    }
+    true
+}
