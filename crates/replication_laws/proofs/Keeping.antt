@@ -48,6 +48,14 @@ IsSource-with w n s s' here settings m source =
 pub GoesOn-refl : (s : Server) → GoesOn s s
 GoesOn-refl s = record { settings = refl; prefix = take-length s.history.txns; places = λ c k h. h }
 
+-- a change that leaves the history, the log and the settings
+pub GoesOn-kept : (s s' : Server) → s'.history.txns ≡ s.history.txns → s'.log.log ≡ s.log.log → s'.settings ≡ s.settings → GoesOn s s'
+GoesOn-kept s s' history log settings = record {
+  settings = settings;
+  prefix = ap (take (length s.history.txns)) history ∙ take-length s.history.txns;
+  places = λ c k h. ap (λ l. place l c) log ∙ h;
+}
+
 pub Grows-refl : (w : World) → Grows w w
 Grows-refl w = λ n s h. (s, h, GoesOn-refl s)
 
@@ -129,11 +137,7 @@ pub Step-still : (w : World) (n : ℕ) (r r' : Server) → Safe w → server_at 
     → Step w (with_server w n r')
 Step-still w n r r' safe here history log settings source well =
     Step-with w n r r' safe here (record {
-      goes_on = record {
-        settings = settings;
-        prefix = ap (take (length r.history.txns)) history ∙ take-length r.history.txns;
-        places = λ c k h. ap (λ l. place l c) log ∙ h;
-      };
+      goes_on = GoesOn-kept r r' history log settings;
       source = source;
       laid = λ on. moved (safe.laid n r here (sym (ap (λ (x : Settings). x.logs) settings) ∙ on));
       well = well;

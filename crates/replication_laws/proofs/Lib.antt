@@ -8,3 +8,4 @@ pub mod Applies
 pub mod Runs
 pub mod Openings
 pub mod Rooms
+pub mod Moves

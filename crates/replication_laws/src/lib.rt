@@ -6,6 +6,9 @@ ghost use Rattle.orch_base.specs.declared.server.Txn.{Txn as ATxn};
 ghost use Rattle.binlog_coords.specs.declared.Coord.{Coord as At};
 ghost use Rattle.server_model.specs.declared.answers.ApplyAnswer.TheVariants as answers;
 ghost use Rattle.server_model.specs.declared.answers.ApplyStep.TheVariants as steps;
+ghost use Rattle.server_model.specs.declared.changes.Ask.{Ask as Asked};
+ghost use Rattle.server_model.specs.declared.changes.Event.{Event as AnEvent};
+ghost use Rattle.server_model.specs.Desk.{ask, befall, rotate};
 ghost use Rattle.server_model.specs.Exchanges.{write, fetch, apply, apply_step};
 ghost use Rattle.server_model.specs.Opening.{Opened, IsSound, opened_world};
 ghost use Rattle.server_model.specs.Histories.{same_txn};
@@ -24,6 +27,22 @@ pub fn each_exchange_keeps_safe()
     ensures fetch { (w : World) (n : ℕ) → Safe w → Safe (fetch w n).1 }
     ensures apply { (w : World) (n : ℕ) → Safe w → Safe (apply w n).1 }
     ensures goes_on { (w : World) (e : Exchange) → Safe w → Allowed e → Grows w (after w e) }
+{}
+
+/// What orchestrator asks of a server (STOP REPLICA, START REPLICA, RESET REPLICA ALL, read_only and the rest), what
+/// befalls a server, and FLUSH BINARY LOGS each keep a safe world safe, quiet or not. They write nothing: in any world
+/// every server goes on, with its settings, what it has executed and each place of its log, and no errant write is
+/// counted.
+pub fn each_change_keeps_safe()
+    ensures ask { (w : World) (n : ℕ) (a : Asked) → Safe w → Safe (ask w n a).1 }
+    ensures befall { (w : World) (n : ℕ) (e : AnEvent) → Safe w → Safe (befall w n e) }
+    ensures rotate { (w : World) (n : ℕ) → Safe w → Safe (rotate w n).1 }
+    ensures ask_goes_on { (w : World) (n : ℕ) (a : Asked) → Grows w (ask w n a).1 }
+    ensures befall_goes_on { (w : World) (n : ℕ) (e : AnEvent) → Grows w (befall w n e) }
+    ensures rotate_goes_on { (w : World) (n : ℕ) → Grows w (rotate w n).1 }
+    ensures ask_errant { (w : World) (n : ℕ) (a : Asked) → (ask w n a).1.errant ≡ w.errant }
+    ensures befall_errant { (w : World) (n : ℕ) (e : AnEvent) → (befall w n e).errant ≡ w.errant }
+    ensures rotate_errant { (w : World) (n : ℕ) → (rotate w n).1.errant ≡ w.errant }
 {}
 
 /// Each state of a run from a safe world is safe while it is quiet. The count of errant writes never falls, so at a

@@ -1,10 +1,9 @@
 -- A change of one server that leaves its history and log keeps what is kept; so does a new file of its log.
-use Rattle.std.proofs.Common.{◌≡◌, ℕ, ◌+◌, ◌-◌, ◌*◌, ◌<◌, ◌≤◌, Bool, true, false, not, cond, List, [], length, refl, sym, ◌∙◌, ap, subst, Option, Some, None, Result, Ok, Err, arith, ◌&&◌, ◌||◌, zero, suc}
+use Rattle.std.proofs.Common.{◌≡◌, ℕ, ◌<◌, Bool, true, false, not, cond, List, [], length, refl, sym, ◌∙◌, ap, subst, Option, Some, None, Result, Ok, Err, arith, ◌&&◌, ◌||◌, zero, suc}
 use Rattle.std.specs.Prelude.{slice_get, slice_set, ◌==◌, All, count_by}
 use Rattle.std.proofs.lemmas.Bool.{eq-eqb}
 use Rattle.std.proofs.lemmas.Option.{same_Some}
 use Rattle.binlog_coords.specs.declared.Coord.{Coord}
-use Rattle.binlog_coords.specs.declared.Next.{Next}
 use Rattle.binlog_coords.specs.Grown as grown
 use Rattle.binlog_coords.specs.Log.{Log, place, has_place, ends_by, flush, end_of}
 use Rattle.binlog_coords.specs.Relay.{IsRelay, Empty}
@@ -25,7 +24,6 @@ use Rattle.binlog_coords.specs.Index.{Index}
 use Rattle.server_model.specs.Links.{HasSize, IsFit, IsLinked, IsKept}
 use Rattle.server_model.specs.Worlds.{World, server_at, source_no, sources}
 use Rattle.server_model.specs.declared.answers.RotateAnswer.TheVariants as rotating
-use Rattle.server_model.specs.declared.answers.Unreachable.{Unreachable}
 use Rattle.server_model.specs.declared.changes.Ask.{Ask}
 use Rattle.server_model.specs.declared.changes.Ask.TheVariants as asking
 use Rattle.server_model.specs.declared.changes.Event.{Event}
@@ -36,7 +34,7 @@ use Rattle.server_model.specs.declared.changes.Threads.{Threads}
 use Rattle.server_model.specs.declared.changes.Threads.TheVariants as threads
 use Rattle.server_model.specs.declared.ledger.Ledger.{Ledger}
 use Rattle.server_model.specs.declared.server.Server.{Server}
-use Rattle.server_model.proofs.Keeps.{IsChange, IsAny, IsKept-any, IsKept-with, beside_of}
+use Rattle.server_model.proofs.Keeps.{IsKept-any, IsKept-with, beside_of}
 use Rattle.server_model.proofs.Lists.{set_self}
 
 -- the ledger of a server whose relay log is emptied, or not

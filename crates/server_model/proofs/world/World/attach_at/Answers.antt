@@ -1,4 +1,4 @@
-use Rattle.std.proofs.Common.{◌≡◌, ◌<◌, length, Some, arith, subst, sym, ◌∙◌}
+use Rattle.std.proofs.Common.{◌<◌, length, arith, subst, sym, ◌∙◌}
 use Rattle.server_model.specs.Worlds.{World}
 use Rattle.server_model.proofs.Lists.{slice_get-index}
 use Rattle.server_model.proofs.Changed.{IsKept-attached, joined-apart, target-in, attached-left}

@@ -1,8 +1,6 @@
-use Rattle.std.proofs.Common.{◌≡◌, ℕ, ◌+◌, ◌<◌, length, Some, false, subst, sym, ap, ◌∙◌, arith}
-use Rattle.std.specs.Prelude.{◌==◌}
+use Rattle.std.proofs.Common.{◌≡◌, ℕ, ◌<◌, length, Some, subst, sym, ap, ◌∙◌, arith}
 use Rattle.std.proofs.lemmas.Bool.{ne_eqb}
 use Rattle.binlog_coords.specs.Log.{end_of}
-use Rattle.server_model.specs.Desk.{rotated}
 use Rattle.server_model.specs.Worlds.{World, server_at}
 use Rattle.server_model.specs.declared.server.Server.{Server}
 use Rattle.server_model.proofs.Lists.{slice_get-index}
