@@ -1,0 +1,59 @@
+//! The list of filters by which a cluster is allowed.
+
+ghost use Rattle.std.specs.Prelude.{◌≡◌, Some, None, IfOk, IfErr, OnOk, IfSome};
+ghost use Rattle.cluster_filters.specs.Faults.{bad_place};
+ghost use Rattle.cluster_filters.specs.Forms.{texts_of, forms_of, first_bad, some_matches};
+
+use crate::Memory;
+use crate::fault::FilterFault;
+use crate::filter::Filter;
+use std::alloc::Global;
+use std::marker::Model;
+
+/// Filters for clusters, which contracts see as the list of their forms.
+#[derive(Drop)]
+pub struct Filters {
+    filters: Vec<Filter>,
+}
+
+impl Model for Filters {
+    ghost use Rattle.std.specs.Prelude.{List, map};
+    ghost use Rattle.cluster_filters.specs.Forms.{Form, form_seen};
+
+    ghost Value = { List Form };
+
+    ghost view = { λ f. map form_seen f.filters.items };
+}
+
+impl Filters {
+    /// Reads each form: `*` for every cluster, `alias=TEXT` for the cluster whose alias is exactly the
+    /// text, `alias~=REGEX` where the regular expression is found in the alias; any other form is a
+    /// regular expression that is found anywhere in the cluster's name. `BadPattern` tells the index of
+    /// the first form whose regular expression is none, or nests past the limit of `regex`; no list with
+    /// such a form is read.
+    pub fn read(alloc: Global, forms: &[String]) -> Result<Filters, FilterFault>
+        ensures value { IfOk result (λ filters. filters ≡ forms_of (texts_of forms.now)) }
+        ensures taken { OnOk result (first_bad (forms_of (texts_of forms.now)) ≡ None) }
+        ensures refused { IfErr result (λ fault. IfSome (bad_place fault)
+            (λ place. first_bad (forms_of (texts_of forms.now)) ≡ Some place)) }
+    {
+        let mut filters = Vec::new(alloc);
+        for (index, form) in forms.iter().enumerate() {
+            filters.push(Filter::read(alloc, index, form.as_str())?)?;
+        }
+        Ok(Filters { filters })
+    }
+
+    /// Whether some form matches the cluster with this name and this alias. `Memory` only for want of
+    /// memory.
+    pub fn matches(&self, alloc: Global, name: &str, alias: &str) -> Result<bool, Memory>
+        ensures { IfOk result (λ matched. matched ≡ some_matches name.now alias.now self.now) }
+    {
+        for filter in &self.filters {
+            if filter.matches(alloc, name, alias)? {
+                return Ok(true);
+            }
+        }
+        Ok(false)
+    }
+}

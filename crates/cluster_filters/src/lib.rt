@@ -1,0 +1,15 @@
+//! Which clusters a recovery may touch: filters over a cluster's name and alias, and patterns over a text.
+#![tactic(auto)]
+
+mod fault;
+mod filter;
+mod filters;
+mod pattern;
+#[cfg(test)]
+mod tests;
+
+pub use fault::FilterFault;
+pub use filters::Filters;
+pub use pattern::Pattern;
+/// Want of memory.
+pub use std::alloc::AllocError as Memory;
