@@ -1,0 +1,7 @@
+pub mod Chains
+pub mod Children
+pub mod Levels
+pub mod Marking
+pub mod Walking
+pub mod Members
+pub mod TreeWalks

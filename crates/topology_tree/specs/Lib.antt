@@ -1,0 +1,6 @@
+pub mod Following
+pub mod Forests
+pub mod Trees
+pub mod Marks
+pub mod Links
+pub mod LinksBy

@@ -1,0 +1,14 @@
+//! The forest that a list of sources makes: parents, children in order, what stands below what, and walks.
+#![tactic(auto)]
+
+mod forest;
+mod laws;
+mod links;
+mod loops;
+#[cfg(test)]
+mod tests;
+
+pub use forest::Forest;
+pub use laws::{sources_have_one_forest, walks_list_their_tree};
+/// Want of memory.
+pub use std::alloc::AllocError as Memory;
