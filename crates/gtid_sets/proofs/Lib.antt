@@ -1,0 +1,10 @@
+pub mod Line
+pub mod Joins
+pub mod Places
+pub mod Search
+pub mod Sweep
+pub mod Texts
+pub mod Pieces
+pub mod RoundTrip
+pub mod SameSets
+pub mod Count

@@ -1,0 +1,5 @@
+pub mod Gives
+pub mod Grammar
+pub mod Pairs
+pub mod Printed
+pub mod Sets

@@ -1,0 +1,30 @@
+//! What is wrong with a text that is no set of GTIDs.
+
+ghost use Rattle.std.specs.Prelude.{◌≡◌};
+ghost use Rattle.gtid_sets.specs.declared.fault.GtidFault.TheVariants.{Memory};
+
+use crate::Memory;
+
+/// The first fault of a text that is no set of GTIDs, with the place of its byte.
+#[derive(Clone, Copy, Debug, PartialEq, Eq)]
+pub enum GtidFault {
+    /// No hyphenated UUID, placed at its first byte; an empty part beside a comma, placed at the comma
+    /// or the end that follows it.
+    BadUuid(usize),
+    /// No `n` or `n-m`, or n above m, placed at the interval's first byte; a UUID alone, placed behind it.
+    BadInterval(usize),
+    /// A number 0, placed at the interval's first byte.
+    Zero(usize),
+    /// A number above `LARGEST`, placed at the interval's first byte.
+    TooLarge(usize),
+    /// Want of memory.
+    Memory,
+}
+
+impl From<Memory> for GtidFault {
+    ghost from_gives = { λ _ e. e ≡ Memory };
+
+    fn from(_e: Memory) -> GtidFault {
+        GtidFault::Memory
+    }
+}

@@ -1,0 +1,117 @@
+//! Intervals of GTIDs of one server.
+
+ghost use Rattle.std.specs.Prelude.{max, ◌≡◌, ◌+◌, ◌^◌, ◌<◌, ◌≤◌, ◌&&◌, ◌||◌, ℕ, nat_lt, nat_le};
+ghost use Rattle.gtid_sets.specs.Sets.{place, low, high, between, IsInterval};
+
+/// The largest number of a GTID.
+pub const LARGEST: u64 = 9_223_372_036_854_775_806;
+
+/// The GTIDs of one server from number `first` to number `last`.
+#[derive(Clone, Copy, Debug, PartialEq, Eq)]
+pub struct Interval {
+    /// The server's UUID, with the high byte first.
+    pub uuid: u128,
+    /// From 1 to `last`.
+    pub first: u64,
+    /// To `LARGEST`.
+    pub last: u64,
+}
+
+/// One GTID.
+#[derive(Clone, Copy)]
+pub struct Gtid {
+    pub uuid: u128,
+    pub n: u64,
+}
+
+impl Gtid {
+    /// Whether it stands before the other: by the UUID, then by the number.
+    #[tactic(auto, using(crate::proofs::Line::place_lt))]
+    pub fn is_before(self, other: Gtid) -> bool
+        ensures { result ≡ nat_lt (place self.uuid self.n) (place other.uuid other.n) }
+    {
+        self.uuid < other.uuid || (self.uuid == other.uuid && self.n < other.n)
+    }
+
+    /// The one that stands behind the other.
+    pub fn later(self, other: Gtid) -> Gtid
+        ensures { place result.uuid result.n ≡ max (place self.uuid self.n) (place other.uuid other.n) }
+    {
+        if self.is_before(other) { other } else { self }
+    }
+}
+
+impl Interval {
+    pub fn start(&self) -> Gtid
+        ensures uuid { result.uuid ≡ self.now.uuid }
+        ensures n { result.n ≡ self.now.first }
+    {
+        Gtid {
+            uuid: self.uuid,
+            n: self.first,
+        }
+    }
+
+    pub fn end(&self) -> Gtid
+        ensures uuid { result.uuid ≡ self.now.uuid }
+        ensures n { result.n ≡ self.now.last }
+    {
+        Gtid {
+            uuid: self.uuid,
+            n: self.last,
+        }
+    }
+
+    /// The first GTID, or the given one where that is later.
+    pub fn start_from(&self, front: Gtid) -> Gtid
+        ensures { place result.uuid result.n ≡ max (place front.uuid front.n) (low self.now) }
+    {
+        front.later(self.start())
+    }
+
+    /// Whether the last GTID stands before this one.
+    pub fn ends_before(&self, gtid: Gtid) -> bool
+        ensures { result ≡ nat_lt (high self.now) (place gtid.uuid gtid.n) }
+    {
+        self.end().is_before(gtid)
+    }
+
+    /// The GTID behind the last one.
+    pub fn behind(&self) -> Gtid
+        requires { IsInterval self.now }
+        ensures uuid { result.uuid ≡ self.now.uuid }
+        ensures n { result.n ≡ self.now.last + 1 }
+    {
+        Gtid {
+            uuid: self.uuid,
+            n: self.last + 1,
+        }
+    }
+
+    /// Whether the next interval begins in this one or just behind it, or before it.
+    #[tactic(auto, using(crate::proofs::Line::place_behind))]
+    pub fn reaches(&self, next: &Interval) -> bool
+        requires this { IsInterval self.now }
+        requires next { IsInterval next.now }
+        ensures { result ≡ nat_le (low next.now) (high self.now + 1) }
+    {
+        !self.behind().is_before(next.start())
+    }
+
+    /// Both as one.
+    pub fn joined(&self, next: &Interval) -> Interval
+        requires this { IsInterval self.now }
+        requires next { IsInterval next.now }
+        requires order { low self.now ≤ low next.now }
+        requires reaches { low next.now ≤ high self.now + 1 }
+        ensures is { IsInterval result }
+        ensures low { low result ≡ low self.now }
+        ensures has { (x : ℕ) → between x result ≡ (between x self.now || between x next.now) }
+    {
+        Interval {
+            uuid: self.uuid,
+            first: self.first,
+            last: self.last.max(next.last),
+        }
+    }
+}

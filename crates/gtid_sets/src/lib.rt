@@ -1,0 +1,18 @@
+//! Sets of MySQL's global transaction identifiers (GTIDs): exact operations, grammar and printing
+//! (MySQL 8.0 Reference Manual, "GTID Format and Storage").
+#![tactic(auto)]
+
+mod fault;
+mod grammar;
+mod interval;
+mod print;
+mod set;
+#[cfg(test)]
+mod tests;
+
+pub use fault::GtidFault;
+pub use interval::{Interval, LARGEST};
+pub use print::printed_reads;
+pub use set::{GtidSet, count_is_pairs, same_sets};
+/// Want of memory.
+pub use std::alloc::AllocError as Memory;
