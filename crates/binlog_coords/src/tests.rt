@@ -1,10 +1,14 @@
-ghost use Rattle.std.specs.Prelude.{◌≡◌, ◌<◌, length, IfOk};
+ghost use Rattle.std.specs.Prelude.{◌≡◌, ◌<◌, ◌≤◌, length, IfOk};
 
-use crate::{Coord, LogIndex, Next, print_coord};
+use crate::index::plain::PlainIndex;
+use crate::{Coord, CoordFault, LogIndex, Next, print_coord, read_coord};
 use std::alloc::Global;
+use std::process::Abort;
 use std::test::*;
 
-const COUNT: u32 = 5000;
+const COUNT: u32 = 1000000;
+
+const STEPS: u64 = 40;
 
 fn at(file: u32, pos: u64) -> Coord
     ensures { result ≡ record { file = file; pos = pos } }
@@ -67,9 +71,9 @@ fn prints(rt: HostRuntime) -> Result<(), Fail> {
 
 // Ten transactions of 100 bytes fill a file, and after each 25th the log is flushed.
 fn filled(alloc: Global) -> Result<LogIndex, Fail>
-    ensures { IfOk result (λ log. length log.log.entries ≡ 5000) }
+    ensures { IfOk result (λ log. length log.log.entries ≡ 1000000) }
 {
-    let mut log = LogIndex::with_room(alloc, 1000, u64::from(COUNT), 200)?;
+    let mut log = LogIndex::with_room(alloc, 1000, u64::from(COUNT), 40000)?;
     'pushes: while log.len() < u64::from(COUNT) {
         log.push(100);
         if log.len() % 25 == 0 && log.flushes_left() > 0 {
@@ -81,7 +85,7 @@ fn filled(alloc: Global) -> Result<LogIndex, Fail>
 
 // Where the transaction of this index ends there.
 fn filled_end(index: u32) -> Coord
-    requires { index < 5000 }
+    requires { index ≤ 1000000 }
 {
     at(
         index / 25 * 3 + index % 25 / 10 + 1,
@@ -89,17 +93,182 @@ fn filled_end(index: u32) -> Coord
     )
 }
 
+// What follows there: each tenth and each 25th ends its file.
+fn after_filled(index: u32) -> Next
+    requires { index < 1000000 }
+{
+    if index % 25 == 24 || index % 25 % 10 == 9 {
+        Next::Rotate(at(index / 25 * 3 + index % 25 / 10 + 2, 4))
+    } else {
+        Next::Entry(u64::from(index) + 1, filled_end(index + 1))
+    }
+}
+
 #[test]
 fn long_log(rt: HostRuntime) -> Result<(), Fail> {
     let log = filled(rt.alloc())?;
-    assert_eq!(rt; log.files(), 601);
-    assert_eq!(rt; log.end(), at(601, 4));
+    assert_eq!(rt; log.files(), 120001);
+    assert_eq!(rt; log.end(), at(120001, 4));
     assert_eq!(rt; log.flushes_left(), 0);
     for index in 0..COUNT {
         let end = filled_end(index);
         let k = u64::from(index) + 1;
         assert_eq!(rt; log.coord_after(k), end);
         assert_eq!(rt; log.place(end), Some(k));
+        assert_eq!(rt; step(&log, end), Some(after_filled(index)));
+    }
+    Ok(())
+}
+
+fn rotated(alloc: Global) -> Result<LogIndex, Fail>
+    ensures room { IfOk result (λ log. log.room ≡ 1) }
+    ensures empty { IfOk result (λ log. length log.log.entries ≡ 0) }
+{
+    let mut log = LogIndex::with_room(alloc, 100, 1, 4000000)?;
+    'rotations: while log.flushes_left() > 0 {
+        log.rotate();
+    }
+    Ok(log)
+}
+
+#[test]
+fn many_empty_files(rt: HostRuntime) -> Result<(), Fail> {
+    let mut log = rotated(rt.alloc())?;
+    log.push(10);
+    for (c, place, next) in [
+        (at(1, 4), Some(0), Some(Next::Rotate(at(2, 4)))),
+        (at(2000000, 4), Some(0), Some(Next::Rotate(at(2000001, 4)))),
+        (
+            at(4000001, 4),
+            Some(0),
+            Some(Next::Entry(0, at(4000001, 14))),
+        ),
+        (at(4000001, 14), Some(1), Some(Next::End)),
+        (at(4000002, 4), None, None),
+    ] {
+        assert_eq!(rt; log.place(c), place, "{c:?}");
+        assert_eq!(rt; step(&log, c), next, "{c:?}");
+    }
+    Ok(())
+}
+
+// The same push or rotation of both, by the number drawn.
+fn step_both(log: &mut LogIndex, plain: &mut PlainIndex, drawn: u64)
+    requires log_room { log.old.room ≡ STEPS }
+    requires plain_room { plain.old.room ≡ STEPS }
+    ensures log_room { log.new.room ≡ STEPS }
+    ensures plain_room { plain.new.room ≡ STEPS }
+{
+    if drawn % 4 == 0 {
+        if log.flushes_left() > 0 && plain.flushes_left() > 0 {
+            log.rotate();
+            plain.rotate();
+        }
+        return;
+    }
+    let size = (drawn / 4 % 120) as u32 + 1;
+    if log.len() < STEPS && plain.len() < STEPS {
+        log.push(size);
+        plain.push(size);
+    }
+}
+
+fn plain_step(plain: &PlainIndex, c: Coord) -> Option<Next> {
+    match plain.place(c) {
+        Some(_) => Some(plain.next_after(c)),
+        None => None,
+    }
+}
+
+fn same_in_file(rt: &impl Abort, log: &LogIndex, plain: &PlainIndex, file: u32) {
+    for pos in 0..330 {
+        let c = at(file, pos);
+        assert_eq!(rt; log.place(c), plain.place(c), "{c:?}");
+        assert_eq!(rt; step(log, c), plain_step(plain, c), "{c:?}");
+    }
+}
+
+fn same_ends(rt: &impl Abort, log: &LogIndex, plain: &PlainIndex) {
+    assert_eq!(rt; log.len(), plain.len());
+    assert_eq!(rt; log.files(), plain.files());
+    assert_eq!(rt; log.end(), plain.end());
+    assert_eq!(rt; log.flushes_left(), plain.flushes_left());
+    assert_eq!(rt; log.coord_after(0), plain.coord_after(0));
+    for k in 0..log.len() {
+        assert_eq!(rt; log.coord_after(k + 1), plain.coord_after(k + 1));
+    }
+}
+
+// Draws of a linear congruence, begun at its seed.
+fn both(alloc: Global, limit: u64, seed: u64) -> Result<(LogIndex, PlainIndex), Fail>
+    requires low { 100 ≤ limit }
+    requires high { limit ≤ 200 }
+{
+    let mut log = LogIndex::with_room(alloc, limit, STEPS, STEPS)?;
+    let mut plain = PlainIndex::with_room(alloc, limit, STEPS, STEPS)?;
+    let mut drawn = seed;
+    for _ in 0..STEPS {
+        drawn = drawn % 2147483648 * 1103515245 + 12345;
+        step_both(&mut log, &mut plain, drawn % 2147483648 / 65536);
+    }
+    Ok((log, plain))
+}
+
+#[test]
+fn agrees_with_plain(rt: HostRuntime) -> Result<(), Fail> {
+    for seed in 0..20 {
+        let (log, plain) = both(rt.alloc(), 100 + 5 * seed, seed)?;
+        assert!(rt; log.len() > STEPS / 2);
+        same_ends(&rt, &log, &plain);
+        for file in 0..45 {
+            same_in_file(&rt, &log, &plain, file);
+        }
+    }
+    Ok(())
+}
+
+#[test]
+fn reads(rt: HostRuntime) -> Result<(), Fail> {
+    for (text, want) in [
+        ("mysql-bin.000001:4", Ok(at(1, 4))),
+        ("mysql-bin.1000000:4", Ok(at(1000000, 4))),
+        ("mysql-bin.000001", Err(CoordFault::NoColon)),
+        ("mysql-bin.1:4", Err(CoordFault::BadFile)),
+        ("mysql-bin.000000:4", Err(CoordFault::BadFile)),
+        ("mysql-bin.000001:04", Err(CoordFault::BadPos)),
+        ("mysql-bin.000001:3", Err(CoordFault::BadPos)),
+        ("mysql-bin.999999:100", Ok(at(999999, 100))),
+        (
+            "mysql-bin.4294967295:18446744073709551615",
+            Ok(at(4294967295, 18446744073709551615)),
+        ),
+        ("", Err(CoordFault::NoColon)),
+        ("é", Err(CoordFault::NoColon)),
+        (":", Err(CoordFault::BadFile)),
+        (":4", Err(CoordFault::BadFile)),
+        ("mysql-bin.:4", Err(CoordFault::BadFile)),
+        ("mysql-bin:4", Err(CoordFault::BadFile)),
+        ("relay-bin.000001:4", Err(CoordFault::BadFile)),
+        (" mysql-bin.000001:4", Err(CoordFault::BadFile)),
+        ("mysql-bin.00001:4", Err(CoordFault::BadFile)),
+        ("mysql-bin.0000001:4", Err(CoordFault::BadFile)),
+        ("mysql-bin.+00001:4", Err(CoordFault::BadFile)),
+        ("mysql-bin.00000a:x", Err(CoordFault::BadFile)),
+        ("mysql-bin.00000é:4", Err(CoordFault::BadFile)),
+        ("mysql-bin.4294967296:4", Err(CoordFault::BadFile)),
+        ("mysql-bin.000001:4:4", Err(CoordFault::BadFile)),
+        ("mysql-bin.000001:4:", Err(CoordFault::BadFile)),
+        ("mysql-bin.000001:", Err(CoordFault::BadPos)),
+        ("mysql-bin.000001:x", Err(CoordFault::BadPos)),
+        ("mysql-bin.000001:+4", Err(CoordFault::BadPos)),
+        ("mysql-bin.000001:4 ", Err(CoordFault::BadPos)),
+        ("mysql-bin.000001:٤", Err(CoordFault::BadPos)),
+        (
+            "mysql-bin.000001:18446744073709551616",
+            Err(CoordFault::BadPos),
+        ),
+    ] {
+        assert_eq!(rt; read_coord(text), want, "at {text}");
     }
     Ok(())
 }

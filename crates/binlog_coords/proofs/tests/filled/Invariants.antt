@@ -3,7 +3,7 @@ use Rattle.binlog_coords.proofs.tests.filled.Given as goal
 
 -- the room stays
 abbrev pub invariant-pushes : goal.invariant-pushes
-invariant-pushes l = (l.log.room ≡ 5000) × (length l.log.log.entries ≤ 5000)
+invariant-pushes l = (l.log.room ≡ 1000000) × (length l.log.log.entries ≤ 1000000)
 
 abbrev pub decreases-pushes : goal.decreases-pushes
-decreases-pushes l = 5000 - length l.log.log.entries
+decreases-pushes l = 1000000 - length l.log.log.entries

@@ -1,0 +1,222 @@
+-- What a search by halves needs of a log's transactions and of its table.
+use Rattle.std.proofs.Common.{◌≡◌, ℕ, ◌+◌, ◌<◌, ◌≤◌, Bool, true, false, cond, List, [], ◌∷◌, ◌++◌, length, refl, sym, ◌∙◌, ap, inl, inr, Option, Some, None, arith, zero, suc, ◌||◌}
+use Rattle.std.specs.Prelude.{count_by, slice_get}
+use Rattle.std.specs.List.{list_any, prefix_len}
+use Rattle.std.specs.List.Sorted.{IsPartitionPoint}
+use Rattle.std.proofs.lemmas.List.Sums.{prefix_len_is}
+use Rattle.std.proofs.lemmas.Bool.{cases_Bool}
+use Rattle.std.proofs.lemmas.Bool.Decides.{nat_tests}
+use Rattle.binlog_coords.specs.declared.Coord.{Coord}
+use Rattle.binlog_coords.specs.declared.Entry.{Entry}
+use Rattle.binlog_coords.specs.declared.Next.{Next}
+use Rattle.binlog_coords.specs.declared.Next.TheVariants as next
+use Rattle.binlog_coords.specs.Log.{Log, is_before, is_at_or_before, same_coord, file_start, end_of, start_coord, end_coord, ends_by, touches, is_file_start, has_place, coord_after, end_or_first, entry_from, next_file, next_after}
+use Rattle.binlog_coords.specs.Table.{LieBetween, starts_at, next_at}
+use Rattle.binlog_coords.proofs.Places.{is_at_or_before-trans, count_by-cons}
+
+-- one more transaction at the end
+pub LieBetween-snoc : (from to to' : Coord) (es : List Entry) (e : Entry) → LieBetween from to es → is_at_or_before to (start_coord e) ≡ true → e.start < e.end
+    → is_at_or_before (end_coord e) to' ≡ true → LieBetween from to' (es ++ e ∷ [])
+LieBetween-snoc from to to' [] e h s some l = (is_at_or_before-trans from to (start_coord e) h s, some, l)
+LieBetween-snoc from to to' (x ∷ es) e h s some l = (h.0, h.1, LieBetween-snoc (end_coord x) to to' es e h.2 s some l)
+
+-- a later end
+pub LieBetween-later : (from to to' : Coord) (es : List Entry) → LieBetween from to es → is_at_or_before to to' ≡ true → LieBetween from to' es
+LieBetween-later from to to' [] h l = is_at_or_before-trans from to to' h l
+LieBetween-later from to to' (x ∷ es) h l = (h.0, h.1, LieBetween-later (end_coord x) to to' es h.2 l)
+
+-- a file's head is behind all of the file before it
+pub before-next : (file pos : ℕ) → is_at_or_before (record { file = file; pos = pos }) (file_start (file + 1)) ≡ true
+before-next file pos = grind (arith, nat_tests)
+
+pub LieBetween-ends : (from to : Coord) (es : List Entry) → LieBetween from to es → is_at_or_before from to ≡ true
+LieBetween-ends from to [] h = h
+LieBetween-ends from to (x ∷ es) h =
+    let rest = LieBetween-ends (end_coord x) to es h.2 in
+    let first = h.0 in
+    let some = h.1 in
+    grind (arith, nat_tests)
+
+-- after one more transaction, in the same file or with the next begun
+pub LieBetween-appended : (file start end : ℕ) (es es' : List Entry) → LieBetween (file_start 1) (record { file = file; pos = start }) es → start < end
+    → es' ≡ es ++ record { file = file; start = start; end = end } ∷ [] → LieBetween (file_start 1) (record { file = file; pos = end }) es'
+LieBetween-appended file start end es es' h some more =
+    let at_start : is_at_or_before (record { file = file; pos = start }) (record { file = file; pos = start }) ≡ true = grind (arith, nat_tests) in
+    let at_end : is_at_or_before (record { file = file; pos = end }) (record { file = file; pos = end }) ≡ true = grind (arith, nat_tests) in
+    rw more (LieBetween-snoc (file_start 1) (record { file = file; pos = start }) (record { file = file; pos = end }) es (record { file = file; start = start; end = end }) h at_start some at_end)
+
+pub LieBetween-filled : (file start end : ℕ) (es es' : List Entry) → LieBetween (file_start 1) (record { file = file; pos = start }) es → start < end
+    → es' ≡ es ++ record { file = file; start = start; end = end } ∷ [] → LieBetween (file_start 1) (file_start (file + 1)) es'
+LieBetween-filled file start end es es' h some more =
+    LieBetween-later (file_start 1) (record { file = file; pos = end }) (file_start (file + 1)) es' (LieBetween-appended file start end es es' h some more) (before-next file end)
+
+-- nothing has ended where the first begins, and nothing touches what lies before it
+none-ended : (c from to : Coord) (es : List Entry) → LieBetween from to es → is_at_or_before c from ≡ true → count_by (ends_by c) es ≡ 0
+none-ended c from to [] h l = refl
+none-ended c from to (x ∷ es) h l =
+    let first = h.0 in
+    let some = h.1 in
+    let not_yet : ends_by c x ≡ false = grind (arith, nat_tests) in
+    let within : is_at_or_before c (end_coord x) ≡ true = grind (arith, nat_tests) in
+    let rest = none-ended c (end_coord x) to es h.2 within in
+    rw (count_by-cons (ends_by c) x es, not_yet, rest) refl
+
+none-touched : (c from to : Coord) (es : List Entry) → LieBetween from to es → is_before c from ≡ true → list_any (touches c) es ≡ false
+none-touched c from to [] h l = refl
+none-touched c from to (x ∷ es) h l =
+    let first = h.0 in
+    let some = h.1 in
+    let not_here : touches c x ≡ false = grind (arith, nat_tests) in
+    let within : is_before c (end_coord x) ≡ true = grind (arith, nat_tests) in
+    let rest = none-touched c (end_coord x) to es h.2 within in
+    rw (not_here, rest) refl
+
+none-begins : (c from to : Coord) (k : ℕ) (es : List Entry) (none : Next) → LieBetween from to es → is_before c from ≡ true → entry_from c k es none ≡ none
+none-begins c from to k [] none h l = refl
+none-begins c from to k (x ∷ es) none h l =
+    let first = h.0 in
+    let some = h.1 in
+    let not_here : same_coord (start_coord x) c ≡ false = grind (arith, nat_tests) in
+    let within : is_before c (end_coord x) ≡ true = grind (arith, nat_tests) in
+    let rest = none-begins c (end_coord x) to (suc k) es none h.2 within in
+    rw (not_here, rest) refl
+
+-- those that end by a coordinate stand in front
+pub count-is-prefix : (c from to : Coord) (es : List Entry) → LieBetween from to es → count_by (ends_by c) es ≡ prefix_len (ends_by c) es
+count-is-prefix c from to [] h = refl
+count-is-prefix c from to (x ∷ es) h =
+    elim (cases_Bool (ends_by c x)) [
+      | inl ended ↦
+          let rest = count-is-prefix c (end_coord x) to es h.2 in
+          rw (count_by-cons (ends_by c) x es, ended, rest) refl
+      | inr later ↦
+          let within : is_at_or_before c (end_coord x) ≡ true = grind (arith, nat_tests) in
+          let rest = none-ended c (end_coord x) to es h.2 within in
+          rw (count_by-cons (ends_by c) x es, later, rest) refl
+    ]
+
+-- the boundary that a search by halves finds is the count of those in front that pass
+pub boundary-is-prefix : (p : Entry → Bool) (xs : List Entry) (i : ℕ) → i ≤ length xs → IsPartitionPoint (λ y. p y ≡ true) (λ y. p y ≡ false) xs i → i ≡ prefix_len p xs
+boundary-is-prefix p xs i within point =
+    sym (prefix_len_is p xs i (record { file = 0; start = 0; end = 0 }) within (λ k below. point.0 k _ (omega arith) below) (λ below. point.1 i _ (omega arith) below))
+
+-- a transaction, if there is one, ends at c
+abbrev end_stands : Coord → Option Entry → Bool
+end_stands c None = false
+end_stands c (Some e) = same_coord (end_coord e) c
+
+-- the k-th transaction ends at c
+abbrev ended_at : Coord → List Entry → ℕ → Bool
+ended_at c es zero = false
+ended_at c es (suc k) = end_stands c (slice_get es k)
+
+-- the last that ended by a coordinate and the next are the only ones that can touch it
+any-touches : (c from to : Coord) (es : List Entry) → LieBetween from to es → (k : ℕ) → k ≡ count_by (ends_by c) es
+    → list_any (touches c) es ≡ (ended_at c es k || starts_at c (slice_get es k))
+any-touches c from to [] h zero e = refl
+any-touches c from to [] h (suc k) e = refl
+any-touches c from to (x ∷ es) h k e = go k (ends_by c x) refl (e ∙ count_by-cons (ends_by c) x es) (any-touches c (end_coord x) to es h.2)
+  where
+    some : x.start < x.end
+    some = h.1
+
+    not_last : (j : ℕ) → suc j ≡ count_by (ends_by c) es → (b : Bool) → is_at_or_before c (end_coord x) ≡ b → same_coord (end_coord x) c ≡ false
+    not_last j count true within = let none = none-ended c (end_coord x) to es h.2 within in absurd (omega arith)
+    not_last j count false past = grind (arith, nat_tests)
+
+    ended : (k : ℕ) → ends_by c x ≡ true → k ≡ count_by (ends_by c) es → list_any (touches c) es ≡ (ended_at c es k || starts_at c (slice_get es k))
+        → list_any (touches c) (x ∷ es) ≡ (ended_at c (x ∷ es) (suc k) || starts_at c (slice_get es k))
+    ended zero by count rest =
+        let begun : same_coord (start_coord x) c ≡ false = grind (arith, nat_tests) in rw (begun, rest) refl
+    ended (suc j) by count rest =
+        let begun : same_coord (start_coord x) c ≡ false = grind (arith, nat_tests) in
+        let past : same_coord (end_coord x) c ≡ false = not_last j count (is_at_or_before c (end_coord x)) refl in
+        rw (begun, past, rest) refl
+
+    later : ends_by c x ≡ false → list_any (touches c) (x ∷ es) ≡ (ended_at c (x ∷ es) zero || starts_at c (Some x))
+    later after =
+        let past : same_coord (end_coord x) c ≡ false = grind (arith, nat_tests) in
+        let before : is_before c (end_coord x) ≡ true = grind (arith, nat_tests) in
+        let rest = none-touched c (end_coord x) to es h.2 before in
+        at (same_coord (start_coord x) c) (same_coord (end_coord x) c) (list_any (touches c) es) past rest
+      where
+        at : (s e a : Bool) → e ≡ false → a ≡ false → ((s || e) || a) ≡ s
+        at true e a p q = refl
+        at false e a p q = rw (p, q) refl
+
+    go : (k : ℕ) (b : Bool) → ends_by c x ≡ b → k ≡ cond b 1 0 + count_by (ends_by c) es
+        → ((k : ℕ) → k ≡ count_by (ends_by c) es → list_any (touches c) es ≡ (ended_at c es k || starts_at c (slice_get es k)))
+        → list_any (touches c) (x ∷ es) ≡ (ended_at c (x ∷ es) k || starts_at c (slice_get (x ∷ es) k))
+    go zero true by count rest = absurd (omega arith)
+    go (suc k) true by count rest = let here : k ≡ count_by (ends_by c) es = omega arith in ended k by here (rest k here)
+    go zero false after count rest = later after
+    go (suc k) false after count rest =
+        let within : is_at_or_before c (end_coord x) ≡ true = grind (arith, nat_tests) in
+        let none = none-ended c (end_coord x) to es h.2 within in absurd (omega arith)
+
+-- a coordinate has a place exactly where a file begins, the k-th transaction ends, or the next begins
+pub has_place-at : (log : Log) (c : Coord) → LieBetween (file_start 1) (end_of log) log.entries → (k : ℕ) → k ≡ count_by (ends_by c) log.entries
+    → has_place log c ≡ (is_file_start log c || (same_coord (coord_after log k) c || starts_at c (slice_get log.entries k)))
+has_place-at log c h k e = go k (is_file_start log c) refl (any-touches c (file_start 1) (end_of log) log.entries h k e)
+  where
+    some_file : is_at_or_before (file_start 1) (end_of log) ≡ true
+    some_file = LieBetween-ends (file_start 1) (end_of log) log.entries h
+
+    not_first : is_file_start log c ≡ false → same_coord (file_start 1) c ≡ false
+    not_first other = let files = some_file in grind (arith, nat_tests)
+
+    same : (o : Option Entry) → is_file_start log c ≡ false → end_stands c o ≡ same_coord (end_or_first o) c
+    same None other = sym (not_first other)
+    same (Some x) other = refl
+
+    ended : (k : ℕ) → is_file_start log c ≡ false → ended_at c log.entries k ≡ same_coord (coord_after log k) c
+    ended zero other = sym (not_first other)
+    ended (suc j) other = same (slice_get log.entries j) other
+
+    go : (k : ℕ) (b : Bool) → is_file_start log c ≡ b → list_any (touches c) log.entries ≡ (ended_at c log.entries k || starts_at c (slice_get log.entries k))
+        → (b || list_any (touches c) log.entries) ≡ (b || (same_coord (coord_after log k) c || starts_at c (slice_get log.entries k)))
+    go k true is any = refl
+    go k false other any = any ∙ ap (λ b. b || starts_at c (slice_get log.entries k)) (ended k other)
+
+-- the first that begins at a coordinate is the one behind those that have ended
+pub entry_from-at : (c from to : Coord) (i : ℕ) (es : List Entry) (none : Next) → LieBetween from to es → (k n : ℕ) → k ≡ count_by (ends_by c) es → n ≡ i + k
+    → entry_from c i es none ≡ next_at c n (slice_get es k) none
+entry_from-at c from to i [] none h k n e m = refl
+entry_from-at c from to i (x ∷ es) none h k n e m =
+    go k (ends_by c x) refl (e ∙ count_by-cons (ends_by c) x es) m (entry_from-at c (end_coord x) to (suc i) es none h.2)
+  where
+    some : x.start < x.end
+    some = h.1
+
+    at : (b : Bool) (n : ℕ) (rest : Next) → n ≡ i → rest ≡ none → cond b (next.Entry i (end_coord x)) rest ≡ cond b (next.Entry n (end_coord x)) none
+    at true n rest p q = ap (λ j. next.Entry j (end_coord x)) (sym p)
+    at false n rest p q = q
+
+    go : (k : ℕ) (b : Bool) → ends_by c x ≡ b → k ≡ cond b 1 0 + count_by (ends_by c) es → n ≡ i + k
+        → ((k n : ℕ) → k ≡ count_by (ends_by c) es → n ≡ suc i + k → entry_from c (suc i) es none ≡ next_at c n (slice_get es k) none)
+        → entry_from c i (x ∷ es) none ≡ next_at c n (slice_get (x ∷ es) k) none
+    go zero true by count number rest = absurd (omega arith)
+    go (suc j) true by count number rest =
+        let begun : same_coord (start_coord x) c ≡ false = grind (arith, nat_tests) in
+        rw begun (rest j n (omega arith) (omega arith))
+    go zero false after count number rest =
+        let before : is_before c (end_coord x) ≡ true = grind (arith, nat_tests) in
+        at (same_coord (start_coord x) c) n (entry_from c (suc i) es none) (omega arith) (none-begins c (end_coord x) to (suc i) es none h.2 before)
+    go (suc j) false after count number rest =
+        let within : is_at_or_before c (end_coord x) ≡ true = grind (arith, nat_tests) in
+        let none = none-ended c (end_coord x) to es h.2 within in absurd (omega arith)
+
+-- the same where equal values stand for the parts
+pub has_place-by : (log seen : Log) (c d : Coord) (k : ℕ) (es : List Entry) (heads ends begins : Bool) → log ≡ seen → LieBetween (file_start 1) (end_of log) log.entries
+    → k ≡ count_by (ends_by c) seen.entries → heads ≡ is_file_start log c → d ≡ coord_after seen k → ends ≡ same_coord d c → es ≡ log.entries → begins ≡ starts_at c (slice_get es k)
+    → has_place seen c ≡ (heads || (ends || begins))
+has_place-by log seen c d k es heads ends begins view h count at_head at at_end same at_start =
+    rw (at_head, at_end, at, at_start, same, ← view)
+    (has_place-at log c h k (count ∙ ap (λ (x : Log). count_by (ends_by c) x.entries) (sym view)))
+
+pub next_after-by : (log seen : Log) (c : Coord) (k : ℕ) (es : List Entry) (none : Next) → log ≡ seen → LieBetween (file_start 1) (end_of log) log.entries
+    → k ≡ count_by (ends_by c) seen.entries → none ≡ next_file log c → es ≡ log.entries
+    → next_at c k (slice_get es k) none ≡ next_after seen c
+next_after-by log seen c k es none view h count other same =
+    rw (other, same, ← view)
+    (sym (entry_from-at c (file_start 1) (end_of log) 0 log.entries (next_file log c) h k k (count ∙ ap (λ (x : Log). count_by (ends_by c) x.entries) (sym view)) (omega arith)))
