@@ -19,7 +19,8 @@ impl Model for Label {
 }
 
 impl Label {
-    ghost use Rattle.std.specs.Prelude.{◌≡◌, IfOk, string_bytes};
+    ghost use Rattle.std.specs.Prelude.{◌≡◌, ◌↔◌, IfOk, IsTrue, nat_eq, string_bytes};
+    ghost use Rattle.std.specs.Cmp.Lexicographic.{pointwise};
 
     /// The label of this text. It takes no memory.
     pub fn new(text: String) -> Label
@@ -41,6 +42,14 @@ impl Label {
     {
         let text = String::from_str(alloc, self.text.as_str())?;
         Ok(Label { text })
+    }
+
+    /// Whether the texts are the same, byte for byte.
+    pub fn is_same(&self, other: &Label) -> bool
+        ensures same { result ≡ pointwise nat_eq self.now other.now }
+        ensures equal { IsTrue result ↔ (self.now ≡ other.now) }
+    {
+        self.text.as_bytes() == other.text.as_bytes()
     }
 
     /// Gives the text back. It takes no memory.

@@ -76,7 +76,7 @@ pub struct Settings {
 }
 
 impl Settings {
-    ghost use Rattle.std.specs.Prelude.{◌≡◌, IfOk};
+    ghost use Rattle.std.specs.Prelude.{◌≡◌, ◌↔◌, IfOk, IsTrue};
 
     /// The same settings once more.
     pub fn copy(&self, alloc: Global) -> Result<Settings, Memory>
@@ -91,6 +91,17 @@ impl Settings {
             logs: self.logs,
             limit: self.limit,
         })
+    }
+
+    /// Whether the settings are equal.
+    pub fn is_same(&self, other: &Settings) -> bool
+        ensures { IsTrue result ↔ (self.now ≡ other.now) }
+    {
+        self.name.is_same(&other.name)
+            && self.cluster.is_same(&other.cluster)
+            && (self.uuid == other.uuid && self.server_id == other.server_id)
+            && (self.version == other.version && self.logs == other.logs)
+            && self.limit == other.limit
     }
 }
 
@@ -115,6 +126,7 @@ mod tests {
             limit: 4096,
         };
         let copy = settings.copy(rt.alloc())?;
+        assert!(rt; copy.is_same(&settings));
         assert!(rt; copy.name.is_same(&settings.name));
         assert_eq!(rt;
             (copy.uuid, copy.server_id, copy.version),

@@ -1,0 +1,16 @@
+pub mod Listed
+pub mod Logs
+pub mod Servers
+pub mod Kin
+pub mod Flaws
+pub mod Opening
+pub mod OpeningBy
+pub mod Sound
+pub mod SameInits
+pub mod Taking
+pub mod Laying
+pub mod ServerTests
+pub mod Places
+pub mod KinTable
+pub mod Checks
+pub mod Apart

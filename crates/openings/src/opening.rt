@@ -1,0 +1,144 @@
+//! Openings.
+
+ghost use Rattle.std.specs.Prelude.{◌≡◌, ◌↔◌, IfOk, IsTrue};
+ghost use Rattle.openings.specs.declared.opening.OpeningFault.TheVariants.{Memory};
+
+use crate::ServerInit;
+use crate::check::check_servers;
+use orch_base::{Memory, ServerNo};
+use std::alloc::Global;
+use std::marker::Model;
+
+/// What is wrong with the servers of a scenario, in the order in which it is looked for: each flaw at all servers before
+/// the next one.
+#[derive(Clone, Copy, Debug, PartialEq, Eq)]
+pub enum Flaw {
+    /// A server has both a history and a source.
+    BothGiven,
+    /// The server's source has no binary log.
+    SourceNotLogging,
+    /// The server is below itself.
+    Loop,
+    /// The server's source, or the origin of a part of its history, is of another cluster.
+    OtherCluster,
+    /// The server has executed more transactions than its source.
+    TooMany,
+    /// The flush points fall, pass the number of transactions, or stand at a server without a log; or the executed
+    /// coordinate hasn't the place of what was executed, or the read one has no place or stands before it.
+    BadPlace,
+    /// The server's history isn't kin to those of the others.
+    NotKin,
+}
+
+/// Why servers were refused.
+#[derive(Clone, Copy, Debug, PartialEq, Eq)]
+pub enum OpeningFault {
+    /// The first flaw, and the first server that has it.
+    Flawed(Flaw, ServerNo),
+    /// Want of memory.
+    Memory,
+}
+
+impl From<Memory> for OpeningFault {
+    ghost from_gives = { λ _ e. e ≡ Memory };
+
+    fn from(_e: Memory) -> OpeningFault {
+        OpeningFault::Memory
+    }
+}
+
+fn copy_servers(alloc: Global, servers: &[ServerInit]) -> Result<Vec<ServerInit>, Memory>
+    ensures { IfOk result (λ copy. copy.items ≡ servers.now) }
+{
+    let mut copy = Vec::with_capacity(alloc, servers.len())?;
+    for server in servers {
+        copy.push(server.copy(alloc)?)?;
+    }
+    Ok(copy)
+}
+
+fn same_servers(servers: &[ServerInit], others: &[ServerInit]) -> bool
+    ensures { IsTrue result ↔ (servers.now ≡ others.now) }
+{
+    if servers.len() != others.len() {
+        return false;
+    }
+    for (n, server) in servers.iter().enumerate() {
+        if !server.is_same(&others[n]) {
+            return false;
+        }
+    }
+    true
+}
+
+/// The servers of a scenario, sound and within the limits.
+#[derive(Drop)]
+pub struct Opening {
+    servers: Vec<ServerInit>,
+    gtid: bool,
+}
+
+impl Model for Opening {
+    ghost use Rattle.openings.specs.Opening.{Opened};
+
+    ghost Value = { Opened };
+
+    ghost use Rattle.openings.specs.OpeningBy.{opened_of, IsCheckedInside};
+
+    ghost view = { opened_of };
+
+    ghost invariant = { IsCheckedInside };
+}
+
+impl Opening {
+    ghost use Rattle.std.specs.Prelude.{◌≡◌, ◌↔◌, IfOk, IsTrue};
+    ghost use Rattle.orch_base.specs.Gives.{Gives};
+    ghost use Rattle.openings.specs.Opening.{checked, flaw_of, opening, IsChecked, IsListed};
+
+    /// The opening of these servers, whose numbers are in their ranges, if they have no flaw. Each flaw is looked for at
+    /// all servers before the next one. The time is that of the servers, squared, and of the servers times the listed
+    /// transactions.
+    pub fn check(
+        alloc: Global,
+        servers: Vec<ServerInit>,
+        gtid: bool,
+    ) -> Result<Opening, OpeningFault>
+        requires { IsListed (opening servers.items gtid) }
+        ensures { Gives (λ o. o) flaw_of result (checked servers.items gtid) }
+    {
+        check_servers(alloc, &servers)?;
+        Ok(Opening { servers, gtid })
+    }
+
+    /// The servers in the scenario's order.
+    pub fn servers(&self) -> &[ServerInit]
+        ensures value { result.now ≡ self.now.servers }
+        ensures checked { IsChecked self.now }
+    {
+        &self.servers
+    }
+
+    /// Whether the servers use GTIDs.
+    pub fn gtid(&self) -> bool
+        ensures { result ≡ self.now.gtid }
+    {
+        self.gtid
+    }
+    /// The same opening once more. `Err` is want of memory.
+    pub fn copy(&self, alloc: Global) -> Result<Opening, Memory>
+        ensures { IfOk result (λ o. o ≡ self.now) }
+    {
+        let servers = copy_servers(alloc, &self.servers)?;
+        Ok(Opening {
+            servers,
+            gtid: self.gtid,
+        })
+    }
+
+    /// Whether the openings are equal.
+    pub fn same(&self, other: &Opening) -> bool
+        ensures { IsTrue result ↔ (self.now ≡ other.now) }
+    {
+        same_servers(&self.servers, &other.servers) && self.gtid == other.gtid
+    }
+}
