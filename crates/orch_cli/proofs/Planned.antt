@@ -10,8 +10,9 @@ use Rattle.orch_base.specs.declared.server.ServerNo.{ServerNo}
 use Rattle.orch_base.specs.declared.source.TheConstants.{MAX_SCENARIO_LEN}
 use Rattle.orch_base.specs.Gives.{◌>>=◌}
 use Rattle.orch_base.specs.Names.{HostPort, same_name}
-use Rattle.server_model.specs.declared.opening.Part.{Part}
-use Rattle.server_model.specs.Opening.{transactions, IsOwn}
+use Rattle.openings.specs.declared.part.Part.{Part}
+use Rattle.openings.specs.Listed.{transactions}
+use Rattle.openings.specs.Opening.{IsPart}
 use Rattle.orch_core.specs.declared.turn.Turn.{Turn}
 use Rattle.orch_core.specs.declared.turn.Turn.TheVariants.{Write, Fetch, Apply}
 use Rattle.orch_core.specs.Turns.{IsTurn}
@@ -98,10 +99,10 @@ part_after_three name parts = name_in parts.0 >>= part_after_origin name parts
 abbrev part_after_items : HostPort → Items → Result Part Fault
 part_after_items name items = three_of items >>= part_after_three name
 
-part_own : (size count : ℕ) → (1 ≤ size) × (size ≤ 1000000) → IsOwn 0 (part size count)
-part_own size count bounds = record { origin = refl; some = bounds.0; size = bounds.1 }
+part_own : (size count : ℕ) → (1 ≤ size) × (size ≤ 1000000) → (1 ≤ count) × (count ≤ 4000000) → IsPart 1 (part size count)
+part_own size count bounds counts = record { origin = omega arith; some = bounds.0; size = bounds.1; count = counts.0; few = counts.1 }
 
-part_has : (name : HostPort) (d : Data) (p : Part) → part_in name d ≡ Ok p → IsOwn 0 p
+part_has : (name : HostPort) (d : Data) (p : Part) → part_in name d ≡ Ok p → IsPart 1 p
 unfolding part_in
 part_has name d p e =
     let a = bind_ok (built (as_array d)) (part_after_items name) p e in
@@ -110,13 +111,13 @@ part_has name d p e =
     let f = bind_ok (holds (same_name c.0 name)) (part_after_own b.0) p c.2 in
     let g = bind_ok (number_in 1 1000000 b.0.1) (part_after_size b.0.2) p f.2 in
     let h = bind_ok (number_in 1 4000000 b.0.2) (λ count. Ok (part g.0 count)) p g.2 in
-    from_ok (IsOwn 0) (part g.0 h.0) p h.2 (part_own g.0 h.0 (number_bounds 1 1000000 b.0.1 g.0 g.1))
+    from_ok (IsPart 1) (part g.0 h.0) p h.2 (part_own g.0 h.0 (number_bounds 1 1000000 b.0.1 g.0 g.1) (number_bounds 1 4000000 b.0.2 h.0 h.1))
 
-history_has : (name : HostPort) (d : Data) (ps : List Part) → history_in name d ≡ Ok ps → All (IsOwn 0) ps
+history_has : (name : HostPort) (d : Data) (ps : List Part) → history_in name d ≡ Ok ps → All (IsPart 1) ps
 unfolding history_in
 history_has name d ps e =
     let a = bind_ok (built (as_array d)) (each (part_in name)) ps e in
-    each_has (IsOwn 0) (part_in name) (part_has name) a.0 ps a.2
+    each_has (IsPart 1) (part_in name) (part_has name) a.0 ps a.2
 
 counted_ok : (b : Bool) (n m : ℕ) → ◌≡◌ {A = Result ℕ Fault} (cond b (Ok n) (Err NotBuilt)) (Ok m) → (b ≡ true) × (n ≡ m)
 counted_ok true n m e = (refl, cc)
@@ -125,7 +126,7 @@ counted_ok false n m e = absurd cc
 -- ---- the servers
 
 record IsMaster (m : Master) : Type 0 where
-  own : All (IsOwn 0) m.history
+  own : All (IsPart 1) m.history
   count : m.transactions ≡ transactions m.history
   few : transactions m.history ≤ 4000000
 
@@ -152,7 +153,7 @@ master_has d m e =
     let c = bind_ok (name_in b.0) (master_after_name d) m b.2 in
     let f = bind_ok (optional (history_in c.0) [] (get (codes "history") d)) (master_after_history c.0) m c.2 in
     let g = bind_ok (counted f.0) (λ count. Ok (master c.0 f.0 count)) m f.2 in
-    let own : All (IsOwn 0) f.0 = optional_has (All (IsOwn 0)) (history_in c.0) [] (history_has c.0) (All-nil (IsOwn 0)) (get (codes "history") d) f.0 f.1 in
+    let own : All (IsPart 1) f.0 = optional_has (All (IsPart 1)) (history_in c.0) [] (history_has c.0) (All-nil (IsPart 1)) (get (codes "history") d) f.0 f.1 in
     let test = counted_ok (leb (transactions f.0) 4000000) (transactions f.0) g.0 g.1 in
     from_ok IsMaster (master c.0 f.0 g.0) m g.2
     (record { own = own; count = sym test.1; few = leb-true (transactions f.0) 4000000 test.0 })
@@ -181,7 +182,16 @@ replica_after_named m d named = name_in named >>= replica_after_name m d
 abbrev replica_after_keys : Master → Data → Unit {0} → Result Replica Fault
 replica_after_keys m d keys = needed (codes "name") d >>= replica_after_named m d
 
-replica_has : (m : Master) (d : Data) (r : Replica) → replica_in m d ≡ Ok r → r.executed ≤ m.transactions
+-- what a replica keeps to under its master
+record IsReplica (m : Master) (r : Replica) : Type 0 where
+  other : same_name r.name m.name ≡ false
+  executed : r.executed ≤ m.transactions
+
+not_true : (b : Bool) → not b ≡ true → b ≡ false
+not_true true e = absurd cc
+not_true false e = refl
+
+replica_has : (m : Master) (d : Data) (r : Replica) → replica_in m d ≡ Ok r → IsReplica m r
 unfolding replica_in
 replica_has m d r e =
     let a = bind_ok (object_with (codes "name" ∷ codes "source" ∷ codes "executed" ∷ []) (as_object d)) (replica_after_keys m d) r e in
@@ -194,11 +204,11 @@ replica_has m d r e =
     let l = bind_ok (optional (number_in 0 m.transactions) 0 (get (codes "executed") d)) (λ executed. Ok (replica c.0 executed)) r k.2 in
     let most : l.0 ≤ m.transactions =
     optional_has (λ n. n ≤ m.transactions) (number_in 0 m.transactions) 0 (λ v n ok. (number_bounds 0 m.transactions v n ok).1) (omega arith) (get (codes "executed") d) l.0 l.1 in
-    from_ok (λ (x : Replica). x.executed ≤ m.transactions) (replica c.0 l.0) r l.2 most
+    from_ok (IsReplica m) (replica c.0 l.0) r l.2 (record { other = not_true (same_name c.0 m.name) (holds_ok (not (same_name c.0 m.name)) f.0 f.1); executed = most })
 
 record IsServers (s : Servers) : Type 0 where
   master : IsMaster s.master
-  executed : IfSome s.replica (λ r. r.executed ≤ s.master.transactions)
+  replica : IfSome s.replica (IsReplica s.master)
 
 abbrev servers : Master → Option Replica → Servers
 servers m r = record { master = m; replica = r }
@@ -207,14 +217,14 @@ alone_has : (d : Data) (s : Servers) → alone d ≡ Ok s → IsServers s
 unfolding alone
 alone_has d s e =
     let a = bind_ok (master_in d) (λ m. Ok (servers m None)) s e in
-    from_ok IsServers (servers a.0 None) s a.2 (record { master = master_has d a.0 a.1; executed = tt })
+    from_ok IsServers (servers a.0 None) s a.2 (record { master = master_has d a.0 a.1; replica = tt })
 
 both_has : (m r : Data) (s : Servers) → both m r ≡ Ok s → IsServers s
 unfolding both
 both_has m r s e =
     let a = bind_ok (master_in m) (λ x. replica_in x r >>= λ y. Ok (servers x (Some y))) s e in
     let b = bind_ok (replica_in a.0 r) (λ y. Ok (servers a.0 (Some y))) s a.2 in
-    from_ok IsServers (servers a.0 (Some b.0)) s b.2 (record { master = master_has m a.0 a.1; executed = replica_has a.0 r b.0 b.1 })
+    from_ok IsServers (servers a.0 (Some b.0)) s b.2 (record { master = master_has m a.0 a.1; replica = replica_has a.0 r b.0 b.1 })
 
 servers_have : (ds : Items) (s : Servers) → servers_in ds ≡ Ok s → IsServers s
 servers_have no_items s e = absurd cc
@@ -308,11 +318,20 @@ plan_has s ts have all small =
       own = have.master.own;
       count = count;
       few = have.master.few;
-      executed = subst (λ n. IfSome s.replica (λ r. r.executed ≤ n)) count have.executed;
+      other = others s.replica have.replica;
+      executed = subst (λ n. IfSome s.replica (λ r. r.executed ≤ n)) count (most s.replica have.replica);
       turns = all;
       few_turns = leb-true (length ts) 1000000 tests.0;
       room = subst (λ n. server_count s.replica * (n + count_by is_write ts) ≤ 4000000) count (leb-true _ 4000000 tests.1);
     }
+  where
+    others : (o : Option Replica) → IfSome o (IsReplica s.master) → IfSome o (λ r. same_name r.name s.master.name ≡ false)
+    others None h = tt
+    others (Some r) h = h.other
+
+    most : (o : Option Replica) → IfSome o (IsReplica s.master) → IfSome o (λ r. r.executed ≤ s.master.transactions)
+    most None h = tt
+    most (Some r) h = h.executed
 
 abbrev plan_after_turns : Servers → List Turn → Result Plan Fault
 plan_after_turns s ts = holds (is_small s ts) >>= λ small. Ok (plan s ts)

@@ -6,7 +6,7 @@ use Rattle.orch_base.specs.declared.failed.NotRead.{NotRead}
 use Rattle.orch_base.specs.declared.failed.NotRead.TheVariants as not_read
 use Rattle.orch_base.specs.Gives.{Gives}
 use Rattle.orch_base.specs.Whole.{whole, length_fault}
-use Rattle.orch_core.proofs.Runs.{Safe-run}
+use Rattle.orch_core.proofs.Runs.{Safe-quiet_run, Placed-run}
 use Rattle.orch_cli.specs.declared.reading.fault.Fault.TheVariants.{TooLong}
 use Rattle.orch_cli.specs.Ends.{err_of, Took, IsSafeRun}
 use Rattle.orch_cli.specs.Stops.{text_in}
@@ -44,4 +44,4 @@ refused (Some bytes) before after fb fa words status result is same not_taken to
 -- each state of the run of a scenario that was read
 pub safe_run : (left : Option (List ℕ)) → IfSome left IsSafeRun
 safe_run None = tt
-safe_run (Some bytes) = λ s k read. Safe-run s k (scenario_in_sound bytes s read)
+safe_run (Some bytes) = λ s k read. (Safe-quiet_run s k (scenario_in_sound bytes s read), Placed-run s k (scenario_in_sound bytes s read))

@@ -1,7 +1,7 @@
 -- How a call ends.
 use Rattle.std.specs.Prelude.{◌≡◌, ℕ, ◌⊎◌, ◌==◌, List, [], codes, if◌then◌else◌, true, take, Option, Ok}
 use Rattle.std.specs.Io.KnownBytes.{Appends}
-use Rattle.server_model.specs.Safe.{Safe}
+use Rattle.server_model.specs.Safe.{Safe, Placed, IsQuiet}
 use Rattle.orch_base.specs.Causes.{Rose}
 use Rattle.orch_base.specs.Ends.{AppendsFront}
 use Rattle.orch_core.specs.declared.scenario.Scenario.{Scenario}
@@ -40,6 +40,8 @@ IsComplete words bytes status source_before source_after out_before out_after be
     (s : Scenario) → is_taken words ≡ true → scenario_in bytes ≡ Ok s → ¬ (Rose source_before source_after) → ¬ (Rose out_before out_after)
     → ((status ≡ (run_answer s).status) × Appends before after (run_answer s).out) ⊎ (status ≡ 6)
 
--- every state of the run of the scenario that these bytes are is safe
+-- every quiet state of the run of the scenario that these bytes are is safe, and every state is placed
 abbrev pub IsSafeRun : List ℕ → Type 0
-IsSafeRun bytes = (s : Scenario) (k : ℕ) → scenario_in bytes ≡ Ok s → Safe (run_turns (start s) (take k s.turns)).world
+IsSafeRun bytes = (s : Scenario) (k : ℕ) → scenario_in bytes ≡ Ok s
+    → (IsQuiet (run_turns (start s) (take k s.turns)).world → Safe (run_turns (start s) (take k s.turns)).world)
+    × Placed (run_turns (start s) (take k s.turns)).world

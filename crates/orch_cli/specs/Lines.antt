@@ -9,6 +9,10 @@ use Rattle.server_model.specs.declared.answers.FetchAnswer.{FetchAnswer}
 use Rattle.server_model.specs.declared.answers.FetchAnswer.TheVariants as fetched
 use Rattle.server_model.specs.declared.answers.ApplyAnswer.{ApplyAnswer}
 use Rattle.server_model.specs.declared.answers.ApplyAnswer.TheVariants as applied
+use Rattle.server_model.specs.declared.answers.RotateAnswer.{RotateAnswer}
+use Rattle.server_model.specs.declared.answers.RotateAnswer.TheVariants as rotated
+use Rattle.server_model.specs.declared.changes.Link.{Link}
+use Rattle.server_model.specs.declared.changes.Link.TheVariants as link
 use Rattle.orch_core.specs.declared.turn.Turn.{Turn}
 use Rattle.orch_core.specs.declared.turn.Turn.TheVariants as turn
 use Rattle.orch_core.specs.declared.turn.Reply.{Reply}
@@ -22,10 +26,20 @@ printed_at (Some name) = printed name
 abbrev pub name_text : List HostPort → ServerNo → List ℕ
 name_text names n = printed_at (slice_get names n.0)
 
+abbrev pub link_text : Link → List ℕ
+link_text link.Desk = codes "desk"
+link_text link.Feed = codes "feed"
+
 abbrev pub words_text : List HostPort → Turn → List ℕ
 words_text names (turn.Write n size) = codes "write " ++ name_text names n ++ codes " " ++ decimal size
 words_text names (turn.Fetch n) = codes "fetch " ++ name_text names n
 words_text names (turn.Apply n) = codes "apply " ++ name_text names n
+words_text names (turn.Fail n) = codes "fail " ++ name_text names n
+words_text names (turn.Heal n) = codes "heal " ++ name_text names n
+words_text names (turn.Cut n link) = codes "cut " ++ name_text names n ++ codes " " ++ link_text link
+words_text names (turn.Join n link) = codes "join " ++ name_text names n ++ codes " " ++ link_text link
+words_text names (turn.Rotate n) = codes "rotate " ++ name_text names n
+words_text names (turn.Tick seconds) = codes "tick " ++ decimal seconds
 
 abbrev pub write_text : WriteAnswer → List ℕ
 write_text (wrote.Done seq) = codes "done " ++ decimal seq
@@ -49,10 +63,19 @@ apply_text applied.Stopped = codes "stopped"
 apply_text applied.AtUntil = codes "at until"
 apply_text applied.Full = codes "full"
 
+abbrev pub rotate_text : RotateAnswer → List ℕ
+rotate_text (rotated.Done c) = codes "done " ++ coord_text c
+rotate_text rotated.Down = codes "down"
+rotate_text rotated.NotLogging = codes "not logging"
+rotate_text rotated.Full = codes "full"
+
 abbrev pub answer_text : Reply → List ℕ
 answer_text (answered.Write a) = write_text a
 answer_text (answered.Fetch a) = fetch_text a
 answer_text (answered.Apply a) = apply_text a
+answer_text answered.Done = codes "done"
+answer_text (answered.Rotate a) = rotate_text a
+answer_text (answered.Now t) = codes "now " ++ decimal t.0
 
 -- N WORDS: REPLY
 unfoldable pub line_text : List HostPort → ℕ → Turn → Reply → List ℕ

@@ -7,8 +7,8 @@ use Rattle.orch_base.specs.declared.server.ServerNo.{ServerNo}
 use Rattle.orch_base.specs.declared.source.TheConstants.{MAX_SCENARIO_LEN}
 use Rattle.orch_base.specs.Gives.{◌>>=◌}
 use Rattle.orch_base.specs.Names.{HostPort, same_name}
-use Rattle.server_model.specs.declared.opening.Part.{Part}
-use Rattle.server_model.specs.Opening.{transactions}
+use Rattle.openings.specs.declared.part.Part.{Part}
+use Rattle.openings.specs.Listed.{transactions}
 use Rattle.orch_core.specs.declared.turn.Turn.{Turn}
 use Rattle.orch_core.specs.declared.turn.Turn.TheVariants.{Write, Fetch, Apply}
 use Rattle.orch_cli.specs.declared.reading.fault.Fault.{Fault}
@@ -140,8 +140,7 @@ turns_in servers d = do
 
 abbrev pub is_write : Turn → Bool
 is_write (Write n size) = true
-is_write (Fetch n) = false
-is_write (Apply n) = false
+is_write _ = false
 
 -- ---- the whole
 

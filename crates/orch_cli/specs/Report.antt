@@ -2,7 +2,7 @@
 use Rattle.std.specs.Prelude.{ℕ, List, [], ◌++◌, map, codes, Bool, false, if◌then◌else◌, Result, Ok, Err}
 use Rattle.std.specs.List.{list_any}
 use Rattle.orch_base.specs.Names.{HostPort}
-use Rattle.server_model.specs.Opening.{Opened}
+use Rattle.openings.specs.Opening.{Opened}
 use Rattle.orch_core.specs.declared.scenario.Scenario.{Scenario}
 use Rattle.orch_core.specs.declared.turn.Reply.{Reply}
 use Rattle.orch_core.specs.declared.turn.Reply.TheVariants as answered
@@ -38,6 +38,9 @@ abbrev pub is_refused : Reply → Bool
 is_refused (answered.Write a) = false
 is_refused (answered.Fetch a) = false
 is_refused (answered.Apply a) = false
+is_refused answered.Done = false
+is_refused (answered.Rotate a) = false
+is_refused (answered.Now t) = false
 
 unfoldable pub any_refused : State → Bool
 any_refused state = list_any (λ e. is_refused e.1) state.journal

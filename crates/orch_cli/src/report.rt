@@ -45,7 +45,12 @@ fn is_refused(reply: &Reply) -> bool
     ensures { result ≡ is_refused reply.now }
 {
     match reply {
-        Reply::Write(_) | Reply::Fetch(_) | Reply::Apply(_) => false,
+        Reply::Write(_)
+        | Reply::Fetch(_)
+        | Reply::Apply(_)
+        | Reply::Done
+        | Reply::Rotate(_)
+        | Reply::Now(_) => false,
     }
 }
 

@@ -1,5 +1,9 @@
+use crate::reading::read;
+use crate::texts::reply_text;
 use crate::top::orch;
-use orch_base::{MemSink, MemSource};
+use orch_base::{MemSink, MemSource, Name, ServerNo};
+use orch_core::{Orch, Turn};
+use server_model::Link;
 use std::alloc::Global;
 use std::test::Fail;
 
@@ -68,5 +72,64 @@ fn answers(rt: HostRuntime) -> Result<(), Fail> {
         );
         assert_eq!(rt; result, status, "after {err_bytes}");
     }
+    Ok(())
+}
+
+// A master and a replica, both with two transactions.
+const LEVEL: &str =
+    "{\"version\":1,\"servers\":[{\"name\":\"m\",\"history\":[[\"m\",100,2]]},{\"name\":\"r\",\"source\":\"m\",\"executed\":2}]}";
+
+const EACH_TURN: &[Turn] = &[
+    Turn::Cut(ServerNo(1), Link::Feed),
+    Turn::Fetch(ServerNo(1)),
+    Turn::Apply(ServerNo(1)),
+    Turn::Join(ServerNo(1), Link::Feed),
+    Turn::Cut(ServerNo(0), Link::Desk),
+    Turn::Fail(ServerNo(0)),
+    Turn::Write(ServerNo(0), 100),
+    Turn::Fetch(ServerNo(1)),
+    Turn::Rotate(ServerNo(0)),
+    Turn::Heal(ServerNo(0)),
+    Turn::Write(ServerNo(1), 100),
+    Turn::Write(ServerNo(0), 100),
+    Turn::Fetch(ServerNo(1)),
+    Turn::Apply(ServerNo(1)),
+    Turn::Tick(60),
+    Turn::Tick(1000000000),
+];
+
+const EACH_LINE: &str = "1 cut r:3306 feed: done
+2 fetch r:3306: no link
+3 apply r:3306: nothing
+4 join r:3306 feed: done
+5 cut m:3306 desk: done
+6 fail m:3306: done
+7 write m:3306 100: down
+8 fetch r:3306: no link
+9 rotate m:3306: down
+10 heal m:3306: done
+11 write r:3306 100: read only
+12 write m:3306 100: full
+13 fetch r:3306: nothing
+14 apply r:3306: nothing
+15 tick 60: now 60
+16 tick 1000000000: now 1000000060
+";
+
+#[test]
+fn prints_each_turn(rt: HostRuntime) -> Result<(), Fail> {
+    let alloc = rt.alloc();
+    let Ok(scenario) = read(alloc, LEVEL.as_bytes()) else {
+        panic!(rt; "the scenario is not read");
+    };
+    let mut orch = Orch::make(alloc, &scenario)?;
+    assert_eq!(rt; orch.world().servers(), 2);
+    orch.run(EACH_TURN)?;
+    let names = vec![in alloc; Name::read(alloc, "m")?, Name::read(alloc, "r")?]?;
+    let mut lines = Vec::new(alloc);
+    for (i, (turn, reply)) in orch.journal().iter().enumerate() {
+        reply_text(i as u64 + 1, turn, reply, &names, &mut lines)?;
+    }
+    assert_eq!(rt; str::from_utf8(&lines).ok(), Some(EACH_LINE));
     Ok(())
 }

@@ -66,7 +66,7 @@ pub fn orch<S: Source, O: Sink, E: Sink>(
         (S.faults scenario.old) (S.faults scenario.new) (O.faults out.old) (O.faults out.new)
         (O.written out.old) (O.written out.new)) }
 
-    // Every state of that run is safe.
+    // Every quiet state of that run is safe, and every state is placed.
     ensures safe { IfSome (S.left scenario.old) IsSafeRun }
 {
     if !is_taken(words) {

@@ -1,4 +1,3 @@
 pub mod Servers
 pub mod Rooms
-pub mod Shut
 pub mod Runs

@@ -1,27 +1,78 @@
 -- Turns: the exchange that each makes, and what it answers.
-use Rattle.std.specs.Prelude.{ℕ, ◌<◌, ◌≤◌}
+use Rattle.std.specs.Prelude.{ℕ, ◌+◌, ◌^◌, ◌<◌, ◌≤◌, Bool, false, List, Option, Some, None, min}
+use Rattle.std.specs.List.{filter_map}
+use Rattle.server_model.specs.declared.changes.Event.TheVariants as event
+use Rattle.server_model.specs.Desk.{rotate}
 use Rattle.server_model.specs.Exchanges.{write, fetch, apply}
-use Rattle.server_model.specs.Run.{Exchange, Write, Fetch, Apply}
+use Rattle.server_model.specs.Run.{Exchange, Write, Fetch, Apply, Befall, Rotate, after}
 use Rattle.server_model.specs.Worlds.{World}
 use Rattle.orch_core.specs.declared.turn.Turn.{Turn}
 use Rattle.orch_core.specs.declared.turn.Turn.TheVariants as turn
 use Rattle.orch_core.specs.declared.turn.Reply.{Reply}
 use Rattle.orch_core.specs.declared.turn.Reply.TheVariants as answered
 
--- the exchange that a turn makes
-abbrev pub exchange_of : Turn → Exchange
-exchange_of (turn.Write n size) = Write n.0 size
-exchange_of (turn.Fetch n) = Fetch n.0
-exchange_of (turn.Apply n) = Apply n.0
+-- the exchange that a turn makes, if it makes one
+abbrev pub exchange_of : Turn → Option Exchange
+exchange_of (turn.Write n size) = Some (Write n.0 size)
+exchange_of (turn.Fetch n) = Some (Fetch n.0)
+exchange_of (turn.Apply n) = Some (Apply n.0)
+exchange_of (turn.Fail n) = Some (Befall n.0 event.Fail)
+exchange_of (turn.Heal n) = Some (Befall n.0 event.Heal)
+exchange_of (turn.Cut n link) = Some (Befall n.0 (event.Cut link))
+exchange_of (turn.Join n link) = Some (Befall n.0 (event.Join link))
+exchange_of (turn.Rotate n) = Some (Rotate n.0)
+exchange_of (turn.Tick seconds) = None
 
--- what a turn answers in a world
-abbrev pub reply_of : World → Turn → Reply
-reply_of w (turn.Write n size) = answered.Write (write w n.0 size).0
-reply_of w (turn.Fetch n) = answered.Fetch (fetch w n.0).0
-reply_of w (turn.Apply n) = answered.Apply (apply w n.0).0
+-- the exchanges of these turns, in order
+abbrev pub exchanges_of : List Turn → List Exchange
+exchanges_of ts = filter_map exchange_of ts
 
--- the turn is of one of so many servers, and what is written has 1 to 1,000,000 bytes
+-- whether a turn makes an exchange that meets a test
+abbrev pub makes : (Exchange → Bool) → Option Exchange → Bool
+makes test None = false
+makes test (Some e) = test e
+
+-- the world after a turn
+abbrev pub after_exchange : World → Option Exchange → World
+after_exchange w None = w
+after_exchange w (Some e) = after w e
+
+-- so many seconds later; the moment stands still at 2^63
+abbrev pub later : ℕ → ℕ → ℕ
+later now seconds = min (now + seconds) (2 ^ 63)
+
+-- the moment after a turn
+abbrev pub moment_after : ℕ → Turn → ℕ
+moment_after now (turn.Tick seconds) = later now seconds
+moment_after now (turn.Write n size) = now
+moment_after now (turn.Fetch n) = now
+moment_after now (turn.Apply n) = now
+moment_after now (turn.Fail n) = now
+moment_after now (turn.Heal n) = now
+moment_after now (turn.Cut n link) = now
+moment_after now (turn.Join n link) = now
+moment_after now (turn.Rotate n) = now
+
+-- what a turn answers in a world at a moment
+abbrev pub reply_of : World → ℕ → Turn → Reply
+reply_of w now (turn.Write n size) = answered.Write (write w n.0 size).0
+reply_of w now (turn.Fetch n) = answered.Fetch (fetch w n.0).0
+reply_of w now (turn.Apply n) = answered.Apply (apply w n.0).0
+reply_of w now (turn.Fail n) = answered.Done
+reply_of w now (turn.Heal n) = answered.Done
+reply_of w now (turn.Cut n link) = answered.Done
+reply_of w now (turn.Join n link) = answered.Done
+reply_of w now (turn.Rotate n) = answered.Rotate (rotate w n.0).0
+reply_of w now (turn.Tick seconds) = answered.Now (record { 0 = later now seconds })
+
+-- the turn is of one of so many servers, and its numbers are in their ranges
 abbrev pub IsTurn : ℕ → Turn → Type 0
 IsTurn count (turn.Write n size) = (n.0 < count) × (0 < size) × (size ≤ 1000000)
 IsTurn count (turn.Fetch n) = n.0 < count
 IsTurn count (turn.Apply n) = n.0 < count
+IsTurn count (turn.Fail n) = n.0 < count
+IsTurn count (turn.Heal n) = n.0 < count
+IsTurn count (turn.Cut n link) = n.0 < count
+IsTurn count (turn.Join n link) = n.0 < count
+IsTurn count (turn.Rotate n) = n.0 < count
+IsTurn count (turn.Tick seconds) = seconds ≤ 1000000000

@@ -5,12 +5,10 @@ mod laws;
 mod orch;
 mod room;
 mod scenario;
-#[cfg(test)]
-mod tests;
 mod turn;
 
 pub use laws::{
-    every_quiet_state_is_safe, every_run_is_quiet, every_state_is_safe, full_never_comes,
+    every_quiet_state_is_safe, every_state_is_placed, full_never_comes, quiet_runs_were_quiet,
     skipped_never_comes,
 };
 pub use orch::Orch;

@@ -1,10 +1,11 @@
-//! How much room a scenario's histories take.
+//! How much room a scenario's histories and logs take.
 
-ghost use Rattle.std.specs.Prelude.{◌≡◌, ◌≤◌, ◌+◌, sum_by, count_by, length};
-ghost use Rattle.server_model.specs.Opening.{transactions};
-ghost use Rattle.replication_laws.specs.Room.{is_write};
-ghost use Rattle.orch_core.specs.Turns.{exchange_of};
-ghost use Rattle.orch_core.specs.Scenarios.{room_of, IsScenario};
+ghost use Rattle.std.specs.Prelude.{◌≡◌, ◌≤◌, ◌+◌, sum_by, count_by, length, All};
+ghost use Rattle.openings.specs.Listed.{transactions};
+ghost use Rattle.openings.specs.Servers.{parts_of};
+ghost use Rattle.replication_laws.specs.Room.{is_write, is_rotate};
+ghost use Rattle.orch_core.specs.Turns.{exchange_of, makes};
+ghost use Rattle.orch_core.specs.Scenarios.{room_of, longest_flushes, flushes_of, IsScenario};
 
 use crate::{Scenario, Turn};
 use server_model::{ServerInit, transactions};
@@ -18,25 +19,59 @@ pub(crate) fn room(s: &Scenario) -> u64
     listed(s.opening.servers()) + writes(s.turns.as_slice())
 }
 
+/// The longest list of flush points, and one for each rotate turn: at most 4,000,000.
+pub(crate) fn flushes(s: &Scenario) -> u64
+    requires { IsScenario s.now }
+    ensures flushes { result ≡ flushes_of s.now }
+    ensures within { result ≤ 4000000 }
+{
+    longest_flushes(s.opening.servers()) + rotations(s.turns.as_slice())
+}
+
 fn listed(servers: &[ServerInit]) -> u64
-    requires { sum_by (λ i. transactions i.history) servers.now ≤ 4000000 }
-    ensures { result ≡ sum_by (λ i. transactions i.history) servers.now }
+    requires { sum_by (λ i. transactions (parts_of i)) servers.now ≤ 4000000 }
+    ensures { result ≡ sum_by (λ i. transactions (parts_of i)) servers.now }
 {
     let mut sum = 0;
     for server in servers {
-        sum += transactions(server.history.as_slice());
+        if let Some(parts) = &server.history {
+            sum += transactions(parts.as_slice());
+        }
     }
     sum
 }
 
+fn longest_flushes(servers: &[ServerInit]) -> u64
+    ensures { result ≡ longest_flushes servers.now }
+{
+    let mut longest = 0;
+    for server in servers {
+        longest = (server.flushes.as_slice().len() as u64).max(longest);
+    }
+    longest
+}
+
 fn writes(turns: &[Turn]) -> u64
-    ensures { result ≡ count_by (λ t. is_write (exchange_of t)) turns.now }
+    ensures { result ≡ count_by (λ t. makes is_write (exchange_of t)) turns.now }
 {
     turns.iter().filter(|t| is_write(**t)).count() as u64
 }
 
 fn is_write(t: Turn) -> bool
-    ensures { result ≡ is_write (exchange_of t) }
+    ensures { result ≡ makes is_write (exchange_of t) }
 {
     matches!(t, Turn::Write(_, _))
+}
+
+fn rotations(turns: &[Turn]) -> u64
+    ensures value { result ≡ count_by (λ t. makes is_rotate (exchange_of t)) turns.now }
+    ensures few { result ≤ length turns.now }
+{
+    turns.iter().filter(|t| is_rotate(**t)).count() as u64
+}
+
+fn is_rotate(t: Turn) -> bool
+    ensures { result ≡ makes is_rotate (exchange_of t) }
+{
+    matches!(t, Turn::Rotate(_))
 }

@@ -3,6 +3,7 @@
 ghost use Rattle.std.specs.Prelude.{◌≡◌};
 
 use crate::Turn;
+use orch_base::Moment;
 use server_model::Opening;
 use std::marker::Model;
 
@@ -44,9 +45,11 @@ impl Turns {
     }
 }
 
-/// The servers as they begin, and the turns that follow.
+/// The servers as they begin, the moment, and the turns that follow.
 #[derive(Drop)]
 pub struct Scenario {
     pub opening: Opening,
+    /// When it begins: at most 1,000,000,000,000,000.
+    pub moment: Moment,
     pub turns: Turns,
 }

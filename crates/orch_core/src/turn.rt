@@ -1,9 +1,9 @@
 //! Turns, and what they answer.
 
-use orch_base::ServerNo;
-use server_model::{ApplyAnswer, FetchAnswer, WriteAnswer};
+use orch_base::{Moment, ServerNo};
+use server_model::{ApplyAnswer, FetchAnswer, Link, RotateAnswer, WriteAnswer};
 
-/// What happens next at a server.
+/// What happens next.
 #[derive(Clone, Copy, Debug, PartialEq, Eq)]
 pub enum Turn {
     /// An ordinary client's transaction of this size, 1 to 1,000,000 bytes.
@@ -12,6 +12,18 @@ pub enum Turn {
     Fetch(ServerNo),
     /// The applier of a replica executes one step of its relay log.
     Apply(ServerNo),
+    /// The server goes down.
+    Fail(ServerNo),
+    /// A down server is up again.
+    Heal(ServerNo),
+    /// A link of the server is cut.
+    Cut(ServerNo, Link),
+    /// A link of the server is joined again.
+    Join(ServerNo, Link),
+    /// The next file of the server's binary log begins (FLUSH BINARY LOGS).
+    Rotate(ServerNo),
+    /// So many seconds pass: 0 to 1,000,000,000.
+    Tick(u64),
 }
 
 /// What a turn answers.
@@ -20,4 +32,9 @@ pub enum Reply {
     Write(WriteAnswer),
     Fetch(FetchAnswer),
     Apply(ApplyAnswer),
+    /// It is done; there is no more to say.
+    Done,
+    Rotate(RotateAnswer),
+    /// The moment that it is now.
+    Now(Moment),
 }

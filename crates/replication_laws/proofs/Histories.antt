@@ -2,12 +2,13 @@ use Rattle.std.proofs.Common.{◌≡◌, ℕ, ◌+◌, ◌<◌, ◌≤◌, Bool,
 use Rattle.std.specs.Prelude.{slice_get, ◌==◌}
 use Rattle.std.proofs.lemmas.Bool.{cases_eq, eq-eqb}
 use Rattle.std.proofs.lemmas.Bool.Decides.{nat_tests}
-use Rattle.std.proofs.lemmas.Option.{same_Some, slice_get_within}
+use Rattle.std.proofs.lemmas.Option.{slice_get_within}
 use Rattle.std.proofs.lemmas.List.{take-append-le, length-take-le}
-use Rattle.std.proofs.lemmas.List.Sums.{sum_by-append, sum_by-take-le}
+use Rattle.std.proofs.lemmas.List.Sums.{sum_by-take-le}
 use Rattle.std.proofs.Math.Seq.{take-length, take-append_seam}
-use Rattle.server_model.specs.Histories.{same_txn, count_own, holds}
-use Rattle.server_model.proofs.Lists.{take-more}
+use Rattle.orch_base.specs.Histories.{same_txn, count_own, holds}
+use Rattle.openings.proofs.Fronts.{slice_get-snoc_cases, take-more}
+use Rattle.openings.proofs.Joined.{tick, count_own-push}
 use Rattle.server_model.specs.Exchanges.{own_txn}
 use Rattle.server_model.specs.Safe.{IsKin}
 use Rattle.orch_base.specs.declared.server.Txn.{Txn}
@@ -21,21 +22,6 @@ slice_get-snoc_old (z ∷ xs) y x (suc i) h = slice_get-snoc_old xs y x i h
 pub slice_get-snoc_new : {X : Type 0} (xs : List X) (y : X) → slice_get (xs ++ y ∷ []) (length xs) ≡ Some y
 slice_get-snoc_new [] y = refl
 slice_get-snoc_new (z ∷ xs) y = slice_get-snoc_new xs y
-
-pub slice_get-snoc_cases : {X : Type 0} (xs : List X) (y x : X) (i : ℕ) → slice_get (xs ++ y ∷ []) i ≡ Some x → (slice_get xs i ≡ Some x) ⊎ ((i ≡ length xs) × (x ≡ y))
-slice_get-snoc_cases [] y x zero h = inr (refl, sym (same_Some y x h))
-slice_get-snoc_cases [] y x (suc i) h = cc
-slice_get-snoc_cases (z ∷ xs) y x zero h = inl h
-slice_get-snoc_cases (z ∷ xs) y x (suc i) h =
-    elim (slice_get-snoc_cases xs y x i h) [ inl old ↦ inl old | inr new ↦ inr (ap suc new.0, new.1) ]
-
--- what is taken of a list is taken of one that goes on
-pub slice_get-take : {X : Type 0} (xs : List X) (n i : ℕ) (x : X) → slice_get (take n xs) i ≡ Some x → slice_get xs i ≡ Some x
-slice_get-take [] zero i x h = h
-slice_get-take [] (suc n) i x h = h
-slice_get-take (z ∷ xs) zero i x h = cc
-slice_get-take (z ∷ xs) (suc n) zero x h = h
-slice_get-take (z ∷ xs) (suc n) (suc i) x h = slice_get-take xs n i x h
 
 -- a history with one more transaction, and the others as they were
 pub record Extends (h h' : ℕ → List Txn) (n : ℕ) (t : Txn) : Type 0 where
@@ -138,14 +124,7 @@ IsKin-once h kin a i j x y g k same =
     let lengths : length (take (i + 1) (h a)) ≡ length (take (j + 1) (h a)) = ap length (kin.alike a a i j x y g k same) in
     omega (arith, lengths, length-take-le (i + 1) (h a), length-take-le (j + 1) (h a))
 
--- one or nothing
-abbrev tick : Bool → ℕ
-tick b = cond b 1 0
-
--- counts of an origin's transactions
-pub count_own-snoc : (p : ℕ) (xs : List Txn) (x : Txn) → count_own p (xs ++ x ∷ []) ≡ count_own p xs + tick (x.origin.0 == p)
-count_own-snoc p xs x = sum_by-append (λ y. cond (y.origin.0 == p) 1 0) xs (x ∷ []) ∙ omega arith
-
+-- a beginning has no more of an origin's transactions
 pub count_own-take-le : (p : ℕ) (xs : List Txn) (k : ℕ) → count_own p (take k xs) ≤ count_own p xs
 count_own-take-le p xs k = sum_by-take-le (λ y. cond (y.origin.0 == p) 1 0) xs k
 
@@ -159,7 +138,7 @@ IsKin-fresh h kin n size b j y g same =
     let there : slice_get (h n) home.0 ≡ Some y = subst (λ (m : ℕ). slice_get (h m) home.0 ≡ Some y) origin home.1 in
     let number : y.seq ≡ count_own n (take home.0 (h n)) + 1 = subst (λ (m : ℕ). y.seq ≡ count_own m (take home.0 (h n)) + 1) origin (kin.numbered n home.0 y there) in
     let own : tick (y.origin.0 == n) ≡ 1 = ap tick (eq-eqb y.origin.0 n origin) in
-    omega (arith, number, seq, own, count_own-snoc n (take home.0 (h n)) y, ap (count_own n) (take-more (h n) home.0 y there), count_own-take-le n (h n) (home.0 + 1))
+    omega (arith, number, seq, own, count_own-push n (take home.0 (h n)) y, ap (count_own n) (take-more (h n) home.0 y there), count_own-take-le n (h n) (home.0 + 1))
 
 -- what a history holds stands somewhere in it
 pub holds-at : (t : Txn) (xs : List Txn) → holds t xs ≡ true → (j : ℕ) × (y : Txn) × (slice_get xs j ≡ Some y) × (same_txn y t ≡ true)

@@ -1,17 +1,23 @@
+-- What a change of one server keeps of a world.
 use Rattle.std.proofs.Common.{◌≡◌, ℕ, ◌≤◌, true, List, ◌++◌, length, refl, sym, ◌∙◌, ap, subst, inl, inr, ◌⊎◌, Option, Some, arith, take, drop}
 use Rattle.std.proofs.lemmas.Bool.{cases_eq}
+use Rattle.std.proofs.lemmas.Bool.Decides.{nat_tests}
 use Rattle.std.proofs.lemmas.Option.{same_Some}
 use Rattle.std.proofs.lemmas.List.{take-append-le, length-take, take-append-drop}
 use Rattle.std.proofs.Math.Seq.{take-length}
-use Rattle.binlog_coords.specs.Log.{Log, place}
-use Rattle.server_model.specs.Worlds.{World, server_at, with_server, histories, sources, source_of, source_no}
-use Rattle.server_model.specs.Safe.{IsKin, Safe, AttachedWell, Grounded, IsSource}
-use Rattle.server_model.specs.Layout.{LaysOut}
+use Rattle.binlog_coords.specs.declared.Coord.{Coord}
+use Rattle.binlog_coords.specs.Index.{Index}
+use Rattle.binlog_coords.specs.Log.{place, is_before, is_at_or_before}
 use Rattle.orch_base.specs.declared.server.Settings.{Settings}
-use Rattle.replication_laws.specs.Growth.{GoesOn, Grows}
-use Rattle.replication_laws.proofs.Worlds.{at_with_same, at_with_other, sources-kept, histories-kept, Grounded-not_self}
 use Rattle.orch_base.specs.declared.server.Txn.{Txn}
 use Rattle.server_model.specs.declared.server.Server.{Server}
+use Rattle.server_model.specs.Kept.{Kept}
+use Rattle.server_model.specs.Layout.{LaysOut}
+use Rattle.server_model.specs.Safe.{IsKin, Safe, Placed, StandsIn, AttachedWell, Grounded, IsSource}
+use Rattle.server_model.specs.Worlds.{World, server_at, with_server, histories, sources, source_of, source_no}
+use Rattle.replication_laws.specs.Growth.{GoesOn, Grows}
+use Rattle.server_model.proofs.OpenedWorlds.{not_self}
+use Rattle.replication_laws.proofs.Worlds.{at_with_same, at_with_other, sources-kept, histories-kept}
 
 pub prefix-trans : (xs ys zs : List Txn) → take (length xs) ys ≡ xs → take (length ys) zs ≡ ys → take (length xs) zs ≡ xs
 prefix-trans xs ys zs p q =
@@ -19,13 +25,11 @@ prefix-trans xs ys zs p q =
     let parts : ys ++ drop (length ys) zs ≡ zs = ap (λ front. front ++ drop (length ys) zs) (sym q) ∙ take-append-drop (length ys) zs in
     ap (take (length xs)) (sym parts) ∙ take-append-le (length xs) ys (drop (length ys) zs) le ∙ p
 
-pub AttachedWell-source : (r s s' : Server) → GoesOn s s' → AttachedWell r s → AttachedWell r s'
-AttachedWell-source r s s' on well = record {
-  prefix = prefix-trans r.history.txns s.history.txns s'.history.txns well.prefix on.prefix;
-  exec_place = on.places r.exec (length r.history.txns) well.exec_place;
-  read_place = (well.read_place.0, on.places r.read well.read_place.0 well.read_place.1);
-  order = well.order;
-}
+before_is_at : (c d e : Coord) → is_at_or_before c d ≡ true → is_before d e ≡ true → is_at_or_before c e ≡ true
+before_is_at c d e p q = grind (arith, nat_tests)
+
+pub at_or_before-refl : (c : Coord) → is_at_or_before c c ≡ true
+at_or_before-refl c = grind (arith, nat_tests)
 
 -- a server of the world with another one
 pub at_cases : (w : World) (n : ℕ) (s s' : Server) → server_at w n ≡ Some s → (m : ℕ) (t : Server) → server_at (with_server w n s') m ≡ Some t
@@ -45,27 +49,26 @@ IsSource-with w n s s' here settings m source =
       | inr apart ↦ (source.0, at_with_other w n s s' here m apart ∙ source.1, source.2)
     ]
 
+-- servers that go on
+
 pub GoesOn-refl : (s : Server) → GoesOn s s
 GoesOn-refl s = record { settings = refl; prefix = take-length s.history.txns; places = λ c k h. h }
 
--- a change that leaves the history, the log and the settings
-pub GoesOn-kept : (s s' : Server) → s'.history.txns ≡ s.history.txns → s'.log.log ≡ s.log.log → s'.settings ≡ s.settings → GoesOn s s'
-GoesOn-kept s s' history log settings = record {
-  settings = settings;
-  prefix = ap (take (length s.history.txns)) history ∙ take-length s.history.txns;
-  places = λ c k h. ap (λ l. place l c) log ∙ h;
+pub GoesOn-trans : (s t u : Server) → GoesOn s t → GoesOn t u → GoesOn s u
+GoesOn-trans s t u on more = record {
+  settings = more.settings ∙ on.settings;
+  prefix = prefix-trans s.history.txns t.history.txns u.history.txns on.prefix more.prefix;
+  places = λ c k h. more.places c k (on.places c k h);
 }
 
 pub Grows-refl : (w : World) → Grows w w
 Grows-refl w = λ n s h. (s, h, GoesOn-refl s)
 
--- a step to a safe world in which each server goes on
-pub record Step (w w' : World) : Type 0 where
-  pub safe : Safe w'
-  pub grows : Grows w w'
-
-pub Step-refl : (w : World) → Safe w → Step w w
-Step-refl w safe = record { safe = safe; grows = Grows-refl w }
+pub Grows-trans : (w v u : World) → Grows w v → Grows v u → Grows w u
+Grows-trans w v u on more = λ n s h.
+    let first = on n s h in
+    let then = more n first.0 first.1 in
+    (then.0, then.1, GoesOn-trans s first.0 then.0 first.2 then.2)
 
 pub Grows-with : (w : World) (n : ℕ) (s s' : Server) → server_at w n ≡ Some s → GoesOn s s' → Grows w (with_server w n s')
 Grows-with w n s s' here on = λ m t h.
@@ -76,73 +79,236 @@ Grows-with w n s s' here on = λ m t h.
       | inr apart ↦ (t, at_with_other w n s s' here m apart ∙ h, GoesOn-refl t)
     ]
 
--- what a change of one server owes
-pub record Keeps (w : World) (n : ℕ) (s s' : Server) : Type 0 where
-  pub goes_on : GoesOn s s'
-  pub source : source_no s'.source ≡ source_no s.source
-  pub laid : s'.settings.logs ≡ true → LaysOut s'.history.txns s'.log.log
-  pub well : (m : ℕ) (t : Server) → source_no s.source ≡ Some m → server_at w m ≡ Some t → AttachedWell s t → AttachedWell s' t
-  pub kin : IsKin (histories (with_server w n s'))
+-- the same server but for its source, its coordinates, its threads and its links
+pub record Same (s s' : Server) : Type 0 where
+  pub history : s'.history ≡ s.history
+  pub log : s'.log ≡ s.log
+  pub settings : s'.settings ≡ s.settings
 
-Safe-with : (w : World) (n : ℕ) (s s' : Server) → Safe w → server_at w n ≡ Some s → Keeps w n s s' → Safe (with_server w n s')
-Safe-with w n s s' safe here keeps = record {
+pub Same-refl : (s : Server) → Same s s
+Same-refl s = record { history = refl; log = refl; settings = refl }
+
+pub GoesOn-same : (s s' : Server) → Same s s' → GoesOn s s'
+GoesOn-same s s' same = record {
+  settings = same.settings;
+  prefix = ap (λ (h : Kept). take (length s.history.txns) h.txns) same.history ∙ take-length s.history.txns;
+  places = λ c k h. ap (λ (l : Index). place l.log c) same.log ∙ h;
+}
+
+LaysOut-same : (s s' : Server) → Same s s' → (s.settings.logs ≡ true → LaysOut s.history.txns s.log.log) → s'.settings.logs ≡ true → LaysOut s'.history.txns s'.log.log
+LaysOut-same s s' same laid on =
+    subst (λ (l : Index). LaysOut s'.history.txns l.log) (sym same.log)
+    (subst (λ (h : Kept). LaysOut h.txns s.log.log) (sym same.history) (laid (sym (ap (λ (x : Settings). x.logs) same.settings) ∙ on)))
+
+-- the same server but for its threads, its links and how far it has read
+pub record Still (s s' : Server) : Type 0 where
+  pub same : Same s s'
+  pub source : source_no s'.source ≡ source_no s.source
+  pub exec : s'.exec ≡ s.exec
+  pub read : (s'.read ≡ s.read) ⊎ (s'.read ≡ s.exec)
+
+pub Still-refl : (s : Server) → Still s s
+Still-refl s = record { same = Same-refl s; source = refl; exec = refl; read = inl refl }
+
+-- A way for a replica to stand under its source that stays as the source goes on, as the replica's threads and links
+-- change, and as it reads on.
+pub record Standing (R : Server → Server → Type 0) : Type 0 where
+  pub source : (r s s' : Server) → GoesOn s s' → R r s → R r s'
+  pub still : (r r' s : Server) → Still r r' → R r s → R r' s
+  pub read : (r s : Server) → R r s → (k : ℕ) × (place s.log.log r.read ≡ Some k)
+  pub reads : (r s : Server) (to : Coord) → R r s → ((k : ℕ) × (place s.log.log to ≡ Some k)) → is_before r.read to ≡ true → R (record r { read = to }) s
+
+AttachedWell-source : (r s s' : Server) → GoesOn s s' → AttachedWell r s → AttachedWell r s'
+AttachedWell-source r s s' on well = record {
+  prefix = prefix-trans r.history.txns s.history.txns s'.history.txns well.prefix on.prefix;
+  exec_place = on.places r.exec (length r.history.txns) well.exec_place;
+  read_place = (well.read_place.0, on.places r.read well.read_place.0 well.read_place.1);
+  order = well.order;
+}
+
+AttachedWell-still : (r r' s : Server) → Still r r' → AttachedWell r s → AttachedWell r' s
+AttachedWell-still r r' s still well = record {
+  prefix = rw still.same.history well.prefix;
+  exec_place = rw (still.exec, still.same.history) well.exec_place;
+  read_place = elim still.read [ inl same ↦ rw same well.read_place | inr back ↦ rw back (length r.history.txns, well.exec_place) ];
+  order = elim still.read [ inl same ↦ rw (still.exec, same) well.order | inr back ↦ rw (still.exec, back) (at_or_before-refl r.exec) ];
+}
+
+pub Standing-well : Standing AttachedWell
+Standing-well = record {
+  source = AttachedWell-source;
+  still = AttachedWell-still;
+  read = λ r s well. well.read_place;
+  reads = λ r s to well there further.
+      record { prefix = well.prefix; exec_place = well.exec_place; read_place = there; order = before_is_at r.exec r.read to well.order further };
+}
+
+StandsIn-source : (r s s' : Server) → GoesOn s s' → StandsIn r s → StandsIn r s'
+StandsIn-source r s s' on stands = record {
+  exec_place = (stands.exec_place.0, on.places r.exec stands.exec_place.0 stands.exec_place.1);
+  read_place = (stands.read_place.0, on.places r.read stands.read_place.0 stands.read_place.1);
+  order = stands.order;
+}
+
+StandsIn-still : (r r' s : Server) → Still r r' → StandsIn r s → StandsIn r' s
+StandsIn-still r r' s still stands = record {
+  exec_place = rw still.exec stands.exec_place;
+  read_place = elim still.read [ inl same ↦ rw same stands.read_place | inr back ↦ rw back stands.exec_place ];
+  order = elim still.read [ inl same ↦ rw (still.exec, same) stands.order | inr back ↦ rw (still.exec, back) (at_or_before-refl r.exec) ];
+}
+
+pub Standing-placed : Standing StandsIn
+Standing-placed = record {
+  source = StandsIn-source;
+  still = StandsIn-still;
+  read = λ r s stands. stands.read_place;
+  reads = λ r s to stands there further. record { exec_place = stands.exec_place; read_place = there; order = before_is_at r.exec r.read to stands.order further };
+}
+
+-- what holds of a world in which each replica stands in such a way
+pub record Linked (R : Server → Server → Type 0) (w : World) : Type 0 where
+  pub laid : (n : ℕ) (s : Server) → server_at w n ≡ Some s → s.settings.logs ≡ true → LaysOut s.history.txns s.log.log
+  pub stands : (n m : ℕ) (r s : Server) → server_at w n ≡ Some r → source_no r.source ≡ Some m → server_at w m ≡ Some s → R r s
+  pub logging : (n m : ℕ) (r : Server) → server_at w n ≡ Some r → source_no r.source ≡ Some m → IsSource w m
+  pub grounded : (n : ℕ) → Grounded (sources w) n
+
+pub Linked-safe : (w : World) → Safe w → Linked AttachedWell w
+Linked-safe w safe = record { laid = safe.laid; stands = safe.well; logging = safe.logging; grounded = safe.grounded }
+
+pub Safe-linked : (w : World) → Linked AttachedWell w → IsKin (histories w) → Safe w
+Safe-linked w linked kin = record { laid = linked.laid; well = linked.stands; logging = linked.logging; kin = kin; grounded = linked.grounded }
+
+pub Linked-placed : (w : World) → Placed w → Linked StandsIn w
+Linked-placed w placed = record { laid = placed.laid; stands = placed.stands; logging = placed.logging; grounded = placed.grounded }
+
+pub Placed-linked : (w : World) → Linked StandsIn w → Placed w
+Placed-linked w linked = record { laid = linked.laid; stands = linked.stands; logging = linked.logging; grounded = linked.grounded }
+
+-- a safe world is placed
+pub Placed-safe : (w : World) → Safe w → Placed w
+Placed-safe w safe = record {
+  laid = safe.laid;
+  stands = λ n m r s at from at_m.
+      let well = safe.well n m r s at from at_m in
+      record { exec_place = (length r.history.txns, well.exec_place); read_place = well.read_place; order = well.order };
+  logging = safe.logging;
+  grounded = safe.grounded;
+}
+
+-- nothing of this is about the count of errant writes
+pub Linked-errant : (R : Server → Server → Type 0) (w : World) (errant : ℕ) → Linked R w → Linked R (record w { errant = errant })
+Linked-errant R w errant linked = record { laid = linked.laid; stands = linked.stands; logging = linked.logging; grounded = linked.grounded }
+
+-- what a change of one server owes
+pub record Changes (R : Server → Server → Type 0) (w : World) (n : ℕ) (s s' : Server) : Type 0 where
+  pub goes_on : GoesOn s s'
+  pub laid : s'.settings.logs ≡ true → LaysOut s'.history.txns s'.log.log
+  pub stands : (m : ℕ) (t : Server) → source_no s'.source ≡ Some m → server_at w m ≡ Some t → R s' t
+  pub logging : (m : ℕ) → source_no s'.source ≡ Some m → IsSource w m
+  pub grounded : (m : ℕ) → Grounded (sources (with_server w n s')) m
+
+pub Linked-with : (R : Server → Server → Type 0) → Standing R → (w : World) (n : ℕ) (s s' : Server) → Linked R w → server_at w n ≡ Some s
+    → Changes R w n s s' → Linked R (with_server w n s')
+Linked-with R standing w n s s' linked here changes = record {
   laid = λ m t at logs.
       elim (at_cases w n s s' here m t at) [
-        | inl new ↦ subst (λ (x : Server). x.settings.logs ≡ true → LaysOut x.history.txns x.log.log) (sym new.1) keeps.laid logs
-        | inr old ↦ safe.laid m t old.1 logs
+        | inl new ↦ subst (λ (x : Server). x.settings.logs ≡ true → LaysOut x.history.txns x.log.log) (sym new.1) changes.laid logs
+        | inr old ↦ linked.laid m t old.1 logs
       ];
-  well = λ a b r t at_a source at_b.
+  stands = λ a b r t at_a source at_b.
       elim (at_cases w n s s' here a r at_a) [
-        | inl new_a ↦ replica a b r t new_a.0 new_a.1 source (at_cases w n s s' here b t at_b)
+        | inl new_a ↦ replica b r t new_a.1 source (at_cases w n s s' here b t at_b)
         | inr old_a ↦ elim (at_cases w n s s' here b t at_b) [
-          | inl new_b ↦
-              subst (λ (x : Server). AttachedWell r x) (sym new_b.1)
-              (AttachedWell-source r s s' keeps.goes_on (safe.well a n r s old_a.1 (source ∙ ap Some new_b.0) here))
-          | inr old_b ↦ safe.well a b r t old_a.1 source old_b.1
+          | inl new_b ↦ subst (R r) (sym new_b.1) (standing.source r s s' changes.goes_on (linked.stands a n r s old_a.1 (source ∙ ap Some new_b.0) here))
+          | inr old_b ↦ linked.stands a b r t old_a.1 source old_b.1
         ]
       ];
   logging = λ a b r at source.
-      IsSource-with w n s s' here keeps.goes_on.settings b
+      IsSource-with w n s s' here changes.goes_on.settings b
       (elim (at_cases w n s s' here a r at) [
-        | inl new ↦ safe.logging n b s here (sym keeps.source ∙ ap (λ (x : Server). source_no x.source) (sym new.1) ∙ source)
-        | inr old ↦ safe.logging a b r old.1 source
+        | inl new ↦ changes.logging b (ap (λ (x : Server). source_no x.source) (sym new.1) ∙ source)
+        | inr old ↦ linked.logging a b r old.1 source
       ]);
-  kin = keeps.kin;
-  grounded = λ m. subst (λ (up : ℕ → Option ℕ). Grounded up m) (sym (sources-kept w n s s' here keeps.source)) (safe.grounded m);
+  grounded = changes.grounded;
 }
   where
-    replica : (a b : ℕ) (r t : Server) → a ≡ n → r ≡ s' → source_no r.source ≡ Some b
-        → ((b ≡ n) × (t ≡ s')) ⊎ ((b ≡ n → ⊥) × (server_at w b ≡ Some t)) → AttachedWell r t
-    replica a b r t is_n is_s' source where_b =
-        let from : source_no s.source ≡ Some b = sym keeps.source ∙ ap (λ (x : Server). source_no x.source) (sym is_s') ∙ source in
+    replica : (b : ℕ) (r t : Server) → r ≡ s' → source_no r.source ≡ Some b → ((b ≡ n) × (t ≡ s')) ⊎ ((b ≡ n → ⊥) × (server_at w b ≡ Some t)) → R r t
+    replica b r t is_s' source where_b =
+        let from : source_no s'.source ≡ Some b = ap (λ (x : Server). source_no x.source) (sym is_s') ∙ source in
         elim where_b [
-          | inl new ↦ absurd (Grounded-not_self (sources w) n (safe.grounded n) (ap source_of here ∙ from ∙ ap Some new.0))
-          | inr old ↦ subst (λ (x : Server). AttachedWell x t) (sym is_s') (keeps.well b t from old.1 (safe.well n b s t here from old.1))
+          | inl new ↦ absurd (not_self (sources (with_server w n s')) n (changes.grounded n) (ap source_of (at_with_same w n s s' here) ∙ from ∙ ap Some new.0))
+          | inr old ↦ subst (λ (x : Server). R x t) (sym is_s') (changes.stands b t from old.1)
         ]
 
-pub Step-with : (w : World) (n : ℕ) (s s' : Server) → Safe w → server_at w n ≡ Some s → Keeps w n s s' → Step w (with_server w n s')
-Step-with w n s s' safe here keeps = record { safe = Safe-with w n s s' safe here keeps; grows = Grows-with w n s s' here keeps.goes_on }
+-- a change of one server that leaves its source
+pub record Keeps (R : Server → Server → Type 0) (w : World) (n : ℕ) (s s' : Server) : Type 0 where
+  pub goes_on : GoesOn s s'
+  pub source : source_no s'.source ≡ source_no s.source
+  pub laid : s'.settings.logs ≡ true → LaysOut s'.history.txns s'.log.log
+  pub stands : (m : ℕ) (t : Server) → source_no s.source ≡ Some m → server_at w m ≡ Some t → R s t → R s' t
 
--- nothing of this is about the count of errant writes
-Safe-errant : (w : World) (errant : ℕ) → Safe w → Safe (record w { errant = errant })
-Safe-errant w errant safe = record { laid = safe.laid; well = safe.well; logging = safe.logging; kin = safe.kin; grounded = safe.grounded }
-
-pub Step-errant : (w w' : World) (errant : ℕ) → Step w w' → Step w (record w' { errant = errant })
-Step-errant w w' errant step = record { safe = Safe-errant w' errant step.safe; grows = step.grows }
-
--- a change that leaves the history, the log and the source
-pub Step-still : (w : World) (n : ℕ) (r r' : Server) → Safe w → server_at w n ≡ Some r
-    → r'.history.txns ≡ r.history.txns → r'.log.log ≡ r.log.log → r'.settings ≡ r.settings → source_no r'.source ≡ source_no r.source
-    → ((m : ℕ) (t : Server) → source_no r.source ≡ Some m → server_at w m ≡ Some t → AttachedWell r t → AttachedWell r' t)
-    → Step w (with_server w n r')
-Step-still w n r r' safe here history log settings source well =
-    Step-with w n r r' safe here (record {
-      goes_on = GoesOn-kept r r' history log settings;
-      source = source;
-      laid = λ on. moved (safe.laid n r here (sym (ap (λ (x : Settings). x.logs) settings) ∙ on));
-      well = well;
-      kin = subst IsKin (sym (histories-kept w n r r' here history)) safe.kin;
+pub Linked-keeps : (R : Server → Server → Type 0) → Standing R → (w : World) (n : ℕ) (s s' : Server) → Linked R w → server_at w n ≡ Some s
+    → Keeps R w n s s' → Linked R (with_server w n s')
+Linked-keeps R standing w n s s' linked here keeps =
+    Linked-with R standing w n s s' linked here (record {
+      goes_on = keeps.goes_on;
+      laid = keeps.laid;
+      stands = λ m t from at. let was : source_no s.source ≡ Some m = sym keeps.source ∙ from in keeps.stands m t was at (linked.stands n m s t here was at);
+      logging = λ m from. linked.logging n m s here (sym keeps.source ∙ from);
+      grounded = λ m. subst (λ (up : ℕ → Option ℕ). Grounded up m) (sym (sources-kept w n s s' here keeps.source)) (linked.grounded m);
     })
-  where
-    moved : LaysOut r.history.txns r.log.log → LaysOut r'.history.txns r'.log.log
-    moved l = subst (λ (x : Log). LaysOut r'.history.txns x) (sym log) (subst (λ (xs : List Txn). LaysOut xs r.log.log) (sym history) l)
+
+-- a change of one server that leaves its source, its history, its log and its settings
+pub Linked-same : (R : Server → Server → Type 0) → Standing R → (w : World) (n : ℕ) (s s' : Server) → Linked R w → server_at w n ≡ Some s
+    → Same s s' → source_no s'.source ≡ source_no s.source
+    → ((m : ℕ) (t : Server) → source_no s.source ≡ Some m → server_at w m ≡ Some t → R s t → R s' t)
+    → Linked R (with_server w n s')
+Linked-same R standing w n s s' linked here same source stands =
+    Linked-keeps R standing w n s s' linked here
+    (record { goes_on = GoesOn-same s s' same; source = source; laid = LaysOut-same s s' same (linked.laid n s here); stands = stands })
+
+pub Linked-still : (R : Server → Server → Type 0) → Standing R → (w : World) (n : ℕ) (s s' : Server) → Linked R w → server_at w n ≡ Some s
+    → Still s s' → Linked R (with_server w n s')
+Linked-still R standing w n s s' linked here still =
+    Linked-same R standing w n s s' linked here still.same still.source (λ m t from at stood. standing.still s s' t still stood)
+
+-- a change of source
+pub record Moves (R : Server → Server → Type 0) (w : World) (n : ℕ) (s s' : Server) : Type 0 where
+  pub same : Same s s'
+  pub stands : (m : ℕ) (t : Server) → source_no s'.source ≡ Some m → server_at w m ≡ Some t → R s' t
+  pub logging : (m : ℕ) → source_no s'.source ≡ Some m → IsSource w m
+  pub grounded : (m : ℕ) → Grounded (sources (with_server w n s')) m
+
+pub Linked-moves : (R : Server → Server → Type 0) → Standing R → (w : World) (n : ℕ) (s s' : Server) → Linked R w → server_at w n ≡ Some s
+    → Moves R w n s s' → Linked R (with_server w n s')
+Linked-moves R standing w n s s' linked here moves =
+    Linked-with R standing w n s s' linked here (record {
+      goes_on = GoesOn-same s s' moves.same;
+      laid = LaysOut-same s s' moves.same (linked.laid n s here);
+      stands = moves.stands;
+      logging = moves.logging;
+      grounded = moves.grounded;
+    })
+
+-- A change of the world that writes nothing: every history and the count of errant writes stay, and every server goes on.
+pub record Idle (w w' : World) : Type 0 where
+  pub kept : histories w' ≡ histories w
+  pub grows : Grows w w'
+  pub errant : w'.errant ≡ w.errant
+
+pub Idle-refl : (w : World) → Idle w w
+Idle-refl w = record { kept = refl; grows = Grows-refl w; errant = refl }
+
+pub Idle-with : (w : World) (n : ℕ) (s s' : Server) → server_at w n ≡ Some s → s'.history ≡ s.history → GoesOn s s' → Idle w (with_server w n s')
+Idle-with w n s s' here history on = record {
+  kept = histories-kept w n s s' here (ap (λ (h : Kept). h.txns) history);
+  grows = Grows-with w n s s' here on;
+  errant = refl;
+}
+
+pub Idle-same : (w : World) (n : ℕ) (s s' : Server) → server_at w n ≡ Some s → Same s s' → Idle w (with_server w n s')
+Idle-same w n s s' here same = Idle-with w n s s' here same.history (GoesOn-same s s' same)
+
+-- such a change keeps a world safe where it keeps how its replicas stand
+pub Safe-idle : (w w' : World) → Safe w → Idle w w' → Linked AttachedWell w' → Safe w'
+Safe-idle w w' safe idle linked = Safe-linked w' linked (subst IsKin (sym idle.kept) safe.kin)

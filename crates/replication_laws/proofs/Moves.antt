@@ -1,18 +1,20 @@
-use Rattle.std.proofs.Common.{◌≡◌, ℕ, Bool, true, false, cond, List, length, refl, sym, ◌∙◌, ap, subst, inl, inr, ◌⊎◌, Option, Some, None, arith, ◌||◌}
+-- What orchestrator asks of a server, what befalls it, a new file of its log, and an attachment: what each keeps.
+use Rattle.std.proofs.Common.{◌≡◌, ℕ, Bool, true, false, cond, not, length, refl, sym, ◌∙◌, ap, subst, inl, inr, ◌⊎◌, Option, Some, None, ◌||◌, ◌&&◌, count_by}
 use Rattle.std.specs.Prelude.{Result, Ok, Err}
 use Rattle.std.proofs.Math.Seq.{take-length}
-use Rattle.std.proofs.lemmas.Bool.{cases_eq}
-use Rattle.std.proofs.lemmas.Bool.Decides.{nat_tests}
+use Rattle.std.proofs.lemmas.Option.{same_Some}
 use Rattle.binlog_coords.specs.declared.Coord.{Coord}
-use Rattle.binlog_coords.specs.Log.{Log, is_at_or_before}
-use Rattle.binlog_coords.proofs.Places.{stable_flush}
-use Rattle.orch_base.specs.declared.server.Settings.{Settings}
+use Rattle.binlog_coords.specs.Log.{place, ends_by}
+use Rattle.binlog_coords.proofs.Places.{stable_flush, place-from}
+use Rattle.orch_base.specs.declared.server.ServerNo.{ServerNo}
 use Rattle.orch_base.specs.declared.server.SourceState.{SourceState}
 use Rattle.orch_base.specs.declared.server.SourceState.TheVariants.{Without, Attached, Detached}
-use Rattle.orch_base.specs.declared.server.Txn.{Txn}
 use Rattle.server_model.specs.declared.answers.RotateAnswer.{RotateAnswer}
 use Rattle.server_model.specs.declared.answers.RotateAnswer.TheVariants as rotating
 use Rattle.server_model.specs.declared.answers.Unreachable.{Unreachable}
+use Rattle.server_model.specs.declared.attach.AttachFault.{AttachFault}
+use Rattle.server_model.specs.declared.attach.AttachFault.TheVariants as attaching
+use Rattle.server_model.specs.declared.attach.Spot.{Spot}
 use Rattle.server_model.specs.declared.changes.Ask.{Ask}
 use Rattle.server_model.specs.declared.changes.Ask.TheVariants as asking
 use Rattle.server_model.specs.declared.changes.Event.{Event}
@@ -21,55 +23,30 @@ use Rattle.server_model.specs.declared.changes.Link.TheVariants as link
 use Rattle.server_model.specs.declared.changes.Threads.{Threads}
 use Rattle.server_model.specs.declared.changes.Threads.TheVariants as threads
 use Rattle.server_model.specs.declared.server.Server.{Server}
+use Rattle.server_model.specs.Attach.{spot_below, live_spot, same_spot, chain_meets, attach_answer, attached_to, after_attach, IsTarget}
 use Rattle.server_model.specs.Desk.{stopped, started, detached, detached_source, reattached, attached_source, is_detached, without_source, asked, healed, befallen, rotated, after_change, after_desk, after_rotate}
 use Rattle.server_model.specs.Exchanges.{is_attached}
-use Rattle.server_model.specs.Layout.{LaysOut, Flushed}
-use Rattle.server_model.specs.Safe.{Safe, AttachedWell, IsKin, Grounded, Root, Under, IsSource}
+use Rattle.server_model.specs.Layout.{Flushed}
+use Rattle.server_model.specs.Run.{IsJunction}
+use Rattle.server_model.specs.Safe.{StandsIn, AttachedWell, IsSource}
 use Rattle.server_model.specs.Worlds.{World, server_at, with_server, sources, source_of, source_no}
-use Rattle.replication_laws.specs.Growth.{GoesOn, Grows}
-use Rattle.replication_laws.proofs.Keeping.{Step, Step-refl, Step-with, Step-still, Grows-refl, Grows-with, GoesOn-kept, AttachedWell-source, at_cases, IsSource-with}
-use Rattle.replication_laws.proofs.Worlds.{at_with_same, at_with_other, histories-kept, Grounded-not_self}
+use Rattle.replication_laws.specs.Growth.{GoesOn}
+use Rattle.replication_laws.proofs.Chains.{Grounded-cut, Grounded-apart, Grounded-joined}
+use Rattle.replication_laws.proofs.Keeping.{at_or_before-refl, Same, Still, Still-refl, Standing, Linked, Linked-still, Linked-keeps, Linked-moves, Idle, Idle-refl, Idle-same, Idle-with}
+use Rattle.replication_laws.proofs.Worlds.{at_with_same, at_with_other}
 
-at_or_before-refl : (c : Coord) → is_at_or_before c c ≡ true
-at_or_before-refl c = grind (arith, nat_tests)
-
--- the same server but for its threads, its links and how far it has read
-record Still (s s' : Server) : Type 0 where
-  history : s'.history.txns ≡ s.history.txns
-  log : s'.log.log ≡ s.log.log
-  settings : s'.settings ≡ s.settings
-  source : source_no s'.source ≡ source_no s.source
-  exec : s'.exec ≡ s.exec
-  read : (s'.read ≡ s.read) ⊎ (s'.read ≡ s.exec)
-
-Still-refl : (s : Server) → Still s s
-Still-refl s = record { history = refl; log = refl; settings = refl; source = refl; exec = refl; read = inl refl }
-
-AttachedWell-still : (s s' t : Server) → Still s s' → AttachedWell s t → AttachedWell s' t
-AttachedWell-still s s' t still well = record {
-  prefix = rw still.history well.prefix;
-  exec_place = rw (still.exec, still.history) well.exec_place;
-  read_place = elim still.read [ inl same ↦ rw same well.read_place | inr back ↦ rw back (length s.history.txns, well.exec_place) ];
-  order = elim still.read [ inl same ↦ rw (still.exec, same) well.order | inr back ↦ rw (still.exec, back) (at_or_before-refl s.exec) ];
-}
-
-Step-still_change : (w : World) (n : ℕ) (s s' : Server) → Safe w → server_at w n ≡ Some s → Still s s' → Step w (with_server w n s')
-Step-still_change w n s s' safe here still =
-    Step-still w n s s' safe here still.history still.log still.settings still.source (λ m t from at_m well. AttachedWell-still s s' t still well)
-
-GoesOn-still : (s s' : Server) → Still s s' → GoesOn s s'
-GoesOn-still s s' still = GoesOn-kept s s' still.history still.log still.settings
+-- changes that leave the source
 
 Still-stopped : (which : Threads) (s : Server) → Still s (stopped which s)
-Still-stopped threads.Both s = record { history = refl; log = refl; settings = refl; source = refl; exec = refl; read = inl refl }
-Still-stopped threads.Receiver s = record { history = refl; log = refl; settings = refl; source = refl; exec = refl; read = inl refl }
-Still-stopped threads.Applier s = record { history = refl; log = refl; settings = refl; source = refl; exec = refl; read = inl refl }
+Still-stopped threads.Both s = record { same = record { history = refl; log = refl; settings = refl }; source = refl; exec = refl; read = inl refl }
+Still-stopped threads.Receiver s = record { same = record { history = refl; log = refl; settings = refl }; source = refl; exec = refl; read = inl refl }
+Still-stopped threads.Applier s = record { same = record { history = refl; log = refl; settings = refl }; source = refl; exec = refl; read = inl refl }
 
 Still-started : (until : Option Coord) (s : Server) → Still s (started until s)
 Still-started until s = go (is_attached s.source)
   where
     go : (b : Bool) → Still s (cond b (record s { receiver = true; applier = true; until = until }) s)
-    go true = record { history = refl; log = refl; settings = refl; source = refl; exec = refl; read = inl refl }
+    go true = record { same = record { history = refl; log = refl; settings = refl }; source = refl; exec = refl; read = inl refl }
     go false = Still-refl s
 
 detached_source-no : (source : SourceState) → source_no (detached_source source) ≡ source_no source
@@ -81,7 +58,7 @@ Still-detached : (s : Server) → Still s (detached s)
 Still-detached s = go (is_attached s.source)
   where
     go : (b : Bool) → Still s (cond b (record s { source = detached_source s.source; receiver = false; applier = false; read = s.exec; until = None }) s)
-    go true = record { history = refl; log = refl; settings = refl; source = detached_source-no s.source; exec = refl; read = inr refl }
+    go true = record { same = record { history = refl; log = refl; settings = refl }; source = detached_source-no s.source; exec = refl; read = inr refl }
     go false = Still-refl s
 
 attached_source-no : (source : SourceState) → source_no (attached_source source) ≡ source_no source
@@ -93,7 +70,7 @@ Still-reattached : (s : Server) → Still s (reattached s)
 Still-reattached s = go (is_detached s.source)
   where
     go : (b : Bool) → Still s (cond b (record s { source = attached_source s.source; receiver = false; applier = false }) s)
-    go true = record { history = refl; log = refl; settings = refl; source = attached_source-no s.source; exec = refl; read = inl refl }
+    go true = record { same = record { history = refl; log = refl; settings = refl }; source = attached_source-no s.source; exec = refl; read = inl refl }
     go false = Still-refl s
 
 Still-healed : (s : Server) → Still s (healed s)
@@ -101,137 +78,17 @@ Still-healed s = go s.up
   where
     go : (b : Bool) → Still s (cond b s (record s { up = true; until = None; receiver = is_attached s.source || s.receiver; applier = is_attached s.source || s.applier }))
     go true = Still-refl s
-    go false = record { history = refl; log = refl; settings = refl; source = refl; exec = refl; read = inl refl }
+    go false = record { same = record { history = refl; log = refl; settings = refl }; source = refl; exec = refl; read = inl refl }
 
--- what a change of source owes
-pub record Moves (w : World) (n : ℕ) (s s' : Server) : Type 0 where
-  pub history : s'.history.txns ≡ s.history.txns
-  pub log : s'.log.log ≡ s.log.log
-  pub settings : s'.settings ≡ s.settings
-  pub well : (m : ℕ) (t : Server) → source_no s'.source ≡ Some m → server_at w m ≡ Some t → AttachedWell s' t
-  pub logging : (m : ℕ) → source_no s'.source ≡ Some m → IsSource w m
-  pub grounded : (m : ℕ) → Grounded (sources (with_server w n s')) m
+Still-befallen : (e : Event) (s : Server) → Still s (befallen e s)
+Still-befallen event.Fail s = record { same = record { history = refl; log = refl; settings = refl }; source = refl; exec = refl; read = inl refl }
+Still-befallen event.Heal s = Still-healed s
+Still-befallen (event.Cut link.Desk) s = record { same = record { history = refl; log = refl; settings = refl }; source = refl; exec = refl; read = inl refl }
+Still-befallen (event.Cut link.Feed) s = record { same = record { history = refl; log = refl; settings = refl }; source = refl; exec = refl; read = inl refl }
+Still-befallen (event.Join link.Desk) s = record { same = record { history = refl; log = refl; settings = refl }; source = refl; exec = refl; read = inl refl }
+Still-befallen (event.Join link.Feed) s = record { same = record { history = refl; log = refl; settings = refl }; source = refl; exec = refl; read = inl refl }
 
-Safe-moves : (w : World) (n : ℕ) (s s' : Server) → Safe w → server_at w n ≡ Some s → Moves w n s s' → Safe (with_server w n s')
-Safe-moves w n s s' safe here moves = record {
-  laid = λ m t at on.
-      elim (at_cases w n s s' here m t at) [
-        | inl new ↦ subst (λ (x : Server). x.settings.logs ≡ true → LaysOut x.history.txns x.log.log) (sym new.1) laid on
-        | inr old ↦ safe.laid m t old.1 on
-      ];
-  well = λ a b r t at_a source at_b.
-      elim (at_cases w n s s' here a r at_a) [
-        | inl new_a ↦ replica a b r t new_a.1 source (at_cases w n s s' here b t at_b)
-        | inr old_a ↦ elim (at_cases w n s s' here b t at_b) [
-          | inl new_b ↦
-              subst (λ (x : Server). AttachedWell r x) (sym new_b.1)
-              (AttachedWell-source r s s' (GoesOn-kept s s' moves.history moves.log moves.settings) (safe.well a n r s old_a.1 (source ∙ ap Some new_b.0) here))
-          | inr old_b ↦ safe.well a b r t old_a.1 source old_b.1
-        ]
-      ];
-  logging = λ a b r at source.
-      IsSource-with w n s s' here moves.settings b
-      (elim (at_cases w n s s' here a r at) [
-        | inl new ↦ moves.logging b (ap (λ (x : Server). source_no x.source) (sym new.1) ∙ source)
-        | inr old ↦ safe.logging a b r old.1 source
-      ]);
-  kin = subst IsKin (sym (histories-kept w n s s' here moves.history)) safe.kin;
-  grounded = moves.grounded;
-}
-  where
-    laid : s'.settings.logs ≡ true → LaysOut s'.history.txns s'.log.log
-    laid on =
-        subst (λ (x : Log). LaysOut s'.history.txns x) (sym moves.log)
-        (subst (λ (xs : List Txn). LaysOut xs s.log.log) (sym moves.history) (safe.laid n s here (sym (ap (λ (x : Settings). x.logs) moves.settings) ∙ on)))
-
-    replica : (a b : ℕ) (r t : Server) → r ≡ s' → source_no r.source ≡ Some b → ((b ≡ n) × (t ≡ s')) ⊎ ((b ≡ n → ⊥) × (server_at w b ≡ Some t)) → AttachedWell r t
-    replica a b r t is_s' source where_b =
-        let from : source_no s'.source ≡ Some b = ap (λ (x : Server). source_no x.source) (sym is_s') ∙ source in
-        elim where_b [
-          | inl new ↦ absurd (Grounded-not_self (sources (with_server w n s')) n (moves.grounded n) (ap source_of (at_with_same w n s s' here) ∙ from ∙ ap Some new.0))
-          | inr old ↦ subst (λ (x : Server). AttachedWell x t) (sym is_s') (moves.well b t from old.1)
-        ]
-
-pub Step-moves : (w : World) (n : ℕ) (s s' : Server) → Safe w → server_at w n ≡ Some s → Moves w n s s' → Step w (with_server w n s')
-Step-moves w n s s' safe here moves = record {
-  safe = Safe-moves w n s s' safe here moves;
-  grows = Grows-with w n s s' here (GoesOn-kept s s' moves.history moves.log moves.settings);
-}
-
--- the chains where one server lost its source
-Grounded-cut : (up up' : ℕ → Option ℕ) (n : ℕ) → up' n ≡ None → ((x : ℕ) → (x ≡ n → ⊥) → up' x ≡ up x) → (x : ℕ) → Grounded up x → Grounded up' x
-Grounded-cut up up' n none others x (Root x' root) =
-    elim (cases_eq x n) [ inl here ↦ Root x (ap up' here ∙ none) | inr apart ↦ Root x (others x apart ∙ root) ]
-Grounded-cut up up' n none others x (Under x' m e g) =
-    let above = Grounded-cut up up' n none others m g in
-    elim (cases_eq x n) [ inl here ↦ Root x (ap up' here ∙ none) | inr apart ↦ Under x m (others x apart ∙ e) above ]
-
-Step-reset : (w : World) (n : ℕ) (s : Server) → Safe w → server_at w n ≡ Some s → Step w (with_server w n (without_source s))
-Step-reset w n s safe here =
-    Step-moves w n s (without_source s) safe here (record {
-      history = refl;
-      log = refl;
-      settings = refl;
-      well = λ m t from at_m. absurd (none m from);
-      logging = λ m from. absurd (none m from);
-      grounded = λ m.
-          Grounded-cut (sources w) (sources (with_server w n (without_source s))) n (ap source_of (at_with_same w n s (without_source s) here))
-          (λ x apart. ap source_of (at_with_other w n s (without_source s) here x apart)) m (safe.grounded m);
-    })
-  where
-    none : (m : ℕ) → source_no (without_source s).source ≡ Some m → ⊥
-    none m from = cc
-
--- a new file
-
-GoesOn-rotated : (s : Server) → GoesOn s (rotated s)
-GoesOn-rotated s = record { settings = refl; prefix = take-length s.history.txns; places = λ c k h. stable_flush s.log.log c k h }
-
-pub Step-rotate : (w : World) (n : ℕ) (o : Option Server) → server_at w n ≡ o → (answer : RotateAnswer) → Safe w → Step w (after_rotate w n o answer)
-Step-rotate w n None at answer safe = Step-refl w safe
-Step-rotate w n (Some s) at rotating.Down safe = Step-refl w safe
-Step-rotate w n (Some s) at rotating.NotLogging safe = Step-refl w safe
-Step-rotate w n (Some s) at rotating.Full safe = Step-refl w safe
-Step-rotate w n (Some s) at (rotating.Done c) safe =
-    Step-with w n s (rotated s) safe at (record {
-      goes_on = GoesOn-rotated s;
-      source = refl;
-      laid = λ on. Flushed s.history.txns s.log.log (safe.laid n s at on);
-      well = λ m t from at_m well. record { prefix = well.prefix; exec_place = well.exec_place; read_place = well.read_place; order = well.order };
-      kin = subst IsKin (sym (histories-kept w n s (rotated s) at refl)) safe.kin;
-    })
-
-pub Grows-rotate : (w : World) (n : ℕ) (o : Option Server) → server_at w n ≡ o → (answer : RotateAnswer) → Grows w (after_rotate w n o answer)
-Grows-rotate w n None at answer = Grows-refl w
-Grows-rotate w n (Some s) at rotating.Down = Grows-refl w
-Grows-rotate w n (Some s) at rotating.NotLogging = Grows-refl w
-Grows-rotate w n (Some s) at rotating.Full = Grows-refl w
-Grows-rotate w n (Some s) at (rotating.Done c) = Grows-with w n s (rotated s) at (GoesOn-rotated s)
-
-pub errant-rotate : (w : World) (n : ℕ) (o : Option Server) (answer : RotateAnswer) → (after_rotate w n o answer).errant ≡ w.errant
-errant-rotate w n None answer = refl
-errant-rotate w n (Some s) rotating.Down = refl
-errant-rotate w n (Some s) rotating.NotLogging = refl
-errant-rotate w n (Some s) rotating.Full = refl
-errant-rotate w n (Some s) (rotating.Done c) = refl
-
--- a change of one server
-Step-change : (w : World) (n : ℕ) (f : Server → Server) → ((s : Server) → server_at w n ≡ Some s → Step w (with_server w n (f s)))
-    → (o : Option Server) → server_at w n ≡ o → Safe w → Step w (after_change w n f o)
-Step-change w n f changed None at safe = Step-refl w safe
-Step-change w n f changed (Some s) at safe = changed s at
-
-Grows-change : (w : World) (n : ℕ) (f : Server → Server) → ((s : Server) → GoesOn s (f s)) → (o : Option Server) → server_at w n ≡ o → Grows w (after_change w n f o)
-Grows-change w n f on None at = Grows-refl w
-Grows-change w n f on (Some s) at = Grows-with w n s (f s) at (on s)
-
-errant-change : (w : World) (n : ℕ) (f : Server → Server) (o : Option Server) → (after_change w n f o).errant ≡ w.errant
-errant-change w n f None = refl
-errant-change w n f (Some s) = refl
-
--- what orchestrator asks of a server
-
--- only RESET REPLICA ALL changes the source
+-- of what orchestrator asks only RESET REPLICA ALL changes the source
 Still-asked : (a : Ask) (s : Server) → Still s (asked a s) ⊎ (asked a s ≡ without_source s)
 Still-asked (asking.Stop which) s = inl (Still-stopped which s)
 Still-asked asking.Start s = inl (Still-started None s)
@@ -239,50 +96,156 @@ Still-asked (asking.StartUntil to) s = inl (Still-started (Some to) s)
 Still-asked asking.Detach s = inl (Still-detached s)
 Still-asked asking.Reattach s = inl (Still-reattached s)
 Still-asked asking.Reset s = inr refl
-Still-asked (asking.SetReadOnly on) s = inl (record { history = refl; log = refl; settings = refl; source = refl; exec = refl; read = inl refl })
+Still-asked (asking.SetReadOnly on) s = inl (record { same = record { history = refl; log = refl; settings = refl }; source = refl; exec = refl; read = inl refl })
 
-Step-asked : (w : World) (n : ℕ) (a : Ask) (s : Server) → Safe w → server_at w n ≡ Some s → Step w (with_server w n (asked a s))
-Step-asked w n a s safe here =
+-- none of these writes, and none touches the log
+
+pub Same-asked : (a : Ask) (s : Server) → Same s (asked a s)
+Same-asked a s =
     elim (Still-asked a s) [
-      | inl still ↦ Step-still_change w n s (asked a s) safe here still
-      | inr reset ↦ subst (λ (x : Server). Step w (with_server w n x)) (sym reset) (Step-reset w n s safe here)
+      | inl still ↦ still.same
+      | inr reset ↦ subst (Same s) (sym reset) (record { history = refl; log = refl; settings = refl })
     ]
 
-GoesOn-asked : (a : Ask) (s : Server) → GoesOn s (asked a s)
-GoesOn-asked a s =
-    elim (Still-asked a s) [
-      | inl still ↦ GoesOn-still s (asked a s) still
-      | inr reset ↦ subst (GoesOn s) (sym reset) (GoesOn-kept s (without_source s) refl refl refl)
-    ]
+pub Same-befallen : (e : Event) (s : Server) → Same s (befallen e s)
+Same-befallen e s = (Still-befallen e s).same
 
-pub Step-ask : (w : World) (n : ℕ) (a : Ask) (answer : Result (Unit {0}) Unreachable) → Safe w → Step w (after_desk w n a answer)
-Step-ask w n a (Ok t) safe = Step-change w n (asked a) (λ s here. Step-asked w n a s safe here) (server_at w n) refl safe
-Step-ask w n a (Err e) safe = Step-refl w safe
+pub Same-attached : (to : ServerNo) (at : Coord) (s : Server) → Same s (attached_to to at s)
+Same-attached to at s = record { history = refl; log = refl; settings = refl }
 
-pub Grows-ask : (w : World) (n : ℕ) (a : Ask) (answer : Result (Unit {0}) Unreachable) → Grows w (after_desk w n a answer)
-Grows-ask w n a (Ok t) = Grows-change w n (asked a) (GoesOn-asked a) (server_at w n) refl
-Grows-ask w n a (Err e) = Grows-refl w
+GoesOn-rotated : (s : Server) → GoesOn s (rotated s)
+GoesOn-rotated s = record { settings = refl; prefix = take-length s.history.txns; places = λ c k h. stable_flush s.log.log c k h }
 
-pub errant-ask : (w : World) (n : ℕ) (a : Ask) (answer : Result (Unit {0}) Unreachable) → (after_desk w n a answer).errant ≡ w.errant
-errant-ask w n a (Ok t) = errant-change w n (asked a) (server_at w n)
-errant-ask w n a (Err e) = refl
+Idle-change : (w : World) (n : ℕ) (f : Server → Server) → ((s : Server) → Same s (f s)) → (o : Option Server) → server_at w n ≡ o → Idle w (after_change w n f o)
+Idle-change w n f same None at = Idle-refl w
+Idle-change w n f same (Some s) at = Idle-same w n s (f s) at (same s)
 
--- what befalls a server
+pub Idle-ask : (w : World) (n : ℕ) (a : Ask) (answer : Result (Unit {0}) Unreachable) → Idle w (after_desk w n a answer)
+Idle-ask w n a (Ok t) = Idle-change w n (asked a) (Same-asked a) (server_at w n) refl
+Idle-ask w n a (Err e) = Idle-refl w
 
-Still-befallen : (e : Event) (s : Server) → Still s (befallen e s)
-Still-befallen event.Fail s = record { history = refl; log = refl; settings = refl; source = refl; exec = refl; read = inl refl }
-Still-befallen event.Heal s = Still-healed s
-Still-befallen (event.Cut link.Desk) s = record { history = refl; log = refl; settings = refl; source = refl; exec = refl; read = inl refl }
-Still-befallen (event.Cut link.Feed) s = record { history = refl; log = refl; settings = refl; source = refl; exec = refl; read = inl refl }
-Still-befallen (event.Join link.Desk) s = record { history = refl; log = refl; settings = refl; source = refl; exec = refl; read = inl refl }
-Still-befallen (event.Join link.Feed) s = record { history = refl; log = refl; settings = refl; source = refl; exec = refl; read = inl refl }
+pub Idle-befall : (w : World) (n : ℕ) (e : Event) → Idle w (after_change w n (befallen e) (server_at w n))
+Idle-befall w n e = Idle-change w n (befallen e) (Same-befallen e) (server_at w n) refl
 
-pub Step-befall : (w : World) (n : ℕ) (e : Event) → Safe w → Step w (after_change w n (befallen e) (server_at w n))
-Step-befall w n e safe =
-    Step-change w n (befallen e) (λ s here. Step-still_change w n s (befallen e s) safe here (Still-befallen e s)) (server_at w n) refl safe
+pub Idle-rotate : (w : World) (n : ℕ) (o : Option Server) → server_at w n ≡ o → (answer : RotateAnswer) → Idle w (after_rotate w n o answer)
+Idle-rotate w n None at answer = Idle-refl w
+Idle-rotate w n (Some s) at rotating.Down = Idle-refl w
+Idle-rotate w n (Some s) at rotating.NotLogging = Idle-refl w
+Idle-rotate w n (Some s) at rotating.Full = Idle-refl w
+Idle-rotate w n (Some s) at (rotating.Done c) = Idle-with w n s (rotated s) at refl (GoesOn-rotated s)
 
-pub Grows-befall : (w : World) (n : ℕ) (e : Event) → Grows w (after_change w n (befallen e) (server_at w n))
-Grows-befall w n e = Grows-change w n (befallen e) (λ s. GoesOn-still s (befallen e s) (Still-befallen e s)) (server_at w n) refl
+pub Idle-attach : (w : World) (n : ℕ) (to : ServerNo) (c : Coord) (o : Option Server) → server_at w n ≡ o → (answer : Result (Unit {0}) AttachFault) → Idle w (after_attach w n to c o answer)
+Idle-attach w n to c None at answer = Idle-refl w
+Idle-attach w n to c (Some s) at (Ok t) = Idle-same w n s (attached_to to c s) at (Same-attached to c s)
+Idle-attach w n to c (Some s) at (Err e) = Idle-refl w
 
-pub errant-befall : (w : World) (n : ℕ) (e : Event) → (after_change w n (befallen e) (server_at w n)).errant ≡ w.errant
-errant-befall w n e = errant-change w n (befallen e) (server_at w n)
+-- and each keeps how the replicas stand
+
+module _ (R : Server → Server → Type 0) (standing : Standing R) (w : World) (n : ℕ) (linked : Linked R w) where
+  Linked-reset : (s : Server) → server_at w n ≡ Some s → Linked R (with_server w n (without_source s))
+  Linked-reset s here =
+      Linked-moves R standing w n s (without_source s) linked here (record {
+        same = record { history = refl; log = refl; settings = refl };
+        stands = λ m t from at_m. absurd (none m from);
+        logging = λ m from. absurd (none m from);
+        grounded = λ m.
+            Grounded-cut (sources w) (sources (with_server w n (without_source s))) n (ap source_of (at_with_same w n s (without_source s) here))
+            (λ x apart. ap source_of (at_with_other w n s (without_source s) here x apart)) m (linked.grounded m);
+      })
+    where
+      none : (m : ℕ) → source_no (without_source s).source ≡ Some m → ⊥
+      none m from = cc
+
+  Linked-asked : (a : Ask) (s : Server) → server_at w n ≡ Some s → Linked R (with_server w n (asked a s))
+  Linked-asked a s here =
+      elim (Still-asked a s) [
+        | inl still ↦ Linked-still R standing w n s (asked a s) linked here still
+        | inr reset ↦ subst (λ (x : Server). Linked R (with_server w n x)) (sym reset) (Linked-reset s here)
+      ]
+
+  Linked-change : (f : Server → Server) → ((s : Server) → server_at w n ≡ Some s → Linked R (with_server w n (f s)))
+      → (o : Option Server) → server_at w n ≡ o → Linked R (after_change w n f o)
+  Linked-change f changed None at = linked
+  Linked-change f changed (Some s) at = changed s at
+
+  pub Linked-ask : (a : Ask) (answer : Result (Unit {0}) Unreachable) → Linked R (after_desk w n a answer)
+  Linked-ask a (Ok t) = Linked-change (asked a) (Linked-asked a) (server_at w n) refl
+  Linked-ask a (Err e) = linked
+
+  pub Linked-befall : (e : Event) → Linked R (after_change w n (befallen e) (server_at w n))
+  Linked-befall e = Linked-change (befallen e) (λ s here. Linked-still R standing w n s (befallen e s) linked here (Still-befallen e s)) (server_at w n) refl
+
+  pub Linked-rotate : (o : Option Server) → server_at w n ≡ o → ((r s : Server) → R r s → R (rotated r) s) → (answer : RotateAnswer) → Linked R (after_rotate w n o answer)
+  Linked-rotate None at on answer = linked
+  Linked-rotate (Some s) at on rotating.Down = linked
+  Linked-rotate (Some s) at on rotating.NotLogging = linked
+  Linked-rotate (Some s) at on rotating.Full = linked
+  Linked-rotate (Some s) at on (rotating.Done c) =
+      Linked-keeps R standing w n s (rotated s) linked at (record {
+        goes_on = GoesOn-rotated s;
+        source = refl;
+        laid = λ logs. Flushed s.history.txns s.log.log (linked.laid n s at logs);
+        stands = λ m t from at_m stood. on s t stood;
+      })
+
+  -- an attachment to a server that isn't below the one that is attached
+  Linked-joined : (to : ServerNo) (c : Coord) (s t : Server) → server_at w n ≡ Some s → server_at w to.0 ≡ Some t → t.settings.logs ≡ true → R (attached_to to c s) t
+      → chain_meets (sources w) (length w.servers) to.0 n ≡ false → Linked R (with_server w n (attached_to to c s))
+  Linked-joined to c s t here there logs stands apart =
+      Linked-moves R standing w n s (attached_to to c s) linked here (record {
+        same = Same-attached to c s;
+        stands = λ m x from at_m. subst (R (attached_to to c s)) (same m x from at_m) stands;
+        logging = λ m from. subst (IsSource w) (same_Some to.0 m from) (t, there, logs);
+        grounded = λ m.
+            Grounded-joined (sources w) (sources (with_server w n (attached_to to c s))) n to.0
+            (ap source_of (at_with_same w n s (attached_to to c s) here)) others
+            (Grounded-apart (sources w) (sources (with_server w n (attached_to to c s))) n others (length w.servers) to.0 apart)
+            m (linked.grounded m);
+      })
+    where
+      others : (x : ℕ) → (x ≡ n → ⊥) → sources (with_server w n (attached_to to c s)) x ≡ sources w x
+      others x away = ap source_of (at_with_other w n s (attached_to to c s) here x away)
+
+      same : (m : ℕ) (x : Server) → source_no (attached_to to c s).source ≡ Some m → server_at w m ≡ Some x → t ≡ x
+      same m x from at_m = let e : to.0 ≡ m = same_Some to.0 m from in same_Some t x (sym there ∙ ap (server_at w) e ∙ at_m)
+
+  pub Linked-attach : (expect : Spot) (to : ServerNo) (c : Coord) → IsTarget w to.0 c
+      → ((r s : Server) → server_at w n ≡ Some r → server_at w to.0 ≡ Some s → same_spot expect (live_spot r expect) ≡ true → R (attached_to to c r) s)
+      → (o : Option Server) → server_at w n ≡ o → Linked R (after_attach w n to c o (attach_answer w n expect to.0 o))
+  Linked-attach expect to c target stands None here = linked
+  Linked-attach expect to c target stands (Some s) here =
+      go (s.up && s.desk) (s.receiver || s.applier) (same_spot expect (live_spot s expect)) (chain_meets (sources w) (length w.servers) to.0 n) refl refl
+    where
+      go : (reached on expected loops : Bool) → same_spot expect (live_spot s expect) ≡ expected → chain_meets (sources w) (length w.servers) to.0 n ≡ loops
+          → Linked R (after_attach w n to c (Some s)
+          (cond (not reached) (Err attaching.Unreachable)
+          (cond on (Err (attaching.Running (spot_below s s.source)))
+          (cond (not expected) (Err (attaching.Interfered expect (live_spot s expect))) (cond loops (Err attaching.Loop) (Ok tt))))))
+      go false on expected loops is e = linked
+      go true true expected loops is e = linked
+      go true false false loops is e = linked
+      go true false true true is e = linked
+      go true false true false is e = Linked-joined to c s target.target here target.there target.logs (stands s target.target here target.there is) e
+
+-- how an attached replica stands
+
+pub StandsIn-rotated : (r s : Server) → StandsIn r s → StandsIn (rotated r) s
+StandsIn-rotated r s stands = record { exec_place = stands.exec_place; read_place = stands.read_place; order = stands.order }
+
+pub AttachedWell-rotated : (r s : Server) → AttachedWell r s → AttachedWell (rotated r) s
+AttachedWell-rotated r s well = record { prefix = well.prefix; exec_place = well.exec_place; read_place = well.read_place; order = well.order }
+
+target-place : (w : World) (to : ServerNo) (c : Coord) (s : Server) → IsTarget w to.0 c → server_at w to.0 ≡ Some s → (k : ℕ) × (place s.log.log c ≡ Some k)
+target-place w to c s target there =
+    let is : target.target ≡ s = same_Some target.target s (sym target.there ∙ there) in
+    subst (λ (x : Server). (k : ℕ) × (place x.log.log c ≡ Some k)) is
+    (count_by (ends_by c) target.target.log.log.entries, place-from target.target.log.log c (count_by (ends_by c) target.target.log.log.entries) target.place refl)
+
+pub StandsIn-attached : (w : World) (to : ServerNo) (c : Coord) (r s : Server) → IsTarget w to.0 c → server_at w to.0 ≡ Some s → StandsIn (attached_to to c r) s
+StandsIn-attached w to c r s target there =
+    let at = target-place w to c s target there in
+    record { exec_place = at; read_place = at; order = at_or_before-refl c }
+
+pub AttachedWell-attached : (to : ServerNo) (c : Coord) (r s : Server) → IsJunction r s c → AttachedWell (attached_to to c r) s
+AttachedWell-attached to c r s junction =
+    record { prefix = junction.prefix; exec_place = junction.place; read_place = (length r.history.txns, junction.place); order = at_or_before-refl c }

@@ -1,30 +1,47 @@
 -- No history of a quiet run gets full.
 use Rattle.std.proofs.Common.{◌≡◌, ℕ, ◌+◌, ◌<◌, ◌≤◌, Bool, true, false, cond, not, List, [], ◌∷◌, length, take, refl, sym, ◌∙◌, ap, subst, inl, inr, Option, Some, None, arith, length-append, zero, suc, count_by, sum_by}
-use Rattle.std.specs.Prelude.{slice_get, nat_le}
+use Rattle.std.specs.Prelude.{slice_get, nat_le, Result, Ok, Err}
 use Rattle.std.proofs.lemmas.Bool.Decides.{nat_tests}
 use Rattle.std.proofs.lemmas.List.Sums.{sum_by-cons, get_or-le-sum_by}
-use Rattle.std.proofs.lemmas.Option.{same_Some, slice_get_within}
+use Rattle.std.proofs.lemmas.Option.{same_Some, slice_get_within, get_or_from_slice_get}
+use Rattle.binlog_coords.specs.declared.Coord.{Coord}
 use Rattle.binlog_coords.specs.declared.Next.TheVariants as next
+use Rattle.orch_base.specs.declared.server.ServerNo.{ServerNo}
 use Rattle.orch_base.specs.declared.server.Txn.{Txn}
+use Rattle.openings.proofs.Joined.{tick}
 use Rattle.server_model.specs.declared.answers.ApplyAnswer.TheVariants as answers
 use Rattle.server_model.specs.declared.answers.ApplyStep.{ApplyStep}
 use Rattle.server_model.specs.declared.answers.FetchStep.{FetchStep}
 use Rattle.server_model.specs.declared.answers.FetchStep.TheVariants as receiving
+use Rattle.server_model.specs.declared.answers.RotateAnswer.{RotateAnswer}
+use Rattle.server_model.specs.declared.answers.RotateAnswer.TheVariants as rotating
+use Rattle.server_model.specs.declared.answers.Unreachable.{Unreachable}
 use Rattle.server_model.specs.declared.answers.WriteAnswer.{WriteAnswer}
 use Rattle.server_model.specs.declared.answers.WriteAnswer.TheVariants as wrote
+use Rattle.server_model.specs.declared.attach.AttachFault.{AttachFault}
+use Rattle.server_model.specs.declared.changes.Ask.{Ask}
 use Rattle.server_model.specs.declared.server.Server.{Server}
+use Rattle.server_model.specs.Attach.{attach_answer, attached_to, after_attach}
+use Rattle.server_model.specs.Desk.{asked, befallen, rotated, desk_answer, rotate_answer, after_change, after_desk, after_rotate}
 use Rattle.server_model.specs.Exchanges.{took, own_txn, write_answer, after_write, fetch_step, after_fetch, apply_step, apply_answer, after_apply}
-use Rattle.server_model.specs.Histories.{count_own}
-use Rattle.server_model.specs.Opening.{Opened, transactions, opened_world, IsSound, Fits}
-use Rattle.server_model.specs.Run.{Exchange, Write, Fetch, Apply, after, run, AllAllowed}
+use Rattle.orch_base.specs.Histories.{count_own}
+use Rattle.openings.specs.declared.init.ServerInit.{ServerInit}
+use Rattle.openings.specs.Listed.{transactions}
+use Rattle.openings.specs.Opening.{Opened, IsChecked}
+use Rattle.openings.specs.Servers.{parts_of}
+use Rattle.server_model.specs.Opening.{opened_world, Fits}
+use Rattle.server_model.specs.Run.{Exchange, Write, Fetch, Apply, Request, Befall, Rotate, Attach, after, run, AllAllowed, AllJoinWell}
 use Rattle.server_model.specs.Safe.{Safe, IsQuiet}
 use Rattle.server_model.specs.Worlds.{World, server_at, with_server}
-use Rattle.server_model.proofs.Openings.{given-opened, length-history_in}
-use Rattle.replication_laws.specs.Room.{is_write, room_for, IsNotFull}
-use Rattle.replication_laws.proofs.Applies.{Ready, Applying, Halts, Forgets, Idles, Passes, Fills, Executes, Applying-step}
-use Rattle.replication_laws.proofs.Keeping.{at_cases}
+use Rattle.server_model.proofs.Opened.{given-opened}
+use Rattle.server_model.proofs.OpenedWorlds.{length-history_at}
+use Rattle.replication_laws.specs.Room.{is_write, is_rotate, room_for, LeavesFiles, HasFiles, IsNotFull}
+use Rattle.replication_laws.proofs.Applies.{Taking, Facing, Halts, Forgets, Idles, Passes, Skips, Fills, Executes, Facing-step, after_executed, not_held}
+use Rattle.replication_laws.proofs.Files.{not_full-files}
+use Rattle.replication_laws.proofs.Keeping.{at_cases, Same, Placed-safe}
+use Rattle.replication_laws.proofs.Moves.{Same-asked, Same-befallen}
 use Rattle.replication_laws.proofs.Openings.{Safe-opened}
-use Rattle.replication_laws.proofs.Runs.{Step-after, quiet-run}
+use Rattle.replication_laws.proofs.Runs.{Safe-after, quiet-run}
 
 -- a server with this room that has executed at most so many transactions
 record Fitting (room total : ℕ) (s : Server) : Type 0 where
@@ -69,25 +86,46 @@ module _ (room total : ℕ) (w : World) (fit : AllFit room total w) where
   AllFit-fetch n (Some r) at (receiving.Take (next.Rotate to)) = AllFit-still n r (record r { read = to }) at refl
   AllFit-fetch n (Some r) at (receiving.Take next.End) = AllFit-more 0
 
-  -- what is to be executed is in another history
-  ready-within : (r : Server) (t : Txn) → Ready w r t → length r.history.txns < total
-  ready-within r t ready =
-      omega (arith, (fit ready.number ready.source ready.source_at).within, slice_get_within ready.source.history.txns (length r.history.txns) t ready.there)
+  AllFit-change : (n : ℕ) (f : Server → Server) → ((s : Server) → Same s (f s)) → (o : Option Server) → server_at w n ≡ o → AllFit room (total + 0) (after_change w n f o)
+  AllFit-change n f same None at = AllFit-more 0
+  AllFit-change n f same (Some s) at = AllFit-still n s (f s) at (same s).history
 
-  AllFit-step : (n : ℕ) (r : Server) → server_at w n ≡ Some r → (x : ApplyStep) → Applying w r x → AllFit room (total + 0) (after_apply w n (Some r) x)
-  AllFit-step n r at x Halts = AllFit-more 0
-  AllFit-step n r at x Forgets = AllFit-still n r (record r { applier = false; until = None }) at refl
-  AllFit-step n r at x Idles = AllFit-more 0
-  AllFit-step n r at x (Passes to) = AllFit-still n r (record r { exec = to }) at refl
-  AllFit-step n r at x (Fills t ready full) = AllFit-more 0
-  AllFit-step n r at x (Executes t to ready) =
+  AllFit-ask : (n : ℕ) (a : Ask) (answer : Result (Unit {0}) Unreachable) → AllFit room (total + 0) (after_desk w n a answer)
+  AllFit-ask n a (Ok t) = AllFit-change n (asked a) (Same-asked a) (server_at w n) refl
+  AllFit-ask n a (Err e) = AllFit-more 0
+
+  AllFit-rotate : (n : ℕ) (o : Option Server) → server_at w n ≡ o → (answer : RotateAnswer) → AllFit room (total + 0) (after_rotate w n o answer)
+  AllFit-rotate n None at answer = AllFit-more 0
+  AllFit-rotate n (Some s) at rotating.Down = AllFit-more 0
+  AllFit-rotate n (Some s) at rotating.NotLogging = AllFit-more 0
+  AllFit-rotate n (Some s) at rotating.Full = AllFit-more 0
+  AllFit-rotate n (Some s) at (rotating.Done c) = AllFit-still n s (rotated s) at refl
+
+  AllFit-attach : (n : ℕ) (to : ServerNo) (c : Coord) (o : Option Server) → server_at w n ≡ o → (answer : Result (Unit {0}) AttachFault) → AllFit room (total + 0) (after_attach w n to c o answer)
+  AllFit-attach n to c None at answer = AllFit-more 0
+  AllFit-attach n to c (Some s) at (Ok t) = AllFit-still n s (attached_to to c s) at refl
+  AllFit-attach n to c (Some s) at (Err e) = AllFit-more 0
+
+  -- what is to be executed is in another history
+  due-within : (n : ℕ) (r : Server) → server_at w n ≡ Some r → Safe w → (t : Txn) (to : Coord) → Taking w r t to → length r.history.txns < total
+  due-within n r at safe t to due =
+      omega (arith, (fit due.number due.source due.source_at).within, slice_get_within due.source.history.txns (length r.history.txns) t (after_executed w n r safe at t to due))
+
+  AllFit-step : (n : ℕ) (r : Server) → server_at w n ≡ Some r → Safe w → (x : ApplyStep) → Facing w r x → AllFit room (total + 0) (after_apply w n (Some r) x)
+  AllFit-step n r at safe x Halts = AllFit-more 0
+  AllFit-step n r at safe x Forgets = AllFit-still n r (record r { applier = false; until = None }) at refl
+  AllFit-step n r at safe x Idles = AllFit-more 0
+  AllFit-step n r at safe x (Passes to pass) = AllFit-still n r (record r { exec = to }) at refl
+  AllFit-step n r at safe x (Skips t to due held) = absurd (not_held w n r safe at t to due held)
+  AllFit-step n r at safe x (Fills t to due full) = AllFit-more 0
+  AllFit-step n r at safe x (Executes t to due) =
       let f = fit n r at in
       AllFit-with 0 n r (record (took r t) { exec = to }) at
-      (record { room_is = f.room_is; within = omega (arith, ready-within r t ready, length-append r.history.txns (t ∷ [])) })
+      (record { room_is = f.room_is; within = omega (arith, due-within n r at safe t to due, length-append r.history.txns (t ∷ [])) })
 
   AllFit-apply : (n : ℕ) (o : Option Server) → server_at w n ≡ o → Safe w → AllFit room (total + 0) (after_apply w n o (apply_step w o))
   AllFit-apply n None at safe = AllFit-more 0
-  AllFit-apply n (Some r) at safe = AllFit-step n r at (apply_step w (Some r)) (Applying-step w n r at safe)
+  AllFit-apply n (Some r) at safe = AllFit-step n r at safe (apply_step w (Some r)) (Facing-step w n r at (Placed-safe w safe))
 
   -- there is room
   not_full-write : (n : ℕ) (o : Option Server) → server_at w n ≡ o → total < room → write_answer n o ≡ wrote.Full → ⊥
@@ -104,52 +142,80 @@ module _ (room total : ℕ) (w : World) (fit : AllFit room total w) where
           let le : s.history.room ≤ length s.history.txns = grind (arith, nat_tests) in
           absurd (omega (arith, le, f.room_is, f.within))
 
-  not_full-step : (n : ℕ) (r : Server) → server_at w n ≡ Some r → total ≤ room → (x : ApplyStep) → Applying w r x → apply_answer x ≡ answers.Full → ⊥
-  not_full-step n r at more x Halts h = cc
-  not_full-step n r at more x Forgets h = cc
-  not_full-step n r at more x Idles h = cc
-  not_full-step n r at more x (Passes to) h = cc
-  not_full-step n r at more x (Executes t to ready) h = cc
-  not_full-step n r at more x (Fills t ready full) h = absurd (omega (arith, full, (fit n r at).room_is, ready-within r t ready))
+  not_full-step : (n : ℕ) (r : Server) → server_at w n ≡ Some r → total ≤ room → Safe w → (x : ApplyStep) → Facing w r x → apply_answer x ≡ answers.Full → ⊥
+  not_full-step n r at more safe x Halts h = cc
+  not_full-step n r at more safe x Forgets h = cc
+  not_full-step n r at more safe x Idles h = cc
+  not_full-step n r at more safe x (Passes to pass) h = cc
+  not_full-step n r at more safe x (Skips t to due held) h = cc
+  not_full-step n r at more safe x (Executes t to due) h = cc
+  not_full-step n r at more safe x (Fills t to due full) h = absurd (omega (arith, full, (fit n r at).room_is, due-within n r at safe t to due))
 
   not_full-apply : (n : ℕ) (o : Option Server) → server_at w n ≡ o → total ≤ room → Safe w → apply_answer (apply_step w o) ≡ answers.Full → ⊥
   not_full-apply n None at more safe h = cc
-  not_full-apply n (Some r) at more safe h = not_full-step n r at more (apply_step w (Some r)) (Applying-step w n r at safe) h
-
--- one or nothing
-abbrev tick : Bool → ℕ
-tick b = cond b 1 0
+  not_full-apply n (Some r) at more safe h = not_full-step n r at more safe (apply_step w (Some r)) (Facing-step w n r at (Placed-safe w safe)) h
 
 AllFit-after : (room total : ℕ) (w : World) → AllFit room total w → Safe w → (e : Exchange) → AllFit room (total + tick (is_write e)) (after w e)
 AllFit-after room total w fit safe (Write n size) = AllFit-write room total w fit n size (server_at w n) refl (write_answer n (server_at w n))
 AllFit-after room total w fit safe (Fetch n) = AllFit-fetch room total w fit n (server_at w n) refl (fetch_step w (server_at w n))
 AllFit-after room total w fit safe (Apply n) = AllFit-apply room total w fit n (server_at w n) refl safe
+AllFit-after room total w fit safe (Request n a) = AllFit-ask room total w fit n a (desk_answer (server_at w n))
+AllFit-after room total w fit safe (Befall n e) = AllFit-change room total w fit n (befallen e) (Same-befallen e) (server_at w n) refl
+AllFit-after room total w fit safe (Rotate n) = AllFit-rotate room total w fit n (server_at w n) refl (rotate_answer (server_at w n))
+AllFit-after room total w fit safe (Attach n expect to at) = AllFit-attach room total w fit n to at (server_at w n) refl (attach_answer w n expect to.0 (server_at w n))
 
 not_full-here : (room total : ℕ) (w : World) → AllFit room total w → Safe w → (e : Exchange) → total + tick (is_write e) ≤ room → IsNotFull w e
 not_full-here room total w fit safe (Write n size) more = not_full-write room total w fit n (server_at w n) refl (omega arith)
 not_full-here room total w fit safe (Fetch n) more = tt
 not_full-here room total w fit safe (Apply n) more = not_full-apply room total w fit n (server_at w n) refl (omega arith) safe
+not_full-here room total w fit safe (Request n a) more = tt
+not_full-here room total w fit safe (Befall n e) more = tt
+not_full-here room total w fit safe (Rotate n) more = tt
+not_full-here room total w fit safe (Attach n expect to at) more = tt
 
-not_full-run : (room : ℕ) (es : List Exchange) (k : ℕ) (e : Exchange) (total : ℕ) (w : World) → AllFit room total w → Safe w → AllAllowed es
+not_full-run : (room : ℕ) (es : List Exchange) (k : ℕ) (e : Exchange) (total : ℕ) (w : World) → AllFit room total w → Safe w → AllAllowed w es → AllJoinWell w es
     → total + count_by is_write es ≤ room → slice_get es k ≡ Some e → IsQuiet (run w (take k es)) → IsNotFull (run w (take k es)) e
-not_full-run room [] k e total w fit safe allowed more h q = cc
-not_full-run room (x ∷ es) zero e total w fit safe allowed more h q =
+not_full-run room [] k e total w fit safe allowed joins more h q = cc
+not_full-run room (x ∷ es) zero e total w fit safe allowed joins more h q =
     subst (IsNotFull w) (same_Some x e h)
     (not_full-here room total w fit safe x (omega (arith, more, sum_by-cons (λ y. tick (is_write y)) x es)))
-not_full-run room (x ∷ es) (suc k) e total w fit safe allowed more h q =
+not_full-run room (x ∷ es) (suc k) e total w fit safe allowed joins more h q =
     not_full-run room es k e (total + tick (is_write x)) (after w x) (AllFit-after room total w fit safe x)
-    (Step-after w x safe allowed.0 (quiet-run (after w x) (take k es) q)).safe allowed.1
+    (Safe-after w x safe allowed.0 joins.0 (quiet-run (after w x) (take k es) q)) allowed.1 joins.1
     (omega (arith, more, sum_by-cons (λ y. tick (is_write y)) x es)) h q
 
-AllFit-opened : (o : Opened) (room flushes : ℕ) → IsSound o → AllFit room (sum_by (λ i. transactions i.history) o.servers) (opened_world o room flushes)
-AllFit-opened o room flushes sound = λ n s at.
-    let g = given-opened o room flushes n s at in
-    let fits : Fits o (sum_by (λ i. transactions i.history) o.servers) = λ k d lt. get_or-le-sum_by (λ i. transactions i.history) o.servers k d lt in
-    subst (Fitting room (sum_by (λ i. transactions i.history) o.servers)) (sym g.is_opened)
-    (record { room_is = refl; within = length-history_in o (sum_by (λ i. transactions i.history) o.servers) n g.init sound fits g.place })
+-- what the opening lists
+abbrev listed_in : Opened → ℕ
+listed_in o = sum_by (λ i. transactions (parts_of i)) o.servers
 
-pub not_full-opened : (o : Opened) (room flushes : ℕ) (es : List Exchange) (k : ℕ) (e : Exchange) → IsSound o → AllAllowed es → room_for o es ≤ room
+Fits-listed : (o : Opened) → Fits o (listed_in o) (sum_by (λ i. length i.flushes) o.servers)
+Fits-listed o = record {
+  histories = λ k d lt. get_or-le-sum_by (λ i. transactions (parts_of i)) o.servers k d lt;
+  flush_points = λ k d lt. get_or-le-sum_by (λ i. length i.flushes) o.servers k d lt;
+}
+
+AllFit-opened : (o : Opened) (room flushes : ℕ) → AllFit room (listed_in o) (opened_world o room flushes)
+AllFit-opened o room flushes = λ n s at.
+    let g = given-opened o room flushes n s at in
+    subst (Fitting room (listed_in o)) (sym g.is_opened)
+    (record { room_is = refl; within = length-history_at o (listed_in o) (sum_by (λ i. length i.flushes) o.servers) n (Fits-listed o) })
+
+pub not_full-opened : (o : Opened) (room flushes : ℕ) (es : List Exchange) (k : ℕ) (e : Exchange) → IsChecked o → AllAllowed (opened_world o room flushes) es
+    → AllJoinWell (opened_world o room flushes) es → room_for o es ≤ room
     → slice_get es k ≡ Some e → IsQuiet (run (opened_world o room flushes) (take k es)) → IsNotFull (run (opened_world o room flushes) (take k es)) e
-not_full-opened o room flushes es k e sound allowed more h q =
-    not_full-run room es k e (sum_by (λ i. transactions i.history) o.servers) (opened_world o room flushes) (AllFit-opened o room flushes sound) (Safe-opened o room flushes sound)
-    allowed more h q
+not_full-opened o room flushes es k e checked allowed joins more h q =
+    not_full-run room es k e (listed_in o) (opened_world o room flushes) (AllFit-opened o room flushes) (Safe-opened o room flushes checked) allowed joins more h q
+
+-- the room for new files with which servers open
+pub HasFiles-opened : (o : Opened) (room flushes count : ℕ) → LeavesFiles count o flushes → HasFiles count (opened_world o room flushes)
+HasFiles-opened o room flushes count leaves = λ n s at.
+    let g = given-opened o room flushes n s at in
+    let is = get_or_from_slice_get o.servers n g.init g.init g.place in
+    let left : length g.init.flushes + count ≤ flushes =
+    subst (λ (i : ServerInit). length i.flushes + count ≤ flushes) is (leaves n g.init (slice_get_within o.servers n g.init g.place)) in
+    subst (λ (x : Server). count ≤ x.log.flushes) (sym g.is_opened) (omega arith)
+
+-- so no rotation of a run finds a log full
+pub not_full-rotations : (o : Opened) (room flushes : ℕ) (es : List Exchange) (k n : ℕ) → LeavesFiles (count_by is_rotate es) o flushes → slice_get es k ≡ Some (Rotate n)
+    → rotate_answer (server_at (run (opened_world o room flushes) (take k es)) n) ≡ rotating.Full → ⊥
+not_full-rotations o room flushes es k n leaves h = not_full-files es k n (opened_world o room flushes) (HasFiles-opened o room flushes (count_by is_rotate es) leaves) h

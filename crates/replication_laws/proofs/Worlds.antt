@@ -1,10 +1,8 @@
-use Rattle.std.proofs.Common.{◌≡◌, ℕ, cond, refl, sym, ◌∙◌, ap, subst, inl, inr, Option, Some}
+use Rattle.std.proofs.Common.{◌≡◌, ℕ, cond, refl, sym, ◌∙◌, ap, inl, inr, Some}
 use Rattle.std.specs.Prelude.{◌==◌}
 use Rattle.std.proofs.lemmas.Bool.{cases_eq, eq-eqb, ne_eqb}
-use Rattle.std.proofs.lemmas.Option.{same_Some}
 use Rattle.server_model.proofs.Lists.{slice_get-set}
 use Rattle.server_model.specs.Worlds.{World, server_at, with_server, histories, history_of, sources, source_of, source_no}
-use Rattle.server_model.specs.Safe.{Grounded, Root, Under}
 use Rattle.server_model.specs.declared.server.Server.{Server}
 
 -- the world with another server
@@ -35,13 +33,3 @@ sources-kept w n s t h same = λ i m. each m i
       | inl here ↦ rw here (ap source_of (at_with_same w n s t h) ∙ same ∙ sym (ap source_of h))
       | inr apart ↦ ap source_of (at_with_other w n s t h m apart)
     ]
-
--- no server is its own source
-pub Grounded-not_self : (up : ℕ → Option ℕ) (n : ℕ) → Grounded up n → up n ≡ Some n → ⊥
-Grounded-not_self up n (Root n' none) h = cc
-Grounded-not_self up n (Under n' m e g) h =
-    let same : m ≡ n = same_Some m n (sym e ∙ h) in
-    Grounded-not_self up m g (e' same)
-  where
-    e' : m ≡ n → up m ≡ Some m
-    e' same = subst (λ (k : ℕ). up k ≡ Some m) (sym same) e

@@ -1,20 +1,21 @@
+-- Writes: where each server goes on, and what stays safe.
 use Rattle.std.proofs.Common.{◌≡◌, ℕ, ◌+◌, ◌<◌, Bool, true, false, not, cond, List, [], ◌∷◌, ◌++◌, length, refl, sym, ◌∙◌, ap, subst, inl, Option, Some, None, arith}
 use Rattle.std.specs.Prelude.{nat_le}
-use Rattle.server_model.specs.Worlds.{World, server_at, with_server, histories, history_of, source_no, has_source}
-use Rattle.server_model.specs.Histories.{same_txn, count_own}
-use Rattle.server_model.specs.Exchanges.{took, own_txn, write_answer, after_write}
+use Rattle.orch_base.specs.declared.server.SourceState.{SourceState}
+use Rattle.orch_base.specs.declared.server.SourceState.TheVariants.{Without, Attached, Detached}
+use Rattle.orch_base.specs.declared.server.Txn.{Txn}
+use Rattle.server_model.specs.declared.answers.WriteAnswer.{WriteAnswer}
 use Rattle.server_model.specs.declared.answers.WriteAnswer.TheVariants as wrote
-use Rattle.server_model.specs.Safe.{Safe, IsQuiet}
+use Rattle.server_model.specs.declared.server.Server.{Server}
+use Rattle.server_model.specs.Exchanges.{took, own_txn, write_answer, after_write}
+use Rattle.orch_base.specs.Histories.{same_txn, count_own}
+use Rattle.server_model.specs.Safe.{Safe, Placed, StandsIn, AttachedWell, IsQuiet}
+use Rattle.server_model.specs.Worlds.{World, server_at, with_server, histories, history_of, source_no, has_source}
+use Rattle.replication_laws.specs.Growth.{Grows}
 use Rattle.replication_laws.proofs.Worlds.{at_with_same, at_with_other}
 use Rattle.replication_laws.proofs.Histories.{Extends, IsKin-extended, IsKin-fresh}
-use Rattle.replication_laws.specs.Growth.{Grows}
-use Rattle.replication_laws.proofs.Keeping.{Grows-refl, Grows-with, Step, Step-refl, Step-with, Step-errant}
+use Rattle.replication_laws.proofs.Keeping.{Grows-refl, Grows-with, Standing-well, Standing-placed, Linked-safe, Safe-linked, Linked-placed, Placed-linked, Linked-keeps, Linked-errant}
 use Rattle.replication_laws.proofs.Logs.{GoesOn-took, LaysOut-took}
-use Rattle.orch_base.specs.declared.server.Txn.{Txn}
-use Rattle.server_model.specs.declared.server.Server.{Server}
-use Rattle.orch_base.specs.declared.server.SourceState.TheVariants.{Without, Attached, Detached}
-use Rattle.orch_base.specs.declared.server.SourceState.{SourceState}
-use Rattle.server_model.specs.declared.answers.WriteAnswer.{WriteAnswer}
 
 -- one more transaction in one history
 pub Extends-with : (w : World) (n : ℕ) (s s' : Server) (t : Txn) → server_at w n ≡ Some s → s'.history.txns ≡ s.history.txns ++ t ∷ []
@@ -32,20 +33,22 @@ written n size s = own_txn n (count_own n s.history.txns + 1) size
 abbrev answered : ℕ → Server → Bool → Bool → Bool → WriteAnswer
 answered n s up read_only full = cond (not up) wrote.Down (cond read_only wrote.ReadOnly (cond full wrote.Full (wrote.Done (count_own n s.history.txns + 1))))
 
-Step-wrote : (w : World) (n size : ℕ) (s : Server) → Safe w → server_at w n ≡ Some s → 0 < size → source_no s.source ≡ None
-    → Step w (with_server w n (took s (written n size s)))
-Step-wrote w n size s safe here some free =
-    Step-with w n s (took s (written n size s)) safe here (record {
+Safe-wrote : (w : World) (n size errant : ℕ) (s : Server) → Safe w → server_at w n ≡ Some s → 0 < size → source_no s.source ≡ None
+    → Safe (record (with_server w n (took s (written n size s))) { errant = errant })
+Safe-wrote w n size errant s safe here some free =
+    Safe-linked (record (with_server w n (took s (written n size s))) { errant = errant })
+    (Linked-errant AttachedWell (with_server w n (took s (written n size s))) errant
+    (Linked-keeps AttachedWell Standing-well w n s (took s (written n size s)) (Linked-safe w safe) here (record {
       goes_on = GoesOn-took s (written n size s) some (safe.laid n s here);
       source = refl;
       laid = LaysOut-took s (written n size s) some (safe.laid n s here);
-      well = λ m source from at_m stood. absurd (contradiction m from);
-      kin = IsKin-extended (histories w) (histories (with_server w n (took s (written n size s)))) n (written n size s) (Extends-with w n s (took s (written n size s)) (written n size s) here refl) safe.kin
-          (λ b j y g same. absurd (IsKin-fresh (histories w) safe.kin n size b j y g
-          (subst (λ (xs : List Txn). same_txn (own_txn n (count_own n xs + 1) size) y ≡ true) (sym (ap history_of here)) same)))
-          (ap (λ xs. count_own n xs + 1) (sym (ap history_of here)))
-          (inl refl);
-    })
+      stands = λ m t from at_m stood. absurd (contradiction m from);
+    })))
+    (IsKin-extended (histories w) (histories (with_server w n (took s (written n size s)))) n (written n size s) (Extends-with w n s (took s (written n size s)) (written n size s) here refl) safe.kin
+    (λ b j y g same. absurd (IsKin-fresh (histories w) safe.kin n size b j y g
+    (subst (λ (xs : List Txn). same_txn (own_txn n (count_own n xs + 1) size) y ≡ true) (sym (ap history_of here)) same)))
+    (ap (λ xs. count_own n xs + 1) (sym (ap history_of here)))
+    (inl refl))
   where
     contradiction : (m : ℕ) → source_no s.source ≡ Some m → ⊥
     contradiction m from = cc
@@ -56,27 +59,46 @@ free_source (Attached m) h = cc
 free_source (Detached m) h = cc
 
 -- write keeps a quiet world safe
-pub Step-write : (w : World) (n size : ℕ) (o : Option Server) → server_at w n ≡ o → 0 < size → Safe w
-    → IsQuiet (after_write w n size o (write_answer n o)) → Step w (after_write w n size o (write_answer n o))
-Step-write w n size None at some safe quiet = Step-refl w safe
-Step-write w n size (Some s) at some safe quiet = go s.up s.read_only (nat_le s.history.room (length s.history.txns)) quiet
+pub Safe-write : (w : World) (n size : ℕ) (o : Option Server) → server_at w n ≡ o → 0 < size → Safe w
+    → IsQuiet (after_write w n size o (write_answer n o)) → Safe (after_write w n size o (write_answer n o))
+Safe-write w n size None at some safe quiet = safe
+Safe-write w n size (Some s) at some safe quiet = go s.up s.read_only (nat_le s.history.room (length s.history.txns)) quiet
   where
     done : (source : Bool) → has_source s.source ≡ source → cond source (w.errant + 1) w.errant ≡ 0
-        → Step w (record (with_server w n (took s (written n size s))) { errant = cond source (w.errant + 1) w.errant })
+        → Safe (record (with_server w n (took s (written n size s))) { errant = cond source (w.errant + 1) w.errant })
     done true has q = absurd (omega arith)
-    done false has q = Step-errant w (with_server w n (took s (written n size s))) w.errant (Step-wrote w n size s safe at some (free_source s.source has))
+    done false has q = Safe-wrote w n size w.errant s safe at some (free_source s.source has)
 
-    go : (a b c : Bool) → IsQuiet (after_write w n size (Some s) (answered n s a b c)) → Step w (after_write w n size (Some s) (answered n s a b c))
-    go false b c q = Step-refl w safe
-    go true true c q = Step-refl w safe
-    go true false true q = Step-refl w safe
+    go : (a b c : Bool) → IsQuiet (after_write w n size (Some s) (answered n s a b c)) → Safe (after_write w n size (Some s) (answered n s a b c))
+    go false b c q = safe
+    go true true c q = safe
+    go true false true q = safe
     go true false false q = done (has_source s.source) refl q
 
--- each server goes on at a write, errant or not
-pub Grows-write : (w : World) (n size : ℕ) (o : Option Server) → server_at w n ≡ o → 0 < size → Safe w → (a : WriteAnswer) → Grows w (after_write w n size o a)
-Grows-write w n size None at some safe a = Grows-refl w
-Grows-write w n size (Some s) at some safe wrote.Down = Grows-refl w
-Grows-write w n size (Some s) at some safe wrote.ReadOnly = Grows-refl w
-Grows-write w n size (Some s) at some safe wrote.Full = Grows-refl w
-Grows-write w n size (Some s) at some safe (wrote.Done seq) =
-    Grows-with w n s (took s (own_txn n seq size)) at (GoesOn-took s (own_txn n seq size) some (safe.laid n s at))
+-- each server goes on at a write, errant or not, and stays placed
+module _ (w : World) (n size : ℕ) (some : 0 < size) (placed : Placed w) where
+  pub Grows-write : (o : Option Server) → server_at w n ≡ o → (a : WriteAnswer) → Grows w (after_write w n size o a)
+  Grows-write None at a = Grows-refl w
+  Grows-write (Some s) at wrote.Down = Grows-refl w
+  Grows-write (Some s) at wrote.ReadOnly = Grows-refl w
+  Grows-write (Some s) at wrote.Full = Grows-refl w
+  Grows-write (Some s) at (wrote.Done seq) =
+      Grows-with w n s (took s (own_txn n seq size)) at (GoesOn-took s (own_txn n seq size) some (placed.laid n s at))
+
+  Placed-wrote : (seq errant : ℕ) (s : Server) → server_at w n ≡ Some s → Placed (record (with_server w n (took s (own_txn n seq size))) { errant = errant })
+  Placed-wrote seq errant s here =
+      Placed-linked (record (with_server w n (took s (own_txn n seq size))) { errant = errant })
+      (Linked-errant StandsIn (with_server w n (took s (own_txn n seq size))) errant
+      (Linked-keeps StandsIn Standing-placed w n s (took s (own_txn n seq size)) (Linked-placed w placed) here (record {
+        goes_on = GoesOn-took s (own_txn n seq size) some (placed.laid n s here);
+        source = refl;
+        laid = LaysOut-took s (own_txn n seq size) some (placed.laid n s here);
+        stands = λ m t from at_m stood. record { exec_place = stood.exec_place; read_place = stood.read_place; order = stood.order };
+      })))
+
+  pub Placed-write : (o : Option Server) → server_at w n ≡ o → (a : WriteAnswer) → Placed (after_write w n size o a)
+  Placed-write None at a = placed
+  Placed-write (Some s) at wrote.Down = placed
+  Placed-write (Some s) at wrote.ReadOnly = placed
+  Placed-write (Some s) at wrote.Full = placed
+  Placed-write (Some s) at (wrote.Done seq) = Placed-wrote seq (cond (has_source s.source) (w.errant + 1) w.errant) s at

@@ -1,2 +1,4 @@
+pub mod Below
+pub mod Faults
 pub mod Growth
 pub mod Room

@@ -1,22 +1,36 @@
 //! Laws of replication over a world of servers (MySQL 8.0 Reference Manual, "Replication").
 #![tactic(auto)]
 
-ghost use Rattle.std.specs.Prelude.{◌≡◌, ◌≢◌, ℕ, ◌<◌, ◌≤◌, List, Some, true, slice_get, take};
+mod faults;
+mod placed;
+
+ghost use Rattle.std.specs.Prelude.{◌≡◌, ◌≢◌, ℕ, ◌<◌, ◌≤◌, List, Some, true, count_by, slice_get, take};
+ghost use Rattle.orch_base.specs.declared.server.ServerNo.{ServerNo};
 ghost use Rattle.orch_base.specs.declared.server.Txn.{Txn as ATxn};
 ghost use Rattle.binlog_coords.specs.declared.Coord.{Coord as At};
 ghost use Rattle.server_model.specs.declared.answers.ApplyAnswer.TheVariants as answers;
 ghost use Rattle.server_model.specs.declared.answers.ApplyStep.TheVariants as steps;
+ghost use Rattle.server_model.specs.declared.answers.RotateAnswer.TheVariants as rotating;
+ghost use Rattle.server_model.specs.declared.attach.Spot.{Spot as ASpot};
+ghost use Rattle.server_model.specs.declared.attach.Spot.TheVariants as spot;
 ghost use Rattle.server_model.specs.declared.changes.Ask.{Ask as Asked};
 ghost use Rattle.server_model.specs.declared.changes.Event.{Event as AnEvent};
+ghost use Rattle.server_model.specs.Attach.{attach_at, IsTarget};
 ghost use Rattle.server_model.specs.Desk.{ask, befall, rotate};
 ghost use Rattle.server_model.specs.Exchanges.{write, fetch, apply, apply_step};
-ghost use Rattle.server_model.specs.Opening.{Opened, IsSound, opened_world};
-ghost use Rattle.server_model.specs.Histories.{same_txn};
-ghost use Rattle.server_model.specs.Run.{Exchange, after, run, Allowed, AllAllowed};
-ghost use Rattle.server_model.specs.Safe.{Safe, IsQuiet};
+ghost use Rattle.openings.specs.Opening.{Opened, IsChecked};
+ghost use Rattle.server_model.specs.Opening.{opened_world};
+ghost use Rattle.orch_base.specs.Histories.{same_txn};
+ghost use Rattle.server_model.specs.Run.{Exchange, Rotate, Attach, after, run, Allowed, JoinsWell, AllAllowed, AllJoinWell};
+ghost use Rattle.server_model.specs.Safe.{Safe, Placed, IsQuiet};
 ghost use Rattle.server_model.specs.Worlds.{World, server_at, histories};
 ghost use Rattle.replication_laws.specs.Growth.{Grows};
-ghost use Rattle.replication_laws.specs.Room.{room_for, IsNotFull};
+ghost use Rattle.replication_laws.specs.Room.{room_for, is_rotate, LeavesFiles, HasFiles, IsNotFull};
+
+pub use faults::faults_change_nothing;
+pub use placed::{
+    each_exchange_keeps_placed, loops_are_found, no_server_is_below_itself, safe_worlds_are_placed,
+};
 
 /// A fetch and an apply keep a safe world safe, quiet or not. A write keeps it safe where the world after it is quiet:
 /// where no server with a source has accepted it, or any write before it. In each exchange with a safe world every
@@ -26,7 +40,7 @@ pub fn each_exchange_keeps_safe()
     ensures write { (w : World) (n size : ℕ) → Safe w → 0 < size → IsQuiet (write w n size).1 → Safe (write w n size).1 }
     ensures fetch { (w : World) (n : ℕ) → Safe w → Safe (fetch w n).1 }
     ensures apply { (w : World) (n : ℕ) → Safe w → Safe (apply w n).1 }
-    ensures goes_on { (w : World) (e : Exchange) → Safe w → Allowed e → Grows w (after w e) }
+    ensures goes_on { (w : World) (e : Exchange) → Safe w → Allowed w e → Grows w (after w e) }
 {}
 
 /// What orchestrator asks of a server (STOP REPLICA, START REPLICA, RESET REPLICA ALL, read_only and the rest), what
@@ -45,13 +59,27 @@ pub fn each_change_keeps_safe()
     ensures rotate_errant { (w : World) (n : ℕ) → (rotate w n).1.errant ≡ w.errant }
 {}
 
-/// Each state of a run from a safe world is safe while it is quiet. The count of errant writes never falls, so at a
-/// quiet end every earlier state was quiet and safe.
+/// An attachment to a coordinate with a place in its target's log keeps a safe world safe, quiet or not, where it leads
+/// a server that stands where it is expected to where its history ends: what the server executed is a beginning of what
+/// the target executed, and the coordinate is where that beginning ends. So it does where a replica is attached anew to
+/// its own source, at the coordinate at which it is expected there. An attachment writes nothing: in any world every
+/// server goes on, and no errant write is counted.
+pub fn attachments_keep_safe()
+    ensures safe { (w : World) (n : ℕ) (expect : ASpot) (to : ServerNo) (at : At) → Safe w → IsTarget w to.0 at → JoinsWell w (Attach n expect to at) → Safe (attach_at w n expect to at).1 }
+    ensures same { (w : World) (n : ℕ) (m : ServerNo) (at : At) → Safe w → JoinsWell w (Attach n (spot.At m at) m at) }
+    ensures goes_on { (w : World) (n : ℕ) (expect : ASpot) (to : ServerNo) (at : At) → Grows w (attach_at w n expect to at).1 }
+    ensures errant { (w : World) (n : ℕ) (expect : ASpot) (to : ServerNo) (at : At) → (attach_at w n expect to at).1.errant ≡ w.errant }
+{}
+
+/// Each state of a run of exchanges from a safe world is safe while it is quiet, where each attachment in it joins well
+/// in the world that it comes to. The count of errant writes never falls, so at a quiet end every earlier state was
+/// quiet and safe.
 pub fn quiet_runs_are_safe()
-    ensures end { (w : World) (es : List Exchange) → Safe w → AllAllowed es → IsQuiet (run w es) → Safe (run w es) }
+    ensures each { (w : World) (e : Exchange) → Safe w → Allowed w e → JoinsWell w e → IsQuiet (after w e) → Safe (after w e) }
+    ensures end { (w : World) (es : List Exchange) → Safe w → AllAllowed w es → AllJoinWell w es → IsQuiet (run w es) → Safe (run w es) }
     ensures errant { (w : World) (es : List Exchange) (k : ℕ) → (run w (take k es)).errant ≤ (run w es).errant }
     ensures earlier_quiet { (w : World) (es : List Exchange) (k : ℕ) → IsQuiet (run w es) → IsQuiet (run w (take k es)) }
-    ensures earlier_safe { (w : World) (es : List Exchange) (k : ℕ) → Safe w → AllAllowed es → IsQuiet (run w es) → Safe (run w (take k es)) }
+    ensures earlier_safe { (w : World) (es : List Exchange) (k : ℕ) → Safe w → AllAllowed w es → AllJoinWell w es → IsQuiet (run w es) → Safe (run w (take k es)) }
 {}
 
 /// No history of a safe world holds a transaction twice: at two indices stand two transactions.
@@ -59,9 +87,11 @@ pub fn no_transaction_twice()
     ensures { (w : World) (n i j : ℕ) (x y : ATxn) → Safe w → slice_get (histories w n) i ≡ Some x → slice_get (histories w n) j ≡ Some y → same_txn x y ≡ true → i ≡ j }
 {}
 
-/// The world that a sound opening opens is safe, and no errant write is counted in it.
+/// The world that a checked opening opens is safe, so every server with a source, attached or detached, stands in the log
+/// of its source, and no errant write is counted in it.
 pub fn openings_are_safe()
-    ensures safe { (o : Opened) (room flushes : ℕ) → IsSound o → Safe (opened_world o room flushes) }
+    ensures safe { (o : Opened) (room flushes : ℕ) → IsChecked o → Safe (opened_world o room flushes) }
+    ensures placed { (o : Opened) (room flushes : ℕ) → IsChecked o → Placed (opened_world o room flushes) }
     ensures quiet { (o : Opened) (room flushes : ℕ) → IsQuiet (opened_world o room flushes) }
 {}
 
@@ -72,8 +102,14 @@ pub fn skipped_never_comes()
     ensures answer { (w : World) (n : ℕ) (to : At) → Safe w → (apply w n).0 ≢ answers.Skipped to }
 {}
 
-/// From the world of a sound opening, with room at each server for all transactions that the opening lists and one
+/// From the world of a checked opening, with room at each server for all transactions that the opening lists and one
 /// more for each write of the run, no exchange of the run finds a history full where the state before it is quiet.
+/// Where each server of a world has room for as many new files as a run asks for, none of them finds a log full, in any
+/// run. An opened server has the room that its own flushes leave: with room for them and for the new files of a run, none
+/// of the run finds a log full.
 pub fn full_never_comes()
-    ensures { (o : Opened) (room flushes : ℕ) (es : List Exchange) (k : ℕ) (e : Exchange) → IsSound o → AllAllowed es → room_for o es ≤ room → slice_get es k ≡ Some e → IsQuiet (run (opened_world o room flushes) (take k es)) → IsNotFull (run (opened_world o room flushes) (take k es)) e }
+    ensures histories { (o : Opened) (room flushes : ℕ) (es : List Exchange) (k : ℕ) (e : Exchange) → IsChecked o → AllAllowed (opened_world o room flushes) es → AllJoinWell (opened_world o room flushes) es → room_for o es ≤ room → slice_get es k ≡ Some e → IsQuiet (run (opened_world o room flushes) (take k es)) → IsNotFull (run (opened_world o room flushes) (take k es)) e }
+    ensures files { (w : World) (es : List Exchange) (k n : ℕ) → HasFiles (count_by is_rotate es) w → slice_get es k ≡ Some (Rotate n) → (rotate (run w (take k es)) n).0 ≢ rotating.Full }
+    ensures opened { (o : Opened) (room flushes count : ℕ) → LeavesFiles count o flushes → HasFiles count (opened_world o room flushes) }
+    ensures rotations { (o : Opened) (room flushes : ℕ) (es : List Exchange) (k n : ℕ) → LeavesFiles (count_by is_rotate es) o flushes → slice_get es k ≡ Some (Rotate n) → (rotate (run (opened_world o room flushes) (take k es)) n).0 ≢ rotating.Full }
 {}

@@ -2,7 +2,7 @@
 use Rattle.std.proofs.Common.{◌≡◌, ℕ, ◌+◌, ◌<◌, Bool, true, false, cond, List, length, refl, subst, Some, arith}
 use Rattle.std.specs.Prelude.{slice_get, slice_set, nat_le}
 use Rattle.std.proofs.lemmas.Bool.Decides.{nat_tests}
-use Rattle.server_model.specs.Histories.{count_own}
+use Rattle.orch_base.specs.Histories.{count_own}
 use Rattle.server_model.specs.Worlds.{World, server_at, has_source}
 use Rattle.server_model.specs.Exchanges.{took, own_txn, write_answer, after_write}
 use Rattle.server_model.specs.declared.answers.WriteAnswer.TheVariants as wrote

@@ -18,7 +18,7 @@ use Rattle.server_model.specs.declared.attach.AttachFault.{AttachFault}
 use Rattle.server_model.specs.declared.attach.AttachFault.TheVariants as attaching
 use Rattle.server_model.specs.Desk.{stopped, started, detached, reattached, without_source, asked, detached_source, attached_source, empties, with_link, healed, befallen, rotated, desk_answer, after_desk, befall, rotate_answer, after_rotate, is_detached}
 use Rattle.server_model.specs.Exchanges.{is_attached}
-use Rattle.server_model.specs.Histories.{count_own}
+use Rattle.orch_base.specs.Histories.{count_own}
 use Rattle.server_model.specs.Kept.{Kept}
 use Rattle.binlog_coords.specs.Index.{Index}
 use Rattle.server_model.specs.Links.{HasSize, IsFit, IsLinked, IsKept}
@@ -39,7 +39,7 @@ use Rattle.server_model.proofs.Lists.{set_self}
 
 -- the ledger of a server whose relay log is emptied, or not
 abbrev pub emptied : Bool → Ledger → Ledger
-emptied all l = record l { relay = cond all (record l.relay { steps = [] }) l.relay }
+emptied all l = record l { relay = cond all (record l.relay { entries = [] }) l.relay }
 
 -- a change that leaves the history and the log, and stands as before under the same source, if under any
 pub record IsMoved (s s' : Server) (all : Bool) : Type 0 where
@@ -52,7 +52,9 @@ module _ (s : Server) where
   -- the same place in the source's log
   stays : (s' : Server) → s'.exec ≡ s.exec → s'.read ≡ s.read → (t : Server) (l : Ledger) → IsLinked s t l → IsLinked s' t (emptied false l)
   stays s' exec read t l old = record {
-    relay = subst (λ (c : Coord). IsRelay t.log.log c l.relay.steps s'.read) (sym exec) (subst (λ (c : Coord). IsRelay t.log.log s.exec l.relay.steps c) (sym read) old.relay);
+    steps = old.steps;
+    relay = subst (λ (c : Coord). IsRelay t.log.log c old.steps s'.read) (sym exec) (subst (λ (c : Coord). IsRelay t.log.log s.exec old.steps c) (sym read) old.relay);
+    entries = old.entries;
     exec_place = (old.exec_place.0, ap (place t.log.log) exec ∙ old.exec_place.1);
     read_place = (old.read_place.0, ap (place t.log.log) read ∙ old.read_place.1);
   }
@@ -60,7 +62,9 @@ module _ (s : Server) where
   -- what was read and not executed is dropped
   drops : (s' : Server) → s'.exec ≡ s.exec → s'.read ≡ s.exec → (t : Server) (l : Ledger) → IsLinked s t l → IsLinked s' t (emptied true l)
   drops s' exec read t l old = record {
+    steps = [];
     relay = subst (λ (c : Coord). IsRelay t.log.log s'.exec [] c) (exec ∙ sym read) (Empty s'.exec);
+    entries = refl;
     exec_place = (old.exec_place.0, ap (place t.log.log) exec ∙ old.exec_place.1);
     read_place = (old.exec_place.0, ap (place t.log.log) read ∙ old.exec_place.1);
   }
@@ -142,6 +146,7 @@ module _ (servers : List Server) (ledgers : List Ledger) (errant n : ℕ) (s : S
         entries = rw (log, history) f.entries;
         sizes = subst (λ (h : Kept). All HasSize h.txns) (sym history) f.sizes;
         grown = rw log f.grown;
+        files = rw log f.files;
       }
 
   pub IsKept-moved : (s' : Server) (all : Bool) (l : Ledger) → slice_get ledgers n ≡ Some l → IsMoved s s' all → IsKept (slice_set servers n s') (slice_set ledgers n (emptied all l)) errant
@@ -153,13 +158,13 @@ module _ (servers : List Server) (ledgers : List Ledger) (errant n : ℕ) (s : S
         relays = λ c d xs h. subst (λ (i : Index). IsRelay i.log c xs d) (sym moved.log) h;
         fit = fit-moved s' moved.history moved.log;
         own = kept.own n s l here beside ∙ ap (λ (h : Kept). count_own n h.txns) (sym moved.history);
-        room = rw moved.log (omega arith);
+        room = ap (λ (i : Index). i.room) moved.log;
         relay_room = same_room all;
         link = λ m t from at old. moved.link m from t l old;
         errant = rw moved.history (omega arith);
       })
     where
-      same_room : (b : Bool) → (cond b (record l.relay { steps = [] }) l.relay).room ≡ l.relay.room
+      same_room : (b : Bool) → (cond b (record l.relay { entries = [] }) l.relay).room ≡ l.relay.room
       same_room true = refl
       same_room false = refl
 
@@ -179,11 +184,11 @@ module _ (servers : List Server) (ledgers : List Ledger) (errant n : ℕ) (s : S
         source = λ m h. h;
         places = λ c k h. stable_flush s.log.log c k h;
         relays = λ c d xs h. IsRelay-flush s.log.log c d xs h;
-        fit = record { high = f.high; room = f.room; within = f.within; entries = f.entries; sizes = f.sizes; grown = grown.Flushed s.log.log f.grown };
+        fit = record { high = f.high; room = f.room; within = f.within; entries = f.entries; sizes = f.sizes; grown = grown.Flushed s.log.log f.grown; files = let e = f.files in omega arith };
         own = kept.own n s l.0 here l.1;
-        room = omega arith;
+        room = refl;
         relay_room = refl;
-        link = λ m t from at old. record { relay = old.relay; exec_place = old.exec_place; read_place = old.read_place };
+        link = λ m t from at old. record { steps = old.steps; relay = old.relay; entries = old.entries; exec_place = old.exec_place; read_place = old.read_place };
         errant = omega arith;
       }))
 
@@ -233,16 +238,16 @@ IsKept-attached servers ledgers errant n s l to at target kept here beside there
     (record {
       places = λ c k h. h;
       relays = λ c d xs h. h;
-      fit = record { high = f.high; room = f.room; within = f.within; entries = f.entries; sizes = f.sizes; grown = f.grown };
+      fit = record { high = f.high; room = f.room; within = f.within; entries = f.entries; sizes = f.sizes; grown = f.grown; files = f.files };
       own = kept.own n s l here beside;
-      room = omega arith;
+      room = refl;
       relay_room = refl;
       apart = λ from. apart (same_Some to.0 n from);
       link = λ m t from at_m.
           let number : to.0 ≡ m = same_Some to.0 m from in
           let same : target ≡ t = same_Some target t (sym there ∙ ap (slice_get servers) number ∙ at_m) in
           let place : (k : ℕ) × (place t.log.log at ≡ Some k) = subst (λ (x : Server). (k : ℕ) × (place x.log.log at ≡ Some k)) same (place-of target.log.log at placed) in
-          record { relay = Empty at; exec_place = place; read_place = place };
+          record { steps = []; relay = Empty at; entries = refl; exec_place = place; read_place = place };
       errant = omega arith;
     })
   where

@@ -6,17 +6,19 @@ use Rattle.binlog_coords.specs.declared.Coord.{Coord}
 use Rattle.binlog_coords.specs.declared.Next.{Next}
 use Rattle.binlog_coords.specs.declared.Next.TheVariants as next
 use Rattle.binlog_coords.specs.Log.{has_place, next_after, StepFrom}
-use Rattle.binlog_coords.proofs.Places.{Laid-Grown, next_after-step, place-parts}
-use Rattle.binlog_coords.proofs.Relays.{IsRelay-entry, IsRelay-rotate, IsRelay-bound}
+use Rattle.binlog_coords.proofs.Places.{Laid-Grown, next_after-step, place-parts, place-within}
+use Rattle.binlog_coords.proofs.Relays.{IsRelay-entry, IsRelay-rotate}
 use Rattle.orch_base.specs.declared.server.SourceState.{SourceState}
 use Rattle.orch_base.specs.declared.server.SourceState.TheVariants.{Without, Attached, Detached}
 use Rattle.server_model.specs.Worlds.{World, server_at, source_no}
 use Rattle.server_model.specs.Exchanges.{fetch_step, fetch_from, attached_at, is_attached, is_receiving, after_fetch}
-use Rattle.server_model.specs.Links.{end_of_step, IsFit, IsLinked, IsKept}
+use Rattle.server_model.specs.Links.{entries_of, IsFit, IsLinked, IsKept}
 use Rattle.server_model.specs.declared.answers.FetchStep.TheVariants as receiving
 use Rattle.server_model.specs.declared.server.Server.{Server}
 use Rattle.server_model.specs.declared.ledger.Ledger.{Ledger}
+use Rattle.server_model.proofs.Lists.{set_self}
 use Rattle.server_model.proofs.Keeps.{IsKept-with, beside_of}
+use Rattle.server_model.proofs.RelaySteps.{entries-length, entries-snoc_entry, entries-snoc_rotate}
 
 -- the source that a receiver reads, and what it reads there
 pub record IsTake (servers : List Server) (r : Server) (x : Next) : Type 0 where
@@ -46,77 +48,93 @@ take_from w r x h = go (r.up && (is_attached r.source && r.receiver)) h
     go true e = by_source r.source refl e
     go false e = cc
 
--- a step that goes on, and where it ends
-pub data Goes : Next → Coord → Type 0 where
-  Entry : (index : ℕ) (to : Coord) → Goes (next.Entry index to) to
-  Rotate : (to : Coord) → Goes (next.Rotate to) to
+-- the ledger of a server whose receiver read one transaction more
+abbrev pub received : Ledger → ℕ → Coord → Ledger
+received l index to = record l { relay = record l.relay { entries = l.relay.entries ++ (index, to) ∷ [] } }
 
-pub goes_from : (x : Next) (to : Coord) → end_of_step x ≡ Some to → Goes x to
-goes_from (next.Entry index e) to h = subst (λ (c : Coord). Goes (next.Entry index e) c) (same_Some e to h) (Entry index e)
-goes_from (next.Rotate e) to h = subst (λ (c : Coord). Goes (next.Rotate e) c) (same_Some e to h) (Rotate e)
-goes_from next.End to h = cc
-
-IsLinked-read : (r s : Server) (l : Ledger) (x : Next) (to : Coord) → IsFit s → Goes x to → next_after s.log.log r.read ≡ x → IsLinked r s l
-    → IsLinked (record r { read = to }) s (record l { relay = record l.relay { steps = l.relay.steps ++ x ∷ [] } })
-IsLinked-read r s l x to fit (Entry index to') e link =
+IsLinked-entry : (r s : Server) (l : Ledger) (index : ℕ) (to : Coord) → IsFit s → next_after s.log.log r.read ≡ next.Entry index to → IsLinked r s l
+    → IsLinked (record r { read = to }) s (received l index to)
+IsLinked-entry r s l index to fit e link =
     let step : StepFrom s.log.log r.read link.read_place.0 (next.Entry index to) = subst (λ (y : Next). StepFrom s.log.log r.read link.read_place.0 y) e
     (next_after-step s.log.log (Laid-Grown s.log.log fit.grown) r.read link.read_place.0 link.read_place.1) in
     record {
-      relay = IsRelay-entry s.log.log r.exec r.read to index l.relay.steps link.relay e;
+      steps = link.steps ++ next.Entry index to ∷ [];
+      relay = IsRelay-entry s.log.log r.exec r.read to index link.steps link.relay e;
+      entries = entries-snoc_entry link.steps index to ∙ ap (λ xs. xs ++ (index, to) ∷ []) link.entries;
       exec_place = link.exec_place;
       read_place = (link.read_place.0 + 1, step.1);
     }
-IsLinked-read r s l x to fit (Rotate to') e link =
+
+IsLinked-rotate : (r s : Server) (l : Ledger) (to : Coord) → IsFit s → next_after s.log.log r.read ≡ next.Rotate to → IsLinked r s l → IsLinked (record r { read = to }) s l
+IsLinked-rotate r s l to fit e link =
     let step : StepFrom s.log.log r.read link.read_place.0 (next.Rotate to) = subst (λ (y : Next). StepFrom s.log.log r.read link.read_place.0 y) e
     (next_after-step s.log.log (Laid-Grown s.log.log fit.grown) r.read link.read_place.0 link.read_place.1) in
     record {
-      relay = IsRelay-rotate s.log.log r.exec r.read to l.relay.steps link.relay e;
+      steps = link.steps ++ next.Rotate to ∷ [];
+      relay = IsRelay-rotate s.log.log r.exec r.read to link.steps link.relay e;
+      entries = entries-snoc_rotate link.steps to ∙ link.entries;
       exec_place = link.exec_place;
       read_place = (link.read_place.0, step.0);
     }
 
-module _ (servers : List Server) (ledgers : List Ledger) (errant n : ℕ) (r : Server) (l : Ledger) (x : Next) (to : Coord)
-    (kept : IsKept servers ledgers errant) (here : slice_get servers n ≡ Some r) (beside : slice_get ledgers n ≡ Some l)
-    (took : IsTake servers r x) (goes : Goes x to) where
-  link : IsLinked (record r { read = to }) took.source (record l { relay = record l.relay { steps = l.relay.steps ++ x ∷ [] } })
-  link = IsLinked-read r took.source l x to (kept.fit took.number took.source took.at) goes took.is (kept.linked n took.number r took.source l here took.from took.at beside)
-
-  -- the relay log has room for one step more
-  pub room-receive : length l.relay.steps < l.relay.room
-  room-receive =
-      let fit = kept.fit took.number took.source took.at in
-      let roomy = kept.roomy n took.number l took.source beside took.at in
-      let bound = IsRelay-bound took.source.log.log fit.grown r.exec to link.exec_place.0 link.read_place.0 (l.relay.steps ++ x ∷ []) link.exec_place.1 link.read_place.1 link.relay in
-      let longer = length-append l.relay.steps (x ∷ []) in
-      let a = fit.room in let b = fit.within in let d = fit.entries in let e = roomy.enough in
-      omega arith
-
-  pub IsKept-receive : IsKept (slice_set servers n (record r { read = to })) (slice_set ledgers n (record l { relay = record l.relay { steps = l.relay.steps ++ x ∷ [] } })) errant
-  IsKept-receive =
+module _ (servers : List Server) (ledgers : List Ledger) (errant n : ℕ) (r : Server) (l : Ledger) (to : Coord)
+    (kept : IsKept servers ledgers errant) (here : slice_get servers n ≡ Some r) (beside : slice_get ledgers n ≡ Some l) where
+  -- the read coordinate moves on
+  reads : (l' : Ledger) → l'.own ≡ l.own → l'.relay.room ≡ l.relay.room → (x : Next) (took : IsTake servers r x) → IsLinked (record r { read = to }) took.source l'
+      → IsKept (slice_set servers n (record r { read = to })) (slice_set ledgers n l') errant
+  reads l' own room x took link =
       let fit = kept.fit n r here in
-      IsKept-with servers ledgers errant errant n r (record r { read = to }) l (record l { relay = record l.relay { steps = l.relay.steps ++ x ∷ [] } }) kept here beside
+      IsKept-with servers ledgers errant errant n r (record r { read = to }) l l' kept here beside
       (record {
         source = λ m h. h;
         places = λ c k h. h;
         relays = λ c d xs h. h;
-        fit = record { high = fit.high; room = fit.room; within = fit.within; entries = fit.entries; sizes = fit.sizes; grown = fit.grown };
-        own = kept.own n r l here beside;
-        room = omega arith;
-        relay_room = refl;
+        fit = record { high = fit.high; room = fit.room; within = fit.within; entries = fit.entries; sizes = fit.sizes; grown = fit.grown; files = fit.files };
+        own = own ∙ kept.own n r l here beside;
+        room = refl;
+        relay_room = room;
         link = λ m t from at old.
             let number : took.number ≡ m = same_Some took.number m (sym took.from ∙ from) in
             let same : took.source ≡ t = same_Some took.source t (sym took.at ∙ ap (slice_get servers) number ∙ at) in
-            subst (λ (y : Server). IsLinked (record r { read = to }) y (record l { relay = record l.relay { steps = l.relay.steps ++ x ∷ [] } })) same link;
+            subst (λ (y : Server). IsLinked (record r { read = to }) y l') same link;
         errant = omega arith;
       })
 
+  module _ (index : ℕ) (took : IsTake servers r (next.Entry index to)) where
+    link : IsLinked (record r { read = to }) took.source (received l index to)
+    link = IsLinked-entry r took.source l index to (kept.fit took.number took.source took.at) took.is (kept.linked n took.number r took.source l here took.from took.at beside)
+
+    -- the relay log has room for one transaction more
+    pub room-receive : length l.relay.entries < l.relay.room
+    room-receive =
+        let fit = kept.fit took.number took.source took.at in
+        let roomy = kept.roomy n took.number l took.source beside took.at in
+        let count = entries-length took.source.log.log fit.grown to link.read_place.0 link.read_place.1 r.exec link.steps link.exec_place.0 link.exec_place.1 link.relay in
+        let within = place-within took.source.log.log to link.read_place.0 link.read_place.1 in
+        let longer : length (entries_of link.steps) ≡ length l.relay.entries + 1 = ap length link.entries ∙ length-append l.relay.entries ((index, to) ∷ []) in
+        let a = fit.room in let b = fit.within in let d = fit.entries in let e = roomy.enough in
+        omega arith
+
+    pub IsKept-receive : IsKept (slice_set servers n (record r { read = to })) (slice_set ledgers n (received l index to)) errant
+    IsKept-receive = reads (received l index to) refl refl (next.Entry index to) took link
+
+  pub IsKept-turn : (took : IsTake servers r (next.Rotate to)) → IsKept (slice_set servers n (record r { read = to })) ledgers errant
+  IsKept-turn took =
+      subst (λ (ks : List Ledger). IsKept (slice_set servers n (record r { read = to })) ks errant) (set_self ledgers n l beside)
+      (reads l refl refl (next.Rotate to) took
+      (IsLinked-rotate r took.source l to (kept.fit took.number took.source took.at) took.is (kept.linked n took.number r took.source l here took.from took.at beside)))
+
 -- what is left of the world
-pub receive-left : (w : World) (servers : List Server) (gtid : Bool) (errant n : ℕ) (r : Server) (x : Next) (to : Coord) → record { servers = servers; gtid = gtid; errant = errant } ≡ w
-    → slice_get servers n ≡ Some r → Goes x to
-    → record { servers = slice_set servers n (record r { read = to }); gtid = gtid; errant = errant } ≡ after_fetch w n (server_at w n) (receiving.Take x)
-receive-left w servers gtid errant n r x to view here (Entry index to') =
+pub receive-left : (w : World) (servers : List Server) (gtid : Bool) (errant n : ℕ) (r : Server) (index : ℕ) (to : Coord) → record { servers = servers; gtid = gtid; errant = errant } ≡ w
+    → slice_get servers n ≡ Some r
+    → record { servers = slice_set servers n (record r { read = to }); gtid = gtid; errant = errant } ≡ after_fetch w n (server_at w n) (receiving.Take (next.Entry index to))
+receive-left w servers gtid errant n r index to view here =
     subst (λ (v : World). record { servers = slice_set servers n (record r { read = to }); gtid = gtid; errant = errant } ≡ after_fetch v n (server_at v n) (receiving.Take (next.Entry index to))) view (rw here)
-receive-left w servers gtid errant n r x to view here (Rotate to') =
+
+pub turn-left : (w : World) (servers : List Server) (gtid : Bool) (errant n : ℕ) (r : Server) (to : Coord) → record { servers = servers; gtid = gtid; errant = errant } ≡ w
+    → slice_get servers n ≡ Some r
+    → record { servers = slice_set servers n (record r { read = to }); gtid = gtid; errant = errant } ≡ after_fetch w n (server_at w n) (receiving.Take (next.Rotate to))
+turn-left w servers gtid errant n r to view here =
     subst (λ (v : World). record { servers = slice_set servers n (record r { read = to }); gtid = gtid; errant = errant } ≡ after_fetch v n (server_at v n) (receiving.Take (next.Rotate to))) view (rw here)
 
 -- the receiver of a replica reads where its source's log has a place

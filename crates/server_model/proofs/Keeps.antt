@@ -1,5 +1,5 @@
 -- What is kept beside the servers stays right as one server changes.
-use Rattle.std.proofs.Common.{◌≡◌, ℕ, ◌+◌, ◌*◌, ◌<◌, ◌≤◌, List, length, refl, sym, ◌∙◌, ap, subst, inl, inr, ◌⊎◌, Some, arith, get_or, [], ◌∷◌, zero, suc}
+use Rattle.std.proofs.Common.{◌≡◌, ℕ, ◌+◌, ◌<◌, ◌≤◌, List, length, refl, sym, ◌∙◌, ap, subst, inl, inr, ◌⊎◌, Some, arith, get_or, [], ◌∷◌, zero, suc}
 use Rattle.std.specs.Prelude.{slice_get, slice_set, sum_by}
 use Rattle.std.proofs.lemmas.Option.{slice_get_within, get_or_from_slice_get}
 use Rattle.std.proofs.lemmas.List.{length-set}
@@ -8,7 +8,7 @@ use Rattle.binlog_coords.specs.declared.Coord.{Coord}
 use Rattle.binlog_coords.specs.declared.Next.{Next}
 use Rattle.binlog_coords.specs.Log.{place}
 use Rattle.binlog_coords.specs.Relay.{IsRelay}
-use Rattle.server_model.specs.Histories.{count_own}
+use Rattle.orch_base.specs.Histories.{count_own}
 use Rattle.server_model.specs.Worlds.{source_no}
 use Rattle.server_model.specs.Links.{IsFit, IsRoomy, IsLinked, IsKept}
 use Rattle.server_model.specs.declared.server.Server.{Server}
@@ -21,7 +21,7 @@ pub record IsAny (servers : List Server) (n : ℕ) (s s' : Server) (l l' : Ledge
   pub relays : (c d : Coord) (xs : List Next) → IsRelay s.log.log c xs d → IsRelay s'.log.log c xs d
   pub fit : IsFit s'
   pub own : l'.own ≡ count_own n s'.history.txns
-  pub room : s'.log.log.files + s'.log.flushes + 2 * s'.log.room + length s.log.log.entries ≤ s.log.log.files + s.log.flushes + 2 * s.log.room + length s'.log.log.entries
+  pub room : s'.log.room ≡ s.log.room
   pub relay_room : l'.relay.room ≡ l.relay.room
   pub apart : source_no s'.source ≡ Some n → ⊥
   pub link : (m : ℕ) (t : Server) → source_no s'.source ≡ Some m → slice_get servers m ≡ Some t → IsLinked s' t l'
@@ -34,7 +34,7 @@ pub record IsChange (servers : List Server) (n : ℕ) (s s' : Server) (l l' : Le
   pub relays : (c d : Coord) (xs : List Next) → IsRelay s.log.log c xs d → IsRelay s'.log.log c xs d
   pub fit : IsFit s'
   pub own : l'.own ≡ count_own n s'.history.txns
-  pub room : s'.log.log.files + s'.log.flushes + 2 * s'.log.room + length s.log.log.entries ≤ s.log.log.files + s.log.flushes + 2 * s.log.room + length s'.log.log.entries
+  pub room : s'.log.room ≡ s.log.room
   pub relay_room : l'.relay.room ≡ l.relay.room
   pub link : (m : ℕ) (t : Server) → source_no s'.source ≡ Some m → slice_get servers m ≡ Some t → IsLinked s t l → IsLinked s' t l'
   pub errant : after + length s.history.txns ≤ before + length s'.history.txns
@@ -50,7 +50,9 @@ sum_by_written servers n s s' here =
 IsLinked-source : (r s s' : Server) (l : Ledger) → ((c : Coord) (k : ℕ) → place s.log.log c ≡ Some k → place s'.log.log c ≡ Some k)
     → ((c d : Coord) (xs : List Next) → IsRelay s.log.log c xs d → IsRelay s'.log.log c xs d) → IsLinked r s l → IsLinked r s' l
 IsLinked-source r s s' l places relays link = record {
-  relay = relays r.exec r.read l.relay.steps link.relay;
+  steps = link.steps;
+  relay = relays r.exec r.read link.steps link.relay;
+  entries = link.entries;
   exec_place = (link.exec_place.0, places r.exec link.exec_place.0 link.exec_place.1);
   read_place = (link.read_place.0, places r.read link.read_place.0 link.read_place.1);
 }

@@ -1,5 +1,7 @@
 pub mod Lists
-pub mod Openings
+pub mod LogSizes
+pub mod RelayBetween
+pub mod RelaySteps
 pub mod Keeps
 pub mod Takes
 pub mod Answered
@@ -7,6 +9,8 @@ pub mod Fetched
 pub mod Applied
 pub mod Changed
 pub mod Chains
-pub mod MakingLemmas
-pub mod MakingServers
-pub mod MakingWorlds
+pub mod Opened
+pub mod LaidLogs
+pub mod OpenedWorlds
+pub mod Placings
+pub mod Listings

@@ -1,5 +1,5 @@
 -- A server that executes one more transaction keeps what is kept beside it.
-use Rattle.std.proofs.Common.{◌≡◌, ℕ, ◌+◌, ◌*◌, ◌<◌, ◌≤◌, Bool, true, false, cond, List, [], ◌∷◌, ◌++◌, length, length-append, refl, sym, ◌∙◌, ap, Some, arith, get_or}
+use Rattle.std.proofs.Common.{◌≡◌, ℕ, ◌+◌, ◌<◌, ◌≤◌, Bool, true, false, cond, List, [], ◌∷◌, ◌++◌, length, length-append, refl, sym, ◌∙◌, ap, Some, arith, get_or}
 use Rattle.std.specs.Prelude.{slice_get, slice_set, nat_eq}
 use Rattle.std.proofs.lemmas.List.Elements.{All-push}
 use Rattle.std.proofs.lemmas.Bool.{eq-eqb}
@@ -17,14 +17,14 @@ use Rattle.binlog_coords.specs.Relay.{IsRelay}
 use Rattle.binlog_coords.proofs.Places.{stable_push}
 use Rattle.binlog_coords.proofs.Relays.{IsRelay-push}
 use Rattle.orch_base.specs.declared.server.Txn.{Txn}
-use Rattle.server_model.specs.Histories.{count_own}
+use Rattle.orch_base.specs.Histories.{count_own}
 use Rattle.server_model.specs.Exchanges.{took, own_txn}
 use Rattle.server_model.specs.Worlds.{source_no}
 use Rattle.server_model.specs.Links.{IsFit, IsLinked, IsKept, HasSize}
 use Rattle.server_model.specs.declared.server.Server.{Server}
 use Rattle.server_model.specs.declared.ledger.Ledger.{Ledger}
 use Rattle.server_model.proofs.Keeps.{IsChange, IsKept-with}
-use Rattle.server_model.proofs.Openings.{length-push, files-push}
+use Rattle.server_model.proofs.LogSizes.{length-push, files-push}
 
 module _ (s : Server) (t : Txn) (to : Coord) (fit : IsFit s) (some : 0 < t.size) (size : t.size ≤ 1000000) (room : length s.history.txns < s.history.room) where
   -- of a log that took the transaction, and of one that didn't since the server doesn't log
@@ -48,6 +48,9 @@ module _ (s : Server) (t : Txn) (to : Coord) (fit : IsFit s) (some : 0 < t.size)
         (let e = longer in let g = fit.entries in omega arith);
     sizes = All-push HasSize s.history.txns t fit.sizes (some, size);
     grown = by_logs (λ i. Grown i.log) (grown.Pushed s.log.log t.size some fit.grown) fit.grown;
+    files = by_logs (λ i. i.log.files + i.flushes ≤ 4000001 + length i.log.entries)
+        (let e = length-push s.log.log t.size in let f = files-push s.log.log t.size in let g = fit.files in omega arith)
+        fit.files;
   }
 
   -- the change that the transaction makes, given what becomes of the relay log
@@ -64,9 +67,7 @@ module _ (s : Server) (t : Txn) (to : Coord) (fit : IsFit s) (some : 0 < t.size)
         (λ c d xs h. h);
     fit = IsFit-took;
     own = own;
-    room = by_logs (λ i. i.log.files + i.flushes + 2 * i.room + length s.log.log.entries ≤ s.log.log.files + s.log.flushes + 2 * s.log.room + length i.log.entries)
-        (let e = length-push s.log.log t.size in let f = files-push s.log.log t.size in omega arith)
-        (omega arith);
+    room = by_logs (λ i. i.room ≡ s.log.room) refl refl;
     relay_room = relay_room;
     link = link;
     errant = let e = longer in omega arith;
@@ -87,7 +88,7 @@ IsKept-write servers ledgers before after n size s l kept here beside room some 
     ∙ ap (λ b. count_own n s.history.txns + cond b 1 0) (sym (eq-eqb n n refl))
     ∙ sym (count_own-push n s.history.txns (own_txn n (l.own + 1) size)))
     refl rise
-    (λ m u from at link. record { relay = link.relay; exec_place = link.exec_place; read_place = link.read_place }))
+    (λ m u from at link. record { steps = link.steps; relay = link.relay; entries = link.entries; exec_place = link.exec_place; read_place = link.read_place }))
 
 -- the counts stay small
 pub errant-small : (servers : List Server) (ledgers : List Ledger) (errant : ℕ) → IsKept servers ledgers errant → errant ≤ 4000000000

@@ -58,6 +58,10 @@ abbrev pub after_attach : World → ℕ → ServerNo → Coord → Option Server
 after_attach w n to at (Some s) (Ok t) = with_server w n (attached_to to at s)
 after_attach w n to at _ _ = w
 
+-- an attachment by a coordinate
+abbrev pub attach_at : World → ℕ → Spot → ServerNo → Coord → Result (Unit {0}) AttachFault × World
+attach_at w n expect to at = let answer = attach_answer w n expect to.0 (server_at w n) in (answer, after_attach w n to at (server_at w n) answer)
+
 -- the coordinate has a place in the log of a server that is there and logs
 pub record IsTarget (w : World) (to : ℕ) (at : Coord) : Type 0 where
   pub target : Server

@@ -19,7 +19,7 @@ use Rattle.server_model.specs.declared.answers.ApplyStep.TheVariants as applying
 use Rattle.server_model.specs.declared.answers.ApplyAnswer.{ApplyAnswer}
 use Rattle.server_model.specs.declared.answers.ApplyAnswer.TheVariants as applied_as
 use Rattle.server_model.specs.declared.server.Server.{Server}
-use Rattle.server_model.specs.Histories.{count_own, holds}
+use Rattle.orch_base.specs.Histories.{count_own, holds}
 use Rattle.server_model.specs.Worlds.{World, server_at, with_server, has_source}
 
 -- a server that has executed one more transaction

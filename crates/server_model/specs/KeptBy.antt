@@ -13,7 +13,7 @@ pub record IsReserved (a : history.Inside) : Type 0 where
   pub high : a.room ≤ 4000000
 
 abbrev pub relayed_of : relay.Inside → Relayed
-relayed_of a = record { steps = a.steps.items; room = a.room }
+relayed_of a = record { entries = a.entries.items; room = a.room }
 
 abbrev pub HasRoom : relay.Inside → Type 0
-HasRoom a = a.room ≤ deque_capacity a.steps
+HasRoom a = a.room ≤ deque_capacity a.entries

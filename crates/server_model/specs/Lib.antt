@@ -1,9 +1,7 @@
-pub mod Histories
 pub mod Kept
 pub mod KeptBy
 pub mod Layout
 pub mod Opening
-pub mod OpeningBy
 pub mod Worlds
 pub mod Exchanges
 pub mod Desk

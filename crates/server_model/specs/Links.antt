@@ -1,13 +1,13 @@
 -- What is kept of each server beside its state: its relay log, and what lets every exchange go without a search.
-use Rattle.std.specs.Prelude.{◌≡◌, ◌⊎◌, ℕ, ◌+◌, ◌*◌, ◌<◌, ◌≤◌, Bool, List, [], ◌∷◌, length, sum_by, All, Option, Some, None, slice_get}
+use Rattle.std.specs.Prelude.{◌≡◌, ℕ, ◌+◌, ◌<◌, ◌≤◌, ◌==◌, if◌then◌else◌, Bool, List, [], ◌∷◌, length, sum_by, All, Option, Some, None, slice_get}
 use Rattle.binlog_coords.specs.declared.Coord.{Coord}
 use Rattle.binlog_coords.specs.declared.Next.{Next}
 use Rattle.binlog_coords.specs.declared.Next.TheVariants as next
 use Rattle.binlog_coords.specs.Grown.{Grown}
-use Rattle.binlog_coords.specs.Log.{place}
+use Rattle.binlog_coords.specs.Log.{file_start, place, same_coord}
 use Rattle.binlog_coords.specs.Relay.{IsRelay}
 use Rattle.orch_base.specs.declared.server.Txn.{Txn}
-use Rattle.server_model.specs.Histories.{count_own}
+use Rattle.orch_base.specs.Histories.{count_own}
 use Rattle.server_model.specs.Exchanges.{applied}
 use Rattle.server_model.specs.Worlds.{source_no}
 use Rattle.server_model.specs.declared.answers.ApplyStep.{ApplyStep}
@@ -21,14 +21,21 @@ end_of_step (next.Entry index to) = Some to
 end_of_step (next.Rotate to) = Some to
 end_of_step next.End = None
 
--- what the applier does with this relay log
-abbrev pub relay_step : Bool → Server → Server → List Next → ApplyStep
-relay_step gtid r s [] = applying.Idle
-relay_step gtid r s (x ∷ xs) = applied gtid r s x
+-- the transactions among the steps of a log, each by its index and where it ends
+abbrev pub entries_of : List Next → List (ℕ × Coord)
+entries_of [] = []
+entries_of (next.Entry index to ∷ xs) = (index, to) ∷ entries_of xs
+entries_of (next.Rotate to ∷ xs) = entries_of xs
+entries_of (next.End ∷ xs) = entries_of xs
 
--- the step moves the executed coordinate there and executes nothing
-abbrev pub Passes : ApplyStep → Coord → Type 0
-Passes step to = (step ≡ applying.Pass to) ⊎ (step ≡ applying.Skip to)
+-- what follows c where this transaction is the next to be executed: it, if it stands in the same file, else the next file
+abbrev pub step_to : Coord → Option (ℕ × Coord) → Next
+step_to c None = next.Rotate (file_start (c.file + 1))
+step_to c (Some x) = if x.1.file == c.file then next.Entry x.0 x.1 else next.Rotate (file_start (c.file + 1))
+
+-- what the applier does with this relay log
+abbrev pub relay_step : Bool → Server → Server → List (ℕ × Coord) → ApplyStep
+relay_step gtid r s entries = if same_coord r.exec r.read then applying.Idle else applied gtid r s (step_to r.exec (slice_get entries 0))
 
 abbrev pub HasSize : Txn → Type 0
 HasSize t = (0 < t.size) × (t.size ≤ 1000000)
@@ -41,14 +48,17 @@ pub record IsFit (s : Server) : Type 0 where
   pub entries : length s.log.log.entries ≤ length s.history.txns
   pub sizes : All HasSize s.history.txns
   pub grown : Grown s.log.log
+  pub files : s.log.log.files + s.log.flushes ≤ 4000001 + length s.log.log.entries
 
--- the relay log has room for all that a server's log can come to hold
+-- the relay log has room for all transactions that a server's log can come to hold
 pub record IsRoomy (l : Ledger) (s : Server) : Type 0 where
-  pub enough : s.log.log.files + s.log.flushes + 2 * s.log.room ≤ l.relay.room + length s.log.log.entries
+  pub enough : s.log.room ≤ l.relay.room
 
--- the relay log of r is the part of the log of its source s from the executed to the read coordinate, which both have places
+-- the relay log of r has the transactions of the part of its source s's log from the executed to the read coordinate, which both have places
 pub record IsLinked (r s : Server) (l : Ledger) : Type 0 where
-  pub relay : IsRelay s.log.log r.exec l.relay.steps r.read
+  pub steps : List Next
+  pub relay : IsRelay s.log.log r.exec steps r.read
+  pub entries : entries_of steps ≡ l.relay.entries
   pub exec_place : (k : ℕ) × (place s.log.log r.exec ≡ Some k)
   pub read_place : (k : ℕ) × (place s.log.log r.read ≡ Some k)
 

@@ -1,30 +1,75 @@
 -- Runs: lists of exchanges, one after another.
-use Rattle.std.specs.Prelude.{ℕ, ◌<◌, List, [], ◌∷◌}
-use Rattle.server_model.specs.Worlds.{World}
+use Rattle.std.specs.Prelude.{◌≡◌, ℕ, ◌<◌, true, List, [], ◌∷◌, length, take, Some}
+use Rattle.binlog_coords.specs.declared.Coord.{Coord}
+use Rattle.binlog_coords.specs.Log.{place}
+use Rattle.orch_base.specs.declared.server.ServerNo.{ServerNo}
+use Rattle.server_model.specs.declared.attach.Spot.{Spot}
+use Rattle.server_model.specs.declared.changes.Ask.{Ask}
+use Rattle.server_model.specs.declared.changes.Event.{Event}
+use Rattle.server_model.specs.declared.server.Server.{Server}
+use Rattle.server_model.specs.Attach.{attach_at, same_spot, live_spot, IsTarget}
+use Rattle.server_model.specs.Desk.{ask, befall, rotate}
 use Rattle.server_model.specs.Exchanges.{write, fetch, apply}
+use Rattle.server_model.specs.Worlds.{World, server_at}
 
--- one exchange
+-- one exchange: a client's write, a step of a replica's receiver or applier, what orchestrator asks of a server, what
+-- befalls a server, a new file of its log, or an attachment by a coordinate
 pub data Exchange : Type 0 where
   Write : (n size : ℕ) → Exchange
   Fetch : (n : ℕ) → Exchange
   Apply : (n : ℕ) → Exchange
+  Request : (n : ℕ) (a : Ask) → Exchange
+  Befall : (n : ℕ) (e : Event) → Exchange
+  Rotate : (n : ℕ) → Exchange
+  Attach : (n : ℕ) (expect : Spot) (to : ServerNo) (at : Coord) → Exchange
 
 abbrev pub after : World → Exchange → World
 after w (Write n size) = (write w n size).1
 after w (Fetch n) = (fetch w n).1
 after w (Apply n) = (apply w n).1
+after w (Request n a) = (ask w n a).1
+after w (Befall n e) = befall w n e
+after w (Rotate n) = (rotate w n).1
+after w (Attach n expect to at) = (attach_at w n expect to at).1
 
--- a transaction takes some bytes
-abbrev pub Allowed : Exchange → Type 0
-Allowed (Write n size) = 0 < size
-Allowed (Fetch n) = Unit {0}
-Allowed (Apply n) = Unit {0}
+-- what an exchange requires: a transaction takes some bytes, and the coordinate of an attachment has a place in the log
+-- of its target
+abbrev pub Allowed : World → Exchange → Type 0
+Allowed w (Write n size) = 0 < size
+Allowed w (Fetch n) = Unit {0}
+Allowed w (Apply n) = Unit {0}
+Allowed w (Request n a) = Unit {0}
+Allowed w (Befall n e) = Unit {0}
+Allowed w (Rotate n) = Unit {0}
+Allowed w (Attach n expect to at) = IsTarget w to.0 at
+
+-- what r executed is a beginning of what s executed, and the coordinate is where that beginning ends
+pub record IsJunction (r s : Server) (at : Coord) : Type 0 where
+  pub prefix : take (length r.history.txns) s.history.txns ≡ r.history.txns
+  pub place : place s.log.log at ≡ Some (length r.history.txns)
+
+-- an attachment of a server that is where it is expected leads to where its history ends
+abbrev pub JoinsWell : World → Exchange → Type 0
+JoinsWell w (Attach n expect to at) =
+    (r s : Server) → server_at w n ≡ Some r → server_at w to.0 ≡ Some s → same_spot expect (live_spot r expect) ≡ true → IsJunction r s at
+JoinsWell w (Write n size) = Unit {0}
+JoinsWell w (Fetch n) = Unit {0}
+JoinsWell w (Apply n) = Unit {0}
+JoinsWell w (Request n a) = Unit {0}
+JoinsWell w (Befall n e) = Unit {0}
+JoinsWell w (Rotate n) = Unit {0}
 
 -- the world after a list of exchanges
 abbrev pub run : World → List Exchange → World
 run w [] = w
 run w (e ∷ es) = run (after w e) es
 
-abbrev pub AllAllowed : List Exchange → Type 0
-AllAllowed [] = Unit {0}
-AllAllowed (e ∷ es) = Allowed e × AllAllowed es
+-- each exchange of a run is allowed in the world to which those before it led
+abbrev pub AllAllowed : World → List Exchange → Type 0
+AllAllowed w [] = Unit {0}
+AllAllowed w (e ∷ es) = Allowed w e × AllAllowed (after w e) es
+
+-- and each joins well there
+abbrev pub AllJoinWell : World → List Exchange → Type 0
+AllJoinWell w [] = Unit {0}
+AllJoinWell w (e ∷ es) = JoinsWell w e × AllJoinWell (after w e) es

@@ -1,11 +1,13 @@
--- When a world is safe: each replica has executed a beginning of its source's transactions, and stands at its end.
-use Rattle.std.specs.Prelude.{◌≡◌, ℕ, ◌+◌, true, List, length, take, Option, Some, None, slice_get}
+-- When a world is safe: each replica has executed a beginning of its source's transactions, and stands at its end. And
+-- what holds of it even where it isn't safe: each replica stands in its source's log.
+use Rattle.std.specs.Prelude.{◌≡◌, ℕ, ◌+◌, true, List, length, take, Some, slice_get}
 use Rattle.binlog_coords.specs.Log.{place, is_at_or_before}
 use Rattle.orch_base.specs.declared.server.Txn.{Txn}
-use Rattle.server_model.specs.Histories.{same_txn, count_own}
+use Rattle.orch_base.specs.Histories.{same_txn, count_own}
 use Rattle.server_model.specs.Layout.{LaysOut}
 use Rattle.server_model.specs.Worlds.{World, server_at, histories, sources, source_no}
 use Rattle.server_model.specs.declared.server.Server.{Server}
+pub use Rattle.orch_base.specs.Chains.{Grounded, Root, Under}
 
 -- A replica stands well under its source: what it executed is a beginning of what the source executed, its executed
 -- coordinate is where that beginning ends, and what it has read is not behind.
@@ -24,11 +26,6 @@ pub record IsKin (h : ℕ → List Txn) : Type 0 where
   -- a transaction is in its origin's history
   pub home : (a i : ℕ) (x : Txn) → slice_get (h a) i ≡ Some x → (j : ℕ) × (slice_get (h x.origin.0) j ≡ Some x)
 
--- the chain of sources above a server ends
-pub data Grounded (up : ℕ → Option ℕ) : ℕ → Type 0 where
-  Root : (n : ℕ) → up n ≡ None → Grounded up n
-  Under : (n m : ℕ) → up n ≡ Some m → Grounded up m → Grounded up n
-
 -- a source's server is there and logs
 abbrev pub IsSource : World → ℕ → Type 0
 IsSource w m = (s : Server) × (server_at w m ≡ Some s) × (s.settings.logs ≡ true)
@@ -40,6 +37,21 @@ pub record Safe (w : World) : Type 0 where
   pub well : (n m : ℕ) (r s : Server) → server_at w n ≡ Some r → source_no r.source ≡ Some m → server_at w m ≡ Some s → AttachedWell r s
   pub logging : (n m : ℕ) (r : Server) → server_at w n ≡ Some r → source_no r.source ≡ Some m → IsSource w m
   pub kin : IsKin (histories w)
+  pub grounded : (n : ℕ) → Grounded (sources w) n
+
+-- Where a replica stands in its source's log: both coordinates have places there, and the executed one isn't after the
+-- read one.
+pub record StandsIn (r s : Server) : Type 0 where
+  pub exec_place : (k : ℕ) × (place s.log.log r.exec ≡ Some k)
+  pub read_place : (k : ℕ) × (place s.log.log r.read ≡ Some k)
+  pub order : is_at_or_before r.exec r.read ≡ true
+
+-- What holds in every world of a run, quiet or not: every server with a source stands in the log of its source, every
+-- source is there and logs, no server is below itself, and every log lays out its server's history.
+pub record Placed (w : World) : Type 0 where
+  pub laid : (n : ℕ) (s : Server) → server_at w n ≡ Some s → s.settings.logs ≡ true → LaysOut s.history.txns s.log.log
+  pub stands : (n m : ℕ) (r s : Server) → server_at w n ≡ Some r → source_no r.source ≡ Some m → server_at w m ≡ Some s → StandsIn r s
+  pub logging : (n m : ℕ) (r : Server) → server_at w n ≡ Some r → source_no r.source ≡ Some m → IsSource w m
   pub grounded : (n : ℕ) → Grounded (sources w) n
 
 -- no write was accepted by a server that had a source

@@ -1,10 +1,9 @@
 //! The transactions that a server has executed.
 
-ghost use Rattle.std.specs.Prelude.{◌≡◌, ◌+◌, ◌<◌, ◌≤◌, [], ◌∷◌, ◌++◌, length, IfOk, slice_get};
-ghost use Rattle.server_model.specs.Histories.{holds, same_txn};
+ghost use Rattle.std.specs.Prelude.{◌≡◌, ◌+◌, ◌<◌, ◌≤◌, [], ◌∷◌, ◌++◌, length, vec_capacity, slice_get};
+ghost use Rattle.orch_base.specs.Histories.{holds, same_txn};
 
-use orch_base::{Memory, Txn};
-use std::alloc::Global;
+use orch_base::Txn;
 use std::marker::Model;
 
 /// The transactions that a server has executed, in order, in room that was reserved.
@@ -27,13 +26,14 @@ impl Model for History {
 }
 
 impl History {
-    /// An empty history with room for so many transactions: at most 4,000,000.
-    pub fn with_room(alloc: Global, room: u64) -> Result<History, Memory>
-        requires { room ≤ 4000000 }
-        ensures { IfOk result (λ h. h ≡ record { txns = []; room = room }) }
+    /// The history of these transactions, with room for so many in all: at most 4,000,000. It takes no memory.
+    pub fn new(txns: Vec<Txn>, room: u64) -> History
+        requires reserved { room ≤ vec_capacity txns }
+        requires fits { length txns.items ≤ room }
+        requires room { room ≤ 4000000 }
+        ensures { result ≡ record { txns = txns.items; room = room } }
     {
-        let txns = Vec::with_capacity(alloc, room as usize)?;
-        Ok(History { txns, room })
+        History { txns, room }
     }
 
     /// How many transactions there are.

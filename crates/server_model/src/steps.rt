@@ -1,11 +1,11 @@
 //! What a receiver and an applier are to do next.
 
 ghost use Rattle.std.specs.Prelude.{◌≡◌, ◌<◌, ◌≤◌, All, Some, true, ◌==◌, ◌&&◌, if◌then◌else◌};
-ghost use Rattle.binlog_coords.specs.Log.{has_place};
+ghost use Rattle.binlog_coords.specs.Log.{has_place, same_coord};
 ghost use Rattle.server_model.specs.Exchanges.{applied, apply_answer, fetch_answer, fetch_from, is_applying, is_attached, is_reached, is_receiving, IsReady};
 ghost use Rattle.server_model.specs.Desk.{empties};
 ghost use Rattle.server_model.specs.Worlds.{has_source};
-ghost use Rattle.server_model.specs.Links.{end_of_step, relay_step, HasSize};
+ghost use Rattle.server_model.specs.Links.{relay_step, step_to, HasSize};
 
 use crate::{ApplyAnswer, ApplyStep, Ask, FetchAnswer, FetchStep, Relay, Server};
 use binlog_coords::{Coord, Next};
@@ -82,16 +82,6 @@ pub(crate) fn receiver_step(r: &Server, s: &Server) -> FetchStep
     }
 }
 
-/// Where a step of a log ends, if there is one.
-pub(crate) fn end_of_step(next: Next) -> Option<Coord>
-    ensures { result ≡ end_of_step next }
-{
-    match next {
-        Next::Entry(_, to) | Next::Rotate(to) => Some(to),
-        Next::End => None,
-    }
-}
-
 pub(crate) fn fetch_answer(step: FetchStep) -> FetchAnswer
     ensures { result ≡ fetch_answer step }
 {
@@ -126,16 +116,37 @@ pub(crate) fn apply_answer(step: ApplyStep) -> ApplyAnswer
     }
 }
 
+fn same_coord(c: Coord, d: Coord) -> bool
+    ensures { result ≡ same_coord c d }
+{
+    c.file == d.file && c.pos == d.pos
+}
+
+/// What follows `c` where this transaction is the next to be executed.
+fn step_to(c: Coord, entry: Option<(u64, Coord)>) -> Next
+    requires { c.file < 4294967295 }
+    ensures { result ≡ step_to c entry }
+{
+    match entry {
+        Some((index, to)) if to.file == c.file => Next::Entry(index, to),
+        _ => Next::Rotate(Coord {
+            file: c.file + 1,
+            pos: 4,
+        }),
+    }
+}
+
 /// What the applier of `r`, which is on and isn't where it is to stop, is to do under its source `s`.
 pub(crate) fn relay_step(gtid: bool, r: &Server, s: &Server, relay: &Relay) -> ApplyStep
-    requires { All HasSize s.now.history.txns }
-    ensures step { result ≡ relay_step gtid r.now s.now relay.now.steps }
+    requires sizes { All HasSize s.now.history.txns }
+    requires file { r.now.exec.file < 4294967295 }
+    ensures step { result ≡ relay_step gtid r.now s.now relay.now.entries }
     ensures ready { IsReady (Some r.now) result }
 {
-    match relay.front() {
-        None => ApplyStep::Idle,
-        Some(next) => applied(gtid, r, s, next),
+    if same_coord(r.exec, r.read) {
+        return ApplyStep::Idle;
     }
+    applied(gtid, r, s, step_to(r.exec, relay.front()))
 }
 
 fn applied(gtid: bool, r: &Server, s: &Server, next: Next) -> ApplyStep

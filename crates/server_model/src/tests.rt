@@ -1,212 +1,554 @@
-ghost use Rattle.std.specs.Prelude.{◌≡◌, length, All, IfOk};
-ghost use Rattle.server_model.specs.Opening.{IsSound, Fits};
+ghost use Rattle.std.specs.Prelude.{◌≡◌, ◌<◌, ◌≤◌, ℕ, All, IfOk, None, Some, false, length, slice_get, true};
+ghost use Rattle.openings.specs.Listed.{transactions as transactions_of};
+ghost use Rattle.openings.specs.Opening.{opening as opening_of, IsAlone, IsListed, IsPart, IsServer};
+ghost use Rattle.openings.specs.Servers.{parts_of};
+ghost use Rattle.orch_base.specs.Names.{same_name};
+ghost use Rattle.server_model.specs.Attach.{IsTarget};
+ghost use Rattle.server_model.specs.Opening.{Fits};
 
 use crate::{
-    ApplyAnswer, FetchAnswer, Link, Opening, Part, Parts, RotateAnswer, ServerInit, Threads,
-    Unreachable, World, WriteAnswer, transactions,
+    ApplyAnswer, Ask, AttachFault, Counts, Event, FetchAnswer, Link, Opening, Part, Parts, Plain,
+    RotateAnswer, ServerInit, Spot, Threads, Unreachable, World, WriteAnswer,
 };
 use binlog_coords::Coord;
-use orch_base::{Label, Name, ServerNo, Settings, SourceState, Version};
+use orch_base::{Label, Name, ServerNo, Settings, SourceState, Txn, Version};
 use std::alloc::Global;
 use std::process::Abort;
 use std::test::*;
 
-fn settings(alloc: Global, host: &str, server_id: u32, logs: bool) -> Result<Settings, Fail>
-    ensures logs { IfOk result (λ s. s.logs ≡ logs) }
-    ensures limit { IfOk result (λ s. s.limit ≡ 200) }
-{
-    Ok(Settings {
-        name: Name::read(alloc, host)?,
-        uuid: u128::from(server_id),
-        server_id,
+const M: ServerNo = ServerNo(0);
+
+const R: ServerNo = ServerNo(1);
+
+const S: ServerNo = ServerNo(2);
+
+fn at(file: u32, pos: u64) -> Coord {
+    Coord { file, pos }
+}
+
+// A server without a source, with a log whose files hold this many bytes, and so many transactions of 100 bytes.
+fn master(alloc: Global, limit: u64, count: u64) -> Result<ServerInit, Fail> {
+    let settings = Settings {
+        name: Name::read(alloc, "m")?,
+        uuid: 1,
+        server_id: 1,
         version: Version {
             major: 8,
             minor: 0,
             patch: 36,
         },
         cluster: Label::new(String::from_str(alloc, "m:3306")?),
-        logs,
-        limit: 200,
+        logs: true,
+        limit,
+    };
+    let part = Part {
+        origin: M,
+        size: 100,
+        count,
+    };
+    Ok(ServerInit {
+        settings,
+        read_only: false,
+        up: true,
+        desk: true,
+        feed: true,
+        history: Some(Parts::new(Vec::from_array(alloc, [part])?)),
+        source: None,
+        executed: 0,
+        at: None,
+        read: None,
+        io: true,
+        sql: true,
+        auto: false,
+        detached: false,
+        until: None,
+        flushes: Counts::new(Vec::new(alloc)),
     })
 }
 
-// A master with three transactions of 100 bytes in files of 200 bytes, and a replica that has executed one of them.
-fn two_servers(alloc: Global, logs: bool) -> Result<Opening, Fail>
-    ensures sound { IfOk result IsSound }
-    ensures two { IfOk result (λ o. length o.servers ≡ 2) }
-    ensures fits { IfOk result (λ o. Fits o 4) }
-{
-    let three = Part {
-        origin: ServerNo(0),
-        size: 100,
-        count: 3,
-    };
-    let master = ServerInit {
-        settings: settings(alloc, "m", 1, true)?,
-        history: Parts::new(Vec::from_array(alloc, [three])?),
-        source: None,
-        executed: 0,
-    };
-    let replica = ServerInit {
-        settings: settings(alloc, "r", 2, logs)?,
-        history: Parts::new(Vec::new(alloc)),
-        source: Some(ServerNo(0)),
-        executed: 1,
-    };
-    Ok(Opening::new(Vec::from_array(alloc, [master, replica])?, false))
+// A replica of the first server that has executed so many of its transactions.
+fn replica(alloc: Global, name: &str, id: u32, executed: u64) -> Result<ServerInit, Fail> {
+    let mut init = master(alloc, 1000, 0)?;
+    init.settings.name = Name::read(alloc, name)?;
+    init.settings.uuid = u128::from(id);
+    init.settings.server_id = id;
+    init.read_only = true;
+    init.history = None;
+    init.source = Some(M);
+    init.executed = executed;
+    Ok(init)
 }
 
-fn at(file: u32, pos: u64) -> Coord {
-    Coord { file, pos }
+fn listed_parts(init: &ServerInit) -> &[Part]
+    ensures { result.now ≡ parts_of init.now }
+{
+    match &init.history {
+        Some(parts) => parts.as_slice(),
+        None => &[],
+    }
+}
+
+// Asserts the ranges of a part.
+fn assert_part(rt: &impl Abort, part: &Part, servers: u32)
+    ensures part { IsPart servers part.now }
+    ensures few { part.now.count ≤ 1000 }
+{
+    assert!(rt; part.origin.0 < servers);
+    assert!(rt; 1 <= part.size && part.size <= 1000000);
+    assert!(rt; 1 <= part.count && part.count <= 1000);
+}
+
+// Asserts the ranges of the parts, and counts their transactions.
+fn count(rt: &impl Abort, parts: &[Part], servers: u32) -> u64
+    ensures parts { All (IsPart servers) parts.now }
+    ensures count { result ≡ transactions_of parts.now }
+    ensures few { result ≤ 1000 }
+{
+    let mut count = 0;
+    for part in parts {
+        assert_part(rt, part, servers);
+        count += part.count;
+        assert!(rt; count <= 1000);
+    }
+    count
+}
+
+// Asserts that what speaks of a source alone is given where there is one, and what needs GTIDs where they are used.
+fn assert_given(rt: &impl Abort, init: &ServerInit, servers: u32, gtid: bool)
+    ensures source { (m : ServerNo) → init.now.source ≡ Some m → m.0 < servers }
+    ensures alone { init.now.source ≡ None → IsAlone init.now }
+    ensures auto { init.now.auto ≡ true → gtid ≡ true }
+{
+    assert!(rt; gtid || !init.auto);
+    match init.source {
+        Some(m) => assert!(rt; m.0 < servers),
+        None => {
+            assert!(rt; init.executed == 0 && init.at.is_none() && init.read.is_none());
+            assert!(rt; !init.auto && !init.detached && init.until.is_none());
+        }
+    }
+}
+
+// Asserts the ranges of a server, and counts the transactions that are listed of it.
+fn count_listed(rt: &impl Abort, init: &ServerInit, servers: u32, gtid: bool) -> u64
+    ensures server { IsServer servers gtid init.now }
+    ensures count { result ≡ transactions_of (parts_of init.now) }
+    ensures few { result ≤ 1000 }
+{
+    let limit = init.settings.limit;
+    assert!(rt; 100 <= limit && limit <= 1073741824);
+    let label = init.settings.cluster.as_str();
+    assert!(rt; 1 <= label.len() && label.len() <= 261);
+    assert!(rt; init.flushes.as_slice().len() <= 1000);
+    assert_given(rt, init, servers, gtid);
+    count(rt, listed_parts(init), servers)
+}
+
+// Asserts that two servers differ in name and UUID.
+fn assert_differ(rt: &impl Abort, own: &ServerInit, other: &ServerInit)
+    ensures names { same_name own.now.settings.name other.now.settings.name ≡ false }
+    ensures uuids { ¬ (own.now.settings.uuid ≡ other.now.settings.uuid) }
+{
+    assert!(rt; !own.settings.name.is_same(&other.settings.name));
+    assert!(rt; own.settings.uuid != other.settings.uuid);
+}
+
+// Asserts that no other server has the name or the UUID of server k.
+fn assert_apart(rt: &impl Abort, servers: &[ServerInit], k: usize, own: &ServerInit)
+    ensures names { (n : ℕ) (i : ServerInit) → slice_get servers.now n ≡ Some i
+        → same_name own.now.settings.name i.settings.name ≡ true → k ≡ n }
+    ensures uuids { (n : ℕ) (i : ServerInit) → slice_get servers.now n ≡ Some i
+        → own.now.settings.uuid ≡ i.settings.uuid → k ≡ n }
+{
+    for (n, init) in servers.iter().enumerate() {
+        if n != k {
+            assert_differ(rt, own, init);
+        }
+    }
+}
+
+// Asserts that the servers are listed as openings want it, and that they fit.
+fn assert_listed(rt: &impl Abort, servers: &[ServerInit], gtid: bool, room: u64, flushes: u64)
+    ensures listed { IsListed (opening_of servers.now gtid) }
+    ensures fits { Fits (opening_of servers.now gtid) room flushes }
+{
+    assert!(rt; 1 <= servers.len());
+    assert!(rt; servers.len() <= 3);
+    let mut total = 0;
+    for (n, init) in servers.iter().enumerate() {
+        let count = count_listed(rt, init, servers.len() as u32, gtid);
+        assert!(rt; count <= room);
+        assert!(rt; init.flushes.as_slice().len() as u64 <= flushes);
+        assert_apart(rt, servers, n, init);
+        total += count;
+    }
+}
+
+// The opening of listed servers, which have no flaw.
+fn opening(alloc: Global, servers: Vec<ServerInit>, gtid: bool) -> Result<Opening, Fail>
+    requires { IsListed (opening_of servers.items gtid) }
+    ensures { IfOk result (λ o. o ≡ opening_of servers.items gtid) }
+{
+    let opening = Opening::check(alloc, servers, gtid)?;
+    Ok(opening)
+}
+
+// The world of these servers, one to three.
+fn world_of(
+    rt: &impl Abort,
+    alloc: Global,
+    servers: Vec<ServerInit>,
+    gtid: bool,
+    room: u64,
+    flushes: u64,
+) -> Result<World, Fail> {
+    assert!(rt; room <= 1000 && flushes <= 1000);
+    assert_listed(rt, &servers, gtid, room, flushes);
+    let opening = opening(alloc, servers, gtid)?;
+    let world = World::make(alloc, &opening, room, flushes)?;
+    Ok(world)
+}
+
+fn fetch(rt: &impl Abort, world: &mut World, no: ServerNo) -> FetchAnswer {
+    assert!(rt; no.0 < world.servers());
+    world.fetch(no)
+}
+
+fn apply(rt: &impl Abort, world: &mut World, no: ServerNo) -> ApplyAnswer {
+    assert!(rt; no.0 < world.servers());
+    world.apply(no)
+}
+
+fn write(rt: &impl Abort, world: &mut World, no: ServerNo, size: u32) -> WriteAnswer {
+    assert!(rt; no.0 < world.servers() && 1 <= size && size <= 1000000);
+    world.write(no, size)
+}
+
+fn rotate(rt: &impl Abort, world: &mut World, no: ServerNo) -> RotateAnswer {
+    assert!(rt; no.0 < world.servers());
+    world.rotate(no)
+}
+
+fn ask(rt: &impl Abort, world: &mut World, no: ServerNo, ask: Ask) -> Result<(), Unreachable> {
+    assert!(rt; no.0 < world.servers());
+    match ask {
+        Ask::Stop(which) => world.stop(no, which),
+        Ask::Start => world.start(no),
+        Ask::StartUntil(to) => world.start_until(no, to),
+        Ask::Detach => world.detach(no),
+        Ask::Reattach => world.reattach(no),
+        Ask::Reset => world.reset(no),
+        Ask::SetReadOnly(on) => world.set_read_only(no, on),
+    }
+}
+
+fn befall(rt: &impl Abort, world: &mut World, no: ServerNo, event: Event) {
+    assert!(rt; no.0 < world.servers());
+    match event {
+        Event::Fail => world.fail(no),
+        Event::Heal => world.heal(no),
+        Event::Cut(link) => world.cut_link(no, link),
+        Event::Join(link) => world.join_link(no, link),
+    }
+}
+
+fn assert_target(rt: &impl Abort, world: &World, to: ServerNo, at: Coord)
+    ensures { IsTarget world.now to.0 at }
+{
+    assert!(rt; to.0 < world.servers());
+    let place = match world.log(to) {
+        Some(log) => log.place(at),
+        None => None,
+    };
+    assert!(rt; place.is_some());
+}
+
+fn attach(
+    rt: &impl Abort,
+    world: &mut World,
+    no: ServerNo,
+    expect: Spot,
+    to: ServerNo,
+    at: Coord,
+) -> Result<(), AttachFault> {
+    assert!(rt; no.0 < world.servers());
+    assert_target(rt, world, to, at);
+    let told = world.test_attach_at(no, expect, to, at);
+    let done = world.attach_at(no, expect, to, at);
+    assert_eq!(rt; told, done);
+    done
+}
+
+fn plain(rt: &impl Abort, world: &World, no: ServerNo) -> Plain {
+    assert!(rt; no.0 < world.servers());
+    world.plain(no)
+}
+
+fn executed(rt: &impl Abort, world: &World, no: ServerNo) -> u64 {
+    assert!(rt; no.0 < world.servers());
+    world.executed(no)
+}
+
+fn transaction(rt: &impl Abort, world: &World, no: ServerNo, k: u64) -> Txn {
+    assert!(rt; no.0 < world.servers());
+    assert!(rt; k < world.executed(no));
+    world.transaction(no, k)
+}
+
+fn end(rt: &impl Abort, world: &World, no: ServerNo) -> Option<Coord> {
+    assert!(rt; no.0 < world.servers());
+    world.log(no).map(|log| log.end())
+}
+
+// A source with files of 200 bytes and a flush after its first transaction; a replica without a log that has read one
+// transaction more than it has executed, over a rotation; and a detached server.
+fn three_servers(rt: &impl Abort, alloc: Global) -> Result<World, Fail> {
+    let mut m = master(alloc, 200, 3)?;
+    m.flushes = Counts::new(Vec::from_array(alloc, [1])?);
+    let mut r = replica(alloc, "r", 2, 1)?;
+    r.settings.logs = false;
+    r.at = Some(at(2, 4));
+    r.read = Some(at(2, 104));
+    let mut s = replica(alloc, "s", 3, 2)?;
+    s.detached = true;
+    s.io = false;
+    s.sql = false;
+    world_of(rt, alloc, Vec::from_array(alloc, [m, r, s])?, false, 4, 2)
 }
 
 #[test]
-fn worlds_are_opened(rt: HostRuntime) -> Result<(), Fail> {
-    let opening = two_servers(rt.alloc(), false)?;
-    assert!(rt; !opening.gtid());
-    assert_eq!(rt; opening.servers().len(), 2);
-    let world = World::make(rt.alloc(), &opening, 4, 0)?;
-    assert_eq!(rt; world.servers(), 2);
-    assert_eq!(rt; world.settings(ServerNo(1)).server_id, 2);
+fn opens_worlds(rt: HostRuntime) -> Result<(), Fail> {
+    let world = three_servers(&rt, rt.alloc())?;
+    assert_eq!(rt; world.servers(), 3);
+    assert!(rt; !world.gtid());
+    assert_eq!(rt; world.errant(), 0);
+    assert_eq!(rt; world.settings(R).server_id, 2);
+    for (no, count, log) in [
+        (M, 3, Some(at(3, 4))),
+        (R, 1, None),
+        (S, 2, Some(at(1, 204))),
+    ] {
+        assert_eq!(rt; executed(&rt, &world, no), count);
+        assert_eq!(rt; end(&rt, &world, no), log);
+        for k in 0..count {
+            let t = transaction(&rt, &world, no, k);
+            assert_eq!(rt; (t.origin, t.seq, t.size), (M, k + 1, 100));
+        }
+    }
+    let replica = Plain {
+        up: true,
+        desk: true,
+        feed: true,
+        read_only: true,
+        source: SourceState::Attached(M),
+        exec: at(2, 4),
+        read: at(2, 104),
+        auto: false,
+        receiver: true,
+        applier: true,
+        until: None,
+    };
+    assert_eq!(rt; plain(&rt, &world, R), replica);
+    let detached = Plain {
+        source: SourceState::Detached(M),
+        exec: at(2, 104),
+        read: at(2, 104),
+        receiver: false,
+        applier: false,
+        ..replica
+    };
+    assert_eq!(rt; plain(&rt, &world, S), detached);
+    let master = plain(&rt, &world, M);
     assert_eq!(rt;
-        (world.executed(ServerNo(0)), world.executed(ServerNo(1))),
-        (3, 1)
+        (master.source, master.exec),
+        (SourceState::Without, at(1, 4))
     );
-    assert_eq!(rt;
-        world.log(ServerNo(0)).map(|log| log.end()),
-        Some(at(2, 104))
-    );
-    assert!(rt; world.log(ServerNo(1)).is_none());
-    let replica = world.plain(ServerNo(1));
-    assert_eq!(rt; replica.source, SourceState::Attached(ServerNo(0)));
-    assert_eq!(rt; (replica.exec, replica.read), (at(1, 104), at(1, 104)));
-    assert!(rt; replica.up && replica.desk && replica.feed && replica.read_only);
-    assert!(rt; replica.receiver && replica.applier && !replica.auto);
-    assert_eq!(rt; world.plain(ServerNo(0)).source, SourceState::Without);
+    assert!(rt; !master.read_only && !master.receiver && !master.applier);
     Ok(())
 }
 
 #[test]
-fn replica_follows_over_rotations(rt: HostRuntime) -> Result<(), Fail> {
-    let opening = two_servers(rt.alloc(), true)?;
-    let mut world = World::make(rt.alloc(), &opening, 4, 0)?;
-    let (m, r) = (ServerNo(0), ServerNo(1));
-    for (no, answer) in [
-        (m, WriteAnswer::Done(4)),
-        (m, WriteAnswer::Full),
-        (r, WriteAnswer::ReadOnly),
-    ] {
-        assert_eq!(rt; world.servers(), 2);
-        assert_eq!(rt; world.write(no, 100), answer);
+fn follows_over_rotations(rt: HostRuntime) -> Result<(), Fail> {
+    let mut world = three_servers(&rt, rt.alloc())?;
+    let w = &mut world;
+    for answer in [ApplyAnswer::Done(at(2, 104)), ApplyAnswer::Nothing] {
+        assert_eq!(rt; apply(&rt, w, R), answer);
     }
-    for (no, fetched, applied) in [
-        (m, FetchAnswer::Stopped, ApplyAnswer::Stopped),
+    for (no, answer) in [
+        (M, WriteAnswer::Done(4)),
+        (M, WriteAnswer::Full),
+        (R, WriteAnswer::ReadOnly),
+    ] {
+        assert_eq!(rt; write(&rt, w, no, 100), answer);
+    }
+    for (no, answer) in [
+        (M, RotateAnswer::Done(at(4, 4))),
+        (M, RotateAnswer::Full),
+        (R, RotateAnswer::NotLogging),
+    ] {
+        assert_eq!(rt; rotate(&rt, w, no), answer);
+    }
+    for answer in [
+        FetchAnswer::Got(at(2, 204)),
+        FetchAnswer::Rotated(at(3, 4)),
+        FetchAnswer::Got(at(3, 104)),
+        FetchAnswer::Rotated(at(4, 4)),
+        FetchAnswer::Nothing,
+    ] {
+        assert_eq!(rt; fetch(&rt, w, R), answer);
+    }
+    for answer in [
+        ApplyAnswer::Done(at(2, 204)),
+        ApplyAnswer::Rotated(at(3, 4)),
+        ApplyAnswer::Done(at(3, 104)),
+        ApplyAnswer::Rotated(at(4, 4)),
+        ApplyAnswer::Nothing,
+    ] {
+        assert_eq!(rt; apply(&rt, w, R), answer);
+    }
+    assert_eq!(rt; (executed(&rt, w, R), w.errant()), (4, 0));
+    let t = transaction(&rt, w, R, 3);
+    assert_eq!(rt; (t.origin, t.seq, t.size), (M, 4, 100));
+    Ok(())
+}
+
+#[test]
+fn detached_server_writes_and_follows_again(rt: HostRuntime) -> Result<(), Fail> {
+    let mut world = three_servers(&rt, rt.alloc())?;
+    let w = &mut world;
+    assert_eq!(rt; fetch(&rt, w, S), FetchAnswer::Stopped);
+    assert_eq!(rt; apply(&rt, w, S), ApplyAnswer::Stopped);
+    assert_eq!(rt; ask(&rt, w, S, Ask::SetReadOnly(false)), Ok(()));
+    assert_eq!(rt; write(&rt, w, S, 50), WriteAnswer::Done(1));
+    let t = transaction(&rt, w, S, 2);
+    assert_eq!(rt; (t.origin, t.seq, t.size), (S, 1, 50));
+    assert_eq!(rt; w.errant(), 1);
+    assert_eq!(rt; write(&rt, w, M, 100), WriteAnswer::Done(4));
+    for asked in [Ask::Reattach, Ask::Start] {
+        assert_eq!(rt; ask(&rt, w, S, asked), Ok(()));
+    }
+    for (fetched, applied) in [
+        (FetchAnswer::Got(at(2, 204)), ApplyAnswer::Done(at(2, 204))),
         (
-            r,
-            FetchAnswer::Got(at(1, 204)),
-            ApplyAnswer::Done(at(1, 204)),
-        ),
-        (
-            r,
-            FetchAnswer::Rotated(at(2, 4)),
-            ApplyAnswer::Rotated(at(2, 4)),
-        ),
-        (
-            r,
-            FetchAnswer::Got(at(2, 104)),
-            ApplyAnswer::Done(at(2, 104)),
-        ),
-        (
-            r,
-            FetchAnswer::Got(at(2, 204)),
-            ApplyAnswer::Done(at(2, 204)),
-        ),
-        (
-            r,
             FetchAnswer::Rotated(at(3, 4)),
             ApplyAnswer::Rotated(at(3, 4)),
         ),
-        (r, FetchAnswer::Nothing, ApplyAnswer::Nothing),
+        (FetchAnswer::Got(at(3, 104)), ApplyAnswer::Full),
+        (FetchAnswer::Nothing, ApplyAnswer::Full),
     ] {
-        assert_eq!(rt; world.servers(), 2);
-        assert_eq!(rt; world.fetch(no), fetched);
-        assert_eq!(rt; world.servers(), 2);
-        assert_eq!(rt; world.apply(no), applied);
+        assert_eq!(rt; fetch(&rt, w, S), fetched);
+        assert_eq!(rt; apply(&rt, w, S), applied);
     }
-    assert_eq!(rt; world.servers(), 2);
-    assert_eq!(rt; world.executed(r), 4);
-    assert_eq!(rt; world.log(r).map(|log| log.end()), Some(at(3, 4)));
-    assert_eq!(rt; world.errant(), 0);
     Ok(())
 }
 
-// The world has its two servers.
-fn has_two(rt: &impl Abort, world: &World)
-    ensures { length world.now.servers ≡ 2 }
-{
-    assert_eq!(rt; world.servers(), 2);
+// A master with two transactions in one file, and a replica that has executed so many of them.
+fn two_servers(rt: &impl Abort, alloc: Global, executed: u64, gtid: bool) -> Result<World, Fail> {
+    let m = master(alloc, 1073741824, 2)?;
+    let r = replica(alloc, "r", 2, executed)?;
+    world_of(rt, alloc, Vec::from_array(alloc, [m, r])?, gtid, 4, 1)
 }
 
 #[test]
-fn threads_links_and_files(rt: HostRuntime) -> Result<(), Fail> {
-    let opening = two_servers(rt.alloc(), true)?;
-    let mut world = World::make(rt.alloc(), &opening, 4, 1)?;
-    let (m, r) = (ServerNo(0), ServerNo(1));
-    assert_eq!(rt; world.stop(r, Threads::Both), Ok(()));
-    has_two(&rt, &world);
-    assert_eq!(rt; world.fetch(r), FetchAnswer::Stopped);
-    has_two(&rt, &world);
-    assert_eq!(rt; world.start_until(r, at(1, 104)), Ok(()));
-    has_two(&rt, &world);
-    assert_eq!(rt; world.fetch(r), FetchAnswer::Got(at(1, 204)));
-    has_two(&rt, &world);
-    assert_eq!(rt; world.apply(r), ApplyAnswer::AtUntil);
-    has_two(&rt, &world);
-    assert_eq!(rt; world.apply(r), ApplyAnswer::Stopped);
-    has_two(&rt, &world);
-    world.cut_link(r, Link::Feed);
-    has_two(&rt, &world);
-    assert_eq!(rt; world.fetch(r), FetchAnswer::NoLink);
-    has_two(&rt, &world);
-    world.cut_link(r, Link::Desk);
-    has_two(&rt, &world);
-    assert_eq!(rt; world.start(r), Err(Unreachable));
-    has_two(&rt, &world);
-    world.join_link(r, Link::Desk);
-    has_two(&rt, &world);
-    assert_eq!(rt; world.detach(r), Ok(()));
-    has_two(&rt, &world);
-    assert_eq!(rt; world.plain(r).source, SourceState::Detached(m));
-    assert_eq!(rt; world.plain(r).read, at(1, 104));
-    assert_eq!(rt; world.reattach(r), Ok(()));
-    has_two(&rt, &world);
-    world.fail(r);
-    has_two(&rt, &world);
-    world.heal(r);
-    has_two(&rt, &world);
-    assert!(rt; world.plain(r).receiver && world.plain(r).applier);
-    assert_eq!(rt; world.reset(r), Ok(()));
-    has_two(&rt, &world);
-    assert_eq!(rt; world.plain(r).exec, at(1, 4));
-    assert_eq!(rt; world.set_read_only(r, false), Ok(()));
-    has_two(&rt, &world);
-    assert_eq!(rt; world.rotate(m), RotateAnswer::Done(at(3, 4)));
-    has_two(&rt, &world);
-    assert_eq!(rt; world.rotate(m), RotateAnswer::Full);
+fn attaches_at_coordinates(rt: HostRuntime) -> Result<(), Fail> {
+    for gtid in [false, true] {
+        let mut world = two_servers(&rt, rt.alloc(), 0, gtid)?;
+        let w = &mut world;
+        let (start, next) = (at(1, 4), at(1, 104));
+        let (begins, follows) = (Spot::At(M, start), Spot::At(M, next));
+        let running = Err(AttachFault::Running(begins));
+        assert_eq!(rt; w.gtid(), gtid);
+        assert_eq!(rt; fetch(&rt, w, R), FetchAnswer::Got(next));
+        assert_eq!(rt; attach(&rt, w, R, begins, M, start), running);
+        assert_eq!(rt; ask(&rt, w, R, Ask::Stop(Threads::Both)), Ok(()));
+        befall(&rt, w, R, Event::Cut(Link::Desk));
+        assert_eq!(rt;
+            attach(&rt, w, R, begins, M, start),
+            Err(AttachFault::Unreachable)
+        );
+        befall(&rt, w, R, Event::Join(Link::Desk));
+        for (no, expect, to, answer) in [
+            (R, follows, M, Err(AttachFault::Interfered(follows, begins))),
+            (
+                R,
+                Spot::Nowhere,
+                M,
+                Err(AttachFault::Interfered(Spot::Nowhere, Spot::Nowhere)),
+            ),
+            (R, begins, M, Ok(())),
+            (
+                M,
+                Spot::OwnEnd(next),
+                R,
+                Err(AttachFault::Interfered(Spot::OwnEnd(next), Spot::OwnEnd(at(1, 204)))),
+            ),
+            (M, Spot::OwnEnd(at(1, 204)), R, Err(AttachFault::Loop)),
+        ] {
+            assert_eq!(rt; attach(&rt, w, no, expect, to, start), answer);
+        }
+        assert_eq!(rt; ask(&rt, w, R, Ask::Start), Ok(()));
+        assert_eq!(rt; fetch(&rt, w, R), FetchAnswer::Got(next));
+        assert_eq!(rt; apply(&rt, w, R), ApplyAnswer::Done(next));
+        assert_eq!(rt; executed(&rt, w, R), 1);
+        // Back to the beginning: with GTIDs it skips what it has executed.
+        assert_eq!(rt; ask(&rt, w, R, Ask::Stop(Threads::Both)), Ok(()));
+        assert_eq!(rt; attach(&rt, w, R, follows, M, start), Ok(()));
+        assert_eq!(rt; ask(&rt, w, R, Ask::Start), Ok(()));
+        assert_eq!(rt; fetch(&rt, w, R), FetchAnswer::Got(next));
+        let (answer, count) = if gtid {
+            (ApplyAnswer::Skipped(next), 1)
+        } else {
+            (ApplyAnswer::Done(next), 2)
+        };
+        assert_eq!(rt; apply(&rt, w, R), answer);
+        assert_eq!(rt; executed(&rt, w, R), count);
+    }
     Ok(())
 }
 
 #[test]
-fn parts_are_counted(rt: HostRuntime) -> Result<(), Fail> {
-    let part = |size: u32, count: u64| Part {
-        origin: ServerNo(0),
-        size,
-        count,
-    };
-    let parts = Parts::new(Vec::from_array(rt.alloc(), [part(1, 3), part(2, 4)])?);
-    assert_eq!(rt; parts.as_slice().len(), 2);
-    let parts = parts.into_vec();
-    assert_eq!(rt; transactions(&[part(1, 3), part(2, 4)]), 7);
-    assert_eq!(rt; parts.len(), 2);
+fn threads_and_links(rt: HostRuntime) -> Result<(), Fail> {
+    let mut world = two_servers(&rt, rt.alloc(), 1, false)?;
+    let w = &mut world;
+    for asked in [Ask::Stop(Threads::Both), Ask::StartUntil(at(1, 104))] {
+        assert_eq!(rt; ask(&rt, w, R, asked), Ok(()));
+    }
+    assert_eq!(rt; fetch(&rt, w, R), FetchAnswer::Got(at(1, 204)));
+    for answer in [ApplyAnswer::AtUntil, ApplyAnswer::Stopped] {
+        assert_eq!(rt; apply(&rt, w, R), answer);
+    }
+    for (no, event, fetched) in [
+        (R, Event::Fail, FetchAnswer::Stopped),
+        (R, Event::Heal, FetchAnswer::Nothing),
+        (M, Event::Fail, FetchAnswer::NoLink),
+        (M, Event::Heal, FetchAnswer::Nothing),
+        (R, Event::Cut(Link::Feed), FetchAnswer::NoLink),
+        (R, Event::Join(Link::Feed), FetchAnswer::Nothing),
+    ] {
+        befall(&rt, w, no, event);
+        assert_eq!(rt; fetch(&rt, w, R), fetched);
+    }
+    befall(&rt, w, R, Event::Cut(Link::Desk));
+    assert_eq!(rt; ask(&rt, w, R, Ask::Detach), Err(Unreachable));
+    befall(&rt, w, R, Event::Join(Link::Desk));
+    assert_eq!(rt; ask(&rt, w, R, Ask::StartUntil(at(9, 5))), Ok(()));
+    befall(&rt, w, R, Event::Fail);
+    befall(&rt, w, R, Event::Heal);
+    assert_eq!(rt; plain(&rt, w, R).until, None);
+    for asked in [Ask::Detach, Ask::Reattach, Ask::Start] {
+        assert_eq!(rt; ask(&rt, w, R, asked), Ok(()));
+    }
+    assert_eq!(rt; apply(&rt, w, R), ApplyAnswer::Nothing);
+    assert_eq!(rt; fetch(&rt, w, R), FetchAnswer::Got(at(1, 204)));
+    assert_eq!(rt; apply(&rt, w, R), ApplyAnswer::Done(at(1, 204)));
+    assert_eq!(rt; ask(&rt, w, R, Ask::Reset), Ok(()));
+    let replica = plain(&rt, w, R);
+    assert_eq!(rt;
+        (replica.source, replica.exec),
+        (SourceState::Without, at(1, 4))
+    );
+    befall(&rt, w, M, Event::Fail);
+    assert_eq!(rt; write(&rt, w, M, 100), WriteAnswer::Down);
+    assert_eq!(rt; rotate(&rt, w, M), RotateAnswer::Down);
     Ok(())
 }

@@ -1,20 +1,19 @@
 //! The world of servers.
 
-ghost use Rattle.std.specs.Prelude.{◌≡◌, ◌+◌, ◌<◌, ◌≤◌, length, Some, IfOk, option_map};
+ghost use Rattle.std.specs.Prelude.{◌≡◌, ◌+◌, ◌<◌, ◌≤◌, length, Some, IfOk, IsSomeAnd, option_and_then, option_map, slice_get};
 ghost use Rattle.std.specs.Option.{option_copied};
 ghost use Rattle.server_model.specs.Worlds.{server_at};
 ghost use Rattle.server_model.specs.Exchanges.{write_answer, after_write, fetch_step, fetch_answer, after_fetch, attached_at, apply_step, apply_answer, after_apply, IsReady};
 ghost use Rattle.server_model.specs.Attach.{attach_answer, after_attach, IsTarget};
 ghost use Rattle.server_model.specs.Desk.{ask as ask_of, befall, desk_answer, rotate_answer, after_rotate};
-ghost use Rattle.server_model.specs.Links.{end_of_step, Passes};
 ghost use Rattle.server_model.specs.Opening.{opened_world, Fits};
 ghost use Rattle.server_model.specs.Plains.{plain_of, log_of};
 
 use crate::attach::{attach_decision, chain_meets};
-use crate::making::{ledger_of, server_of};
+use crate::making::servers_of;
 use crate::steps::{
-    apply_answer, empties, end_of_step, errant_writes, fetch_answer, is_applying, is_reachable,
-    is_reached, is_receiving, own_of, receiver_step, relay_step,
+    apply_answer, empties, errant_writes, fetch_answer, is_applying, is_reachable, is_reached,
+    is_receiving, own_of, receiver_step, relay_step,
 };
 use crate::{
     ApplyAnswer, ApplyStep, Ask, AttachFault, Event, FetchAnswer, FetchStep, Ledger, Link, Opening,
@@ -49,21 +48,14 @@ impl Model for World {
 impl World {
     /// The world that an opening opens, with room for so many transactions and calls of `rotate` at each server.
     pub fn make(alloc: Global, from: &Opening, room: u64, flushes: u64) -> Result<World, Memory>
-        requires fits { Fits from.now room }
+        requires fits { Fits from.now room flushes }
         requires room { room ≤ 4000000 }
         requires flushes { flushes ≤ 4000000 }
         ensures world { IfOk result (λ w. w ≡ opened_world from.now room flushes) }
         ensures servers { IfOk result (λ w. length w.servers ≡ length from.now.servers) }
     {
-        let mut servers = Vec::new(alloc);
-        let mut ledgers = Vec::new(alloc);
-        for (n, init) in from.servers().iter().enumerate() {
-            let no = ServerNo(n as u32);
-            let server = server_of(alloc, from, &servers, no, init, room, flushes)?;
-            let ledger = ledger_of(alloc, init, room, flushes)?;
-            servers.push(server)?;
-            ledgers.push(ledger)?;
-        }
+        let _checked = from.servers();
+        let (servers, ledgers) = servers_of(alloc, from, room, flushes)?;
         Ok(World {
             servers,
             ledgers,
@@ -87,6 +79,13 @@ impl World {
         &self.servers[no.0 as usize].settings
     }
 
+    /// Whether the servers use GTIDs.
+    pub fn gtid(&self) -> bool
+        ensures { result ≡ self.now.gtid }
+    {
+        self.gtid
+    }
+
     /// How many writes were accepted by servers with a source.
     pub fn errant(&self) -> u64
         ensures { result ≡ self.now.errant }
@@ -100,6 +99,15 @@ impl World {
         ensures { option_map (λ s. length s.history.txns) (server_at self.now no.0) ≡ Some result }
     {
         self.servers[no.0 as usize].history.len()
+    }
+
+    /// The transaction of this index, from 0, among those that a server has executed.
+    pub fn transaction(&self, no: ServerNo, k: u64) -> Txn
+        requires server { no.0 < length self.now.servers }
+        requires within { IsSomeAnd (server_at self.now no.0) (λ s. k < length s.history.txns) }
+        ensures { option_and_then (λ s. slice_get s.history.txns k) (server_at self.now no.0) ≡ Some result }
+    {
+        self.servers[no.0 as usize].history.as_slice()[k as usize]
     }
 
     /// What the tables tell of a server, reachable or not.
@@ -170,10 +178,10 @@ impl World {
         ensures world { self.new ≡ after_fetch self.old no.0 (server_at self.old no.0) (fetch_step self.old (server_at self.old no.0)) }
     {
         let step = self.fetch_step(no);
-        if let FetchStep::Take(next) = step
-            && let Some(to) = end_of_step(next)
-        {
-            self.receive(no, next, to);
+        match step {
+            FetchStep::Take(Next::Entry(index, to)) => self.receive(no, index, to),
+            FetchStep::Take(Next::Rotate(to)) => self.turn_to(no, to),
+            FetchStep::Halt | FetchStep::Unlinked | FetchStep::Take(Next::End) => {}
         }
         fetch_answer(step)
     }
@@ -192,18 +200,27 @@ impl World {
         }
     }
 
-    // The step joins the relay log, and the read coordinate moves to its end.
-    fn receive(&mut self, no: ServerNo, next: Next, to: Coord)
+    // The transaction joins the relay log, and the read coordinate moves to its end.
+    fn receive(&mut self, no: ServerNo, index: u64, to: Coord)
         requires server { no.0 < length self.old.servers }
-        requires end { end_of_step next ≡ Some to }
-        requires step { fetch_step self.old (server_at self.old no.0) ≡ FetchStep.Take next }
-        ensures { self.new ≡ after_fetch self.old no.0 (server_at self.old no.0) (FetchStep.Take next) }
+        requires step { fetch_step self.old (server_at self.old no.0) ≡ FetchStep.Take (Next.Entry index to) }
+        ensures { self.new ≡ after_fetch self.old no.0 (server_at self.old no.0) (FetchStep.Take (Next.Entry index to)) }
     {
         let n = no.0 as usize;
         let r = &mut self.servers[n];
         r.read = to;
         let l = &mut self.ledgers[n];
-        l.relay.push(next);
+        l.relay.push(index, to);
+    }
+
+    // The read coordinate moves to the source's next file.
+    fn turn_to(&mut self, no: ServerNo, to: Coord)
+        requires server { no.0 < length self.old.servers }
+        requires step { fetch_step self.old (server_at self.old no.0) ≡ FetchStep.Take (Next.Rotate to) }
+        ensures { self.new ≡ after_fetch self.old no.0 (server_at self.old no.0) (FetchStep.Take (Next.Rotate to)) }
+    {
+        let r = &mut self.servers[no.0 as usize];
+        r.read = to;
     }
 
     /// The applier of a replica executes one step of its relay log.
@@ -216,7 +233,8 @@ impl World {
         match step {
             ApplyStep::Halt | ApplyStep::Idle | ApplyStep::NoRoom => {}
             ApplyStep::ForgetUntil => self.forget_until(no),
-            ApplyStep::Pass(to) | ApplyStep::Skip(to) => self.pass(no, to),
+            ApplyStep::Pass(to) => self.pass(no, to),
+            ApplyStep::Skip(to) => self.skip(no, to),
             ApplyStep::Execute(t, to) => self.execute(no, t, to),
         }
         apply_answer(step)
@@ -251,11 +269,21 @@ impl World {
         r.until = None;
     }
 
-    // The executed coordinate passes the first step of the relay log.
+    // The executed coordinate moves to the source's next file.
     fn pass(&mut self, no: ServerNo, to: Coord)
         requires server { no.0 < length self.old.servers }
-        requires step { Passes (apply_step self.old (server_at self.old no.0)) to }
-        ensures { self.new ≡ after_apply self.old no.0 (server_at self.old no.0) (apply_step self.old (server_at self.old no.0)) }
+        requires step { apply_step self.old (server_at self.old no.0) ≡ ApplyStep.Pass to }
+        ensures { self.new ≡ after_apply self.old no.0 (server_at self.old no.0) (ApplyStep.Pass to) }
+    {
+        let r = &mut self.servers[no.0 as usize];
+        r.exec = to;
+    }
+
+    // The executed coordinate passes the first transaction of the relay log.
+    fn skip(&mut self, no: ServerNo, to: Coord)
+        requires server { no.0 < length self.old.servers }
+        requires step { apply_step self.old (server_at self.old no.0) ≡ ApplyStep.Skip to }
+        ensures { self.new ≡ after_apply self.old no.0 (server_at self.old no.0) (ApplyStep.Skip to) }
     {
         let n = no.0 as usize;
         let r = &mut self.servers[n];
@@ -264,7 +292,7 @@ impl World {
         l.relay.pop();
     }
 
-    // The server executes the transaction of the first step of its relay log.
+    // The server executes the first transaction of its relay log.
     fn execute(&mut self, no: ServerNo, t: Txn, to: Coord)
         requires server { no.0 < length self.old.servers }
         requires step { apply_step self.old (server_at self.old no.0) ≡ ApplyStep.Execute t to }

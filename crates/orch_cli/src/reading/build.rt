@@ -2,13 +2,15 @@
 
 ghost use Rattle.std.specs.Prelude.{◌≡◌, ◌<◌, IfOk};
 ghost use Rattle.orch_base.specs.Names.{printed};
-ghost use Rattle.orch_core.specs.Scenarios.{IsScenario};
-ghost use Rattle.orch_cli.specs.Scenarios.{settings_of, master_init, replica_init, servers_of, scenario_of, IsPlanned};
+ghost use Rattle.orch_base.specs.Gives.{Gives};
+ghost use Rattle.orch_cli.specs.Form.{fault_of};
+ghost use Rattle.orch_cli.specs.Scenarios.{settings_of, init_of, master_init, replica_init, servers_of, scenario_of, IsPlanned};
 
+use super::fault::{Fault, ReadFault};
 use super::plan::{Master, Plan, Replica, Servers};
-use orch_base::{Label, Memory, Name, ServerNo, Settings, Version};
+use orch_base::{Label, Memory, Moment, Name, ServerNo, Settings, Version};
 use orch_core::Scenario;
-use server_model::{Opening, Parts, ServerInit};
+use server_model::{Counts, Opening, OpeningFault, Parts, ServerInit};
 use std::alloc::Global;
 
 const DEFAULT_VERSION: Version = Version {
@@ -42,26 +44,56 @@ fn settings_of(index: u32, name: Name, cluster: Label) -> Settings
     }
 }
 
-fn master_init(master: Master, cluster: Label) -> ServerInit
-    ensures { result ≡ master_init cluster master }
+// A server that is up, with both links, and stands at the end of what it has executed.
+fn init_of(
+    alloc: Global,
+    settings: Settings,
+    history: Option<Parts>,
+    source: Option<ServerNo>,
+    executed: u64,
+    is_replica: bool,
+) -> ServerInit
+    ensures { result ≡ init_of settings history source executed is_replica }
 {
     ServerInit {
-        settings: settings_of(0, master.name, cluster),
-        history: master.history,
-        source: None,
-        executed: 0,
+        settings,
+        read_only: is_replica,
+        up: true,
+        desk: true,
+        feed: true,
+        history,
+        source,
+        executed,
+        at: None,
+        read: None,
+        io: true,
+        sql: true,
+        auto: false,
+        detached: false,
+        until: None,
+        flushes: Counts::new(Vec::new(alloc)),
     }
+}
+
+fn master_init(alloc: Global, master: Master, cluster: Label) -> ServerInit
+    ensures { result ≡ master_init cluster master }
+{
+    let settings = settings_of(0, master.name, cluster);
+    init_of(alloc, settings, Some(master.history), None, 0, false)
 }
 
 fn replica_init(alloc: Global, replica: Replica, cluster: Label) -> ServerInit
     ensures { result ≡ replica_init cluster replica }
 {
-    ServerInit {
-        settings: settings_of(1, replica.name, cluster),
-        history: Parts::new(Vec::new(alloc)),
-        source: Some(ServerNo(0)),
-        executed: replica.executed,
-    }
+    let settings = settings_of(1, replica.name, cluster);
+    init_of(
+        alloc,
+        settings,
+        None,
+        Some(ServerNo(0)),
+        replica.executed,
+        true,
+    )
 }
 
 fn servers_of(alloc: Global, servers: Servers) -> Result<Vec<ServerInit>, Memory>
@@ -70,23 +102,27 @@ fn servers_of(alloc: Global, servers: Servers) -> Result<Vec<ServerInit>, Memory
     let cluster = label_of(alloc, &servers.master.name)?;
     let below = cluster.copy(alloc)?;
     let mut inits = Vec::new(alloc);
-    inits.push(master_init(servers.master, cluster))?;
+    inits.push(master_init(alloc, servers.master, cluster))?;
     if let Some(replica) = servers.replica {
         inits.push(replica_init(alloc, replica, below))?;
     }
     Ok(inits)
 }
 
-/// The scenario of the plan.
-#[tactic(auto, using(crate::proofs::Sound::planned_sound, crate::proofs::Sound::planned_scenario))]
-pub(super) fn scenario_of(alloc: Global, plan: Plan) -> Result<Scenario, Memory>
+/// The scenario of the plan, which begins at moment 0.
+#[tactic(auto, using(crate::proofs::Sound::planned_listed, crate::proofs::Sound::planned_scenario), unfolding(crate::specs::Scenarios::scenario_of))]
+pub(super) fn scenario_of(alloc: Global, plan: Plan) -> Result<Scenario, ReadFault>
     requires { IsPlanned plan }
-    ensures exact { IfOk result (λ s. s ≡ scenario_of plan) }
-    ensures sound { IfOk result IsScenario }
+    ensures { Gives (λ s. s) fault_of result (scenario_of plan) }
 {
     let servers = servers_of(alloc, plan.servers)?;
-    Ok(Scenario {
-        opening: Opening::new(servers, false),
-        turns: plan.turns,
-    })
+    match Opening::check(alloc, servers, false) {
+        Ok(opening) => Ok(Scenario {
+            opening,
+            moment: Moment(0),
+            turns: plan.turns,
+        }),
+        Err(OpeningFault::Memory) => Err(ReadFault::Memory),
+        Err(OpeningFault::Flawed(_, _)) => Err(ReadFault::Fault(Fault::NotBuilt)),
+    }
 }

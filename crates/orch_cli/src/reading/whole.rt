@@ -107,7 +107,7 @@ pub fn read(alloc: Global, bytes: &[u8]) -> Result<Scenario, ReadFault>
     ensures sound { IfOk result IsScenario }
 {
     let plan = planned(alloc, bytes)?;
-    Ok(scenario_of(alloc, plan)?)
+    scenario_of(alloc, plan)
 }
 
 /// What bytes are read as meets the condition of the calls that take a scenario.

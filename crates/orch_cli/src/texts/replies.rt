@@ -1,14 +1,14 @@
 //! The line of a turn with its reply.
 
-ghost use Rattle.std.specs.Prelude.{◌≡◌, ◌++◌, OnOk, OnErr};
-ghost use Rattle.orch_cli.specs.Lines.{name_text, words_text, write_text, fetch_text, apply_text, answer_text, line_text};
+ghost use Rattle.std.specs.Prelude.{◌≡◌, ◌++◌, codes, OnOk, OnErr};
+ghost use Rattle.orch_cli.specs.Lines.{name_text, link_text, words_text, write_text, fetch_text, apply_text, rotate_text, answer_text, line_text};
 ghost use Rattle.binlog_coords.specs.Text.{coord_text};
 
 use super::print_number;
 use binlog_coords::{Coord, print_coord};
 use orch_base::{Memory, Name, ServerNo};
 use orch_core::{Reply, Turn};
-use server_model::{ApplyAnswer, FetchAnswer, WriteAnswer};
+use server_model::{ApplyAnswer, FetchAnswer, Link, RotateAnswer, WriteAnswer};
 
 fn print_name(names: &[Name], no: ServerNo, out: &mut Vec<u8>) -> Result<(), Memory>
     ensures { OnOk result (out.new.items ≡ out.old.items ++ name_text names.now no) }
@@ -17,6 +17,43 @@ fn print_name(names: &[Name], no: ServerNo, out: &mut Vec<u8>) -> Result<(), Mem
         Some(name) => name.print(out),
         None => Ok(()),
     }
+}
+
+// The word, a space and the server's name.
+fn print_at_server(
+    word: &[u8],
+    names: &[Name],
+    no: ServerNo,
+    out: &mut Vec<u8>,
+) -> Result<(), Memory>
+    ensures { OnOk result (out.new.items ≡ out.old.items ++ (word.now ++ name_text names.now no)) }
+{
+    out.extend_from_slice(word)?;
+    print_name(names, no, out)
+}
+
+fn link_word(link: Link) -> &'static [u8]
+    ensures { result.now ≡ link_text link }
+{
+    match link {
+        Link::Desk => b"desk",
+        Link::Feed => b"feed",
+    }
+}
+
+// The word, a space, the server's name, a space and the link.
+fn print_link(
+    word: &[u8],
+    names: &[Name],
+    no: ServerNo,
+    link: Link,
+    out: &mut Vec<u8>,
+) -> Result<(), Memory>
+    ensures { OnOk result (out.new.items ≡ out.old.items ++ (word.now ++ name_text names.now no ++ codes " " ++ link_text link)) }
+{
+    print_at_server(word, names, no, out)?;
+    out.extend_from_slice(b" ")?;
+    out.extend_from_slice(link_word(link))
 }
 
 fn print_words(t: Turn, names: &[Name], out: &mut Vec<u8>) -> Result<(), Memory>
@@ -29,13 +66,16 @@ fn print_words(t: Turn, names: &[Name], out: &mut Vec<u8>) -> Result<(), Memory>
             out.extend_from_slice(b" ")?;
             print_number(u64::from(size), out)
         }
-        Turn::Fetch(no) => {
-            out.extend_from_slice(b"fetch ")?;
-            print_name(names, no, out)
-        }
-        Turn::Apply(no) => {
-            out.extend_from_slice(b"apply ")?;
-            print_name(names, no, out)
+        Turn::Fetch(no) => print_at_server(b"fetch ", names, no, out),
+        Turn::Apply(no) => print_at_server(b"apply ", names, no, out),
+        Turn::Fail(no) => print_at_server(b"fail ", names, no, out),
+        Turn::Heal(no) => print_at_server(b"heal ", names, no, out),
+        Turn::Cut(no, link) => print_link(b"cut ", names, no, link, out),
+        Turn::Join(no, link) => print_link(b"join ", names, no, link, out),
+        Turn::Rotate(no) => print_at_server(b"rotate ", names, no, out),
+        Turn::Tick(seconds) => {
+            out.extend_from_slice(b"tick ")?;
+            print_number(seconds, out)
         }
     }
 }
@@ -88,6 +128,17 @@ fn print_apply(answer: ApplyAnswer, out: &mut Vec<u8>) -> Result<(), Memory>
     }
 }
 
+fn print_rotate(answer: RotateAnswer, out: &mut Vec<u8>) -> Result<(), Memory>
+    ensures { OnOk result (out.new.items ≡ out.old.items ++ rotate_text answer) }
+{
+    match answer {
+        RotateAnswer::Done(c) => print_at(b"done ", c, out),
+        RotateAnswer::Down => out.extend_from_slice(b"down"),
+        RotateAnswer::NotLogging => out.extend_from_slice(b"not logging"),
+        RotateAnswer::Full => out.extend_from_slice(b"full"),
+    }
+}
+
 fn print_answer(r: Reply, out: &mut Vec<u8>) -> Result<(), Memory>
     ensures { OnOk result (out.new.items ≡ out.old.items ++ answer_text r) }
 {
@@ -95,6 +146,12 @@ fn print_answer(r: Reply, out: &mut Vec<u8>) -> Result<(), Memory>
         Reply::Write(answer) => print_write(answer, out),
         Reply::Fetch(answer) => print_fetch(answer, out),
         Reply::Apply(answer) => print_apply(answer, out),
+        Reply::Done => out.extend_from_slice(b"done"),
+        Reply::Rotate(answer) => print_rotate(answer, out),
+        Reply::Now(now) => {
+            out.extend_from_slice(b"now ")?;
+            print_number(now.0, out)
+        }
     }
 }
 

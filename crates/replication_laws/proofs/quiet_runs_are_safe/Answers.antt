@@ -1,5 +1,8 @@
-use Rattle.replication_laws.proofs.Runs.{Safe-run, errant-take, quiet-take, Safe-take}
+use Rattle.replication_laws.proofs.Runs.{Safe-after, Safe-run, errant-take, quiet-take, Safe-take}
 use Rattle.replication_laws.proofs.quiet_runs_are_safe.Goals as goal
+
+pub returns-clause-each : goal.returns-clause-each
+returns-clause-each c = Safe-after
 
 pub returns-clause-end : goal.returns-clause-end
 returns-clause-end c = Safe-run

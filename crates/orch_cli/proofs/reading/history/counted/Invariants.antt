@@ -1,5 +1,5 @@
 use Rattle.std.proofs.Common.{◌≡◌, ◌≤◌, take}
-use Rattle.server_model.specs.Opening.{transactions}
+use Rattle.openings.specs.Listed.{transactions}
 use Rattle.orch_cli.proofs.reading.history.counted.Given as goal
 
 abbrev pub invariant-loop-part : goal.invariant-loop-part

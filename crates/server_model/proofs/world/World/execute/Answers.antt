@@ -1,8 +1,9 @@
-use Rattle.std.proofs.Common.{◌<◌, length, subst, sym, ap, arith}
+use Rattle.std.proofs.Common.{◌<◌, length, subst, sym, arith}
 use Rattle.server_model.specs.Worlds.{World}
 use Rattle.server_model.proofs.Lists.{slice_get-index}
 use Rattle.server_model.proofs.Takes.{own-small}
-use Rattle.server_model.proofs.Applied.{step_in, leads_to, IsKept-execute, execute-left, ready_in}
+use Rattle.server_model.specs.declared.answers.ApplyStep.TheVariants as applying
+use Rattle.server_model.proofs.Applied.{Execute, step_in, IsKept-execute, execute-left, ready_in}
 use Rattle.server_model.proofs.world.World.execute.Goals as goal
 
 pub overflow_add-l : goal.overflow_add-l
@@ -20,12 +21,11 @@ invariant_of-self c =
     let beyond : c.args.no.0 < length c.self.inside.ledgers.items = let e = c.self.invariant.paired in omega arith in
     let here = slice_get-index c.self.inside.servers.items c.args.no.0 c.index_mut-r.result.now within c.index_mut-r.ensures.value in
     let beside = slice_get-index c.self.inside.ledgers.items c.args.no.0 c.index_mut-l.result.now beyond c.index_mut-l.ensures.value in
-    let step = step_in c.args.self.now c.self.inside.servers.items c.self.inside.gtid c.self.inside.errant c.args.no.0 c.index_mut-r.result.now c.args.to c.self.view_is here
-    (ap leads_to c.requires.step) in
+    let step = step_in c.args.self.now c.self.inside.servers.items c.self.inside.gtid c.self.inside.errant c.args.no.0 c.index_mut-r.result.now (applying.Execute c.args.t c.args.to) (Execute c.args.t c.args.to) c.self.view_is here c.requires.step in
     let ready = ready_in c.args.self.now c.self.inside.servers.items c.self.inside.gtid c.self.inside.errant c.args.no.0 c.index_mut-r.result.now c.args.t c.args.to c.self.view_is here c.requires.ready in
     rw (c.pop.ensures, c.take.ensures, c.own_of.ensures.value)
-    (IsKept-execute c.self.inside.servers.items c.self.inside.ledgers.items c.self.inside.errant c.args.no.0 c.index_mut-r.result.now c.index_mut-l.result.now c.args.to
-    c.self.invariant here beside step c.args.t ready.0 ready.1 ready.2)
+    (IsKept-execute c.self.inside.servers.items c.self.inside.ledgers.items c.self.inside.gtid c.self.inside.errant c.args.no.0 c.index_mut-r.result.now c.index_mut-l.result.now c.args.to
+    c.self.invariant here beside c.args.t step ready.0 ready.1 ready.2)
 
 pub returns : goal.returns
 returns c =

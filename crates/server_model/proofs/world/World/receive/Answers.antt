@@ -1,7 +1,8 @@
 use Rattle.std.proofs.Common.{◌<◌, length, arith, subst, sym}
 use Rattle.server_model.specs.Worlds.{World}
 use Rattle.server_model.proofs.Lists.{slice_get-index}
-use Rattle.server_model.proofs.Fetched.{take_in, goes_from, room-receive, IsKept-receive, receive-left}
+use Rattle.binlog_coords.specs.declared.Next.TheVariants as next
+use Rattle.server_model.proofs.Fetched.{take_in, room-receive, IsKept-receive, receive-left}
 use Rattle.server_model.proofs.world.World.receive.Goals as goal
 
 pub push-requires : goal.push-requires
@@ -10,10 +11,9 @@ push-requires c =
     let beyond : c.args.no.0 < length c.self.inside.ledgers.items = let e = c.self.invariant.paired in omega arith in
     let here = slice_get-index c.self.inside.servers.items c.args.no.0 c.index_mut-r.result.now within c.index_mut-r.ensures.value in
     let beside = slice_get-index c.self.inside.ledgers.items c.args.no.0 c.index_mut-l.result.now beyond c.index_mut-l.ensures.value in
-    room-receive c.self.inside.servers.items c.self.inside.ledgers.items c.self.inside.errant c.args.no.0 c.index_mut-r.result.now c.index_mut-l.result.now c.args.next c.args.to
-    c.self.invariant here beside
-    (take_in c.args.self.now c.self.inside.servers.items c.self.inside.gtid c.self.inside.errant c.args.no.0 c.index_mut-r.result.now c.args.next c.self.view_is here c.requires.step)
-    (goes_from c.args.next c.args.to c.requires.end)
+    room-receive c.self.inside.servers.items c.self.inside.ledgers.items c.self.inside.errant c.args.no.0 c.index_mut-r.result.now c.index_mut-l.result.now c.args.to
+    c.self.invariant here beside c.args.index
+    (take_in c.args.self.now c.self.inside.servers.items c.self.inside.gtid c.self.inside.errant c.args.no.0 c.index_mut-r.result.now (next.Entry c.args.index c.args.to) c.self.view_is here c.requires.step)
 
 pub invariant_of-self : goal.invariant_of-self
 invariant_of-self c =
@@ -22,14 +22,12 @@ invariant_of-self c =
     let here = slice_get-index c.self.inside.servers.items c.args.no.0 c.index_mut-r.result.now within c.index_mut-r.ensures.value in
     let beside = slice_get-index c.self.inside.ledgers.items c.args.no.0 c.index_mut-l.result.now beyond c.index_mut-l.ensures.value in
     rw c.push.ensures
-    (IsKept-receive c.self.inside.servers.items c.self.inside.ledgers.items c.self.inside.errant c.args.no.0 c.index_mut-r.result.now c.index_mut-l.result.now c.args.next c.args.to
-    c.self.invariant here beside
-    (take_in c.args.self.now c.self.inside.servers.items c.self.inside.gtid c.self.inside.errant c.args.no.0 c.index_mut-r.result.now c.args.next c.self.view_is here c.requires.step)
-    (goes_from c.args.next c.args.to c.requires.end))
+    (IsKept-receive c.self.inside.servers.items c.self.inside.ledgers.items c.self.inside.errant c.args.no.0 c.index_mut-r.result.now c.index_mut-l.result.now c.args.to
+    c.self.invariant here beside c.args.index
+    (take_in c.args.self.now c.self.inside.servers.items c.self.inside.gtid c.self.inside.errant c.args.no.0 c.index_mut-r.result.now (next.Entry c.args.index c.args.to) c.self.view_is here c.requires.step))
 
 pub returns : goal.returns
 returns c =
     let within : c.args.no.0 < length c.self.inside.servers.items = subst (λ (w : World). c.args.no.0 < length w.servers) (sym c.self.view_is) c.requires.server in
-    receive-left c.args.self.now c.self.inside.servers.items c.self.inside.gtid c.self.inside.errant c.args.no.0 c.index_mut-r.result.now c.args.next c.args.to c.self.view_is
+    receive-left c.args.self.now c.self.inside.servers.items c.self.inside.gtid c.self.inside.errant c.args.no.0 c.index_mut-r.result.now c.args.index c.args.to c.self.view_is
     (slice_get-index c.self.inside.servers.items c.args.no.0 c.index_mut-r.result.now within c.index_mut-r.ensures.value)
-    (goes_from c.args.next c.args.to c.requires.end)

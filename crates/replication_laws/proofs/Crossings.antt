@@ -1,0 +1,31 @@
+-- Attachments that join well whatever happened.
+use Rattle.std.proofs.Common.{◌≡◌, true, ℕ, refl, sym, ◌∙◌, ap, Some, ◌&&◌}
+use Rattle.std.specs.Prelude.{◌==◌}
+use Rattle.std.proofs.lemmas.Bool.{and_parts, eqb-true}
+use Rattle.binlog_coords.specs.declared.Coord.{Coord}
+use Rattle.binlog_coords.specs.Log.{place, same_coord}
+use Rattle.binlog_coords.proofs.Places.{same_coord-true}
+use Rattle.orch_base.specs.declared.server.ServerNo.{ServerNo}
+use Rattle.orch_base.specs.declared.server.SourceState.{SourceState}
+use Rattle.orch_base.specs.declared.server.SourceState.TheVariants.{Without, Attached, Detached}
+use Rattle.server_model.specs.declared.attach.Spot.TheVariants as spot
+use Rattle.server_model.specs.Attach.{same_spot, spot_below}
+use Rattle.server_model.specs.Run.{IsJunction, JoinsWell, Attach}
+use Rattle.server_model.specs.Safe.{Safe}
+use Rattle.server_model.specs.Worlds.{World, source_no}
+
+-- a replica goes back to its own source, to where it stands there
+pub joins-same : (w : World) (n : ℕ) (m : ServerNo) (c : Coord) → Safe w → JoinsWell w (Attach n (spot.At m c) m c)
+joins-same w n m c safe r s here there is = by_source r.source is (λ k from. from)
+  where
+    stands : (k : ℕ) → source_no r.source ≡ Some k → (m.0 == k && same_coord c r.exec) ≡ true → IsJunction r s c
+    stands k from parts =
+        let both = and_parts (m.0 == k) (same_coord c r.exec) parts in
+        let well = safe.well n m.0 r s here (from ∙ ap Some (sym (eqb-true m.0 k both.0))) there in
+        let at : c ≡ r.exec = same_coord-true c r.exec both.1 in
+        record { prefix = well.prefix; place = ap (place s.log.log) at ∙ well.exec_place }
+
+    by_source : (source : SourceState) → same_spot (spot.At m c) (spot_below r source) ≡ true → ((k : ℕ) → source_no source ≡ Some k → source_no r.source ≡ Some k) → IsJunction r s c
+    by_source Without e same = cc
+    by_source (Attached k) e same = stands k.0 (same k.0 refl) e
+    by_source (Detached k) e same = stands k.0 (same k.0 refl) e

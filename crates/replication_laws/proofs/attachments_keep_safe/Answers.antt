@@ -1,0 +1,15 @@
+use Rattle.replication_laws.proofs.Crossings.{joins-same}
+use Rattle.replication_laws.proofs.Runs.{Safe-attached, Idle-attached}
+use Rattle.replication_laws.proofs.attachments_keep_safe.Goals as goal
+
+pub returns-clause-safe : goal.returns-clause-safe
+returns-clause-safe c = Safe-attached
+
+pub returns-clause-same : goal.returns-clause-same
+returns-clause-same c = joins-same
+
+pub returns-clause-goes_on : goal.returns-clause-goes_on
+returns-clause-goes_on c = λ w n expect to at. (Idle-attached w n expect to at).grows
+
+pub returns-clause-errant : goal.returns-clause-errant
+returns-clause-errant c = λ w n expect to at. (Idle-attached w n expect to at).errant

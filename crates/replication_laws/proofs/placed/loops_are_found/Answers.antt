@@ -1,0 +1,17 @@
+use Rattle.std.proofs.Common.{length}
+use Rattle.server_model.specs.Worlds.{sources}
+use Rattle.replication_laws.proofs.Chains.{walk-finds_all, walk-met}
+use Rattle.replication_laws.proofs.Loops.{loop-answered, loop-only}
+use Rattle.replication_laws.proofs.placed.loops_are_found.Goals as goal
+
+pub returns-clause-met : goal.returns-clause-met
+returns-clause-met c = λ w n to placed some h. walk-finds_all w placed some n to h
+
+pub returns-clause-missed : goal.returns-clause-missed
+returns-clause-missed c = λ w n to r. walk-met (sources w) to n (length w.servers) r
+
+pub returns-clause-answered : goal.returns-clause-answered
+returns-clause-answered c = λ w n expect to at ready r. loop-answered w n expect to.0 ready r
+
+pub returns-clause-only : goal.returns-clause-only
+returns-clause-only c = λ w n expect to at placed h. loop-only w n expect to.0 placed h

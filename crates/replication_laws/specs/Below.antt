@@ -1,0 +1,20 @@
+-- Who is below whom, by attached and detached sources, and when an attachment comes to ask that.
+use Rattle.std.specs.Prelude.{◌≡◌, ℕ, true, false, ◌&&◌, ◌||◌, Option, Some}
+use Rattle.server_model.specs.declared.attach.Spot.{Spot}
+use Rattle.server_model.specs.declared.server.Server.{Server}
+use Rattle.server_model.specs.Attach.{same_spot, live_spot}
+use Rattle.server_model.specs.Worlds.{World, server_at}
+
+-- the chain of sources from a server comes to n: it is n, or below it
+pub data Reaches (up : ℕ → Option ℕ) (n : ℕ) : ℕ → Type 0 where
+  Here : Reaches up n n
+  Up : (x m : ℕ) → up x ≡ Some m → Reaches up n m → Reaches up n x
+
+-- the server is there, within orchestrator's reach, with its threads off, and stands where it is expected: of all that
+-- an attachment asks only a loop is left
+pub record IsReadyAt (w : World) (n : ℕ) (expect : Spot) : Type 0 where
+  pub server : Server
+  pub there : server_at w n ≡ Some server
+  pub reached : (server.up && server.desk) ≡ true
+  pub still : (server.receiver || server.applier) ≡ false
+  pub expected : same_spot expect (live_spot server expect) ≡ true

@@ -1,0 +1,63 @@
+-- Answers that say that nothing was done.
+use Rattle.std.specs.Prelude.{Bool, true, false, Result, Ok, Err}
+use Rattle.server_model.specs.declared.answers.ApplyAnswer.{ApplyAnswer}
+use Rattle.server_model.specs.declared.answers.ApplyAnswer.TheVariants as applied_as
+use Rattle.server_model.specs.declared.answers.FetchAnswer.{FetchAnswer}
+use Rattle.server_model.specs.declared.answers.FetchAnswer.TheVariants as fetching
+use Rattle.server_model.specs.declared.answers.RotateAnswer.{RotateAnswer}
+use Rattle.server_model.specs.declared.answers.RotateAnswer.TheVariants as rotating
+use Rattle.server_model.specs.declared.answers.WriteAnswer.{WriteAnswer}
+use Rattle.server_model.specs.declared.answers.WriteAnswer.TheVariants as wrote
+use Rattle.server_model.specs.Attach.{attach_at}
+use Rattle.server_model.specs.Desk.{ask, rotate}
+use Rattle.server_model.specs.Exchanges.{write, fetch, apply}
+use Rattle.server_model.specs.Run.{Exchange, Write, Fetch, Apply, Request, Befall, Rotate, Attach}
+use Rattle.server_model.specs.Worlds.{World}
+
+-- a client's transaction was not written
+abbrev pub nothing_written : WriteAnswer → Bool
+nothing_written wrote.Down = true
+nothing_written wrote.ReadOnly = true
+nothing_written wrote.Full = true
+nothing_written (wrote.Done seq) = false
+
+-- the receiver read nothing
+abbrev pub nothing_read : FetchAnswer → Bool
+nothing_read fetching.Stopped = true
+nothing_read fetching.NoLink = true
+nothing_read fetching.Nothing = true
+nothing_read (fetching.Got to) = false
+nothing_read (fetching.Rotated to) = false
+
+-- the applier neither executed nor passed anything, and goes on as it did
+abbrev pub nothing_applied : ApplyAnswer → Bool
+nothing_applied applied_as.Stopped = true
+nothing_applied applied_as.Nothing = true
+nothing_applied applied_as.Full = true
+nothing_applied applied_as.AtUntil = false
+nothing_applied (applied_as.Rotated to) = false
+nothing_applied (applied_as.Skipped to) = false
+nothing_applied (applied_as.Done to) = false
+
+-- no file was begun
+abbrev pub no_new_file : RotateAnswer → Bool
+no_new_file rotating.Down = true
+no_new_file rotating.NotLogging = true
+no_new_file rotating.Full = true
+no_new_file (rotating.Done at) = false
+
+-- a fault
+abbrev pub is_fault : {E : Type 0} → Result (Unit {0}) E → Bool
+is_fault (Ok t) = false
+is_fault (Err e) = true
+
+-- the exchange answers a fault, or Down, ReadOnly, Full, Stopped, NoLink, Nothing or NotLogging; what befalls a server
+-- has no answer
+abbrev pub nothing_done : World → Exchange → Bool
+nothing_done w (Write n size) = nothing_written (write w n size).0
+nothing_done w (Fetch n) = nothing_read (fetch w n).0
+nothing_done w (Apply n) = nothing_applied (apply w n).0
+nothing_done w (Request n a) = is_fault (ask w n a).0
+nothing_done w (Befall n e) = false
+nothing_done w (Rotate n) = no_new_file (rotate w n).0
+nothing_done w (Attach n expect to at) = is_fault (attach_at w n expect to at).0

@@ -1,0 +1,45 @@
+//! What holds in every world of a run, quiet or not.
+
+ghost use Rattle.std.specs.Prelude.{◌≡◌, ℕ, ◌<◌, List, Some, Err, true, length, take};
+ghost use Rattle.orch_base.specs.declared.server.ServerNo.{ServerNo};
+ghost use Rattle.binlog_coords.specs.declared.Coord.{Coord as At};
+ghost use Rattle.server_model.specs.declared.attach.AttachFault.TheVariants as attaching;
+ghost use Rattle.server_model.specs.declared.attach.Spot.{Spot as ASpot};
+ghost use Rattle.server_model.specs.Attach.{attach_at, chain_meets};
+ghost use Rattle.server_model.specs.Run.{Exchange, after, run, Allowed, AllAllowed};
+ghost use Rattle.server_model.specs.Safe.{Safe, Placed};
+ghost use Rattle.server_model.specs.Worlds.{World, sources};
+ghost use Rattle.replication_laws.specs.Below.{Reaches, IsReadyAt};
+ghost use Rattle.replication_laws.specs.Growth.{Grows};
+
+/// Every exchange keeps a world placed, quiet or not: no server is below itself, every source is there and logs, and
+/// both coordinates of each server with a source have places in its source's log, the executed one not after the read
+/// one. With it every server goes on: its settings stay, what it had executed is a beginning of what it has executed
+/// afterwards, and each place of its log stays. So it is in each state of a run.
+pub fn each_exchange_keeps_placed()
+    ensures placed { (w : World) (e : Exchange) → Placed w → Allowed w e → Placed (after w e) }
+    ensures goes_on { (w : World) (e : Exchange) → Placed w → Allowed w e → Grows w (after w e) }
+    ensures run_placed { (w : World) (es : List Exchange) → Placed w → AllAllowed w es → Placed (run w es) }
+    ensures run_goes_on { (w : World) (es : List Exchange) → Placed w → AllAllowed w es → Grows w (run w es) }
+    ensures earlier { (w : World) (es : List Exchange) (k : ℕ) → Placed w → AllAllowed w es → Placed (run w (take k es)) }
+{}
+
+/// A safe world is placed.
+pub fn safe_worlds_are_placed()
+    ensures { (w : World) → Safe w → Placed w }
+{}
+
+/// In a placed world no server is below itself: the chain of sources above it never comes back to it.
+pub fn no_server_is_below_itself()
+    ensures { (w : World) (n m : ℕ) → Placed w → sources w n ≡ Some m → Reaches (sources w) n m → ⊥ }
+{}
+
+/// In a placed world of some servers a walk up the sources, of as many steps as there are servers, meets a server exactly
+/// where it begins there or below it. So an attachment answers Loop exactly where the new source is the server itself or
+/// below it, and no earlier fault comes.
+pub fn loops_are_found()
+    ensures met { (w : World) (n to : ℕ) → Placed w → 0 < length w.servers → chain_meets (sources w) (length w.servers) to n ≡ true → Reaches (sources w) n to }
+    ensures missed { (w : World) (n to : ℕ) → Reaches (sources w) n to → chain_meets (sources w) (length w.servers) to n ≡ true }
+    ensures answered { (w : World) (n : ℕ) (expect : ASpot) (to : ServerNo) (at : At) → IsReadyAt w n expect → Reaches (sources w) n to.0 → (attach_at w n expect to at).0 ≡ Err attaching.Loop }
+    ensures only { (w : World) (n : ℕ) (expect : ASpot) (to : ServerNo) (at : At) → Placed w → (attach_at w n expect to at).0 ≡ Err attaching.Loop → IsReadyAt w n expect × Reaches (sources w) n to.0 }
+{}

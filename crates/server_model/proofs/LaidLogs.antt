@@ -1,0 +1,87 @@
+-- How long the log of a server is at the opening, and how many files it has.
+use Rattle.std.proofs.Common.{◌≡◌, ℕ, ◌+◌, ◌≤◌, Bool, true, false, cond, List, [], ◌∷◌, length, refl, arith, zero, suc}
+use Rattle.std.specs.Prelude.{All, count_by, nat_le, ◌==◌}
+use Rattle.std.proofs.lemmas.Bool.Decides.{nat_tests}
+use Rattle.std.proofs.lemmas.List.Elements.{All-head, All-tail}
+use Rattle.std.proofs.lemmas.List.Sums.{sum_by-cons, count_by-le-length}
+use Rattle.binlog_coords.specs.Grown.{Grown}
+use Rattle.binlog_coords.specs.Grown as grown
+use Rattle.binlog_coords.specs.Log.{Log, opened, push}
+use Rattle.orch_base.specs.declared.server.Txn.{Txn}
+use Rattle.openings.specs.declared.init.ServerInit.{ServerInit}
+use Rattle.openings.specs.Logs.{flushed_times, flushed_at, laid_after, laid}
+use Rattle.openings.specs.Servers.{log_by}
+use Rattle.server_model.specs.Links.{HasSize}
+use Rattle.server_model.proofs.LogSizes.{length-push, files-push}
+
+entries-flushed_times : (n : ℕ) (log : Log) → length (flushed_times n log).entries ≡ length log.entries
+entries-flushed_times zero log = refl
+entries-flushed_times (suc n) log = entries-flushed_times n log
+
+files-flushed_times : (n : ℕ) (log : Log) → (flushed_times n log).files ≡ log.files + n
+files-flushed_times zero log = omega arith
+files-flushed_times (suc n) log = let e = files-flushed_times n log in omega arith
+
+Grown-flushed_times : (n : ℕ) (log : Log) → Grown log → Grown (flushed_times n log)
+Grown-flushed_times zero log g = g
+Grown-flushed_times (suc n) log g = grown.Flushed (flushed_times n log) (Grown-flushed_times n log g)
+
+-- one or nothing
+abbrev tick : Bool → ℕ
+tick b = cond b 1 0
+
+-- how often a log is flushed from a count on
+abbrev from_on : List ℕ → ℕ → ℕ
+from_on flushes count = count_by (λ k. nat_le count k) flushes
+
+count-next : (flushes : List ℕ) (count : ℕ) → from_on flushes count ≡ count_by (λ k. k == count) flushes + from_on flushes (count + 1)
+count-next [] count = refl
+count-next (f ∷ fs) count =
+    let split : tick (nat_le count f) ≡ tick (f == count) + tick (nat_le (count + 1) f) = grind (arith, nat_tests) in
+    omega (arith, split, count-next fs count, sum_by-cons (λ k. tick (nat_le count k)) f fs, sum_by-cons (λ k. tick (k == count)) f fs, sum_by-cons (λ k. tick (nat_le (count + 1) k)) f fs)
+
+entries-laid_after : (flushes : List ℕ) (count : ℕ) (log : Log) (ts : List Txn) → length (laid_after flushes count log ts).entries ≡ length log.entries + length ts
+entries-laid_after flushes count log [] = let e = entries-flushed_times (count_by (λ k. k == count) flushes) log in omega arith
+entries-laid_after flushes count log (t ∷ ts) =
+    let e = entries-flushed_times (count_by (λ k. k == count) flushes) log in
+    let p = length-push (flushed_at flushes count log) t.size in
+    let more = entries-laid_after flushes (count + 1) (push (flushed_at flushes count log) t.size) ts in
+    omega arith
+
+files-laid_after : (flushes : List ℕ) (count : ℕ) (log : Log) (ts : List Txn) → (laid_after flushes count log ts).files ≤ log.files + length ts + from_on flushes count
+files-laid_after flushes count log [] =
+    let e = files-flushed_times (count_by (λ k. k == count) flushes) log in let n = count-next flushes count in omega arith
+files-laid_after flushes count log (t ∷ ts) =
+    let e = files-flushed_times (count_by (λ k. k == count) flushes) log in
+    let n = count-next flushes count in
+    let p = files-push (flushed_at flushes count log) t.size in
+    let more = files-laid_after flushes (count + 1) (push (flushed_at flushes count log) t.size) ts in
+    omega arith
+
+Grown-laid_after : (flushes : List ℕ) (count : ℕ) (log : Log) (ts : List Txn) → All HasSize ts → Grown log → Grown (laid_after flushes count log ts)
+Grown-laid_after flushes count log [] sized g = Grown-flushed_times (count_by (λ k. k == count) flushes) log g
+Grown-laid_after flushes count log (t ∷ ts) sized g =
+    let size = All-head HasSize t ts sized in
+    Grown-laid_after flushes (count + 1) (push (flushed_at flushes count log) t.size) ts (All-tail HasSize t ts sized)
+    (grown.Pushed (flushed_at flushes count log) t.size size.0 (Grown-flushed_times (count_by (λ k. k == count) flushes) log g))
+
+-- the log of a server is as long as its history, or empty, and its files are at most its transactions, its flushes and one
+pub record IsLaid (log : Log) (history : List Txn) (flushes : ℕ) : Type 0 where
+  pub entries : length log.entries ≤ length history
+  pub files : log.files ≤ 1 + length log.entries + flushes
+  pub grown : Grown log
+
+pub IsLaid-log_by : (i : ServerInit) (history : List Txn) → All HasSize history → IsLaid (log_by i history) history (length i.flushes)
+IsLaid-log_by i history sized = go i.settings.logs
+  where
+    go : (b : Bool) → IsLaid (cond b (laid i.settings.limit i.flushes history) (opened i.settings.limit)) history (length i.flushes)
+    go true = record {
+      entries = let e = entries-laid_after i.flushes 0 (opened i.settings.limit) history in omega arith;
+      files =
+          let e = entries-laid_after i.flushes 0 (opened i.settings.limit) history in
+          let f = files-laid_after i.flushes 0 (opened i.settings.limit) history in
+          let c = count_by-le-length (λ k. nat_le 0 k) i.flushes in
+          omega arith;
+      grown = Grown-laid_after i.flushes 0 (opened i.settings.limit) history sized (grown.Opened i.settings.limit);
+    }
+    go false = record { entries = omega arith; files = omega arith; grown = grown.Opened i.settings.limit }

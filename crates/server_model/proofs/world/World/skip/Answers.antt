@@ -1,0 +1,23 @@
+use Rattle.std.proofs.Common.{◌<◌, length, subst, sym, arith}
+use Rattle.server_model.specs.declared.answers.ApplyStep.TheVariants as applying
+use Rattle.server_model.specs.Worlds.{World}
+use Rattle.server_model.proofs.Lists.{slice_get-index}
+use Rattle.server_model.proofs.Applied.{Skip, step_in, IsKept-skip, skip-left}
+use Rattle.server_model.proofs.world.World.skip.Goals as goal
+
+pub invariant_of-self : goal.invariant_of-self
+invariant_of-self c =
+    let within : c.args.no.0 < length c.self.inside.servers.items = subst (λ (w : World). c.args.no.0 < length w.servers) (sym c.self.view_is) c.requires.server in
+    let beyond : c.args.no.0 < length c.self.inside.ledgers.items = let e = c.self.invariant.paired in omega arith in
+    let here = slice_get-index c.self.inside.servers.items c.args.no.0 c.index_mut-r.result.now within c.index_mut-r.ensures.value in
+    let beside = slice_get-index c.self.inside.ledgers.items c.args.no.0 c.index_mut-l.result.now beyond c.index_mut-l.ensures.value in
+    rw c.pop.ensures
+    (IsKept-skip c.self.inside.servers.items c.self.inside.ledgers.items c.self.inside.gtid c.self.inside.errant c.args.no.0 c.index_mut-r.result.now c.index_mut-l.result.now c.args.to
+    c.self.invariant here beside
+    (step_in c.args.self.now c.self.inside.servers.items c.self.inside.gtid c.self.inside.errant c.args.no.0 c.index_mut-r.result.now (applying.Skip c.args.to) (Skip c.args.to) c.self.view_is here c.requires.step))
+
+pub returns : goal.returns
+returns c =
+    let within : c.args.no.0 < length c.self.inside.servers.items = subst (λ (w : World). c.args.no.0 < length w.servers) (sym c.self.view_is) c.requires.server in
+    skip-left c.args.self.now c.self.inside.servers.items c.self.inside.gtid c.self.inside.errant c.args.no.0 c.index_mut-r.result.now c.args.to c.self.view_is
+    (slice_get-index c.self.inside.servers.items c.args.no.0 c.index_mut-r.result.now within c.index_mut-r.ensures.value)
