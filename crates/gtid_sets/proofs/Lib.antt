@@ -8,3 +8,4 @@ pub mod Pieces
 pub mod RoundTrip
 pub mod SameSets
 pub mod Count
+pub mod Inserts

@@ -1,6 +1,7 @@
 //! Intervals of GTIDs of one server.
 
 ghost use Rattle.std.specs.Prelude.{max, ◌≡◌, ◌+◌, ◌^◌, ◌<◌, ◌≤◌, ◌&&◌, ◌||◌, ℕ, nat_lt, nat_le};
+ghost use Rattle.gtid_sets.specs.Adding.{touches, merged};
 ghost use Rattle.gtid_sets.specs.Sets.{place, low, high, between, IsInterval};
 
 /// The largest number of a GTID.
@@ -96,6 +97,26 @@ impl Interval {
         ensures { result ≡ nat_le (low next.now) (high self.now + 1) }
     {
         !self.behind().is_before(next.start())
+    }
+
+    /// Whether the two overlap, or one begins just behind the other.
+    pub fn touches(&self, other: &Interval) -> bool
+        requires this { IsInterval self.now }
+        requires other { IsInterval other.now }
+        ensures { result ≡ touches self.now other.now }
+    {
+        self.uuid == other.uuid && (other.first <= self.last + 1 && self.first <= other.last + 1)
+    }
+
+    /// Both as one, where they touch.
+    pub fn merged(&self, other: &Interval) -> Interval
+        ensures { result ≡ merged self.now other.now }
+    {
+        Interval {
+            uuid: self.uuid,
+            first: self.first.min(other.first),
+            last: self.last.max(other.last),
+        }
     }
 
     /// Both as one.

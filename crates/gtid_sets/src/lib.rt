@@ -6,6 +6,7 @@ mod fault;
 mod grammar;
 mod interval;
 mod print;
+mod reserved;
 mod set;
 #[cfg(test)]
 mod tests;
@@ -13,6 +14,7 @@ mod tests;
 pub use fault::GtidFault;
 pub use interval::{Interval, LARGEST};
 pub use print::printed_reads;
+pub use reserved::{ReservedSet, added_is_had};
 pub use set::{GtidSet, count_is_pairs, same_sets};
 /// Want of memory.
 pub use std::alloc::AllocError as Memory;

@@ -94,6 +94,22 @@ impl GtidSet {
         Ok(GtidSet { intervals })
     }
 
+    // The set of these intervals.
+    pub(crate) fn of_intervals(alloc: Global, intervals: &[Interval]) -> Result<GtidSet, Memory>
+        requires { IsSet intervals.now }
+        ensures { IfOk result (λ set. set ≡ intervals.now) }
+    {
+        let intervals = Vec::from_slice(alloc, intervals)?;
+        Ok(GtidSet { intervals })
+    }
+
+    /// Whether the sets are equal. It takes no memory.
+    pub fn is_same(&self, other: &GtidSet) -> bool
+        ensures { IsTrue result ↔ (self.now ≡ other.now) }
+    {
+        self.intervals == other.intervals
+    }
+
     /// Adds a GTID, `n` from 1 to `LARGEST`, and says whether it was new. At want of memory the set stays
     /// as it was. It takes time in the number of intervals.
     #[tactic(auto, using(crate::proofs::Places::add_holds))]
@@ -198,7 +214,7 @@ fn gathered(alloc: Global, found: &[Interval]) -> Result<GtidSet, Memory>
 }
 
 // The first interval that ends nowhere before the GTID.
-fn first_reaching(intervals: &[Interval], gtid: Gtid) -> usize
+pub(crate) fn first_reaching(intervals: &[Interval], gtid: Gtid) -> usize
     requires { IsSet intervals.now }
     ensures within { result ≤ length intervals.now }
     ensures below { AllWithin (λ s. high s < place gtid.uuid gtid.n) intervals.now 0 result }
@@ -217,7 +233,7 @@ fn first_reaching(intervals: &[Interval], gtid: Gtid) -> usize
     from
 }
 
-fn is_in(intervals: &[Interval], gtid: Gtid) -> bool
+pub(crate) fn is_in(intervals: &[Interval], gtid: Gtid) -> bool
     requires { IsSet intervals.now }
     ensures { result ≡ holds intervals.now gtid.uuid gtid.n }
 {

@@ -1,0 +1,19 @@
+use Rattle.std.proofs.Common.{◌≡◌, true, eqb, subst, arith}
+use Rattle.std.specs.Prelude.{◌&&◌}
+use Rattle.std.specs.Bool.{Decides}
+use Rattle.std.proofs.lemmas.Bool.Decides.{nat_tests}
+use Rattle.std.proofs.lemmas.Slice.Eq.{slice_eq-Decides}
+use Rattle.gtid_sets.specs.declared.interval.Interval.{Interval}
+use Rattle.gtid_sets.proofs.set.GtidSet.is_same.Goals as goal
+
+same_parts : (a b : Interval) → (eqb a.uuid b.uuid && (eqb a.first b.first && eqb a.last b.last)) ≡ true → a ≡ b
+same_parts a b e = grind (arith, nat_tests)
+
+itself : (a : Interval) → (eqb a.uuid a.uuid && (eqb a.first a.first && eqb a.last a.last)) ≡ true
+itself a = grind (arith, nat_tests)
+
+decided : (a b : Interval) → Decides (eqb a.uuid b.uuid && (eqb a.first b.first && eqb a.last b.last)) (a ≡ b)
+decided a b = (same_parts a b, λ e. subst (λ c. (eqb a.uuid c.uuid && (eqb a.first c.first && eqb a.last c.last)) ≡ true) e (itself a))
+
+pub returns : goal.returns
+returns c = rw (← c.self.view_is, ← c.other.view_is) (slice_eq-Decides decided c.self.inside.intervals.items c.other.inside.intervals.items c.eq.result c.eq.ensures)
