@@ -18,6 +18,9 @@ use Rattle.server_model.specs.declared.answers.ApplyStep.{ApplyStep}
 use Rattle.server_model.specs.declared.answers.ApplyStep.TheVariants as applying
 use Rattle.server_model.specs.declared.server.Server.{Server}
 use Rattle.server_model.specs.declared.ledger.Ledger.{Ledger}
+use Rattle.gtid_sets.specs.Reserved.{Reserved}
+use Rattle.server_model.specs.Gtids.{IsNumbered, AreGtids}
+use Rattle.server_model.proofs.ExecutedSets.{numbered-at}
 use Rattle.server_model.proofs.Lists.{set_self}
 use Rattle.server_model.proofs.Keeps.{IsKept-with, beside_of}
 use Rattle.server_model.proofs.RelaySteps.{step_to-is, step-entry, step-rotate, AfterEntry, Rest, after_entry, AfterFile, Left, after_file}
@@ -298,3 +301,24 @@ ready_in w servers gtid errant n r t to view here ready =
 
 pub ready_at : (w : World) (n : ℕ) (r : Server) (step : ApplyStep) → server_at w n ≡ Some r → IsReady (Some r) step → IsReady (server_at w n) step
 ready_at w n r step at ready = let P : Option Server → Type 0 = λ o. IsReady o step in subst P (sym at) ready
+
+-- a transaction that is to be executed is of the source's history
+executed-at : (gtid : Bool) (r s : Server) (t : Txn) (to : Coord) (x : Next) → applied gtid r s x ≡ applying.Execute t to → (k : ℕ) × (slice_get s.history.txns k ≡ Some t)
+executed-at gtid r s t to (next.Entry i e) h = (i, by (slice_get s.history.txns i) refl h)
+  where
+    by : (o : Option Txn) → slice_get s.history.txns i ≡ o → apply_txn gtid r e o ≡ applying.Execute t to → slice_get s.history.txns i ≡ Some t
+    by None at h = cc
+    by (Some x) at h = go (gtid && holds x r.history.txns) (nat_le r.history.room (length r.history.txns)) h
+      where
+        go : (a b : Bool) → cond a (applying.Skip e) (cond b applying.NoRoom (applying.Execute x e)) ≡ applying.Execute t to → slice_get s.history.txns i ≡ Some t
+        go true b h = cc
+        go false true h = cc
+        go false false h = let same : x ≡ t = cc in at ∙ ap Some same
+executed-at gtid r s t to (next.Rotate e) h = cc
+executed-at gtid r s t to next.End h = cc
+
+pub step-numbered : (servers : List Server) (executed : List Reserved) (gtid : Bool) (r : Server) (t : Txn) (to : Coord) → AreGtids servers executed gtid → IsStep servers gtid r (applying.Execute t to)
+    → IsNumbered (length servers) t
+step-numbered servers executed gtid r t to are on =
+    let at = executed-at gtid r on.source t to (next_after on.source.log.log r.exec) on.is in
+    numbered-at (length servers) on.source.history.txns at.0 t (are.numbered on.number on.source on.at) at.1

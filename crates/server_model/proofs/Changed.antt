@@ -43,6 +43,7 @@ emptied all l = record l { relay = cond all (record l.relay { entries = [] }) l.
 
 -- a change that leaves the history and the log, and stands as before under the same source, if under any
 pub record IsMoved (s s' : Server) (all : Bool) : Type 0 where
+  pub settings : s'.settings ≡ s.settings
   pub history : s'.history ≡ s.history
   pub log : s'.log ≡ s.log
   pub source : (m : ℕ) → source_no s'.source ≡ Some m → source_no s.source ≡ Some m
@@ -69,45 +70,46 @@ module _ (s : Server) where
     read_place = (old.exec_place.0, ap (place t.log.log) read ∙ old.exec_place.1);
   }
 
-  still : (s' : Server) → s'.history ≡ s.history → s'.log ≡ s.log → source_no s'.source ≡ source_no s.source → s'.exec ≡ s.exec → s'.read ≡ s.read → IsMoved s s' false
-  still s' history log source exec read = record { history = history; log = log; source = λ m h. sym source ∙ h; link = λ m h t l old. stays s' exec read t l old }
+  still : (s' : Server) → s'.settings ≡ s.settings → s'.history ≡ s.history → s'.log ≡ s.log → source_no s'.source ≡ source_no s.source → s'.exec ≡ s.exec → s'.read ≡ s.read → IsMoved s s' false
+  still s' settings history log source exec read = record { settings = settings; history = history; log = log; source = λ m h. sym source ∙ h; link = λ m h t l old. stays s' exec read t l old }
 
   moved-stopped : (which : Threads) → IsMoved s (stopped which s) false
-  moved-stopped threads.Both = still (stopped threads.Both s) refl refl refl refl refl
-  moved-stopped threads.Receiver = still (stopped threads.Receiver s) refl refl refl refl refl
-  moved-stopped threads.Applier = still (stopped threads.Applier s) refl refl refl refl refl
+  moved-stopped threads.Both = still (stopped threads.Both s) refl refl refl refl refl refl
+  moved-stopped threads.Receiver = still (stopped threads.Receiver s) refl refl refl refl refl refl
+  moved-stopped threads.Applier = still (stopped threads.Applier s) refl refl refl refl refl refl
 
   moved-started : (until : Option Coord) → IsMoved s (started until s) false
   moved-started until = go (is_attached s.source)
     where
       go : (b : Bool) → IsMoved s (cond b (record s { receiver = true; applier = true; until = until }) s) false
-      go true = still (record s { receiver = true; applier = true; until = until }) refl refl refl refl refl
-      go false = still s refl refl refl refl refl
+      go true = still (record s { receiver = true; applier = true; until = until }) refl refl refl refl refl refl
+      go false = still s refl refl refl refl refl refl
 
   moved-detached : IsMoved s (detached s) (is_attached s.source)
   moved-detached = go s.source refl
     where
       go : (source : SourceState) → s.source ≡ source
           → IsMoved s (cond (is_attached source) (record s { source = detached_source source; receiver = false; applier = false; read = s.exec; until = None }) s) (is_attached source)
-      go Without is = still s refl refl refl refl refl
+      go Without is = still s refl refl refl refl refl refl
       go (Attached m) is = record {
+        settings = refl;
         history = refl;
         log = refl;
         source = λ k h. ap source_no is ∙ h;
         link = λ k h t l old. drops (record s { source = Detached m; receiver = false; applier = false; read = s.exec; until = None }) refl refl t l old;
       }
-      go (Detached m) is = still s refl refl refl refl refl
+      go (Detached m) is = still s refl refl refl refl refl refl
 
   moved-reattached : IsMoved s (reattached s) false
   moved-reattached = go s.source refl
     where
       go : (source : SourceState) → s.source ≡ source → IsMoved s (cond (is_detached source) (record s { source = attached_source source; receiver = false; applier = false }) s) false
-      go Without is = still s refl refl refl refl refl
-      go (Attached m) is = still s refl refl refl refl refl
-      go (Detached m) is = still (record s { source = Attached m; receiver = false; applier = false }) refl refl (sym (ap source_no is)) refl refl
+      go Without is = still s refl refl refl refl refl refl
+      go (Attached m) is = still s refl refl refl refl refl refl
+      go (Detached m) is = still (record s { source = Attached m; receiver = false; applier = false }) refl refl refl (sym (ap source_no is)) refl refl
 
   moved-reset : IsMoved s (without_source s) true
-  moved-reset = record { history = refl; log = refl; source = λ m h. cc; link = λ m h t l old. cc }
+  moved-reset = record { settings = refl; history = refl; log = refl; source = λ m h. cc; link = λ m h t l old. cc }
 
   pub moved-asked : (a : Ask) → IsMoved s (asked a s) (empties a s)
   moved-asked (asking.Stop which) = moved-stopped which
@@ -116,21 +118,21 @@ module _ (s : Server) where
   moved-asked asking.Detach = moved-detached
   moved-asked asking.Reattach = moved-reattached
   moved-asked asking.Reset = moved-reset
-  moved-asked (asking.SetReadOnly on) = still (record s { read_only = on }) refl refl refl refl refl
+  moved-asked (asking.SetReadOnly on) = still (record s { read_only = on }) refl refl refl refl refl refl
 
   moved-link : (l : Link) (on : Bool) → IsMoved s (with_link l on s) false
-  moved-link link.Desk on = still (record s { desk = on }) refl refl refl refl refl
-  moved-link link.Feed on = still (record s { feed = on }) refl refl refl refl refl
+  moved-link link.Desk on = still (record s { desk = on }) refl refl refl refl refl refl
+  moved-link link.Feed on = still (record s { feed = on }) refl refl refl refl refl refl
 
   moved-healed : IsMoved s (healed s) false
   moved-healed = go s.up
     where
       go : (b : Bool) → IsMoved s (cond b s (healed (record s { up = false }))) false
-      go true = still s refl refl refl refl refl
-      go false = still (healed (record s { up = false })) refl refl refl refl refl
+      go true = still s refl refl refl refl refl refl
+      go false = still (healed (record s { up = false })) refl refl refl refl refl refl
 
   pub moved-befallen : (e : Event) → IsMoved s (befallen e s) false
-  moved-befallen event.Fail = still (record s { up = false }) refl refl refl refl refl
+  moved-befallen event.Fail = still (record s { up = false }) refl refl refl refl refl refl
   moved-befallen event.Heal = moved-healed
   moved-befallen (event.Cut l) = moved-link l false
   moved-befallen (event.Join l) = moved-link l true
@@ -229,12 +231,13 @@ pub rotate-answered : (w : World) (n : ℕ) (s : Server) (end : Coord) → serve
 rotate-answered w n s end at up logs some is = rw (at, up, logs, some, is)
 
 -- a change of source to a place of another server's log
-pub IsKept-attached : (servers : List Server) (ledgers : List Ledger) (errant n : ℕ) (s : Server) (l : Ledger) (to : ServerNo) (at : Coord) (target : Server) → IsKept servers ledgers errant
+pub IsKept-attached : (auto : Bool) (servers : List Server) (ledgers : List Ledger) (errant n : ℕ) (s : Server) (l : Ledger) (to : ServerNo) (at : Coord) (target : Server)
+    → IsKept servers ledgers errant
     → slice_get servers n ≡ Some s → slice_get ledgers n ≡ Some l → slice_get servers to.0 ≡ Some target → has_place target.log.log at ≡ true → (to.0 ≡ n → ⊥)
-    → IsKept (slice_set servers n (attached_to to at s)) (slice_set ledgers n (emptied true l)) errant
-IsKept-attached servers ledgers errant n s l to at target kept here beside there placed apart =
+    → IsKept (slice_set servers n (record (attached_to to at s) { auto = auto })) (slice_set ledgers n (emptied true l)) errant
+IsKept-attached auto servers ledgers errant n s l to at target kept here beside there placed apart =
     let f = kept.fit n s here in
-    IsKept-any servers ledgers errant errant n s (attached_to to at s) l (emptied true l) kept here beside
+    IsKept-any servers ledgers errant errant n s (record (attached_to to at s) { auto = auto }) l (emptied true l) kept here beside
     (record {
       places = λ c k h. h;
       relays = λ c d xs h. h;

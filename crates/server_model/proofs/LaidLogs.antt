@@ -1,5 +1,5 @@
 -- How long the log of a server is at the opening, and how many files it has.
-use Rattle.std.proofs.Common.{◌≡◌, ℕ, ◌+◌, ◌≤◌, Bool, true, false, cond, List, [], ◌∷◌, length, refl, arith, zero, suc}
+use Rattle.std.proofs.Common.{◌≡◌, ℕ, ◌+◌, ◌≤◌, Bool, true, false, cond, List, [], ◌∷◌, length, refl, ◌∙◌, ap, arith, zero, suc}
 use Rattle.std.specs.Prelude.{All, count_by, nat_le, ◌==◌}
 use Rattle.std.proofs.lemmas.Bool.Decides.{nat_tests}
 use Rattle.std.proofs.lemmas.List.Elements.{All-head, All-tail}
@@ -85,3 +85,9 @@ IsLaid-log_by i history sized = go i.settings.logs
       grown = Grown-laid_after i.flushes 0 (opened i.settings.limit) history sized (grown.Opened i.settings.limit);
     }
     go false = record { entries = omega arith; files = omega arith; grown = grown.Opened i.settings.limit }
+
+-- the log of a server that logs is as long as its history
+pub entries-log_by : (i : ServerInit) (history : List Txn) → i.settings.logs ≡ true → length (log_by i history).entries ≡ length history
+entries-log_by i history on =
+    ap (λ b. length (cond b (laid i.settings.limit i.flushes history) (opened i.settings.limit)).entries) on
+    ∙ (let e = entries-laid_after i.flushes 0 (opened i.settings.limit) history in omega (arith, e))

@@ -4,7 +4,7 @@ use Rattle.std.specs.Prelude.{slice_get, slice_set, nat_eq}
 use Rattle.std.proofs.lemmas.List.Elements.{All-push}
 use Rattle.std.proofs.lemmas.Bool.{eq-eqb}
 use Rattle.std.proofs.lemmas.List.Sums.{count_by-le-length, sum_by-le}
-use Rattle.std.proofs.lemmas.Option.{slice_get-get_or}
+use Rattle.std.proofs.lemmas.Option.{slice_get-get_or, slice_get_within}
 use Rattle.std.proofs.Math.Nat.{mul-le-mul_right}
 use Rattle.std.proofs.lemmas.List.Sums.{sum_by_push}
 use Rattle.binlog_coords.specs.declared.Coord.{Coord}
@@ -19,6 +19,7 @@ use Rattle.binlog_coords.proofs.Relays.{IsRelay-push}
 use Rattle.orch_base.specs.declared.server.Txn.{Txn}
 use Rattle.orch_base.specs.Histories.{count_own}
 use Rattle.server_model.specs.Exchanges.{took, own_txn}
+use Rattle.server_model.specs.Gtids.{IsNumbered}
 use Rattle.server_model.specs.Worlds.{source_no}
 use Rattle.server_model.specs.Links.{IsFit, IsLinked, IsKept, HasSize}
 use Rattle.server_model.specs.declared.server.Server.{Server}
@@ -106,3 +107,14 @@ own-small servers ledgers errant n s l kept here beside =
     let a = fit.high in let b = fit.within in
     let f = count_by-le-length (λ (t : Txn). nat_eq t.origin.0 n) s.history.txns in
     omega arith
+
+-- a server's next own transaction has a GTID
+pub own-numbered : (servers : List Server) (ledgers : List Ledger) (errant n size : ℕ) (s : Server) (l : Ledger) → IsKept servers ledgers errant → slice_get servers n ≡ Some s → slice_get ledgers n ≡ Some l
+    → length s.history.txns < s.history.room → IsNumbered (length servers) (own_txn n (l.own + 1) size)
+own-numbered servers ledgers errant n size s l kept here beside room =
+    let e = kept.own n s l here beside in
+    let fit = kept.fit n s here in
+    let a = fit.high in
+    let f = count_by-le-length (λ (t : Txn). nat_eq t.origin.0 n) s.history.txns in
+    let within = slice_get_within servers n s here in
+    record { origin = within; some = omega arith; few = omega arith }

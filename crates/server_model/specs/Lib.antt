@@ -6,6 +6,7 @@ pub mod Worlds
 pub mod Exchanges
 pub mod Desk
 pub mod Attach
+pub mod Gtids
 pub mod Safe
 pub mod Run
 pub mod Plains

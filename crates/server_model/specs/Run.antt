@@ -2,6 +2,8 @@
 use Rattle.std.specs.Prelude.{◌≡◌, ℕ, ◌<◌, true, List, [], ◌∷◌, length, take, Some}
 use Rattle.binlog_coords.specs.declared.Coord.{Coord}
 use Rattle.binlog_coords.specs.Log.{place}
+use Rattle.gtid_sets.specs.declared.interval.Interval.{Interval}
+use Rattle.gtid_sets.specs.Sets.{holds}
 use Rattle.orch_base.specs.declared.server.ServerNo.{ServerNo}
 use Rattle.server_model.specs.declared.attach.Spot.{Spot}
 use Rattle.server_model.specs.declared.changes.Ask.{Ask}
@@ -10,10 +12,11 @@ use Rattle.server_model.specs.declared.server.Server.{Server}
 use Rattle.server_model.specs.Attach.{attach_at, same_spot, live_spot, IsTarget}
 use Rattle.server_model.specs.Desk.{ask, befall, rotate}
 use Rattle.server_model.specs.Exchanges.{write, fetch, apply}
+use Rattle.server_model.specs.Gtids.{attach_auto, executed_set, IsAutoTarget}
 use Rattle.server_model.specs.Worlds.{World, server_at}
 
 -- one exchange: a client's write, a step of a replica's receiver or applier, what orchestrator asks of a server, what
--- befalls a server, a new file of its log, or an attachment by a coordinate
+-- befalls a server, a new file of its log, an attachment by a coordinate, or one by a set that was observed
 pub data Exchange : Type 0 where
   Write : (n size : ℕ) → Exchange
   Fetch : (n : ℕ) → Exchange
@@ -22,6 +25,7 @@ pub data Exchange : Type 0 where
   Befall : (n : ℕ) (e : Event) → Exchange
   Rotate : (n : ℕ) → Exchange
   Attach : (n : ℕ) (expect : Spot) (to : ServerNo) (at : Coord) → Exchange
+  AttachAuto : (n : ℕ) (observed : List Interval) (to : ServerNo) → Exchange
 
 abbrev pub after : World → Exchange → World
 after w (Write n size) = (write w n size).1
@@ -31,9 +35,10 @@ after w (Request n a) = (ask w n a).1
 after w (Befall n e) = befall w n e
 after w (Rotate n) = (rotate w n).1
 after w (Attach n expect to at) = (attach_at w n expect to at).1
+after w (AttachAuto n observed to) = (attach_auto w n observed to).1
 
--- what an exchange requires: a transaction takes some bytes, and the coordinate of an attachment has a place in the log
--- of its target
+-- what an exchange requires: a transaction takes some bytes, the coordinate of an attachment has a place in the log of
+-- its target, and GTIDs are used where a server is attached by a set, to one that logs
 abbrev pub Allowed : World → Exchange → Type 0
 Allowed w (Write n size) = 0 < size
 Allowed w (Fetch n) = Unit {0}
@@ -42,16 +47,23 @@ Allowed w (Request n a) = Unit {0}
 Allowed w (Befall n e) = Unit {0}
 Allowed w (Rotate n) = Unit {0}
 Allowed w (Attach n expect to at) = IsTarget w to.0 at
+Allowed w (AttachAuto n observed to) = IsAutoTarget w to.0
 
 -- what r executed is a beginning of what s executed, and the coordinate is where that beginning ends
 pub record IsJunction (r s : Server) (at : Coord) : Type 0 where
   pub prefix : take (length r.history.txns) s.history.txns ≡ r.history.txns
   pub place : place s.log.log at ≡ Some (length r.history.txns)
 
--- an attachment of a server that is where it is expected leads to where its history ends
+-- the observed set is within what the server has executed
+abbrev pub IsObserved : World → List Interval → ℕ → Type 0
+IsObserved w observed to = (t : Server) → server_at w to ≡ Some t → (uuid n : ℕ) → holds observed uuid n ≡ true → holds (executed_set w t) uuid n ≡ true
+
+-- an attachment of a server that is where it is expected leads to where its history ends, and one by a set goes by a set
+-- that is within the new source's
 abbrev pub JoinsWell : World → Exchange → Type 0
 JoinsWell w (Attach n expect to at) =
     (r s : Server) → server_at w n ≡ Some r → server_at w to.0 ≡ Some s → same_spot expect (live_spot r expect) ≡ true → IsJunction r s at
+JoinsWell w (AttachAuto n observed to) = IsObserved w observed to.0
 JoinsWell w (Write n size) = Unit {0}
 JoinsWell w (Fetch n) = Unit {0}
 JoinsWell w (Apply n) = Unit {0}

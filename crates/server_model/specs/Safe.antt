@@ -30,14 +30,19 @@ pub record IsKin (h : ℕ → List Txn) : Type 0 where
 abbrev pub IsSource : World → ℕ → Type 0
 IsSource w m = (s : Server) × (server_at w m ≡ Some s) × (s.settings.logs ≡ true)
 
+-- the servers' UUIDs differ
+abbrev pub HaveOwnUuids : World → Type 0
+HaveOwnUuids w = (m n : ℕ) (s t : Server) → server_at w m ≡ Some s → server_at w n ≡ Some t → s.settings.uuid ≡ t.settings.uuid → m ≡ n
+
 -- Every server with a source stands well under it, all histories are kin, no server is below itself, every source
--- logs, and every log lays out its server's history.
+-- logs, every log lays out its server's history, and the servers' UUIDs differ.
 pub record Safe (w : World) : Type 0 where
   pub laid : (n : ℕ) (s : Server) → server_at w n ≡ Some s → s.settings.logs ≡ true → LaysOut s.history.txns s.log.log
   pub well : (n m : ℕ) (r s : Server) → server_at w n ≡ Some r → source_no r.source ≡ Some m → server_at w m ≡ Some s → AttachedWell r s
   pub logging : (n m : ℕ) (r : Server) → server_at w n ≡ Some r → source_no r.source ≡ Some m → IsSource w m
   pub kin : IsKin (histories w)
   pub grounded : (n : ℕ) → Grounded (sources w) n
+  pub uuids : HaveOwnUuids w
 
 -- Where a replica stands in its source's log: both coordinates have places there, and the executed one isn't after the
 -- read one.
@@ -47,12 +52,14 @@ pub record StandsIn (r s : Server) : Type 0 where
   pub order : is_at_or_before r.exec r.read ≡ true
 
 -- What holds in every world of a run, quiet or not: every server with a source stands in the log of its source, every
--- source is there and logs, no server is below itself, and every log lays out its server's history.
+-- source is there and logs, no server is below itself, every log lays out its server's history, and the servers' UUIDs
+-- differ.
 pub record Placed (w : World) : Type 0 where
   pub laid : (n : ℕ) (s : Server) → server_at w n ≡ Some s → s.settings.logs ≡ true → LaysOut s.history.txns s.log.log
   pub stands : (n m : ℕ) (r s : Server) → server_at w n ≡ Some r → source_no r.source ≡ Some m → server_at w m ≡ Some s → StandsIn r s
   pub logging : (n m : ℕ) (r : Server) → server_at w n ≡ Some r → source_no r.source ≡ Some m → IsSource w m
   pub grounded : (n : ℕ) → Grounded (sources w) n
+  pub uuids : HaveOwnUuids w
 
 -- no write was accepted by a server that had a source
 abbrev pub IsQuiet : World → Type 0

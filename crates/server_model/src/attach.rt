@@ -4,10 +4,12 @@ ghost use Rattle.std.specs.Prelude.{◌≡◌, length};
 ghost use Rattle.server_model.specs.Attach.{attach_decision, chain_meets, live_spot, same_spot, spot_below};
 ghost use Rattle.server_model.specs.Worlds.{sources_in};
 ghost use Rattle.binlog_coords.specs.Log.{same_coord};
+ghost use Rattle.server_model.specs.declared.attach.AttachFault.TheVariants.{Memory as NoMemory};
 
 use crate::Server;
 use binlog_coords::Coord;
-use orch_base::{ServerNo, SourceState};
+use gtid_sets::GtidSet;
+use orch_base::{Memory, ServerNo, SourceState};
 
 /// Where a server stands.
 #[derive(Clone, Copy, Debug, PartialEq, Eq)]
@@ -20,7 +22,7 @@ pub enum Spot {
 }
 
 /// Why a server wasn't attached. Nothing has changed then.
-#[derive(Clone, Copy, Debug, PartialEq, Eq)]
+#[derive(Drop)]
 pub enum AttachFault {
     /// Orchestrator doesn't reach the server.
     Unreachable,
@@ -30,6 +32,18 @@ pub enum AttachFault {
     Interfered(Spot, Spot),
     /// The new source is the server itself or below it.
     Loop,
+    /// The server has executed these, which weren't observed of the new source. Only an attachment by a set answers it.
+    Errant(GtidSet),
+    /// Want of memory. Only an attachment by a set answers it.
+    Memory,
+}
+
+impl From<Memory> for AttachFault {
+    ghost from_gives = { λ _ e. e ≡ NoMemory };
+
+    fn from(_e: Memory) -> AttachFault {
+        AttachFault::Memory
+    }
 }
 
 fn same_coord(c: Coord, d: Coord) -> bool
@@ -48,7 +62,7 @@ fn same_spot(x: Spot, y: Spot) -> bool
     }
 }
 
-fn spot_below(s: &Server) -> Spot
+pub(crate) fn spot_below(s: &Server) -> Spot
     ensures { result ≡ spot_below s.now s.now.source }
 {
     match s.source {

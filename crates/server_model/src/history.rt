@@ -1,7 +1,6 @@
 //! The transactions that a server has executed.
 
 ghost use Rattle.std.specs.Prelude.{◌≡◌, ◌+◌, ◌<◌, ◌≤◌, [], ◌∷◌, ◌++◌, length, vec_capacity, slice_get};
-ghost use Rattle.orch_base.specs.Histories.{holds, same_txn};
 
 use orch_base::Txn;
 use std::marker::Model;
@@ -68,29 +67,10 @@ impl History {
         self.txns.get(k as usize).copied()
     }
 
-    /// Whether the transaction is among them.
-    pub fn holds(&self, t: Txn) -> bool
-        ensures { result ≡ holds t self.now.txns }
-    {
-        holds(&self.txns, t)
-    }
-
     /// The transactions in order.
     pub fn as_slice(&self) -> &[Txn]
         ensures { result.now ≡ self.now.txns }
     {
         &self.txns
     }
-}
-
-fn same_txn(x: Txn, y: Txn) -> bool
-    ensures { result ≡ same_txn x y }
-{
-    x.origin.0 == y.origin.0 && x.seq == y.seq
-}
-
-fn holds(txns: &[Txn], t: Txn) -> bool
-    ensures { result ≡ holds t txns.now }
-{
-    txns.iter().any(|x| same_txn(*x, t))
 }

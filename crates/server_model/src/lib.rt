@@ -4,15 +4,15 @@
 mod answers;
 mod attach;
 mod changes;
+mod gtids;
 mod history;
 mod ledger;
 mod making;
 mod plain;
 mod relay;
 mod server;
+mod status;
 mod steps;
-#[cfg(test)]
-mod tests;
 mod world;
 
 pub use answers::{ApplyAnswer, FetchAnswer, RotateAnswer, Unreachable, WriteAnswer};
@@ -26,4 +26,5 @@ pub use openings::{Counts, Flaw, Opening, OpeningFault, Part, Parts, ServerInit,
 pub use plain::Plain;
 pub(crate) use relay::Relay;
 pub(crate) use server::Server;
+pub use status::{Status, StatusFault};
 pub use world::World;

@@ -38,6 +38,7 @@ impl Server {
     ghost use Rattle.std.specs.Prelude.{◌≡◌, ◌+◌, ◌<◌, ◌≤◌, length};
     ghost use Rattle.server_model.specs.Exchanges.{took};
     ghost use Rattle.server_model.specs.Attach.{attached_to};
+    ghost use Rattle.server_model.specs.Gtids.{attached_auto};
     ghost use Rattle.server_model.specs.Desk.{stopped, started, detached, reattached, without_source, asked, with_link, healed, befallen, rotated};
 
     /// The history takes the transaction, and so does the log of a server that logs.
@@ -146,6 +147,14 @@ impl Server {
         self.until = None;
         self.receiver = false;
         self.applier = false;
+    }
+
+    /// Attaches the server to `to` at `at`, with its threads off, to find its place by GTIDs from then on.
+    pub fn attach_auto(&mut self, to: ServerNo, at: Coord)
+        ensures { self.new ≡ attached_auto to at self.old }
+    {
+        self.attach(to, at);
+        self.auto = true;
     }
 
     fn set_link(&mut self, link: Link, on: bool)

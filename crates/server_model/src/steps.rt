@@ -5,10 +5,13 @@ ghost use Rattle.binlog_coords.specs.Log.{has_place, same_coord};
 ghost use Rattle.server_model.specs.Exchanges.{applied, apply_answer, fetch_answer, fetch_from, is_applying, is_attached, is_reached, is_receiving, IsReady};
 ghost use Rattle.server_model.specs.Desk.{empties};
 ghost use Rattle.server_model.specs.Worlds.{has_source};
+ghost use Rattle.server_model.specs.Gtids.{uuids_in, TellsExecuted};
 ghost use Rattle.server_model.specs.Links.{relay_step, step_to, HasSize};
 
+use crate::gtids::uuid_of;
 use crate::{ApplyAnswer, ApplyStep, Ask, FetchAnswer, FetchStep, Relay, Server};
 use binlog_coords::{Coord, Next};
+use gtid_sets::ReservedSet;
 use orch_base::{ServerNo, SourceState, Txn};
 
 pub(crate) fn is_attached(source: SourceState) -> bool
@@ -137,8 +140,16 @@ fn step_to(c: Coord, entry: Option<(u64, Coord)>) -> Next
 }
 
 /// What the applier of `r`, which is on and isn't where it is to stop, is to do under its source `s`.
-pub(crate) fn relay_step(gtid: bool, r: &Server, s: &Server, relay: &Relay) -> ApplyStep
+pub(crate) fn relay_step(
+    gtid: bool,
+    r: &Server,
+    s: &Server,
+    relay: &Relay,
+    servers: &[Server],
+    executed: &ReservedSet,
+) -> ApplyStep
     requires sizes { All HasSize s.now.history.txns }
+    requires told { TellsExecuted gtid (uuids_in servers.now) executed.now.intervals r.now s.now }
     requires file { r.now.exec.file < 4294967295 }
     ensures step { result ≡ relay_step gtid r.now s.now relay.now.entries }
     ensures ready { IsReady (Some r.now) result }
@@ -146,11 +157,20 @@ pub(crate) fn relay_step(gtid: bool, r: &Server, s: &Server, relay: &Relay) -> A
     if same_coord(r.exec, r.read) {
         return ApplyStep::Idle;
     }
-    applied(gtid, r, s, step_to(r.exec, relay.front()))
+    let next = step_to(r.exec, relay.front());
+    applied(gtid, r, s, next, servers, executed)
 }
 
-fn applied(gtid: bool, r: &Server, s: &Server, next: Next) -> ApplyStep
-    requires { All HasSize s.now.history.txns }
+fn applied(
+    gtid: bool,
+    r: &Server,
+    s: &Server,
+    next: Next,
+    servers: &[Server],
+    executed: &ReservedSet,
+) -> ApplyStep
+    requires sizes { All HasSize s.now.history.txns }
+    requires told { TellsExecuted gtid (uuids_in servers.now) executed.now.intervals r.now s.now }
     ensures step { result ≡ applied gtid r.now s.now next }
     ensures ready { IsReady (Some r.now) result }
 {
@@ -158,7 +178,7 @@ fn applied(gtid: bool, r: &Server, s: &Server, next: Next) -> ApplyStep
         Next::Entry(index, to) => match s.history.get(index) {
             None => ApplyStep::Idle,
             Some(t) => {
-                if gtid && r.history.holds(t) {
+                if gtid && executed.contains(uuid_of(servers, t.origin), t.seq) {
                     ApplyStep::Skip(to)
                 } else if r.history.room() <= r.history.len() {
                     ApplyStep::NoRoom

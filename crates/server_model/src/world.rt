@@ -2,7 +2,9 @@
 
 ghost use Rattle.std.specs.Prelude.{◌≡◌, ◌+◌, ◌<◌, ◌≤◌, length, Some, IfOk, IsSomeAnd, option_and_then, option_map, slice_get};
 ghost use Rattle.std.specs.Option.{option_copied};
-ghost use Rattle.server_model.specs.Worlds.{server_at};
+ghost use Rattle.orch_base.specs.Gives.{Gives};
+ghost use Rattle.server_model.specs.Worlds.{server_at, source_no};
+ghost use Rattle.server_model.specs.Gtids.{attach_auto_answer, after_attach_auto, attach_fault, auto_coord, status as status_of_server, status_fault, uuids, IsAutoTarget};
 ghost use Rattle.server_model.specs.Exchanges.{write_answer, after_write, fetch_step, fetch_answer, after_fetch, attached_at, apply_step, apply_answer, after_apply, IsReady};
 ghost use Rattle.server_model.specs.Attach.{attach_answer, after_attach, IsTarget};
 ghost use Rattle.server_model.specs.Desk.{ask as ask_of, befall, desk_answer, rotate_answer, after_rotate};
@@ -10,16 +12,19 @@ ghost use Rattle.server_model.specs.Opening.{opened_world, Fits};
 ghost use Rattle.server_model.specs.Plains.{plain_of, log_of};
 
 use crate::attach::{attach_decision, chain_meets};
+use crate::gtids::{auto_readiness, errant_answer, executed_sets, held_len, keep_gtid, uuid_of};
 use crate::making::servers_of;
+use crate::status::status_of;
 use crate::steps::{
     apply_answer, empties, errant_writes, fetch_answer, is_applying, is_reachable, is_reached,
     is_receiving, own_of, receiver_step, relay_step,
 };
 use crate::{
     ApplyAnswer, ApplyStep, Ask, AttachFault, Event, FetchAnswer, FetchStep, Ledger, Link, Opening,
-    Plain, RotateAnswer, Server, Spot, Threads, Unreachable, WriteAnswer,
+    Plain, RotateAnswer, Server, Spot, Status, StatusFault, Threads, Unreachable, WriteAnswer,
 };
 use binlog_coords::{Coord, LogIndex, Next};
+use gtid_sets::{GtidSet, ReservedSet};
 use orch_base::{Memory, ServerNo, Settings, SourceState, Txn};
 use std::alloc::Global;
 use std::marker::Model;
@@ -29,6 +34,8 @@ use std::marker::Model;
 pub struct World {
     servers: Vec<Server>,
     ledgers: Vec<Ledger>,
+    // The GTIDs of what each server has executed, where they are used.
+    executed: Vec<ReservedSet>,
     gtid: bool,
     errant: u64,
 }
@@ -56,10 +63,13 @@ impl World {
     {
         let _checked = from.servers();
         let (servers, ledgers) = servers_of(alloc, from, room, flushes)?;
+        let gtid = from.gtid();
+        let executed = executed_sets(alloc, &servers, gtid, room)?;
         Ok(World {
             servers,
             ledgers,
-            gtid: from.gtid(),
+            executed,
+            gtid,
             errant: 0,
         })
     }
@@ -162,6 +172,8 @@ impl World {
         let l = &mut self.ledgers[n];
         let seq = l.own + 1;
         l.own = seq;
+        let executed = &mut self.executed[n];
+        keep_gtid(executed, self.gtid, s.settings.uuid, seq);
         self.errant += errant_writes(s.source);
         s.take(Txn {
             origin: no,
@@ -255,7 +267,10 @@ impl World {
         }
         match self.source_of(r.source) {
             None => ApplyStep::Idle,
-            Some(s) => relay_step(self.gtid, r, s, &self.ledgers[n].relay),
+            Some(s) => {
+                let relay = &self.ledgers[n].relay;
+                relay_step(self.gtid, r, s, relay, &self.servers, &self.executed[n])
+            }
         }
     }
 
@@ -300,12 +315,15 @@ impl World {
         ensures { self.new ≡ after_apply self.old no.0 (server_at self.old no.0) (ApplyStep.Execute t to) }
     {
         let n = no.0 as usize;
+        let uuid = uuid_of(&self.servers, t.origin);
         let r = &mut self.servers[n];
         r.take(t);
         r.exec = to;
         let l = &mut self.ledgers[n];
         l.relay.pop();
         l.own += own_of(no, t);
+        let executed = &mut self.executed[n];
+        keep_gtid(executed, self.gtid, uuid, t.seq);
     }
 
     // The server that a replica is attached to.
@@ -500,5 +518,92 @@ impl World {
         let _ = at;
         let loops = chain_meets(&self.servers, to.0, no.0);
         attach_decision(&self.servers[no.0 as usize], expect, loops)
+    }
+
+    // The server above another, attached or detached.
+    fn above(&self, source: SourceState) -> Option<&Server>
+        ensures { option_copied result ≡ option_and_then (λ m. server_at self.now m) (source_no source) }
+    {
+        match source {
+            SourceState::Attached(m) | SourceState::Detached(m) => self.servers.get(m.0 as usize),
+            SourceState::Without => None,
+        }
+    }
+
+    /// What orchestrator sees of a server in one exchange: Unreachable exactly where the server is down or its desk link
+    /// cut. It takes time in the size of the server's executed set.
+    pub fn status(&self, alloc: Global, no: ServerNo) -> Result<Status, StatusFault>
+        requires { no.0 < length self.now.servers }
+        ensures { Gives (λ s. s) status_fault result (status_of_server self.now no.0) }
+    {
+        let n = no.0 as usize;
+        let s = &self.servers[n];
+        if !is_reachable(s) {
+            return Err(StatusFault::Unreachable);
+        }
+        let set = self.executed[n].copy(alloc)?;
+        Ok(status_of(s, self.above(s.source), set))
+    }
+
+    /// Attaches a server to `to`, a server that logs, by the GTIDs that were observed of it, where GTIDs are used: Errant
+    /// with what the server has executed and isn't among them. It goes on at the end of the longest prefix of the source's
+    /// log that it has executed, with its threads off. Nothing changes where it answers a fault.
+    pub fn attach_auto(
+        &mut self,
+        alloc: Global,
+        no: ServerNo,
+        observed: &GtidSet,
+        to: ServerNo,
+    ) -> Result<(), AttachFault>
+        requires server { no.0 < length self.old.servers }
+        requires target { IsAutoTarget self.old to.0 }
+        ensures answer { Gives (λ t. t) attach_fault result (attach_auto_answer self.old no.0 observed.now to.0 (server_at self.old no.0)) }
+        ensures world { self.new ≡ after_attach_auto self.old no.0 to (server_at self.old no.0) result }
+    {
+        match self.test_attach_auto(alloc, no, observed, to) {
+            Err(fault) => return Err(fault),
+            Ok(()) => {}
+        }
+        let at = self.auto_coord(no, to);
+        let n = no.0 as usize;
+        let s = &mut self.servers[n];
+        s.attach_auto(to, at);
+        let l = &mut self.ledgers[n];
+        l.relay.clear_if(true);
+        Ok(())
+    }
+
+    /// What `attach_auto` would answer now. It changes nothing.
+    pub fn test_attach_auto(
+        &self,
+        alloc: Global,
+        no: ServerNo,
+        observed: &GtidSet,
+        to: ServerNo,
+    ) -> Result<(), AttachFault>
+        requires server { no.0 < length self.now.servers }
+        requires target { IsAutoTarget self.now to.0 }
+        ensures { Gives (λ t. t) attach_fault result (attach_auto_answer self.now no.0 observed.now to.0 (server_at self.now no.0)) }
+    {
+        let n = no.0 as usize;
+        let loops = chain_meets(&self.servers, to.0, no.0);
+        match auto_readiness(&self.servers[n], loops) {
+            Err(fault) => return Err(fault),
+            Ok(()) => {}
+        }
+        let errant = self.executed[n].minus(alloc, observed)?;
+        errant_answer(errant)
+    }
+
+    // Where a server goes on under the source.
+    fn auto_coord(&self, no: ServerNo, to: ServerNo) -> Coord
+        requires server { no.0 < length self.now.servers }
+        requires target { IsAutoTarget self.now to.0 }
+        ensures { option_map (λ r. auto_coord (uuids self.now) r (server_at self.now to.0)) (server_at self.now no.0) ≡ Some result }
+    {
+        let n = no.0 as usize;
+        let source = &self.servers[to.0 as usize];
+        let held = held_len(&self.servers, &self.executed[n], source.history.as_slice());
+        source.log.coord_after(held)
     }
 }

@@ -6,31 +6,46 @@ use Rattle.server_model.specs.Exchanges.{apply_from}
 use Rattle.server_model.proofs.Lists.{slice_get-index}
 use Rattle.server_model.proofs.Fetched.{attached_from}
 use Rattle.server_model.proofs.Applied.{apply_step-on, relay_step-is, file-small, ready_at}
+use Rattle.std.proofs.Common.{List}
+use Rattle.server_model.specs.Gtids.{uuids_in, TellsExecuted}
+use Rattle.server_model.specs.declared.server.Server.{Server}
+use Rattle.server_model.proofs.ExecutedSets.{tells}
 use Rattle.server_model.proofs.world.World.apply_step.Goals as goal
 
 pub relay_step-requires-clause-file : goal.relay_step-requires-clause-file
 relay_step-requires-clause-file c =
     let within : c.args.no.0 < length c.self.inside.servers.items = subst (λ (w : World). c.args.no.0 < length w.servers) (sym c.self.view_is) c.requires in
-    let beyond : c.args.no.0 < length c.self.inside.ledgers.items = let e = c.self.invariant.paired in omega arith in
+    let beyond : c.args.no.0 < length c.self.inside.ledgers.items = let e = c.self.invariant.kept.paired in omega arith in
     let here = slice_get-index c.self.inside.servers.items c.args.no.0 c.index-r.result.now within c.index-r.ensures in
     let beside = slice_get-index c.self.inside.ledgers.items c.args.no.0 c.index.result.now beyond c.index.ensures in
     let source = attached_from c.args.self.now c.index-r.result.now.source c.in-Some.s.now (sym c.source_of.ensures ∙ ap option_copied c.in-Some.is) in
     let at : slice_get c.self.inside.servers.items source.number ≡ Some c.in-Some.s.now = subst (λ (w : World). server_at w source.number ≡ Some c.in-Some.s.now) (sym c.self.view_is) source.at in
-    file-small c.index-r.result.now c.in-Some.s.now c.index.result.now (c.self.invariant.fit source.number c.in-Some.s.now at)
-    (c.self.invariant.linked c.args.no.0 source.number c.index-r.result.now c.in-Some.s.now c.index.result.now here source.from at beside)
+    file-small c.index-r.result.now c.in-Some.s.now c.index.result.now (c.self.invariant.kept.fit source.number c.in-Some.s.now at)
+    (c.self.invariant.kept.linked c.args.no.0 source.number c.index-r.result.now c.in-Some.s.now c.index.result.now here source.from at beside)
+
+pub relay_step-requires-clause-told : goal.relay_step-requires-clause-told
+relay_step-requires-clause-told c =
+    let within : c.args.no.0 < length c.self.inside.servers.items = subst (λ (w : World). c.args.no.0 < length w.servers) (sym c.self.view_is) c.requires in
+    let beyond : c.args.no.0 < length c.self.inside.executed.items = let e = c.self.invariant.gtids.paired in omega arith in
+    let here = slice_get-index c.self.inside.servers.items c.args.no.0 c.index-r.result.now within c.index-r.ensures in
+    let beside = slice_get-index c.self.inside.executed.items c.args.no.0 c.index-in-Some.result.now beyond c.index-in-Some.ensures in
+    let source = attached_from c.args.self.now c.index-r.result.now.source c.in-Some.s.now (sym c.source_of.ensures ∙ ap option_copied c.in-Some.is) in
+    let at : slice_get c.self.inside.servers.items source.number ≡ Some c.in-Some.s.now = subst (λ (w : World). server_at w source.number ≡ Some c.in-Some.s.now) (sym c.self.view_is) source.at in
+    subst (λ (xs : List Server). TellsExecuted c.self.inside.gtid (uuids_in xs) c.index-in-Some.result.now.intervals c.index-r.result.now c.in-Some.s.now) (sym c.deref.ensures.value)
+    (tells c.self.inside.servers.items c.self.inside.executed.items c.self.inside.gtid source.number c.args.no.0 c.index-r.result.now c.in-Some.s.now c.index-in-Some.result.now c.self.invariant.gtids here at beside)
 
 pub returns-in-Some-clause-step : goal.returns-in-Some-clause-step
 returns-in-Some-clause-step c =
     let within : c.args.no.0 < length c.self.inside.servers.items = subst (λ (w : World). c.args.no.0 < length w.servers) (sym c.self.view_is) c.requires in
-    let beyond : c.args.no.0 < length c.self.inside.ledgers.items = let e = c.self.invariant.paired in omega arith in
+    let beyond : c.args.no.0 < length c.self.inside.ledgers.items = let e = c.self.invariant.kept.paired in omega arith in
     let here = slice_get-index c.self.inside.servers.items c.args.no.0 c.index-r.result.now within c.index-r.ensures in
     let beside = slice_get-index c.self.inside.ledgers.items c.args.no.0 c.index.result.now beyond c.index.ensures in
     let is = sym c.source_of.ensures ∙ ap option_copied c.in-Some.is in
     let source = attached_from c.args.self.now c.index-r.result.now.source c.in-Some.s.now is in
     let at : slice_get c.self.inside.servers.items source.number ≡ Some c.in-Some.s.now = subst (λ (w : World). server_at w source.number ≡ Some c.in-Some.s.now) (sym c.self.view_is) source.at in
     c.relay_step.ensures.step
-    ∙ relay_step-is c.self.inside.gtid c.index-r.result.now c.in-Some.s.now c.index.result.now (c.self.invariant.fit source.number c.in-Some.s.now at)
-    (c.self.invariant.linked c.args.no.0 source.number c.index-r.result.now c.in-Some.s.now c.index.result.now here source.from at beside)
+    ∙ relay_step-is c.self.inside.gtid c.index-r.result.now c.in-Some.s.now c.index.result.now (c.self.invariant.kept.fit source.number c.in-Some.s.now at)
+    (c.self.invariant.kept.linked c.args.no.0 source.number c.index-r.result.now c.in-Some.s.now c.index.result.now here source.from at beside)
     ∙ ap (λ (w : World). apply_from w.gtid c.index-r.result.now (Some c.in-Some.s.now)) c.self.view_is
     ∙ sym (apply_step-on c.args.self.now c.args.no.0 c.index-r.result.now (Some c.in-Some.s.now)
     (subst (λ (w : World). server_at w c.args.no.0 ≡ Some c.index-r.result.now) c.self.view_is here)

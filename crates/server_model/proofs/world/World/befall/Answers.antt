@@ -2,15 +2,23 @@ use Rattle.std.proofs.Common.{◌<◌, length, subst, sym}
 use Rattle.server_model.specs.Worlds.{World}
 use Rattle.server_model.proofs.Lists.{slice_get-index}
 use Rattle.server_model.proofs.Changed.{moved-befallen, IsKept-still, befallen-left}
+use Rattle.std.proofs.Common.{ap}
+use Rattle.binlog_coords.specs.Index.{Index}
+use Rattle.server_model.specs.Desk.{befallen}
+use Rattle.server_model.proofs.ExecutedSets.{AreGtids-still}
 use Rattle.server_model.proofs.world.World.befall.Goals as goal
 
 pub invariant_of-self : goal.invariant_of-self
 invariant_of-self c =
     let within : c.args.no.0 < length c.self.inside.servers.items = subst (λ (w : World). c.args.no.0 < length w.servers) (sym c.self.view_is) c.requires in
     let here = slice_get-index c.self.inside.servers.items c.args.no.0 c.index_mut-s.result.now within c.index_mut-s.ensures.value in
-    rw c.befall.ensures
-    (IsKept-still c.self.inside.servers.items c.self.inside.ledgers.items c.self.inside.errant c.args.no.0 c.index_mut-s.result.now c.self.invariant here
-    _ (moved-befallen c.index_mut-s.result.now c.args.event))
+    let moved = moved-befallen c.index_mut-s.result.now c.args.event in
+    record {
+      kept = rw c.befall.ensures
+          (IsKept-still c.self.inside.servers.items c.self.inside.ledgers.items c.self.inside.errant c.args.no.0 c.index_mut-s.result.now c.self.invariant.kept here
+          _ moved);
+      gtids = rw c.befall.ensures (AreGtids-still c.self.inside.servers.items c.self.inside.executed.items c.self.inside.gtid c.args.no.0 c.index_mut-s.result.now (befallen c.args.event c.index_mut-s.result.now) c.self.invariant.gtids here moved.settings moved.history (ap (λ (i : Index). length i.log.entries) moved.log));
+    }
 
 pub returns : goal.returns
 returns c =

@@ -13,7 +13,7 @@ receiver_step-requires c =
     let source = attached_from c.args.self.now c.index-r.result.now.source c.in-Some.s.now (sym c.source_of.ensures ∙ ap option_copied c.in-Some.is) in
     let at : slice_get c.self.inside.servers.items source.number ≡ Some c.in-Some.s.now = subst (λ (w : World). server_at w source.number ≡ Some c.in-Some.s.now) (sym c.self.view_is) source.at in
     has_place-read c.self.inside.servers.items c.self.inside.ledgers.items c.self.inside.errant c.args.no.0 source.number c.index-r.result.now c.in-Some.s.now
-    c.self.invariant here source.from at
+    c.self.invariant.kept here source.from at
 
 pub returns-in-None : goal.returns-in-None
 returns-in-None c =

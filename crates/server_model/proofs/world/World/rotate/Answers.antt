@@ -5,6 +5,9 @@ use Rattle.server_model.specs.Worlds.{World, server_at}
 use Rattle.server_model.specs.declared.server.Server.{Server}
 use Rattle.server_model.proofs.Lists.{slice_get-index}
 use Rattle.server_model.proofs.Changed.{IsKept-rotated, rotated-left, rotate-answered}
+use Rattle.std.proofs.Common.{refl}
+use Rattle.server_model.proofs.ExecutedSets.{AreGtids-still}
+use Rattle.server_model.specs.Desk.{rotated}
 use Rattle.server_model.proofs.world.World.rotate.Goals as goal
 
 left_over : (n : ℕ) → (n ≡ 0 → ⊥) → 0 < n
@@ -14,8 +17,11 @@ pub invariant_of-self-2 : goal.invariant_of-self-2
 invariant_of-self-2 c =
     let within : c.args.no.0 < length c.self.inside.servers.items = subst (λ (w : World). c.args.no.0 < length w.servers) (sym c.self.view_is) c.requires in
     let here = slice_get-index c.self.inside.servers.items c.args.no.0 c.index_mut-s.result.now within c.index_mut-s.ensures.value in
-    rw c.rotate.ensures
-    (IsKept-rotated c.self.inside.servers.items c.self.inside.ledgers.items c.self.inside.errant c.args.no.0 c.index_mut-s.result.now c.self.invariant here (omega (arith, left_over c.index_mut-s.result.now.log.flushes (λ e. c.if-flushes_left-eq0.false (c.flushes_left.ensures ∙ e)))))
+    record {
+      kept = rw c.rotate.ensures
+          (IsKept-rotated c.self.inside.servers.items c.self.inside.ledgers.items c.self.inside.errant c.args.no.0 c.index_mut-s.result.now c.self.invariant.kept here (omega (arith, left_over c.index_mut-s.result.now.log.flushes (λ e. c.if-flushes_left-eq0.false (c.flushes_left.ensures ∙ e)))));
+      gtids = rw c.rotate.ensures (AreGtids-still c.self.inside.servers.items c.self.inside.executed.items c.self.inside.gtid c.args.no.0 c.index_mut-s.result.now (rotated c.index_mut-s.result.now) c.self.invariant.gtids here refl refl refl);
+    }
 
 pub returns-clause-answer : goal.returns-clause-answer
 returns-clause-answer c =

@@ -3,7 +3,7 @@ use Rattle.std.proofs.lemmas.List.Elements.{All-more}
 use Rattle.std.proofs.lemmas.List.Sums.{sum_by_more}
 use Rattle.openings.specs.declared.part.Part.{Part}
 use Rattle.openings.specs.Opening.{IsPart}
-use Rattle.server_model.proofs.tests.count.Goals as goal
+use Rattle.model_tests.proofs.tests.count.Goals as goal
 
 pub loop-part-preserved : goal.loop-part-preserved
 loop-part-preserved g c =

@@ -4,17 +4,53 @@ ghost use Rattle.openings.specs.Opening.{opening as opening_of, IsAlone, IsListe
 ghost use Rattle.openings.specs.Servers.{parts_of};
 ghost use Rattle.orch_base.specs.Names.{same_name};
 ghost use Rattle.server_model.specs.Attach.{IsTarget};
+ghost use Rattle.server_model.specs.Gtids.{IsAutoTarget};
 ghost use Rattle.server_model.specs.Opening.{Fits};
 
-use crate::{
-    ApplyAnswer, Ask, AttachFault, Counts, Event, FetchAnswer, Link, Opening, Part, Parts, Plain,
-    RotateAnswer, ServerInit, Spot, Threads, Unreachable, World, WriteAnswer,
-};
 use binlog_coords::Coord;
-use orch_base::{Label, Name, ServerNo, Settings, SourceState, Txn, Version};
+use gtid_sets::GtidSet;
+use orch_base::{IoState, Label, Name, ServerNo, Settings, SourceState, Txn, Version};
+use server_model::{
+    ApplyAnswer, AttachFault, Counts, FetchAnswer, Link, Opening, Part, Parts, Plain, RotateAnswer,
+    ServerInit, Spot, Status, StatusFault, Threads, Unreachable, World, WriteAnswer,
+};
 use std::alloc::Global;
 use std::process::Abort;
 use std::test::*;
+
+// What orchestrator asks of a server.
+#[derive(Clone, Copy)]
+enum Request {
+    Stop(Threads),
+    Start,
+    StartUntil(Coord),
+    Detach,
+    Reattach,
+    Reset,
+    SetReadOnly(bool),
+}
+
+// What befalls a server.
+#[derive(Clone, Copy)]
+enum Event {
+    Fail,
+    Heal,
+    Cut(Link),
+    Join(Link),
+}
+
+// What an attachment answers, with how many GTIDs are errant.
+#[derive(Clone, Copy, Debug, PartialEq, Eq)]
+enum Outcome {
+    Done,
+    Unreachable,
+    Running(Spot),
+    Interfered(Spot, Spot),
+    Loop,
+    /// Whether it is of the first transaction of server 3, and how many there are.
+    Errant(bool, u128),
+    Memory,
+}
 
 const M: ServerNo = ServerNo(0);
 
@@ -229,16 +265,16 @@ fn rotate(rt: &impl Abort, world: &mut World, no: ServerNo) -> RotateAnswer {
     world.rotate(no)
 }
 
-fn ask(rt: &impl Abort, world: &mut World, no: ServerNo, ask: Ask) -> Result<(), Unreachable> {
+fn ask(rt: &impl Abort, world: &mut World, no: ServerNo, ask: Request) -> Result<(), Unreachable> {
     assert!(rt; no.0 < world.servers());
     match ask {
-        Ask::Stop(which) => world.stop(no, which),
-        Ask::Start => world.start(no),
-        Ask::StartUntil(to) => world.start_until(no, to),
-        Ask::Detach => world.detach(no),
-        Ask::Reattach => world.reattach(no),
-        Ask::Reset => world.reset(no),
-        Ask::SetReadOnly(on) => world.set_read_only(no, on),
+        Request::Stop(which) => world.stop(no, which),
+        Request::Start => world.start(no),
+        Request::StartUntil(to) => world.start_until(no, to),
+        Request::Detach => world.detach(no),
+        Request::Reattach => world.reattach(no),
+        Request::Reset => world.reset(no),
+        Request::SetReadOnly(on) => world.set_read_only(no, on),
     }
 }
 
@@ -263,6 +299,18 @@ fn assert_target(rt: &impl Abort, world: &World, to: ServerNo, at: Coord)
     assert!(rt; place.is_some());
 }
 
+fn told(answer: Result<(), AttachFault>) -> Outcome {
+    match answer {
+        Ok(()) => Outcome::Done,
+        Err(AttachFault::Unreachable) => Outcome::Unreachable,
+        Err(AttachFault::Running(at)) => Outcome::Running(at),
+        Err(AttachFault::Interfered(expected, found)) => Outcome::Interfered(expected, found),
+        Err(AttachFault::Loop) => Outcome::Loop,
+        Err(AttachFault::Errant(set)) => Outcome::Errant(set.contains(3, 1), set.count()),
+        Err(AttachFault::Memory) => Outcome::Memory,
+    }
+}
+
 fn attach(
     rt: &impl Abort,
     world: &mut World,
@@ -270,13 +318,52 @@ fn attach(
     expect: Spot,
     to: ServerNo,
     at: Coord,
-) -> Result<(), AttachFault> {
+) -> Outcome {
     assert!(rt; no.0 < world.servers());
     assert_target(rt, world, to, at);
-    let told = world.test_attach_at(no, expect, to, at);
-    let done = world.attach_at(no, expect, to, at);
-    assert_eq!(rt; told, done);
+    let tried = told(world.test_attach_at(no, expect, to, at));
+    let done = told(world.attach_at(no, expect, to, at));
+    assert_eq!(rt; tried, done);
     done
+}
+
+fn assert_auto_target(rt: &impl Abort, world: &World, to: ServerNo)
+    ensures { IsAutoTarget world.now to.0 }
+{
+    assert!(rt; world.gtid() && to.0 < world.servers());
+    assert!(rt; world.log(to).is_some());
+}
+
+fn attach_auto(
+    rt: &impl Abort,
+    alloc: Global,
+    world: &mut World,
+    no: ServerNo,
+    observed: &GtidSet,
+    to: ServerNo,
+) -> Outcome {
+    assert!(rt; no.0 < world.servers());
+    assert_auto_target(rt, world, to);
+    let tried = told(world.test_attach_auto(alloc, no, observed, to));
+    let done = told(world.attach_auto(alloc, no, observed, to));
+    assert_eq!(rt; tried, done);
+    done
+}
+
+fn status(
+    rt: &impl Abort,
+    alloc: Global,
+    world: &World,
+    no: ServerNo,
+) -> Result<Status, StatusFault> {
+    assert!(rt; no.0 < world.servers());
+    world.status(alloc, no)
+}
+
+fn set_text(alloc: Global, set: &GtidSet) -> Result<Vec<u8>, Fail> {
+    let mut text = Vec::new(alloc);
+    set.print(&mut text)?;
+    Ok(text)
 }
 
 fn plain(rt: &impl Abort, world: &World, no: ServerNo) -> Plain {
@@ -418,13 +505,13 @@ fn detached_server_writes_and_follows_again(rt: HostRuntime) -> Result<(), Fail>
     let w = &mut world;
     assert_eq!(rt; fetch(&rt, w, S), FetchAnswer::Stopped);
     assert_eq!(rt; apply(&rt, w, S), ApplyAnswer::Stopped);
-    assert_eq!(rt; ask(&rt, w, S, Ask::SetReadOnly(false)), Ok(()));
+    assert_eq!(rt; ask(&rt, w, S, Request::SetReadOnly(false)), Ok(()));
     assert_eq!(rt; write(&rt, w, S, 50), WriteAnswer::Done(1));
     let t = transaction(&rt, w, S, 2);
     assert_eq!(rt; (t.origin, t.seq, t.size), (S, 1, 50));
     assert_eq!(rt; w.errant(), 1);
     assert_eq!(rt; write(&rt, w, M, 100), WriteAnswer::Done(4));
-    for asked in [Ask::Reattach, Ask::Start] {
+    for asked in [Request::Reattach, Request::Start] {
         assert_eq!(rt; ask(&rt, w, S, asked), Ok(()));
     }
     for (fetched, applied) in [
@@ -456,44 +543,41 @@ fn attaches_at_coordinates(rt: HostRuntime) -> Result<(), Fail> {
         let w = &mut world;
         let (start, next) = (at(1, 4), at(1, 104));
         let (begins, follows) = (Spot::At(M, start), Spot::At(M, next));
-        let running = Err(AttachFault::Running(begins));
+        let running = Outcome::Running(begins);
         assert_eq!(rt; w.gtid(), gtid);
         assert_eq!(rt; fetch(&rt, w, R), FetchAnswer::Got(next));
         assert_eq!(rt; attach(&rt, w, R, begins, M, start), running);
-        assert_eq!(rt; ask(&rt, w, R, Ask::Stop(Threads::Both)), Ok(()));
+        assert_eq!(rt; ask(&rt, w, R, Request::Stop(Threads::Both)), Ok(()));
         befall(&rt, w, R, Event::Cut(Link::Desk));
-        assert_eq!(rt;
-            attach(&rt, w, R, begins, M, start),
-            Err(AttachFault::Unreachable)
-        );
+        assert_eq!(rt; attach(&rt, w, R, begins, M, start), Outcome::Unreachable);
         befall(&rt, w, R, Event::Join(Link::Desk));
         for (no, expect, to, answer) in [
-            (R, follows, M, Err(AttachFault::Interfered(follows, begins))),
+            (R, follows, M, Outcome::Interfered(follows, begins)),
             (
                 R,
                 Spot::Nowhere,
                 M,
-                Err(AttachFault::Interfered(Spot::Nowhere, Spot::Nowhere)),
+                Outcome::Interfered(Spot::Nowhere, Spot::Nowhere),
             ),
-            (R, begins, M, Ok(())),
+            (R, begins, M, Outcome::Done),
             (
                 M,
                 Spot::OwnEnd(next),
                 R,
-                Err(AttachFault::Interfered(Spot::OwnEnd(next), Spot::OwnEnd(at(1, 204)))),
+                Outcome::Interfered(Spot::OwnEnd(next), Spot::OwnEnd(at(1, 204))),
             ),
-            (M, Spot::OwnEnd(at(1, 204)), R, Err(AttachFault::Loop)),
+            (M, Spot::OwnEnd(at(1, 204)), R, Outcome::Loop),
         ] {
             assert_eq!(rt; attach(&rt, w, no, expect, to, start), answer);
         }
-        assert_eq!(rt; ask(&rt, w, R, Ask::Start), Ok(()));
+        assert_eq!(rt; ask(&rt, w, R, Request::Start), Ok(()));
         assert_eq!(rt; fetch(&rt, w, R), FetchAnswer::Got(next));
         assert_eq!(rt; apply(&rt, w, R), ApplyAnswer::Done(next));
         assert_eq!(rt; executed(&rt, w, R), 1);
         // Back to the beginning: with GTIDs it skips what it has executed.
-        assert_eq!(rt; ask(&rt, w, R, Ask::Stop(Threads::Both)), Ok(()));
-        assert_eq!(rt; attach(&rt, w, R, follows, M, start), Ok(()));
-        assert_eq!(rt; ask(&rt, w, R, Ask::Start), Ok(()));
+        assert_eq!(rt; ask(&rt, w, R, Request::Stop(Threads::Both)), Ok(()));
+        assert_eq!(rt; attach(&rt, w, R, follows, M, start), Outcome::Done);
+        assert_eq!(rt; ask(&rt, w, R, Request::Start), Ok(()));
         assert_eq!(rt; fetch(&rt, w, R), FetchAnswer::Got(next));
         let (answer, count) = if gtid {
             (ApplyAnswer::Skipped(next), 1)
@@ -510,7 +594,10 @@ fn attaches_at_coordinates(rt: HostRuntime) -> Result<(), Fail> {
 fn threads_and_links(rt: HostRuntime) -> Result<(), Fail> {
     let mut world = two_servers(&rt, rt.alloc(), 1, false)?;
     let w = &mut world;
-    for asked in [Ask::Stop(Threads::Both), Ask::StartUntil(at(1, 104))] {
+    for asked in [
+        Request::Stop(Threads::Both),
+        Request::StartUntil(at(1, 104)),
+    ] {
         assert_eq!(rt; ask(&rt, w, R, asked), Ok(()));
     }
     assert_eq!(rt; fetch(&rt, w, R), FetchAnswer::Got(at(1, 204)));
@@ -529,19 +616,19 @@ fn threads_and_links(rt: HostRuntime) -> Result<(), Fail> {
         assert_eq!(rt; fetch(&rt, w, R), fetched);
     }
     befall(&rt, w, R, Event::Cut(Link::Desk));
-    assert_eq!(rt; ask(&rt, w, R, Ask::Detach), Err(Unreachable));
+    assert_eq!(rt; ask(&rt, w, R, Request::Detach), Err(Unreachable));
     befall(&rt, w, R, Event::Join(Link::Desk));
-    assert_eq!(rt; ask(&rt, w, R, Ask::StartUntil(at(9, 5))), Ok(()));
+    assert_eq!(rt; ask(&rt, w, R, Request::StartUntil(at(9, 5))), Ok(()));
     befall(&rt, w, R, Event::Fail);
     befall(&rt, w, R, Event::Heal);
     assert_eq!(rt; plain(&rt, w, R).until, None);
-    for asked in [Ask::Detach, Ask::Reattach, Ask::Start] {
+    for asked in [Request::Detach, Request::Reattach, Request::Start] {
         assert_eq!(rt; ask(&rt, w, R, asked), Ok(()));
     }
     assert_eq!(rt; apply(&rt, w, R), ApplyAnswer::Nothing);
     assert_eq!(rt; fetch(&rt, w, R), FetchAnswer::Got(at(1, 204)));
     assert_eq!(rt; apply(&rt, w, R), ApplyAnswer::Done(at(1, 204)));
-    assert_eq!(rt; ask(&rt, w, R, Ask::Reset), Ok(()));
+    assert_eq!(rt; ask(&rt, w, R, Request::Reset), Ok(()));
     let replica = plain(&rt, w, R);
     assert_eq!(rt;
         (replica.source, replica.exec),
@@ -550,5 +637,79 @@ fn threads_and_links(rt: HostRuntime) -> Result<(), Fail> {
     befall(&rt, w, M, Event::Fail);
     assert_eq!(rt; write(&rt, w, M, 100), WriteAnswer::Down);
     assert_eq!(rt; rotate(&rt, w, M), RotateAnswer::Down);
+    Ok(())
+}
+
+#[test]
+fn attaches_by_sets(rt: HostRuntime) -> Result<(), Fail> {
+    let alloc = rt.alloc();
+    let m = master(alloc, 1073741824, 2)?;
+    let r = replica(alloc, "r", 2, 2)?;
+    let mut s = replica(alloc, "s", 3, 1)?;
+    s.read_only = false;
+    let mut world = world_of(&rt, alloc, Vec::from_array(alloc, [m, r, s])?, true, 5, 1)?;
+    let w = &mut world;
+    assert_eq!(rt; write(&rt, w, S, 100), WriteAnswer::Done(1));
+    assert_eq!(rt; fetch(&rt, w, S), FetchAnswer::Got(at(1, 204)));
+    assert_eq!(rt; apply(&rt, w, S), ApplyAnswer::Done(at(1, 204)));
+    let seen = status(&rt, alloc, w, S)?;
+    let text = set_text(alloc, &seen.set)?;
+    assert_eq!(rt;
+        std::str::from_utf8(&text)?,
+        "00000000-0000-0000-0000-000000000001:1-2,00000000-0000-0000-0000-000000000003:1"
+    );
+    assert_eq!(rt;
+        (seen.own_end, seen.exec, seen.read),
+        (Some(at(1, 304)), at(1, 204), at(1, 204))
+    );
+    assert_eq!(rt;
+        (seen.source, seen.io),
+        (SourceState::Attached(M), IoState::Yes)
+    );
+    assert!(rt; seen.sql && !seen.auto && !seen.read_only);
+    assert_eq!(rt;
+        attach_auto(&rt, alloc, w, R, &seen.set, S),
+        Outcome::Running(Spot::At(M, at(1, 204)))
+    );
+    assert_eq!(rt; ask(&rt, w, R, Request::Stop(Threads::Both)), Ok(()));
+    assert_eq!(rt; attach_auto(&rt, alloc, w, R, &seen.set, R), Outcome::Loop);
+    assert_eq!(rt; attach_auto(&rt, alloc, w, R, &seen.set, S), Outcome::Done);
+    let attached = plain(&rt, w, R);
+    assert_eq!(rt;
+        (attached.source, attached.exec),
+        (SourceState::Attached(S), at(1, 104))
+    );
+    assert!(rt; attached.auto && !attached.receiver && !attached.applier);
+    assert_eq!(rt; ask(&rt, w, R, Request::Start), Ok(()));
+    for (to, answer) in [
+        (at(1, 204), ApplyAnswer::Done(at(1, 204))),
+        (at(1, 304), ApplyAnswer::Skipped(at(1, 304))),
+    ] {
+        assert_eq!(rt; fetch(&rt, w, R), FetchAnswer::Got(to));
+        assert_eq!(rt; apply(&rt, w, R), answer);
+    }
+    assert_eq!(rt; (executed(&rt, w, R), w.errant()), (3, 1));
+    assert_eq!(rt; ask(&rt, w, S, Request::Stop(Threads::Both)), Ok(()));
+    let master = status(&rt, alloc, w, M)?;
+    assert_eq!(rt;
+        attach_auto(&rt, alloc, w, S, &master.set, M),
+        Outcome::Errant(true, 1)
+    );
+    Ok(())
+}
+
+#[test]
+fn sees_servers(rt: HostRuntime) -> Result<(), Fail> {
+    let alloc = rt.alloc();
+    let mut world = two_servers(&rt, alloc, 1, false)?;
+    let w = &mut world;
+    let seen = status(&rt, alloc, w, M)?;
+    assert!(rt; seen.set.is_empty());
+    assert_eq!(rt; (seen.own_end, seen.exec), (Some(at(1, 204)), at(1, 4)));
+    assert_eq!(rt; (seen.source, seen.io), (SourceState::Without, IoState::No));
+    befall(&rt, w, R, Event::Cut(Link::Feed));
+    assert_eq!(rt; status(&rt, alloc, w, R)?.io, IoState::Connecting);
+    befall(&rt, w, R, Event::Cut(Link::Desk));
+    assert!(rt; matches!(status(&rt, alloc, w, R), Err(StatusFault::Unreachable)));
     Ok(())
 }

@@ -2,7 +2,7 @@ use Rattle.std.proofs.Common.{◌≡◌, ◌≤◌, take}
 use Rattle.std.specs.Prelude.{All}
 use Rattle.openings.specs.Listed.{transactions}
 use Rattle.openings.specs.Opening.{IsPart}
-use Rattle.server_model.proofs.tests.count.Given as goal
+use Rattle.model_tests.proofs.tests.count.Given as goal
 
 abbrev pub invariant-loop-part : goal.invariant-loop-part
 invariant-loop-part g l = record {

@@ -2,7 +2,7 @@ use Rattle.std.proofs.Common.{◌≡◌, ℕ, ◌<◌, Some, true}
 use Rattle.std.specs.Prelude.{slice_get}
 use Rattle.orch_base.specs.Names.{same_name}
 use Rattle.openings.specs.declared.init.ServerInit.{ServerInit}
-use Rattle.server_model.proofs.tests.assert_apart.Given as goal
+use Rattle.model_tests.proofs.tests.assert_apart.Given as goal
 
 abbrev pub invariant-loop-n : goal.invariant-loop-n
 invariant-loop-n g l = record {

@@ -9,9 +9,9 @@ use Rattle.openings.specs.Listed.{transactions}
 use Rattle.openings.specs.Opening.{IsServer}
 use Rattle.openings.specs.Servers.{parts_of}
 use Rattle.openings.specs.declared.init.ServerInit.{ServerInit}
-use Rattle.server_model.proofs.Listings.{each-more, few-in_all}
+use Rattle.model_tests.proofs.Listings.{each-more, few-in_all}
 use Rattle.server_model.proofs.Lists.{slice_get-index}
-use Rattle.server_model.proofs.tests.assert_listed.Goals as goal
+use Rattle.model_tests.proofs.tests.assert_listed.Goals as goal
 
 pub loop-n-preserved : goal.loop-n-preserved
 loop-n-preserved g c =

@@ -5,7 +5,7 @@ use Rattle.openings.specs.Listed.{transactions}
 use Rattle.openings.specs.Opening.{IsServer}
 use Rattle.openings.specs.Servers.{parts_of}
 use Rattle.openings.specs.declared.init.ServerInit.{ServerInit}
-use Rattle.server_model.proofs.tests.assert_listed.Given as goal
+use Rattle.model_tests.proofs.tests.assert_listed.Given as goal
 
 abbrev pub invariant-loop-n : goal.invariant-loop-n
 invariant-loop-n g l = record {

@@ -1,0 +1,147 @@
+-- A change of source by a set.
+use Rattle.std.proofs.Common.{◌≡◌, ℕ, ◌≤◌, Bool, true, false, cond, not, List, [], ◌∷◌, length, get_or, refl, sym, ◌∙◌, ap, subst, Some, Result, Ok, Err, arith, ◌&&◌, ◌||◌}
+use Rattle.std.specs.Prelude.{slice_get, slice_set, option_map, MatchOption, ⊤}
+use Rattle.std.proofs.lemmas.List.Sums.{prefix_len-le-length}
+use Rattle.std.proofs.lemmas.Option.{same_Some, slice_get_within}
+use Rattle.binlog_coords.specs.declared.Coord.{Coord}
+use Rattle.binlog_coords.specs.Log.{coord_after, has_place}
+use Rattle.binlog_coords.proofs.Places.{Laid-Grown, place-coord_after, place-parts}
+use Rattle.gtid_sets.specs.Reserved.{Reserved}
+use Rattle.gtid_sets.specs.Sets.{holds, IsSet}
+use Rattle.gtid_sets.specs.declared.interval.Interval.{Interval}
+use Rattle.orch_base.specs.Gives.{Gives}
+use Rattle.orch_base.specs.declared.server.ServerNo.{ServerNo}
+use Rattle.orch_base.specs.declared.server.Txn.{Txn}
+use Rattle.server_model.specs.Attach.{chain_meets, spot_below}
+use Rattle.server_model.specs.Gtids.{uuids, uuids_in, set_of, has_gtid, held_len, auto_coord, auto_readiness, auto_decision, answer_by_sets, errant_answer, errant_set, attach_auto_answer, attached_auto, after_attach_auto, attach_fault, IsAutoTarget, IsSetOf}
+use Rattle.server_model.specs.Links.{IsFit}
+use Rattle.server_model.specs.Worlds.{World, server_at, sources}
+use Rattle.server_model.specs.declared.attach.AttachFault.{AttachFault}
+use Rattle.server_model.specs.declared.attach.AttachFault.TheVariants as attaching
+use Rattle.server_model.specs.declared.server.Server.{Server}
+use Rattle.server_model.proofs.Changed.{chain-apart}
+use Rattle.server_model.proofs.Errants.{errant-is}
+use Rattle.server_model.proofs.Lists.{slice_get-index}
+
+-- what a server's set holds of a source's history has an end in the source's log
+pub held-within : (uuid : ℕ → ℕ) (set : List Interval) (t : Server) → length t.log.log.entries ≡ length t.history.txns → held_len uuid set t.history.txns ≤ length t.log.log.entries
+held-within uuid set t logged = let few = prefix_len-le-length (λ (x : Txn). has_gtid uuid set x) t.history.txns in omega (arith, few, logged)
+
+pub auto-placed : (uuid : ℕ → ℕ) (r t : Server) (fit : IsFit t) → length t.log.log.entries ≡ length t.history.txns → has_place t.log.log (auto_coord uuid r (Some t)) ≡ true
+auto-placed uuid r t fit logged =
+    let count = held_len uuid (set_of uuid r.history.txns) t.history.txns in
+    (place-parts t.log.log (coord_after t.log.log count) count
+    (place-coord_after t.log.log (Laid-Grown t.log.log fit.grown) count (held-within uuid (set_of uuid r.history.txns) t logged))).0
+
+-- the decision by its tests
+abbrev readied : Server → Bool → Bool → Bool → Result (Unit {0}) AttachFault
+readied s reached running loops =
+    cond (not reached) (Err attaching.Unreachable) (cond running (Err (attaching.Running (spot_below s s.source))) (cond loops (Err attaching.Loop) (Ok tt)))
+
+pub ready-loops : (s : Server) (loops : Bool) → auto_readiness s loops ≡ Ok tt → loops ≡ false
+ready-loops s loops h = go (s.up && s.desk) (s.receiver || s.applier) loops h
+  where
+    go : (a b d : Bool) → readied s a b d ≡ Ok tt → d ≡ false
+    go false b d h = cc
+    go true true d h = cc
+    go true false true h = cc
+    go true false false h = refl
+
+decided-ready : (ready : Result (Unit {0}) AttachFault) (errant : List Interval) → answer_by_sets ready errant ≡ Ok tt → ready ≡ Ok tt
+decided-ready (Err fault) errant h = h
+decided-ready (Ok t) errant h = refl
+
+-- an attachment that is allowed is not to the server itself
+pub auto-apart : (w : World) (servers : List Server) (gtid : Bool) (errant n : ℕ) (observed : List Interval) (to : ℕ) (s : Server) → record { servers = servers; gtid = gtid; errant = errant } ≡ w
+    → slice_get servers n ≡ Some s → attach_auto_answer w n observed to (server_at w n) ≡ Ok tt → to ≡ n → ⊥
+auto-apart w servers gtid errant n observed to s view here joined =
+    let at : server_at w n ≡ Some s = subst (λ (v : World). server_at v n ≡ Some s) view here in
+    let loops = chain_meets (sources w) (length w.servers) to n in
+    let decision : auto_decision s loops (errant_set (uuids w) observed s.history.txns) ≡ Ok tt = sym (ap (attach_auto_answer w n observed to) at) ∙ joined in
+    chain-apart (sources w) (length w.servers) to n (ready-loops s loops (decided-ready (auto_readiness s loops) (errant_set (uuids w) observed s.history.txns) decision))
+
+-- what is answered, by what comes before the sets
+pub auto-answered : (w : World) (n : ℕ) (observed : List Interval) (to : ℕ) (s : Server) (ready : Result (Unit {0}) AttachFault) (errant : List Interval) → server_at w n ≡ Some s
+    → ready ≡ auto_readiness s (chain_meets (sources w) (length w.servers) to n) → errant ≡ errant_set (uuids w) observed s.history.txns
+    → attach_auto_answer w n observed to (server_at w n) ≡ answer_by_sets ready errant
+auto-answered w n observed to s ready errant at is set =
+    ap (attach_auto_answer w n observed to) at
+    ∙ ap (λ x. answer_by_sets x (errant_set (uuids w) observed s.history.txns)) (sym is) ∙ ap (answer_by_sets ready) (sym set)
+
+pub auto-left : (w : World) (servers : List Server) (gtid : Bool) (errant n : ℕ) (to : ServerNo) (at : Coord) (s s' : Server) → record { servers = servers; gtid = gtid; errant = errant } ≡ w
+    → slice_get servers n ≡ Some s → option_map (λ r. auto_coord (uuids w) r (server_at w to.0)) (server_at w n) ≡ Some at → s' ≡ attached_auto to at s
+    → record { servers = slice_set servers n s'; gtid = gtid; errant = errant } ≡ after_attach_auto w n to (server_at w n) (Ok tt)
+auto-left w servers gtid errant n to at s s' view here coord is =
+    let there : server_at w n ≡ Some s = subst (λ (v : World). server_at v n ≡ Some s) view here in
+    let at_is : at ≡ auto_coord (uuids w) s (server_at w to.0) = same_Some at (auto_coord (uuids w) s (server_at w to.0)) (sym coord ∙ ap (option_map (λ r. auto_coord (uuids w) r (server_at w to.0))) there) in
+    let changed : s' ≡ attached_auto to (auto_coord (uuids w) s (server_at w to.0)) s = is ∙ ap (λ c. attached_auto to c s) at_is in
+    ap (λ (x : Server). record { servers = slice_set servers n x; gtid = gtid; errant = errant }) changed
+    ∙ ap (λ (v : World). record { servers = slice_set v.servers n (attached_auto to (auto_coord (uuids w) s (server_at w to.0)) s); gtid = v.gtid; errant = v.errant }) view
+    ∙ sym (ap (λ o. after_attach_auto w n to o (Ok tt)) there)
+
+pub auto-coord-at : (w : World) (n to : ℕ) (at : Coord) (s t : Server) → server_at w n ≡ Some s → server_at w to ≡ Some t
+    → option_map (λ r. auto_coord (uuids w) r (server_at w to)) (server_at w n) ≡ Some at → at ≡ auto_coord (uuids w) s (Some t)
+auto-coord-at w n to at s t here there coord =
+    same_Some at (auto_coord (uuids w) s (Some t)) (sym coord ∙ ap (option_map (λ r. auto_coord (uuids w) r (server_at w to))) here ∙ ap (λ o. Some (auto_coord (uuids w) s o)) there)
+
+-- what is answered before the sets are asked is what is answered
+ready-fault : (s : Server) (loops : Bool) (fault : AttachFault) → auto_readiness s loops ≡ Err fault → attach_fault fault ≡ Some fault
+ready-fault s loops fault h = go (s.up && s.desk) (s.receiver || s.applier) loops h
+  where
+    same : (x : AttachFault) → attach_fault x ≡ Some x → x ≡ fault → attach_fault fault ≡ Some fault
+    same x e is = subst (λ y. attach_fault y ≡ Some y) is e
+
+    go : (a b d : Bool) → readied s a b d ≡ Err fault → attach_fault fault ≡ Some fault
+    go false b d h = same attaching.Unreachable refl (cc)
+    go true true d h = same (attaching.Running (spot_below s s.source)) refl (cc)
+    go true false true h = same attaching.Loop refl (cc)
+    go true false false h = cc
+
+pub auto-refused : (w : World) (n : ℕ) (observed : List Interval) (to : ℕ) (s : Server) (fault : AttachFault) → server_at w n ≡ Some s
+    → auto_readiness s (chain_meets (sources w) (length w.servers) to n) ≡ Err fault
+    → MatchOption (attach_fault fault) ⊤ (λ f. attach_auto_answer w n observed to (server_at w n) ≡ Err f)
+auto-refused w n observed to s fault at is =
+    subst (λ o. MatchOption o ⊤ (λ f. attach_auto_answer w n observed to (server_at w n) ≡ Err f))
+    (sym (ready-fault s (chain_meets (sources w) (length w.servers) to n) fault is))
+    (auto-answered w n observed to s (Err fault) (errant_set (uuids w) observed s.history.txns) at (sym is) refl)
+
+errant-gives : (errant : List Interval) → Gives (λ (t : Unit {0}). t) attach_fault (errant_answer errant) (errant_answer errant)
+errant-gives [] = refl
+errant-gives (s ∷ xs) = refl
+
+pub auto-gives : (w : World) (n : ℕ) (observed : List Interval) (to : ℕ) (s : Server) (errant : List Interval) (r : Result (Unit {0}) AttachFault) → server_at w n ≡ Some s
+    → auto_readiness s (chain_meets (sources w) (length w.servers) to n) ≡ Ok tt → errant ≡ errant_set (uuids w) observed s.history.txns → r ≡ errant_answer errant
+    → Gives (λ (t : Unit {0}). t) attach_fault r (attach_auto_answer w n observed to (server_at w n))
+auto-gives w n observed to s errant r at ready set is =
+    subst (λ x. Gives (λ (t : Unit {0}). t) attach_fault x (attach_auto_answer w n observed to (server_at w n))) (sym is)
+    (subst (λ x. Gives (λ (t : Unit {0}). t) attach_fault (errant_answer errant) x) (sym (auto-answered w n observed to s (Ok tt) errant at (sym ready) set)) (errant-gives errant))
+
+-- what is left of the kept set beyond an observed one
+pub errant-kept : (servers : List Server) (gtid : Bool) (s : Server) (e : Reserved) (observed rest : List Interval) → IsSetOf gtid (uuids_in servers) s e → gtid ≡ true → IsSet e.intervals → IsSet rest
+    → ((u n : ℕ) → holds rest u n ≡ (holds e.intervals u n && not (holds observed u n))) → rest ≡ errant_set (uuids_in servers) observed s.history.txns
+errant-kept servers gtid s e observed rest kept on set it same =
+    let is : e.intervals ≡ set_of (uuids_in servers) s.history.txns = kept.set ∙ ap (λ b. cond b (set_of (uuids_in servers) s.history.txns) []) on in
+    errant-is (uuids_in servers) observed rest s.history.txns (subst IsSet is set) it
+    (λ u n. same u n ∙ ap (λ xs. holds xs u n && not (holds observed u n)) is)
+
+-- where the target stands
+pub auto-target : (w : World) (servers : List Server) (gtid : Bool) (errant to : ℕ) (x : Server) → record { servers = servers; gtid = gtid; errant = errant } ≡ w → IsAutoTarget w to
+    → (x ≡ get_or servers to x) → (slice_get servers to ≡ Some x) × (x.settings.logs ≡ true) × (gtid ≡ true)
+auto-target w servers gtid errant to x view target is =
+    let there : slice_get servers to ≡ Some target.target = subst (λ (v : World). server_at v to ≡ Some target.target) (sym view) target.there in
+    let at : slice_get servers to ≡ Some x = slice_get-index servers to x (slice_get_within servers to target.target there) is in
+    let same : target.target ≡ x = same_Some target.target x (sym there ∙ at) in
+    (at, ap (λ (y : Server). y.settings.logs) (sym same) ∙ target.logs, ap (λ (v : World). v.gtid) view ∙ target.gtid)
+
+-- the coordinate that the code finds
+pub auto-found : (w : World) (servers : List Server) (gtid : Bool) (errant n to : ℕ) (s t : Server) (e : Reserved) (held : ℕ) (at : Coord) → record { servers = servers; gtid = gtid; errant = errant } ≡ w
+    → slice_get servers n ≡ Some s → slice_get servers to ≡ Some t → IsSetOf gtid (uuids_in servers) s e → gtid ≡ true
+    → held ≡ held_len (uuids_in servers) e.intervals t.history.txns → at ≡ coord_after t.log.log held
+    → option_map (λ r. auto_coord (uuids w) r (server_at w to)) (server_at w n) ≡ Some at
+auto-found w servers gtid errant n to s t e held at view here there kept on count is =
+    let set : e.intervals ≡ set_of (uuids_in servers) s.history.txns = kept.set ∙ ap (λ b. cond b (set_of (uuids_in servers) s.history.txns) []) on in
+    subst (λ (v : World). option_map (λ r. auto_coord (uuids v) r (server_at v to)) (server_at v n) ≡ Some at) view
+    (ap (option_map (λ r. auto_coord (uuids_in servers) r (slice_get servers to))) here
+    ∙ ap (λ o. Some (auto_coord (uuids_in servers) s o)) there
+    ∙ ap (λ xs. Some (coord_after t.log.log (held_len (uuids_in servers) xs t.history.txns))) (sym set)
+    ∙ ap (λ k. Some (coord_after t.log.log k)) (sym count) ∙ ap Some (sym is))

@@ -1,0 +1,112 @@
+//! Servers by the GTIDs of what they have executed.
+
+ghost use Rattle.std.specs.Prelude.{◌≡◌, ◌<◌, ◌≤◌, All, IfOk, length, map, true, if◌then◌else◌};
+ghost use Rattle.gtid_sets.specs.Adding.{with_pair};
+ghost use Rattle.server_model.specs.Gtids.{auto_readiness, errant_answer, held_len, opened_set, uuids_in, IsNumbered};
+
+use crate::attach::spot_below;
+use crate::{AttachFault, Server};
+use gtid_sets::{GtidSet, ReservedSet};
+use orch_base::{Memory, ServerNo, Txn};
+use std::alloc::Global;
+
+/// The UUID of a server, or 0 where there is none.
+pub(crate) fn uuid_of(servers: &[Server], no: ServerNo) -> u128
+    ensures { result ≡ uuids_in servers.now no.0 }
+{
+    match servers.get(no.0 as usize) {
+        None => 0,
+        Some(s) => s.settings.uuid,
+    }
+}
+
+/// Adds the GTID to the set, where GTIDs are used. It takes no memory.
+pub(crate) fn keep_gtid(executed: &mut ReservedSet, gtid: bool, uuid: u128, n: u64)
+    requires some { 1 ≤ n }
+    requires few { n ≤ 4000001 }
+    requires room { gtid ≡ true → length executed.old.intervals < executed.old.room }
+    ensures { executed.new ≡ (if gtid then record executed.old { intervals = with_pair uuid n executed.old.intervals } else executed.old) }
+{
+    if gtid {
+        executed.add(uuid, n);
+    }
+}
+
+/// How many transactions the longest prefix of a history has that the set holds.
+pub(crate) fn held_len(servers: &[Server], executed: &ReservedSet, txns: &[Txn]) -> u64
+    requires { length txns.now ≤ 4000000 }
+    ensures { result ≡ held_len (uuids_in servers.now) executed.now.intervals txns.now }
+{
+    for (k, t) in txns.iter().enumerate() {
+        if !executed.contains(uuid_of(servers, t.origin), t.seq) {
+            return k as u64;
+        }
+    }
+    txns.len() as u64
+}
+
+/// Why a server can't be attached by a set, but for the sets, by whether it would close a loop.
+pub(crate) fn auto_readiness(s: &Server, loops: bool) -> Result<(), AttachFault>
+    ensures { result ≡ auto_readiness s.now loops }
+{
+    if !(s.up && s.desk) {
+        return Err(AttachFault::Unreachable);
+    }
+    if s.receiver || s.applier {
+        return Err(AttachFault::Running(spot_below(s)));
+    }
+    if loops {
+        return Err(AttachFault::Loop);
+    }
+    Ok(())
+}
+
+/// Errant with these GTIDs, where there are some.
+pub(crate) fn errant_answer(errant: GtidSet) -> Result<(), AttachFault>
+    ensures { result ≡ errant_answer errant }
+{
+    if errant.is_empty() {
+        return Ok(());
+    }
+    Err(AttachFault::Errant(errant))
+}
+
+// The set of what a server has executed, where GTIDs are used, in room for so many transactions.
+fn executed_set(
+    alloc: Global,
+    servers: &[Server],
+    gtid: bool,
+    room: u64,
+    txns: &[Txn],
+) -> Result<ReservedSet, Memory>
+    requires numbered { All (IsNumbered (length servers.now)) txns.now }
+    requires fits { length txns.now ≤ room }
+    ensures { IfOk result (λ set. set ≡ opened_set gtid (uuids_in servers.now) room txns.now) }
+{
+    if !gtid {
+        return ReservedSet::with_room(alloc, 0);
+    }
+    let mut executed = ReservedSet::with_room(alloc, room)?;
+    for t in txns {
+        executed.add(uuid_of(servers, t.origin), t.seq);
+    }
+    Ok(executed)
+}
+
+/// The set of what each server has executed, where GTIDs are used, in room for so many transactions.
+pub(crate) fn executed_sets(
+    alloc: Global,
+    servers: &[Server],
+    gtid: bool,
+    room: u64,
+) -> Result<Vec<ReservedSet>, Memory>
+    requires numbered { All (λ s. All (IsNumbered (length servers.now)) s.history.txns) servers.now }
+    requires fits { All (λ s. length s.history.txns ≤ room) servers.now }
+    ensures { IfOk result (λ v. v.items ≡ map (λ s. opened_set gtid (uuids_in servers.now) room s.history.txns) servers.now) }
+{
+    let mut sets = Vec::new(alloc);
+    for s in servers {
+        sets.push(executed_set(alloc, servers, gtid, room, s.history.as_slice())?)?;
+    }
+    Ok(sets)
+}
