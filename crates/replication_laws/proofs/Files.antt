@@ -26,7 +26,8 @@ use Rattle.server_model.specs.declared.server.Server.{Server}
 use Rattle.server_model.specs.Attach.{attach_answer, attached_to, after_attach}
 use Rattle.server_model.specs.Desk.{asked, befallen, rotated, desk_answer, rotate_answer, after_change, after_desk, after_rotate}
 use Rattle.server_model.specs.Exchanges.{took, own_txn, write_answer, after_write, fetch_step, after_fetch, apply_step, after_apply}
-use Rattle.server_model.specs.Run.{Exchange, Write, Fetch, Apply, Request, Befall, Rotate, Attach, after, run}
+use Rattle.server_model.specs.Gtids.{attach_auto_answer, after_attach_auto, attached_auto, auto_coord, uuids}
+use Rattle.server_model.specs.Run.{Exchange, Write, Fetch, Apply, Request, Befall, Rotate, Attach, AttachAuto, after, run}
 use Rattle.server_model.specs.Worlds.{World, server_at, with_server}
 use Rattle.replication_laws.specs.Room.{is_rotate, HasFiles}
 use Rattle.replication_laws.proofs.Keeping.{at_cases, Same}
@@ -91,6 +92,11 @@ module _ (k : ℕ) (w : World) where
   HasFiles-attach n to c (Some s) at has (Ok t) = HasFiles-kept n s (attached_to to c s) at has refl
   HasFiles-attach n to c (Some s) at has (Err e) = has
 
+  HasFiles-attach_auto : (n : ℕ) (to : ServerNo) (o : Option Server) → server_at w n ≡ o → HasFiles k w → (answer : Result (Unit {0}) AttachFault) → HasFiles k (after_attach_auto w n to o answer)
+  HasFiles-attach_auto n to None at has answer = has
+  HasFiles-attach_auto n to (Some s) at has (Ok t) = HasFiles-kept n s (attached_auto to (auto_coord (uuids w) s (server_at w to.0)) s) at has refl
+  HasFiles-attach_auto n to (Some s) at has (Err e) = has
+
   HasFiles-fewer : HasFiles (k + 1) w → HasFiles k w
   HasFiles-fewer has = λ n s at. omega (arith, has n s at)
 
@@ -112,6 +118,7 @@ HasFiles-after k w (Request n a) has = HasFiles-ask k w n a (HasFiles-same k w h
 HasFiles-after k w (Befall n e) has = HasFiles-change k w n (befallen e) (Same-befallen e) (server_at w n) refl (HasFiles-same k w has)
 HasFiles-after k w (Rotate n) has = HasFiles-rotate k w n (server_at w n) refl has (rotate_answer (server_at w n))
 HasFiles-after k w (Attach n expect to at) has = HasFiles-attach k w n to at (server_at w n) refl (HasFiles-same k w has) (attach_answer w n expect to.0 (server_at w n))
+HasFiles-after k w (AttachAuto n observed to) has = HasFiles-attach_auto k w n to (server_at w n) refl (HasFiles-same k w has) (attach_auto_answer w n observed to.0 (server_at w n))
 
 not_full-rotate : (w : World) (n : ℕ) (o : Option Server) → server_at w n ≡ o → HasFiles 1 w → rotate_answer o ≡ rotating.Full → ⊥
 not_full-rotate w n None at has h = cc

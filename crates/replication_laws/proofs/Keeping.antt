@@ -3,7 +3,7 @@ use Rattle.std.proofs.Common.{◌≡◌, ℕ, ◌≤◌, true, List, ◌++◌, l
 use Rattle.std.proofs.lemmas.Bool.{cases_eq}
 use Rattle.std.proofs.lemmas.Bool.Decides.{nat_tests}
 use Rattle.std.proofs.lemmas.Option.{same_Some}
-use Rattle.std.proofs.lemmas.List.{take-append-le, length-take, take-append-drop}
+use Rattle.std.proofs.lemmas.List.{length-set, take-append-le, length-take, take-append-drop}
 use Rattle.std.proofs.Math.Seq.{take-length}
 use Rattle.binlog_coords.specs.declared.Coord.{Coord}
 use Rattle.binlog_coords.specs.Index.{Index}
@@ -13,7 +13,8 @@ use Rattle.orch_base.specs.declared.server.Txn.{Txn}
 use Rattle.server_model.specs.declared.server.Server.{Server}
 use Rattle.server_model.specs.Kept.{Kept}
 use Rattle.server_model.specs.Layout.{LaysOut}
-use Rattle.server_model.specs.Safe.{IsKin, Safe, Placed, StandsIn, AttachedWell, Grounded, IsSource}
+use Rattle.orch_base.specs.declared.server.Settings.{Settings}
+use Rattle.server_model.specs.Safe.{IsKin, Safe, Placed, StandsIn, AttachedWell, Grounded, IsSource, HaveOwnUuids}
 use Rattle.server_model.specs.Worlds.{World, server_at, with_server, histories, sources, source_of, source_no}
 use Rattle.replication_laws.specs.Growth.{GoesOn, Grows}
 use Rattle.server_model.proofs.OpenedWorlds.{not_self}
@@ -171,18 +172,19 @@ pub record Linked (R : Server → Server → Type 0) (w : World) : Type 0 where
   pub stands : (n m : ℕ) (r s : Server) → server_at w n ≡ Some r → source_no r.source ≡ Some m → server_at w m ≡ Some s → R r s
   pub logging : (n m : ℕ) (r : Server) → server_at w n ≡ Some r → source_no r.source ≡ Some m → IsSource w m
   pub grounded : (n : ℕ) → Grounded (sources w) n
+  pub uuids : HaveOwnUuids w
 
 pub Linked-safe : (w : World) → Safe w → Linked AttachedWell w
-Linked-safe w safe = record { laid = safe.laid; stands = safe.well; logging = safe.logging; grounded = safe.grounded }
+Linked-safe w safe = record { laid = safe.laid; stands = safe.well; logging = safe.logging; grounded = safe.grounded; uuids = safe.uuids }
 
 pub Safe-linked : (w : World) → Linked AttachedWell w → IsKin (histories w) → Safe w
-Safe-linked w linked kin = record { laid = linked.laid; well = linked.stands; logging = linked.logging; kin = kin; grounded = linked.grounded }
+Safe-linked w linked kin = record { laid = linked.laid; well = linked.stands; logging = linked.logging; kin = kin; grounded = linked.grounded; uuids = linked.uuids }
 
 pub Linked-placed : (w : World) → Placed w → Linked StandsIn w
-Linked-placed w placed = record { laid = placed.laid; stands = placed.stands; logging = placed.logging; grounded = placed.grounded }
+Linked-placed w placed = record { laid = placed.laid; stands = placed.stands; logging = placed.logging; grounded = placed.grounded; uuids = placed.uuids }
 
 pub Placed-linked : (w : World) → Linked StandsIn w → Placed w
-Placed-linked w linked = record { laid = linked.laid; stands = linked.stands; logging = linked.logging; grounded = linked.grounded }
+Placed-linked w linked = record { laid = linked.laid; stands = linked.stands; logging = linked.logging; grounded = linked.grounded; uuids = linked.uuids }
 
 -- a safe world is placed
 pub Placed-safe : (w : World) → Safe w → Placed w
@@ -193,11 +195,12 @@ Placed-safe w safe = record {
       record { exec_place = (length r.history.txns, well.exec_place); read_place = well.read_place; order = well.order };
   logging = safe.logging;
   grounded = safe.grounded;
+  uuids = safe.uuids;
 }
 
 -- nothing of this is about the count of errant writes
 pub Linked-errant : (R : Server → Server → Type 0) (w : World) (errant : ℕ) → Linked R w → Linked R (record w { errant = errant })
-Linked-errant R w errant linked = record { laid = linked.laid; stands = linked.stands; logging = linked.logging; grounded = linked.grounded }
+Linked-errant R w errant linked = record { laid = linked.laid; stands = linked.stands; logging = linked.logging; grounded = linked.grounded; uuids = linked.uuids }
 
 -- what a change of one server owes
 pub record Changes (R : Server → Server → Type 0) (w : World) (n : ℕ) (s s' : Server) : Type 0 where
@@ -230,8 +233,18 @@ Linked-with R standing w n s s' linked here changes = record {
         | inr old ↦ linked.logging a b r old.1 source
       ]);
   grounded = changes.grounded;
+  uuids = λ a b r t at_a at_b same.
+      let x = before a r at_a in
+      let y = before b t at_b in
+      linked.uuids a b x.0 y.0 x.1 y.1 (sym (ap (λ (u : Settings). u.uuid) x.2) ∙ same ∙ ap (λ (u : Settings). u.uuid) y.2);
 }
   where
+    before : (m : ℕ) (t : Server) → server_at (with_server w n s') m ≡ Some t → (x : Server) × (server_at w m ≡ Some x) × (t.settings ≡ x.settings)
+    before m t at = elim (at_cases w n s s' here m t at) [
+      | inl new ↦ (s, ap (server_at w) new.0 ∙ here, ap (λ (x : Server). x.settings) new.1 ∙ changes.goes_on.settings)
+      | inr old ↦ (t, old.1, refl)
+    ]
+
     replica : (b : ℕ) (r t : Server) → r ≡ s' → source_no r.source ≡ Some b → ((b ≡ n) × (t ≡ s')) ⊎ ((b ≡ n → ⊥) × (server_at w b ≡ Some t)) → R r t
     replica b r t is_s' source where_b =
         let from : source_no s'.source ≡ Some b = ap (λ (x : Server). source_no x.source) (sym is_s') ∙ source in
@@ -290,20 +303,23 @@ Linked-moves R standing w n s s' linked here moves =
       grounded = moves.grounded;
     })
 
--- A change of the world that writes nothing: every history and the count of errant writes stay, and every server goes on.
+-- A change of the world that writes nothing: every history and the count of errant writes stay, and every server goes on,
+-- without a new one.
 pub record Idle (w w' : World) : Type 0 where
   pub kept : histories w' ≡ histories w
   pub grows : Grows w w'
   pub errant : w'.errant ≡ w.errant
+  pub count : length w'.servers ≡ length w.servers
 
 pub Idle-refl : (w : World) → Idle w w
-Idle-refl w = record { kept = refl; grows = Grows-refl w; errant = refl }
+Idle-refl w = record { kept = refl; grows = Grows-refl w; errant = refl; count = refl }
 
 pub Idle-with : (w : World) (n : ℕ) (s s' : Server) → server_at w n ≡ Some s → s'.history ≡ s.history → GoesOn s s' → Idle w (with_server w n s')
 Idle-with w n s s' here history on = record {
   kept = histories-kept w n s s' here (ap (λ (h : Kept). h.txns) history);
   grows = Grows-with w n s s' here on;
   errant = refl;
+  count = length-set w.servers n s';
 }
 
 pub Idle-same : (w : World) (n : ℕ) (s s' : Server) → server_at w n ≡ Some s → Same s s' → Idle w (with_server w n s')

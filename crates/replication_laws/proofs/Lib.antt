@@ -7,11 +7,14 @@ pub mod Writes
 pub mod Fetches
 pub mod Applies
 pub mod Moves
+pub mod Subsets
 pub mod Runs
 pub mod Crossings
+pub mod BridgeLaws
 pub mod Loops
 pub mod Unchanged
 pub mod Files
 pub mod OpeningKin
 pub mod Openings
 pub mod Rooms
+pub mod SeenSets

@@ -1,4 +1,4 @@
-use Rattle.std.proofs.Common.{◌≡◌, ℕ, ◌<◌, Bool, true, false, cond, List, [], ◌∷◌, ◌++◌, refl, sym, subst, inl, inr, Some}
+use Rattle.std.proofs.Common.{◌≡◌, ℕ, ◌<◌, Bool, true, false, cond, List, [], ◌∷◌, ◌++◌, ◌+◌, length, length-append, refl, sym, ◌∙◌, ap, subst, inl, inr, Some}
 use Rattle.std.specs.Prelude.{slice_get}
 use Rattle.openings.proofs.Fronts.{slice_get-snoc_cases}
 use Rattle.std.proofs.Math.Seq.{take-append_seam}
@@ -9,6 +9,7 @@ use Rattle.binlog_coords.specs.Log.{Log, place, push}
 use Rattle.binlog_coords.proofs.Places.{stable_push}
 use Rattle.server_model.specs.Exchanges.{took}
 use Rattle.server_model.specs.Layout.{LaysOut, Opened, Took, Flushed}
+use Rattle.server_model.proofs.LogSizes.{length-push}
 use Rattle.replication_laws.specs.Growth.{GoesOn}
 use Rattle.orch_base.specs.declared.server.Txn.{Txn}
 use Rattle.server_model.specs.declared.server.Server.{Server}
@@ -40,3 +41,11 @@ LaysOut-size history log (Opened limit) i t h = cc
 LaysOut-size history log (Took old before u some l) i t h =
     elim (slice_get-snoc_cases old u t i h) [ inl was ↦ LaysOut-size old before l i t was | inr new ↦ subst (λ (x : Txn). 0 < x.size) (sym new.1) some ]
 LaysOut-size history log (Flushed history' before l) i t h = LaysOut-size history' before l i t h
+
+-- the log of a history has its transactions
+pub LaysOut-length : (history : List Txn) (log : Log) → LaysOut history log → length log.entries ≡ length history
+LaysOut-length history log (Opened limit) = refl
+LaysOut-length history log (Took old before t some l) =
+    let more = LaysOut-length old before l in
+    length-push before t.size ∙ ap (λ k. k + 1) more ∙ sym (length-append old (t ∷ []))
+LaysOut-length history log (Flushed history' before l) = LaysOut-length history' before l

@@ -1,11 +1,12 @@
 -- What orchestrator asks of a server, what befalls it, a new file of its log, and an attachment: what each keeps.
-use Rattle.std.proofs.Common.{◌≡◌, ℕ, Bool, true, false, cond, not, length, refl, sym, ◌∙◌, ap, subst, inl, inr, ◌⊎◌, Option, Some, None, ◌||◌, ◌&&◌, count_by}
+use Rattle.std.proofs.Common.{◌≡◌, ℕ, Bool, true, false, cond, not, List, [], ◌∷◌, take, length, refl, sym, ◌∙◌, ap, subst, inl, inr, ◌⊎◌, Option, Some, None, ◌||◌, ◌&&◌, count_by}
 use Rattle.std.specs.Prelude.{Result, Ok, Err}
 use Rattle.std.proofs.Math.Seq.{take-length}
 use Rattle.std.proofs.lemmas.Option.{same_Some}
 use Rattle.binlog_coords.specs.declared.Coord.{Coord}
 use Rattle.binlog_coords.specs.Log.{place, ends_by}
-use Rattle.binlog_coords.proofs.Places.{stable_flush, place-from}
+use Rattle.binlog_coords.proofs.Places.{stable_flush, place-from, place-coord_after, Laid-Grown}
+use Rattle.gtid_sets.specs.declared.interval.Interval.{Interval}
 use Rattle.orch_base.specs.declared.server.ServerNo.{ServerNo}
 use Rattle.orch_base.specs.declared.server.SourceState.{SourceState}
 use Rattle.orch_base.specs.declared.server.SourceState.TheVariants.{Without, Attached, Detached}
@@ -26,13 +27,16 @@ use Rattle.server_model.specs.declared.server.Server.{Server}
 use Rattle.server_model.specs.Attach.{spot_below, live_spot, same_spot, chain_meets, attach_answer, attached_to, after_attach, IsTarget}
 use Rattle.server_model.specs.Desk.{stopped, started, detached, detached_source, reattached, attached_source, is_detached, without_source, asked, healed, befallen, rotated, after_change, after_desk, after_rotate}
 use Rattle.server_model.specs.Exchanges.{is_attached}
-use Rattle.server_model.specs.Layout.{Flushed}
+use Rattle.server_model.specs.Gtids.{uuids, set_of, held_len, errant_set, auto_coord, answer_by_sets, attach_auto_answer, after_attach_auto, IsAutoTarget}
+use Rattle.server_model.specs.Layout.{LaysOut, Flushed}
+use Rattle.server_model.proofs.AutoAttached.{held-within}
 use Rattle.server_model.specs.Run.{IsJunction}
 use Rattle.server_model.specs.Safe.{StandsIn, AttachedWell, IsSource}
 use Rattle.server_model.specs.Worlds.{World, server_at, with_server, sources, source_of, source_no}
 use Rattle.replication_laws.specs.Growth.{GoesOn}
 use Rattle.replication_laws.proofs.Chains.{Grounded-cut, Grounded-apart, Grounded-joined}
 use Rattle.replication_laws.proofs.Keeping.{at_or_before-refl, Same, Still, Still-refl, Standing, Linked, Linked-still, Linked-keeps, Linked-moves, Idle, Idle-refl, Idle-same, Idle-with}
+use Rattle.replication_laws.proofs.Logs.{LaysOut-Grown, LaysOut-length}
 use Rattle.replication_laws.proofs.Worlds.{at_with_same, at_with_other}
 
 -- changes that leave the source
@@ -113,6 +117,13 @@ Same-befallen e s = (Still-befallen e s).same
 pub Same-attached : (to : ServerNo) (at : Coord) (s : Server) → Same s (attached_to to at s)
 Same-attached to at s = record { history = refl; log = refl; settings = refl }
 
+-- a server attached there, by its coordinate or by its set
+abbrev pub joined : Bool → ServerNo → Coord → Server → Server
+joined auto to at s = record (attached_to to at s) { auto = auto }
+
+Same-joined : (auto : Bool) (to : ServerNo) (at : Coord) (s : Server) → Same s (joined auto to at s)
+Same-joined auto to at s = record { history = refl; log = refl; settings = refl }
+
 GoesOn-rotated : (s : Server) → GoesOn s (rotated s)
 GoesOn-rotated s = record { settings = refl; prefix = take-length s.history.txns; places = λ c k h. stable_flush s.log.log c k h }
 
@@ -138,6 +149,12 @@ pub Idle-attach : (w : World) (n : ℕ) (to : ServerNo) (c : Coord) (o : Option 
 Idle-attach w n to c None at answer = Idle-refl w
 Idle-attach w n to c (Some s) at (Ok t) = Idle-same w n s (attached_to to c s) at (Same-attached to c s)
 Idle-attach w n to c (Some s) at (Err e) = Idle-refl w
+
+pub Idle-attach_auto : (w : World) (n : ℕ) (to : ServerNo) (o : Option Server) → server_at w n ≡ o → (answer : Result (Unit {0}) AttachFault) → Idle w (after_attach_auto w n to o answer)
+Idle-attach_auto w n to None at answer = Idle-refl w
+Idle-attach_auto w n to (Some s) at (Ok t) =
+    Idle-same w n s (joined true to (auto_coord (uuids w) s (server_at w to.0)) s) at (Same-joined true to (auto_coord (uuids w) s (server_at w to.0)) s)
+Idle-attach_auto w n to (Some s) at (Err e) = Idle-refl w
 
 -- and each keeps how the replicas stand
 
@@ -189,24 +206,24 @@ module _ (R : Server → Server → Type 0) (standing : Standing R) (w : World) 
       })
 
   -- an attachment to a server that isn't below the one that is attached
-  Linked-joined : (to : ServerNo) (c : Coord) (s t : Server) → server_at w n ≡ Some s → server_at w to.0 ≡ Some t → t.settings.logs ≡ true → R (attached_to to c s) t
-      → chain_meets (sources w) (length w.servers) to.0 n ≡ false → Linked R (with_server w n (attached_to to c s))
-  Linked-joined to c s t here there logs stands apart =
-      Linked-moves R standing w n s (attached_to to c s) linked here (record {
-        same = Same-attached to c s;
-        stands = λ m x from at_m. subst (R (attached_to to c s)) (same m x from at_m) stands;
+  Linked-joined : (auto : Bool) (to : ServerNo) (c : Coord) (s t : Server) → server_at w n ≡ Some s → server_at w to.0 ≡ Some t → t.settings.logs ≡ true → R (joined auto to c s) t
+      → chain_meets (sources w) (length w.servers) to.0 n ≡ false → Linked R (with_server w n (joined auto to c s))
+  Linked-joined auto to c s t here there logs stands apart =
+      Linked-moves R standing w n s (joined auto to c s) linked here (record {
+        same = Same-joined auto to c s;
+        stands = λ m x from at_m. subst (R (joined auto to c s)) (same m x from at_m) stands;
         logging = λ m from. subst (IsSource w) (same_Some to.0 m from) (t, there, logs);
         grounded = λ m.
-            Grounded-joined (sources w) (sources (with_server w n (attached_to to c s))) n to.0
-            (ap source_of (at_with_same w n s (attached_to to c s) here)) others
-            (Grounded-apart (sources w) (sources (with_server w n (attached_to to c s))) n others (length w.servers) to.0 apart)
+            Grounded-joined (sources w) (sources (with_server w n (joined auto to c s))) n to.0
+            (ap source_of (at_with_same w n s (joined auto to c s) here)) others
+            (Grounded-apart (sources w) (sources (with_server w n (joined auto to c s))) n others (length w.servers) to.0 apart)
             m (linked.grounded m);
       })
     where
-      others : (x : ℕ) → (x ≡ n → ⊥) → sources (with_server w n (attached_to to c s)) x ≡ sources w x
-      others x away = ap source_of (at_with_other w n s (attached_to to c s) here x away)
+      others : (x : ℕ) → (x ≡ n → ⊥) → sources (with_server w n (joined auto to c s)) x ≡ sources w x
+      others x away = ap source_of (at_with_other w n s (joined auto to c s) here x away)
 
-      same : (m : ℕ) (x : Server) → source_no (attached_to to c s).source ≡ Some m → server_at w m ≡ Some x → t ≡ x
+      same : (m : ℕ) (x : Server) → source_no (joined auto to c s).source ≡ Some m → server_at w m ≡ Some x → t ≡ x
       same m x from at_m = let e : to.0 ≡ m = same_Some to.0 m from in same_Some t x (sym there ∙ ap (server_at w) e ∙ at_m)
 
   pub Linked-attach : (expect : Spot) (to : ServerNo) (c : Coord) → IsTarget w to.0 c
@@ -225,7 +242,28 @@ module _ (R : Server → Server → Type 0) (standing : Standing R) (w : World) 
       go true true expected loops is e = linked
       go true false false loops is e = linked
       go true false true true is e = linked
-      go true false true false is e = Linked-joined to c s target.target here target.there target.logs (stands s target.target here target.there is) e
+      go true false true false is e = Linked-joined false to c s target.target here target.there target.logs (stands s target.target here target.there is) e
+
+  pub Linked-attach_auto : (observed : List Interval) (to : ServerNo) → IsAutoTarget w to.0
+      → ((r s : Server) → server_at w n ≡ Some r → server_at w to.0 ≡ Some s → errant_set (uuids w) observed r.history.txns ≡ [] → R (joined true to (auto_coord (uuids w) r (Some s)) r) s)
+      → (o : Option Server) → server_at w n ≡ o → Linked R (after_attach_auto w n to o (attach_auto_answer w n observed to.0 o))
+  Linked-attach_auto observed to target stands None here = linked
+  Linked-attach_auto observed to target stands (Some s) here =
+      go (s.up && s.desk) (s.receiver || s.applier) (chain_meets (sources w) (length w.servers) to.0 n) (errant_set (uuids w) observed s.history.txns) refl refl
+    where
+      go : (reached on loops : Bool) (errant : List Interval) → chain_meets (sources w) (length w.servers) to.0 n ≡ loops → errant_set (uuids w) observed s.history.txns ≡ errant
+          → Linked R (after_attach_auto w n to (Some s)
+          (answer_by_sets
+          (cond (not reached) (Err attaching.Unreachable) (cond on (Err (attaching.Running (spot_below s s.source))) (cond loops (Err attaching.Loop) (Ok tt))))
+          errant))
+      go false on loops errant e none = linked
+      go true true loops errant e none = linked
+      go true false true errant e none = linked
+      go true false false (x ∷ xs) e none = linked
+      go true false false [] e none =
+          let at : auto_coord (uuids w) s (Some target.target) ≡ auto_coord (uuids w) s (server_at w to.0) = ap (auto_coord (uuids w) s) (sym target.there) in
+          subst (λ (c : Coord). Linked R (with_server w n (joined true to c s))) at
+          (Linked-joined true to (auto_coord (uuids w) s (Some target.target)) s target.target here target.there target.logs (stands s target.target here target.there none) e)
 
 -- how an attached replica stands
 
@@ -249,3 +287,32 @@ StandsIn-attached w to c r s target there =
 pub AttachedWell-attached : (to : ServerNo) (c : Coord) (r s : Server) → IsJunction r s c → AttachedWell (attached_to to c r) s
 AttachedWell-attached to c r s junction =
     record { prefix = junction.prefix; exec_place = junction.place; read_place = (length r.history.txns, junction.place); order = at_or_before-refl c }
+
+-- where a server goes on by its set has a place in the source's log
+auto-place : (uuid : ℕ → ℕ) (r s : Server) → LaysOut s.history.txns s.log.log → place s.log.log (auto_coord uuid r (Some s)) ≡ Some (held_len uuid (set_of uuid r.history.txns) s.history.txns)
+auto-place uuid r s laid =
+    place-coord_after s.log.log (Laid-Grown s.log.log (LaysOut-Grown s.history.txns s.log.log laid)) (held_len uuid (set_of uuid r.history.txns) s.history.txns)
+    (held-within uuid (set_of uuid r.history.txns) s (LaysOut-length s.history.txns s.log.log laid))
+
+-- the source of an attachment by a set has a log
+auto-laid : (w : World) (to : ServerNo) (s : Server) → ((n : ℕ) (x : Server) → server_at w n ≡ Some x → x.settings.logs ≡ true → LaysOut x.history.txns x.log.log) → IsAutoTarget w to.0
+    → server_at w to.0 ≡ Some s → LaysOut s.history.txns s.log.log
+auto-laid w to s laid target there =
+    let is : target.target ≡ s = same_Some target.target s (sym target.there ∙ there) in
+    laid to.0 s there (ap (λ (x : Server). x.settings.logs) (sym is) ∙ target.logs)
+
+pub StandsIn-auto : (w : World) (to : ServerNo) (r s : Server) → ((n : ℕ) (x : Server) → server_at w n ≡ Some x → x.settings.logs ≡ true → LaysOut x.history.txns x.log.log) → IsAutoTarget w to.0
+    → server_at w to.0 ≡ Some s → StandsIn (joined true to (auto_coord (uuids w) r (Some s)) r) s
+StandsIn-auto w to r s laid target there =
+    let c = auto_coord (uuids w) r (Some s) in
+    let at : (k : ℕ) × (place s.log.log c ≡ Some k) = (held_len (uuids w) (set_of (uuids w) r.history.txns) s.history.txns, auto-place (uuids w) r s (auto-laid w to s laid target there)) in
+    record { exec_place = at; read_place = at; order = at_or_before-refl c }
+
+-- and where it has executed a beginning of the source's history it goes on at that beginning's end
+pub AttachedWell-auto : (w : World) (to : ServerNo) (r s : Server) → ((n : ℕ) (x : Server) → server_at w n ≡ Some x → x.settings.logs ≡ true → LaysOut x.history.txns x.log.log) → IsAutoTarget w to.0
+    → server_at w to.0 ≡ Some s → take (length r.history.txns) s.history.txns ≡ r.history.txns
+    → held_len (uuids w) (set_of (uuids w) r.history.txns) s.history.txns ≡ length r.history.txns → AttachedWell (joined true to (auto_coord (uuids w) r (Some s)) r) s
+AttachedWell-auto w to r s laid target there prefix held =
+    let c = auto_coord (uuids w) r (Some s) in
+    let at : place s.log.log c ≡ Some (length r.history.txns) = auto-place (uuids w) r s (auto-laid w to s laid target there) ∙ ap Some held in
+    record { prefix = prefix; exec_place = at; read_place = (length r.history.txns, at); order = at_or_before-refl c }

@@ -126,4 +126,9 @@ module _ (o : Opened) (room flushes : ℕ) where
       logging = logging-opened;
       kin = subst IsKin (sym histories-opened) (IsKin-opening o.servers sound);
       grounded = λ n. subst (λ (up : ℕ → Option ℕ). Grounded up n) (sym sources-opened) (sound.ends n);
+      uuids = λ m n s t at_m at_n same.
+          let g = given-opened o room flushes m s at_m in
+          let h = given-opened o room flushes n t at_n in
+          checked.listed.uuids m n g.init h.init g.place h.place
+          (sym (ap (λ (x : Server). x.settings.uuid) g.is_opened) ∙ same ∙ ap (λ (x : Server). x.settings.uuid) h.is_opened);
     }

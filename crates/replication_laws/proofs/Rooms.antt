@@ -30,7 +30,8 @@ use Rattle.openings.specs.Listed.{transactions}
 use Rattle.openings.specs.Opening.{Opened, IsChecked}
 use Rattle.openings.specs.Servers.{parts_of}
 use Rattle.server_model.specs.Opening.{opened_world, Fits}
-use Rattle.server_model.specs.Run.{Exchange, Write, Fetch, Apply, Request, Befall, Rotate, Attach, after, run, AllAllowed, AllJoinWell}
+use Rattle.server_model.specs.Gtids.{attach_auto_answer, after_attach_auto, attached_auto, auto_coord, uuids}
+use Rattle.server_model.specs.Run.{Exchange, Write, Fetch, Apply, Request, Befall, Rotate, Attach, AttachAuto, after, run, AllAllowed, AllJoinWell}
 use Rattle.server_model.specs.Safe.{Safe, IsQuiet}
 use Rattle.server_model.specs.Worlds.{World, server_at, with_server}
 use Rattle.server_model.proofs.Opened.{given-opened}
@@ -106,6 +107,11 @@ module _ (room total : ℕ) (w : World) (fit : AllFit room total w) where
   AllFit-attach n to c (Some s) at (Ok t) = AllFit-still n s (attached_to to c s) at refl
   AllFit-attach n to c (Some s) at (Err e) = AllFit-more 0
 
+  AllFit-attach_auto : (n : ℕ) (to : ServerNo) (o : Option Server) → server_at w n ≡ o → (answer : Result (Unit {0}) AttachFault) → AllFit room (total + 0) (after_attach_auto w n to o answer)
+  AllFit-attach_auto n to None at answer = AllFit-more 0
+  AllFit-attach_auto n to (Some s) at (Ok t) = AllFit-still n s (attached_auto to (auto_coord (uuids w) s (server_at w to.0)) s) at refl
+  AllFit-attach_auto n to (Some s) at (Err e) = AllFit-more 0
+
   -- what is to be executed is in another history
   due-within : (n : ℕ) (r : Server) → server_at w n ≡ Some r → Safe w → (t : Txn) (to : Coord) → Taking w r t to → length r.history.txns < total
   due-within n r at safe t to due =
@@ -163,6 +169,7 @@ AllFit-after room total w fit safe (Request n a) = AllFit-ask room total w fit n
 AllFit-after room total w fit safe (Befall n e) = AllFit-change room total w fit n (befallen e) (Same-befallen e) (server_at w n) refl
 AllFit-after room total w fit safe (Rotate n) = AllFit-rotate room total w fit n (server_at w n) refl (rotate_answer (server_at w n))
 AllFit-after room total w fit safe (Attach n expect to at) = AllFit-attach room total w fit n to at (server_at w n) refl (attach_answer w n expect to.0 (server_at w n))
+AllFit-after room total w fit safe (AttachAuto n observed to) = AllFit-attach_auto room total w fit n to (server_at w n) refl (attach_auto_answer w n observed to.0 (server_at w n))
 
 not_full-here : (room total : ℕ) (w : World) → AllFit room total w → Safe w → (e : Exchange) → total + tick (is_write e) ≤ room → IsNotFull w e
 not_full-here room total w fit safe (Write n size) more = not_full-write room total w fit n (server_at w n) refl (omega arith)
@@ -172,6 +179,7 @@ not_full-here room total w fit safe (Request n a) more = tt
 not_full-here room total w fit safe (Befall n e) more = tt
 not_full-here room total w fit safe (Rotate n) more = tt
 not_full-here room total w fit safe (Attach n expect to at) more = tt
+not_full-here room total w fit safe (AttachAuto n observed to) more = tt
 
 not_full-run : (room : ℕ) (es : List Exchange) (k : ℕ) (e : Exchange) (total : ℕ) (w : World) → AllFit room total w → Safe w → AllAllowed w es → AllJoinWell w es
     → total + count_by is_write es ≤ room → slice_get es k ≡ Some e → IsQuiet (run w (take k es)) → IsNotFull (run w (take k es)) e

@@ -13,7 +13,9 @@ use Rattle.server_model.specs.declared.server.Server.{Server}
 use Rattle.server_model.specs.Attach.{attach_answer}
 use Rattle.server_model.specs.Desk.{desk_answer, rotate_answer}
 use Rattle.server_model.specs.Exchanges.{write_answer, after_write, fetch_step, after_apply, apply_step}
-use Rattle.server_model.specs.Run.{Exchange, Write, Fetch, Apply, Request, Befall, Rotate, Attach, after, Allowed, JoinsWell, run, AllAllowed, AllJoinWell}
+use Rattle.gtid_sets.specs.declared.interval.Interval.{Interval}
+use Rattle.server_model.specs.Gtids.{attach_auto_answer}
+use Rattle.server_model.specs.Run.{Exchange, Write, Fetch, Apply, Request, Befall, Rotate, Attach, AttachAuto, after, Allowed, JoinsWell, run, AllAllowed, AllJoinWell}
 use Rattle.server_model.specs.Safe.{Safe, Placed, StandsIn, AttachedWell, IsQuiet}
 use Rattle.server_model.specs.Worlds.{World, server_at, has_source}
 use Rattle.replication_laws.specs.Growth.{Grows}
@@ -21,7 +23,8 @@ use Rattle.replication_laws.proofs.Keeping.{Standing-well, Standing-placed, Link
 use Rattle.replication_laws.proofs.Writes.{Safe-write, Placed-write, Grows-write}
 use Rattle.replication_laws.proofs.Fetches.{Linked-fetch, Idle-fetch}
 use Rattle.replication_laws.proofs.Applies.{Safe-apply, Placed-apply, Grows-apply}
-use Rattle.replication_laws.proofs.Moves.{Linked-ask, Idle-ask, Linked-befall, Idle-befall, Linked-rotate, Idle-rotate, Linked-attach, Idle-attach, StandsIn-rotated, AttachedWell-rotated, StandsIn-attached, AttachedWell-attached}
+use Rattle.replication_laws.proofs.Moves.{Linked-ask, Idle-ask, Linked-befall, Idle-befall, Linked-rotate, Idle-rotate, Linked-attach, Idle-attach, Linked-attach_auto, Idle-attach_auto, StandsIn-rotated, AttachedWell-rotated, StandsIn-attached, AttachedWell-attached, StandsIn-auto, AttachedWell-auto}
+use Rattle.replication_laws.proofs.Subsets.{prefix-observed, held-prefix}
 
 -- the count of errant writes never falls
 
@@ -63,6 +66,9 @@ Idle-rotated w n = Idle-rotate w n (server_at w n) refl (rotate_answer (server_a
 pub Idle-attached : (w : World) (n : ℕ) (expect : Spot) (to : ServerNo) (at : Coord) → Idle w (after w (Attach n expect to at))
 Idle-attached w n expect to at = Idle-attach w n to at (server_at w n) refl (attach_answer w n expect to.0 (server_at w n))
 
+pub Idle-auto : (w : World) (n : ℕ) (observed : List Interval) (to : ServerNo) → Idle w (after w (AttachAuto n observed to))
+Idle-auto w n observed to = Idle-attach_auto w n to (server_at w n) refl (attach_auto_answer w n observed to.0 (server_at w n))
+
 errant-after : (w : World) (e : Exchange) → w.errant ≤ (after w e).errant
 errant-after w (Write n size) = errant-write w n size (server_at w n) (write_answer n (server_at w n))
 errant-after w (Fetch n) = errant-idle w (after w (Fetch n)) (Idle-fetched w n)
@@ -71,6 +77,7 @@ errant-after w (Request n a) = errant-idle w (after w (Request n a)) (Idle-asked
 errant-after w (Befall n e) = errant-idle w (after w (Befall n e)) (Idle-befall w n e)
 errant-after w (Rotate n) = errant-idle w (after w (Rotate n)) (Idle-rotated w n)
 errant-after w (Attach n expect to at) = errant-idle w (after w (Attach n expect to at)) (Idle-attached w n expect to at)
+errant-after w (AttachAuto n observed to) = errant-idle w (after w (AttachAuto n observed to)) (Idle-auto w n observed to)
 
 errant-run : (w : World) (es : List Exchange) → w.errant ≤ (run w es).errant
 errant-run w [] = omega arith
@@ -101,6 +108,9 @@ Placed-after w (Rotate n) placed free =
 Placed-after w (Attach n expect to at) placed target =
     Placed-linked (after w (Attach n expect to at))
     (Linked-attach StandsIn Standing-placed w n (Linked-placed w placed) expect to at target (λ r s here there is. StandsIn-attached w to at r s target there) (server_at w n) refl)
+Placed-after w (AttachAuto n observed to) placed target =
+    Placed-linked (after w (AttachAuto n observed to))
+    (Linked-attach_auto StandsIn Standing-placed w n (Linked-placed w placed) observed to target (λ r s here there none. StandsIn-auto w to r s placed.laid target there) (server_at w n) refl)
 
 pub Grows-after : (w : World) (e : Exchange) → Placed w → Allowed w e → Grows w (after w e)
 Grows-after w (Write n size) placed some = Grows-write w n size some placed (server_at w n) refl (write_answer n (server_at w n))
@@ -110,6 +120,7 @@ Grows-after w (Request n a) placed free = (Idle-asked w n a).grows
 Grows-after w (Befall n e) placed free = (Idle-befall w n e).grows
 Grows-after w (Rotate n) placed free = (Idle-rotated w n).grows
 Grows-after w (Attach n expect to at) placed target = (Idle-attached w n expect to at).grows
+Grows-after w (AttachAuto n observed to) placed target = (Idle-auto w n observed to).grows
 
 pub Placed-run : (w : World) (es : List Exchange) → Placed w → AllAllowed w es → Placed (run w es)
 Placed-run w [] placed allowed = placed
@@ -152,6 +163,16 @@ Safe-attached w n expect to at safe target joins =
     (Linked-attach AttachedWell Standing-well w n (Linked-safe w safe) expect to at target
     (λ r s here there is. AttachedWell-attached to at r s (joins r s here there is)) (server_at w n) refl)
 
+pub Safe-auto : (w : World) (n : ℕ) (observed : List Interval) (to : ServerNo) → Safe w → Allowed w (AttachAuto n observed to) → JoinsWell w (AttachAuto n observed to)
+    → Safe (after w (AttachAuto n observed to))
+Safe-auto w n observed to safe target within =
+    Safe-idle w (after w (AttachAuto n observed to)) safe (Idle-auto w n observed to)
+    (Linked-attach_auto AttachedWell Standing-well w n (Linked-safe w safe) observed to target
+    (λ r s here there none.
+    let front = prefix-observed w safe n to.0 r s here there observed within none in
+    AttachedWell-auto w to r s safe.laid target there front (held-prefix w safe n to.0 r s here there front))
+    (server_at w n) refl)
+
 pub Safe-after : (w : World) (e : Exchange) → Safe w → Allowed w e → JoinsWell w e → IsQuiet (after w e) → Safe (after w e)
 Safe-after w (Write n size) safe some free q = Safe-write w n size (server_at w n) refl some safe q
 Safe-after w (Fetch n) safe free also q = Safe-fetched w n safe
@@ -160,6 +181,7 @@ Safe-after w (Request n a) safe free also q = Safe-asked w n a safe
 Safe-after w (Befall n e) safe free also q = Safe-befallen w n e safe
 Safe-after w (Rotate n) safe free also q = Safe-rotated w n safe
 Safe-after w (Attach n expect to at) safe target joins q = Safe-attached w n expect to at safe target joins
+Safe-after w (AttachAuto n observed to) safe target joins q = Safe-auto w n observed to safe target joins
 
 -- and so does a run
 pub Safe-run : (w : World) (es : List Exchange) → Safe w → AllAllowed w es → AllJoinWell w es → IsQuiet (run w es) → Safe (run w es)

@@ -19,7 +19,8 @@ use Rattle.server_model.specs.declared.server.Server.{Server}
 use Rattle.server_model.specs.Attach.{attach_answer, after_attach}
 use Rattle.server_model.specs.Desk.{desk_answer, after_desk, rotate_answer, after_rotate}
 use Rattle.server_model.specs.Exchanges.{write_answer, after_write, fetch_step, fetch_answer, after_fetch, apply_step, apply_answer, after_apply}
-use Rattle.server_model.specs.Run.{Exchange, Write, Fetch, Apply, Request, Befall, Rotate, Attach, after}
+use Rattle.server_model.specs.Gtids.{attach_auto_answer, after_attach_auto}
+use Rattle.server_model.specs.Run.{Exchange, Write, Fetch, Apply, Request, Befall, Rotate, Attach, AttachAuto, after}
 use Rattle.server_model.specs.Worlds.{World, server_at}
 use Rattle.replication_laws.specs.Faults.{nothing_written, nothing_read, nothing_applied, no_new_file, is_fault, nothing_done}
 
@@ -64,6 +65,11 @@ same-attach w n to c None answer h = refl
 same-attach w n to c (Some s) (Ok t) h = cc
 same-attach w n to c (Some s) (Err e) h = refl
 
+same-attach_auto : (w : World) (n : ℕ) (to : ServerNo) (o : Option Server) (answer : Result (Unit {0}) AttachFault) → is_fault answer ≡ true → after_attach_auto w n to o answer ≡ w
+same-attach_auto w n to None answer h = refl
+same-attach_auto w n to (Some s) (Ok t) h = cc
+same-attach_auto w n to (Some s) (Err e) h = refl
+
 pub nothing_done-same : (w : World) (e : Exchange) → nothing_done w e ≡ true → after w e ≡ w
 nothing_done-same w (Write n size) h = same-write w n size (server_at w n) (write_answer n (server_at w n)) h
 nothing_done-same w (Fetch n) h = same-fetch w n (server_at w n) (fetch_step w (server_at w n)) h
@@ -72,3 +78,4 @@ nothing_done-same w (Request n a) h = same-ask w n a (desk_answer (server_at w n
 nothing_done-same w (Befall n e) h = cc
 nothing_done-same w (Rotate n) h = same-rotate w n (server_at w n) (rotate_answer (server_at w n)) h
 nothing_done-same w (Attach n expect to at) h = same-attach w n to at (server_at w n) (attach_answer w n expect to.0 (server_at w n)) h
+nothing_done-same w (AttachAuto n observed to) h = same-attach_auto w n to (server_at w n) (attach_auto_answer w n observed to.0 (server_at w n)) h

@@ -18,3 +18,11 @@ pub record IsReadyAt (w : World) (n : ℕ) (expect : Spot) : Type 0 where
   pub reached : (server.up && server.desk) ≡ true
   pub still : (server.receiver || server.applier) ≡ false
   pub expected : same_spot expect (live_spot server expect) ≡ true
+
+-- the server is there, within orchestrator's reach, with its threads off: of all that an attachment by a set asks only
+-- a loop and the sets are left
+pub record IsReadyAuto (w : World) (n : ℕ) : Type 0 where
+  pub server : Server
+  pub there : server_at w n ≡ Some server
+  pub reached : (server.up && server.desk) ≡ true
+  pub still : (server.receiver || server.applier) ≡ false

@@ -11,7 +11,8 @@ use Rattle.server_model.specs.declared.answers.WriteAnswer.TheVariants as wrote
 use Rattle.server_model.specs.Attach.{attach_at}
 use Rattle.server_model.specs.Desk.{ask, rotate}
 use Rattle.server_model.specs.Exchanges.{write, fetch, apply}
-use Rattle.server_model.specs.Run.{Exchange, Write, Fetch, Apply, Request, Befall, Rotate, Attach}
+use Rattle.server_model.specs.Gtids.{attach_auto}
+use Rattle.server_model.specs.Run.{Exchange, Write, Fetch, Apply, Request, Befall, Rotate, Attach, AttachAuto}
 use Rattle.server_model.specs.Worlds.{World}
 
 -- a client's transaction was not written
@@ -61,3 +62,4 @@ nothing_done w (Request n a) = is_fault (ask w n a).0
 nothing_done w (Befall n e) = false
 nothing_done w (Rotate n) = no_new_file (rotate w n).0
 nothing_done w (Attach n expect to at) = is_fault (attach_at w n expect to at).0
+nothing_done w (AttachAuto n observed to) = is_fault (attach_auto w n observed to).0

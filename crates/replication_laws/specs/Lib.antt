@@ -1,4 +1,6 @@
 pub mod Below
+pub mod Bridges
 pub mod Faults
 pub mod Growth
+pub mod Observed
 pub mod Room

@@ -7,7 +7,7 @@ use Rattle.server_model.specs.declared.answers.ApplyAnswer.TheVariants as applie
 use Rattle.server_model.specs.declared.answers.WriteAnswer.TheVariants as wrote
 use Rattle.server_model.specs.declared.server.Server.{Server}
 use Rattle.server_model.specs.Exchanges.{write, apply}
-use Rattle.server_model.specs.Run.{Exchange, Write, Fetch, Apply, Request, Befall, Rotate, Attach}
+use Rattle.server_model.specs.Run.{Exchange, Write, Fetch, Apply, Request, Befall, Rotate, Attach, AttachAuto}
 use Rattle.server_model.specs.Worlds.{World, server_at}
 
 -- a client's write
@@ -19,6 +19,7 @@ is_write (Request n a) = false
 is_write (Befall n e) = false
 is_write (Rotate n) = false
 is_write (Attach n expect to at) = false
+is_write (AttachAuto n observed to) = false
 
 -- a new file is asked for
 abbrev pub is_rotate : Exchange → Bool
@@ -29,6 +30,7 @@ is_rotate (Apply n) = false
 is_rotate (Request n a) = false
 is_rotate (Befall n e) = false
 is_rotate (Attach n expect to at) = false
+is_rotate (AttachAuto n observed to) = false
 
 -- the transactions that the opening lists, and those that these exchanges may add
 abbrev pub room_for : Opened → List Exchange → ℕ
@@ -51,3 +53,4 @@ IsNotFull w (Request n a) = Unit {0}
 IsNotFull w (Befall n e) = Unit {0}
 IsNotFull w (Rotate n) = Unit {0}
 IsNotFull w (Attach n expect to at) = Unit {0}
+IsNotFull w (AttachAuto n observed to) = Unit {0}

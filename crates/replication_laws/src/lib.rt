@@ -1,7 +1,9 @@
 //! Laws of replication over a world of servers (MySQL 8.0 Reference Manual, "Replication").
 #![tactic(auto)]
 
+mod bridges;
 mod faults;
+mod observed;
 mod placed;
 
 ghost use Rattle.std.specs.Prelude.{◌≡◌, ◌≢◌, ℕ, ◌<◌, ◌≤◌, List, Some, true, count_by, slice_get, take};
@@ -21,13 +23,17 @@ ghost use Rattle.server_model.specs.Exchanges.{write, fetch, apply, apply_step};
 ghost use Rattle.openings.specs.Opening.{Opened, IsChecked};
 ghost use Rattle.server_model.specs.Opening.{opened_world};
 ghost use Rattle.orch_base.specs.Histories.{same_txn};
-ghost use Rattle.server_model.specs.Run.{Exchange, Rotate, Attach, after, run, Allowed, JoinsWell, AllAllowed, AllJoinWell};
+ghost use Rattle.gtid_sets.specs.declared.interval.Interval.{Interval};
+ghost use Rattle.server_model.specs.Gtids.{attach_auto, IsAutoTarget};
+ghost use Rattle.server_model.specs.Run.{Exchange, Rotate, Attach, AttachAuto, after, run, Allowed, JoinsWell, AllAllowed, AllJoinWell};
 ghost use Rattle.server_model.specs.Safe.{Safe, Placed, IsQuiet};
 ghost use Rattle.server_model.specs.Worlds.{World, server_at, histories};
 ghost use Rattle.replication_laws.specs.Growth.{Grows};
 ghost use Rattle.replication_laws.specs.Room.{room_for, is_rotate, LeavesFiles, HasFiles, IsNotFull};
 
+pub use bridges::{bridges_stand, crossings_join_well, status_pairs_stand};
 pub use faults::faults_change_nothing;
+pub use observed::observed_sets_stand;
 pub use placed::{
     each_exchange_keeps_placed, loops_are_found, no_server_is_below_itself, safe_worlds_are_placed,
 };
@@ -62,13 +68,18 @@ pub fn each_change_keeps_safe()
 /// An attachment to a coordinate with a place in its target's log keeps a safe world safe, quiet or not, where it leads
 /// a server that stands where it is expected to where its history ends: what the server executed is a beginning of what
 /// the target executed, and the coordinate is where that beginning ends. So it does where a replica is attached anew to
-/// its own source, at the coordinate at which it is expected there. An attachment writes nothing: in any world every
-/// server goes on, and no errant write is counted.
+/// its own source, at the coordinate at which it is expected there. An attachment by an observed set that is within what
+/// the new source has executed by now keeps it safe too: it comes only where the server has executed none but those, of kin
+/// histories a subset is a beginning, and the server goes on where that ends. An attachment writes nothing: in any world
+/// every server goes on, and no errant write is counted.
 pub fn attachments_keep_safe()
     ensures safe { (w : World) (n : ℕ) (expect : ASpot) (to : ServerNo) (at : At) → Safe w → IsTarget w to.0 at → JoinsWell w (Attach n expect to at) → Safe (attach_at w n expect to at).1 }
     ensures same { (w : World) (n : ℕ) (m : ServerNo) (at : At) → Safe w → JoinsWell w (Attach n (spot.At m at) m at) }
     ensures goes_on { (w : World) (n : ℕ) (expect : ASpot) (to : ServerNo) (at : At) → Grows w (attach_at w n expect to at).1 }
     ensures errant { (w : World) (n : ℕ) (expect : ASpot) (to : ServerNo) (at : At) → (attach_at w n expect to at).1.errant ≡ w.errant }
+    ensures auto { (w : World) (n : ℕ) (observed : List Interval) (to : ServerNo) → Safe w → IsAutoTarget w to.0 → JoinsWell w (AttachAuto n observed to) → Safe (attach_auto w n observed to).1 }
+    ensures auto_goes_on { (w : World) (n : ℕ) (observed : List Interval) (to : ServerNo) → Grows w (attach_auto w n observed to).1 }
+    ensures auto_errant { (w : World) (n : ℕ) (observed : List Interval) (to : ServerNo) → (attach_auto w n observed to).1.errant ≡ w.errant }
 {}
 
 /// Each state of a run of exchanges from a safe world is safe while it is quiet, where each attachment in it joins well

@@ -3,13 +3,15 @@
 ghost use Rattle.std.specs.Prelude.{◌≡◌, ℕ, ◌<◌, List, Some, Err, true, length, take};
 ghost use Rattle.orch_base.specs.declared.server.ServerNo.{ServerNo};
 ghost use Rattle.binlog_coords.specs.declared.Coord.{Coord as At};
+ghost use Rattle.gtid_sets.specs.declared.interval.Interval.{Interval as Those};
 ghost use Rattle.server_model.specs.declared.attach.AttachFault.TheVariants as attaching;
 ghost use Rattle.server_model.specs.declared.attach.Spot.{Spot as ASpot};
 ghost use Rattle.server_model.specs.Attach.{attach_at, chain_meets};
+ghost use Rattle.server_model.specs.Gtids.{attach_auto};
 ghost use Rattle.server_model.specs.Run.{Exchange, after, run, Allowed, AllAllowed};
 ghost use Rattle.server_model.specs.Safe.{Safe, Placed};
 ghost use Rattle.server_model.specs.Worlds.{World, sources};
-ghost use Rattle.replication_laws.specs.Below.{Reaches, IsReadyAt};
+ghost use Rattle.replication_laws.specs.Below.{Reaches, IsReadyAt, IsReadyAuto};
 ghost use Rattle.replication_laws.specs.Growth.{Grows};
 
 /// Every exchange keeps a world placed, quiet or not: no server is below itself, every source is there and logs, and
@@ -35,11 +37,13 @@ pub fn no_server_is_below_itself()
 {}
 
 /// In a placed world of some servers a walk up the sources, of as many steps as there are servers, meets a server exactly
-/// where it begins there or below it. So an attachment answers Loop exactly where the new source is the server itself or
-/// below it, and no earlier fault comes.
+/// where it begins there or below it. So an attachment by a coordinate or by GTIDs answers Loop exactly where the new
+/// source is the server itself or below it, and no earlier fault comes.
 pub fn loops_are_found()
     ensures met { (w : World) (n to : ℕ) → Placed w → 0 < length w.servers → chain_meets (sources w) (length w.servers) to n ≡ true → Reaches (sources w) n to }
     ensures missed { (w : World) (n to : ℕ) → Reaches (sources w) n to → chain_meets (sources w) (length w.servers) to n ≡ true }
     ensures answered { (w : World) (n : ℕ) (expect : ASpot) (to : ServerNo) (at : At) → IsReadyAt w n expect → Reaches (sources w) n to.0 → (attach_at w n expect to at).0 ≡ Err attaching.Loop }
     ensures only { (w : World) (n : ℕ) (expect : ASpot) (to : ServerNo) (at : At) → Placed w → (attach_at w n expect to at).0 ≡ Err attaching.Loop → IsReadyAt w n expect × Reaches (sources w) n to.0 }
+    ensures auto_answered { (w : World) (n : ℕ) (observed : List Those) (to : ServerNo) → IsReadyAuto w n → Reaches (sources w) n to.0 → (attach_auto w n observed to).0 ≡ Err attaching.Loop }
+    ensures auto_only { (w : World) (n : ℕ) (observed : List Those) (to : ServerNo) → Placed w → (attach_auto w n observed to).0 ≡ Err attaching.Loop → IsReadyAuto w n × Reaches (sources w) n to.0 }
 {}

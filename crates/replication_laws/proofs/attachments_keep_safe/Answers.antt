@@ -1,5 +1,5 @@
 use Rattle.replication_laws.proofs.Crossings.{joins-same}
-use Rattle.replication_laws.proofs.Runs.{Safe-attached, Idle-attached}
+use Rattle.replication_laws.proofs.Runs.{Safe-attached, Idle-attached, Safe-auto, Idle-auto}
 use Rattle.replication_laws.proofs.attachments_keep_safe.Goals as goal
 
 pub returns-clause-safe : goal.returns-clause-safe
@@ -13,3 +13,12 @@ returns-clause-goes_on c = λ w n expect to at. (Idle-attached w n expect to at)
 
 pub returns-clause-errant : goal.returns-clause-errant
 returns-clause-errant c = λ w n expect to at. (Idle-attached w n expect to at).errant
+
+pub returns-clause-auto : goal.returns-clause-auto
+returns-clause-auto c = Safe-auto
+
+pub returns-clause-auto_goes_on : goal.returns-clause-auto_goes_on
+returns-clause-auto_goes_on c = λ w n observed to. (Idle-auto w n observed to).grows
+
+pub returns-clause-auto_errant : goal.returns-clause-auto_errant
+returns-clause-auto_errant c = λ w n observed to. (Idle-auto w n observed to).errant

@@ -1,7 +1,7 @@
 use Rattle.std.proofs.Common.{length}
 use Rattle.server_model.specs.Worlds.{sources}
 use Rattle.replication_laws.proofs.Chains.{walk-finds_all, walk-met}
-use Rattle.replication_laws.proofs.Loops.{loop-answered, loop-only}
+use Rattle.replication_laws.proofs.Loops.{loop-answered, loop-only, loop_auto-answered, loop_auto-only}
 use Rattle.replication_laws.proofs.placed.loops_are_found.Goals as goal
 
 pub returns-clause-met : goal.returns-clause-met
@@ -15,3 +15,9 @@ returns-clause-answered c = λ w n expect to at ready r. loop-answered w n expec
 
 pub returns-clause-only : goal.returns-clause-only
 returns-clause-only c = λ w n expect to at placed h. loop-only w n expect to.0 placed h
+
+pub returns-clause-auto_answered : goal.returns-clause-auto_answered
+returns-clause-auto_answered c = λ w n observed to ready r. loop_auto-answered w n observed to.0 ready r
+
+pub returns-clause-auto_only : goal.returns-clause-auto_only
+returns-clause-auto_only c = λ w n observed to placed h. loop_auto-only w n observed to.0 placed h

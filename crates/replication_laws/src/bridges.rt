@@ -1,0 +1,35 @@
+//! Bridges between the logs of a replica and its source.
+
+ghost use Rattle.std.specs.Prelude.{◌≡◌, ℕ, List, Ok, Some};
+ghost use Rattle.binlog_coords.specs.declared.Coord.{Coord as At};
+ghost use Rattle.orch_base.specs.declared.server.ServerNo.{ServerNo};
+ghost use Rattle.server_model.specs.declared.attach.Spot.TheVariants as spot;
+ghost use Rattle.server_model.specs.declared.status.Status.{Status as Seen};
+ghost use Rattle.server_model.specs.Gtids.{status};
+ghost use Rattle.server_model.specs.Run.{Exchange, Attach, after, run, Allowed, JoinsWell, AllAllowed};
+ghost use Rattle.server_model.specs.Safe.{Safe, Placed};
+ghost use Rattle.server_model.specs.Worlds.{World, source_no};
+ghost use Rattle.replication_laws.specs.Bridges.{Stands};
+
+/// In a safe world one status of a server that logs and has a source, attached or detached, shows a bridge that stands:
+/// the end of its own log, and its executed coordinate in the source's.
+pub fn status_pairs_stand()
+    ensures { (w : World) (n m : ℕ) (seen : Seen) (own : At) → Safe w → status w n ≡ Ok seen → source_no seen.source ≡ Some m → seen.own_end ≡ Some own → Stands w n m own seen.exec }
+{}
+
+/// A bridge that stands in a placed world stands for good, quiet or not: after each exchange, and after each run.
+pub fn bridges_stand()
+    ensures stays { (w : World) (e : Exchange) (x s : ℕ) (own exec : At) → Placed w → Allowed w e → Stands w x s own exec → Stands (after w e) x s own exec }
+    ensures run_stays { (w : World) (es : List Exchange) (x s : ℕ) (own exec : At) → Placed w → AllAllowed w es → Stands w x s own exec → Stands (run w es) x s own exec }
+{}
+
+/// With a bridge that stands these attachments join well in a safe world: of a replica that stands at the bridge's
+/// executed coordinate of the source, to the own coordinate of the bridge's replica; of one that stands at that own
+/// coordinate, to the executed one; of the source itself where its log ends at the executed coordinate, and of the replica
+/// itself where its log ends at its own coordinate.
+pub fn crossings_join_well()
+    ensures down { (w : World) (n : ℕ) (x s : ServerNo) (own exec : At) → Safe w → Stands w x.0 s.0 own exec → JoinsWell w (Attach n (spot.At s exec) x own) }
+    ensures up { (w : World) (n : ℕ) (x s : ServerNo) (own exec : At) → Safe w → Stands w x.0 s.0 own exec → JoinsWell w (Attach n (spot.At x own) s exec) }
+    ensures about { (w : World) (x s : ServerNo) (own exec : At) → Safe w → Stands w x.0 s.0 own exec → JoinsWell w (Attach s.0 (spot.OwnEnd exec) x own) }
+    ensures back { (w : World) (x s : ServerNo) (own exec : At) → Safe w → Stands w x.0 s.0 own exec → JoinsWell w (Attach x.0 (spot.OwnEnd own) s exec) }
+{}
