@@ -1,8 +1,8 @@
 //! The list of filters by which a cluster is allowed.
 
-ghost use Rattle.std.specs.Prelude.{◌≡◌, Some, None, IfOk, IfErr, OnOk, IfSome};
+ghost use Rattle.std.specs.Prelude.{◌≡◌, true, false, Some, None, IfOk, IfErr, OnOk, IfSome};
 ghost use Rattle.cluster_filters.specs.Faults.{bad_place};
-ghost use Rattle.cluster_filters.specs.Forms.{texts_of, forms_of, first_bad, some_matches};
+ghost use Rattle.cluster_filters.specs.Forms.{form_of, has_pattern, texts_of, forms_of, first_bad, some_matches};
 
 use crate::Memory;
 use crate::fault::FilterFault;
@@ -42,6 +42,17 @@ impl Filters {
             filters.push(Filter::read(alloc, index, form.as_str())?)?;
         }
         Ok(Filters { filters })
+    }
+
+    /// Whether a list may have this form: nothing, or `BadPattern(0)` where its regular expression is none, or nests past
+    /// the limit of `regex`.
+    pub fn test(alloc: Global, form: &str) -> Result<(), FilterFault>
+        ensures taken { OnOk result (has_pattern (form_of form.now) ≡ true) }
+        ensures refused { IfErr result (λ fault. IfSome (bad_place fault)
+            (λ place. (place ≡ 0) × (has_pattern (form_of form.now) ≡ false))) }
+    {
+        Filter::read(alloc, 0, form)?;
+        Ok(())
     }
 
     /// Whether some form matches the cluster with this name and this alias. `Memory` only for want of
