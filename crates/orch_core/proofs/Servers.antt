@@ -20,7 +20,8 @@ use Rattle.server_model.specs.declared.server.Server.{Server}
 use Rattle.server_model.specs.Exchanges.{took, own_txn, write_answer, after_write, fetch_step, after_fetch, apply_step, after_apply}
 use Rattle.server_model.specs.Attach.{attach_answer, attached_to, after_attach}
 use Rattle.server_model.specs.Desk.{asked, befallen, rotated, desk_answer, rotate_answer, after_change, after_desk, after_rotate}
-use Rattle.server_model.specs.Run.{Exchange, Write, Fetch, Apply, Request, Befall, Rotate, Attach, after}
+use Rattle.server_model.specs.Gtids.{attach_auto_answer, after_attach_auto, attached_auto, auto_coord, uuids}
+use Rattle.server_model.specs.Run.{Exchange, Write, Fetch, Apply, Request, Befall, Rotate, Attach, AttachAuto, after}
 use Rattle.server_model.specs.Worlds.{World, server_at}
 use Rattle.openings.specs.Opening.{Opened}
 use Rattle.server_model.specs.Opening.{opened_world}
@@ -74,6 +75,11 @@ servers-attach w n to c None answer = refl
 servers-attach w n to c (Some s) (Ok t) = length-set w.servers n (attached_to to c s)
 servers-attach w n to c (Some s) (Err e) = refl
 
+servers-attach_auto : (w : World) (n : ℕ) (to : ServerNo) (o : Option Server) (answer : Result (Unit {0}) AttachFault) → length (after_attach_auto w n to o answer).servers ≡ length w.servers
+servers-attach_auto w n to None answer = refl
+servers-attach_auto w n to (Some s) (Ok t) = length-set w.servers n (attached_auto to (auto_coord (uuids w) s (server_at w to.0)) s)
+servers-attach_auto w n to (Some s) (Err e) = refl
+
 pub servers-after : (w : World) (e : Exchange) → length (after w e).servers ≡ length w.servers
 servers-after w (Write n size) = servers-write w n size (server_at w n) (write_answer n (server_at w n))
 servers-after w (Fetch n) = servers-fetch w n (server_at w n) (fetch_step w (server_at w n))
@@ -82,6 +88,7 @@ servers-after w (Request n a) = servers-ask w n a (desk_answer (server_at w n))
 servers-after w (Befall n e) = servers-change w n (befallen e) (server_at w n)
 servers-after w (Rotate n) = servers-rotate w n (server_at w n) (rotate_answer (server_at w n))
 servers-after w (Attach n expect to at) = servers-attach w n to at (server_at w n) (attach_answer w n expect to.0 (server_at w n))
+servers-after w (AttachAuto n observed to) = servers-attach_auto w n to (server_at w n) (attach_auto_answer w n observed to.0 (server_at w n))
 
 pub servers-opened : (o : Opened) (room flushes : ℕ) → length (opened_world o room flushes).servers ≡ length o.servers
 servers-opened o room flushes = length-opened_from o.servers room flushes 0 o.servers

@@ -1,4 +1,5 @@
 pub mod Turns
 pub mod Runs
 pub mod Scenarios
+pub mod Built
 pub mod StateBy

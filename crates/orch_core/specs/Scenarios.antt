@@ -1,5 +1,5 @@
 -- Scenarios, and the states with which their runs begin.
-use Rattle.std.specs.Prelude.{ℕ, ◌+◌, ◌*◌, ◌≤◌, List, [], ◌∷◌, length, All, count_by, max}
+use Rattle.std.specs.Prelude.{◌≡◌, ℕ, ◌+◌, ◌*◌, ◌≤◌, List, [], ◌∷◌, length, All, count_by, max}
 use Rattle.openings.specs.declared.init.ServerInit.{ServerInit}
 use Rattle.openings.specs.Opening.{IsChecked}
 use Rattle.server_model.specs.Opening.{opened_world}
@@ -21,14 +21,16 @@ longest_flushes (i ∷ is) = max (length i.flushes) (longest_flushes is)
 abbrev pub flushes_of : Scenario → ℕ
 flushes_of s = longest_flushes s.opening.servers + count_by is_rotate (exchanges_of s.turns)
 
--- The opening is checked, each turn is one of its servers', there are at most 1,000,000 turns, and the servers together
--- take room for at most 4,000,000 transactions.
+-- The opening is checked, each turn is one of its servers', there are at most 1,000,000 turns, the servers together take
+-- room for at most 4,000,000 transactions, and each filter list has an answer for each server.
 pub record IsScenario (s : Scenario) : Type 0 where
   pub checked : IsChecked s.opening
   pub moment : s.moment.0 ≤ 1000000000000000
   pub turns : All (IsTurn (length s.opening.servers)) s.turns
   pub few : length s.turns ≤ 1000000
   pub room : length s.opening.servers * room_of s ≤ 4000000
+  pub master : length s.filters.master.passes ≡ length s.opening.servers
+  pub intermediate : length s.filters.intermediate.passes ≡ length s.opening.servers
 
 -- the state with which the scenario's run begins
 abbrev pub start : Scenario → State

@@ -1,12 +1,16 @@
 //! A run over the servers, turn by turn: the world that the turns made, and the journal of what each answered.
 #![tactic(auto)]
 
+mod filters;
+mod format;
 mod laws;
 mod orch;
 mod room;
 mod scenario;
 mod turn;
 
+pub use filters::{Alias, Aliases, Answers, ClusterFilters, FilterList, Texts};
+pub use format::built;
 pub use laws::{
     every_quiet_state_is_safe, every_state_is_placed, full_never_comes, quiet_runs_were_quiet,
     skipped_never_comes,

@@ -2,7 +2,7 @@
 
 ghost use Rattle.std.specs.Prelude.{◌≡◌};
 
-use crate::Turn;
+use crate::{Aliases, ClusterFilters, Turn};
 use orch_base::Moment;
 use server_model::Opening;
 use std::marker::Model;
@@ -45,11 +45,14 @@ impl Turns {
     }
 }
 
-/// The servers as they begin, the moment, and the turns that follow.
+/// The servers as they begin, the moment, the clusters' aliases, whose recoveries may begin by themselves, and the turns
+/// that follow.
 #[derive(Drop)]
 pub struct Scenario {
     pub opening: Opening,
     /// When it begins: at most 1,000,000,000,000,000.
     pub moment: Moment,
+    pub aliases: Aliases,
+    pub filters: ClusterFilters,
     pub turns: Turns,
 }

@@ -1,0 +1,144 @@
+//! Which clusters a recovery may touch, as a scenario says.
+
+ghost use Rattle.std.specs.Prelude.{◌≡◌, map, string_bytes};
+
+use orch_base::Label;
+use std::marker::Model;
+
+/// A cluster's label, and the alias by which filters may name the cluster.
+#[derive(Drop)]
+pub struct Alias {
+    /// 1 to 261 bytes.
+    pub cluster: Label,
+    /// At most 255 bytes.
+    pub alias: Label,
+}
+
+/// Aliases by the bytes of their clusters' labels, which contracts see as that list.
+#[derive(Drop)]
+pub struct Aliases {
+    aliases: Vec<Alias>,
+}
+
+impl Model for Aliases {
+    ghost use Rattle.std.specs.Prelude.{List};
+    ghost use Rattle.orch_core.specs.declared.filters.Alias.{Alias as AnAlias};
+
+    ghost Value = { List AnAlias };
+
+    ghost view = { λ a. a.aliases.items };
+}
+
+impl Aliases {
+    /// These aliases. It takes no memory.
+    pub fn new(aliases: Vec<Alias>) -> Aliases
+        ensures { result ≡ aliases.items }
+    {
+        Aliases { aliases }
+    }
+
+    /// The aliases in order.
+    pub fn as_slice(&self) -> &[Alias]
+        ensures { result.now ≡ self.now }
+    {
+        &self.aliases
+    }
+
+    /// Gives the aliases back. It takes no memory.
+    pub fn into_vec(self) -> Vec<Alias>
+        ensures { result.items ≡ self }
+    {
+        self.aliases
+    }
+}
+
+/// Texts in order, which contracts see as the list of their bytes.
+#[derive(Drop)]
+pub struct Texts {
+    texts: Vec<String>,
+}
+
+impl Model for Texts {
+    ghost use Rattle.std.specs.Prelude.{List, ℕ, map, string_bytes};
+
+    ghost Value = { List (List ℕ) };
+
+    ghost view = { λ t. map string_bytes t.texts.items };
+}
+
+impl Texts {
+    /// These texts. It takes no memory.
+    pub fn new(texts: Vec<String>) -> Texts
+        ensures { result ≡ map string_bytes texts.items }
+    {
+        Texts { texts }
+    }
+
+    /// The texts in order.
+    pub fn as_slice(&self) -> &[String]
+        ensures { map string_bytes result.now ≡ self.now }
+    {
+        &self.texts
+    }
+
+    /// Gives the texts back. It takes no memory.
+    pub fn into_vec(self) -> Vec<String>
+        ensures { map string_bytes result.items ≡ self }
+    {
+        self.texts
+    }
+}
+
+/// One answer for each server, which contracts see as that list.
+#[derive(Drop)]
+pub struct Answers {
+    answers: Vec<bool>,
+}
+
+impl Model for Answers {
+    ghost use Rattle.std.specs.Prelude.{List, Bool};
+
+    ghost Value = { List Bool };
+
+    ghost view = { λ a. a.answers.items };
+}
+
+impl Answers {
+    /// These answers. It takes no memory.
+    pub fn new(answers: Vec<bool>) -> Answers
+        ensures { result ≡ answers.items }
+    {
+        Answers { answers }
+    }
+
+    /// The answers by the servers' numbers.
+    pub fn as_slice(&self) -> &[bool]
+        ensures { result.now ≡ self.now }
+    {
+        &self.answers
+    }
+
+    /// Gives the answers back. It takes no memory.
+    pub fn into_vec(self) -> Vec<bool>
+        ensures { result.items ≡ self }
+    {
+        self.answers
+    }
+}
+
+/// A list of filters over clusters.
+#[derive(Drop)]
+pub struct FilterList {
+    /// The filters as the scenario writes them.
+    pub texts: Texts,
+    /// For each server whether its cluster passes the list.
+    pub passes: Answers,
+}
+
+/// Whose recoveries may begin by themselves: the filters over dead masters' clusters, and those over dead intermediate
+/// masters' clusters (RecoverMasterClusterFilters, RecoverIntermediateMasterClusterFilters).
+#[derive(Drop)]
+pub struct ClusterFilters {
+    pub master: FilterList,
+    pub intermediate: FilterList,
+}
