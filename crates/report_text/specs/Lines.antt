@@ -1,0 +1,87 @@
+-- The line of a turn with its reply.
+use Rattle.std.specs.Prelude.{ℕ, ◌+◌, List, [], ◌∷◌, ◌++◌, codes, decimal, slice_get, Option, Some, None}
+use Rattle.orch_base.specs.Names.{HostPort, printed}
+use Rattle.orch_base.specs.declared.server.ServerNo.{ServerNo}
+use Rattle.binlog_coords.specs.Text.{coord_text}
+use Rattle.server_model.specs.declared.answers.WriteAnswer.{WriteAnswer}
+use Rattle.server_model.specs.declared.answers.WriteAnswer.TheVariants as wrote
+use Rattle.server_model.specs.declared.answers.FetchAnswer.{FetchAnswer}
+use Rattle.server_model.specs.declared.answers.FetchAnswer.TheVariants as fetched
+use Rattle.server_model.specs.declared.answers.ApplyAnswer.{ApplyAnswer}
+use Rattle.server_model.specs.declared.answers.ApplyAnswer.TheVariants as applied
+use Rattle.server_model.specs.declared.answers.RotateAnswer.{RotateAnswer}
+use Rattle.server_model.specs.declared.answers.RotateAnswer.TheVariants as rotated
+use Rattle.server_model.specs.declared.changes.Link.{Link}
+use Rattle.server_model.specs.declared.changes.Link.TheVariants as link
+use Rattle.orch_core.specs.declared.turn.Turn.{Turn}
+use Rattle.orch_core.specs.declared.turn.Turn.TheVariants as turn
+use Rattle.orch_core.specs.declared.turn.Reply.{Reply}
+use Rattle.orch_core.specs.declared.turn.Reply.TheVariants as answered
+
+abbrev pub printed_at : Option HostPort → List ℕ
+printed_at None = []
+printed_at (Some name) = printed name
+
+-- the name of the server of this number
+abbrev pub name_text : List HostPort → ServerNo → List ℕ
+name_text names n = printed_at (slice_get names n.0)
+
+abbrev pub link_text : Link → List ℕ
+link_text link.Desk = codes "desk"
+link_text link.Feed = codes "feed"
+
+abbrev pub words_text : List HostPort → Turn → List ℕ
+words_text names (turn.Write n size) = codes "write " ++ name_text names n ++ codes " " ++ decimal size
+words_text names (turn.Fetch n) = codes "fetch " ++ name_text names n
+words_text names (turn.Apply n) = codes "apply " ++ name_text names n
+words_text names (turn.Fail n) = codes "fail " ++ name_text names n
+words_text names (turn.Heal n) = codes "heal " ++ name_text names n
+words_text names (turn.Cut n link) = codes "cut " ++ name_text names n ++ codes " " ++ link_text link
+words_text names (turn.Join n link) = codes "join " ++ name_text names n ++ codes " " ++ link_text link
+words_text names (turn.Rotate n) = codes "rotate " ++ name_text names n
+words_text names (turn.Tick seconds) = codes "tick " ++ decimal seconds
+
+abbrev pub write_text : WriteAnswer → List ℕ
+write_text (wrote.Done seq) = codes "done " ++ decimal seq
+write_text wrote.Down = codes "down"
+write_text wrote.ReadOnly = codes "read only"
+write_text wrote.Full = codes "full"
+
+abbrev pub fetch_text : FetchAnswer → List ℕ
+fetch_text (fetched.Got c) = codes "got " ++ coord_text c
+fetch_text (fetched.Rotated c) = codes "rotated " ++ coord_text c
+fetch_text fetched.Nothing = codes "nothing"
+fetch_text fetched.Stopped = codes "stopped"
+fetch_text fetched.NoLink = codes "no link"
+
+abbrev pub apply_text : ApplyAnswer → List ℕ
+apply_text (applied.Done c) = codes "done " ++ coord_text c
+apply_text (applied.Skipped c) = codes "skipped " ++ coord_text c
+apply_text (applied.Rotated c) = codes "rotated " ++ coord_text c
+apply_text applied.Nothing = codes "nothing"
+apply_text applied.Stopped = codes "stopped"
+apply_text applied.AtUntil = codes "at until"
+apply_text applied.Full = codes "full"
+
+abbrev pub rotate_text : RotateAnswer → List ℕ
+rotate_text (rotated.Done c) = codes "done " ++ coord_text c
+rotate_text rotated.Down = codes "down"
+rotate_text rotated.NotLogging = codes "not logging"
+rotate_text rotated.Full = codes "full"
+
+abbrev pub answer_text : Reply → List ℕ
+answer_text (answered.Write a) = write_text a
+answer_text (answered.Fetch a) = fetch_text a
+answer_text (answered.Apply a) = apply_text a
+answer_text answered.Done = codes "done"
+answer_text (answered.Rotate a) = rotate_text a
+answer_text (answered.Now t) = codes "now " ++ decimal t.0
+
+-- N WORDS: REPLY
+unfoldable pub line_text : List HostPort → ℕ → Turn → Reply → List ℕ
+line_text names number t r = decimal number ++ codes " " ++ words_text names t ++ codes ": " ++ answer_text r ++ codes "\n"
+
+-- a line for each turn with its reply, numbered from this number on
+abbrev pub lines_text : List HostPort → ℕ → List (Turn × Reply) → List ℕ
+lines_text names number [] = []
+lines_text names number (e ∷ es) = line_text names number e.0 e.1 ++ lines_text names (number + 1) es

@@ -1,0 +1,87 @@
+-- The tables: a line for each server, and how many writes servers with a source accepted.
+use Rattle.std.specs.Prelude.{ℕ, Bool, List, [], ◌∷◌, ◌++◌, length, codes, decimal, Option, Some, None, if◌then◌else◌}
+use Rattle.orch_base.specs.Names.{HostPort, printed}
+use Rattle.orch_base.specs.declared.server.SourceState.{SourceState}
+use Rattle.orch_base.specs.declared.server.SourceState.TheVariants.{Without, Attached, Detached}
+use Rattle.binlog_coords.specs.declared.Coord.{Coord}
+use Rattle.binlog_coords.specs.Index.{Index}
+use Rattle.binlog_coords.specs.Log.{end_of}
+use Rattle.binlog_coords.specs.Text.{coord_text}
+use Rattle.server_model.specs.declared.plain.Plain.{Plain}
+use Rattle.server_model.specs.declared.server.Server.{Server}
+use Rattle.server_model.specs.Plains.{plain_of, log_of}
+use Rattle.server_model.specs.Worlds.{World, server_at}
+
+abbrev pub up_text : Bool → List ℕ
+up_text up = if up then codes "up" else codes "down"
+
+-- read-only or writable
+abbrev pub mode_text : Bool → List ℕ
+mode_text read_only = if read_only then codes "ro" else codes "rw"
+
+abbrev pub on_text : Bool → List ℕ
+on_text on = if on then codes "on" else codes "off"
+
+-- where a log ends
+abbrev pub end_text : Option Index → List ℕ
+end_text None = codes "none"
+end_text (Some index) = coord_text (end_of index.log)
+
+abbrev pub until_text : Option Coord → List ℕ
+until_text None = []
+until_text (Some c) = codes " until " ++ coord_text c
+
+abbrev pub auto_text : Bool → List ℕ
+auto_text auto = if auto then codes " auto" else []
+
+-- at C read C
+abbrev pub places_text : Plain → List ℕ
+places_text p = codes " at " ++ coord_text p.exec ++ codes " read " ++ coord_text p.read
+
+-- io on|off sql on|off[ until C][ auto]
+abbrev pub threads_text : Plain → List ℕ
+threads_text p = codes " io " ++ on_text p.receiver ++ codes " sql " ++ on_text p.applier ++ until_text p.until ++ auto_text p.auto
+
+-- where a replica stands in its source's log
+abbrev pub standing_text : Plain → List ℕ
+standing_text p = places_text p ++ threads_text p
+
+abbrev pub name_text : Option Server → List ℕ
+name_text None = []
+name_text (Some s) = printed s.settings.name
+
+-- none, or the source's name and where the replica stands in its log
+abbrev pub source_text : World → Plain → SourceState → List ℕ
+source_text w p Without = codes "none"
+source_text w p (Attached m) = name_text (server_at w m.0) ++ standing_text p
+source_text w p (Detached m) = name_text (server_at w m.0) ++ codes " detached" ++ standing_text p
+
+-- server NAME up|down rw|ro
+abbrev pub state_text : HostPort → Plain → List ℕ
+state_text name p = codes "server " ++ printed name ++ codes " " ++ up_text p.up ++ codes " " ++ mode_text p.read_only
+
+-- executed N end C|none
+abbrev pub log_text : ℕ → Option Index → List ℕ
+log_text executed log = codes " executed " ++ decimal executed ++ codes " end " ++ end_text log
+
+-- server NAME up|down rw|ro executed N end C|none source ..
+abbrev pub told_text : World → HostPort → Plain → ℕ → Option Index → List ℕ
+told_text w name p executed log =
+    state_text name p ++ log_text executed log ++ codes " source " ++ source_text w p p.source ++ codes "\n"
+
+-- the line of a server
+abbrev pub server_text : World → Server → List ℕ
+server_text w s = told_text w s.settings.name (plain_of s) (length s.history.txns) (log_of s)
+
+abbrev pub line_at : World → Option Server → List ℕ
+line_at w None = []
+line_at w (Some s) = server_text w s
+
+-- a line for each of these servers
+abbrev pub servers_text : World → List Server → List ℕ
+servers_text w [] = []
+servers_text w (s ∷ rest) = server_text w s ++ servers_text w rest
+
+-- a line for each server in order, then the count of errant writes
+abbrev pub tables_text : World → List ℕ
+tables_text w = servers_text w w.servers ++ codes "errant " ++ decimal w.errant ++ codes "\n"

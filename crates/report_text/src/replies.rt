@@ -1,0 +1,191 @@
+//! The line of a turn with its reply.
+
+ghost use Rattle.std.specs.Prelude.{◌≡◌, ◌++◌, codes, OnOk, OnErr};
+ghost use Rattle.report_text.specs.Lines.{name_text, link_text, words_text, write_text, fetch_text, apply_text, rotate_text, answer_text, line_text};
+ghost use Rattle.binlog_coords.specs.Text.{coord_text};
+
+use crate::number::print_number;
+use binlog_coords::{Coord, print_coord};
+use orch_base::{Memory, Name, ServerNo};
+use orch_core::{Reply, Turn};
+use server_model::{ApplyAnswer, FetchAnswer, Link, RotateAnswer, WriteAnswer};
+
+fn print_name(names: &[Name], no: ServerNo, out: &mut Vec<u8>) -> Result<(), Memory>
+    ensures { OnOk result (out.new.items ≡ out.old.items ++ name_text names.now no) }
+{
+    match names.get(no.0 as usize) {
+        Some(name) => name.print(out),
+        None => Ok(()),
+    }
+}
+
+// The word, a space and the server's name.
+fn print_at_server(
+    word: &[u8],
+    names: &[Name],
+    no: ServerNo,
+    out: &mut Vec<u8>,
+) -> Result<(), Memory>
+    ensures { OnOk result (out.new.items ≡ out.old.items ++ (word.now ++ name_text names.now no)) }
+{
+    out.extend_from_slice(word)?;
+    print_name(names, no, out)
+}
+
+fn link_word(link: Link) -> &'static [u8]
+    ensures { result.now ≡ link_text link }
+{
+    match link {
+        Link::Desk => b"desk",
+        Link::Feed => b"feed",
+    }
+}
+
+// The word, a space, the server's name, a space and the link.
+fn print_link(
+    word: &[u8],
+    names: &[Name],
+    no: ServerNo,
+    link: Link,
+    out: &mut Vec<u8>,
+) -> Result<(), Memory>
+    ensures { OnOk result (out.new.items ≡ out.old.items ++ (word.now ++ name_text names.now no ++ codes " " ++ link_text link)) }
+{
+    print_at_server(word, names, no, out)?;
+    out.extend_from_slice(b" ")?;
+    out.extend_from_slice(link_word(link))
+}
+
+fn print_words(t: Turn, names: &[Name], out: &mut Vec<u8>) -> Result<(), Memory>
+    ensures { OnOk result (out.new.items ≡ out.old.items ++ words_text names.now t) }
+{
+    match t {
+        Turn::Write(no, size) => {
+            out.extend_from_slice(b"write ")?;
+            print_name(names, no, out)?;
+            out.extend_from_slice(b" ")?;
+            print_number(u64::from(size), out)
+        }
+        Turn::Fetch(no) => print_at_server(b"fetch ", names, no, out),
+        Turn::Apply(no) => print_at_server(b"apply ", names, no, out),
+        Turn::Fail(no) => print_at_server(b"fail ", names, no, out),
+        Turn::Heal(no) => print_at_server(b"heal ", names, no, out),
+        Turn::Cut(no, link) => print_link(b"cut ", names, no, link, out),
+        Turn::Join(no, link) => print_link(b"join ", names, no, link, out),
+        Turn::Rotate(no) => print_at_server(b"rotate ", names, no, out),
+        Turn::Tick(seconds) => {
+            out.extend_from_slice(b"tick ")?;
+            print_number(seconds, out)
+        }
+    }
+}
+
+fn print_write(answer: WriteAnswer, out: &mut Vec<u8>) -> Result<(), Memory>
+    ensures { OnOk result (out.new.items ≡ out.old.items ++ write_text answer) }
+{
+    match answer {
+        WriteAnswer::Done(seq) => {
+            out.extend_from_slice(b"done ")?;
+            print_number(seq, out)
+        }
+        WriteAnswer::Down => out.extend_from_slice(b"down"),
+        WriteAnswer::ReadOnly => out.extend_from_slice(b"read only"),
+        WriteAnswer::Full => out.extend_from_slice(b"full"),
+    }
+}
+
+// The word, a space and the coordinate.
+fn print_at(word: &[u8], c: Coord, out: &mut Vec<u8>) -> Result<(), Memory>
+    ensures { OnOk result (out.new.items ≡ out.old.items ++ (word.now ++ coord_text c)) }
+{
+    out.extend_from_slice(word)?;
+    print_coord(c, out)
+}
+
+fn print_fetch(answer: FetchAnswer, out: &mut Vec<u8>) -> Result<(), Memory>
+    ensures { OnOk result (out.new.items ≡ out.old.items ++ fetch_text answer) }
+{
+    match answer {
+        FetchAnswer::Got(c) => print_at(b"got ", c, out),
+        FetchAnswer::Rotated(c) => print_at(b"rotated ", c, out),
+        FetchAnswer::Nothing => out.extend_from_slice(b"nothing"),
+        FetchAnswer::Stopped => out.extend_from_slice(b"stopped"),
+        FetchAnswer::NoLink => out.extend_from_slice(b"no link"),
+    }
+}
+
+fn print_apply(answer: ApplyAnswer, out: &mut Vec<u8>) -> Result<(), Memory>
+    ensures { OnOk result (out.new.items ≡ out.old.items ++ apply_text answer) }
+{
+    match answer {
+        ApplyAnswer::Done(c) => print_at(b"done ", c, out),
+        ApplyAnswer::Skipped(c) => print_at(b"skipped ", c, out),
+        ApplyAnswer::Rotated(c) => print_at(b"rotated ", c, out),
+        ApplyAnswer::Nothing => out.extend_from_slice(b"nothing"),
+        ApplyAnswer::Stopped => out.extend_from_slice(b"stopped"),
+        ApplyAnswer::AtUntil => out.extend_from_slice(b"at until"),
+        ApplyAnswer::Full => out.extend_from_slice(b"full"),
+    }
+}
+
+fn print_rotate(answer: RotateAnswer, out: &mut Vec<u8>) -> Result<(), Memory>
+    ensures { OnOk result (out.new.items ≡ out.old.items ++ rotate_text answer) }
+{
+    match answer {
+        RotateAnswer::Done(c) => print_at(b"done ", c, out),
+        RotateAnswer::Down => out.extend_from_slice(b"down"),
+        RotateAnswer::NotLogging => out.extend_from_slice(b"not logging"),
+        RotateAnswer::Full => out.extend_from_slice(b"full"),
+    }
+}
+
+fn print_answer(r: Reply, out: &mut Vec<u8>) -> Result<(), Memory>
+    ensures { OnOk result (out.new.items ≡ out.old.items ++ answer_text r) }
+{
+    match r {
+        Reply::Write(answer) => print_write(answer, out),
+        Reply::Fetch(answer) => print_fetch(answer, out),
+        Reply::Apply(answer) => print_apply(answer, out),
+        Reply::Done => out.extend_from_slice(b"done"),
+        Reply::Rotate(answer) => print_rotate(answer, out),
+        Reply::Now(now) => {
+            out.extend_from_slice(b"now ")?;
+            print_number(now.0, out)
+        }
+    }
+}
+
+#[tactic(auto, unfolding(crate::specs::Lines::line_text))]
+fn print_line(
+    number: u64,
+    t: Turn,
+    r: Reply,
+    names: &[Name],
+    out: &mut Vec<u8>,
+) -> Result<(), Memory>
+    ensures { OnOk result (out.new.items ≡ out.old.items ++ line_text names.now number t r) }
+{
+    print_number(number, out)?;
+    out.extend_from_slice(b" ")?;
+    print_words(t, names, out)?;
+    out.extend_from_slice(b": ")?;
+    print_answer(r, out)?;
+    out.extend_from_slice(b"\n")
+}
+
+/// Appends the line of a turn with its reply: the number, the turn's words, `: ` and the reply; or nothing at want of
+/// memory. A server has its name in `names` by its number.
+pub fn reply_text(
+    number: u64,
+    t: &Turn,
+    r: &Reply,
+    names: &[Name],
+    out: &mut Vec<u8>,
+) -> Result<(), Memory>
+    ensures ok { OnOk result (out.new.items ≡ out.old.items ++ line_text names.now number t.now r.now) }
+    ensures err { OnErr result (out.new.items ≡ out.old.items) }
+{
+    let mut line = Vec::new(*out.allocator());
+    print_line(number, *t, *r, names, &mut line)?;
+    out.append(&mut line)
+}

@@ -1,0 +1,164 @@
+//! The tables.
+
+ghost use Rattle.std.specs.Prelude.{◌≡◌, ◌++◌, ◌<◌, length, OnOk, OnErr};
+ghost use Rattle.std.specs.Option.{option_copied};
+ghost use Rattle.server_model.specs.Worlds.{server_at};
+ghost use Rattle.report_text.specs.Tables.{up_text, mode_text, on_text, end_text, until_text, auto_text, places_text, threads_text, standing_text, name_text, source_text, state_text, log_text, line_at, tables_text};
+
+use crate::number::print_number;
+use binlog_coords::{Coord, LogIndex, print_coord};
+use orch_base::{Memory, Name, ServerNo, SourceState};
+use server_model::{Plain, World};
+
+fn up_word(up: bool) -> &'static [u8]
+    ensures { result.now ≡ up_text up }
+{
+    if up { b"up" } else { b"down" }
+}
+
+fn mode_word(read_only: bool) -> &'static [u8]
+    ensures { result.now ≡ mode_text read_only }
+{
+    if read_only { b"ro" } else { b"rw" }
+}
+
+fn on_word(on: bool) -> &'static [u8]
+    ensures { result.now ≡ on_text on }
+{
+    if on { b"on" } else { b"off" }
+}
+
+fn auto_word(auto: bool) -> &'static [u8]
+    ensures { result.now ≡ auto_text auto }
+{
+    if auto { b" auto" } else { b"" }
+}
+
+fn print_end(log: Option<&LogIndex>, out: &mut Vec<u8>) -> Result<(), Memory>
+    ensures { OnOk result (out.new.items ≡ out.old.items ++ end_text (option_copied log.entry)) }
+{
+    match log {
+        Some(log) => print_coord(log.end(), out),
+        None => out.extend_from_slice(b"none"),
+    }
+}
+
+fn print_until(until: Option<Coord>, out: &mut Vec<u8>) -> Result<(), Memory>
+    ensures { OnOk result (out.new.items ≡ out.old.items ++ until_text until) }
+{
+    match until {
+        Some(coord) => {
+            out.extend_from_slice(b" until ")?;
+            print_coord(coord, out)
+        }
+        None => Ok(()),
+    }
+}
+
+fn print_places(plain: &Plain, out: &mut Vec<u8>) -> Result<(), Memory>
+    ensures { OnOk result (out.new.items ≡ out.old.items ++ places_text plain.now) }
+{
+    out.extend_from_slice(b" at ")?;
+    print_coord(plain.exec, out)?;
+    out.extend_from_slice(b" read ")?;
+    print_coord(plain.read, out)
+}
+
+fn print_threads(plain: &Plain, out: &mut Vec<u8>) -> Result<(), Memory>
+    ensures { OnOk result (out.new.items ≡ out.old.items ++ threads_text plain.now) }
+{
+    out.extend_from_slice(b" io ")?;
+    out.extend_from_slice(on_word(plain.receiver))?;
+    out.extend_from_slice(b" sql ")?;
+    out.extend_from_slice(on_word(plain.applier))?;
+    print_until(plain.until, out)?;
+    out.extend_from_slice(auto_word(plain.auto))
+}
+
+fn print_standing(plain: &Plain, out: &mut Vec<u8>) -> Result<(), Memory>
+    ensures { OnOk result (out.new.items ≡ out.old.items ++ standing_text plain.now) }
+{
+    print_places(plain, out)?;
+    print_threads(plain, out)
+}
+
+fn print_name(world: &World, no: ServerNo, out: &mut Vec<u8>) -> Result<(), Memory>
+    ensures { OnOk result (out.new.items ≡ out.old.items ++ name_text (server_at world.now no.0)) }
+{
+    if no.0 >= world.servers() {
+        return Ok(());
+    }
+    world.settings(no).name.print(out)
+}
+
+fn print_source(world: &World, plain: &Plain, out: &mut Vec<u8>) -> Result<(), Memory>
+    ensures { OnOk result (out.new.items ≡ out.old.items ++ source_text world.now plain.now plain.now.source) }
+{
+    match plain.source {
+        SourceState::Without => out.extend_from_slice(b"none"),
+        SourceState::Attached(source) => {
+            print_name(world, source, out)?;
+            print_standing(plain, out)
+        }
+        SourceState::Detached(source) => {
+            print_name(world, source, out)?;
+            out.extend_from_slice(b" detached")?;
+            print_standing(plain, out)
+        }
+    }
+}
+
+fn print_state(name: &Name, plain: &Plain, out: &mut Vec<u8>) -> Result<(), Memory>
+    ensures { OnOk result (out.new.items ≡ out.old.items ++ state_text name.now plain.now) }
+{
+    out.extend_from_slice(b"server ")?;
+    name.print(out)?;
+    out.extend_from_slice(b" ")?;
+    out.extend_from_slice(up_word(plain.up))?;
+    out.extend_from_slice(b" ")?;
+    out.extend_from_slice(mode_word(plain.read_only))
+}
+
+fn print_log(executed: u64, log: Option<&LogIndex>, out: &mut Vec<u8>) -> Result<(), Memory>
+    ensures { OnOk result (out.new.items ≡ out.old.items ++ log_text executed (option_copied log.entry)) }
+{
+    out.extend_from_slice(b" executed ")?;
+    print_number(executed, out)?;
+    out.extend_from_slice(b" end ")?;
+    print_end(log, out)
+}
+
+#[tactic(auto, using(crate::proofs::ServerLines::told_is_line))]
+fn print_server(world: &World, no: ServerNo, out: &mut Vec<u8>) -> Result<(), Memory>
+    requires { no.0 < length world.now.servers }
+    ensures { OnOk result (out.new.items ≡ out.old.items ++ line_at world.now (server_at world.now no.0)) }
+{
+    let plain = world.plain(no);
+    print_state(&world.settings(no).name, &plain, out)?;
+    print_log(world.executed(no), world.log(no), out)?;
+    out.extend_from_slice(b" source ")?;
+    print_source(world, &plain, out)?;
+    out.extend_from_slice(b"\n")
+}
+
+fn print_tables(world: &World, out: &mut Vec<u8>) -> Result<(), Memory>
+    ensures { OnOk result (out.new.items ≡ out.old.items ++ tables_text world.now) }
+{
+    for no in 0..world.servers() {
+        print_server(world, ServerNo(no), out)?;
+    }
+    out.extend_from_slice(b"errant ")?;
+    print_number(world.errant(), out)?;
+    out.extend_from_slice(b"\n")
+}
+
+/// Appends a line for each server in the world's order, and then how many writes servers with a source accepted; or
+/// nothing at want of memory.
+pub fn tables(world: &World, out: &mut Vec<u8>) -> Result<(), Memory>
+    ensures ok { OnOk result (out.new.items ≡ out.old.items ++ tables_text world.now) }
+    ensures err { OnErr result (out.new.items ≡ out.old.items) }
+{
+    let mut lines = Vec::new(*out.allocator());
+    print_tables(world, &mut lines)?;
+    out.append(&mut lines)
+}
