@@ -1,0 +1,5 @@
+pub mod Unders
+pub mod Escapes
+pub mod Keys
+pub mod Texts
+pub mod Each

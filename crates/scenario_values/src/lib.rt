@@ -1,0 +1,19 @@
+//! Single values of a scenario's JSON text, and the faults of reading them with their places.
+#![tactic(auto)]
+
+mod fault;
+mod field;
+mod key;
+#[cfg(test)]
+mod tests;
+mod value;
+
+pub use fault::{Fault, FaultCode, Path, ReadFault, fails, holds, under, under_item};
+pub use field::{
+    bool_at, maybe_bool, maybe_coord, maybe_label, number_at, unbuilt, version_at, whole_at,
+};
+pub use key::only_keys;
+pub use value::{
+    bool_in, coord_in, items_in, label_in, label_or_fails, members_in, name_in, number_in, text_in,
+    text_within, uuid_in, version_in, whole_in,
+};
