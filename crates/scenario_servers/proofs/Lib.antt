@@ -1,0 +1,11 @@
+pub mod Apartness
+pub mod Counts
+pub mod Faults
+pub mod NameTables
+pub mod PassedFlaws
+pub mod Printed
+pub mod Reading
+pub mod ServerSteps
+pub mod Steps
+pub mod UuidLists
+pub mod Zipped

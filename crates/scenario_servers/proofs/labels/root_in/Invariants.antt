@@ -1,0 +1,8 @@
+use Rattle.std.proofs.Common.{◌≡◌, ◌-◌, length}
+use Rattle.std.specs.Prelude.{slice_get}
+use Rattle.openings.specs.Servers.{reached_from}
+use Rattle.scenario_servers.specs.Openings.{root_in, source_in}
+use Rattle.scenario_servers.proofs.labels.root_in.Given as goal
+
+abbrev pub invariant-loop : goal.invariant-loop
+invariant-loop l = reached_from (λ m. source_in (slice_get l.given m)) (length l.given - l.counter) l.at ≡ root_in l.given l.n

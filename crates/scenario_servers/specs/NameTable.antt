@@ -1,0 +1,18 @@
+-- A table of the first server of each name, beside the list of all names.
+use Rattle.std.specs.Prelude.{◌≡◌, ℕ, List, if◌then◌else◌, Option, Some, None}
+use Rattle.std.specs.BTreeMap.{BTreeMap, get}
+use Rattle.std.specs.Option.{option_or}
+use Rattle.orch_base.specs.Names.{HostPort, name_cmp}
+use Rattle.scenario_servers.specs.declared.names.NameKey.{NameKey}
+use Rattle.scenario_servers.specs.Names.{is_named, first_named}
+
+-- the number that a table has at a name
+abbrev pub number_at : BTreeMap NameKey ℕ → HostPort → Option ℕ
+number_at table name = get (λ (a b : NameKey). name_cmp a.0 b.0) table (record { 0 = name })
+
+abbrev pub IsTableOf : BTreeMap NameKey ℕ → List (Option HostPort) → Type 0
+IsTableOf table listed = (name : HostPort) → number_at table name ≡ first_named name 0 listed
+
+-- the number stands at the name, unless another did, and nothing else changed
+pub record AddsName (old new : BTreeMap NameKey ℕ) (added : Option HostPort) (number : ℕ) : Type 0 where
+  pub found : (name : HostPort) → number_at new name ≡ option_or (number_at old name) (if is_named name added then Some number else None)

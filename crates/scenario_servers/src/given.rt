@@ -1,0 +1,56 @@
+//! One server as the text gives it, with the defaults that need no other server.
+
+use binlog_coords::Coord;
+use openings::{Counts, Parts};
+use orch_base::{Label, Name, ServerNo, Version};
+
+/// Who a server is.
+#[derive(Drop)]
+pub struct Identity {
+    pub name: Name,
+    pub uuid: u128,
+    pub server_id: u32,
+    pub version: Version,
+    /// The cluster's label; where it isn't given, that of the root of the server's tree.
+    pub cluster: Option<Label>,
+}
+
+/// How a server is set up, and what reaches it.
+#[derive(Clone, Copy)]
+pub struct Setup {
+    pub logs: bool,
+    /// Whether the server refuses ordinary clients' writes.
+    pub read_only: bool,
+    /// After how many bytes a file of the log is full.
+    pub limit: u64,
+    pub up: bool,
+    pub desk: bool,
+    pub feed: bool,
+}
+
+/// How a server replicates.
+#[derive(Clone, Copy)]
+pub struct Replication {
+    pub executed: u64,
+    pub at: Option<Coord>,
+    pub read: Option<Coord>,
+    /// Whether the receiver is on; where it isn't given, it is where the server isn't detached.
+    pub io: Option<bool>,
+    /// Whether the applier is on; where it isn't given, it is where the server isn't detached.
+    pub sql: Option<bool>,
+    /// Whether the server finds its place by GTIDs (SOURCE_AUTO_POSITION).
+    pub auto: bool,
+    pub detached: bool,
+    pub until: Option<Coord>,
+}
+
+/// A server as the text gives it.
+#[derive(Drop)]
+pub struct Given {
+    pub identity: Identity,
+    pub setup: Setup,
+    pub history: Option<Parts>,
+    pub source: Option<ServerNo>,
+    pub replication: Replication,
+    pub flushes: Counts,
+}

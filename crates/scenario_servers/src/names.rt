@@ -1,0 +1,171 @@
+//! The names of a scenario's servers, and the servers that texts name.
+
+ghost use Rattle.std.specs.Prelude.{◌≡◌, ◌≤◌, ◌==◌, Some, IfOk, OnOk, length, option_map};
+ghost use Rattle.std.proofs.Common.{rules};
+ghost use Rattle.std.specs.Cmp.{partial_order_from_own_ties};
+ghost use Rattle.std.specs.Cmp.Lexicographic.{slice_cmp, pointwise};
+ghost use Rattle.std.specs.Cmp.Rules.{comparing};
+ghost use Rattle.std.specs.Ordering.{nat_cmp, on, then_cmp, eq_of_both, as_partial_cmp};
+ghost use Rattle.orch_base.specs.Gives.{Gives};
+ghost use Rattle.serde_json.specs.View.{view, items_view};
+ghost use Rattle.scenario_values.specs.Faults.{fault_of};
+ghost use Rattle.scenario_servers.specs.Names.{listed_name, listed_names, first_named, server_named, own_name};
+ghost use Rattle.scenario_servers.specs.NameTable.{AddsName};
+
+use orch_base::{Memory, Name, NameFault, ServerNo};
+use scenario_values::{FaultCode, ReadFault, fails, name_in};
+use serde_json::Value;
+use std::alloc::Global;
+use std::cmp::Ordering;
+use std::collections::BTreeMap;
+use std::marker::Model;
+
+// A name, in the order of names.
+#[derive(Drop)]
+struct NameKey(Name);
+
+impl PartialEq for NameKey {
+    ghost eq = { eq_of_both (on (λ k. k.0.host) (pointwise ◌==◌)) (on (λ k. k.0.port) ◌==◌) };
+
+    ghost laws = { Prim.search (comparing, rules) depth 9 };
+
+    fn eq(&self, other: &NameKey) -> bool {
+        self.0.is_same(&other.0)
+    }
+}
+
+impl Eq for NameKey {
+    ghost laws = { Prim.search (comparing, rules) depth 9 };
+}
+
+impl PartialOrd for NameKey {
+    ghost partial_cmp = { as_partial_cmp (then_cmp (on (λ k. k.0.host) (slice_cmp nat_cmp)) (on (λ k. k.0.port) nat_cmp)) };
+
+    ghost laws = { partial_order_from_own_ties (Prim.search (comparing, rules) depth 9) (Prim.search (comparing, rules) depth 9) };
+
+    fn partial_cmp(&self, other: &NameKey) -> Option<Ordering> {
+        Some(self.cmp(other))
+    }
+}
+
+impl Ord for NameKey {
+    ghost cmp = { then_cmp (on (λ k. k.0.host) (slice_cmp nat_cmp)) (on (λ k. k.0.port) nat_cmp) };
+
+    ghost total = { Prim.search (comparing, rules) depth 9 };
+
+    ghost matches_partial_cmp = { Prim.search (comparing, rules) depth 9 };
+
+    ghost matches_eq = { Prim.search (comparing, rules) depth 9 };
+
+    fn cmp(&self, other: &NameKey) -> Ordering {
+        self.0.compare(&other.0)
+    }
+}
+
+/// The names that a scenario's servers are listed with, each if it reads. It is searched by halves.
+#[derive(Drop)]
+pub struct Names {
+    listed: Vec<Option<Name>>,
+    numbers: BTreeMap<NameKey, u32>,
+}
+
+impl Model for Names {
+    ghost use Rattle.std.specs.Prelude.{List, Option};
+    ghost use Rattle.orch_base.specs.Names.{HostPort};
+    ghost use Rattle.scenario_servers.specs.NameTable.{IsTableOf};
+
+    ghost Value = { List (Option HostPort) };
+
+    ghost view = { λ n. n.listed.items };
+
+    ghost invariant = { λ n. IsTableOf n.numbers n.listed.items };
+}
+
+// The name that a server is listed with, if it reads.
+fn listed_name(alloc: Global, value: &Value) -> Result<Option<Name>, Memory>
+    ensures { IfOk result (λ name. name ≡ listed_name (view value.now)) }
+{
+    let Some(named) = value.get("name") else {
+        return Ok(None);
+    };
+    let Some(text) = named.as_str() else {
+        return Ok(None);
+    };
+    match Name::read(alloc, text) {
+        Ok(name) => Ok(Some(name)),
+        Err(NameFault::Memory) => Err(Memory),
+        Err(_) => Ok(None),
+    }
+}
+
+// Tables the number of a server, unless it has no name or an earlier one has it.
+fn add_name(
+    alloc: Global,
+    numbers: &mut BTreeMap<NameKey, u32>,
+    name: Option<&Name>,
+    number: u32,
+) -> Result<(), Memory>
+    ensures { OnOk result (AddsName numbers.old numbers.new (option_map (λ n. n.now) name.entry) number) }
+{
+    let Some(name) = name else {
+        return Ok(());
+    };
+    let key = NameKey(name.copy(alloc)?);
+    if !numbers.contains_key(&key) {
+        numbers.insert(key, number)?;
+    }
+    Ok(())
+}
+
+impl Names {
+    /// The names of the servers that are listed, of which there are at most 1,000.
+    pub fn of(alloc: Global, items: &[Value]) -> Result<Names, Memory>
+        requires { length items.now ≤ 1000 }
+        ensures { IfOk result (λ n. n ≡ listed_names (items_view items.now)) }
+    {
+        let mut listed = Vec::new(alloc);
+        let mut numbers = BTreeMap::new(alloc);
+        for value in items {
+            let name = listed_name(alloc, value)?;
+            add_name(alloc, &mut numbers, name.as_ref(), listed.len() as u32)?;
+            listed.push(name)?;
+        }
+        Ok(Names { listed, numbers })
+    }
+
+    // The first server with this name.
+    fn first_named(&self, key: &NameKey) -> Option<u32>
+        ensures { result ≡ first_named key.now.0 0 self.now }
+    {
+        self.numbers.get(key).copied()
+    }
+}
+
+/// The server that a text names. No text is `BadType`, no name `BadName`, and that of no server `UnknownName`.
+#[tactic(auto, unfolding(crate::specs::Names::server_named))]
+pub fn server_named(alloc: Global, names: &Names, value: &Value) -> Result<ServerNo, ReadFault>
+    ensures { Gives (λ n. n) fault_of result (server_named names.now (view value.now)) }
+{
+    let key = NameKey(name_in(alloc, value)?);
+    match names.first_named(&key) {
+        Some(number) => Ok(ServerNo(number)),
+        None => Err(fails(alloc, FaultCode::UnknownName)),
+    }
+}
+
+/// The name of the server of this number, which no earlier one has.
+#[tactic(auto, unfolding(crate::specs::Names::own_name))]
+pub(crate) fn own_name(
+    alloc: Global,
+    names: &Names,
+    number: u32,
+    value: &Value,
+) -> Result<Name, ReadFault>
+    ensures { Gives (λ n. n) fault_of result (own_name names.now number (view value.now)) }
+{
+    let key = NameKey(name_in(alloc, value)?);
+    match names.first_named(&key) {
+        Some(first) if first < number => Err(fails(alloc, FaultCode::DuplicateName)),
+        _ => Ok(key.0),
+    }
+}
