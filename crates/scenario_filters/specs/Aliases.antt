@@ -1,0 +1,35 @@
+-- The clusters' aliases.
+use Rattle.std.specs.Prelude.{ℕ, ◌∷◌, List, [], nat_eq, if◌then◌else◌, Result, Ok}
+use Rattle.std.specs.Cmp.Lexicographic.{pointwise}
+use Rattle.serde_json.specs.Data.{Data, Members, no_members, member}
+use Rattle.orch_base.specs.Gives.{◌>>=◌}
+use Rattle.orch_core.specs.declared.filters.Alias.{Alias}
+use Rattle.scenario_values.specs.declared.fault.Fault.{Fault}
+use Rattle.scenario_values.specs.Faults.{under}
+use Rattle.scenario_values.specs.Values.{members_in, text_in, label_or_fails, text_within}
+
+-- the alias of a cluster's label: the label has 1 to 261 bytes, the alias at most 255
+unfoldable pub alias_in : List ℕ → Data → Result Alias Fault
+alias_in label d = do
+  cluster ← label_or_fails label
+  text ← text_in d
+  alias ← text_within 0 255 text
+  Ok (record { cluster = cluster; alias = alias })
+
+-- the labels by their bytes, as the members of an object stand
+abbrev pub aliases_from : Members → Result (List Alias) Fault
+aliases_from no_members = Ok []
+aliases_from (member label d ms) = do
+  alias ← under label (alias_in label d)
+  more ← aliases_from ms
+  Ok (alias ∷ more)
+
+unfoldable pub aliases_in : Data → Result (List Alias) Fault
+aliases_in d = do
+  ms ← members_in d
+  aliases_from ms
+
+-- the alias of a cluster: empty where it has none
+abbrev pub alias_of : List Alias → List ℕ → List ℕ
+alias_of [] cluster = []
+alias_of (a ∷ rest) cluster = if pointwise nat_eq a.cluster cluster then a.alias else alias_of rest cluster

@@ -1,0 +1,63 @@
+//! The clusters' aliases.
+
+ghost use Rattle.std.specs.Prelude.{◌≡◌};
+ghost use Rattle.orch_base.specs.Gives.{Gives};
+ghost use Rattle.serde_json.specs.View.{view, members_view};
+ghost use Rattle.scenario_values.specs.Faults.{fault_of, under};
+ghost use Rattle.scenario_filters.specs.Aliases.{alias_in, aliases_from, aliases_in, alias_of};
+
+use orch_base::Label;
+use orch_core::{Alias, Aliases};
+use scenario_values::{ReadFault, label_or_fails, members_in, text_in, text_within, under};
+use serde_json::{Map, Value};
+use std::alloc::Global;
+
+#[tactic(auto, unfolding(crate::specs::Aliases::alias_in))]
+fn alias_in(alloc: Global, label: &str, value: &Value) -> Result<Alias, ReadFault>
+    ensures { Gives (λ a. a) fault_of result (alias_in label.now (view value.now)) }
+{
+    let cluster = label_or_fails(alloc, label)?;
+    let text = text_in(alloc, value)?;
+    let alias = text_within(alloc, 0, 255, text)?;
+    Ok(Alias { cluster, alias })
+}
+
+#[tactic(auto, using(scenario_values::proofs::Unders::gives_under))]
+fn alias_at(alloc: Global, label: &str, value: &Value) -> Result<Alias, ReadFault>
+    ensures { Gives (λ a. a) fault_of result (under label.now (alias_in label.now (view value.now))) }
+{
+    under(alloc, label.as_bytes(), alias_in(alloc, label, value))
+}
+
+fn aliases_from(alloc: Global, members: &Map<String, Value>) -> Result<Vec<Alias>, ReadFault>
+    ensures { Gives (λ v. v.items) fault_of result (aliases_from (members_view members.now.entries)) }
+{
+    let mut aliases = Vec::new(alloc);
+    for (label, value) in members {
+        aliases.push(alias_at(alloc, label.as_str(), value)?)?;
+    }
+    Ok(aliases)
+}
+
+/// The aliases of an object from clusters' labels to texts. A label of 0 or more than 261 bytes, or an alias of more than
+/// 255, is `BadNumber` at the label's key.
+#[tactic(auto, unfolding(crate::specs::Aliases::aliases_in))]
+pub fn aliases_in(alloc: Global, value: &Value) -> Result<Aliases, ReadFault>
+    ensures { Gives (λ a. a) fault_of result (aliases_in (view value.now)) }
+{
+    let members = members_in(alloc, value)?;
+    let aliases = aliases_from(alloc, members)?;
+    Ok(Aliases::new(aliases))
+}
+
+/// The alias of a cluster: empty where it has none.
+pub(crate) fn alias_of<'a>(aliases: &'a [Alias], cluster: &Label) -> &'a str
+    ensures { result.now ≡ alias_of aliases.now cluster.now }
+{
+    for alias in aliases {
+        if alias.cluster.is_same(cluster) {
+            return alias.alias.as_str();
+        }
+    }
+    ""
+}
