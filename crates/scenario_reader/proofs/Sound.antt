@@ -1,0 +1,268 @@
+-- What is read as a scenario meets the condition of the calls that take one.
+use Rattle.std.proofs.Common.{◌≡◌, ℕ, ◌+◌, ◌*◌, ◌<◌, ◌≤◌, ◌⊎◌, inl, inr, ◌∙◌, Bool, cond, leb, List, [], ◌∷◌, length, All, Option, Some, None, Result, Ok, refl, ap, subst, sym, arith}
+use Rattle.std.specs.Prelude.{count_by, codes, decimal, slice_get}
+use Rattle.std.proofs.lemmas.Bool.{leb-true}
+use Rattle.std.proofs.lemmas.List.{length-map}
+use Rattle.std.proofs.lemmas.List.Sums.{sum_by-cons}
+use Rattle.serde_json.specs.Data.{Data, Items, no_items, item}
+use Rattle.orch_base.specs.declared.server.ServerNo.{ServerNo}
+use Rattle.orch_base.specs.declared.source.TheConstants.{MAX_SCENARIO_LEN}
+use Rattle.orch_base.specs.Names.{HostPort}
+use Rattle.openings.specs.declared.init.ServerInit.{ServerInit}
+use Rattle.openings.specs.declared.opening.Flaw.{Flaw}
+use Rattle.openings.specs.Flaws.{flaw_in}
+use Rattle.openings.specs.Opening.{Opened, opening, opening_or, IsListed, IsChecked}
+use Rattle.replication_laws.specs.Room.{is_write as adds}
+use Rattle.orch_core.specs.declared.scenario.Scenario.{Scenario}
+use Rattle.orch_core.specs.declared.turn.Turn.{Turn}
+use Rattle.orch_core.specs.declared.turn.Turn.TheVariants.{Write, Fetch, Apply, Fail, Heal, Cut, Join, Rotate, Tick}
+use Rattle.orch_core.specs.Scenarios.{room_of, IsScenario}
+use Rattle.orch_core.specs.Turns.{exchange_of, makes, IsTurn}
+use Rattle.orch_core.proofs.Rooms.{room_of-counted}
+use Rattle.server_model.specs.declared.changes.Link.{Link}
+use Rattle.scenario_values.specs.declared.fault.Fault.{Fault}
+use Rattle.scenario_values.specs.declared.fault.FaultCode.{FaultCode}
+use Rattle.scenario_values.specs.declared.fault.FaultCode.TheVariants.{TooLong, TooLarge}
+use Rattle.scenario_values.specs.Faults.{holds, under, under_item, needed, optional, unbuilt, each, each_from, item_count}
+use Rattle.scenario_values.specs.Values.{items_in, bool_in, text_in, number_in}
+use Rattle.scenario_servers.specs.declared.given.Given.{Given}
+use Rattle.scenario_servers.specs.Names.{server_named, listed_names, listed_uuids}
+use Rattle.scenario_servers.specs.Openings.{inits_from, inits_of, listed_count, is_small, code_of, place_at, fails_at, opening_or_fails, opening_in, IsGiven}
+use Rattle.scenario_servers.specs.Servers.{server_in, listed_in, servers_in}
+use Rattle.scenario_servers.proofs.Reading.{read_given}
+use Rattle.scenario_servers.proofs.ServerSteps.{named-ok}
+use Rattle.scenario_servers.proofs.Steps.{same_Ok, bind-ok, holds-ok, under-ok, needed-ok, optional-ok, number-ok, each_from-length, each_from-all}
+use Rattle.scenario_filters.specs.Aliases.{aliases_in}
+use Rattle.scenario_filters.specs.Filters.{filters_in, no_filters, answered}
+use Rattle.scenario_reader.specs.declared.head.Head.{Head}
+use Rattle.scenario_reader.specs.declared.word.Word.{Word}
+use Rattle.scenario_reader.specs.declared.word.Word.TheVariants as word
+use Rattle.scenario_reader.specs.Words.{word_at}
+use Rattle.scenario_reader.specs.Turns.{one_of, two_of, link_in, server_of, size_of, link_of, seconds_of, turn_by, turn_of, turn_with, turn_from, turn_in}
+use Rattle.scenario_reader.specs.Scenarios.{json_in, one_in, is_write, keys_in, head_in, turns_in, scenario_with, scenario_from, scenario_in}
+
+-- ---- turns
+
+server-has : (names : List (Option HostPort)) (rest : Items) (n : ServerNo) → server_of names rest ≡ Ok n → n.0 < length names
+unfolding server_of
+server-has names rest n e =
+    let server = bind-ok (one_of rest) _ n e in
+    named-ok names server.0 n (under-ok _ _ n server.2)
+
+record IsSized (count : ℕ) (p : ServerNo × ℕ) : Type 0 where
+  within : p.0.0 < count
+  some : 1 ≤ p.1
+  few : p.1 ≤ 1000000
+
+size-has : (names : List (Option HostPort)) (rest : Items) (p : ServerNo × ℕ) → size_of names rest ≡ Ok p → IsSized (length names) p
+unfolding size_of
+size-has names rest p e =
+    let parts = bind-ok (two_of rest) _ p e in
+    let server = bind-ok (under_item 1 (server_named names parts.0.0)) _ p parts.2 in
+    let size = bind-ok (under_item 2 (number_in 1 1000000 parts.0.1)) _ p server.2 in
+    let bounds = number-ok 1 1000000 parts.0.1 size.0 (under-ok _ _ size.0 size.1) in
+    subst (IsSized (length names)) (same_Ok (server.0, size.0) p size.2)
+    (record { within = named-ok names parts.0.0 server.0 (under-ok _ _ server.0 server.1); some = bounds.0; few = bounds.1 })
+
+link-has : (names : List (Option HostPort)) (rest : Items) (p : ServerNo × Link) → link_of names rest ≡ Ok p → p.0.0 < length names
+unfolding link_of
+link-has names rest p e =
+    let parts = bind-ok (two_of rest) _ p e in
+    let server = bind-ok (under_item 1 (server_named names parts.0.0)) _ p parts.2 in
+    let link = bind-ok (under_item 2 (link_in parts.0.1)) _ p server.2 in
+    subst (λ (q : ServerNo × Link). q.0.0 < length names) (same_Ok (server.0, link.0) p link.2) (named-ok names parts.0.0 server.0 (under-ok _ _ server.0 server.1))
+
+seconds-have : (rest : Items) (n : ℕ) → seconds_of rest ≡ Ok n → n ≤ 1000000000
+unfolding seconds_of
+seconds-have rest n e =
+    let number = bind-ok (one_of rest) _ n e in
+    (number-ok 0 1000000000 number.0 n (under-ok _ _ n number.2)).1
+
+-- a turn of what was read
+made-has : {A : Type 0} (count : ℕ) (P : A → Type 0) (make : A → Turn) (read : Result A Fault) (t : Turn) → ((x : A) → P x → IsTurn count (make x)) → ((x : A) → read ≡ Ok x → P x)
+    → turn_by make read ≡ Ok t → IsTurn count t
+made-has count P make read t is has e =
+    let x = bind-ok read _ t e in
+    subst (IsTurn count) (same_Ok (make x.0) t x.2) (is x.0 (has x.0 x.1))
+
+turn_of-has : (names : List (Option HostPort)) (w : Word) (rest : Items) (t : Turn) → turn_of names w rest ≡ Ok t → IsTurn (length names) t
+turn_of-has names word.Write rest t e =
+    made-has (length names) (IsSized (length names)) (λ p. Write p.0 p.1) (size_of names rest) t (λ p is. (is.within, is.some, is.few)) (size-has names rest) e
+turn_of-has names word.Fetch rest t e = made-has (length names) (λ n. n.0 < length names) Fetch (server_of names rest) t (λ n is. is) (server-has names rest) e
+turn_of-has names word.Apply rest t e = made-has (length names) (λ n. n.0 < length names) Apply (server_of names rest) t (λ n is. is) (server-has names rest) e
+turn_of-has names word.Fail rest t e = made-has (length names) (λ n. n.0 < length names) Fail (server_of names rest) t (λ n is. is) (server-has names rest) e
+turn_of-has names word.Heal rest t e = made-has (length names) (λ n. n.0 < length names) Heal (server_of names rest) t (λ n is. is) (server-has names rest) e
+turn_of-has names word.Rotate rest t e = made-has (length names) (λ n. n.0 < length names) Rotate (server_of names rest) t (λ n is. is) (server-has names rest) e
+turn_of-has names word.Cut rest t e = made-has (length names) (λ p. p.0.0 < length names) (λ p. Cut p.0 p.1) (link_of names rest) t (λ p is. is) (link-has names rest) e
+turn_of-has names word.Join rest t e = made-has (length names) (λ p. p.0.0 < length names) (λ p. Join p.0 p.1) (link_of names rest) t (λ p is. is) (link-has names rest) e
+turn_of-has names word.Tick rest t e = made-has (length names) (λ n. n ≤ 1000000000) Tick (seconds_of rest) t (λ n is. is) (seconds-have rest) e
+
+turn-has : (names : List (Option HostPort)) (d : Data) (t : Turn) → turn_in names d ≡ Ok t → IsTurn (length names) t
+unfolding turn_in turn_with
+turn-has names d t e =
+    let items = bind-ok (items_in d) (turn_from names) t e in
+    go items.0 items.2
+  where
+    go : (ds : Items) → turn_from names ds ≡ Ok t → IsTurn (length names) t
+    go no_items e = cc
+    go (item first rest) e =
+        let text = bind-ok (under_item 0 (text_in first)) _ t e in
+        let w = bind-ok (word_at text.0) _ t text.2 in
+        turn_of-has names w.0 rest t w.2
+
+-- turns of so many servers, few of them, within the room of what is listed
+record AreTurns (names : List (Option HostPort)) (servers : List ServerInit) (ts : List Turn) : Type 0 where
+  turns : All (IsTurn (length names)) ts
+  few : length ts ≤ 1000000
+  room : length servers * (listed_count servers + count_by is_write ts) ≤ 4000000
+
+turns-have : (names : List (Option HostPort)) (servers : List ServerInit) (items : Items) (ts : List Turn) → turns_in names servers items ≡ Ok ts → AreTurns names servers ts
+unfolding turns_in
+turns-have names servers items ts e =
+    let read = bind-ok (under (codes "turns") (each (turn_in names) items)) _ ts e in
+    let few = bind-ok (holds TooLarge (leb (length read.0) 1000000)) _ ts read.2 in
+    let small = bind-ok (holds TooLarge (is_small (length servers) (listed_count servers + count_by is_write read.0))) _ ts few.2 in
+    let ok : each (turn_in names) items ≡ Ok read.0 = under-ok (codes "turns") _ read.0 read.1 in
+    subst (AreTurns names servers) (same_Ok read.0 ts small.2)
+    (record {
+      turns = each_from-all (IsTurn (length names)) (λ n d. turn_in names d) (λ n d t f. turn-has names d t f) 0 items read.0 ok;
+      few = leb-true (length read.0) 1000000 (holds-ok TooLarge _ few.0 few.1);
+      room = leb-true _ 4000000 (holds-ok TooLarge _ small.0 small.1);
+    })
+
+-- ---- the servers
+
+length-names : (ds : Items) → length (listed_names ds) ≡ item_count ds
+length-names no_items = refl
+length-names (item d ds) = let more = length-names ds in omega arith
+
+length-inits : (gs : List Given) (n : ℕ) (xs : List Given) → length (inits_from gs n xs) ≡ length xs
+length-inits gs n [] = refl
+length-inits gs n (x ∷ xs) = let more = length-inits gs (n + 1) xs in omega arith
+
+-- a name for each server
+names-of : (gtid : Bool) (d : Data) (given : List (Option HostPort) × List Given) → servers_in gtid d ≡ Ok given → length given.0 ≡ length (inits_of given.1)
+unfolding servers_in
+names-of gtid d given e =
+    let listed = bind-ok (listed_in d) _ given e in
+    let servers = bind-ok (each_from (server_in gtid (listed_names listed.0) (listed_uuids 0 listed.0)) 0 listed.0) _ given listed.2 in
+    let is : (listed_names listed.0, servers.0) ≡ given = same_Ok (listed_names listed.0, servers.0) given servers.2 in
+    let counts : length (listed_names listed.0) ≡ length (inits_of servers.0) =
+    length-names listed.0 ∙ sym (each_from-length _ 0 listed.0 servers.0 servers.1) ∙ sym (length-inits servers.0 0 servers.0) in
+    subst (λ (p : List (Option HostPort) × List Given). length p.0 ≡ length (inits_of p.1)) is counts
+
+-- ---- the opening
+
+never : {A : Type 0} (code : FaultCode) (parts : List (List ℕ)) (x : A) → fails_at code parts ≡ Ok x → ⊥
+never code [] x e = cc
+never code (part ∷ parts) x e = never code parts x (under-ok part (fails_at code parts) x e)
+
+record IsOpened (servers : List ServerInit) (o : Opened) : Type 0 where
+  checked : IsChecked o
+  same : o.servers ≡ servers
+
+opening-has : (servers : List ServerInit) (gtid : Bool) (o : Opened) → IsGiven gtid servers → opening_in servers gtid ≡ Ok o → IsOpened servers o
+unfolding opening_in
+opening-has servers gtid o given e =
+    let small = bind-ok (holds TooLarge (is_small (length servers) (listed_count servers))) _ o e in
+    let listed : IsListed (opening servers gtid) = record {
+      some = given.some;
+      few = given.few;
+      listed = leb-true _ 4000000 (holds-ok TooLarge _ small.0 small.1);
+      each = given.each;
+      names = given.names;
+      uuids = given.uuids;
+    } in
+    go listed (flaw_in servers) refl small.2
+  where
+    go : IsListed (opening servers gtid) → (f : Option (Flaw × ℕ)) → flaw_in servers ≡ f → opening_or_fails servers (opening_or (opening servers gtid) f) ≡ Ok o → IsOpened servers o
+    go listed None none e = subst (IsOpened servers) (same_Ok (opening servers gtid) o e) (record { checked = record { listed = listed; sound = none }; same = refl })
+    go listed (Some f) some e = absurd (never (code_of f.0) (codes "servers" ∷ decimal f.1 ∷ place_at servers f.0 (slice_get servers f.1)) o e)
+
+-- ---- the keys before the servers
+
+moment-has : (d : Data) (h : Head) → head_in d ≡ Ok h → h.moment ≤ 1000000000000000
+unfolding head_in
+moment-has d h e =
+    let version = bind-ok (needed (codes "version") one_in d) _ h e in
+    let moment = bind-ok (optional (codes "now") (number_in 0 1000000000000000) 0 d) _ h version.2 in
+    let gtid = bind-ok (optional (codes "gtid") bool_in _ d) _ h moment.2 in
+    let block = bind-ok (unbuilt (codes "block") d) _ h gtid.2 in
+    let aliases = bind-ok (optional (codes "aliases") aliases_in [] d) _ h block.2 in
+    let filters = bind-ok (optional (codes "filters") filters_in no_filters d) _ h aliases.2 in
+    let few : moment.0 ≤ 1000000000000000 = by moment.0 (optional-ok (codes "now") (number_in 0 1000000000000000) 0 d moment.0 moment.1) in
+    subst (λ (k : Head). k.moment ≤ 1000000000000000) (same_Ok (record { moment = moment.0; gtid = gtid.0; aliases = aliases.0; filters = filters.0 }) h filters.2) few
+  where
+    by : (n : ℕ) → (n ≡ 0) ⊎ ((v : Data) × (number_in 0 1000000000000000 v ≡ Ok n)) → n ≤ 1000000000000000
+    by n (inl zero) = omega arith
+    by n (inr there) = (number-ok 0 1000000000000000 there.0 n there.1).1
+
+-- ---- room
+
+tick : Bool → ℕ
+tick b = cond b 1 0
+
+adds-turn : (t : Turn) → makes adds (exchange_of t) ≡ is_write t
+adds-turn (Write n size) = refl
+adds-turn (Fetch n) = refl
+adds-turn (Apply n) = refl
+adds-turn (Fail n) = refl
+adds-turn (Heal n) = refl
+adds-turn (Cut n link) = refl
+adds-turn (Join n link) = refl
+adds-turn (Rotate n) = refl
+adds-turn (Tick seconds) = refl
+
+written : (ts : List Turn) → count_by (λ t. makes adds (exchange_of t)) ts ≡ count_by is_write ts
+unfolding tick
+written [] = refl
+written (t ∷ ts) =
+    let one : tick (makes adds (exchange_of t)) ≡ tick (is_write t) = ap tick (adds-turn t) in
+    omega (arith, one, written ts, sum_by-cons (λ x. tick (makes adds (exchange_of x))) t ts, sum_by-cons (λ x. tick (is_write x)) t ts)
+
+-- ---- the whole
+
+scenario_with-sound : (head : Head) (given : List (Option HostPort) × List Given) (items : Items) (s : Scenario) → head.moment ≤ 1000000000000000 → IsGiven head.gtid (inits_of given.1)
+    → length given.0 ≡ length (inits_of given.1) → scenario_with head given items ≡ Ok s → IsScenario s
+unfolding scenario_with
+scenario_with-sound head given items s early are names e =
+    let o = bind-ok (opening_in (inits_of given.1) head.gtid) _ s e in
+    let ts = bind-ok (turns_in given.0 o.0.servers items) _ s o.2 in
+    let opened = opening-has (inits_of given.1) head.gtid o.0 are o.1 in
+    let turns = turns-have given.0 o.0.servers items ts.0 ts.1 in
+    let count : length given.0 ≡ length o.0.servers = names ∙ ap length (sym opened.same) in
+    let made : Scenario = record {
+      opening = o.0;
+      moment = record { 0 = head.moment };
+      aliases = head.aliases;
+      filters = answered head.filters head.aliases o.0.servers;
+      turns = ts.0;
+    } in
+    let room : room_of made ≡ listed_count o.0.servers + count_by is_write ts.0 = room_of-counted made ∙ ap (λ n. listed_count o.0.servers + n) (written ts.0) in
+    subst IsScenario (same_Ok made s ts.2) (record {
+      checked = opened.checked;
+      moment = early;
+      turns = subst (λ n. All (IsTurn n) ts.0) count turns.turns;
+      few = turns.few;
+      room = subst (λ n. length o.0.servers * n ≤ 4000000) (sym room) turns.room;
+      master = length-map _ _;
+      intermediate = length-map _ _;
+    })
+
+scenario_from-sound : (d : Data) (s : Scenario) → scenario_from d ≡ Ok s → IsScenario s
+unfolding scenario_from
+scenario_from-sound d s e =
+    let keys = bind-ok (keys_in d) _ s e in
+    let head = bind-ok (head_in d) _ s keys.2 in
+    let given = bind-ok (needed (codes "servers") (servers_in head.0.gtid) d) _ s head.2 in
+    let listed = bind-ok (optional (codes "turns") items_in no_items d) _ s given.2 in
+    let servers = needed-ok (codes "servers") (servers_in head.0.gtid) d given.0 given.1 in
+    scenario_with-sound head.0 given.0 listed.0 s (moment-has d head.0 head.1) (read_given head.0.gtid servers.0 given.0 servers.2) (names-of head.0.gtid servers.0 given.0 servers.2) listed.2
+
+-- what bytes are read as
+pub scenario_in_sound : (bytes : List ℕ) (s : Scenario) → scenario_in bytes ≡ Ok s → IsScenario s
+unfolding scenario_in
+scenario_in_sound bytes s e =
+    let short = bind-ok (holds TooLong (leb (length bytes) MAX_SCENARIO_LEN)) _ s e in
+    let d = bind-ok (json_in bytes) scenario_from s short.2 in
+    scenario_from-sound d.0 s d.2

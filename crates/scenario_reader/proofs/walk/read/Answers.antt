@@ -1,0 +1,17 @@
+use Rattle.std.proofs.Common.{ℕ, List, Result, Ok, Err}
+use Rattle.std.specs.Prelude.{IfOk}
+use Rattle.orch_base.specs.Gives.{Gives}
+use Rattle.orch_core.specs.declared.scenario.Scenario.{Scenario}
+use Rattle.orch_core.specs.Scenarios.{IsScenario}
+use Rattle.scenario_values.specs.declared.fault.ReadFault.{ReadFault}
+use Rattle.scenario_values.specs.Faults.{fault_of}
+use Rattle.scenario_reader.specs.Scenarios.{scenario_in}
+use Rattle.scenario_reader.proofs.Sound.{scenario_in_sound}
+use Rattle.scenario_reader.proofs.walk.read.Goals as goal
+
+sound : (r : Result Scenario ReadFault) (bytes : List ℕ) → Gives (λ s. s) fault_of r (scenario_in bytes) → IfOk r IsScenario
+sound (Ok s) bytes h = scenario_in_sound bytes s h
+sound (Err e) bytes h = tt
+
+pub returns-clause-sound : goal.returns-clause-sound
+returns-clause-sound c = sound c.scenario_in.result c.args.bytes.now c.scenario_in.ensures

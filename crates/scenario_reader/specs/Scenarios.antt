@@ -1,0 +1,110 @@
+-- The scenario that bytes are, or the first fault of the walk over them.
+use Rattle.std.specs.Prelude.{ℕ, ◌+◌, ◌∷◌, ◌&&◌, List, [], Bool, true, false, length, count_by, nat_le, nat_eq, is_some, if◌then◌else◌, codes, Option, Some, None, Result, Ok}
+use Rattle.std.specs.Str.{is_utf8}
+use Rattle.serde_json.specs.Data.{Data, Items, no_items}
+use Rattle.serde_json.specs.Find.{as_number, as_u64, get}
+use Rattle.serde_json.specs.Read.{read}
+use Rattle.orch_base.specs.declared.source.TheConstants.{MAX_SCENARIO_LEN}
+use Rattle.orch_base.specs.Gives.{◌>>=◌}
+use Rattle.orch_base.specs.Names.{HostPort}
+use Rattle.openings.specs.declared.init.ServerInit.{ServerInit}
+use Rattle.orch_core.specs.declared.scenario.Scenario.{Scenario}
+use Rattle.orch_core.specs.declared.turn.Turn.{Turn}
+use Rattle.orch_core.specs.declared.turn.Turn.TheVariants.{Write}
+use Rattle.scenario_values.specs.declared.fault.Fault.{Fault}
+use Rattle.scenario_values.specs.declared.fault.FaultCode.TheVariants.{TooLong, NotJson, Missing, BadType, BadVersion, TooLarge}
+use Rattle.scenario_values.specs.Faults.{or_fails, holds, under, needed, optional, unbuilt, only_keys, each}
+use Rattle.scenario_values.specs.Values.{members_in, items_in, bool_in, number_in}
+use Rattle.scenario_servers.specs.declared.given.Given.{Given}
+use Rattle.scenario_servers.specs.Servers.{servers_in}
+use Rattle.scenario_servers.specs.Openings.{inits_of, listed_count, is_small, opening_in}
+use Rattle.scenario_filters.specs.Aliases.{aliases_in}
+use Rattle.scenario_filters.specs.Filters.{filters_in, no_filters, answered}
+use Rattle.scenario_reader.specs.declared.head.Head.{Head}
+use Rattle.scenario_reader.specs.Turns.{turn_in}
+
+-- ---- the text
+
+-- the value of a text that is UTF-8 and JSON
+abbrev pub json_in : List ℕ → Result Data Fault
+json_in bytes = or_fails NotJson (if is_utf8 bytes then read bytes else None)
+
+-- ---- the top object
+
+abbrev pub top_keys : List (List ℕ)
+top_keys = codes "version" ∷ codes "now" ∷ codes "gtid" ∷ codes "block" ∷ codes "aliases" ∷ codes "filters" ∷ codes "servers" ∷ codes "turns" ∷ []
+
+abbrev pub is_one : Option ℕ → Bool
+is_one None = false
+is_one (Some n) = nat_eq n 1
+
+-- any other number than 1 is another version
+unfoldable pub one_in : Data → Result (Unit {0}) Fault
+one_in d = do
+  n ← or_fails BadType (as_number d)
+  holds BadVersion (is_one (as_u64 n))
+
+abbrev pub is_there : List ℕ → Data → Bool
+is_there key d = is_some (get key d)
+
+-- ---- the sizes
+
+abbrev pub is_write : Turn → Bool
+is_write (Write n size) = true
+is_write _ = false
+
+-- ---- the whole
+
+-- no key but the table's, and those that are needed
+unfoldable pub keys_in : Data → Result (Unit {0}) Fault
+keys_in d = do
+  ms ← members_in d
+  keys ← only_keys top_keys ms
+  holds Missing (is_there (codes "version") d && is_there (codes "servers") d)
+
+-- the keys before the servers
+unfoldable pub head_in : Data → Result Head Fault
+head_in d = do
+  version ← needed (codes "version") one_in d
+  moment ← optional (codes "now") (number_in 0 1000000000000000) 0 d
+  gtid ← optional (codes "gtid") bool_in false d
+  block ← unbuilt (codes "block") d
+  aliases ← optional (codes "aliases") aliases_in [] d
+  filters ← optional (codes "filters") filters_in no_filters d
+  Ok (record { moment = moment; gtid = gtid; aliases = aliases; filters = filters })
+
+-- the turns, where they aren't too many
+unfoldable pub turns_in : List (Option HostPort) → List ServerInit → Items → Result (List Turn) Fault
+turns_in names servers items = do
+  turns ← under (codes "turns") (each (turn_in names) items)
+  few ← holds TooLarge (nat_le (length turns) 1000000)
+  few_writes ← holds TooLarge (is_small (length servers) (listed_count servers + count_by is_write turns))
+  Ok turns
+
+-- the opening of the servers, and the turns over them
+unfoldable pub scenario_with : Head → List (Option HostPort) × List Given → Items → Result Scenario Fault
+scenario_with head given listed = do
+  opening ← opening_in (inits_of given.1) head.gtid
+  turns ← turns_in given.0 opening.servers listed
+  Ok (record {
+    opening = opening;
+    moment = record { 0 = head.moment };
+    aliases = head.aliases;
+    filters = answered head.filters head.aliases opening.servers;
+    turns = turns;
+  })
+
+-- the kind of the turns is met with the keys, and what they say once the servers have no flaw
+unfoldable pub scenario_from : Data → Result Scenario Fault
+scenario_from d = do
+  keys ← keys_in d
+  head ← head_in d
+  given ← needed (codes "servers") (servers_in head.gtid) d
+  listed ← optional (codes "turns") items_in no_items d
+  scenario_with head given listed
+
+unfoldable pub scenario_in : List ℕ → Result Scenario Fault
+scenario_in bytes = do
+  short ← holds TooLong (nat_le (length bytes) MAX_SCENARIO_LEN)
+  d ← json_in bytes
+  scenario_from d

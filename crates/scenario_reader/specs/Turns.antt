@@ -1,0 +1,94 @@
+-- The turns: of each the word, then the number of parts, then the parts from the left.
+use Rattle.std.specs.Prelude.{ℕ, List, if◌then◌else◌, codes, Option, Result, Ok}
+use Rattle.serde_json.specs.Data.{Data, Items, no_items, item}
+use Rattle.orch_base.specs.declared.server.ServerNo.{ServerNo}
+use Rattle.orch_base.specs.Gives.{◌>>=◌}
+use Rattle.orch_base.specs.Names.{HostPort}
+use Rattle.server_model.specs.declared.changes.Link.{Link}
+use Rattle.server_model.specs.declared.changes.Link.TheVariants.{Desk, Feed}
+use Rattle.orch_core.specs.declared.turn.Turn.{Turn}
+use Rattle.orch_core.specs.declared.turn.Turn.TheVariants.{Write, Fetch, Apply, Fail, Heal, Cut, Join, Rotate, Tick}
+use Rattle.scenario_values.specs.declared.fault.Fault.{Fault}
+use Rattle.scenario_values.specs.declared.fault.FaultCode.TheVariants.{BadTurn, BadNumber}
+use Rattle.scenario_values.specs.Faults.{fails, under_item}
+use Rattle.scenario_values.specs.Values.{items_in, text_in, number_in}
+use Rattle.scenario_servers.specs.Names.{server_named}
+use Rattle.scenario_reader.specs.declared.word.Word.{Word}
+use Rattle.scenario_reader.specs.declared.word.Word.TheVariants as word
+use Rattle.scenario_reader.specs.Words.{is_word, word_at}
+
+abbrev pub link_at : List ℕ → Result Link Fault
+link_at text = if is_word (codes "desk") text then Ok Desk else (if is_word (codes "feed") text then Ok Feed else fails BadNumber)
+
+unfoldable pub link_in : Data → Result Link Fault
+link_in d = do
+  text ← text_in d
+  link_at text
+
+abbrev pub one_of : Items → Result Data Fault
+one_of (item a no_items) = Ok a
+one_of _ = fails BadTurn
+
+abbrev pub two_of : Items → Result (Data × Data) Fault
+two_of (item a (item b no_items)) = Ok (a, b)
+two_of _ = fails BadTurn
+
+-- S
+unfoldable pub server_of : List (Option HostPort) → Items → Result ServerNo Fault
+server_of names rest = do
+  server ← one_of rest
+  under_item 1 (server_named names server)
+
+-- S, N
+unfoldable pub size_of : List (Option HostPort) → Items → Result (ServerNo × ℕ) Fault
+size_of names rest = do
+  parts ← two_of rest
+  n ← under_item 1 (server_named names parts.0)
+  size ← under_item 2 (number_in 1 1000000 parts.1)
+  Ok (n, size)
+
+-- S, L
+unfoldable pub link_of : List (Option HostPort) → Items → Result (ServerNo × Link) Fault
+link_of names rest = do
+  parts ← two_of rest
+  n ← under_item 1 (server_named names parts.0)
+  link ← under_item 2 (link_in parts.1)
+  Ok (n, link)
+
+-- N
+unfoldable pub seconds_of : Items → Result ℕ Fault
+seconds_of rest = do
+  number ← one_of rest
+  under_item 1 (number_in 0 1000000000 number)
+
+-- the turn of what was read
+abbrev pub turn_by : {A : Type 0} → (A → Turn) → Result A Fault → Result Turn Fault
+turn_by make read = do
+  x ← read
+  Ok (make x)
+
+abbrev pub turn_of : List (Option HostPort) → Word → Items → Result Turn Fault
+turn_of names word.Write rest = turn_by (λ p. Write p.0 p.1) (size_of names rest)
+turn_of names word.Fetch rest = turn_by Fetch (server_of names rest)
+turn_of names word.Apply rest = turn_by Apply (server_of names rest)
+turn_of names word.Fail rest = turn_by Fail (server_of names rest)
+turn_of names word.Heal rest = turn_by Heal (server_of names rest)
+turn_of names word.Rotate rest = turn_by Rotate (server_of names rest)
+turn_of names word.Cut rest = turn_by (λ p. Cut p.0 p.1) (link_of names rest)
+turn_of names word.Join rest = turn_by (λ p. Join p.0 p.1) (link_of names rest)
+turn_of names word.Tick rest = turn_by Tick (seconds_of rest)
+
+unfoldable pub turn_with : List (Option HostPort) → Data → Items → Result Turn Fault
+turn_with names first rest = do
+  text ← under_item 0 (text_in first)
+  word ← word_at text
+  turn_of names word rest
+
+abbrev pub turn_from : List (Option HostPort) → Items → Result Turn Fault
+turn_from names no_items = fails BadTurn
+turn_from names (item first rest) = turn_with names first rest
+
+unfoldable pub turn_in : List (Option HostPort) → Data → Result Turn Fault
+turn_in names d = do
+  items ← items_in d
+  turn_from names items

@@ -1,0 +1,114 @@
+//! The keys before the servers.
+
+ghost use Rattle.std.specs.Prelude.{◌≡◌, [], codes, IfOk};
+ghost use Rattle.orch_base.specs.Gives.{Gives};
+ghost use Rattle.serde_json.specs.View.{view};
+ghost use Rattle.scenario_values.specs.Faults.{fault_of, needed, optional};
+ghost use Rattle.scenario_filters.specs.Aliases.{aliases_in};
+ghost use Rattle.scenario_filters.specs.Filters.{filters_in, no_filters, AreRead};
+ghost use Rattle.scenario_reader.specs.Scenarios.{is_one, one_in, is_there, keys_in, head_in};
+
+use orch_core::Aliases;
+use scenario_filters::{FilterTexts, aliases_in, filters_in, no_filters};
+use scenario_values::{
+    FaultCode, ReadFault, bool_at, fails, holds, members_in, number_at, only_keys, unbuilt, under,
+};
+use serde_json::Value;
+use std::alloc::Global;
+
+/// What stands before the servers: when the scenario begins, whether it uses GTIDs, and the clusters' aliases and filters.
+#[derive(Drop)]
+pub struct Head {
+    /// At most 1,000,000,000,000,000 seconds.
+    pub moment: u64,
+    pub gtid: bool,
+    pub aliases: Aliases,
+    pub filters: FilterTexts,
+}
+
+fn is_there(key: &str, object: &Value) -> bool
+    ensures { result ≡ is_there key.now (view object.now) }
+{
+    object.get(key).is_some()
+}
+
+/// Nothing, where the top object has no key but the table's, and those that are needed.
+#[tactic(auto, unfolding(crate::specs::Scenarios::keys_in))]
+#[rattlefmt::skip]
+pub(crate) fn keys_in(alloc: Global, value: &Value) -> Result<(), ReadFault>
+    ensures { Gives (λ _. tt) fault_of result (keys_in (view value.now)) }
+{
+    let members = members_in(alloc, value)?;
+    only_keys(alloc, members, &["version", "now", "gtid", "block", "aliases", "filters", "servers", "turns"])?;
+    holds(alloc, FaultCode::Missing, is_there("version", value) && is_there("servers", value))
+}
+
+fn is_one(whole: Option<u64>) -> bool
+    ensures { result ≡ is_one whole }
+{
+    match whole {
+        Some(number) => number == 1,
+        None => false,
+    }
+}
+
+#[tactic(auto, unfolding(crate::specs::Scenarios::one_in))]
+fn one_in(alloc: Global, value: &Value) -> Result<(), ReadFault>
+    ensures { Gives (λ _. tt) fault_of result (one_in (view value.now)) }
+{
+    match value.as_number() {
+        Some(number) => holds(alloc, FaultCode::BadVersion, is_one(number.as_u64())),
+        None => Err(fails(alloc, FaultCode::BadType)),
+    }
+}
+
+#[tactic(auto, using(scenario_values::proofs::Unders::gives_under))]
+fn version_at(alloc: Global, object: &Value) -> Result<(), ReadFault>
+    ensures { Gives (λ _. tt) fault_of result (needed (codes "version") one_in (view object.now)) }
+{
+    match object.get("version") {
+        Some(value) => under(alloc, b"version", one_in(alloc, value)),
+        None => Err(fails(alloc, FaultCode::Missing)),
+    }
+}
+
+#[tactic(auto, using(scenario_values::proofs::Unders::gives_under))]
+fn aliases_at(alloc: Global, object: &Value) -> Result<Aliases, ReadFault>
+    ensures { Gives (λ a. a) fault_of result (optional (codes "aliases") aliases_in [] (view object.now)) }
+{
+    match object.get("aliases") {
+        Some(value) => under(alloc, b"aliases", aliases_in(alloc, value)),
+        None => Ok(Aliases::new(Vec::new(alloc))),
+    }
+}
+
+#[tactic(auto, using(scenario_values::proofs::Unders::gives_under))]
+fn filters_at(alloc: Global, object: &Value) -> Result<FilterTexts, ReadFault>
+    ensures exact { Gives (λ f. f) fault_of result (optional (codes "filters") filters_in no_filters (view object.now)) }
+    ensures read { IfOk result AreRead }
+{
+    match object.get("filters") {
+        Some(value) => under(alloc, b"filters", filters_in(alloc, value)),
+        None => Ok(no_filters(alloc)?),
+    }
+}
+
+/// The keys before the servers, in the table's order.
+#[tactic(auto, unfolding(crate::specs::Scenarios::head_in))]
+pub(crate) fn head_in(alloc: Global, object: &Value) -> Result<Head, ReadFault>
+    ensures exact { Gives (λ h. h) fault_of result (head_in (view object.now)) }
+    ensures read { IfOk result (λ h. AreRead h.filters) }
+{
+    version_at(alloc, object)?;
+    let moment = number_at(alloc, object, "now", 0, 1_000_000_000_000_000, 0)?;
+    let gtid = bool_at(alloc, object, "gtid", false)?;
+    unbuilt(alloc, object, "block")?;
+    let aliases = aliases_at(alloc, object)?;
+    let filters = filters_at(alloc, object)?;
+    Ok(Head {
+        moment,
+        gtid,
+        aliases,
+        filters,
+    })
+}

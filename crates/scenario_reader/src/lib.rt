@@ -1,0 +1,16 @@
+//! Reads scenarios: the scenario that bytes are, or the first fault of the walk over them, with its place.
+#![tactic(auto)]
+
+mod head;
+mod laws;
+#[cfg(test)]
+mod tests;
+mod turns;
+mod walk;
+mod word;
+
+pub use head::Head;
+pub use laws::built_is_what_is_read;
+pub use scenario_values::{Fault, FaultCode, Path, ReadFault};
+pub use walk::{read, read_is_sound, too_long};
+pub use word::Word;

@@ -1,0 +1,187 @@
+use crate::walk::read;
+use scenario_values::{FaultCode, ReadFault};
+use std::alloc::Global;
+use std::test::*;
+
+// The code and the path of the fault that these bytes have, if they have one.
+fn fault_in(alloc: Global, bytes: &[u8]) -> Option<(FaultCode, Vec<u8>)> {
+    match read(alloc, bytes) {
+        Err(ReadFault::Fault(fault)) => match Vec::from_slice(alloc, fault.path.as_bytes()) {
+            Ok(path) => Some((fault.code, path)),
+            Err(_) => None,
+        },
+        _ => None,
+    }
+}
+
+#[test]
+fn faults_have_codes_and_paths(rt: HostRuntime) -> Result<(), Fail> {
+    for (text, code, path) in [
+        (r#"{"version":1,"servers":["#, FaultCode::NotJson, ""),
+        ("[]", FaultCode::BadType, ""),
+        (r#"{"z":1,"a/b":1}"#, FaultCode::UnknownKey, "/a~1b"),
+        (r#"{"version":1}"#, FaultCode::Missing, ""),
+        (
+            r#"{"version":true,"servers":1}"#,
+            FaultCode::BadType,
+            "/version",
+        ),
+        (
+            r#"{"version":1.0,"now":-1,"servers":1}"#,
+            FaultCode::BadVersion,
+            "/version",
+        ),
+        (
+            r#"{"version":1,"now":1000000000000001,"servers":1}"#,
+            FaultCode::BadNumber,
+            "/now",
+        ),
+        (
+            r#"{"version":1,"gtid":0,"block":1,"servers":1}"#,
+            FaultCode::BadType,
+            "/gtid",
+        ),
+        (
+            r#"{"version":1,"block":1,"aliases":1,"servers":1}"#,
+            FaultCode::NotBuilt,
+            "/block",
+        ),
+        (
+            r#"{"version":1,"aliases":{"":1},"servers":1}"#,
+            FaultCode::BadNumber,
+            "/aliases/",
+        ),
+        (
+            r#"{"version":1,"aliases":{"b":1,"a":2},"servers":1}"#,
+            FaultCode::BadType,
+            "/aliases/a",
+        ),
+        (
+            r#"{"version":1,"filters":{"x":1,"master":1},"servers":1}"#,
+            FaultCode::UnknownKey,
+            "/filters/x",
+        ),
+        (
+            r#"{"version":1,"filters":{"master":["*","(",1]},"servers":1}"#,
+            FaultCode::BadPattern,
+            "/filters/master/1",
+        ),
+        (
+            r#"{"version":1,"filters":{"intermediate":["alias=("," ",1]},"servers":1}"#,
+            FaultCode::BadType,
+            "/filters/intermediate/2",
+        ),
+        (
+            r#"{"version":1,"servers":[],"turns":1}"#,
+            FaultCode::BadNumber,
+            "/servers",
+        ),
+        (
+            r#"{"version":1,"servers":[{"name":"m"}],"turns":1}"#,
+            FaultCode::BadType,
+            "/turns",
+        ),
+        (
+            r#"{"version":1,"servers":[{"name":"m"},{"name":"m:3306"}]}"#,
+            FaultCode::DuplicateName,
+            "/servers/1/name",
+        ),
+        (
+            r#"{"version":1,"servers":[{"name":"a","source":"b"},{"name":"b","source":"a"}],"turns":[1]}"#,
+            FaultCode::Loop,
+            "/servers/0/source",
+        ),
+        (
+            r#"{"version":1,"servers":[{"name":"m","history":[["m",100,2]]},{"name":"r","source":"m","executed":3}]}"#,
+            FaultCode::TooMany,
+            "/servers/1/executed",
+        ),
+        (
+            r#"{"version":1,"servers":[{"name":"m","history":[["m",1,2000001]]},{"name":"r","source":"r"}]}"#,
+            FaultCode::TooLarge,
+            "",
+        ),
+    ] {
+        let Some((found, at)) = fault_in(rt.alloc(), text.as_bytes()) else {
+            panic!(rt; "{text}");
+        };
+        assert_eq!(rt; found, code, "{text}");
+        assert_eq!(rt; str::from_utf8(&at).ok(), Some(path), "{text}");
+    }
+    Ok(())
+}
+
+#[test]
+fn turns_have_codes_and_paths(rt: HostRuntime) -> Result<(), Fail> {
+    for (turn, code, path) in [
+        ("1", FaultCode::BadType, "/turns/1"),
+        ("[]", FaultCode::BadTurn, "/turns/1"),
+        ("[1]", FaultCode::BadType, "/turns/1/0"),
+        (r#"["spin"]"#, FaultCode::BadTurn, "/turns/1"),
+        (r#"["polls",1]"#, FaultCode::NotBuilt, "/turns/1"),
+        (r#"["write","x"]"#, FaultCode::BadTurn, "/turns/1"),
+        (r#"["write","x",0]"#, FaultCode::UnknownName, "/turns/1/1"),
+        (r#"["write","m",0]"#, FaultCode::BadNumber, "/turns/1/2"),
+        (r#"["fetch","m",1]"#, FaultCode::BadTurn, "/turns/1"),
+        (r#"["apply",":"]"#, FaultCode::BadName, "/turns/1/1"),
+        (r#"["cut","m","log"]"#, FaultCode::BadNumber, "/turns/1/2"),
+        (r#"["tick",1000000001]"#, FaultCode::BadNumber, "/turns/1/1"),
+    ] {
+        let text = format!(in rt.alloc();
+            "{{\"version\":1,\"servers\":[{{\"name\":\"m\"}}],\"turns\":[[\"tick\",0],{turn},1]}}"
+        )?;
+        let Some((found, at)) = fault_in(rt.alloc(), text.as_bytes()) else {
+            panic!(rt; "{turn}");
+        };
+        assert_eq!(rt; found, code, "{turn}");
+        assert_eq!(rt; str::from_utf8(&at).ok(), Some(path), "{turn}");
+    }
+    Ok(())
+}
+
+#[test]
+fn long_texts_are_refused(rt: HostRuntime) -> Result<(), Fail> {
+    let bytes = vec![in rt.alloc(); b' '; 67_108_865]?;
+    let Some((code, path)) = fault_in(rt.alloc(), &bytes) else {
+        panic!(rt; "no fault");
+    };
+    assert_eq!(rt; code, FaultCode::TooLong);
+    assert_eq!(rt; path.len(), 0);
+    let fault = fault_in(rt.alloc(), &bytes[1..]);
+    assert_eq!(rt; fault.map(|(code, _)| code), Some(FaultCode::NotJson));
+    Ok(())
+}
+
+#[test]
+fn every_key_is_read(rt: HostRuntime) -> Result<(), Fail> {
+    let text = r#"{
+        "version": 1, "now": 7, "gtid": true, "aliases": {"c1": "pay", "other": "x"},
+        "filters": {"master": ["alias=pay"], "intermediate": ["^c2", "alias~=^x"]},
+        "servers": [
+            {"name": "m", "uuid": "00000000-0000-0000-0000-00000000000a", "server_id": 3, "version": "5.7.44", "cluster": "c1",
+             "logs": true, "read_only": false, "limit": 1000, "up": true, "desk": true, "feed": true,
+             "history": [["m", 100, 2]], "flushes": [1]},
+            {"name": "r:3307", "cluster": "c1", "source": "m", "executed": 2, "io": true, "sql": false, "auto": true, "detached": false,
+             "until": "mysql-bin.000009:4"}
+        ],
+        "turns": [["write", "m", 100], ["fetch", "r:3307"], ["apply", "r:3307"], ["fail", "m"], ["heal", "m"], ["rotate", "m"],
+            ["cut", "r:3307", "desk"], ["join", "r:3307", "feed"], ["tick", 1000000000]]
+    }"#;
+    let scenario = match read(rt.alloc(), text.as_bytes()) {
+        Ok(scenario) => scenario,
+        Err(_) => panic!(rt; "not read"),
+    };
+    assert_eq!(rt; scenario.moment.0, 7);
+    assert_eq!(rt; scenario.opening.servers().len(), 2);
+    assert_eq!(rt; scenario.turns.as_slice().len(), 9);
+    assert_eq!(rt; scenario.aliases.as_slice().len(), 2);
+    assert_eq!(rt;
+        scenario.filters.master.passes.as_slice(),
+        [true, true].as_slice()
+    );
+    assert_eq!(rt;
+        scenario.filters.intermediate.passes.as_slice(),
+        [false, false].as_slice()
+    );
+    Ok(())
+}

@@ -1,0 +1,194 @@
+//! The turns.
+
+ghost use Rattle.std.specs.Prelude.{◌≡◌};
+ghost use Rattle.orch_base.specs.Gives.{Gives};
+ghost use Rattle.serde_json.specs.View.{view, items_view};
+ghost use Rattle.scenario_values.specs.Faults.{fault_of, under_item, each};
+ghost use Rattle.scenario_values.specs.Values.{text_in, number_in};
+ghost use Rattle.scenario_servers.specs.Names.{server_named};
+ghost use Rattle.scenario_reader.specs.Turns.{link_in, one_of, two_of, server_of, size_of, link_of, seconds_of, turn_of, turn_with, turn_from, turn_in};
+
+use crate::word::{Word, is_word, word_at};
+use orch_base::ServerNo;
+use orch_core::Turn;
+use scenario_servers::{Names, server_named};
+use scenario_values::{FaultCode, ReadFault, fails, items_in, number_in, text_in, under_item};
+use serde_json::Value;
+use server_model::Link;
+use std::alloc::Global;
+
+#[tactic(auto, unfolding(crate::specs::Turns::link_in))]
+fn link_in(alloc: Global, value: &Value) -> Result<Link, ReadFault>
+    ensures { Gives (λ l. l) fault_of result (link_in (view value.now)) }
+{
+    let text = text_in(alloc, value)?;
+    if is_word("desk", text) {
+        return Ok(Link::Desk);
+    }
+    if is_word("feed", text) {
+        return Ok(Link::Feed);
+    }
+    Err(fails(alloc, FaultCode::BadNumber))
+}
+
+fn one_of(alloc: Global, rest: &[Value]) -> Result<&Value, ReadFault>
+    ensures { Gives (λ v. view v.now) fault_of result (one_of (items_view rest.now)) }
+{
+    if rest.len() != 1 {
+        return Err(fails(alloc, FaultCode::BadTurn));
+    }
+    Ok(&rest[0])
+}
+
+fn two_of(alloc: Global, rest: &[Value]) -> Result<(&Value, &Value), ReadFault>
+    ensures { Gives (λ p. (view p.0.now, view p.1.now)) fault_of result (two_of (items_view rest.now)) }
+{
+    if rest.len() != 2 {
+        return Err(fails(alloc, FaultCode::BadTurn));
+    }
+    Ok((&rest[0], &rest[1]))
+}
+
+#[tactic(auto, using(scenario_values::proofs::Unders::gives_under))]
+fn server_at(alloc: Global, names: &Names, value: &Value) -> Result<ServerNo, ReadFault>
+    ensures { Gives (λ n. n) fault_of result (under_item 1 (server_named names.now (view value.now))) }
+{
+    under_item(alloc, 1, server_named(alloc, names, value))
+}
+
+#[tactic(auto, using(scenario_values::proofs::Unders::gives_under))]
+fn number_at(
+    alloc: Global,
+    part: usize,
+    low: u64,
+    high: u64,
+    value: &Value,
+) -> Result<u64, ReadFault>
+    ensures { Gives (λ n. n) fault_of result (under_item part (number_in low high (view value.now))) }
+{
+    under_item(alloc, part, number_in(alloc, low, high, value))
+}
+
+#[tactic(auto, using(scenario_values::proofs::Unders::gives_under))]
+fn link_at(alloc: Global, value: &Value) -> Result<Link, ReadFault>
+    ensures { Gives (λ l. l) fault_of result (under_item 2 (link_in (view value.now))) }
+{
+    under_item(alloc, 2, link_in(alloc, value))
+}
+
+#[tactic(auto, using(scenario_values::proofs::Unders::gives_under))]
+fn text_at(alloc: Global, value: &Value) -> Result<&str, ReadFault>
+    ensures { Gives (λ s. s.now) fault_of result (under_item 0 (text_in (view value.now))) }
+{
+    under_item(alloc, 0, text_in(alloc, value))
+}
+
+#[tactic(auto, unfolding(crate::specs::Turns::server_of))]
+fn server_of(alloc: Global, names: &Names, rest: &[Value]) -> Result<ServerNo, ReadFault>
+    ensures { Gives (λ n. n) fault_of result (server_of names.now (items_view rest.now)) }
+{
+    let server = one_of(alloc, rest)?;
+    server_at(alloc, names, server)
+}
+
+#[tactic(auto, unfolding(crate::specs::Turns::size_of))]
+fn size_of(alloc: Global, names: &Names, rest: &[Value]) -> Result<(ServerNo, u32), ReadFault>
+    ensures { Gives (λ p. p) fault_of result (size_of names.now (items_view rest.now)) }
+{
+    let (server, size) = two_of(alloc, rest)?;
+    let server = server_at(alloc, names, server)?;
+    let size = number_at(alloc, 2, 1, 1_000_000, size)?;
+    Ok((server, size as u32))
+}
+
+#[tactic(auto, unfolding(crate::specs::Turns::link_of))]
+fn link_of(alloc: Global, names: &Names, rest: &[Value]) -> Result<(ServerNo, Link), ReadFault>
+    ensures { Gives (λ p. p) fault_of result (link_of names.now (items_view rest.now)) }
+{
+    let (server, link) = two_of(alloc, rest)?;
+    let server = server_at(alloc, names, server)?;
+    let link = link_at(alloc, link)?;
+    Ok((server, link))
+}
+
+#[tactic(auto, unfolding(crate::specs::Turns::seconds_of))]
+fn seconds_of(alloc: Global, rest: &[Value]) -> Result<u64, ReadFault>
+    ensures { Gives (λ n. n) fault_of result (seconds_of (items_view rest.now)) }
+{
+    let number = one_of(alloc, rest)?;
+    number_at(alloc, 1, 0, 1_000_000_000, number)
+}
+
+fn turn_of(alloc: Global, names: &Names, word: Word, rest: &[Value]) -> Result<Turn, ReadFault>
+    ensures { Gives (λ t. t) fault_of result (turn_of names.now word (items_view rest.now)) }
+{
+    match word {
+        Word::Write => {
+            let (server, size) = size_of(alloc, names, rest)?;
+            Ok(Turn::Write(server, size))
+        }
+        Word::Fetch => Ok(Turn::Fetch(server_of(alloc, names, rest)?)),
+        Word::Apply => Ok(Turn::Apply(server_of(alloc, names, rest)?)),
+        Word::Fail => Ok(Turn::Fail(server_of(alloc, names, rest)?)),
+        Word::Heal => Ok(Turn::Heal(server_of(alloc, names, rest)?)),
+        Word::Rotate => Ok(Turn::Rotate(server_of(alloc, names, rest)?)),
+        Word::Cut => {
+            let (server, link) = link_of(alloc, names, rest)?;
+            Ok(Turn::Cut(server, link))
+        }
+        Word::Join => {
+            let (server, link) = link_of(alloc, names, rest)?;
+            Ok(Turn::Join(server, link))
+        }
+        Word::Tick => Ok(Turn::Tick(seconds_of(alloc, rest)?)),
+    }
+}
+
+#[tactic(auto, unfolding(crate::specs::Turns::turn_with))]
+fn turn_with(alloc: Global, names: &Names, first: &Value, rest: &[Value]) -> Result<Turn, ReadFault>
+    ensures { Gives (λ t. t) fault_of result (turn_with names.now (view first.now) (items_view rest.now)) }
+{
+    let text = text_at(alloc, first)?;
+    let word = word_at(alloc, text)?;
+    turn_of(alloc, names, word, rest)
+}
+
+fn turn_from(alloc: Global, names: &Names, items: &[Value]) -> Result<Turn, ReadFault>
+    ensures { Gives (λ t. t) fault_of result (turn_from names.now (items_view items.now)) }
+{
+    match items.split_first() {
+        Some((first, rest)) => turn_with(alloc, names, first, rest),
+        None => Err(fails(alloc, FaultCode::BadTurn)),
+    }
+}
+
+#[tactic(auto, unfolding(crate::specs::Turns::turn_in))]
+fn turn_in(alloc: Global, names: &Names, value: &Value) -> Result<Turn, ReadFault>
+    ensures { Gives (λ t. t) fault_of result (turn_in names.now (view value.now)) }
+{
+    let items = items_in(alloc, value)?;
+    turn_from(alloc, names, items)
+}
+
+#[tactic(auto, using(scenario_values::proofs::Unders::gives_under))]
+fn turn_at(alloc: Global, names: &Names, number: usize, value: &Value) -> Result<Turn, ReadFault>
+    ensures { Gives (λ t. t) fault_of result (under_item number (turn_in names.now (view value.now))) }
+{
+    under_item(alloc, number, turn_in(alloc, names, value))
+}
+
+/// Each turn in order. A turn that isn't known or has another number of parts is `BadTurn` at the turn, one that isn't
+/// built `NotBuilt`, and a part has its own faults at its place. The time is that of the items.
+pub(crate) fn each_turn(
+    alloc: Global,
+    names: &Names,
+    items: &[Value],
+) -> Result<Vec<Turn>, ReadFault>
+    ensures { Gives (λ v. v.items) fault_of result (each (turn_in names.now) (items_view items.now)) }
+{
+    let mut turns = Vec::new(alloc);
+    for (number, value) in items.iter().enumerate() {
+        turns.push(turn_at(alloc, names, number, value)?)?;
+    }
+    Ok(turns)
+}

@@ -1,0 +1,181 @@
+//! The walk over a scenario's text.
+
+ghost use Rattle.std.specs.Prelude.{◌≡◌, ◌+◌, ℕ, List, [], Some, Ok, IfOk, codes, count_by, length};
+ghost use Rattle.orch_base.specs.Gives.{Gives};
+ghost use Rattle.serde_json.specs.Data.{no_items};
+ghost use Rattle.serde_json.specs.View.{view, items_view};
+ghost use Rattle.orch_core.specs.declared.scenario.Scenario.{Scenario as AScenario};
+ghost use Rattle.orch_core.specs.Scenarios.{IsScenario};
+ghost use Rattle.scenario_values.specs.declared.fault.FaultCode.TheVariants.{TooLong};
+ghost use Rattle.scenario_values.specs.Faults.{fault_of, under as place_under, needed, optional, each};
+ghost use Rattle.scenario_values.specs.Values.{items_in};
+ghost use Rattle.scenario_servers.specs.Openings.{is_small, listed_count, inits_of, IsGiven};
+ghost use Rattle.scenario_servers.specs.Servers.{servers_in};
+ghost use Rattle.scenario_filters.specs.Filters.{AreRead};
+ghost use Rattle.scenario_reader.specs.Turns.{turn_in};
+ghost use Rattle.scenario_reader.specs.Scenarios.{json_in, is_write, turns_in, scenario_with, scenario_from, scenario_in};
+
+use crate::head::{Head, head_in, keys_in};
+use crate::turns::each_turn;
+use openings::ServerInit;
+use orch_base::{MAX_SCENARIO_LEN, Moment};
+use orch_core::{Scenario, Turn, Turns};
+use scenario_filters::answered;
+use scenario_servers::{Listed, Names, inits_of, listed_count, opening_in, servers_in};
+use scenario_values::{FaultCode, ReadFault, fails, holds, items_in, under};
+use serde_json::Value;
+use std::alloc::Global;
+
+const MOST: u64 = 4_000_000;
+
+fn writes(turns: &[Turn]) -> usize
+    ensures { result ≡ count_by is_write turns.now }
+{
+    turns
+        .iter()
+        .filter(|turn| matches!(turn, Turn::Write(_, _)))
+        .count()
+}
+
+// Whether the servers times the transactions that they list and the turns write are at most 4,000,000.
+fn is_small(servers: &[ServerInit], turns: &[Turn]) -> bool
+    ensures { result ≡ is_small (length servers.now) (listed_count servers.now + count_by is_write turns.now) }
+{
+    let count = listed_count(servers).saturating_add(writes(turns) as u64);
+    match count.checked_mul(servers.len() as u64) {
+        Some(product) => product <= MOST,
+        None => false,
+    }
+}
+
+#[tactic(auto, using(scenario_values::proofs::Unders::gives_under))]
+fn turns_at(alloc: Global, names: &Names, items: &[Value]) -> Result<Vec<Turn>, ReadFault>
+    ensures { Gives (λ v. v.items) fault_of result
+        (place_under (codes "turns") (each (turn_in names.now) (items_view items.now))) }
+{
+    under(alloc, b"turns", each_turn(alloc, names, items))
+}
+
+// The turns over these servers, where they are not too many.
+#[tactic(auto, unfolding(crate::specs::Scenarios::turns_in))]
+fn turns_in(
+    alloc: Global,
+    names: &Names,
+    servers: &[ServerInit],
+    items: &[Value],
+) -> Result<Turns, ReadFault>
+    ensures { Gives (λ t. t) fault_of result (turns_in names.now servers.now (items_view items.now)) }
+{
+    let turns = turns_at(alloc, names, items)?;
+    holds(alloc, FaultCode::TooLarge, turns.len() <= 1_000_000)?;
+    holds(alloc, FaultCode::TooLarge, is_small(servers, &turns))?;
+    Ok(Turns::new(turns))
+}
+
+// The scenario of the keys before the servers, the servers, and the items of the turns.
+#[tactic(auto, unfolding(crate::specs::Scenarios::scenario_with))]
+fn scenario_with(
+    alloc: Global,
+    head: Head,
+    listed: Listed,
+    items: &[Value],
+) -> Result<Scenario, ReadFault>
+    requires given { IsGiven head.gtid (inits_of listed.given.items) }
+    requires read { AreRead head.filters }
+    ensures { Gives (λ s. s) fault_of result
+        (scenario_with head (listed.names, listed.given.items) (items_view items.now)) }
+{
+    let servers = inits_of(alloc, listed.given)?;
+    let opening = opening_in(alloc, servers, head.gtid)?;
+    let turns = turns_in(alloc, &listed.names, opening.servers(), items)?;
+    let filters = answered(alloc, head.filters, &head.aliases, opening.servers())?;
+    Ok(Scenario {
+        opening,
+        moment: Moment(head.moment),
+        aliases: head.aliases,
+        filters,
+        turns,
+    })
+}
+
+#[tactic(auto, using(scenario_values::proofs::Unders::gives_under))]
+fn servers_at(alloc: Global, gtid: bool, object: &Value) -> Result<Listed, ReadFault>
+    ensures { Gives (λ l. (l.names, l.given.items)) fault_of result
+        (needed (codes "servers") (servers_in gtid) (view object.now)) }
+{
+    match object.get("servers") {
+        Some(value) => under(alloc, b"servers", servers_in(alloc, gtid, value)),
+        None => Err(fails(alloc, FaultCode::Missing)),
+    }
+}
+
+#[tactic(auto, using(scenario_values::proofs::Unders::gives_under))]
+fn listed_turns(alloc: Global, object: &Value) -> Result<&[Value], ReadFault>
+    ensures { Gives (λ v. items_view v.now) fault_of result
+        (optional (codes "turns") items_in no_items (view object.now)) }
+{
+    match object.get("turns") {
+        Some(value) => {
+            let items = under(alloc, b"turns", items_in(alloc, value))?;
+            Ok(items)
+        }
+        None => Ok(&[]),
+    }
+}
+
+#[tactic(auto, unfolding(crate::specs::Scenarios::scenario_from))]
+fn scenario_from(alloc: Global, value: &Value) -> Result<Scenario, ReadFault>
+    ensures { Gives (λ s. s) fault_of result (scenario_from (view value.now)) }
+{
+    keys_in(alloc, value)?;
+    let head = head_in(alloc, value)?;
+    let listed = servers_at(alloc, head.gtid, value)?;
+    let items = listed_turns(alloc, value)?;
+    scenario_with(alloc, head, listed, items)
+}
+
+fn json_in(alloc: Global, bytes: &[u8]) -> Result<Value, ReadFault>
+    ensures { Gives view fault_of result (json_in bytes.now) }
+{
+    match Value::from_slice(alloc, bytes) {
+        Ok(value) => Ok(value),
+        Err(e) => {
+            if e.is_memory() {
+                Err(ReadFault::Memory)
+            } else {
+                Err(fails(alloc, FaultCode::NotJson))
+            }
+        }
+    }
+}
+
+/// The fault of a text of more than 67,108,864 bytes.
+pub fn too_long(alloc: Global) -> ReadFault
+    ensures { fault_of result ≡ Some (record { code = TooLong; path = [] }) }
+{
+    fails(alloc, FaultCode::TooLong)
+}
+
+#[tactic(auto, unfolding(crate::specs::Scenarios::scenario_in))]
+fn scenario_in(alloc: Global, bytes: &[u8]) -> Result<Scenario, ReadFault>
+    ensures { Gives (λ s. s) fault_of result (scenario_in bytes.now) }
+{
+    holds(alloc, FaultCode::TooLong, bytes.len() <= MAX_SCENARIO_LEN)?;
+    let value = json_in(alloc, bytes)?;
+    scenario_from(alloc, &value)
+}
+
+/// Reads a scenario: the one that these bytes are, or the first fault of the walk over them, with its place. Want of
+/// memory also answers a filter's regular expression past the room that `regex` grants one. The time is that of the
+/// bytes, of the aliases and the filters for each server, and of `Opening::check`.
+pub fn read(alloc: Global, bytes: &[u8]) -> Result<Scenario, ReadFault>
+    ensures exact { Gives (λ s. s) fault_of result (scenario_in bytes.now) }
+    ensures sound { IfOk result IsScenario }
+{
+    scenario_in(alloc, bytes)
+}
+
+/// What bytes are read as meets the condition of the calls that take a scenario.
+pub fn read_is_sound()
+    ensures { (bytes : List ℕ) (s : AScenario) → scenario_in bytes ≡ Ok s → IsScenario s }
+{}
