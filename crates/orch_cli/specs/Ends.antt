@@ -8,7 +8,7 @@ use Rattle.orch_core.specs.declared.scenario.Scenario.{Scenario}
 use Rattle.orch_core.specs.Runs.{run_turns}
 use Rattle.orch_core.specs.Scenarios.{start}
 use Rattle.orch_cli.specs.Report.{Answer, run_answer}
-use Rattle.orch_cli.specs.Scenarios.{scenario_in}
+use Rattle.scenario_reader.specs.Scenarios.{scenario_in}
 use Rattle.orch_cli.specs.Words.{is_taken}
 
 -- the answer has a report

@@ -1,8 +1,4 @@
-pub mod Form
-pub mod Plans
-pub mod Scenarios
-pub mod Lines
-pub mod Tables
+pub mod Faults
 pub mod Words
 pub mod Report
 pub mod Stops

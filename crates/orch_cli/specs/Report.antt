@@ -8,11 +8,11 @@ use Rattle.orch_core.specs.declared.turn.Reply.{Reply}
 use Rattle.orch_core.specs.declared.turn.Reply.TheVariants as answered
 use Rattle.orch_core.specs.Runs.{State, run_turns}
 use Rattle.orch_core.specs.Scenarios.{start}
-use Rattle.orch_cli.specs.declared.reading.fault.Fault.{Fault}
-use Rattle.orch_cli.specs.declared.reading.fault.Fault.TheVariants.{TooLong, NotJson, NotBuilt}
-use Rattle.orch_cli.specs.Lines.{lines_text}
-use Rattle.orch_cli.specs.Scenarios.{scenario_in}
-use Rattle.orch_cli.specs.Tables.{tables_text}
+use Rattle.scenario_values.specs.declared.fault.Fault.{Fault}
+use Rattle.scenario_reader.specs.Scenarios.{scenario_in}
+use Rattle.report_text.specs.Lines.{lines_text}
+use Rattle.report_text.specs.Tables.{tables_text}
+use Rattle.orch_cli.specs.Faults.{fault_text}
 use Rattle.orch_cli.specs.Words.{is_taken}
 
 -- what is written on out and on err, and the status, where nothing fails
@@ -51,11 +51,6 @@ run_answer s = record {
   err = [];
   status = if any_refused (last_state s) then 7 else 0;
 }
-
-abbrev pub fault_text : Fault → List ℕ
-fault_text TooLong = codes "scenario fault 1 TooLong\n"
-fault_text NotJson = codes "scenario fault 2 NotJson\n"
-fault_text NotBuilt = codes "scenario fault 25 NotBuilt\n"
 
 abbrev pub read_answer : Result Scenario Fault → Answer
 read_answer (Ok s) = run_answer s

@@ -2,12 +2,12 @@
 use Rattle.std.specs.Prelude.{ℕ, Bool, List, Option, None, Some, Result, Ok}
 use Rattle.orch_base.specs.Gives.{◌>>=◌}
 use Rattle.orch_core.specs.declared.scenario.Scenario.{Scenario}
-use Rattle.orch_cli.specs.declared.reading.fault.Fault.{Fault}
+use Rattle.scenario_values.specs.declared.fault.Fault.{Fault}
 use Rattle.orch_cli.specs.declared.report.Report.{Report}
 use Rattle.orch_cli.specs.declared.report.Stop.{Stop}
 use Rattle.orch_cli.specs.declared.report.Stop.TheVariants as stops
 use Rattle.orch_cli.specs.Report.{names_of, last_state, report_text, any_refused}
-use Rattle.orch_cli.specs.Scenarios.{scenario_in}
+use Rattle.scenario_reader.specs.Scenarios.{scenario_in}
 
 -- the fault that stopped, and nothing at want of memory or where the source failed
 abbrev pub stop_fault : Stop → Option Fault

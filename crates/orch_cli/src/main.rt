@@ -2,11 +2,10 @@
 #![tactic(auto)]
 
 mod edge;
-mod reading;
+mod fault;
 mod report;
 #[cfg(test)]
 mod tests;
-mod texts;
 mod top;
 mod words;
 

@@ -5,19 +5,20 @@ ghost use Rattle.std.specs.Io.KnownBytes.{Consumes};
 ghost use Rattle.orch_base.specs.Causes.{Rose};
 ghost use Rattle.orch_base.specs.Gives.{Gives};
 ghost use Rattle.orch_core.specs.Scenarios.{IsScenario};
-ghost use Rattle.orch_cli.specs.Lines.{lines_text};
+ghost use Rattle.report_text.specs.Lines.{lines_text};
+ghost use Rattle.scenario_values.specs.Faults.{fault_of};
 ghost use Rattle.orch_cli.specs.Stops.{stop_fault, view, text_of, text_in};
 ghost use Rattle.orch_cli.specs.Report.{names_of, last_state, report_text, is_refused, any_refused};
 
-use crate::reading::{Fault, ReadFault, read};
-use crate::texts::{reply_text, tables};
 use orch_base::{Memory, Name, NotRead, Source, read_all};
 use orch_core::{Orch, Reply, Scenario, Turn};
+use report_text::{reply_text, tables};
+use scenario_reader::{Fault, ReadFault, read, too_long};
 use server_model::Opening;
 use std::alloc::Global;
 
 /// Why there is no report.
-#[derive(Clone, Copy, Debug, PartialEq, Eq)]
+#[derive(Drop)]
 pub(crate) enum Stop {
     Memory,
     Source,
@@ -103,6 +104,17 @@ fn report_of(alloc: Global, scenario: &Scenario) -> Result<Report, Memory>
     Ok(Report { text, is_refused })
 }
 
+// What stops where reading has this fault.
+fn stop_of(fault: ReadFault) -> Stop
+    ensures told { stop_fault result ≡ fault_of fault }
+    ensures not_source { result ≡ Stop.Source → ⊥ }
+{
+    match fault {
+        ReadFault::Memory => Stop::Memory,
+        ReadFault::Fault(fault) => Stop::Fault(fault),
+    }
+}
+
 fn report_in(alloc: Global, bytes: &[u8]) -> Result<Report, Stop>
     ensures told { Gives view stop_fault result (text_in bytes.now) }
     ensures not_source { result ≡ Err Stop.Source → ⊥ }
@@ -112,8 +124,7 @@ fn report_in(alloc: Global, bytes: &[u8]) -> Result<Report, Stop>
             Ok(report) => Ok(report),
             Err(_) => Err(Stop::Memory),
         },
-        Err(ReadFault::Memory) => Err(Stop::Memory),
-        Err(ReadFault::Fault(fault)) => Err(Stop::Fault(fault)),
+        Err(fault) => Err(stop_of(fault)),
     }
 }
 
@@ -127,6 +138,6 @@ pub(crate) fn report_from<S: Source>(alloc: Global, source: &mut S) -> Result<Re
         Ok(bytes) => report_in(alloc, &bytes),
         Err(NotRead::Memory) => Err(Stop::Memory),
         Err(NotRead::Source) => Err(Stop::Source),
-        Err(NotRead::TooLong) => Err(Stop::Fault(Fault::TooLong)),
+        Err(NotRead::TooLong) => Err(stop_of(too_long(alloc))),
     }
 }

@@ -1,9 +1,5 @@
-use crate::reading::read;
-use crate::texts::reply_text;
 use crate::top::orch;
-use orch_base::{MemSink, MemSource, Name, ServerNo};
-use orch_core::{Orch, Turn};
-use server_model::Link;
+use orch_base::{MAX_SCENARIO_LEN, MemSink, MemSource};
 use std::alloc::Global;
 use std::test::Fail;
 
@@ -22,8 +18,73 @@ server r:3306 up ro executed 5 end mysql-bin.000001:504 source m:3306 at mysql-b
 errant 0
 ";
 
-// One server whose `up` is given, which is not built.
-const DOWN: &str = "{\"version\":1,\"servers\":[{\"name\":\"m\",\"up\":false}]}";
+// A replica whose feed is cut.
+const CUT: &str =
+    "{\"version\":1,\"servers\":[{\"name\":\"m\",\"history\":[[\"m\",100,2]]},{\"name\":\"r\",\"source\":\"m\",\"executed\":2}],\"turns\":[[\"cut\",\"r\",\"feed\"],[\"fetch\",\"r\"],[\"apply\",\"r\"]]}";
+
+const IS_CUT: &str = "1 cut r:3306 feed: done
+2 fetch r:3306: no link
+3 apply r:3306: nothing
+server m:3306 up rw executed 2 end mysql-bin.000001:204 source none
+server r:3306 up ro executed 2 end mysql-bin.000001:204 source m:3306 at mysql-bin.000001:204 read mysql-bin.000001:204 io on sql on
+errant 0
+";
+
+// A master that fails, heals, and begins a new file.
+const HEALS: &str =
+    "{\"version\":1,\"servers\":[{\"name\":\"m\",\"history\":[[\"m\",100,1]]},{\"name\":\"r\",\"source\":\"m\",\"executed\":1}],\"turns\":[[\"fail\",\"m\"],[\"fetch\",\"r\"],[\"heal\",\"m\"],[\"write\",\"m\",50],[\"rotate\",\"m\"],[\"fetch\",\"r\"],[\"fetch\",\"r\"]]}";
+
+const IS_HEALED: &str = "1 fail m:3306: done
+2 fetch r:3306: no link
+3 heal m:3306: done
+4 write m:3306 50: done 2
+5 rotate m:3306: done mysql-bin.000002:4
+6 fetch r:3306: got mysql-bin.000001:154
+7 fetch r:3306: rotated mysql-bin.000002:4
+server m:3306 up rw executed 2 end mysql-bin.000002:4 source none
+server r:3306 up ro executed 1 end mysql-bin.000001:104 source m:3306 at mysql-bin.000001:104 read mysql-bin.000002:4 io on sql on
+errant 0
+";
+
+// Each turn, and each answer that a scenario's own turns can give.
+const EACH_TURN: &str =
+    "{\"version\":1,\"servers\":[{\"name\":\"m\",\"history\":[[\"m\",100,2]]},{\"name\":\"r\",\"source\":\"m\",\"executed\":2},{\"name\":\"u\",\"source\":\"m\",\"executed\":1,\"read\":\"mysql-bin.000001:204\",\"until\":\"mysql-bin.000001:104\",\"logs\":false}],\"turns\":[[\"cut\",\"r\",\"feed\"],[\"join\",\"r\",\"feed\"],[\"cut\",\"m\",\"desk\"],[\"fail\",\"m\"],[\"write\",\"m\",100],[\"fetch\",\"r\"],[\"rotate\",\"m\"],[\"heal\",\"m\"],[\"write\",\"r\",100],[\"write\",\"m\",100],[\"fetch\",\"r\"],[\"fetch\",\"r\"],[\"apply\",\"r\"],[\"apply\",\"r\"],[\"apply\",\"u\"],[\"apply\",\"u\"],[\"rotate\",\"u\"],[\"tick\",60],[\"tick\",1000000000]]}";
+
+const EACH_LINE: &str = "1 cut r:3306 feed: done
+2 join r:3306 feed: done
+3 cut m:3306 desk: done
+4 fail m:3306: done
+5 write m:3306 100: down
+6 fetch r:3306: no link
+7 rotate m:3306: down
+8 heal m:3306: done
+9 write r:3306 100: read only
+10 write m:3306 100: done 3
+11 fetch r:3306: got mysql-bin.000001:304
+12 fetch r:3306: nothing
+13 apply r:3306: done mysql-bin.000001:304
+14 apply r:3306: nothing
+15 apply u:3306: at until
+16 apply u:3306: stopped
+17 rotate u:3306: not logging
+18 tick 60: now 60
+19 tick 1000000000: now 1000000060
+server m:3306 up rw executed 3 end mysql-bin.000001:304 source none
+server r:3306 up ro executed 3 end mysql-bin.000001:304 source m:3306 at mysql-bin.000001:304 read mysql-bin.000001:304 io on sql on
+server u:3306 up ro executed 1 end none source m:3306 at mysql-bin.000001:104 read mysql-bin.000001:204 io on sql off
+errant 0
+";
+
+const DUPLICATE: &str = "{\"version\":1,\"servers\":[{\"name\":\"m\"},{\"name\":\"m:3306\"}]}";
+
+const LOOP: &str =
+    "{\"version\":1,\"servers\":[{\"name\":\"a\",\"source\":\"b\"},{\"name\":\"b\",\"source\":\"a\"}]}";
+
+const TOO_MANY: &str =
+    "{\"version\":1,\"servers\":[{\"name\":\"m\",\"history\":[[\"m\",100,2]]},{\"name\":\"r\",\"source\":\"m\",\"executed\":3}]}";
+
+const AUTO: &str =
+    "{\"version\":1,\"servers\":[{\"name\":\"m\"},{\"name\":\"r\",\"source\":\"m\",\"auto\":true}]}";
 
 const CUT_SHORT: &str = "{\"version\":1,\"servers\":[";
 
@@ -42,25 +103,45 @@ fn words_of(alloc: Global, texts: &[&str]) -> Result<Vec<Vec<u8>>, Fail> {
 #[test]
 fn answers(rt: HostRuntime) -> Result<(), Fail> {
     let alloc = rt.alloc();
-    // The words, the scenario's text, the calls of the source and of out that fail; the status, and what out and err took.
-    let cases: [(&[&str], &str, (u64, u64), (u8, &str, &str)); 7] = [
-        (RUN, CATCHES_UP, (0, 0), (0, CAUGHT_UP, "")),
-        (RUN, DOWN, (0, 0), (2, "", "scenario fault 25 NotBuilt\n")),
+    // The words, the scenario's text, the call of the source that fails; the status, and what out and err took.
+    let cases: [(&[&str], &str, u64, (u8, &str, &str)); 12] = [
+        (RUN, CATCHES_UP, 0, (0, CAUGHT_UP, "")),
+        (RUN, CUT, 0, (0, IS_CUT, "")),
+        (RUN, HEALS, 0, (0, IS_HEALED, "")),
+        (RUN, EACH_TURN, 0, (0, EACH_LINE, "")),
+        (RUN, CUT_SHORT, 0, (2, "", "scenario fault 2 NotJson\n")),
         (
             RUN,
-            CUT_SHORT,
-            (0, 0),
-            (2, "", "scenario fault 2 NotJson\n"),
+            DUPLICATE,
+            0,
+            (2, "", "scenario fault 7 DuplicateName /servers/1/name\n"),
         ),
-        (WALK, CATCHES_UP, (0, 0), (1, "", "usage\n")),
-        (&["orch"], CATCHES_UP, (0, 0), (1, "", "usage\n")),
-        (RUN, CATCHES_UP, (1, 0), (3, "", "read fault\n")),
-        (RUN, CATCHES_UP, (0, 1), (4, "", "write fault\n")),
+        (
+            RUN,
+            LOOP,
+            0,
+            (2, "", "scenario fault 10 Loop /servers/0/source\n"),
+        ),
+        (
+            RUN,
+            TOO_MANY,
+            0,
+            (2, "", "scenario fault 13 TooMany /servers/1/executed\n"),
+        ),
+        (
+            RUN,
+            AUTO,
+            0,
+            (2, "", "scenario fault 26 AutoWithoutGtid /servers/1/auto\n"),
+        ),
+        (WALK, CATCHES_UP, 0, (1, "", "usage\n")),
+        (&["orch"], CATCHES_UP, 0, (1, "", "usage\n")),
+        (RUN, CATCHES_UP, 1, (3, "", "read fault\n")),
     ];
-    for (words, text, (source_fails, out_fails), (status, out_bytes, err_bytes)) in cases {
+    for (words, text, source_fails, (status, out_bytes, err_bytes)) in cases {
         let text = Vec::from_slice(alloc, text.as_bytes())?;
         let mut source = MemSource::new(text, vec![in alloc; source_fails]?);
-        let mut out = MemSink::new(alloc, 1000, vec![in alloc; out_fails]?)?;
+        let mut out = MemSink::new(alloc, 2000, Vec::new(alloc))?;
         let mut err = MemSink::new(alloc, 100, Vec::new(alloc))?;
         let words = words_of(alloc, words)?;
         let result = orch(alloc, &words, &mut source, &mut out, &mut err);
@@ -75,61 +156,45 @@ fn answers(rt: HostRuntime) -> Result<(), Fail> {
     Ok(())
 }
 
-// A master and a replica, both with two transactions.
-const LEVEL: &str =
-    "{\"version\":1,\"servers\":[{\"name\":\"m\",\"history\":[[\"m\",100,2]]},{\"name\":\"r\",\"source\":\"m\",\"executed\":2}]}";
-
-const EACH_TURN: &[Turn] = &[
-    Turn::Cut(ServerNo(1), Link::Feed),
-    Turn::Fetch(ServerNo(1)),
-    Turn::Apply(ServerNo(1)),
-    Turn::Join(ServerNo(1), Link::Feed),
-    Turn::Cut(ServerNo(0), Link::Desk),
-    Turn::Fail(ServerNo(0)),
-    Turn::Write(ServerNo(0), 100),
-    Turn::Fetch(ServerNo(1)),
-    Turn::Rotate(ServerNo(0)),
-    Turn::Heal(ServerNo(0)),
-    Turn::Write(ServerNo(1), 100),
-    Turn::Write(ServerNo(0), 100),
-    Turn::Fetch(ServerNo(1)),
-    Turn::Apply(ServerNo(1)),
-    Turn::Tick(60),
-    Turn::Tick(1000000000),
-];
-
-const EACH_LINE: &str = "1 cut r:3306 feed: done
-2 fetch r:3306: no link
-3 apply r:3306: nothing
-4 join r:3306 feed: done
-5 cut m:3306 desk: done
-6 fail m:3306: done
-7 write m:3306 100: down
-8 fetch r:3306: no link
-9 rotate m:3306: down
-10 heal m:3306: done
-11 write r:3306 100: read only
-12 write m:3306 100: full
-13 fetch r:3306: nothing
-14 apply r:3306: nothing
-15 tick 60: now 60
-16 tick 1000000000: now 1000000060
-";
+#[test]
+fn failed_writes(rt: HostRuntime) -> Result<(), Fail> {
+    let alloc = rt.alloc();
+    // The room of out, and the call of it that fails; the status, and how many bytes of the report out took.
+    for (room, out_fails, status, taken) in [
+        (2000, 1, 4, 0),
+        (2000, 2, 0, CAUGHT_UP.len()),
+        (100, 2, 4, 100),
+        (100, 0, 4, 100),
+    ] {
+        let text = Vec::from_slice(alloc, CATCHES_UP.as_bytes())?;
+        let mut source = MemSource::new(text, Vec::new(alloc));
+        let mut out = MemSink::new(alloc, room, vec![in alloc; out_fails]?)?;
+        let mut err = MemSink::new(alloc, 100, Vec::new(alloc))?;
+        let words = words_of(alloc, RUN)?;
+        let result = orch(alloc, &words, &mut source, &mut out, &mut err);
+        assert_eq!(rt; result, status);
+        assert_eq!(rt; out.written().len(), taken);
+        assert!(rt; CAUGHT_UP.as_bytes().starts_with(out.written()));
+        assert_eq!(rt;
+            str::from_utf8(err.written()).ok(),
+            Some(if status == 4 { "write fault\n" } else { "" })
+        );
+    }
+    Ok(())
+}
 
 #[test]
-fn prints_each_turn(rt: HostRuntime) -> Result<(), Fail> {
+fn one_byte_too_many(rt: HostRuntime) -> Result<(), Fail> {
     let alloc = rt.alloc();
-    let Ok(scenario) = read(alloc, LEVEL.as_bytes()) else {
-        panic!(rt; "the scenario is not read");
-    };
-    let mut orch = Orch::make(alloc, &scenario)?;
-    assert_eq!(rt; orch.world().servers(), 2);
-    orch.run(EACH_TURN)?;
-    let names = vec![in alloc; Name::read(alloc, "m")?, Name::read(alloc, "r")?]?;
-    let mut lines = Vec::new(alloc);
-    for (i, (turn, reply)) in orch.journal().iter().enumerate() {
-        reply_text(i as u64 + 1, turn, reply, &names, &mut lines)?;
-    }
-    assert_eq!(rt; str::from_utf8(&lines).ok(), Some(EACH_LINE));
+    let text = vec![in alloc; b' '; MAX_SCENARIO_LEN + 1]?;
+    let mut source = MemSource::new(text, Vec::new(alloc));
+    let mut out = MemSink::new(alloc, 100, Vec::new(alloc))?;
+    let mut err = MemSink::new(alloc, 100, Vec::new(alloc))?;
+    let words = words_of(alloc, RUN)?;
+    assert_eq!(rt; orch(alloc, &words, &mut source, &mut out, &mut err), 2);
+    assert_eq!(rt;
+        str::from_utf8(err.written()).ok(),
+        Some("scenario fault 1 TooLong\n")
+    );
     Ok(())
 }

@@ -7,8 +7,9 @@ ghost use Rattle.orch_cli.specs.Ends.{EndsAs, err_of, Took, WritesOut, IsComplet
 ghost use Rattle.orch_cli.specs.Report.{report};
 ghost use Rattle.orch_cli.specs.Words.{is_taken};
 
+use crate::fault::fault_line;
 use crate::report::{Stop, report_from};
-use crate::words::{fault_line, is_taken};
+use crate::words::is_taken;
 use orch_base::{Sink, Source, write_all};
 use std::alloc::Global;
 
@@ -28,7 +29,7 @@ pub(crate) fn close<E: Sink>(err: &mut E, line: &[u8], status: u8) -> u8
 ///
 /// - 0: the report is written, and no reply in it is refused or failed.
 /// - 1: the words aren't taken; `usage` on err.
-/// - 2: the scenario has a fault; `scenario fault CODE NAME` on err.
+/// - 2: the scenario has a fault; `scenario fault CODE NAME PATH` on err.
 /// - 3: the source failed; `read fault` on err.
 /// - 4: out failed, and took a front of the report; `write fault` on err.
 /// - 6: want of memory; `out of memory` on err.
@@ -75,7 +76,10 @@ pub fn orch<S: Source, O: Sink, E: Sink>(
     match report_from(alloc, scenario) {
         Err(Stop::Memory) => close(err, b"out of memory\n", 6),
         Err(Stop::Source) => close(err, b"read fault\n", 3),
-        Err(Stop::Fault(fault)) => close(err, fault_line(fault), 2),
+        Err(Stop::Fault(fault)) => match fault_line(alloc, &fault) {
+            Ok(line) => close(err, &line, 2),
+            Err(_) => close(err, b"out of memory\n", 6),
+        },
         Ok(report) => match write_all(out, &report.text) {
             Ok(()) => { if report.is_refused { 7 } else { 0 } }
             Err(_) => close(err, b"write fault\n", 4),

@@ -1,5 +1,5 @@
 use Rattle.std.proofs.Common.{◌≡◌, ◌+◌, ◌++◌, drop}
-use Rattle.orch_cli.specs.Lines.{lines_text}
+use Rattle.report_text.specs.Lines.{lines_text}
 use Rattle.orch_cli.proofs.report.print_lines.Given as goal
 
 abbrev pub invariant-loop-entry : goal.invariant-loop-entry

@@ -1,6 +1,6 @@
 use Rattle.std.proofs.Common.{◌∙◌, sym, map, refl}
 use Rattle.orch_cli.specs.Report.{report}
-use Rattle.orch_cli.proofs.TopLemmas.{stopped, refused, safe_run}
+use Rattle.orch_cli.proofs.TopLemmas.{stopped, refused, faulted, safe_run}
 use Rattle.orch_cli.proofs.top.orch.Goals as goal
 
 pub returns-then-not-is_taken-clause-err : goal.returns-then-not-is_taken-clause-err
@@ -13,7 +13,7 @@ pub returns-in-Err-Source-clause-err : goal.returns-in-Err-Source-clause-err
 returns-in-Err-Source-clause-err g c = stopped _ _ _ _ _ (report (map (λ w. w.items) c.args.words.now)) 3 _ _ c.close-in-Err-Source.ensures.status (λ x. refl) c.close-in-Err-Source.ensures.took
 
 pub returns-clause-err : goal.returns-clause-err
-returns-clause-err g c = stopped _ _ _ _ _ (report (map (λ w. w.items) c.args.words.now)) 4 _ _ c.close-in-Err.ensures.status (λ x. refl) c.close-in-Err.ensures.took
+returns-clause-err g c = stopped _ _ _ _ _ (report (map (λ w. w.items) c.args.words.now)) 4 _ _ c.close-in-Err-write_all.ensures.status (λ x. refl) c.close-in-Err-write_all.ensures.took
 
 pub returns-then-not-is_taken-clause-safe : goal.returns-then-not-is_taken-clause-safe
 returns-then-not-is_taken-clause-safe g c = safe_run _
@@ -35,3 +35,14 @@ returns-in-Ok-write_all-clause-safe g c = safe_run _
 
 pub returns-clause-safe : goal.returns-clause-safe
 returns-clause-safe g c = safe_run _
+
+pub returns-in-Ok-fault_line-clause-safe : goal.returns-in-Ok-fault_line-clause-safe
+returns-in-Ok-fault_line-clause-safe g c = safe_run _
+
+pub returns-in-Ok-fault_line-clause-err : goal.returns-in-Ok-fault_line-clause-err
+returns-in-Ok-fault_line-clause-err g c =
+    faulted _ _ _ _ _ (map (λ w. w.items) c.args.words.now) _ _ _ _ c.close-in-Ok-fault_line.ensures.status (sym c.is_taken.ensures ∙ c.if-not-is_taken.false) c.in-Err-Fault.field-0-is c.in-Err-Fault.ensures.told
+    (c.deref.ensures.value ∙ c.in-Ok-fault_line.ensures) c.close-in-Ok-fault_line.ensures.took
+
+pub returns-in-Err-Fault-clause-err : goal.returns-in-Err-Fault-clause-err
+returns-in-Err-Fault-clause-err g c = stopped _ _ _ _ _ (report (map (λ w. w.items) c.args.words.now)) 6 _ _ c.close-in-Err.ensures.status (λ x. refl) c.close-in-Err.ensures.took
