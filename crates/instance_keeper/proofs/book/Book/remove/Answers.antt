@@ -1,0 +1,11 @@
+use Rattle.instance_keeper.proofs.Books.{none_kept, downtime_set, candidate_set}
+use Rattle.instance_keeper.proofs.book.Book.remove.Goals as goal
+
+pub invariant_of-self : goal.invariant_of-self
+invariant_of-self c = (c.put_at.ensures.keys, none_kept _ _ _ c.self.invariant.1 c.put_at.ensures.values)
+
+pub invariant_of-self-in-Server-this : goal.invariant_of-self-in-Server-this
+invariant_of-self-in-Server-this c = (c.self.invariant.0, downtime_set _ _ _ c.self.invariant.1 tt)
+
+pub invariant_of-self-in-Server-this-2 : goal.invariant_of-self-in-Server-this-2
+invariant_of-self-in-Server-this-2 c = (c.self.invariant.0, candidate_set _ _ _ c.self.invariant.1 tt)

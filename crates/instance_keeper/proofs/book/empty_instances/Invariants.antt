@@ -1,0 +1,12 @@
+use Rattle.std.proofs.Common.{◌≡◌, None, length}
+use Rattle.std.specs.Prelude.{replicate}
+use Rattle.indexmap.specs.IndexMap.{values}
+use Rattle.instance_keeper.specs.Spots.{CountsUp}
+use Rattle.instance_keeper.proofs.book.empty_instances.Given as goal
+
+abbrev pub invariant-loop-no : goal.invariant-loop-no
+invariant-loop-no l = record {
+  keys : CountsUp 0 l.instances.entries;
+  len : length l.instances.entries ≡ l.no;
+  values : values l.instances ≡ replicate l.no None;
+}

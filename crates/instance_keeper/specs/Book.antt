@@ -1,0 +1,183 @@
+-- What orchestrator knows, by the servers' numbers.
+use Rattle.std.specs.Prelude.{◌≡◌, ℕ, ◌+◌, ◌<◌, ◌^◌, ◌&&◌, nat_lt, Bool, true, false, if◌then◌else◌, List, [], ◌∷◌, ◌++◌, length, fold, replicate, filter_map, slice_set, slice_index_or, Option, None, Some, option_map, unwrap_or, is_some, IfSome, ⊤}
+use Rattle.std.specs.List.{All, list_all}
+use Rattle.std.specs.Option.{option_to_list}
+use Rattle.orch_base.specs.Names.{HostPort}
+use Rattle.orch_base.specs.declared.server.ServerNo.{ServerNo}
+use Rattle.orch_base.specs.declared.server.Moment.{Moment}
+use Rattle.orch_base.specs.declared.server.SourceState.{SourceState}
+use Rattle.orch_base.specs.declared.server.SourceState.TheVariants as source
+use Rattle.instance_keeper.specs.declared.observation.Seen.{Seen}
+use Rattle.instance_keeper.specs.declared.observation.Observation.{Observation}
+use Rattle.instance_keeper.specs.declared.observation.Instance.{Instance}
+use Rattle.instance_keeper.specs.declared.recovery.Ending.{Ending}
+use Rattle.instance_keeper.specs.declared.recovery.Ending.TheVariants as ending
+use Rattle.instance_keeper.specs.declared.recovery.Rule.{Rule}
+use Rattle.instance_keeper.specs.declared.recovery.Rule.TheVariants as rule
+use Rattle.instance_keeper.specs.declared.row.Downtime.{Downtime}
+use Rattle.instance_keeper.specs.declared.row.Candidate.{Candidate}
+use Rattle.instance_keeper.specs.declared.row.Row.{Row}
+use Rattle.instance_keeper.specs.declared.row.Row.TheVariants as row
+use Rattle.instance_keeper.specs.declared.row.Table.{Table}
+use Rattle.instance_keeper.specs.declared.row.Table.TheVariants as table
+use Rattle.instance_keeper.specs.declared.row.Key.{Key}
+use Rattle.instance_keeper.specs.declared.row.Key.TheVariants as key
+use Rattle.instance_keeper.specs.declared.row.Change.{Change}
+use Rattle.instance_keeper.specs.declared.row.Change.TheVariants as change
+use Rattle.instance_keeper.specs.declared.book.StoreAnswer.{StoreAnswer}
+use Rattle.instance_keeper.specs.declared.book.StoreAnswer.TheVariants as answer
+use Rattle.instance_keeper.specs.Rows.{table_of}
+
+-- each list has a place for each server, by its number; the switch is none without a row
+pub record Known : Type 0 where
+  pub names : List HostPort
+  pub instances : List (Option Instance)
+  pub downtimes : List (Option Downtime)
+  pub candidates : List (Option Candidate)
+  pub switch : Option Bool
+
+-- the numbers of the servers that a value names
+abbrev pub source_servers : SourceState → List ℕ
+source_servers source.Without = []
+source_servers (source.Attached n) = n.0 ∷ []
+source_servers (source.Detached n) = n.0 ∷ []
+
+abbrev pub seen_servers : Option Seen → List ℕ
+seen_servers None = []
+seen_servers (Some s) = source_servers s.source
+
+abbrev pub observed_servers : Observation → List ℕ
+observed_servers o = o.no.0 ∷ seen_servers o.seen
+
+abbrev pub ending_servers : Ending → List ℕ
+ending_servers ending.Unended = []
+ending_servers (ending.Promoted n) = n.0 ∷ []
+ending_servers (ending.Failed cause) = []
+ending_servers ending.Interrupted = []
+
+abbrev pub servers_of : Row → List ℕ
+servers_of (row.Instance i) = i.no.0 ∷ source_servers i.seen.source
+servers_of (row.Downtime d) = d.no.0 ∷ []
+servers_of (row.Candidate c) = c.no.0 ∷ []
+servers_of (row.Recovery r) = r.failed.0 ∷ ending_servers r.outcome
+servers_of (row.Switch enabled) = []
+
+abbrev pub key_servers : Key → List ℕ
+key_servers (key.Server n) = n.0 ∷ []
+key_servers (key.Id id) = []
+key_servers key.Global = []
+
+abbrev pub are_known : ℕ → List ℕ → Bool
+are_known count servers = list_all (λ n. nat_lt n count) servers
+
+-- the recoveries stand in the audit
+abbrev pub is_of_book : Table → Bool
+is_of_book table.Instance = true
+is_of_book table.Downtime = true
+is_of_book table.Candidate = true
+is_of_book table.Recovery = false
+is_of_book table.Switch = true
+
+-- a row of the book whose servers are known
+abbrev pub row_fits : ℕ → Row → Bool
+row_fits count r = is_of_book (table_of r) && are_known count (servers_of r)
+
+abbrev pub fits : ℕ → Change → Bool
+fits count (change.Put r) = row_fits count r
+fits count (change.Remove t k) = is_of_book t && are_known count (key_servers k)
+
+abbrev pub empty_book : List HostPort → Known
+empty_book names = record {
+  names = names;
+  instances = replicate (length names) None;
+  downtimes = replicate (length names) None;
+  candidates = replicate (length names) None;
+  switch = None;
+}
+
+abbrev pub after_put : Known → Row → Known
+after_put b (row.Instance i) = record b { instances = slice_set b.instances i.no.0 (Some i) }
+after_put b (row.Downtime d) = record b { downtimes = slice_set b.downtimes d.no.0 (Some d) }
+after_put b (row.Candidate c) = record b { candidates = slice_set b.candidates c.no.0 (Some c) }
+after_put b (row.Recovery r) = b
+after_put b (row.Switch enabled) = record b { switch = Some enabled }
+
+abbrev pub after_removal : Known → Table → Key → Known
+after_removal b table.Instance (key.Server n) = record b { instances = slice_set b.instances n.0 None }
+after_removal b table.Downtime (key.Server n) = record b { downtimes = slice_set b.downtimes n.0 None }
+after_removal b table.Candidate (key.Server n) = record b { candidates = slice_set b.candidates n.0 None }
+after_removal b table.Switch key.Global = record b { switch = None }
+after_removal b t k = b
+
+abbrev pub after_change : Known → Change → Known
+after_change b (change.Put r) = after_put b r
+after_change b (change.Remove t k) = after_removal b t k
+
+-- a row of the recovery table, and one that names an unknown server, are passed over
+abbrev pub after_row : Known → Row → Known
+after_row b r = if row_fits (length b.names) r then after_put b r else b
+
+-- the book of these rows: of two with one table and key the last stands
+abbrev pub book_made : List HostPort → List Row → Known
+book_made names rows = fold after_row (empty_book names) rows
+
+abbrev pub instance_at : Known → ServerNo → Option Instance
+instance_at b n = slice_index_or b.instances n.0 None
+
+-- what is known after a reading: one that didn't reach its server keeps what was seen earlier
+abbrev pub renewed : Instance → Observation → Instance
+renewed kept o = record { no = o.no; read = o.read; moment = o.moment; valid = is_some o.seen; seen = unwrap_or o.seen kept.seen }
+
+-- a reading is old where the kept one is later
+abbrev pub store_answer : Option Instance → Observation → StoreAnswer
+store_answer None o = answer.Unknown
+store_answer (Some kept) o = if nat_lt o.read kept.read then answer.Old kept.read else answer.Stored
+
+abbrev pub stored_over : Known → Observation → Option Instance → Known
+stored_over b o None = b
+stored_over b o (Some kept) = if nat_lt o.read kept.read then b else after_put b (row.Instance (renewed kept o))
+
+abbrev pub after_store : Known → Observation → Known
+after_store b o = stored_over b o (instance_at b o.no)
+
+-- the end of a downtime that still lasts
+abbrev pub end_after : ℕ → Option Downtime → Option Moment
+end_after now None = None
+end_after now (Some d) = if nat_lt now d.until.0 then Some d.until else None
+
+abbrev pub downtime_at : Known → ServerNo → Moment → Option Moment
+downtime_at b n now = end_after now.0 (slice_index_or b.downtimes n.0 None)
+
+-- the rule of a registration that still lasts
+abbrev pub rule_after : ℕ → Option Candidate → Rule
+rule_after now None = rule.Neutral
+rule_after now (Some c) = if nat_lt now c.until.0 then c.rule else rule.Neutral
+
+abbrev pub rule_at : Known → ServerNo → Moment → Rule
+rule_at b n now = rule_after now.0 (slice_index_or b.candidates n.0 None)
+
+-- the kept rows of a book
+abbrev pub book_rows : Known → List Row
+book_rows b = filter_map (option_map row.Instance) b.instances
+    ++ (filter_map (option_map row.Downtime) b.downtimes
+    ++ (filter_map (option_map row.Candidate) b.candidates
+    ++ option_to_list (option_map row.Switch b.switch)))
+
+-- what stands at a place has the place's number
+abbrev pub IsNumbered : {A : Type 0} → (A → ServerNo) → ℕ → List (Option A) → Type 0
+IsNumbered no_of from [] = ⊤
+IsNumbered no_of from (x ∷ xs) = IfSome x (λ a. (no_of a).0 ≡ from) × IsNumbered no_of (from + 1) xs
+
+abbrev pub HasKnownSource : ℕ → Option Instance → Type 0
+HasKnownSource count x = IfSome x (λ i. are_known count (source_servers i.seen.source) ≡ true)
+
+-- every server has its places, and every source is known
+pub record IsBook (b : Known) : Type 0 where
+  pub small : length b.names < 2 ^ 32
+  pub instances : length b.instances ≡ length b.names
+  pub downtimes : length b.downtimes ≡ length b.names
+  pub candidates : length b.candidates ≡ length b.names
+  pub instance_numbers : IsNumbered (λ i. i.no) 0 b.instances
+  pub downtime_numbers : IsNumbered (λ d. d.no) 0 b.downtimes
+  pub candidate_numbers : IsNumbered (λ c. c.no) 0 b.candidates
+  pub sources : All (HasKnownSource (length b.names)) b.instances

@@ -1,0 +1,5 @@
+pub mod Rows
+pub mod Keeping
+pub mod Book
+pub mod Spots
+pub mod Ranges

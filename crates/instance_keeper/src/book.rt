@@ -1,0 +1,397 @@
+//! The book: what orchestrator knows.
+
+ghost use Rattle.std.specs.Prelude.{◌≡◌, ◌<◌, ◌^◌, None, Some, IfOk, OnOk, IsTrue, true, length, map, replicate, slice_get, slice_set, slice_index_or, option_map, unwrap_or, nat_lt};
+ghost use Rattle.std.specs.Option.{option_copied};
+ghost use Rattle.indexmap.specs.IndexMap.{values};
+ghost use Rattle.instance_keeper.specs.Spots.{CountsUp};
+ghost use Rattle.instance_keeper.specs.Book.{are_known, source_servers, observed_servers, ending_servers, servers_of, key_servers, row_fits, fits, empty_book, after_put, after_removal, after_change, after_row, book_made, instance_at, renewed, store_answer, after_store, downtime_at, rule_at, IsBook};
+
+use crate::Memory;
+use crate::observation::{Instance, Observation};
+use crate::recovery::{Ending, Rule};
+use crate::row::{Candidate, Change, Downtime, Key, Row, Table};
+use indexmap::IndexMap;
+use orch_base::{Moment, Name, ServerNo, Settings, SourceState};
+use std::alloc::Global;
+use std::marker::Model;
+
+/// What became of an observation.
+#[derive(Clone, Copy, Debug, PartialEq, Eq)]
+pub enum StoreAnswer {
+    /// There is no such instance.
+    Unknown,
+    /// The instance was read later, by this number.
+    Old(u64),
+    /// It is stored.
+    Stored,
+}
+
+type Instances = IndexMap<u32, Option<Instance>>;
+
+// A place for each server, all of them empty.
+fn empty_instances(alloc: Global, count: u32) -> Result<Instances, Memory>
+    ensures keys { IfOk result (λ m. CountsUp 0 m.entries) }
+    ensures values { IfOk result (λ m. values m ≡ replicate count None) }
+{
+    let mut instances = IndexMap::with_capacity(alloc, count as usize)?;
+    for no in 0..count {
+        instances.insert(no, None)?;
+    }
+    Ok(instances)
+}
+
+// Sets a server's place and gives what stood there. It takes no memory.
+fn put_at(instances: &mut Instances, no: u32, instance: Option<Instance>) -> Option<Instance>
+    requires keys { CountsUp 0 instances.old.entries }
+    requires within { no < length (values instances.old) }
+    ensures keys { CountsUp 0 instances.new.entries }
+    ensures values { values instances.new ≡ slice_set (values instances.old) no instance }
+    ensures old { result ≡ slice_index_or (values instances.old) no None }
+{
+    instances.insert(no, instance).unwrap().flatten()
+}
+
+fn instance_in(instances: &Instances, no: u32) -> Option<&Instance>
+    requires keys { CountsUp 0 instances.now.entries }
+    requires within { no < length (values instances.now) }
+    ensures { option_copied result ≡ slice_index_or (values instances.now) no None }
+{
+    match instances.get(&no) {
+        Some(place) => place.as_ref(),
+        None => None,
+    }
+}
+
+// What is known after a reading.
+fn renewed(kept: Instance, o: Observation) -> Instance
+    ensures { result ≡ renewed kept o }
+{
+    let Observation {
+        no,
+        read,
+        moment,
+        seen,
+    } = o;
+    match seen {
+        Some(seen) => Instance {
+            no,
+            read,
+            moment,
+            valid: true,
+            seen,
+        },
+        None => Instance {
+            no,
+            read,
+            moment,
+            valid: false,
+            seen: kept.seen,
+        },
+    }
+}
+
+fn renewed_if(kept: Option<Instance>, o: Observation) -> Option<Instance>
+    ensures { result ≡ option_map (λ i. renewed i o) kept }
+{
+    match kept {
+        Some(kept) => Some(renewed(kept, o)),
+        None => None,
+    }
+}
+
+fn is_known(count: u32, no: ServerNo) -> bool
+    ensures { result ≡ nat_lt no.0 count }
+{
+    no.0 < count
+}
+
+fn is_source_known(count: u32, source: SourceState) -> bool
+    ensures { result ≡ are_known count (source_servers source) }
+{
+    match source {
+        SourceState::Without => true,
+        SourceState::Attached(no) | SourceState::Detached(no) => is_known(count, no),
+    }
+}
+
+fn is_ending_known(count: u32, outcome: Ending) -> bool
+    ensures { result ≡ are_known count (ending_servers outcome) }
+{
+    match outcome {
+        Ending::Promoted(no) => is_known(count, no),
+        _ => true,
+    }
+}
+
+impl Row {
+    /// Whether each server that the row names is one of so many.
+    pub fn are_servers_known(&self, count: u32) -> bool
+        ensures { result ≡ are_known count (servers_of self.now) }
+    {
+        match self {
+            Row::Instance(i) => is_known(count, i.no) && is_source_known(count, i.seen.source),
+            Row::Downtime(downtime) => is_known(count, downtime.no),
+            Row::Candidate(candidate) => is_known(count, candidate.no),
+            Row::Recovery(r) => is_known(count, r.failed) && is_ending_known(count, r.outcome),
+            Row::Switch(_) => true,
+        }
+    }
+
+    // Whether a book of so many servers takes the row.
+    fn fits(&self, count: u32) -> bool
+        ensures { result ≡ row_fits count self.now }
+    {
+        !matches!(self, Row::Recovery(_)) && self.are_servers_known(count)
+    }
+}
+
+impl Observation {
+    /// Whether each server that the observation names is one of so many.
+    pub fn are_servers_known(&self, count: u32) -> bool
+        ensures { result ≡ are_known count (observed_servers self.now) }
+    {
+        match &self.seen {
+            Some(seen) => is_known(count, self.no) && is_source_known(count, seen.source),
+            None => is_known(count, self.no),
+        }
+    }
+}
+
+impl Change {
+    /// Whether a book of so many servers takes the change: it isn't of the recovery table, and its servers are known.
+    pub fn fits(&self, count: u32) -> bool
+        ensures { result ≡ fits count self.now }
+    {
+        match self {
+            Change::Put(row) => row.fits(count),
+            Change::Remove(Table::Recovery, _) => false,
+            Change::Remove(_, Key::Server(no)) => is_known(count, *no),
+            Change::Remove(_, _) => true,
+        }
+    }
+}
+
+/// What orchestrator knows: the instances, downtimes and candidates by the servers' numbers, and the switch.
+#[derive(Drop)]
+pub struct Book {
+    names: Vec<Name>,
+    instances: Instances,
+    downtimes: Vec<Option<Downtime>>,
+    candidates: Vec<Option<Candidate>>,
+    switch: Option<bool>,
+}
+
+impl Model for Book {
+    ghost use Rattle.indexmap.specs.IndexMap.{values};
+    ghost use Rattle.instance_keeper.specs.Spots.{CountsUp};
+    ghost use Rattle.instance_keeper.specs.Book.{Known, IsBook};
+
+    ghost Value = { Known };
+
+    ghost view = { λ b. record { names = b.names.items; instances = values b.instances; downtimes = b.downtimes.items; candidates = b.candidates.items; switch = b.switch } };
+
+    ghost invariant = { λ b. CountsUp 0 b.instances.entries × IsBook (record { names = b.names.items; instances = values b.instances; downtimes = b.downtimes.items; candidates = b.candidates.items; switch = b.switch }) };
+}
+
+fn copy_names(alloc: Global, settings: &[Settings]) -> Result<Vec<Name>, Memory>
+    ensures { IfOk result (λ names. names.items ≡ map (λ s. s.name) settings.now) }
+{
+    let mut names = Vec::with_capacity(alloc, settings.len())?;
+    for server in settings {
+        names.push(server.name.copy(alloc)?)?;
+    }
+    Ok(names)
+}
+
+// A place for each server, all of them empty.
+fn empty_places<T: Drop>(alloc: Global, count: u32) -> Result<Vec<Option<T>>, Memory>
+    ensures { IfOk result (λ places. places.items ≡ replicate count None) }
+{
+    let mut places = Vec::with_capacity(alloc, count as usize)?;
+    for _ in 0..count {
+        places.push(None)?;
+    }
+    Ok(places)
+}
+
+impl Book {
+    // The book of these servers, without a row.
+    fn empty(alloc: Global, settings: &[Settings]) -> Result<Book, Memory>
+        requires { length settings.now < 2 ^ 32 }
+        ensures { IfOk result (λ b. b ≡ empty_book (map (λ s. s.name) settings.now)) }
+    {
+        let count = settings.len() as u32;
+        Ok(Book {
+            names: copy_names(alloc, settings)?,
+            instances: empty_instances(alloc, count)?,
+            downtimes: empty_places(alloc, count)?,
+            candidates: empty_places(alloc, count)?,
+            switch: None,
+        })
+    }
+
+    /// How many servers there are.
+    pub fn servers(&self) -> u32
+        ensures count { result ≡ length self.now.names }
+        ensures holds { IsBook self.now }
+    {
+        self.names.len() as u32
+    }
+
+    /// The name of a server.
+    pub fn name(&self, no: ServerNo) -> &Name
+        requires { no.0 < length self.now.names }
+        ensures { Some result.now ≡ slice_get self.now.names no.0 }
+    {
+        &self.names[no.0 as usize]
+    }
+
+    /// What is known of a server: none where it is no instance.
+    pub fn instance(&self, no: ServerNo) -> Option<&Instance>
+        requires { no.0 < length self.now.names }
+        ensures { option_copied result ≡ instance_at self.now no }
+    {
+        instance_in(&self.instances, no.0)
+    }
+
+    /// Whether recoveries are enabled, as they are where no row says otherwise.
+    pub fn enabled(&self) -> bool
+        ensures { result ≡ unwrap_or self.now.switch true }
+    {
+        self.switch.unwrap_or(true)
+    }
+
+    /// When a server's downtime ends: none where it has none that lasts longer than now.
+    pub fn downtime(&self, no: ServerNo, now: Moment) -> Option<Moment>
+        requires { no.0 < length self.now.names }
+        ensures { result ≡ downtime_at self.now no now }
+    {
+        match &self.downtimes[no.0 as usize] {
+            Some(downtime) if now < downtime.until => Some(downtime.until),
+            _ => None,
+        }
+    }
+
+    /// A server's rule of promotion: neutral without a registration that lasts longer than now.
+    pub fn rule(&self, no: ServerNo, now: Moment) -> Rule
+        requires { no.0 < length self.now.names }
+        ensures { result ≡ rule_at self.now no now }
+    {
+        match self.candidates[no.0 as usize] {
+            Some(candidate) if now < candidate.until => candidate.rule,
+            _ => Rule::Neutral,
+        }
+    }
+}
+
+impl Book {
+    /// The book of these servers and rows: of two rows with one table and key the later stands. A row of the recovery table, and one that names an unknown server, are passed over.
+    pub fn make(alloc: Global, settings: &[Settings], rows: &[Row]) -> Result<Book, Memory>
+        requires { length settings.now < 2 ^ 32 }
+        ensures made { IfOk result (λ b. b ≡ book_made (map (λ s. s.name) settings.now) rows.now) }
+        ensures names { IfOk result (λ b. b.names ≡ map (λ s. s.name) settings.now) }
+        ensures count { IfOk result (λ b. length b.names ≡ length settings.now) }
+    {
+        let mut book = Book::empty(alloc, settings)?;
+        'rows: for row in rows {
+            book.take(alloc, row)?;
+        }
+        Ok(book)
+    }
+
+    // Puts a row, where a book takes it.
+    fn take(&mut self, alloc: Global, row: &Row) -> Result<(), Memory>
+        ensures after { OnOk result (self.new ≡ after_row self.old row.now) }
+        ensures names { self.new.names ≡ self.old.names }
+    {
+        if row.fits(self.servers()) {
+            self.put(row.copy(alloc)?);
+        }
+        Ok(())
+    }
+
+    /// Makes a change: a server's row, or the switch, is put or removed, and all else stays. It takes no memory.
+    pub fn set(&mut self, change: Change)
+        requires { IsTrue (fits (length self.old.names) change) }
+        ensures after { self.new ≡ after_change self.old change }
+        ensures names { self.new.names ≡ self.old.names }
+    {
+        match change {
+            Change::Put(row) => self.put(row),
+            Change::Remove(table, key) => self.remove(table, key),
+        }
+    }
+
+    fn put(&mut self, row: Row)
+        requires { row_fits (length self.old.names) row ≡ true }
+        ensures after { self.new ≡ after_put self.old row }
+        ensures names { self.new.names ≡ self.old.names }
+    {
+        match row {
+            Row::Instance(instance) => {
+                put_at(&mut self.instances, instance.no.0, Some(instance));
+            }
+            Row::Downtime(downtime) => {
+                let index = downtime.no.0 as usize;
+                self.downtimes[index] = Some(downtime);
+            }
+            Row::Candidate(candidate) => self.candidates[candidate.no.0 as usize] = Some(candidate),
+            Row::Recovery(_) => {}
+            Row::Switch(enabled) => self.switch = Some(enabled),
+        }
+    }
+
+    fn remove(&mut self, table: Table, key: Key)
+        requires { are_known (length self.old.names) (key_servers key) ≡ true }
+        ensures after { self.new ≡ after_removal self.old table key }
+        ensures names { self.new.names ≡ self.old.names }
+    {
+        match (table, key) {
+            (Table::Instance, Key::Server(no)) => {
+                put_at(&mut self.instances, no.0, None);
+            }
+            (Table::Downtime, Key::Server(no)) => self.downtimes[no.0 as usize] = None,
+            (Table::Candidate, Key::Server(no)) => self.candidates[no.0 as usize] = None,
+            (Table::Switch, Key::Global) => self.switch = None,
+            _ => {}
+        }
+    }
+
+    // The number of the last reading of a server.
+    fn last_read(&self, no: ServerNo) -> Option<u64>
+        requires { no.0 < length self.now.names }
+        ensures { result ≡ option_map (λ i. i.read) (instance_at self.now no) }
+    {
+        match self.instance(no) {
+            Some(instance) => Some(instance.read),
+            None => None,
+        }
+    }
+
+    // Renews what is known of an instance.
+    fn renew(&mut self, o: Observation)
+        requires { are_known (length self.old.names) (observed_servers o) ≡ true }
+        ensures { self.new ≡ record self.old { instances = slice_set self.old.instances o.no.0 (option_map (λ i. renewed i o) (instance_at self.old o.no)) } }
+    {
+        let no = o.no.0;
+        let kept = put_at(&mut self.instances, no, None);
+        put_at(&mut self.instances, no, renewed_if(kept, o));
+    }
+
+    /// Stores a reading, unless the kept one of that instance is later. One that reached its server replaces the instance; one that didn't keeps what was seen earlier, which is no longer valid. It takes no memory.
+    pub fn store_observation(&mut self, o: Observation) -> StoreAnswer
+        requires { IsTrue (are_known (length self.old.names) (observed_servers o)) }
+        ensures answer { result ≡ store_answer (instance_at self.old o.no) o }
+        ensures after { self.new ≡ after_store self.old o }
+        ensures names { self.new.names ≡ self.old.names }
+    {
+        match self.last_read(o.no) {
+            None => StoreAnswer::Unknown,
+            Some(kept) if o.read < kept => StoreAnswer::Old(kept),
+            Some(_) => {
+                self.renew(o);
+                StoreAnswer::Stored
+            }
+        }
+    }
+}

@@ -1,0 +1,117 @@
+//! Rules of promotion, and recoveries.
+
+use crate::Memory;
+use orch_base::{Label, Moment, ServerNo};
+use std::alloc::Global;
+
+/// Whether a server should be promoted (orchestrator's documentation, "register-candidate"): the best first.
+#[derive(Clone, Copy, Debug, PartialEq, Eq, PartialOrd, Ord)]
+pub enum Rule {
+    /// Before others.
+    Prefer,
+    /// As it is, without a registration.
+    Neutral,
+    /// After others.
+    PreferNot,
+    /// Never.
+    MustNot,
+}
+
+/// What is recovered.
+#[derive(Clone, Copy, Debug, PartialEq, Eq)]
+pub enum Kind {
+    /// A master that failed.
+    Master,
+    /// An intermediate master that failed.
+    Intermediate,
+    /// A master that is replaced as planned.
+    Takeover,
+}
+
+/// The name of a cause that ends a recovery.
+#[derive(Clone, Copy, Debug, PartialEq, Eq)]
+pub enum CauseName {
+    /// A server wasn't reached.
+    Unreachable,
+    /// The last wait was spent.
+    WaitSpent,
+    /// A server replicates from elsewhere than it was seen to.
+    Interfered,
+    /// A server's threads run.
+    Running,
+    /// The server would be below itself.
+    Loop,
+    /// The server has transactions that its new source hasn't.
+    Errant,
+    /// A replica has another source.
+    Moved,
+    /// The server that had failed was reached.
+    Reachable,
+    /// No replica may be promoted.
+    NoCandidate,
+}
+
+/// How a recovery ended.
+#[derive(Clone, Copy, Debug, PartialEq, Eq)]
+pub enum Ending {
+    /// It hasn't ended.
+    Unended,
+    /// This server was promoted.
+    Promoted(ServerNo),
+    /// It failed by this cause.
+    Failed(CauseName),
+    /// Orchestrator was restarted meanwhile.
+    Interrupted,
+}
+
+/// A recovery, as the audit has it (orchestrator's documentation, "Topology recovery").
+#[derive(Drop)]
+pub struct Recovery {
+    /// Its number, counted from 1.
+    pub id: u64,
+    /// The label of the cluster that is recovered.
+    pub cluster: Label,
+    /// What is recovered.
+    pub kind: Kind,
+    /// The server that failed, or is replaced.
+    pub failed: ServerNo,
+    /// When it began.
+    pub begun: Moment,
+    /// When it ended: none for one that hasn't.
+    pub ended: Option<Moment>,
+    /// How it ended.
+    pub outcome: Ending,
+    /// Whether it is acknowledged, so that it blocks no other.
+    pub acked: bool,
+}
+
+impl Recovery {
+    ghost use Rattle.std.specs.Prelude.{◌≡◌, ◌↔◌, IfOk, IsTrue};
+
+    /// The same recovery once more.
+    pub fn copy(&self, alloc: Global) -> Result<Recovery, Memory>
+        ensures { IfOk result (λ r. r ≡ self.now) }
+    {
+        Ok(Recovery {
+            id: self.id,
+            cluster: self.cluster.copy(alloc)?,
+            kind: self.kind,
+            failed: self.failed,
+            begun: self.begun,
+            ended: self.ended,
+            outcome: self.outcome,
+            acked: self.acked,
+        })
+    }
+
+    /// Whether the recoveries are equal.
+    pub fn is_same(&self, other: &Recovery) -> bool
+        ensures { IsTrue result ↔ (self.now ≡ other.now) }
+    {
+        self.cluster.is_same(&other.cluster)
+            && (self.id == other.id && self.kind == other.kind)
+            && (self.failed == other.failed && self.begun == other.begun)
+            && (self.ended == other.ended && self.outcome == other.outcome)
+            && self.acked == other.acked
+    }
+}

@@ -1,0 +1,24 @@
+//! The types of this crate can be moved between threads, and shared by them.
+
+use crate::book::{Book, StoreAnswer};
+use crate::code::Code;
+use crate::keeper::KeeperFault;
+use crate::memory::MemKeeper;
+use crate::observation::{Instance, Observation};
+use crate::recovery::Recovery;
+use crate::row::{Change, Row};
+
+fn crosses_threads<T: Send + Sync>() {}
+
+fn all_cross_threads() {
+    crosses_threads::<Book>();
+    crosses_threads::<StoreAnswer>();
+    crosses_threads::<Code>();
+    crosses_threads::<KeeperFault>();
+    crosses_threads::<MemKeeper>();
+    crosses_threads::<Instance>();
+    crosses_threads::<Observation>();
+    crosses_threads::<Recovery>();
+    crosses_threads::<Row>();
+    crosses_threads::<Change>();
+}
