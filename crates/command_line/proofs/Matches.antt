@@ -1,0 +1,33 @@
+-- clap's promise for the command.
+use Rattle.std.proofs.Common.{◌≡◌, ◌∙◌, true, List, [], ◌∷◌, Ok, Err, refl, sym, ap, subst, inl, inr}
+use Rattle.std.specs.Prelude.{◌⊎◌}
+use Rattle.clap.specs.Faults.{fault_of, is_simple_and_free}
+use Rattle.clap.specs.Kinds.{IsAmong, Kinds}
+use Rattle.clap.specs.Simple.{App, is_simple, matches_of}
+use Rattle.clap.specs.Walk.{Row, Text}
+use Rattle.clap.specs.declared.error.kind.ErrorKind.{ErrorKind}
+use Rattle.clap.specs.declared.error.kind.ErrorKind.TheVariants.{OutOfMemory}
+use Rattle.command_line.specs.declared.usage.Usage.TheVariants.{BadWords}
+use Rattle.command_line.specs.Options.{orch, rows_of_texts, unless_faulty}
+
+pub is_plain : is_simple orch ≡ true
+unfolding orch
+is_plain = refl
+
+pub is_plain_and_free : is_simple_and_free orch ≡ true
+unfolding orch
+is_plain_and_free = refl
+
+pub matches_given : (texts : List Text) (rows : List Row) → fault_of orch texts ≡ [] → rows ≡ matches_of orch texts → rows_of_texts texts ≡ Ok rows
+unfolding rows_of_texts
+matches_given texts rows none same = ap (λ (kinds : Kinds). unless_faulty kinds (matches_of orch texts)) none ∙ ap Ok (sym same)
+
+some_kind : (kinds : Kinds) (k : ErrorKind) (rows : List Row) → IsAmong k kinds → unless_faulty kinds rows ≡ Err BadWords
+some_kind [] k rows h = absurd h
+some_kind (x ∷ xs) k rows h = refl
+
+-- an error of another kind than memory comes of the words
+pub no_matches : (app : App) (texts : List Text) (k : ErrorKind) → app ≡ orch → (k ≡ OutOfMemory → ⊥) → (k ≡ OutOfMemory) ⊎ IsAmong k (fault_of app texts) → rows_of_texts texts ≡ Err BadWords
+unfolding rows_of_texts
+no_matches app texts k is other (inl m) = absurd (other m)
+no_matches app texts k is other (inr h) = some_kind _ k _ (subst (λ (a : App). IsAmong k (fault_of a texts)) is h)

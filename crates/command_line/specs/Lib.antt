@@ -1,0 +1,5 @@
+pub mod Commands
+pub mod Options
+pub mod Places
+pub mod Usages
+pub mod Values

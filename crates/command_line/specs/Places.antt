@@ -1,0 +1,80 @@
+-- What the words mean.
+use Rattle.std.specs.Prelude.{ℕ, ◌-◌, ◌^◌, List, codes, Bool, false, Result, Ok}
+use Rattle.std.specs.Option.{option_map_or}
+use Rattle.std.specs.Str.{bytes_eq}
+use Rattle.clap.specs.Walk.{Row, first_of}
+use Rattle.orch_base.specs.Gives.{◌>>=◌}
+use Rattle.command_line.specs.declared.parts.Places.{Places}
+use Rattle.command_line.specs.declared.parts.Instances.{Instances}
+use Rattle.command_line.specs.declared.parts.Texts.{Texts}
+use Rattle.command_line.specs.declared.parts.Counts.{Counts}
+use Rattle.command_line.specs.declared.usage.Usage.{Usage}
+use Rattle.command_line.specs.Commands.{command_in}
+use Rattle.command_line.specs.Options.{rows_of_texts, texts_of}
+use Rattle.command_line.specs.Values.{duration_in, maybe, name_in, number_in, or_default, pattern_in, rule_in, text_in, text_within}
+
+-- the instances, and what is kept of one
+unfoldable pub instances_in : List Row → Result Instances Usage
+instances_in rows = do
+  i ← maybe name_in (first_of (codes "i") rows)
+  d ← maybe name_in (first_of (codes "d") rows)
+  rule ← maybe rule_in (first_of (codes "promotion-rule") rows)
+  duration ← maybe duration_in (first_of (codes "duration") rows)
+  Ok (record { i = i; d = d; rule = rule; duration = duration })
+
+-- the texts: a reason and an owner have at most 255 bytes, and a pattern is a regular expression
+unfoldable pub texts_in : List Row → Result Texts Usage
+texts_in rows = do
+  scenario ← maybe text_in (first_of (codes "scenario") rows)
+  reason ← maybe (text_within 255) (first_of (codes "reason") rows)
+  owner ← maybe (text_within 255) (first_of (codes "owner") rows)
+  pattern ← maybe pattern_in (first_of (codes "pattern") rows)
+  Ok (record { scenario = scenario; reason = reason; owner = owner; pattern = pattern })
+
+-- the numbers, each with its range and its default
+unfoldable pub counts_in : List Row → Result Counts Usage
+counts_in rows = do
+  pollers ← or_default 2 (number_in 1 16) (first_of (codes "pollers") rows)
+  workers ← or_default 2 (number_in 1 16) (first_of (codes "workers") rows)
+  wait ← or_default 1000 (number_in 1 10000) (first_of (codes "wait") rows)
+  seed ← or_default 1 (number_in 0 (2 ^ 64 - 1)) (first_of (codes "seed") rows)
+  servers ← or_default 10 (number_in 1 1000) (first_of (codes "servers") rows)
+  turns ← or_default 100 (number_in 0 1000000) (first_of (codes "turns") rows)
+  Ok (record { pollers = pollers; workers = workers; wait = wait; seed = seed; servers = servers; turns = turns })
+
+-- the flag `--tables` is there
+abbrev pub has_tables : List Row → Bool
+has_tables rows = option_map_or (λ text. bytes_eq text (codes "true")) (first_of (codes "tables") rows) false
+
+unfoldable pub places_in : List Row → Result Places Usage
+places_in rows = do
+  command ← command_in rows
+  instances ← instances_in rows
+  texts ← texts_in rows
+  counts ← counts_in rows
+  Ok (record {
+    command = command;
+    i = instances.i;
+    d = instances.d;
+    scenario = texts.scenario;
+    rule = instances.rule;
+    duration = instances.duration;
+    reason = texts.reason;
+    owner = texts.owner;
+    pattern = texts.pattern;
+    pollers = counts.pollers;
+    workers = counts.workers;
+    wait = counts.wait;
+    seed = counts.seed;
+    servers = counts.servers;
+    turns = counts.turns;
+    tables = has_tables rows;
+  })
+
+-- what the words mean, where they are taken: they are UTF-8, clap gives matches, `-c` names a command that is built
+-- and has the options that it needs, and each value reads
+unfoldable pub places_of : List (List ℕ) → Result Places Usage
+places_of words = do
+  texts ← texts_of words
+  rows ← rows_of_texts texts
+  places_in rows

@@ -1,0 +1,169 @@
+//! The values of a command line's options.
+
+ghost use Rattle.std.specs.Prelude.{◌≡◌};
+ghost use Rattle.orch_base.specs.Gives.{Gives};
+ghost use Rattle.command_line.specs.Options.{rows_in};
+ghost use Rattle.command_line.specs.Places.{counts_in, has_tables, instances_in, places_in, texts_in};
+ghost use Rattle.command_line.specs.Usages.{usage_fault};
+
+use crate::command::command_in;
+use crate::options::text_of;
+use crate::usage::Usage;
+use crate::value::{
+    count_or, maybe_duration, maybe_name, maybe_pattern, maybe_rule, maybe_text, maybe_text_within,
+    number_or,
+};
+use clap::ArgMatches;
+use instance_keeper::Rule;
+use orch_base::{Label, Name};
+use std::alloc::Global;
+
+/// The values of a command line's options. One that isn't given is None, or has its default.
+#[derive(Drop)]
+pub struct Places {
+    /// `-c`: the command's name.
+    pub command: Label,
+    /// `-i`: the instance.
+    pub i: Option<Name>,
+    /// `-d`: the destination.
+    pub d: Option<Name>,
+    /// `--scenario`: the path of the scenario's file. Without one it is read from standard input.
+    pub scenario: Option<Label>,
+    /// `--promotion-rule`: prefer, neutral, prefer_not or must_not.
+    pub rule: Option<Rule>,
+    /// `--duration`: 1 to 31,536,000 seconds, given as digits and at most one letter of s, m, h, d and w.
+    pub duration: Option<u64>,
+    /// `--reason`: at most 255 bytes.
+    pub reason: Option<Label>,
+    /// `--owner`: at most 255 bytes.
+    pub owner: Option<Label>,
+    /// `--pattern`: a regular expression in the syntax of Rust's `regex`.
+    pub pattern: Option<Label>,
+    /// `--pollers`: 1 to 16, and 2 by default.
+    pub pollers: u32,
+    /// `--workers`: 1 to 16, and 2 by default.
+    pub workers: u32,
+    /// `--wait`: 1 to 10,000 waits of a job, and 1,000 by default.
+    pub wait: u32,
+    /// `--seed`: 1 by default.
+    pub seed: u64,
+    /// `--servers`: 1 to 1,000, and 10 by default.
+    pub servers: u32,
+    /// `--turns`: 0 to 1,000,000, and 100 by default.
+    pub turns: u32,
+    /// `--tables`.
+    pub tables: bool,
+}
+
+// The instances, and what is kept of one.
+#[derive(Drop)]
+struct Instances {
+    i: Option<Name>,
+    d: Option<Name>,
+    rule: Option<Rule>,
+    duration: Option<u64>,
+}
+
+#[derive(Drop)]
+struct Texts {
+    scenario: Option<Label>,
+    reason: Option<Label>,
+    owner: Option<Label>,
+    pattern: Option<Label>,
+}
+
+#[derive(Clone, Copy)]
+struct Counts {
+    pollers: u32,
+    workers: u32,
+    wait: u32,
+    seed: u64,
+    servers: u32,
+    turns: u32,
+}
+
+#[tactic(auto, unfolding(crate::specs::Places::instances_in))]
+fn instances_in(alloc: Global, matches: &ArgMatches<'_>) -> Result<Instances, Usage>
+    ensures { Gives (λ p. p) usage_fault result (instances_in (rows_in matches.now)) }
+{
+    let i = maybe_name(alloc, text_of(matches, "i"))?;
+    let d = maybe_name(alloc, text_of(matches, "d"))?;
+    let rule = maybe_rule(text_of(matches, "promotion-rule"))?;
+    let duration = maybe_duration(text_of(matches, "duration"))?;
+    Ok(Instances {
+        i,
+        d,
+        rule,
+        duration,
+    })
+}
+
+#[tactic(auto, unfolding(crate::specs::Places::texts_in))]
+fn texts_in(alloc: Global, matches: &ArgMatches<'_>) -> Result<Texts, Usage>
+    ensures { Gives (λ p. p) usage_fault result (texts_in (rows_in matches.now)) }
+{
+    let scenario = maybe_text(alloc, text_of(matches, "scenario"))?;
+    let reason = maybe_text_within(alloc, 255, text_of(matches, "reason"))?;
+    let owner = maybe_text_within(alloc, 255, text_of(matches, "owner"))?;
+    let pattern = maybe_pattern(alloc, text_of(matches, "pattern"))?;
+    Ok(Texts {
+        scenario,
+        reason,
+        owner,
+        pattern,
+    })
+}
+
+#[tactic(auto, unfolding(crate::specs::Places::counts_in))]
+fn counts_in(matches: &ArgMatches<'_>) -> Result<Counts, Usage>
+    ensures { Gives (λ p. p) usage_fault result (counts_in (rows_in matches.now)) }
+{
+    let pollers = count_or(2, 1, 16, text_of(matches, "pollers"))?;
+    let workers = count_or(2, 1, 16, text_of(matches, "workers"))?;
+    let wait = count_or(1_000, 1, 10_000, text_of(matches, "wait"))?;
+    let seed = number_or(1, 0, u64::MAX, text_of(matches, "seed"))?;
+    let servers = count_or(10, 1, 1_000, text_of(matches, "servers"))?;
+    let turns = count_or(100, 0, 1_000_000, text_of(matches, "turns"))?;
+    Ok(Counts {
+        pollers,
+        workers,
+        wait,
+        seed,
+        servers,
+        turns,
+    })
+}
+
+fn has_tables(matches: &ArgMatches<'_>) -> bool
+    ensures { result ≡ has_tables (rows_in matches.now) }
+{
+    text_of(matches, "tables") == Some("true")
+}
+
+#[tactic(auto, unfolding(crate::specs::Places::places_in))]
+pub(crate) fn places_in(alloc: Global, matches: &ArgMatches<'_>) -> Result<Places, Usage>
+    ensures { Gives (λ p. p) usage_fault result (places_in (rows_in matches.now)) }
+{
+    let command = command_in(alloc, matches)?;
+    let instances = instances_in(alloc, matches)?;
+    let texts = texts_in(alloc, matches)?;
+    let counts = counts_in(matches)?;
+    Ok(Places {
+        command,
+        i: instances.i,
+        d: instances.d,
+        scenario: texts.scenario,
+        rule: instances.rule,
+        duration: instances.duration,
+        reason: texts.reason,
+        owner: texts.owner,
+        pattern: texts.pattern,
+        pollers: counts.pollers,
+        workers: counts.workers,
+        wait: counts.wait,
+        seed: counts.seed,
+        servers: counts.servers,
+        turns: counts.turns,
+        tables: has_tables(matches),
+    })
+}

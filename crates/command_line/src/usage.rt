@@ -1,0 +1,32 @@
+//! Why words give nothing.
+
+ghost use Rattle.std.specs.Prelude.{◌≡◌};
+ghost use Rattle.command_line.specs.declared.usage.Usage.TheVariants.{Memory as NoMemory};
+
+use crate::Memory;
+use std::alloc::AllocFailed;
+
+/// Why the words of a command line give nothing.
+#[derive(Clone, Copy, Debug, PartialEq, Eq)]
+pub enum Usage {
+    /// The words aren't taken.
+    BadWords,
+    /// Want of memory.
+    Memory,
+}
+
+impl From<Memory> for Usage {
+    ghost from_gives = { λ _ e. e ≡ NoMemory };
+
+    fn from(_e: Memory) -> Usage {
+        Usage::Memory
+    }
+}
+
+impl<T: Drop> From<AllocFailed<T>> for Usage {
+    ghost from_gives = { λ _ e. e ≡ NoMemory };
+
+    fn from(_failed: AllocFailed<T>) -> Usage {
+        Usage::Memory
+    }
+}

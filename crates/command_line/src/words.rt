@@ -1,0 +1,23 @@
+//! What the words mean.
+
+ghost use Rattle.std.specs.Prelude.{◌≡◌, map};
+ghost use Rattle.orch_base.specs.Gives.{Gives};
+ghost use Rattle.command_line.specs.Places.{places_of};
+ghost use Rattle.command_line.specs.Usages.{usage_fault};
+
+use crate::options::{matches_of, texts_of};
+use crate::parts::{Places, places_in};
+use crate::usage::Usage;
+use std::alloc::Global;
+
+/// Reads the words of a command line, of which the first is the program's name. They are taken where they are UTF-8,
+/// `clap` gives matches, `-c` names a command that is built and has the options that it needs, and each value reads;
+/// else it is `BadWords`. `Memory` comes only for want of memory.
+#[tactic(auto, unfolding(crate::specs::Places::places_of))]
+pub fn places(alloc: Global, words: &[Vec<u8>]) -> Result<Places, Usage>
+    ensures { Gives (λ p. p) usage_fault result (places_of (map (λ w. w.items) words.now)) }
+{
+    let texts = texts_of(alloc, words)?;
+    let matches = matches_of(alloc, texts.as_slice())?;
+    places_in(alloc, &matches)
+}
