@@ -2,6 +2,7 @@ pub mod Lists
 pub mod Places
 pub mod Counts
 pub mod Books
+pub mod Same
 pub mod LookUps
 pub mod BookRows
 pub mod BookLaws

@@ -27,6 +27,7 @@ use Rattle.instance_keeper.specs.declared.row.Change.TheVariants as change
 use Rattle.instance_keeper.specs.declared.book.StoreAnswer.{StoreAnswer}
 use Rattle.instance_keeper.specs.declared.book.StoreAnswer.TheVariants as answer
 use Rattle.instance_keeper.specs.Rows.{table_of}
+use Rattle.instance_keeper.specs.Same.{same_instance}
 
 -- each list has a place for each server, by its number; the switch is none without a row
 pub record Known : Type 0 where
@@ -139,6 +140,14 @@ stored_over b o (Some kept) = if nat_lt o.read kept.read then b else after_put b
 
 abbrev pub after_store : Known → Observation → Known
 after_store b o = stored_over b o (instance_at b o.no)
+
+-- the change of the kept rows: none where the instance stays equal
+abbrev pub renewal : Instance → Instance → Option Change
+renewal kept now = if same_instance kept now then None else Some (change.Put (row.Instance now))
+
+abbrev pub store_change : Option Instance → Observation → Option Change
+store_change None o = None
+store_change (Some kept) o = if nat_lt o.read kept.read then None else renewal kept (renewed kept o)
 
 -- the end of a downtime that still lasts
 abbrev pub end_after : ℕ → Option Downtime → Option Moment

@@ -4,7 +4,7 @@ ghost use Rattle.std.specs.Prelude.{◌≡◌, ◌<◌, ◌^◌, None, Some, IfO
 ghost use Rattle.std.specs.Option.{option_copied};
 ghost use Rattle.indexmap.specs.IndexMap.{values};
 ghost use Rattle.instance_keeper.specs.Spots.{CountsUp};
-ghost use Rattle.instance_keeper.specs.Book.{are_known, source_servers, observed_servers, ending_servers, servers_of, key_servers, row_fits, fits, empty_book, after_put, after_removal, after_change, after_row, book_made, instance_at, renewed, store_answer, after_store, downtime_at, rule_at, IsBook};
+ghost use Rattle.instance_keeper.specs.Book.{are_known, source_servers, observed_servers, ending_servers, servers_of, key_servers, row_fits, fits, empty_book, after_put, after_removal, after_change, after_row, book_made, instance_at, renewed, store_answer, after_store, renewal, store_change, downtime_at, rule_at, IsBook};
 
 use crate::Memory;
 use crate::observation::{Instance, Observation};
@@ -96,6 +96,34 @@ fn renewed_if(kept: Option<Instance>, o: Observation) -> Option<Instance>
     match kept {
         Some(kept) => Some(renewed(kept, o)),
         None => None,
+    }
+}
+
+// What is known after a reading, beside what was kept.
+fn renewed_copy(kept: &Instance, o: &Observation) -> Result<Instance, Memory>
+    ensures { IfOk result (λ i. i ≡ renewed kept.now o.now) }
+{
+    let seen = match &o.seen {
+        Some(seen) => seen.copy()?,
+        None => kept.seen.copy()?,
+    };
+    Ok(Instance {
+        no: o.no,
+        read: o.read,
+        moment: o.moment,
+        valid: o.seen.is_some(),
+        seen,
+    })
+}
+
+fn renewal(kept: &Instance, o: &Observation) -> Result<Option<Change>, Memory>
+    ensures { IfOk result (λ c. c ≡ renewal kept.now (renewed kept.now o.now)) }
+{
+    let now = renewed_copy(kept, o)?;
+    if kept.is_same(&now) {
+        Ok(None)
+    } else {
+        Ok(Some(Change::Put(Row::Instance(now))))
     }
 }
 
@@ -215,14 +243,14 @@ fn empty_places<T: Drop>(alloc: Global, count: u32) -> Result<Vec<Option<T>>, Me
 }
 
 impl Book {
-    // The book of these servers, without a row.
-    fn empty(alloc: Global, settings: &[Settings]) -> Result<Book, Memory>
-        requires { length settings.now < 2 ^ 32 }
-        ensures { IfOk result (λ b. b ≡ empty_book (map (λ s. s.name) settings.now)) }
+    // The book of servers of these names, without a row.
+    fn empty(alloc: Global, names: Vec<Name>) -> Result<Book, Memory>
+        requires { length names.items < 2 ^ 32 }
+        ensures { IfOk result (λ b. b ≡ empty_book names.items) }
     {
-        let count = settings.len() as u32;
+        let count = names.len() as u32;
         Ok(Book {
-            names: copy_names(alloc, settings)?,
+            names,
             instances: empty_instances(alloc, count)?,
             downtimes: empty_places(alloc, count)?,
             candidates: empty_places(alloc, count)?,
@@ -236,6 +264,13 @@ impl Book {
         ensures holds { IsBook self.now }
     {
         self.names.len() as u32
+    }
+
+    /// The servers' names by number.
+    pub fn names(&self) -> &[Name]
+        ensures { result.now ≡ self.now.names }
+    {
+        &self.names
     }
 
     /// The name of a server.
@@ -292,7 +327,16 @@ impl Book {
         ensures names { IfOk result (λ b. b.names ≡ map (λ s. s.name) settings.now) }
         ensures count { IfOk result (λ b. length b.names ≡ length settings.now) }
     {
-        let mut book = Book::empty(alloc, settings)?;
+        Book::of_names(alloc, copy_names(alloc, settings)?, rows)
+    }
+
+    /// The book of servers of these names, by number, and of these rows, as `make` makes it.
+    pub fn of_names(alloc: Global, names: Vec<Name>, rows: &[Row]) -> Result<Book, Memory>
+        requires { length names.items < 2 ^ 32 }
+        ensures made { IfOk result (λ b. b ≡ book_made names.items rows.now) }
+        ensures names { IfOk result (λ b. b.names ≡ names.items) }
+    {
+        let mut book = Book::empty(alloc, names)?;
         'rows: for row in rows {
             book.take(alloc, row)?;
         }
@@ -376,6 +420,17 @@ impl Book {
         let no = o.no.0;
         let kept = put_at(&mut self.instances, no, None);
         put_at(&mut self.instances, no, renewed_if(kept, o));
+    }
+
+    /// How storing this reading changes the kept rows: not at all where it isn't stored, or the instance stays equal.
+    pub fn change_by(&self, o: &Observation) -> Result<Option<Change>, Memory>
+        requires { o.now.no.0 < length self.now.names }
+        ensures { IfOk result (λ c. c ≡ store_change (instance_at self.now o.now.no) o.now) }
+    {
+        match self.instance(o.no) {
+            Some(kept) if kept.read <= o.read => renewal(kept, o),
+            _ => Ok(None),
+        }
     }
 
     /// Stores a reading, unless the kept one of that instance is later. One that reached its server replaces the instance; one that didn't keeps what was seen earlier, which is no longer valid. It takes no memory.

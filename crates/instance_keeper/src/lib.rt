@@ -20,7 +20,7 @@ pub use keeper::{Keeper, KeeperFault};
 pub use laws::{
     last_row_stands, places_differ, rows_are_a_map, rows_follow_the_book, same_look_ups_same_rows,
 };
-pub use memory::MemKeeper;
+pub use memory::{MemKeeper, row_map};
 pub use observation::{Instance, Observation, Seen};
 /// Want of memory.
 pub use orch_base::Memory;

@@ -156,6 +156,15 @@ fn copy_rows(alloc: Global, rows: &[Row]) -> Result<Vec<Row>, Memory>
     Ok(copies)
 }
 
+/// The map of any list of rows, in rising order: of two with one table and key the last stands.
+pub fn row_map(alloc: Global, rows: Vec<Row>) -> Result<Vec<Row>, Memory>
+    ensures { IfOk result (λ map. map.items ≡ map_of rows.items) }
+{
+    let mut map = Vec::with_capacity(alloc, rows.len())?;
+    put_all(&mut map, rows);
+    Ok(map)
+}
+
 impl MemKeeper {
     /// A keeper of these rows: of two with one table and key the last is kept. The calls of `keep` and `rows` whose numbers, from 1, are listed fail, and no other.
     pub fn new(alloc: Global, rows: Vec<Row>, fail_at: Vec<u64>) -> Result<MemKeeper, Memory>
