@@ -1,0 +1,260 @@
+-- Kept rows follow a book from its loading on, through each change.
+use Rattle.std.proofs.Common.{◌≡◌, ◌∙◌, ℕ, ◌+◌, ◌<◌, ◌^◌, Bool, true, false, List, [], ◌∷◌, length, refl, sym, ap, subst, Option, Some, None, zero, suc, arith}
+use Rattle.std.specs.Prelude.{All, IfSome, is_none, slice_index_or, ◌&&◌, ◌==◌, filter, filter_map, fold, option_map, replicate, if◌then◌else◌}
+use Rattle.std.proofs.lemmas.Bool.{false≢true}
+use Rattle.std.proofs.lemmas.List.Elements.{All-nil, All-cons, All-head, All-tail}
+use Rattle.std.specs.List.{cons_option}
+use Rattle.orch_base.specs.declared.server.Moment.{Moment}
+use Rattle.server_model.specs.declared.server.Server.{Server}
+use Rattle.server_model.specs.Worlds.{World, server_at}
+use Rattle.opening_book.specs.Opening.{changed_book, missing, missing_from, put_instance}
+use Rattle.orch_base.specs.Names.{HostPort}
+use Rattle.instance_keeper.specs.declared.row.Row.{Row}
+use Rattle.instance_keeper.specs.declared.row.Row.TheVariants as row
+use Rattle.instance_keeper.specs.declared.row.Change.{Change}
+use Rattle.instance_keeper.specs.declared.row.Change.TheVariants as change
+use Rattle.instance_keeper.specs.declared.row.Table.{Table}
+use Rattle.instance_keeper.specs.declared.row.Table.TheVariants as table
+use Rattle.instance_keeper.specs.declared.row.Key.{Key}
+use Rattle.instance_keeper.specs.declared.row.Key.TheVariants as key
+use Rattle.instance_keeper.specs.Book.{Known, IsBook, row_fits, fits, is_of_book, are_known, servers_of, after_put, after_row, after_change, book_made, book_rows, empty_book}
+use Rattle.instance_keeper.specs.Ranges.{IsInRange}
+use Rattle.instance_keeper.specs.Rows.{place, place_of, table_of, row_in, row_after, last_at, map_of, put, changed, changed_by, IsRising}
+use Rattle.instance_keeper.proofs.BookLaws.{book_change, book_put}
+use Rattle.instance_keeper.proofs.Books.{change_is, empty_is}
+use Rattle.instance_keeper.proofs.Lists.{pairs_head, pairs_tail}
+use Rattle.instance_keeper.proofs.LookUps.{row_in-put, row_in-changed_by, row_in-map_of, map_of_rising, changed_by_rising}
+use Rattle.opening_book.specs.Counting.{counts, counted, is_in_range, loaded}
+use Rattle.opening_book.specs.Following.{is_for_book, IsKeptFor, Follow}
+
+-- the row of a place that passes a test
+
+abbrev pick : (Row → Bool) → ℕ → Option Row → Row → Option Row
+pick test p kept r = if test r && (place_of r == p) then Some r else kept
+
+abbrev picked : (Row → Bool) → ℕ → Option Row → List Row → Option Row
+picked test p kept rows = fold (pick test p) kept rows
+
+abbrev passing : (Row → Bool) → Option Row → Option Row
+passing test None = None
+passing test (Some r) = if test r then Some r else None
+
+apart : (p q : ℕ) → p < q → (q == p) ≡ false
+apart p q h = grind arith
+
+unpicked : (b e : Bool) (r : Row) (kept : Option Row) → e ≡ false → (if b && e then Some r else kept) ≡ kept
+unpicked true e r kept h = rw h refl
+unpicked false e r kept h = refl
+
+picked-above : (test : Row → Bool) (p : ℕ) (kept : Option Row) (rows : List Row) → All (λ x. p < place_of x) rows → picked test p kept rows ≡ kept
+picked-above test p kept [] all = refl
+picked-above test p kept (r ∷ rows) all =
+    ap (λ (k : Option Row). picked test p k rows) (unpicked (test r) (place_of r == p) r kept (apart p (place_of r) (All-head (λ x. p < place_of x) r rows all)))
+    ∙ picked-above test p kept rows (All-tail (λ x. p < place_of x) r rows all)
+
+rest_rising : (r : Row) (rows : List Row) → IsRising (r ∷ rows) → IsRising rows
+rest_rising r rows rising = record { apart = pairs_tail (λ a b. place_of a < place_of b) r rows rising.apart }
+
+is_eq : (a b : ℕ) → (a == b) ≡ true → a ≡ b
+is_eq a b h = grind arith
+
+picked-rising : (test : Row → Bool) (p : ℕ) (rows : List Row) → IsRising rows → picked test p None rows ≡ passing test (row_in rows p)
+picked-rising test p [] rising = refl
+picked-rising test p (r ∷ rows) rising = go (picked-rising test p rows (rest_rising r rows rising)) (place_of r == p) refl (test r) refl
+  where
+    above : All (λ x. place_of r < place_of x) rows
+    above = pairs_head (λ a b. place_of a < place_of b) r rows rising.apart
+
+    go : picked test p None rows ≡ passing test (row_in rows p) → (e : Bool) → (place_of r == p) ≡ e → (b : Bool) → test r ≡ b → picked test p (if b && e then Some r else None) rows ≡ passing test (if e then Some r else row_in rows p)
+    go rest true here true holds =
+        picked-above test p (Some r) rows (subst (λ n. All (λ x. n < place_of x) rows) (is_eq (place_of r) p here) above) ∙ sym (rw holds refl)
+    go rest true here false fails =
+        picked-above test p None rows (subst (λ n. All (λ x. n < place_of x) rows) (is_eq (place_of r) p here) above) ∙ sym (rw fails refl)
+    go rest false here true holds = rest
+    go rest false here false fails = rest
+
+passing-all : (x : Option Row) → passing (λ r. true) x ≡ x
+passing-all None = refl
+passing-all (Some r) = refl
+
+-- the map of rising rows has them
+map_of-rising : (rows : List Row) (p : ℕ) → IsRising rows → row_in (map_of rows) p ≡ row_in rows p
+map_of-rising rows p rising = row_in-map_of rows p ∙ picked-rising (λ r. true) p rows rising ∙ passing-all (row_in rows p)
+
+-- the rows of a book that is made of those that count
+
+IsLike : ℕ → Known → Type 0
+IsLike count b = IsBook b × (length b.names ≡ count)
+
+names-put : (b : Known) (r : Row) → (after_put b r).names ≡ b.names
+names-put b (row.Instance i) = refl
+names-put b (row.Downtime d) = refl
+names-put b (row.Candidate c) = refl
+names-put b (row.Recovery r) = refl
+names-put b (row.Switch enabled) = refl
+
+taken : (count : ℕ) (b : Known) (r : Row) → IsLike count b → row_fits count r ≡ true → IsLike count (after_put b r)
+unfolding IsLike
+taken count b r like fit =
+    let fit' = subst (λ n. row_fits n r ≡ true) (sym like.1) fit in
+    (change_is b (change.Put r) like.0 fit', ap length (names-put b r) ∙ like.1)
+
+after_row-fits : (count : ℕ) (b : Known) (r : Row) → IsLike count b → row_fits count r ≡ true → after_row b r ≡ after_put b r
+unfolding IsLike
+after_row-fits count b r like fit = let fit' = subst (λ n. row_fits n r ≡ true) (sym like.1) fit in rw fit' refl
+
+after_row-not : (count : ℕ) (b : Known) (r : Row) → IsLike count b → row_fits count r ≡ false → after_row b r ≡ b
+unfolding IsLike
+after_row-not count b r like fit = let fit' = subst (λ n. row_fits n r ≡ false) (sym like.1) fit in rw fit' refl
+
+row_put : (count : ℕ) (b : Known) (r : Row) (p : ℕ) → IsLike count b → row_fits count r ≡ true → row_in (book_rows (after_put b r)) p ≡ (if place_of r == p then Some r else row_in (book_rows b) p)
+unfolding IsLike
+row_put count b r p like fit =
+    let fit' = subst (λ n. row_fits n r ≡ true) (sym like.1) fit in
+    ap (λ (rows : List Row). row_in rows p) (book_put b like.0 r fit') ∙ row_in-put (book_rows b) r p
+
+abbrev both : ℕ → Row → Bool
+both count r = counts count r && row_fits count r
+
+-- taking rows one after another
+made-rows : (count : ℕ) (b : Known) (rows : List Row) (p : ℕ) → IsLike count b
+    → IsLike count (fold after_row b (filter (counts count) rows)) × (row_in (book_rows (fold after_row b (filter (counts count) rows))) p ≡ picked (both count) p (row_in (book_rows b) p) rows)
+made-rows count b [] p like = (like, refl)
+made-rows count b (r ∷ rows) p like = go (λ x. made-rows count x rows p) (counts count r) (row_fits count r) refl
+  where
+    go : ((x : Known) → IsLike count x → IsLike count (fold after_row x (filter (counts count) rows)) × (row_in (book_rows (fold after_row x (filter (counts count) rows))) p ≡ picked (both count) p (row_in (book_rows x) p) rows))
+        → (c f : Bool) → row_fits count r ≡ f
+        → IsLike count (fold after_row b (if c then r ∷ filter (counts count) rows else filter (counts count) rows))
+        × (row_in (book_rows (fold after_row b (if c then r ∷ filter (counts count) rows else filter (counts count) rows))) p ≡ picked (both count) p (if (c && f) && (place_of r == p) then Some r else row_in (book_rows b) p) rows)
+    go more false f fit = more b like
+    go more true false fit =
+        let same = after_row-not count b r like fit in
+        let rest = more b like in (
+          subst (λ x. IsLike count (fold after_row x (filter (counts count) rows))) (sym same) rest.0,
+          ap (λ (x : Known). row_in (book_rows (fold after_row x (filter (counts count) rows))) p) same ∙ rest.1,
+        )
+    go more true true fit =
+        let new = after_row-fits count b r like fit in
+        let rest = more (after_put b r) (taken count b r like fit) in (
+          subst (λ x. IsLike count (fold after_row x (filter (counts count) rows))) (sym new) rest.0,
+          ap (λ (x : Known). row_in (book_rows (fold after_row x (filter (counts count) rows))) p) new ∙ rest.1 ∙ ap (λ (x : Option Row). picked (both count) p x rows) (row_put count b r p like fit),
+        )
+
+-- a row that counts and is of a book's table is one that the book takes
+both-is : (count : ℕ) (r : Row) → both count r ≡ is_for_book count r
+both-is count r = go (is_of_book (table_of r)) (are_known count (servers_of r)) (is_in_range r)
+  where
+    go : (o k i : Bool) → (k && i) && (o && k) ≡ o && (k && i)
+    go true true true = refl
+    go true true false = refl
+    go true false i = refl
+    go false true true = refl
+    go false true false = refl
+    go false false i = refl
+
+kept_for : (count : ℕ) (x : Option Row) → IsKeptFor count x (passing (both count) x)
+kept_for count None = tt
+kept_for count (Some r) = go (both count r) (both-is count r)
+  where
+    go : (b : Bool) → b ≡ is_for_book count r → IsKeptFor count (Some r) (if b then Some r else None)
+    go true is = refl
+    go false is = sym is
+
+none-filtered : {A : Type 0} (f : A → Row) (n : ℕ) → filter_map (option_map f) (replicate n None) ≡ []
+none-filtered f zero = refl
+none-filtered f (suc n) = none-filtered f n
+
+empty-rows : (names : List HostPort) (p : ℕ) → row_in (book_rows (empty_book names)) p ≡ None
+empty-rows names p = rw (none-filtered row.Instance (length names), none-filtered row.Downtime (length names), none-filtered row.Candidate (length names)) refl
+
+-- rows follow the book that is loaded of them
+pub Follow-loaded : (names : List HostPort) (rows : List Row) → length names < 2 ^ 32 → IsRising rows → Follow rows (loaded names rows)
+unfolding IsLike
+Follow-loaded names rows small rising =
+    let count = length names in
+    let made : (p : ℕ) → IsLike count (loaded names rows) × (row_in (book_rows (loaded names rows)) p ≡ picked (both count) p (row_in (book_rows (empty_book names)) p) (map_of rows)) =
+    λ p. made-rows count (empty_book names) (map_of rows) p (empty_is names small, refl) in
+    let look : (p : ℕ) → row_in (book_rows (loaded names rows)) p ≡ passing (both count) (row_in rows p) = λ p.
+    (made p).1 ∙ ap (λ (x : Option Row). picked (both count) p x (map_of rows)) (empty-rows names p)
+    ∙ picked-rising (both count) p (map_of rows) (map_of_rising rows) ∙ ap (passing (both count)) (map_of-rising rows p rising) in
+    record {
+      rising = rising;
+      book = (made 0).0.0;
+      each = λ p. subst (λ n. IsKeptFor n (row_in rows p) (row_in (book_rows (loaded names rows)) p)) (sym (made 0).0.1)
+          (subst (IsKeptFor count (row_in rows p)) (sym (look p)) (kept_for count (row_in rows p)));
+    }
+
+kept_changed : (count p : ℕ) (x y : Option Row) (c : Change) → IsKeptFor count x y → IsKeptFor count (row_after p x c) (row_after p y c)
+kept_changed count p x y (change.Put r) h = go (place_of r == p)
+  where
+    go : (e : Bool) → IsKeptFor count (if e then Some r else x) (if e then Some r else y)
+    go true = refl
+    go false = h
+kept_changed count p x y (change.Remove t k) h = go (place t k == p)
+  where
+    go : (e : Bool) → IsKeptFor count (if e then None else x) (if e then None else y)
+    go true = tt
+    go false = h
+
+-- and so they do after a change of both
+pub Follow-changed : (rows : List Row) (b : Known) (c : Change) → Follow rows b → fits (length b.names) c ≡ true → IsInRange c → (after_change b c).names ≡ b.names → Follow (changed_by rows c) (after_change b c)
+Follow-changed rows b c follow fit range names = record {
+  rising = changed_by_rising rows c follow.rising;
+  book = change_is b c follow.book fit;
+  each = λ p.
+      subst (λ (ns : List HostPort). IsKeptFor (length ns) (row_in (changed_by rows c) p) (row_in (book_rows (after_change b c)) p)) (sym names)
+      (subst (λ x. IsKeptFor (length b.names) x (row_in (book_rows (after_change b c)) p)) (sym (row_in-changed_by rows c p))
+      (subst (IsKeptFor (length b.names) (row_after p (row_in rows p) c)) (sym (ap (λ (rs : List Row). row_in rs p) (book_change b follow.book c fit range) ∙ row_in-changed_by (book_rows b) c p))
+      (kept_changed (length b.names) p (row_in rows p) (row_in (book_rows b) p) c (follow.each p))));
+}
+
+pub names-change : (b : Known) (c : Change) → (after_change b c).names ≡ b.names
+names-change b (change.Put r) = names-put b r
+names-change b (change.Remove table.Instance (key.Server n)) = refl
+names-change b (change.Remove table.Downtime (key.Server n)) = refl
+names-change b (change.Remove table.Candidate (key.Server n)) = refl
+names-change b (change.Remove table.Recovery (key.Server n)) = refl
+names-change b (change.Remove table.Switch (key.Server n)) = refl
+names-change b (change.Remove table.Instance (key.Id id)) = refl
+names-change b (change.Remove table.Downtime (key.Id id)) = refl
+names-change b (change.Remove table.Candidate (key.Id id)) = refl
+names-change b (change.Remove table.Recovery (key.Id id)) = refl
+names-change b (change.Remove table.Switch (key.Id id)) = refl
+names-change b (change.Remove table.Instance key.Global) = refl
+names-change b (change.Remove table.Downtime key.Global) = refl
+names-change b (change.Remove table.Candidate key.Global) = refl
+names-change b (change.Remove table.Recovery key.Global) = refl
+names-change b (change.Remove table.Switch key.Global) = refl
+
+pub Follow-change : (rows : List Row) (b : Known) (c : Change) → Follow rows b → fits (length b.names) c ≡ true → IsInRange c → Follow (changed_by rows c) (after_change b c)
+Follow-change rows b c follow fit range = Follow-changed rows b c follow fit range (names-change b c)
+
+-- changes that a book takes
+abbrev pub Takes : ℕ → Change → Type 0
+Takes count c = (fits count c ≡ true) × IsInRange c
+
+pub Follow-all : (rows : List Row) (b : Known) (cs : List Change) → Follow rows b → All (Takes (length b.names)) cs → Follow (changed rows cs) (changed_book b cs)
+Follow-all rows b [] follow all = follow
+Follow-all rows b (c ∷ cs) follow all =
+    let here = All-head (Takes (length b.names)) c cs all in
+    Follow-all (changed_by rows c) (after_change b c) cs (Follow-change rows b c follow here.0 here.1)
+    (subst (λ ns. All (Takes (length ns)) cs) (sym (names-change b c)) (All-tail (Takes (length b.names)) c cs all))
+
+option-range : (o : Option Change) (cs : List Change) → IfSome o IsInRange → All IsInRange cs → All IsInRange (cons_option o cs)
+option-range None cs here rest = rest
+option-range (Some c) cs here rest = All-cons IsInRange c cs here rest
+
+put-range : (w : World) (at : Moment) (n : ℕ) (o : Option Server) → IfSome (put_instance w at n o) IsInRange
+put-range w at n None = tt
+put-range w at n (Some s) = tt
+
+missing-range : (w : World) (at : Moment) (b : Known) (n : ℕ) (known : Bool) → IfSome (missing w at b n known) IsInRange
+missing-range w at b n known = go (known && is_none (slice_index_or b.instances n None))
+  where
+    go : (lacks : Bool) → IfSome (if lacks then put_instance w at n (server_at w n) else None) IsInRange
+    go true = put-range w at n (server_at w n)
+    go false = tt
+
+pub missing_from-range : (w : World) (at : Moment) (b : Known) (n : ℕ) (known : List Bool) → All IsInRange (missing_from w at b n known)
+missing_from-range w at b n [] = All-nil IsInRange
+missing_from-range w at b n (k ∷ ks) = option-range (missing w at b n k) (missing_from w at b (n + 1) ks) (missing-range w at b n k) (missing_from-range w at b (n + 1) ks)

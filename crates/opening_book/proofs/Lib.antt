@@ -1,0 +1,3 @@
+pub mod Executed
+pub mod Missing
+pub mod Following

@@ -1,0 +1,6 @@
+use Rattle.std.proofs.Common.{◌≡◌, take}
+use Rattle.opening_book.specs.Counting.{last_read}
+use Rattle.opening_book.proofs.counting.last_read.Given as goal
+
+abbrev pub invariant-rows : goal.invariant-rows
+invariant-rows l = l.last ≡ last_read (take l.row-index l.rows)

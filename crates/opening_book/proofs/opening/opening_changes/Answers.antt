@@ -1,0 +1,23 @@
+use Rattle.std.proofs.Common.{◌++◌, ◌∙◌, ap, sym, length, take, false, List, Option, arith}
+use Rattle.std.specs.Prelude.{All}
+use Rattle.std.specs.Option.{option_to_list}
+use Rattle.instance_keeper.specs.declared.row.Change.{Change}
+use Rattle.server_model.specs.Gtids.{IsNumbered}
+use Rattle.opening_book.specs.Opening.{missing_from}
+use Rattle.opening_book.proofs.Missing.{each-some, missing-more}
+use Rattle.opening_book.proofs.opening.opening_changes.Goals as goal
+
+pub missing-requires-clause-numbered : goal.missing-requires-clause-numbered
+missing-requires-clause-numbered c = each-some (λ s. All (IsNumbered (length c.args.world.now.servers)) s.history.txns) c.args.world.now.servers c.loop-no.no c.requires.numbered
+
+pub loop-no-preserved : goal.loop-no-preserved
+loop-no-preserved c =
+    let w = c.args.world.now in
+    let at = c.args.moment in
+    let b = c.args.book.now in
+    let ks = c.args.known.now in
+    let no = c.loop-no.no in
+    c.in_ok-push_some.ensures
+    ∙ ap (λ (xs : List Change). xs ++ option_to_list c.in_ok-change.change) c.loop-no.invariant
+    ∙ ap (λ (o : Option Change). missing_from w at b 0 (take no ks) ++ option_to_list o) c.in_ok-change.ensures
+    ∙ sym (missing-more w at b ks no false (omega (arith, c.loop-no-test.true, c.servers-no-end.ensures, c.requires.known)))

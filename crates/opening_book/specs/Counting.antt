@@ -1,0 +1,66 @@
+-- Kept rows that count: those of the scenario's servers whose numbers are in their ranges.
+use Rattle.std.specs.Prelude.{ℕ, ◌^◌, ◌&&◌, nat_le, Bool, true, List, Option, None, Some, filter, fold, length, max}
+use Rattle.orch_base.specs.Names.{HostPort}
+use Rattle.orch_base.specs.declared.server.Moment.{Moment}
+use Rattle.instance_keeper.specs.declared.row.Row.{Row}
+use Rattle.instance_keeper.specs.declared.row.Row.TheVariants as row
+use Rattle.instance_keeper.specs.Rows.{map_of}
+use Rattle.instance_keeper.specs.Book.{Known, are_known, servers_of, book_made}
+
+-- read numbers and moments are at most this
+abbrev pub greatest : ℕ
+greatest = 2 ^ 63
+
+-- ids of recoveries are at most this
+abbrev pub greatest_id : ℕ
+greatest_id = 2 ^ 62
+
+abbrev pub is_end_in_range : Option Moment → Bool
+is_end_in_range None = true
+is_end_in_range (Some ended) = nat_le ended.0 greatest
+
+abbrev pub is_in_range : Row → Bool
+is_in_range (row.Instance i) = nat_le i.read greatest && nat_le i.moment.0 greatest
+is_in_range (row.Downtime d) = nat_le d.begun.0 greatest && nat_le d.until.0 greatest
+is_in_range (row.Candidate c) = nat_le c.until.0 greatest
+is_in_range (row.Recovery r) = (nat_le 1 r.id && nat_le r.id greatest_id) && (nat_le r.begun.0 greatest && is_end_in_range r.ended)
+is_in_range (row.Switch enabled) = true
+
+-- whether a row counts among so many servers
+abbrev pub counts : ℕ → Row → Bool
+counts servers r = are_known servers (servers_of r) && is_in_range r
+
+-- the rows that count, of two with one table and key the last: by table, then key
+abbrev pub counted : ℕ → List Row → List Row
+counted servers rows = filter (counts servers) (map_of rows)
+
+abbrev pub end_or : ℕ → Option Moment → ℕ
+end_or now None = now
+end_or now (Some ended) = max now ended.0
+
+-- the moment, raised to the latest begun or ended moment of a row
+abbrev pub raised : ℕ → Row → ℕ
+raised now (row.Instance i) = now
+raised now (row.Downtime d) = max now d.begun.0
+raised now (row.Candidate c) = now
+raised now (row.Recovery r) = end_or (max now r.begun.0) r.ended
+raised now (row.Switch enabled) = now
+
+abbrev pub latest : ℕ → List Row → ℕ
+latest now rows = fold raised now rows
+
+-- the greater of a read number and a row's
+abbrev pub later_read : ℕ → Row → ℕ
+later_read read (row.Instance i) = max read i.read
+later_read read (row.Downtime d) = read
+later_read read (row.Candidate c) = read
+later_read read (row.Recovery r) = read
+later_read read (row.Switch enabled) = read
+
+-- the greatest read number of these rows, or 0
+abbrev pub last_read : List Row → ℕ
+last_read rows = fold later_read 0 rows
+
+-- the book of the rows that count
+abbrev pub loaded : List HostPort → List Row → Known
+loaded names rows = book_made names (counted (length names) rows)

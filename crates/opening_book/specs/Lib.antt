@@ -1,0 +1,4 @@
+pub mod Counting
+pub mod Seeing
+pub mod Opening
+pub mod Following

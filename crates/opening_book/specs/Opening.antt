@@ -1,0 +1,42 @@
+-- The book at an opening: that of the rows that count, and an instance of each known server that it lacks.
+use Rattle.std.specs.Prelude.{◌≡◌, ℕ, ◌+◌, ◌&&◌, Bool, true, if◌then◌else◌, List, [], ◌∷◌, All, fold, length, Option, None, Some, is_none, slice_index_or}
+use Rattle.std.specs.List.{cons_option}
+use Rattle.orch_base.specs.declared.server.Moment.{Moment}
+use Rattle.instance_keeper.specs.declared.observation.Instance.{Instance}
+use Rattle.instance_keeper.specs.declared.row.Row.TheVariants as row
+use Rattle.instance_keeper.specs.declared.row.Change.{Change}
+use Rattle.instance_keeper.specs.declared.row.Change.TheVariants as change
+use Rattle.instance_keeper.specs.Book.{Known, are_known, source_servers, after_change}
+use Rattle.server_model.specs.declared.server.Server.{Server}
+use Rattle.server_model.specs.Gtids.{IsNumbered}
+use Rattle.server_model.specs.Worlds.{World, server_at}
+use Rattle.opening_book.specs.Seeing.{would_show}
+
+-- a server as it is known at the opening: valid where orchestrator reaches it
+abbrev pub opening_instance : World → Moment → ℕ → Server → Instance
+opening_instance w at n s = record { no = record { 0 = n }; read = 0; moment = at; valid = s.up && s.desk; seen = would_show w s }
+
+abbrev pub put_instance : World → Moment → ℕ → Option Server → Option Change
+put_instance w at n None = None
+put_instance w at n (Some s) = Some (change.Put (row.Instance (opening_instance w at n s)))
+
+-- what is put for server n: its instance, where it is known and the book has none
+abbrev pub missing : World → Moment → Known → ℕ → Bool → Option Change
+missing w at b n known = if known && is_none (slice_index_or b.instances n None) then put_instance w at n (server_at w n) else None
+
+abbrev pub missing_from : World → Moment → Known → ℕ → List Bool → List Change
+missing_from w at b n [] = []
+missing_from w at b n (known ∷ rest) = cons_option (missing w at b n known) (missing_from w at b (n + 1) rest)
+
+-- the changes of the opening, by whether each server is known
+abbrev pub opening_changes : World → Moment → Known → List Bool → List Change
+opening_changes w at b known = missing_from w at b 0 known
+
+-- the book after these changes
+abbrev pub changed_book : Known → List Change → Known
+changed_book b changes = fold after_change b changes
+
+-- each source is one of the servers, and each transaction has a number and a server of its own
+pub record IsSeeable (w : World) (s : Server) : Type 0 where
+  pub source : are_known (length w.servers) (source_servers s.source) ≡ true
+  pub numbered : All (IsNumbered (length w.servers)) s.history.txns

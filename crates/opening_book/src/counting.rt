@@ -1,0 +1,127 @@
+//! Kept rows that count.
+
+ghost use Rattle.std.specs.Prelude.{◌≡◌, ◌<◌, ◌^◌, IfOk, OnOk, length, map};
+ghost use Rattle.opening_book.specs.Counting.{counts, counted, is_end_in_range, is_in_range, last_read, later_read, latest, loaded, raised, end_or, greatest};
+ghost use Rattle.instance_keeper.specs.Book.{book_made};
+
+use crate::Memory;
+use instance_keeper::{Book, Recovery, Row, row_map};
+use orch_base::{Moment, Name};
+use std::alloc::Global;
+
+/// Read numbers and moments of rows that count are at most this.
+const GREATEST: u64 = 1 << 63;
+
+/// Ids of recoveries that count are at most this.
+const GREATEST_ID: u64 = 1 << 62;
+
+fn is_end_in_range(ended: Option<Moment>) -> bool
+    ensures { result ≡ is_end_in_range ended }
+{
+    match ended {
+        Some(ended) => ended.0 <= GREATEST,
+        None => true,
+    }
+}
+
+fn is_in_range(row: &Row) -> bool
+    ensures { result ≡ is_in_range row.now }
+{
+    match row {
+        Row::Instance(i) => i.read <= GREATEST && i.moment.0 <= GREATEST,
+        Row::Downtime(d) => d.begun.0 <= GREATEST && d.until.0 <= GREATEST,
+        Row::Candidate(candidate) => candidate.until.0 <= GREATEST,
+        Row::Recovery(r) => {
+            (1 <= r.id && r.id <= GREATEST_ID)
+                && (r.begun.0 <= GREATEST && is_end_in_range(r.ended))
+        }
+        Row::Switch(_) => true,
+    }
+}
+
+// Whether a row counts among so many servers.
+fn counts(row: &Row, servers: u32) -> bool
+    ensures { result ≡ counts servers row.now }
+{
+    row.are_servers_known(servers) && is_in_range(row)
+}
+
+/// The rows that count, by table, then key: of two with one table and key the last is looked at. A row counts where each server that it names is one of so many, its read number and moments are at most 2^63, and, for a recovery, its id is 1 to 2^62.
+pub fn counted(alloc: Global, servers: u32, rows: Vec<Row>) -> Result<Vec<Row>, Memory>
+    ensures { IfOk result (λ counting. counting.items ≡ counted servers rows.items) }
+{
+    let map = row_map(alloc, rows)?;
+    let mut counting = Vec::new(alloc);
+    'rows: for row in map {
+        if counts(&row, servers) {
+            counting.push(row)?;
+        }
+    }
+    Ok(counting)
+}
+
+// The moment, raised to the latest begun or ended moment of the row.
+fn raised(now: Moment, row: &Row) -> Moment
+    ensures { result.0 ≡ raised now.0 row.now }
+{
+    match row {
+        Row::Downtime(downtime) => now.max(downtime.begun),
+        Row::Recovery(recovery) => {
+            let begun = now.max(recovery.begun);
+            match recovery.ended {
+                Some(ended) => begun.max(ended),
+                None => begun,
+            }
+        }
+        _ => now,
+    }
+}
+
+/// The latest of this moment and all begun and ended moments of these rows.
+pub fn latest_moment(now: Moment, rows: &[Row]) -> Moment
+    ensures { result.0 ≡ latest now.0 rows.now }
+{
+    let mut latest = now;
+    'rows: for row in rows {
+        latest = raised(latest, row);
+    }
+    latest
+}
+
+fn later_read(read: u64, row: &Row) -> u64
+    ensures { result ≡ later_read read row.now }
+{
+    match row {
+        Row::Instance(instance) => read.max(instance.read),
+        _ => read,
+    }
+}
+
+/// The greatest read number of these rows, or 0.
+pub fn last_read(rows: &[Row]) -> u64
+    ensures { result ≡ last_read rows.now }
+{
+    let mut last = 0;
+    'rows: for row in rows {
+        last = later_read(last, row);
+    }
+    last
+}
+
+fn copy_names(alloc: Global, names: &[Name]) -> Result<Vec<Name>, Memory>
+    ensures { IfOk result (λ copies. copies.items ≡ names.now) }
+{
+    let mut copies = Vec::with_capacity(alloc, names.len())?;
+    'names: for name in names {
+        copies.push(name.copy(alloc)?)?;
+    }
+    Ok(copies)
+}
+
+/// The book of servers of these names, by number, and of these rows.
+pub fn loaded_book(alloc: Global, names: &[Name], rows: &[Row]) -> Result<Book, Memory>
+    requires { length names.now < 2 ^ 32 }
+    ensures { IfOk result (λ b. b ≡ book_made names.now rows.now) }
+{
+    Book::of_names(alloc, copy_names(alloc, names)?, rows)
+}
