@@ -27,7 +27,7 @@ use Rattle.openings.specs.Opening.{Opened}
 use Rattle.server_model.specs.Opening.{opened_world}
 use Rattle.server_model.proofs.Opened.{length-opened_from}
 use Rattle.orch_core.specs.declared.scenario.Scenario.{Scenario}
-use Rattle.orch_core.specs.Scenarios.{start, room_of, flushes_of}
+use Rattle.orch_core.specs.Scenarios.{start_world, room_of, flushes_of}
 
 servers-write : (w : World) (n size : ℕ) (o : Option Server) (a : WriteAnswer) → length (after_write w n size o a).servers ≡ length w.servers
 servers-write w n size None a = refl
@@ -97,5 +97,5 @@ servers-opened o room flushes = length-opened_from o.servers room flushes 0 o.se
 pub servers_made : (w : World) (o : Opened) (room flushes : ℕ) → w ≡ opened_world o room flushes → length w.servers ≡ length o.servers
 servers_made w o room flushes is = ap (λ (x : World). length x.servers) is ∙ servers-opened o room flushes
 
-pub servers-start : (s : Scenario) → length (start s).world.servers ≡ length s.opening.servers
+pub servers-start : (s : Scenario) → length (start_world s).servers ≡ length s.opening.servers
 servers-start s = servers-opened s.opening (room_of s) (flushes_of s)

@@ -8,11 +8,12 @@ built_keys = codes "version" ∷ codes "now" ∷ codes "gtid" ∷ codes "aliases
 
 abbrev pub built_server_keys : List (List ℕ)
 built_server_keys = codes "name" ∷ codes "uuid" ∷ codes "server_id" ∷ codes "cluster" ∷ codes "logs" ∷ codes "read_only" ∷ codes "limit"
-    ∷ codes "up" ∷ codes "desk" ∷ codes "feed" ∷ codes "history" ∷ codes "source" ∷ codes "executed" ∷ codes "at" ∷ codes "read"
+    ∷ codes "up" ∷ codes "desk" ∷ codes "feed" ∷ codes "known" ∷ codes "history" ∷ codes "source" ∷ codes "executed" ∷ codes "at" ∷ codes "read"
     ∷ codes "io" ∷ codes "sql" ∷ codes "auto" ∷ codes "detached" ∷ codes "until" ∷ codes "flushes" ∷ []
 
 abbrev pub built_turns : List (List ℕ)
-built_turns = codes "write" ∷ codes "fetch" ∷ codes "apply" ∷ codes "fail" ∷ codes "heal" ∷ codes "cut" ∷ codes "join" ∷ codes "rotate" ∷ codes "tick" ∷ []
+built_turns = codes "write" ∷ codes "fetch" ∷ codes "apply" ∷ codes "fail" ∷ codes "heal" ∷ codes "cut" ∷ codes "join" ∷ codes "rotate" ∷ codes "tick"
+    ∷ codes "poll-read" ∷ codes "poll-store" ∷ codes "polls" ∷ codes "round" ∷ codes "restart" ∷ []
 
 abbrev pub built_commands : List (List ℕ)
 built_commands = codes "run" ∷ []

@@ -1,5 +1,10 @@
+pub mod Faults
 pub mod Turns
+pub mod States
+pub mod Polls
+pub mod Replies
 pub mod Runs
+pub mod Keeping
 pub mod Scenarios
 pub mod Built
 pub mod StateBy

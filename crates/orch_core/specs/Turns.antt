@@ -1,15 +1,11 @@
--- Turns: the exchange that each makes, and what it answers.
-use Rattle.std.specs.Prelude.{ℕ, ◌+◌, ◌^◌, ◌<◌, ◌≤◌, Bool, false, List, Option, Some, None, min}
+-- Turns: the exchange that each makes, the moment after it, and whether it is one of the scenario's.
+use Rattle.std.specs.Prelude.{ℕ, ◌+◌, ◌^◌, ◌<◌, ◌≤◌, Bool, false, true, List, Option, Some, None, min}
 use Rattle.std.specs.List.{filter_map}
 use Rattle.server_model.specs.declared.changes.Event.TheVariants as event
-use Rattle.server_model.specs.Desk.{rotate}
-use Rattle.server_model.specs.Exchanges.{write, fetch, apply}
 use Rattle.server_model.specs.Run.{Exchange, Write, Fetch, Apply, Befall, Rotate, after}
 use Rattle.server_model.specs.Worlds.{World}
 use Rattle.orch_core.specs.declared.turn.Turn.{Turn}
 use Rattle.orch_core.specs.declared.turn.Turn.TheVariants as turn
-use Rattle.orch_core.specs.declared.turn.Reply.{Reply}
-use Rattle.orch_core.specs.declared.turn.Reply.TheVariants as answered
 
 -- the exchange that a turn makes, if it makes one
 abbrev pub exchange_of : Turn → Option Exchange
@@ -22,6 +18,9 @@ exchange_of (turn.Cut n link) = Some (Befall n.0 (event.Cut link))
 exchange_of (turn.Join n link) = Some (Befall n.0 (event.Join link))
 exchange_of (turn.Rotate n) = Some (Rotate n.0)
 exchange_of (turn.Tick seconds) = None
+exchange_of (turn.PollRead p n) = None
+exchange_of (turn.PollStore p) = None
+exchange_of turn.Restart = None
 
 -- the exchanges of these turns, in order
 abbrev pub exchanges_of : List Turn → List Exchange
@@ -52,18 +51,20 @@ moment_after now (turn.Heal n) = now
 moment_after now (turn.Cut n link) = now
 moment_after now (turn.Join n link) = now
 moment_after now (turn.Rotate n) = now
+moment_after now (turn.PollRead p n) = now
+moment_after now (turn.PollStore p) = now
+moment_after now turn.Restart = now
 
--- what a turn answers in a world at a moment
-abbrev pub reply_of : World → ℕ → Turn → Reply
-reply_of w now (turn.Write n size) = answered.Write (write w n.0 size).0
-reply_of w now (turn.Fetch n) = answered.Fetch (fetch w n.0).0
-reply_of w now (turn.Apply n) = answered.Apply (apply w n.0).0
-reply_of w now (turn.Fail n) = answered.Done
-reply_of w now (turn.Heal n) = answered.Done
-reply_of w now (turn.Cut n link) = answered.Done
-reply_of w now (turn.Join n link) = answered.Done
-reply_of w now (turn.Rotate n) = answered.Rotate (rotate w n.0).0
-reply_of w now (turn.Tick seconds) = answered.Now (record { 0 = later now seconds })
+-- a turn that neither polls nor stores nor starts orchestrator again
+abbrev pub is_exchange : Turn → Bool
+is_exchange (turn.PollRead p n) = false
+is_exchange (turn.PollStore p) = false
+is_exchange turn.Restart = false
+is_exchange t = true
+
+-- so many pollers
+abbrev pub pollers : ℕ
+pollers = 64
 
 -- the turn is of one of so many servers, and its numbers are in their ranges
 abbrev pub IsTurn : ℕ → Turn → Type 0
@@ -76,3 +77,6 @@ IsTurn count (turn.Cut n link) = n.0 < count
 IsTurn count (turn.Join n link) = n.0 < count
 IsTurn count (turn.Rotate n) = n.0 < count
 IsTurn count (turn.Tick seconds) = seconds ≤ 1000000000
+IsTurn count (turn.PollRead p n) = (p < pollers) × (n.0 < count)
+IsTurn count (turn.PollStore p) = p < pollers
+IsTurn count turn.Restart = Unit {0}

@@ -10,8 +10,9 @@ pub fn built(what: &str) -> bool
 {
     [
         "version", "now", "gtid", "aliases", "filters", "servers", "turns", "name", "uuid", "server_id", "cluster", "logs",
-        "read_only", "limit", "up", "desk", "feed", "history", "source", "executed", "at", "read", "io", "sql", "auto",
-        "detached", "until", "flushes", "write", "fetch", "apply", "fail", "heal", "cut", "join", "rotate", "tick", "run",
+        "read_only", "limit", "up", "desk", "feed", "known", "history", "source", "executed", "at", "read", "io", "sql", "auto",
+        "detached", "until", "flushes", "write", "fetch", "apply", "fail", "heal", "cut", "join", "rotate", "tick",
+        "poll-read", "poll-store", "polls", "round", "restart", "run",
     ]
     .contains(&what)
 }

@@ -2,7 +2,7 @@
 
 ghost use Rattle.std.specs.Prelude.{◌≡◌};
 
-use crate::{Aliases, ClusterFilters, Turn};
+use crate::{Aliases, Answers, ClusterFilters, Turn};
 use orch_base::Moment;
 use server_model::Opening;
 use std::marker::Model;
@@ -45,8 +45,8 @@ impl Turns {
     }
 }
 
-/// The servers as they begin, the moment, the clusters' aliases, whose recoveries may begin by themselves, and the turns
-/// that follow.
+/// The servers as they begin, the moment, the clusters' aliases, whose recoveries may begin by themselves, what is known at
+/// the opening, and the turns that follow.
 #[derive(Drop)]
 pub struct Scenario {
     pub opening: Opening,
@@ -54,5 +54,7 @@ pub struct Scenario {
     pub moment: Moment,
     pub aliases: Aliases,
     pub filters: ClusterFilters,
+    /// For each server whether the book knows it at the opening.
+    pub known: Answers,
     pub turns: Turns,
 }

@@ -24,6 +24,12 @@ pub enum Turn {
     Rotate(ServerNo),
     /// So many seconds pass: 0 to 1,000,000,000.
     Tick(u64),
+    /// This poller, 0 to 63, reads a server into its slot.
+    PollRead(u32, ServerNo),
+    /// What this poller, 0 to 63, has in its slot is stored.
+    PollStore(u32),
+    /// Orchestrator starts again.
+    Restart,
 }
 
 /// What a turn answers.
@@ -37,4 +43,16 @@ pub enum Reply {
     Rotate(RotateAnswer),
     /// The moment that it is now.
     Now(Moment),
+    /// The number of a reading that reached its server.
+    Read(u64),
+    /// The number of a reading that didn't reach its server.
+    ReadUnreachable(u64),
+    /// The book has no such instance.
+    Unknown,
+    /// The reading is stored.
+    Stored,
+    /// The instance was read later, by this number.
+    Old(u64),
+    /// The slot is empty.
+    Nothing,
 }

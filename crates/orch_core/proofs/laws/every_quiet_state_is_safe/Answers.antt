@@ -1,4 +1,4 @@
-use Rattle.orch_core.proofs.Runs.{Safe-quiet_run, Safe-quiet}
+use Rattle.orch_core.proofs.RunLaws.{Safe-quiet_run, Safe-quiet}
 use Rattle.orch_core.proofs.laws.every_quiet_state_is_safe.Goals as goal
 
 pub returns-clause-own : goal.returns-clause-own

@@ -1,4 +1,4 @@
-use Rattle.orch_core.proofs.Runs.{Placed-run, Placed-turns}
+use Rattle.orch_core.proofs.RunLaws.{Placed-run, Placed-turns}
 use Rattle.orch_core.proofs.laws.every_state_is_placed.Goals as goal
 
 pub returns-clause-own : goal.returns-clause-own

@@ -1,4 +1,4 @@
-use Rattle.orch_core.proofs.Runs.{not_skipped}
+use Rattle.orch_core.proofs.RunLaws.{not_skipped}
 use Rattle.orch_core.proofs.laws.skipped_never_comes.Goals as goal
 
 pub returns : goal.returns
