@@ -40,6 +40,9 @@ words_text names (turn.Cut n link) = codes "cut " ++ name_text names n ++ codes 
 words_text names (turn.Join n link) = codes "join " ++ name_text names n ++ codes " " ++ link_text link
 words_text names (turn.Rotate n) = codes "rotate " ++ name_text names n
 words_text names (turn.Tick seconds) = codes "tick " ++ decimal seconds
+words_text names (turn.PollRead poller n) = codes "poll-read " ++ decimal poller ++ codes " " ++ name_text names n
+words_text names (turn.PollStore poller) = codes "poll-store " ++ decimal poller
+words_text names turn.Restart = codes "restart"
 
 abbrev pub write_text : WriteAnswer → List ℕ
 write_text (wrote.Done seq) = codes "done " ++ decimal seq
@@ -76,6 +79,12 @@ answer_text (answered.Apply a) = apply_text a
 answer_text answered.Done = codes "done"
 answer_text (answered.Rotate a) = rotate_text a
 answer_text (answered.Now t) = codes "now " ++ decimal t.0
+answer_text (answered.Read number) = codes "read " ++ decimal number
+answer_text (answered.ReadUnreachable number) = codes "read " ++ decimal number ++ codes " unreachable"
+answer_text answered.Unknown = codes "unknown"
+answer_text answered.Stored = codes "stored"
+answer_text (answered.Old number) = codes "old " ++ decimal number
+answer_text answered.Nothing = codes "nothing"
 
 -- N WORDS: REPLY
 unfoldable pub line_text : List HostPort → ℕ → Turn → Reply → List ℕ

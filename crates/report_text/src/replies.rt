@@ -1,6 +1,6 @@
 //! The line of a turn with its reply.
 
-ghost use Rattle.std.specs.Prelude.{◌≡◌, ◌++◌, codes, OnOk, OnErr};
+ghost use Rattle.std.specs.Prelude.{◌≡◌, ◌++◌, codes, decimal, OnOk, OnErr};
 ghost use Rattle.report_text.specs.Lines.{name_text, link_text, words_text, write_text, fetch_text, apply_text, rotate_text, answer_text, line_text};
 ghost use Rattle.binlog_coords.specs.Text.{coord_text};
 
@@ -9,6 +9,14 @@ use binlog_coords::{Coord, print_coord};
 use orch_base::{Memory, Name, ServerNo};
 use orch_core::{Reply, Turn};
 use server_model::{ApplyAnswer, FetchAnswer, Link, RotateAnswer, WriteAnswer};
+
+// The word and the number.
+fn print_counted(word: &[u8], number: u64, out: &mut Vec<u8>) -> Result<(), Memory>
+    ensures { OnOk result (out.new.items ≡ out.old.items ++ (word.now ++ decimal number)) }
+{
+    out.extend_from_slice(word)?;
+    print_number(number, out)
+}
 
 fn print_name(names: &[Name], no: ServerNo, out: &mut Vec<u8>) -> Result<(), Memory>
     ensures { OnOk result (out.new.items ≡ out.old.items ++ name_text names.now no) }
@@ -56,38 +64,46 @@ fn print_link(
     out.extend_from_slice(link_word(link))
 }
 
-fn print_words(t: Turn, names: &[Name], out: &mut Vec<u8>) -> Result<(), Memory>
-    ensures { OnOk result (out.new.items ≡ out.old.items ++ words_text names.now t) }
+// `poll-read `, the poller, a space and the server's name.
+fn print_poll_read(
+    poller: u32,
+    names: &[Name],
+    no: ServerNo,
+    out: &mut Vec<u8>,
+) -> Result<(), Memory>
+    ensures { OnOk result (out.new.items ≡ out.old.items ++ (codes "poll-read " ++ decimal poller ++ codes " " ++ name_text names.now no)) }
+{
+    print_counted(b"poll-read ", u64::from(poller), out)?;
+    print_at_server(b" ", names, no, out)
+}
+
+fn print_words(t: &Turn, names: &[Name], out: &mut Vec<u8>) -> Result<(), Memory>
+    ensures { OnOk result (out.new.items ≡ out.old.items ++ words_text names.now t.now) }
 {
     match t {
         Turn::Write(no, size) => {
-            out.extend_from_slice(b"write ")?;
-            print_name(names, no, out)?;
-            out.extend_from_slice(b" ")?;
-            print_number(u64::from(size), out)
+            print_at_server(b"write ", names, *no, out)?;
+            print_counted(b" ", u64::from(*size), out)
         }
-        Turn::Fetch(no) => print_at_server(b"fetch ", names, no, out),
-        Turn::Apply(no) => print_at_server(b"apply ", names, no, out),
-        Turn::Fail(no) => print_at_server(b"fail ", names, no, out),
-        Turn::Heal(no) => print_at_server(b"heal ", names, no, out),
-        Turn::Cut(no, link) => print_link(b"cut ", names, no, link, out),
-        Turn::Join(no, link) => print_link(b"join ", names, no, link, out),
-        Turn::Rotate(no) => print_at_server(b"rotate ", names, no, out),
-        Turn::Tick(seconds) => {
-            out.extend_from_slice(b"tick ")?;
-            print_number(seconds, out)
-        }
+        Turn::Fetch(no) => print_at_server(b"fetch ", names, *no, out),
+        Turn::Apply(no) => print_at_server(b"apply ", names, *no, out),
+        Turn::Fail(no) => print_at_server(b"fail ", names, *no, out),
+        Turn::Heal(no) => print_at_server(b"heal ", names, *no, out),
+        Turn::Cut(no, link) => print_link(b"cut ", names, *no, *link, out),
+        Turn::Join(no, link) => print_link(b"join ", names, *no, *link, out),
+        Turn::Rotate(no) => print_at_server(b"rotate ", names, *no, out),
+        Turn::Tick(seconds) => print_counted(b"tick ", *seconds, out),
+        Turn::PollRead(poller, no) => print_poll_read(*poller, names, *no, out),
+        Turn::PollStore(poller) => print_counted(b"poll-store ", u64::from(*poller), out),
+        Turn::Restart => out.extend_from_slice(b"restart"),
     }
 }
 
-fn print_write(answer: WriteAnswer, out: &mut Vec<u8>) -> Result<(), Memory>
-    ensures { OnOk result (out.new.items ≡ out.old.items ++ write_text answer) }
+fn print_write(answer: &WriteAnswer, out: &mut Vec<u8>) -> Result<(), Memory>
+    ensures { OnOk result (out.new.items ≡ out.old.items ++ write_text answer.now) }
 {
     match answer {
-        WriteAnswer::Done(seq) => {
-            out.extend_from_slice(b"done ")?;
-            print_number(seq, out)
-        }
+        WriteAnswer::Done(seq) => print_counted(b"done ", *seq, out),
         WriteAnswer::Down => out.extend_from_slice(b"down"),
         WriteAnswer::ReadOnly => out.extend_from_slice(b"read only"),
         WriteAnswer::Full => out.extend_from_slice(b"full"),
@@ -102,25 +118,25 @@ fn print_at(word: &[u8], c: Coord, out: &mut Vec<u8>) -> Result<(), Memory>
     print_coord(c, out)
 }
 
-fn print_fetch(answer: FetchAnswer, out: &mut Vec<u8>) -> Result<(), Memory>
-    ensures { OnOk result (out.new.items ≡ out.old.items ++ fetch_text answer) }
+fn print_fetch(answer: &FetchAnswer, out: &mut Vec<u8>) -> Result<(), Memory>
+    ensures { OnOk result (out.new.items ≡ out.old.items ++ fetch_text answer.now) }
 {
     match answer {
-        FetchAnswer::Got(c) => print_at(b"got ", c, out),
-        FetchAnswer::Rotated(c) => print_at(b"rotated ", c, out),
+        FetchAnswer::Got(c) => print_at(b"got ", *c, out),
+        FetchAnswer::Rotated(c) => print_at(b"rotated ", *c, out),
         FetchAnswer::Nothing => out.extend_from_slice(b"nothing"),
         FetchAnswer::Stopped => out.extend_from_slice(b"stopped"),
         FetchAnswer::NoLink => out.extend_from_slice(b"no link"),
     }
 }
 
-fn print_apply(answer: ApplyAnswer, out: &mut Vec<u8>) -> Result<(), Memory>
-    ensures { OnOk result (out.new.items ≡ out.old.items ++ apply_text answer) }
+fn print_apply(answer: &ApplyAnswer, out: &mut Vec<u8>) -> Result<(), Memory>
+    ensures { OnOk result (out.new.items ≡ out.old.items ++ apply_text answer.now) }
 {
     match answer {
-        ApplyAnswer::Done(c) => print_at(b"done ", c, out),
-        ApplyAnswer::Skipped(c) => print_at(b"skipped ", c, out),
-        ApplyAnswer::Rotated(c) => print_at(b"rotated ", c, out),
+        ApplyAnswer::Done(c) => print_at(b"done ", *c, out),
+        ApplyAnswer::Skipped(c) => print_at(b"skipped ", *c, out),
+        ApplyAnswer::Rotated(c) => print_at(b"rotated ", *c, out),
         ApplyAnswer::Nothing => out.extend_from_slice(b"nothing"),
         ApplyAnswer::Stopped => out.extend_from_slice(b"stopped"),
         ApplyAnswer::AtUntil => out.extend_from_slice(b"at until"),
@@ -128,19 +144,27 @@ fn print_apply(answer: ApplyAnswer, out: &mut Vec<u8>) -> Result<(), Memory>
     }
 }
 
-fn print_rotate(answer: RotateAnswer, out: &mut Vec<u8>) -> Result<(), Memory>
-    ensures { OnOk result (out.new.items ≡ out.old.items ++ rotate_text answer) }
+fn print_rotate(answer: &RotateAnswer, out: &mut Vec<u8>) -> Result<(), Memory>
+    ensures { OnOk result (out.new.items ≡ out.old.items ++ rotate_text answer.now) }
 {
     match answer {
-        RotateAnswer::Done(c) => print_at(b"done ", c, out),
+        RotateAnswer::Done(c) => print_at(b"done ", *c, out),
         RotateAnswer::Down => out.extend_from_slice(b"down"),
         RotateAnswer::NotLogging => out.extend_from_slice(b"not logging"),
         RotateAnswer::Full => out.extend_from_slice(b"full"),
     }
 }
 
-fn print_answer(r: Reply, out: &mut Vec<u8>) -> Result<(), Memory>
-    ensures { OnOk result (out.new.items ≡ out.old.items ++ answer_text r) }
+// The number between the words.
+fn print_between(before: &[u8], number: u64, after: &[u8], out: &mut Vec<u8>) -> Result<(), Memory>
+    ensures { OnOk result (out.new.items ≡ out.old.items ++ (before.now ++ decimal number ++ after.now)) }
+{
+    print_counted(before, number, out)?;
+    out.extend_from_slice(after)
+}
+
+fn print_answer(r: &Reply, out: &mut Vec<u8>) -> Result<(), Memory>
+    ensures { OnOk result (out.new.items ≡ out.old.items ++ answer_text r.now) }
 {
     match r {
         Reply::Write(answer) => print_write(answer, out),
@@ -148,22 +172,25 @@ fn print_answer(r: Reply, out: &mut Vec<u8>) -> Result<(), Memory>
         Reply::Apply(answer) => print_apply(answer, out),
         Reply::Done => out.extend_from_slice(b"done"),
         Reply::Rotate(answer) => print_rotate(answer, out),
-        Reply::Now(now) => {
-            out.extend_from_slice(b"now ")?;
-            print_number(now.0, out)
-        }
+        Reply::Now(now) => print_counted(b"now ", now.0, out),
+        Reply::Read(number) => print_counted(b"read ", *number, out),
+        Reply::ReadUnreachable(number) => print_between(b"read ", *number, b" unreachable", out),
+        Reply::Unknown => out.extend_from_slice(b"unknown"),
+        Reply::Stored => out.extend_from_slice(b"stored"),
+        Reply::Old(number) => print_counted(b"old ", *number, out),
+        Reply::Nothing => out.extend_from_slice(b"nothing"),
     }
 }
 
 #[tactic(auto, unfolding(crate::specs::Lines::line_text))]
 fn print_line(
     number: u64,
-    t: Turn,
-    r: Reply,
+    t: &Turn,
+    r: &Reply,
     names: &[Name],
     out: &mut Vec<u8>,
 ) -> Result<(), Memory>
-    ensures { OnOk result (out.new.items ≡ out.old.items ++ line_text names.now number t r) }
+    ensures { OnOk result (out.new.items ≡ out.old.items ++ line_text names.now number t.now r.now) }
 {
     print_number(number, out)?;
     out.extend_from_slice(b" ")?;
@@ -186,6 +213,6 @@ pub fn reply_text(
     ensures err { OnErr result (out.new.items ≡ out.old.items) }
 {
     let mut line = Vec::new(*out.allocator());
-    print_line(number, *t, *r, names, &mut line)?;
+    print_line(number, t, r, names, &mut line)?;
     out.append(&mut line)
 }

@@ -133,6 +133,26 @@ fn each_reply_has_its_line(rt: HostRuntime) -> Result<(), Fail> {
             Reply::Now(Moment(1060)),
             "tick 60: now 1060",
         ),
+        (
+            Turn::PollRead(0, R),
+            Reply::Read(18446744073709551615),
+            "poll-read 0 r:3307: read 18446744073709551615",
+        ),
+        (
+            Turn::PollRead(63, M),
+            Reply::ReadUnreachable(4),
+            "poll-read 63 m:3306: read 4 unreachable",
+        ),
+        (
+            Turn::PollRead(1, R),
+            Reply::Unknown,
+            "poll-read 1 r:3307: unknown",
+        ),
+        (Turn::PollStore(0), Reply::Stored, "poll-store 0: stored"),
+        (Turn::PollStore(63), Reply::Old(12), "poll-store 63: old 12"),
+        (Turn::PollStore(2), Reply::Unknown, "poll-store 2: unknown"),
+        (Turn::PollStore(2), Reply::Nothing, "poll-store 2: nothing"),
+        (Turn::Restart, Reply::Done, "restart: done"),
     ];
     for (turn, reply, text) in cases {
         let mut out = Vec::from_slice(alloc, b">")?;
@@ -140,5 +160,26 @@ fn each_reply_has_its_line(rt: HostRuntime) -> Result<(), Fail> {
         let line = format!(in alloc; ">7 {text}\n")?;
         assert_eq!(rt; str::from_utf8(&out).ok(), Some(line.as_str()));
     }
+    Ok(())
+}
+
+#[test]
+fn an_older_reading_is_told_in_its_lines(rt: HostRuntime) -> Result<(), Fail> {
+    let alloc = rt.alloc();
+    let names = vec![in alloc; Name::read(alloc, "m")?, Name::read(alloc, "r:3307")?]?;
+    let turns = [
+        (1, Turn::PollRead(1, M), Reply::Read(1)),
+        (2, Turn::Fail(M), Reply::Done),
+        (3, Turn::PollRead(2, M), Reply::ReadUnreachable(2)),
+        (4, Turn::PollStore(2), Reply::Stored),
+        (5, Turn::PollStore(1), Reply::Old(2)),
+    ];
+    let mut out = Vec::new(alloc);
+    for (number, turn, reply) in turns {
+        reply_text(number, &turn, &reply, &names, &mut out)?;
+    }
+    let lines =
+        "1 poll-read 1 m:3306: read 1\n2 fail m:3306: done\n3 poll-read 2 m:3306: read 2 unreachable\n4 poll-store 2: stored\n5 poll-store 1: old 2\n";
+    assert_eq!(rt; str::from_utf8(&out).ok(), Some(lines));
     Ok(())
 }
