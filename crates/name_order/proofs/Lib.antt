@@ -1,0 +1,4 @@
+pub mod Sorting
+pub mod ByName
+pub mod Arranged
+pub mod Placing

@@ -1,0 +1,12 @@
+//! Servers by their names.
+#![tactic(auto)]
+
+mod laws;
+mod order;
+#[cfg(test)]
+mod tests;
+
+pub use laws::servers_stand_in_name_order;
+/// Want of memory.
+pub use orch_base::Memory;
+pub use order::{in_name_order, ranks};
