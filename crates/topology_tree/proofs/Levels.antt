@@ -8,12 +8,12 @@ use Rattle.topology_tree.specs.Forests.{above, IsClosed}
 use Rattle.topology_tree.proofs.Chains.{Ends-no_return}
 
 -- the nodes from one to its root
-chain : (up : ℕ → Option ℕ) (x : ℕ) → Ends up x → List ℕ
+unfoldable pub chain : (up : ℕ → Option ℕ) (x : ℕ) → Ends up x → List ℕ
 chain up x (Root x' none) = x ∷ []
 chain up x (Under x' m e g) = x ∷ chain up m g
 
 -- a node of the chain is the first or is reached from it
-chain-follows : (up : ℕ → Option ℕ) (x q : ℕ) (g : Ends up x) → list_any (eqb q) (chain up x g) ≡ true → (q ≡ x) ⊎ Follows up q x
+pub chain-follows : (up : ℕ → Option ℕ) (x q : ℕ) (g : Ends up x) → list_any (eqb q) (chain up x g) ≡ true → (q ≡ x) ⊎ Follows up q x
 unfolding chain
 chain-follows up x q (Root x' none) h =
     elim (or_cases (eqb q x) false h) [ inl same ↦ inl (eqb-true q x same) | inr no_more ↦ cc ]
@@ -31,7 +31,7 @@ all-apart x [] apart = tt
 all-apart x (y ∷ ys) apart =
     (apart y (ap (λ b. b || list_any (eqb y) ys) (eq-eqb y y refl)), all-apart x ys (λ q h. apart q (or_right (eqb q y) (list_any (eqb q) ys) h)))
 
-chain-distinct : (up : ℕ → Option ℕ) (x : ℕ) (g : Ends up x) → IsDistinct eqb (chain up x g)
+pub chain-distinct : (up : ℕ → Option ℕ) (x : ℕ) (g : Ends up x) → IsDistinct eqb (chain up x g)
 unfolding chain IsDistinct
 chain-distinct up x (Root x' none) = (tt, tt)
 chain-distinct up x (Under x' m e g) = (

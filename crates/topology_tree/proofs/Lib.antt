@@ -5,3 +5,4 @@ pub mod Marking
 pub mod Walking
 pub mod Members
 pub mod TreeWalks
+pub mod Computed

@@ -4,3 +4,4 @@ pub mod Trees
 pub mod Marks
 pub mod Links
 pub mod LinksBy
+pub mod Making

@@ -9,6 +9,6 @@ mod loops;
 mod tests;
 
 pub use forest::Forest;
-pub use laws::{sources_have_one_forest, walks_list_their_tree};
+pub use laws::{forests_are_computed, sources_have_one_forest, walks_list_their_tree};
 /// Want of memory.
 pub use std::alloc::AllocError as Memory;
