@@ -1,0 +1,5 @@
+pub mod Reading
+pub mod LabelOrder
+pub mod Nodes
+pub mod Places
+pub mod Listings

@@ -1,0 +1,127 @@
+-- The lines of nodes.
+use Rattle.std.proofs.Common.{◌≡◌, ℕ, ◌+◌, ◌-◌, ◌<◌, ◌≤◌, Bool, true, false, cond, ltb, List, [], ◌∷◌, ◌++◌, length, get_or, map, take, drop, Bor, Option, None, Some, not, refl, sym, ap, ◌∙◌, subst, append_assoc, append-nil, suc, zero, arith}
+use Rattle.std.specs.Prelude.{filter, filter_map, slice_get, option_map, option_and_then}
+use Rattle.std.specs.List.{cons_option, flat_map, range_with_len}
+use Rattle.std.specs.Option.{option_copied, option_to_list}
+use Rattle.std.proofs.lemmas.List.{take_more, take_all, drop_all, length-drop}
+use Rattle.std.proofs.lemmas.List.Elements.{filter-append, filter_map-append}
+use Rattle.std.proofs.lemmas.Grind.{flat_map-append}
+use Rattle.std.proofs.Math.Seq.{drop-cons}
+use Rattle.std.proofs.lemmas.Bool.{ltb-true}
+use Rattle.std.proofs.lemmas.Option.{slice_get-get_or}
+use Rattle.std.specs.Option.{is_some, IfSome}
+use Rattle.orch_base.specs.declared.server.ServerNo.{ServerNo}
+use Rattle.instance_keeper.specs.Book.{Known, instance_at}
+use Rattle.instance_keeper.specs.declared.observation.Instance.{Instance}
+use Rattle.server_model.specs.Worlds.{World}
+use Rattle.commands.specs.declared.line.Line.{Line}
+use Rattle.commands.specs.declared.line.Line.TheVariants as line
+use Rattle.name_order.specs.NameOrder.{by_name}
+use Rattle.asking_commands.specs.Labels.{each_once, is_again}
+use Rattle.asking_commands.specs.Trees.{instance_line, node_line}
+
+pub copied-some : {X : Type 0} (o : Option (Bor X)) (r : Option X) (x : Bor X) → option_copied o ≡ r → o ≡ Some x → r ≡ Some x.now
+copied-some o r x is some = sym is ∙ ap option_copied some
+
+pub copied-none : {X : Type 0} (o : Option (Bor X)) (r : Option X) → option_copied o ≡ r → o ≡ None → r ≡ None
+copied-none o r is none = sym is ∙ ap option_copied none
+
+-- what a look-up in a slice found
+pub got : {X : Type 0} (xs : List X) (k : ℕ) (o : Option (Bor X)) (x : Bor X) → o ≡ Some x → is_some o ≡ ltb k (length xs) → IfSome o (λ y. y.now ≡ get_or xs k y.now) → slice_get xs k ≡ Some x.now
+got xs k o x some within at =
+    let short : k < length xs = ltb-true k (length xs) (sym within ∙ ap is_some some) in
+    let here : x.now ≡ get_or xs k x.now = subst (λ (p : Option (Bor _)). IfSome p (λ y. y.now ≡ get_or xs k y.now)) some at in
+    slice_get-get_or xs k x.now short ∙ ap Some (sym here)
+
+abbrev by_instance : Known → World → ℕ → ServerNo → Option Line
+by_instance b w depth server = option_map (instance_line w depth server) (instance_at b server)
+
+pub node-some : (b : Known) (w : World) (order : List ServerNo) (place depth : ℕ) (server : ServerNo) (i : Instance) → order ≡ by_name b.names
+    → slice_get order place ≡ Some server → instance_at b server ≡ Some i → Some (instance_line w depth server i) ≡ node_line b w (place, depth)
+node-some b w order place depth server i is at known =
+    sym (ap (λ (xs : List ServerNo). option_and_then (by_instance b w depth) (slice_get xs place)) (sym is)
+    ∙ ap (option_and_then (by_instance b w depth)) at
+    ∙ ap (option_map (instance_line w depth server)) known)
+
+pub node-none : (b : Known) (w : World) (order : List ServerNo) (place depth : ℕ) (server : ServerNo) → order ≡ by_name b.names
+    → slice_get order place ≡ Some server → instance_at b server ≡ None → None ≡ node_line b w (place, depth)
+node-none b w order place depth server is at none =
+    sym (ap (λ (xs : List ServerNo). option_and_then (by_instance b w depth) (slice_get xs place)) (sym is)
+    ∙ ap (option_and_then (by_instance b w depth)) at
+    ∙ ap (option_map (instance_line w depth server)) none)
+
+cons-list : (o : Option Line) → cons_option o [] ≡ option_to_list o
+cons-list None = refl
+cons-list (Some x) = refl
+
+-- one more node
+pub nodes-more : (f : ℕ × ℕ → Option Line) (before : List Line) (nodes : List (ℕ × ℕ)) (k : ℕ) (d : ℕ × ℕ) → k < length nodes
+    → (before ++ filter_map f (take k nodes)) ++ option_to_list (f (get_or nodes k d)) ≡ before ++ filter_map f (take (k + 1) nodes)
+nodes-more f before nodes k d within =
+    append_assoc before (filter_map f (take k nodes)) (option_to_list (f (get_or nodes k d)))
+    ∙ ap (λ (xs : List Line). before ++ (filter_map f (take k nodes) ++ xs)) (sym (cons-list (f (get_or nodes k d))))
+    ∙ ap (λ (xs : List Line). before ++ xs) (sym (filter_map-append f (take k nodes) (get_or nodes k d ∷ [])) ∙ ap (filter_map f) (sym (take_more nodes k d within)))
+
+abbrev pub seen : Bor (List ℕ) → List ℕ
+seen label = label.now
+
+-- the labels from a place on, its own first
+once-next : (labels : List (Bor (List ℕ))) (k : ℕ) (label : Bor (List ℕ)) → label ≡ get_or labels k label → k < length labels
+    → each_once (map seen (drop k labels)) ≡ cond (is_again label.now (map seen (drop (k + 1) labels))) (each_once (map seen (drop (k + 1) labels))) (label.now ∷ each_once (map seen (drop (k + 1) labels)))
+once-next labels k label at within =
+    let next : suc k ≡ k + 1 = omega arith in
+    let here : drop k labels ≡ label ∷ drop (k + 1) labels =
+    drop-cons labels k label within ∙ ap (λ (x : Bor (List ℕ)). x ∷ drop (suc k) labels) (sym at) ∙ ap (λ (i : ℕ). label ∷ drop i labels) next in
+    ap (λ (xs : List (Bor (List ℕ))). each_once (map seen xs)) here
+
+pub last-more : (before : List Line) (labels : List (Bor (List ℕ))) (k : ℕ) (label : Bor (List ℕ)) → label ≡ get_or labels k label → k < length labels
+    → not (is_again label.now (map seen (drop (k + 1) labels))) ≡ true
+    → (before ++ line.Cluster label.now ∷ []) ++ map line.Cluster (each_once (map seen (drop (k + 1) labels))) ≡ before ++ map line.Cluster (each_once (map seen (drop k labels)))
+last-more before labels k label at within last =
+    append_assoc before (line.Cluster label.now ∷ []) (map line.Cluster (each_once (map seen (drop (k + 1) labels)))) ∙ ap (λ (xs : List (List ℕ)). before ++ map line.Cluster xs) (sym (once-next labels k label at within ∙ by_test (is_again label.now (map seen (drop (k + 1) labels))) last))
+  where
+    by_test : (again : Bool) → not again ≡ true → cond again (each_once (map seen (drop (k + 1) labels))) (label.now ∷ each_once (map seen (drop (k + 1) labels))) ≡ label.now ∷ each_once (map seen (drop (k + 1) labels))
+    by_test true e = cc
+    by_test false e = refl
+
+pub again-more : (before : List Line) (labels : List (Bor (List ℕ))) (k : ℕ) (label : Bor (List ℕ)) → label ≡ get_or labels k label → k < length labels
+    → not (is_again label.now (map seen (drop (k + 1) labels))) ≡ false
+    → before ++ map line.Cluster (each_once (map seen (drop (k + 1) labels))) ≡ before ++ map line.Cluster (each_once (map seen (drop k labels)))
+again-more before labels k label at within again =
+    ap (λ (xs : List (List ℕ)). before ++ map line.Cluster xs) (sym (once-next labels k label at within ∙ by_test (is_again label.now (map seen (drop (k + 1) labels))) again))
+  where
+    by_test : (again : Bool) → not again ≡ false → cond again (each_once (map seen (drop (k + 1) labels))) (label.now ∷ each_once (map seen (drop (k + 1) labels))) ≡ each_once (map seen (drop (k + 1) labels))
+    by_test true e = refl
+    by_test false e = cc
+
+range-more : (a n : ℕ) → range_with_len a (suc n) ≡ range_with_len a n ++ (a + n) ∷ []
+range-more a zero = let same : a ≡ a + 0 = omega arith in ap (λ (i : ℕ). i ∷ []) same
+range-more a (suc n) =
+    let same : (a + 1) + n ≡ a + suc n = omega arith in
+    ap (λ (xs : List ℕ). a ∷ xs) (range-more (a + 1) n ∙ ap (λ (i : ℕ). range_with_len (a + 1) n ++ i ∷ []) same)
+
+-- one more place: its tree where it passes
+pub trees-more : (tree : ℕ → List Line) (passes : ℕ → Bool) (place : ℕ) (passed : Bool) → passed ≡ passes place
+    → flat_map tree (filter passes (range_with_len 0 (place + 1))) ≡ flat_map tree (filter passes (range_with_len 0 place)) ++ cond passed (tree place) []
+trees-more tree passes place passed test =
+    let next : place + 1 ≡ suc place = omega arith in
+    let same : 0 + place ≡ place = omega arith in
+    ap (λ (n : ℕ). flat_map tree (filter passes (range_with_len 0 n))) next
+    ∙ ap (λ (xs : List ℕ). flat_map tree (filter passes xs)) (range-more 0 place ∙ ap (λ (i : ℕ). range_with_len 0 place ++ i ∷ []) same)
+    ∙ ap (flat_map tree) (filter-append passes (range_with_len 0 place) (place ∷ []))
+    ∙ flat_map-append tree (filter passes (range_with_len 0 place)) (filter passes (place ∷ []))
+    ∙ ap (λ (xs : List Line). flat_map tree (filter passes (range_with_len 0 place)) ++ xs) (one (passes place) ∙ ap (λ (b : Bool). cond b (tree place) []) (sym test))
+  where
+    one : (b : Bool) → flat_map tree (cond b (place ∷ []) []) ≡ cond b (tree place) []
+    one true = append-nil (tree place)
+    one false = refl
+
+-- a slice from a place on
+pub rest_of : {X : Type 0} (xs : List X) (k : ℕ) → take (length xs - k) (drop k xs) ≡ drop k xs
+rest_of xs k = take_all (length xs - k) (drop k xs) (omega (arith, length-drop k xs))
+
+-- behind the last place
+pub all-once : (lines : List Line) (labels : List (Bor (List ℕ))) (k : ℕ) → length labels ≤ k
+    → lines ++ map line.Cluster (each_once (map seen (drop k labels))) ≡ map line.Cluster (each_once (map seen labels)) → lines ≡ map line.Cluster (each_once (map seen labels))
+all-once lines labels k past so_far =
+    sym (append-nil lines) ∙ ap (λ (xs : List (Bor (List ℕ))). lines ++ map line.Cluster (each_once (map seen xs))) (sym (drop_all k labels past)) ∙ so_far

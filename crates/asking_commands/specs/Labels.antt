@@ -1,0 +1,29 @@
+-- The clusters of a book.
+use Rattle.std.specs.Prelude.{ℕ, Bool, false, List, [], ◌∷◌, map, filter, nat_eq, if◌then◌else◌}
+use Rattle.std.specs.Cmp.Lexicographic.{pointwise, slice_cmp}
+use Rattle.std.specs.Ordering.{nat_cmp}
+use Rattle.instance_keeper.specs.Book.{Known}
+use Rattle.server_model.specs.Worlds.{World}
+use Rattle.name_order.specs.NameOrder.{by_name}
+use Rattle.name_order.specs.Sorts.{sort_by}
+use Rattle.commands.specs.declared.line.Line.{Line}
+use Rattle.commands.specs.declared.line.Line.TheVariants as line
+use Rattle.asking_commands.specs.Asking.{is_instance, label_at}
+
+-- it is the same as the first behind it
+abbrev pub is_again : List ℕ → List (List ℕ) → Bool
+is_again one [] = false
+is_again one (other ∷ rest) = pointwise nat_eq one other
+
+-- of labels in order, each once
+abbrev pub each_once : List (List ℕ) → List (List ℕ)
+each_once [] = []
+each_once (one ∷ rest) = if is_again one rest then each_once rest else one ∷ each_once rest
+
+-- the labels of the book's instances
+abbrev pub labels_of : Known → World → List (List ℕ)
+labels_of b w = map (label_at w) (filter (is_instance b) (by_name b.names))
+
+-- each of them once, by their bytes
+unfoldable pub clusters_of : Known → World → List Line
+clusters_of b w = map line.Cluster (each_once (sort_by (slice_cmp nat_cmp) (labels_of b w)))

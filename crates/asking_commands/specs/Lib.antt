@@ -1,0 +1,4 @@
+pub mod Asking
+pub mod Labels
+pub mod Trees
+pub mod Answers
