@@ -1,15 +1,14 @@
 //! What the texts of the options are read as.
 
-ghost use Rattle.std.specs.Prelude.{◌≡◌, ◌≤◌, ◌<◌, IfOk, option_map};
-ghost use Rattle.std.specs.Char.{is_ascii_digit};
-ghost use Rattle.std.specs.List.{list_all};
+ghost use Rattle.std.specs.Prelude.{◌≡◌, ◌≤◌, IfOk, option_map};
 ghost use Rattle.orch_base.specs.Gives.{Gives};
 ghost use Rattle.command_line.specs.Usages.{usage_fault};
-ghost use Rattle.command_line.specs.Values.{before, duration_in, maybe, name_in, number_and_unit, number_at, number_in, or_default, pattern_in, rule_in, text_in, text_within, within};
+ghost use Rattle.command_line.specs.Values.{duration_in, maybe, name_in, number_in, or_default, pattern_in, rule_in, text_in, text_within};
 
 use crate::usage::Usage;
 use cluster_filters::{FilterFault, Pattern};
 use instance_keeper::Rule;
+use option_values::{number_within, rule_at, seconds_at};
 use orch_base::{Label, Name, NameFault};
 use std::alloc::Global;
 
@@ -33,16 +32,12 @@ pub(crate) fn maybe_name(alloc: Global, text: Option<&str>) -> Result<Option<Nam
     }
 }
 
-#[tactic(auto, unfolding(crate::specs::Values::rule_in))]
 fn rule_in(text: &str) -> Result<Rule, Usage>
     ensures { Gives (λ r. r) usage_fault result (rule_in text.now) }
 {
-    match text {
-        "prefer" => Ok(Rule::Prefer),
-        "neutral" => Ok(Rule::Neutral),
-        "prefer_not" => Ok(Rule::PreferNot),
-        "must_not" => Ok(Rule::MustNot),
-        _ => Err(Usage::BadWords),
+    match rule_at(text) {
+        Some(rule) => Ok(rule),
+        None => Err(Usage::BadWords),
     }
 }
 
@@ -101,29 +96,13 @@ pub(crate) fn maybe_pattern(alloc: Global, text: Option<&str>) -> Result<Option<
     }
 }
 
-fn are_digits(text: &[u8]) -> bool
-    ensures { result ≡ list_all is_ascii_digit text.now }
-{
-    text.iter().all(|b| b.is_ascii_digit())
-}
-
-fn number_at(digits: &str) -> Option<u64>
-    ensures { result ≡ number_at digits.now }
-{
-    if are_digits(digits.as_bytes()) {
-        digits.parse::<u64>().ok()
-    } else {
-        None
-    }
-}
-
-fn within(low: u64, high: u64, number: Option<u64>) -> Result<u64, Usage>
-    ensures value { Gives (λ n. n) usage_fault result (within low high number) }
+fn number_in(low: u64, high: u64, text: &str) -> Result<u64, Usage>
+    ensures value { Gives (λ n. n) usage_fault result (number_in low high text.now) }
     ensures range { IfOk result (λ n. (low ≤ n) × (n ≤ high)) }
 {
-    match number {
-        Some(number) if low <= number && number <= high => Ok(number),
-        _ => Err(Usage::BadWords),
+    match number_within(low, high, text) {
+        Some(number) => Ok(number),
+        None => Err(Usage::BadWords),
     }
 }
 
@@ -133,7 +112,7 @@ pub(crate) fn number_or(default: u64, low: u64, high: u64, text: Option<&str>) -
 {
     match text {
         None => Ok(default),
-        Some(text) => within(low, high, number_at(text)),
+        Some(text) => number_in(low, high, text),
     }
 }
 
@@ -144,46 +123,19 @@ pub(crate) fn count_or(default: u32, low: u32, high: u32, text: Option<&str>) ->
     match text {
         None => Ok(default),
         Some(text) => {
-            let number = within(low as u64, high as u64, number_at(text))?;
+            let number = number_in(low as u64, high as u64, text)?;
             Ok(number as u32)
         }
-    }
-}
-
-// What stands before the letter, where the text ends with it.
-fn before(letter: char, text: &str) -> Option<&str>
-    requires { letter < 128 }
-    ensures { option_map (λ s. s.now) result ≡ before letter text.now }
-{
-    text.strip_suffix(letter)
-}
-
-// The text of the number, and the seconds of its unit.
-fn number_and_unit(text: &str) -> (&str, u64)
-    ensures number { result.0.now ≡ (number_and_unit text.now).0 }
-    ensures unit { result.1 ≡ (number_and_unit text.now).1 }
-{
-    if let Some(number) = before('s', text) {
-        (number, 1)
-    } else if let Some(number) = before('m', text) {
-        (number, 60)
-    } else if let Some(number) = before('h', text) {
-        (number, 3_600)
-    } else if let Some(number) = before('d', text) {
-        (number, 86_400)
-    } else if let Some(number) = before('w', text) {
-        (number, 604_800)
-    } else {
-        (text, 1)
     }
 }
 
 fn duration_in(text: &str) -> Result<u64, Usage>
     ensures { Gives (λ n. n) usage_fault result (duration_in text.now) }
 {
-    let (number, unit) = number_and_unit(text);
-    let seconds = number_at(number).and_then(|n| n.checked_mul(unit));
-    within(1, 31_536_000, seconds)
+    match seconds_at(text) {
+        Some(seconds) => Ok(seconds),
+        None => Err(Usage::BadWords),
+    }
 }
 
 /// A duration in seconds, where one is given: a number, and at most one letter of s, m, h, d and w; at most 365 days.

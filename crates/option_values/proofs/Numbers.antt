@@ -12,7 +12,7 @@ use Rattle.std.proofs.lemmas.Bool.{false≢true, le-leb, leb-true, lt-ltb, ltb-t
 use Rattle.std.proofs.lemmas.List.{drop_at, take_at, take-append-drop}
 use Rattle.std.proofs.lemmas.Str.Parse.{parse_digits}
 use Rattle.orch_base.proofs.NameLemmas.{own}
-use Rattle.command_line.specs.Values.{before, number_at}
+use Rattle.option_values.specs.Values.{before, number_at}
 
 -- `r` is `Ok v` exactly where both tests hold
 by_tests : {E : Type 0} (a b : Bool) (v : ℕ) (r : Result ℕ E) (P : Type 0) → OkIff r P v → (P → (a ≡ true) × (b ≡ true)) → (a ≡ true → b ≡ true → P) → result_ok r ≡ cond (a && b) (Some v) None

@@ -1,6 +1,6 @@
 use Rattle.std.proofs.Common.{◌∙◌, rules, sym}
-use Rattle.command_line.proofs.Numbers.{number_at-parse, number_at-other}
-use Rattle.command_line.proofs.value.number_at.Goals as goal
+use Rattle.option_values.proofs.Numbers.{number_at-parse, number_at-other}
+use Rattle.option_values.proofs.value.number_at.Goals as goal
 
 pub returns-then-are_digits : goal.returns-then-are_digits
 returns-then-are_digits c = c.ok.ensures.value ∙ number_at-parse c.args.digits.now c.parse.result (search rules) c.parse.ensures.value.0
