@@ -1,5 +1,5 @@
 -- The servers that the text gives, with the defaults that need other servers, and where a flaw of them stands in the text.
-use Rattle.std.specs.Prelude.{◌≡◌, ℕ, ◌+◌, ◌*◌, ◌<◌, ◌≤◌, ◌∷◌, List, [], Bool, true, not, length, sum_by, nat_lt, nat_le, if◌then◌else◌, codes, decimal, Option, Some, None, unwrap_or, slice_get, Result, Ok, Err}
+use Rattle.std.specs.Prelude.{◌≡◌, ℕ, ◌+◌, ◌*◌, ◌<◌, ◌≤◌, ◌∷◌, List, [], Bool, true, not, length, map, sum_by, nat_lt, nat_le, if◌then◌else◌, codes, decimal, Option, Some, None, unwrap_or, slice_get, Result, Ok, Err}
 use Rattle.binlog_coords.specs.Log.{place}
 use Rattle.orch_base.specs.declared.server.Settings.{Settings}
 use Rattle.orch_base.specs.Gives.{◌>>=◌}
@@ -92,6 +92,10 @@ pub record IsGiven (gtid : Bool) (servers : List ServerInit) : Type 0 where
   pub each : (n : ℕ) (i : ServerInit) → slice_get servers n ≡ Some i → IsServer (length servers) gtid i
   pub names : (m n : ℕ) (i j : ServerInit) → slice_get servers m ≡ Some i → slice_get servers n ≡ Some j → same_name i.settings.name j.settings.name ≡ true → m ≡ n
   pub uuids : (m n : ℕ) (i j : ServerInit) → slice_get servers m ≡ Some i → slice_get servers n ≡ Some j → i.settings.uuid ≡ j.settings.uuid → m ≡ n
+
+-- for each server whether the book knows it at the opening
+abbrev pub known_of : List Given → List Bool
+known_of gs = map (λ g. g.known) gs
 
 -- ---- flaws
 

@@ -108,13 +108,13 @@ unfoldable pub server_from : Bool → List (Option HostPort) → List (Option �
 server_from gtid names uuids n d = do
   identity ← identity_in names uuids n d
   setup ← setup_in d
-  known ← unbuilt (codes "known") d
+  known ← optional (codes "known") bool_in true d
   rule ← unbuilt (codes "rule") d
   history ← maybe (codes "history") (history_in names) d
   source ← maybe (codes "source") (server_named names) d
   replication ← replication_in gtid d
   flushes ← optional (codes "flushes") flushes_in [] d
-  Ok (record { identity = identity; setup = setup; history = history; source = source; replication = replication; flushes = flushes })
+  Ok (record { identity = identity; setup = setup; known = known; history = history; source = source; replication = replication; flushes = flushes })
 
 -- Server n. Its unknown keys come first.
 unfoldable pub server_in : Bool → List (Option HostPort) → List (Option ℕ) → ℕ → Data → Result Given Fault

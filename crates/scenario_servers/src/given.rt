@@ -1,8 +1,12 @@
 //! One server as the text gives it, with the defaults that need no other server.
 
+ghost use Rattle.std.specs.Prelude.{◌≡◌, IfOk};
+ghost use Rattle.scenario_servers.specs.Openings.{known_of};
+
 use binlog_coords::Coord;
 use openings::{Counts, Parts};
-use orch_base::{Label, Name, ServerNo, Version};
+use orch_base::{Label, Memory, Name, ServerNo, Version};
+use std::alloc::Global;
 
 /// Who a server is.
 #[derive(Drop)]
@@ -49,8 +53,17 @@ pub struct Replication {
 pub struct Given {
     pub identity: Identity,
     pub setup: Setup,
+    /// Whether the book knows it at the opening.
+    pub known: bool,
     pub history: Option<Parts>,
     pub source: Option<ServerNo>,
     pub replication: Replication,
     pub flushes: Counts,
+}
+
+/// For each server whether the book knows it at the opening.
+pub fn known_of(alloc: Global, given: &[Given]) -> Result<Vec<bool>, Memory>
+    ensures { IfOk result (λ v. v.items ≡ known_of given.now) }
+{
+    given.iter().map(|one| one.known).collect(alloc)
 }

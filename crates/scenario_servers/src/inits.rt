@@ -16,6 +16,7 @@ fn init_under(cluster: Label, given: Given) -> ServerInit
     let Given {
         identity,
         setup,
+        known: _,
         history,
         source,
         replication,

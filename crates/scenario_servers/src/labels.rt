@@ -31,9 +31,9 @@ fn root_in(given: &[Given], n: usize) -> usize
     at
 }
 
-// The printed name as a label.
+/// A name as it is printed, HOST:PORT.
 #[tactic(auto, using(crate::proofs::Printed::printed_is_utf8))]
-fn printed(alloc: Global, name: &Name) -> Result<Label, Memory>
+pub fn printed_name(alloc: Global, name: &Name) -> Result<Label, Memory>
     ensures { IfOk result (λ l. l ≡ printed name.now) }
 {
     let mut text = Vec::new(alloc);
@@ -46,7 +46,7 @@ fn own_label(alloc: Global, given: &Given) -> Result<Label, Memory>
 {
     match &given.identity.cluster {
         Some(label) => label.copy(alloc),
-        None => printed(alloc, &given.identity.name),
+        None => printed_name(alloc, &given.identity.name),
     }
 }
 

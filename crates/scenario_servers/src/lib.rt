@@ -16,8 +16,9 @@ mod servers;
 mod tests;
 mod uuids;
 
-pub use given::{Given, Identity, Replication, Setup};
+pub use given::{Given, Identity, Replication, Setup, known_of};
 pub use inits::inits_of;
+pub use labels::printed_name;
 pub use laws::read_servers_are_sound;
 pub use names::{Names, server_named};
 pub use opening::{listed_count, opening_in};

@@ -182,7 +182,7 @@ fn server_from(
 {
     let identity = identity_in(alloc, names, uuids, number, object)?;
     let setup = setup_in(alloc, object)?;
-    unbuilt(alloc, object, "known")?;
+    let known = bool_at(alloc, object, "known", true)?;
     unbuilt(alloc, object, "rule")?;
     let history = history_at(alloc, names, object)?;
     let source = source_at(alloc, names, object)?;
@@ -191,6 +191,7 @@ fn server_from(
     Ok(Given {
         identity,
         setup,
+        known,
         history,
         source,
         replication,

@@ -1,4 +1,4 @@
-use crate::servers_in;
+use crate::{known_of, servers_in};
 use orch_base::{ServerNo, Version};
 use scenario_values::ReadFault;
 use serde_json::Value;
@@ -50,9 +50,14 @@ fn faults_have_their_places(rt: HostRuntime) -> Result<(), Fail> {
         ),
         (r#"[{"name":"a","cluster":""}]"#, "BadNumber /0/cluster"),
         (r#"[{"name":"a","limit":99,"logs":1}]"#, "BadType /0/logs"),
+        (r#"[{"name":"a","feed":1,"known":1}]"#, "BadType /0/feed"),
         (
-            r#"[{"name":"a","known":true,"history":7}]"#,
-            "NotBuilt /0/known",
+            r#"[{"name":"a","known":1,"rule":"prefer"}]"#,
+            "BadType /0/known",
+        ),
+        (
+            r#"[{"name":"a","known":false,"rule":"prefer","history":7}]"#,
+            "NotBuilt /0/rule",
         ),
         (
             r#"[{"name":"a","history":[["a",1,1],["a",1]]}]"#,
@@ -121,6 +126,19 @@ fn servers_have_defaults(rt: HostRuntime) -> Result<(), Fail> {
         (replica.replication.io, replica.replication.sql),
         (Some(false), None)
     );
+    Ok(())
+}
+
+#[test]
+fn servers_are_known_or_not(rt: HostRuntime) -> Result<(), Fail> {
+    let alloc = rt.alloc();
+    let text = r#"[{"name":"a"},{"name":"b","known":false},{"name":"c","known":true}]"#;
+    let value = Value::from_str(alloc, text)?;
+    let Ok(listed) = servers_in(alloc, false, &value) else {
+        panic!(rt; "a fault");
+    };
+    let known = known_of(alloc, &listed.given)?;
+    assert_eq!(rt; known.as_slice(), [true, false, true].as_slice());
     Ok(())
 }
 

@@ -59,7 +59,9 @@ pub enum FaultCode {
     BadVersion,
     /// A turn that isn't known, or has another number of parts.
     BadTurn,
-    /// A key or a turn that isn't built yet.
+    /// A command that isn't known, or one without a key that it needs.
+    BadCommand,
+    /// A key, a turn or a command that isn't built yet.
     NotBuilt,
     /// A server finds its place by GTIDs in a scenario without them.
     AutoWithoutGtid,

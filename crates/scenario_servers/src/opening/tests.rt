@@ -148,6 +148,7 @@ fn server(alloc: Global, n: u32, sketch: &Sketch) -> Result<Given, Fail> {
             desk: true,
             feed: true,
         },
+        known: n > 0,
         history,
         source: sketch.source.map(ServerNo),
         replication: Replication {
