@@ -1,1 +1,3 @@
+pub mod Expansions
+pub mod Order
 pub mod Sound

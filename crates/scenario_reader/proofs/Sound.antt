@@ -15,7 +15,7 @@ use Rattle.openings.specs.Opening.{Opened, opening, opening_or, IsListed, IsChec
 use Rattle.replication_laws.specs.Room.{is_write as adds}
 use Rattle.orch_core.specs.declared.scenario.Scenario.{Scenario}
 use Rattle.orch_core.specs.declared.turn.Turn.{Turn}
-use Rattle.orch_core.specs.declared.turn.Turn.TheVariants.{Write, Fetch, Apply, Fail, Heal, Cut, Join, Rotate, Tick}
+use Rattle.orch_core.specs.declared.turn.Turn.TheVariants.{Write, Fetch, Apply, Fail, Heal, Cut, Join, Rotate, Tick, PollRead, PollStore, Restart}
 use Rattle.orch_core.specs.Scenarios.{room_of, IsScenario}
 use Rattle.orch_core.specs.Turns.{exchange_of, makes, IsTurn}
 use Rattle.orch_core.proofs.Rooms.{room_of-counted}
@@ -27,7 +27,7 @@ use Rattle.scenario_values.specs.Faults.{holds, under, under_item, needed, optio
 use Rattle.scenario_values.specs.Values.{items_in, bool_in, text_in, number_in}
 use Rattle.scenario_servers.specs.declared.given.Given.{Given}
 use Rattle.scenario_servers.specs.Names.{server_named, listed_names, listed_uuids}
-use Rattle.scenario_servers.specs.Openings.{inits_from, inits_of, listed_count, is_small, code_of, place_at, fails_at, opening_or_fails, opening_in, IsGiven}
+use Rattle.scenario_servers.specs.Openings.{inits_from, inits_of, known_of, listed_count, is_small, code_of, place_at, fails_at, opening_or_fails, opening_in, IsGiven}
 use Rattle.scenario_servers.specs.Servers.{server_in, listed_in, servers_in}
 use Rattle.scenario_servers.proofs.Reading.{read_given}
 use Rattle.scenario_servers.proofs.ServerSteps.{named-ok}
@@ -35,11 +35,16 @@ use Rattle.scenario_servers.proofs.Steps.{same_Ok, bind-ok, holds-ok, under-ok, 
 use Rattle.scenario_filters.specs.Aliases.{aliases_in}
 use Rattle.scenario_filters.specs.Filters.{filters_in, no_filters, answered}
 use Rattle.scenario_reader.specs.declared.head.Head.{Head}
+use Rattle.scenario_reader.specs.declared.expansion.ListedTurn.{ListedTurn}
+use Rattle.scenario_reader.specs.declared.expansion.ListedTurn.TheVariants.{One, Polls, Round}
 use Rattle.scenario_reader.specs.declared.word.Word.{Word}
 use Rattle.scenario_reader.specs.declared.word.Word.TheVariants as word
 use Rattle.scenario_reader.specs.Words.{word_at}
-use Rattle.scenario_reader.specs.Turns.{one_of, two_of, link_in, server_of, size_of, link_of, seconds_of, turn_by, turn_of, turn_with, turn_from, turn_in}
-use Rattle.scenario_reader.specs.Scenarios.{json_in, one_in, is_write, keys_in, head_in, turns_in, scenario_with, scenario_from, scenario_in}
+use Rattle.scenario_reader.specs.Expansion.{in_order, expanded}
+use Rattle.scenario_reader.specs.Turns.{one_of, two_of, link_in, poller_in, server_of, size_of, link_of, seconds_of, poll_of, poller_of, turn_by, alone, turn_of, turn_with, turn_from, turn_in}
+use Rattle.scenario_reader.specs.Scenarios.{json_in, one_in, is_write, keys_in, head_in, bounded, turns_in, scenario_with, scenario_from, scenario_in}
+use Rattle.scenario_reader.proofs.Expansions.{IsListedTurn, expanded-are}
+use Rattle.scenario_reader.proofs.Order.{order_within}
 
 -- ---- turns
 
@@ -78,14 +83,39 @@ seconds-have rest n e =
     let number = bind-ok (one_of rest) _ n e in
     (number-ok 0 1000000000 number.0 n (under-ok _ _ n number.2)).1
 
+record IsPoll (count : ℕ) (p : ℕ × ServerNo) : Type 0 where
+  poller : p.0 < 64
+  within : p.1.0 < count
+
+poll-has : (names : List (Option HostPort)) (rest : Items) (p : ℕ × ServerNo) → poll_of names rest ≡ Ok p → IsPoll (length names) p
+unfolding poll_of
+poll-has names rest p e =
+    let parts = bind-ok (two_of rest) _ p e in
+    let poller = bind-ok (under_item 1 (poller_in parts.0.0)) _ p parts.2 in
+    let server = bind-ok (under_item 2 (server_named names parts.0.1)) _ p poller.2 in
+    let bounds = number-ok 0 63 parts.0.0 poller.0 (under-ok _ _ poller.0 poller.1) in
+    subst (IsPoll (length names)) (same_Ok (poller.0, server.0) p server.2)
+    (record { poller = omega (arith, bounds.1); within = named-ok names parts.0.1 server.0 (under-ok _ _ server.0 server.1) })
+
+poller-has : (rest : Items) (p : ℕ) → poller_of rest ≡ Ok p → p < 64
+unfolding poller_of
+poller-has rest p e =
+    let poller = bind-ok (one_of rest) _ p e in
+    let bounds = number-ok 0 63 poller.0 p (under-ok _ _ p poller.2) in
+    omega (arith, bounds.1)
+
 -- a turn of what was read
-made-has : {A : Type 0} (count : ℕ) (P : A → Type 0) (make : A → Turn) (read : Result A Fault) (t : Turn) → ((x : A) → P x → IsTurn count (make x)) → ((x : A) → read ≡ Ok x → P x)
-    → turn_by make read ≡ Ok t → IsTurn count t
+made-has : {A : Type 0} (count : ℕ) (P : A → Type 0) (make : A → Turn) (read : Result A Fault) (t : ListedTurn) → ((x : A) → P x → IsTurn count (make x)) → ((x : A) → read ≡ Ok x → P x)
+    → turn_by make read ≡ Ok t → IsListedTurn count t
 made-has count P make read t is has e =
     let x = bind-ok read _ t e in
-    subst (IsTurn count) (same_Ok (make x.0) t x.2) (is x.0 (has x.0 x.1))
+    subst (IsListedTurn count) (same_Ok (One (make x.0)) t x.2) (is x.0 (has x.0 x.1))
 
-turn_of-has : (names : List (Option HostPort)) (w : Word) (rest : Items) (t : Turn) → turn_of names w rest ≡ Ok t → IsTurn (length names) t
+alone-has : (count : ℕ) (turn : ListedTurn) (rest : Items) (t : ListedTurn) → IsListedTurn count turn → alone turn rest ≡ Ok t → IsListedTurn count t
+alone-has count turn no_items t is e = subst (IsListedTurn count) (same_Ok turn t e) is
+alone-has count turn (item a rest) t is e = cc
+
+turn_of-has : (names : List (Option HostPort)) (w : Word) (rest : Items) (t : ListedTurn) → turn_of names w rest ≡ Ok t → IsListedTurn (length names) t
 turn_of-has names word.Write rest t e =
     made-has (length names) (IsSized (length names)) (λ p. Write p.0 p.1) (size_of names rest) t (λ p is. (is.within, is.some, is.few)) (size-has names rest) e
 turn_of-has names word.Fetch rest t e = made-has (length names) (λ n. n.0 < length names) Fetch (server_of names rest) t (λ n is. is) (server-has names rest) e
@@ -96,14 +126,20 @@ turn_of-has names word.Rotate rest t e = made-has (length names) (λ n. n.0 < le
 turn_of-has names word.Cut rest t e = made-has (length names) (λ p. p.0.0 < length names) (λ p. Cut p.0 p.1) (link_of names rest) t (λ p is. is) (link-has names rest) e
 turn_of-has names word.Join rest t e = made-has (length names) (λ p. p.0.0 < length names) (λ p. Join p.0 p.1) (link_of names rest) t (λ p is. is) (link-has names rest) e
 turn_of-has names word.Tick rest t e = made-has (length names) (λ n. n ≤ 1000000000) Tick (seconds_of rest) t (λ n is. is) (seconds-have rest) e
+turn_of-has names word.PollRead rest t e =
+    made-has (length names) (IsPoll (length names)) (λ p. PollRead p.0 p.1) (poll_of names rest) t (λ p is. (is.poller, is.within)) (poll-has names rest) e
+turn_of-has names word.PollStore rest t e = made-has (length names) (λ p. p < 64) PollStore (poller_of rest) t (λ p is. is) (poller-has rest) e
+turn_of-has names word.Polls rest t e = alone-has (length names) Polls rest t tt e
+turn_of-has names word.Round rest t e = alone-has (length names) Round rest t tt e
+turn_of-has names word.Restart rest t e = alone-has (length names) (One Restart) rest t tt e
 
-turn-has : (names : List (Option HostPort)) (d : Data) (t : Turn) → turn_in names d ≡ Ok t → IsTurn (length names) t
+turn-has : (names : List (Option HostPort)) (d : Data) (t : ListedTurn) → turn_in names d ≡ Ok t → IsListedTurn (length names) t
 unfolding turn_in turn_with
 turn-has names d t e =
     let items = bind-ok (items_in d) (turn_from names) t e in
     go items.0 items.2
   where
-    go : (ds : Items) → turn_from names ds ≡ Ok t → IsTurn (length names) t
+    go : (ds : Items) → turn_from names ds ≡ Ok t → IsListedTurn (length names) t
     go no_items e = cc
     go (item first rest) e =
         let text = bind-ok (under_item 0 (text_in first)) _ t e in
@@ -111,24 +147,32 @@ turn-has names d t e =
         turn_of-has names w.0 rest t w.2
 
 -- turns of so many servers, few of them, within the room of what is listed
-record AreTurns (names : List (Option HostPort)) (servers : List ServerInit) (ts : List Turn) : Type 0 where
-  turns : All (IsTurn (length names)) ts
+record AreTurns (servers : List ServerInit) (ts : List Turn) : Type 0 where
+  turns : All (IsTurn (length servers)) ts
   few : length ts ≤ 1000000
   room : length servers * (listed_count servers + count_by is_write ts) ≤ 4000000
 
-turns-have : (names : List (Option HostPort)) (servers : List ServerInit) (items : Items) (ts : List Turn) → turns_in names servers items ≡ Ok ts → AreTurns names servers ts
-unfolding turns_in
-turns-have names servers items ts e =
-    let read = bind-ok (under (codes "turns") (each (turn_in names) items)) _ ts e in
-    let few = bind-ok (holds TooLarge (leb (length read.0) 1000000)) _ ts read.2 in
-    let small = bind-ok (holds TooLarge (is_small (length servers) (listed_count servers + count_by is_write read.0))) _ ts few.2 in
-    let ok : each (turn_in names) items ≡ Ok read.0 = under-ok (codes "turns") _ read.0 read.1 in
-    subst (AreTurns names servers) (same_Ok read.0 ts small.2)
+bounded-have : (servers : List ServerInit) (made ts : List Turn) → All (IsTurn (length servers)) made → bounded servers made ≡ Ok ts → AreTurns servers ts
+unfolding bounded
+bounded-have servers made ts are e =
+    let few = bind-ok (holds TooLarge (leb (length made) 1000000)) _ ts e in
+    let small = bind-ok (holds TooLarge (is_small (length servers) (listed_count servers + count_by is_write made))) _ ts few.2 in
+    subst (AreTurns servers) (same_Ok made ts small.2)
     (record {
-      turns = each_from-all (IsTurn (length names)) (λ n d. turn_in names d) (λ n d t f. turn-has names d t f) 0 items read.0 ok;
-      few = leb-true (length read.0) 1000000 (holds-ok TooLarge _ few.0 few.1);
+      turns = are;
+      few = leb-true (length made) 1000000 (holds-ok TooLarge _ few.0 few.1);
       room = leb-true _ 4000000 (holds-ok TooLarge _ small.0 small.1);
     })
+
+turns-have : (names : List (Option HostPort)) (servers : List ServerInit) (items : Items) (ts : List Turn) → length names ≡ length servers → turns_in names servers items ≡ Ok ts → AreTurns servers ts
+unfolding turns_in
+turns-have names servers items ts count e =
+    let listed = bind-ok (under (codes "turns") (each (turn_in names) items)) _ ts e in
+    let ok : each (turn_in names) items ≡ Ok listed.0 = under-ok (codes "turns") _ listed.0 listed.1 in
+    let are : All (IsListedTurn (length names)) listed.0 = each_from-all (IsListedTurn (length names)) (λ n d. turn_in names d) (λ n d t f. turn-has names d t f) 0 items listed.0 ok in
+    bounded-have servers (expanded (in_order servers) listed.0) ts
+    (expanded-are (length servers) (in_order servers) (order_within servers) listed.0 (subst (λ n. All (IsListedTurn n) listed.0) count are))
+    listed.2
 
 -- ---- the servers
 
@@ -212,6 +256,9 @@ adds-turn (Cut n link) = refl
 adds-turn (Join n link) = refl
 adds-turn (Rotate n) = refl
 adds-turn (Tick seconds) = refl
+adds-turn (PollRead p n) = refl
+adds-turn (PollStore p) = refl
+adds-turn Restart = refl
 
 written : (ts : List Turn) → count_by (λ t. makes adds (exchange_of t)) ts ≡ count_by is_write ts
 unfolding tick
@@ -229,22 +276,25 @@ scenario_with-sound head given items s early are names e =
     let o = bind-ok (opening_in (inits_of given.1) head.gtid) _ s e in
     let ts = bind-ok (turns_in given.0 o.0.servers items) _ s o.2 in
     let opened = opening-has (inits_of given.1) head.gtid o.0 are o.1 in
-    let turns = turns-have given.0 o.0.servers items ts.0 ts.1 in
     let count : length given.0 ≡ length o.0.servers = names ∙ ap length (sym opened.same) in
+    let turns = turns-have given.0 o.0.servers items ts.0 count ts.1 in
+    let known : length (known_of given.1) ≡ length o.0.servers = length-map given.1 (λ (g : Given). g.known) ∙ sym (length-inits given.1 0 given.1) ∙ ap length (sym opened.same) in
     let made : Scenario = record {
       opening = o.0;
       moment = record { 0 = head.moment };
       aliases = head.aliases;
       filters = answered head.filters head.aliases o.0.servers;
+      known = known_of given.1;
       turns = ts.0;
     } in
     let room : room_of made ≡ listed_count o.0.servers + count_by is_write ts.0 = room_of-counted made ∙ ap (λ n. listed_count o.0.servers + n) (written ts.0) in
     subst IsScenario (same_Ok made s ts.2) (record {
       checked = opened.checked;
       moment = early;
-      turns = subst (λ n. All (IsTurn n) ts.0) count turns.turns;
+      turns = turns.turns;
       few = turns.few;
       room = subst (λ n. length o.0.servers * n ≤ 4000000) (sym room) turns.room;
+      known = known;
       master = length-map _ _;
       intermediate = length-map _ _;
     })

@@ -1,3 +1,4 @@
 pub mod Words
+pub mod Expansion
 pub mod Turns
 pub mod Scenarios

@@ -17,10 +17,11 @@ use Rattle.scenario_values.specs.Faults.{or_fails, holds, under, needed, optiona
 use Rattle.scenario_values.specs.Values.{members_in, items_in, bool_in, number_in}
 use Rattle.scenario_servers.specs.declared.given.Given.{Given}
 use Rattle.scenario_servers.specs.Servers.{servers_in}
-use Rattle.scenario_servers.specs.Openings.{inits_of, listed_count, is_small, opening_in}
+use Rattle.scenario_servers.specs.Openings.{inits_of, known_of, listed_count, is_small, opening_in}
 use Rattle.scenario_filters.specs.Aliases.{aliases_in}
 use Rattle.scenario_filters.specs.Filters.{filters_in, no_filters, answered}
 use Rattle.scenario_reader.specs.declared.head.Head.{Head}
+use Rattle.scenario_reader.specs.Expansion.{in_order, expanded}
 use Rattle.scenario_reader.specs.Turns.{turn_in}
 
 -- ---- the text
@@ -73,13 +74,18 @@ head_in d = do
   filters ← optional (codes "filters") filters_in no_filters d
   Ok (record { moment = moment; gtid = gtid; aliases = aliases; filters = filters })
 
--- the turns, where they aren't too many
-unfoldable pub turns_in : List (Option HostPort) → List ServerInit → Items → Result (List Turn) Fault
-turns_in names servers items = do
-  turns ← under (codes "turns") (each (turn_in names) items)
+-- turns that aren't too many over these servers
+unfoldable pub bounded : List ServerInit → List Turn → Result (List Turn) Fault
+bounded servers turns = do
   few ← holds TooLarge (nat_le (length turns) 1000000)
   few_writes ← holds TooLarge (is_small (length servers) (listed_count servers + count_by is_write turns))
   Ok turns
+
+-- the turns that the listed ones stand for, each of which is read before they are counted
+unfoldable pub turns_in : List (Option HostPort) → List ServerInit → Items → Result (List Turn) Fault
+turns_in names servers items = do
+  listed ← under (codes "turns") (each (turn_in names) items)
+  bounded servers (expanded (in_order servers) listed)
 
 -- the opening of the servers, and the turns over them
 unfoldable pub scenario_with : Head → List (Option HostPort) × List Given → Items → Result Scenario Fault
@@ -91,6 +97,7 @@ scenario_with head given listed = do
     moment = record { 0 = head.moment };
     aliases = head.aliases;
     filters = answered head.filters head.aliases opening.servers;
+    known = known_of given.1;
     turns = turns;
   })
 

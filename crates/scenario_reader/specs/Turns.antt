@@ -7,12 +7,14 @@ use Rattle.orch_base.specs.Names.{HostPort}
 use Rattle.server_model.specs.declared.changes.Link.{Link}
 use Rattle.server_model.specs.declared.changes.Link.TheVariants.{Desk, Feed}
 use Rattle.orch_core.specs.declared.turn.Turn.{Turn}
-use Rattle.orch_core.specs.declared.turn.Turn.TheVariants.{Write, Fetch, Apply, Fail, Heal, Cut, Join, Rotate, Tick}
+use Rattle.orch_core.specs.declared.turn.Turn.TheVariants.{Write, Fetch, Apply, Fail, Heal, Cut, Join, Rotate, Tick, PollRead, PollStore, Restart}
 use Rattle.scenario_values.specs.declared.fault.Fault.{Fault}
 use Rattle.scenario_values.specs.declared.fault.FaultCode.TheVariants.{BadTurn, BadNumber}
 use Rattle.scenario_values.specs.Faults.{fails, under_item}
 use Rattle.scenario_values.specs.Values.{items_in, text_in, number_in}
 use Rattle.scenario_servers.specs.Names.{server_named}
+use Rattle.scenario_reader.specs.declared.expansion.ListedTurn.{ListedTurn}
+use Rattle.scenario_reader.specs.declared.expansion.ListedTurn.TheVariants.{One, Polls, Round}
 use Rattle.scenario_reader.specs.declared.word.Word.{Word}
 use Rattle.scenario_reader.specs.declared.word.Word.TheVariants as word
 use Rattle.scenario_reader.specs.Words.{is_word, word_at}
@@ -61,13 +63,36 @@ seconds_of rest = do
   number ← one_of rest
   under_item 1 (number_in 0 1000000000 number)
 
+-- P
+abbrev pub poller_in : Data → Result ℕ Fault
+poller_in d = number_in 0 63 d
+
+-- P, S
+unfoldable pub poll_of : List (Option HostPort) → Items → Result (ℕ × ServerNo) Fault
+poll_of names rest = do
+  parts ← two_of rest
+  p ← under_item 1 (poller_in parts.0)
+  n ← under_item 2 (server_named names parts.1)
+  Ok (p, n)
+
+-- P
+unfoldable pub poller_of : Items → Result ℕ Fault
+poller_of rest = do
+  poller ← one_of rest
+  under_item 1 (poller_in poller)
+
 -- the turn of what was read
-abbrev pub turn_by : {A : Type 0} → (A → Turn) → Result A Fault → Result Turn Fault
+abbrev pub turn_by : {A : Type 0} → (A → Turn) → Result A Fault → Result ListedTurn Fault
 turn_by make read = do
   x ← read
-  Ok (make x)
+  Ok (One (make x))
 
-abbrev pub turn_of : List (Option HostPort) → Word → Items → Result Turn Fault
+-- a word that nothing follows
+abbrev pub alone : ListedTurn → Items → Result ListedTurn Fault
+alone turn no_items = Ok turn
+alone turn _ = fails BadTurn
+
+abbrev pub turn_of : List (Option HostPort) → Word → Items → Result ListedTurn Fault
 turn_of names word.Write rest = turn_by (λ p. Write p.0 p.1) (size_of names rest)
 turn_of names word.Fetch rest = turn_by Fetch (server_of names rest)
 turn_of names word.Apply rest = turn_by Apply (server_of names rest)
@@ -77,18 +102,23 @@ turn_of names word.Rotate rest = turn_by Rotate (server_of names rest)
 turn_of names word.Cut rest = turn_by (λ p. Cut p.0 p.1) (link_of names rest)
 turn_of names word.Join rest = turn_by (λ p. Join p.0 p.1) (link_of names rest)
 turn_of names word.Tick rest = turn_by Tick (seconds_of rest)
+turn_of names word.PollRead rest = turn_by (λ p. PollRead p.0 p.1) (poll_of names rest)
+turn_of names word.PollStore rest = turn_by PollStore (poller_of rest)
+turn_of names word.Polls rest = alone Polls rest
+turn_of names word.Round rest = alone Round rest
+turn_of names word.Restart rest = alone (One Restart) rest
 
-unfoldable pub turn_with : List (Option HostPort) → Data → Items → Result Turn Fault
+unfoldable pub turn_with : List (Option HostPort) → Data → Items → Result ListedTurn Fault
 turn_with names first rest = do
   text ← under_item 0 (text_in first)
   word ← word_at text
   turn_of names word rest
 
-abbrev pub turn_from : List (Option HostPort) → Items → Result Turn Fault
+abbrev pub turn_from : List (Option HostPort) → Items → Result ListedTurn Fault
 turn_from names no_items = fails BadTurn
 turn_from names (item first rest) = turn_with names first rest
 
-unfoldable pub turn_in : List (Option HostPort) → Data → Result Turn Fault
+unfoldable pub turn_in : List (Option HostPort) → Data → Result ListedTurn Fault
 turn_in names d = do
   items ← items_in d
   turn_from names items

@@ -1,6 +1,7 @@
 //! Reads scenarios: the scenario that bytes are, or the first fault of the walk over them, with its place.
 #![tactic(auto)]
 
+mod expansion;
 mod head;
 mod laws;
 #[cfg(test)]
@@ -9,6 +10,7 @@ mod turns;
 mod walk;
 mod word;
 
+pub use expansion::ListedTurn;
 pub use head::Head;
 pub use laws::built_is_what_is_read;
 pub use scenario_values::{Fault, FaultCode, Path, ReadFault};

@@ -1,4 +1,6 @@
 use crate::walk::read;
+use orch_base::ServerNo;
+use orch_core::Turn;
 use scenario_values::{FaultCode, ReadFault};
 use std::alloc::Global;
 use std::test::*;
@@ -87,6 +89,11 @@ fn faults_have_codes_and_paths(rt: HostRuntime) -> Result<(), Fail> {
             "/servers/1/name",
         ),
         (
+            r#"{"version":1,"servers":[{"name":"m"},{"name":"r","known":1,"rule":1}]}"#,
+            FaultCode::BadType,
+            "/servers/1/known",
+        ),
+        (
             r#"{"version":1,"servers":[{"name":"a","source":"b"},{"name":"b","source":"a"}],"turns":[1]}"#,
             FaultCode::Loop,
             "/servers/0/source",
@@ -118,7 +125,9 @@ fn turns_have_codes_and_paths(rt: HostRuntime) -> Result<(), Fail> {
         ("[]", FaultCode::BadTurn, "/turns/1"),
         ("[1]", FaultCode::BadType, "/turns/1/0"),
         (r#"["spin"]"#, FaultCode::BadTurn, "/turns/1"),
-        (r#"["polls",1]"#, FaultCode::NotBuilt, "/turns/1"),
+        (r#"["command",1]"#, FaultCode::NotBuilt, "/turns/1"),
+        (r#"["job"]"#, FaultCode::NotBuilt, "/turns/1"),
+        (r#"["scan",1,2]"#, FaultCode::NotBuilt, "/turns/1"),
         (r#"["write","x"]"#, FaultCode::BadTurn, "/turns/1"),
         (r#"["write","x",0]"#, FaultCode::UnknownName, "/turns/1/1"),
         (r#"["write","m",0]"#, FaultCode::BadNumber, "/turns/1/2"),
@@ -126,6 +135,31 @@ fn turns_have_codes_and_paths(rt: HostRuntime) -> Result<(), Fail> {
         (r#"["apply",":"]"#, FaultCode::BadName, "/turns/1/1"),
         (r#"["cut","m","log"]"#, FaultCode::BadNumber, "/turns/1/2"),
         (r#"["tick",1000000001]"#, FaultCode::BadNumber, "/turns/1/1"),
+        (r#"["poll-read","0"]"#, FaultCode::BadTurn, "/turns/1"),
+        (r#"["poll-read","0","x"]"#, FaultCode::BadType, "/turns/1/1"),
+        (
+            r#"["poll-read",64,"x"]"#,
+            FaultCode::BadNumber,
+            "/turns/1/1",
+        ),
+        (
+            r#"["poll-read",-1,"x"]"#,
+            FaultCode::BadNumber,
+            "/turns/1/1",
+        ),
+        (
+            r#"["poll-read",63,"x"]"#,
+            FaultCode::UnknownName,
+            "/turns/1/2",
+        ),
+        (r#"["poll-read",0,0]"#, FaultCode::BadType, "/turns/1/2"),
+        (r#"["poll-store"]"#, FaultCode::BadTurn, "/turns/1"),
+        (r#"["poll-store",64]"#, FaultCode::BadNumber, "/turns/1/1"),
+        (r#"["poll-store",0.5]"#, FaultCode::BadNumber, "/turns/1/1"),
+        (r#"["poll-store","0"]"#, FaultCode::BadType, "/turns/1/1"),
+        (r#"["restart",1]"#, FaultCode::BadTurn, "/turns/1"),
+        (r#"["polls",1]"#, FaultCode::BadTurn, "/turns/1"),
+        (r#"["round","m"]"#, FaultCode::BadTurn, "/turns/1"),
     ] {
         let text = format!(in rt.alloc();
             "{{\"version\":1,\"servers\":[{{\"name\":\"m\"}}],\"turns\":[[\"tick\",0],{turn},1]}}"
@@ -159,7 +193,7 @@ fn every_key_is_read(rt: HostRuntime) -> Result<(), Fail> {
         "filters": {"master": ["alias=pay"], "intermediate": ["^c2", "alias~=^x"]},
         "servers": [
             {"name": "m", "uuid": "00000000-0000-0000-0000-00000000000a", "server_id": 3, "version": "5.7.44", "cluster": "c1",
-             "logs": true, "read_only": false, "limit": 1000, "up": true, "desk": true, "feed": true,
+             "logs": true, "read_only": false, "limit": 1000, "up": true, "desk": true, "feed": true, "known": false,
              "history": [["m", 100, 2]], "flushes": [1]},
             {"name": "r:3307", "cluster": "c1", "source": "m", "executed": 2, "io": true, "sql": false, "auto": true, "detached": false,
              "until": "mysql-bin.000009:4"}
@@ -174,6 +208,7 @@ fn every_key_is_read(rt: HostRuntime) -> Result<(), Fail> {
     assert_eq!(rt; scenario.moment.0, 7);
     assert_eq!(rt; scenario.opening.servers().len(), 2);
     assert_eq!(rt; scenario.turns.as_slice().len(), 9);
+    assert_eq!(rt; scenario.known.as_slice(), [false, true].as_slice());
     assert_eq!(rt; scenario.aliases.as_slice().len(), 2);
     assert_eq!(rt;
         scenario.filters.master.passes.as_slice(),
@@ -183,5 +218,90 @@ fn every_key_is_read(rt: HostRuntime) -> Result<(), Fail> {
         scenario.filters.intermediate.passes.as_slice(),
         [false, false].as_slice()
     );
+    Ok(())
+}
+
+// The turns of polls over these servers.
+fn polls(first: ServerNo, second: ServerNo, third: ServerNo) -> [Turn; 6] {
+    [
+        Turn::PollRead(0, first),
+        Turn::PollStore(0),
+        Turn::PollRead(0, second),
+        Turn::PollStore(0),
+        Turn::PollRead(0, third),
+        Turn::PollStore(0),
+    ]
+}
+
+#[test]
+fn polls_and_rounds_stand_for_turns_in_name_order(rt: HostRuntime) -> Result<(), Fail> {
+    let text = r#"{
+        "version": 1, "servers": [{"name": "a:10"}, {"name": "b:1"}, {"name": "a:2"}],
+        "turns": [["polls"], ["restart"], ["round"], ["poll-read", 63, "b:1"], ["poll-store", 63]]
+    }"#;
+    let scenario = match read(rt.alloc(), text.as_bytes()) {
+        Ok(scenario) => scenario,
+        Err(_) => panic!(rt; "not read"),
+    };
+    let (first, second, third) = (ServerNo(2), ServerNo(0), ServerNo(1));
+    let turns = scenario.turns.as_slice();
+    assert_eq!(rt; turns.len(), 21);
+    assert_eq!(rt; &turns[..6], polls(first, second, third).as_slice());
+    assert_eq!(rt; turns[6], Turn::Restart);
+    assert_eq!(rt;
+        &turns[7..13],
+        [
+            Turn::Fetch(first),
+            Turn::Apply(first),
+            Turn::Fetch(second),
+            Turn::Apply(second),
+            Turn::Fetch(third),
+            Turn::Apply(third)
+        ]
+        .as_slice()
+    );
+    assert_eq!(rt; &turns[13..19], polls(first, second, third).as_slice());
+    assert_eq!(rt;
+        &turns[19..],
+        [Turn::PollRead(63, third), Turn::PollStore(63)].as_slice()
+    );
+    Ok(())
+}
+
+// A scenario of 100 servers with so many rounds, of 400 turns each, and then another turn.
+fn rounds(alloc: Global, count: usize, last: &str) -> Result<String, Fail> {
+    let mut text = String::new(alloc);
+    text.push_str(r#"{"version":1,"servers":[{"name":"m"}"#)?;
+    for n in 1..100 {
+        text.push_str(format!(in alloc; ",{{\"name\":\"r{n}\"}}")?.as_str())?;
+    }
+    text.push_str(r#"],"turns":["#)?;
+    for _ in 0..count {
+        text.push_str(r#"["round"],"#)?;
+    }
+    text.push_str(last)?;
+    text.push_str("]}")?;
+    Ok(text)
+}
+
+#[test]
+fn expanded_turns_have_a_limit(rt: HostRuntime) -> Result<(), Fail> {
+    let alloc = rt.alloc();
+    for (count, last, code, path) in [
+        (2500, r#"["tick",0]"#, FaultCode::TooLarge, ""),
+        (2600, r#"["spin"]"#, FaultCode::BadTurn, "/turns/2600"),
+    ] {
+        let text = rounds(alloc, count, last)?;
+        let Some((found, at)) = fault_in(alloc, text.as_bytes()) else {
+            panic!(rt; "{count}");
+        };
+        assert_eq!(rt; found, code, "{count}");
+        assert_eq!(rt; str::from_utf8(&at).ok(), Some(path), "{count}");
+    }
+    let text = rounds(alloc, 2499, r#"["round"]"#)?;
+    let Ok(scenario) = read(alloc, text.as_bytes()) else {
+        panic!(rt; "not read");
+    };
+    assert_eq!(rt; scenario.turns.as_slice().len(), 1_000_000);
     Ok(())
 }

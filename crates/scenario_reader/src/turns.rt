@@ -6,8 +6,10 @@ ghost use Rattle.serde_json.specs.View.{view, items_view};
 ghost use Rattle.scenario_values.specs.Faults.{fault_of, under_item, each};
 ghost use Rattle.scenario_values.specs.Values.{text_in, number_in};
 ghost use Rattle.scenario_servers.specs.Names.{server_named};
-ghost use Rattle.scenario_reader.specs.Turns.{link_in, one_of, two_of, server_of, size_of, link_of, seconds_of, turn_of, turn_with, turn_from, turn_in};
+ghost use Rattle.orch_core.specs.declared.turn.Turn.TheVariants.{Write, Cut, Join, PollRead};
+ghost use Rattle.scenario_reader.specs.Turns.{link_in, poller_in, one_of, two_of, server_of, size_of, link_of, seconds_of, poll_of, poller_of, turn_by, alone, turn_of, turn_with, turn_from, turn_in};
 
+use crate::expansion::ListedTurn;
 use crate::word::{Word, is_word, word_at};
 use orch_base::ServerNo;
 use orch_core::Turn;
@@ -50,10 +52,15 @@ fn two_of(alloc: Global, rest: &[Value]) -> Result<(&Value, &Value), ReadFault>
 }
 
 #[tactic(auto, using(scenario_values::proofs::Unders::gives_under))]
-fn server_at(alloc: Global, names: &Names, value: &Value) -> Result<ServerNo, ReadFault>
-    ensures { Gives (λ n. n) fault_of result (under_item 1 (server_named names.now (view value.now))) }
+fn server_at(
+    alloc: Global,
+    names: &Names,
+    part: usize,
+    value: &Value,
+) -> Result<ServerNo, ReadFault>
+    ensures { Gives (λ n. n) fault_of result (under_item part (server_named names.now (view value.now))) }
 {
-    under_item(alloc, 1, server_named(alloc, names, value))
+    under_item(alloc, part, server_named(alloc, names, value))
 }
 
 #[tactic(auto, using(scenario_values::proofs::Unders::gives_under))]
@@ -88,7 +95,7 @@ fn server_of(alloc: Global, names: &Names, rest: &[Value]) -> Result<ServerNo, R
     ensures { Gives (λ n. n) fault_of result (server_of names.now (items_view rest.now)) }
 {
     let server = one_of(alloc, rest)?;
-    server_at(alloc, names, server)
+    server_at(alloc, names, 1, server)
 }
 
 #[tactic(auto, unfolding(crate::specs::Turns::size_of))]
@@ -96,7 +103,7 @@ fn size_of(alloc: Global, names: &Names, rest: &[Value]) -> Result<(ServerNo, u3
     ensures { Gives (λ p. p) fault_of result (size_of names.now (items_view rest.now)) }
 {
     let (server, size) = two_of(alloc, rest)?;
-    let server = server_at(alloc, names, server)?;
+    let server = server_at(alloc, names, 1, server)?;
     let size = number_at(alloc, 2, 1, 1_000_000, size)?;
     Ok((server, size as u32))
 }
@@ -106,7 +113,7 @@ fn link_of(alloc: Global, names: &Names, rest: &[Value]) -> Result<(ServerNo, Li
     ensures { Gives (λ p. p) fault_of result (link_of names.now (items_view rest.now)) }
 {
     let (server, link) = two_of(alloc, rest)?;
-    let server = server_at(alloc, names, server)?;
+    let server = server_at(alloc, names, 1, server)?;
     let link = link_at(alloc, link)?;
     Ok((server, link))
 }
@@ -119,33 +126,106 @@ fn seconds_of(alloc: Global, rest: &[Value]) -> Result<u64, ReadFault>
     number_at(alloc, 1, 0, 1_000_000_000, number)
 }
 
-fn turn_of(alloc: Global, names: &Names, word: Word, rest: &[Value]) -> Result<Turn, ReadFault>
+fn poller_in(alloc: Global, value: &Value) -> Result<u32, ReadFault>
+    ensures { Gives (λ p. p) fault_of result (poller_in (view value.now)) }
+{
+    let poller = number_in(alloc, 0, 63, value)?;
+    Ok(poller as u32)
+}
+
+#[tactic(auto, using(scenario_values::proofs::Unders::gives_under))]
+fn poller_at(alloc: Global, value: &Value) -> Result<u32, ReadFault>
+    ensures { Gives (λ p. p) fault_of result (under_item 1 (poller_in (view value.now))) }
+{
+    under_item(alloc, 1, poller_in(alloc, value))
+}
+
+#[tactic(auto, unfolding(crate::specs::Turns::poll_of))]
+fn poll_of(alloc: Global, names: &Names, rest: &[Value]) -> Result<(u32, ServerNo), ReadFault>
+    ensures { Gives (λ p. p) fault_of result (poll_of names.now (items_view rest.now)) }
+{
+    let (poller, server) = two_of(alloc, rest)?;
+    let poller = poller_at(alloc, poller)?;
+    let server = server_at(alloc, names, 2, server)?;
+    Ok((poller, server))
+}
+
+#[tactic(auto, unfolding(crate::specs::Turns::poller_of))]
+fn poller_of(alloc: Global, rest: &[Value]) -> Result<u32, ReadFault>
+    ensures { Gives (λ p. p) fault_of result (poller_of (items_view rest.now)) }
+{
+    let poller = one_of(alloc, rest)?;
+    poller_at(alloc, poller)
+}
+
+fn write_of(alloc: Global, names: &Names, rest: &[Value]) -> Result<ListedTurn, ReadFault>
+    ensures { Gives (λ t. t) fault_of result (turn_by (λ p. Write p.0 p.1) (size_of names.now (items_view rest.now))) }
+{
+    let (server, size) = size_of(alloc, names, rest)?;
+    Ok(ListedTurn::One(Turn::Write(server, size)))
+}
+
+fn cut_of(alloc: Global, names: &Names, rest: &[Value]) -> Result<ListedTurn, ReadFault>
+    ensures { Gives (λ t. t) fault_of result (turn_by (λ p. Cut p.0 p.1) (link_of names.now (items_view rest.now))) }
+{
+    let (server, link) = link_of(alloc, names, rest)?;
+    Ok(ListedTurn::One(Turn::Cut(server, link)))
+}
+
+fn join_of(alloc: Global, names: &Names, rest: &[Value]) -> Result<ListedTurn, ReadFault>
+    ensures { Gives (λ t. t) fault_of result (turn_by (λ p. Join p.0 p.1) (link_of names.now (items_view rest.now))) }
+{
+    let (server, link) = link_of(alloc, names, rest)?;
+    Ok(ListedTurn::One(Turn::Join(server, link)))
+}
+
+fn poll_read_of(alloc: Global, names: &Names, rest: &[Value]) -> Result<ListedTurn, ReadFault>
+    ensures { Gives (λ t. t) fault_of result (turn_by (λ p. PollRead p.0 p.1) (poll_of names.now (items_view rest.now))) }
+{
+    let (poller, server) = poll_of(alloc, names, rest)?;
+    Ok(ListedTurn::One(Turn::PollRead(poller, server)))
+}
+
+// A word that nothing follows.
+fn alone(alloc: Global, turn: ListedTurn, rest: &[Value]) -> Result<ListedTurn, ReadFault>
+    ensures { Gives (λ t. t) fault_of result (alone turn (items_view rest.now)) }
+{
+    if rest.is_empty() {
+        Ok(turn)
+    } else {
+        Err(fails(alloc, FaultCode::BadTurn))
+    }
+}
+
+#[rattlefmt::skip]
+fn turn_of(alloc: Global, names: &Names, word: Word, rest: &[Value]) -> Result<ListedTurn, ReadFault>
     ensures { Gives (λ t. t) fault_of result (turn_of names.now word (items_view rest.now)) }
 {
     match word {
-        Word::Write => {
-            let (server, size) = size_of(alloc, names, rest)?;
-            Ok(Turn::Write(server, size))
-        }
-        Word::Fetch => Ok(Turn::Fetch(server_of(alloc, names, rest)?)),
-        Word::Apply => Ok(Turn::Apply(server_of(alloc, names, rest)?)),
-        Word::Fail => Ok(Turn::Fail(server_of(alloc, names, rest)?)),
-        Word::Heal => Ok(Turn::Heal(server_of(alloc, names, rest)?)),
-        Word::Rotate => Ok(Turn::Rotate(server_of(alloc, names, rest)?)),
-        Word::Cut => {
-            let (server, link) = link_of(alloc, names, rest)?;
-            Ok(Turn::Cut(server, link))
-        }
-        Word::Join => {
-            let (server, link) = link_of(alloc, names, rest)?;
-            Ok(Turn::Join(server, link))
-        }
-        Word::Tick => Ok(Turn::Tick(seconds_of(alloc, rest)?)),
+        Word::Write => write_of(alloc, names, rest),
+        Word::Fetch => Ok(ListedTurn::One(Turn::Fetch(server_of(alloc, names, rest)?))),
+        Word::Apply => Ok(ListedTurn::One(Turn::Apply(server_of(alloc, names, rest)?))),
+        Word::Fail => Ok(ListedTurn::One(Turn::Fail(server_of(alloc, names, rest)?))),
+        Word::Heal => Ok(ListedTurn::One(Turn::Heal(server_of(alloc, names, rest)?))),
+        Word::Rotate => Ok(ListedTurn::One(Turn::Rotate(server_of(alloc, names, rest)?))),
+        Word::Cut => cut_of(alloc, names, rest),
+        Word::Join => join_of(alloc, names, rest),
+        Word::Tick => Ok(ListedTurn::One(Turn::Tick(seconds_of(alloc, rest)?))),
+        Word::PollRead => poll_read_of(alloc, names, rest),
+        Word::PollStore => Ok(ListedTurn::One(Turn::PollStore(poller_of(alloc, rest)?))),
+        Word::Polls => alone(alloc, ListedTurn::Polls, rest),
+        Word::Round => alone(alloc, ListedTurn::Round, rest),
+        Word::Restart => alone(alloc, ListedTurn::One(Turn::Restart), rest),
     }
 }
 
 #[tactic(auto, unfolding(crate::specs::Turns::turn_with))]
-fn turn_with(alloc: Global, names: &Names, first: &Value, rest: &[Value]) -> Result<Turn, ReadFault>
+fn turn_with(
+    alloc: Global,
+    names: &Names,
+    first: &Value,
+    rest: &[Value],
+) -> Result<ListedTurn, ReadFault>
     ensures { Gives (λ t. t) fault_of result (turn_with names.now (view first.now) (items_view rest.now)) }
 {
     let text = text_at(alloc, first)?;
@@ -153,7 +233,7 @@ fn turn_with(alloc: Global, names: &Names, first: &Value, rest: &[Value]) -> Res
     turn_of(alloc, names, word, rest)
 }
 
-fn turn_from(alloc: Global, names: &Names, items: &[Value]) -> Result<Turn, ReadFault>
+fn turn_from(alloc: Global, names: &Names, items: &[Value]) -> Result<ListedTurn, ReadFault>
     ensures { Gives (λ t. t) fault_of result (turn_from names.now (items_view items.now)) }
 {
     match items.split_first() {
@@ -163,7 +243,7 @@ fn turn_from(alloc: Global, names: &Names, items: &[Value]) -> Result<Turn, Read
 }
 
 #[tactic(auto, unfolding(crate::specs::Turns::turn_in))]
-fn turn_in(alloc: Global, names: &Names, value: &Value) -> Result<Turn, ReadFault>
+fn turn_in(alloc: Global, names: &Names, value: &Value) -> Result<ListedTurn, ReadFault>
     ensures { Gives (λ t. t) fault_of result (turn_in names.now (view value.now)) }
 {
     let items = items_in(alloc, value)?;
@@ -171,7 +251,12 @@ fn turn_in(alloc: Global, names: &Names, value: &Value) -> Result<Turn, ReadFaul
 }
 
 #[tactic(auto, using(scenario_values::proofs::Unders::gives_under))]
-fn turn_at(alloc: Global, names: &Names, number: usize, value: &Value) -> Result<Turn, ReadFault>
+fn turn_at(
+    alloc: Global,
+    names: &Names,
+    number: usize,
+    value: &Value,
+) -> Result<ListedTurn, ReadFault>
     ensures { Gives (λ t. t) fault_of result (under_item number (turn_in names.now (view value.now))) }
 {
     under_item(alloc, number, turn_in(alloc, names, value))
@@ -183,7 +268,7 @@ pub(crate) fn each_turn(
     alloc: Global,
     names: &Names,
     items: &[Value],
-) -> Result<Vec<Turn>, ReadFault>
+) -> Result<Vec<ListedTurn>, ReadFault>
     ensures { Gives (λ v. v.items) fault_of result (each (turn_in names.now) (items_view items.now)) }
 {
     let mut turns = Vec::new(alloc);

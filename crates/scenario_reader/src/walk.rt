@@ -1,6 +1,6 @@
 //! The walk over a scenario's text.
 
-ghost use Rattle.std.specs.Prelude.{◌≡◌, ◌+◌, ℕ, List, [], Some, Ok, IfOk, codes, count_by, length};
+ghost use Rattle.std.specs.Prelude.{◌≡◌, ◌+◌, ◌≤◌, ℕ, List, [], Some, Ok, IfOk, codes, count_by, length};
 ghost use Rattle.orch_base.specs.Gives.{Gives};
 ghost use Rattle.serde_json.specs.Data.{no_items};
 ghost use Rattle.serde_json.specs.View.{view, items_view};
@@ -12,16 +12,18 @@ ghost use Rattle.scenario_values.specs.Values.{items_in};
 ghost use Rattle.scenario_servers.specs.Openings.{is_small, listed_count, inits_of, IsGiven};
 ghost use Rattle.scenario_servers.specs.Servers.{servers_in};
 ghost use Rattle.scenario_filters.specs.Filters.{AreRead};
+ghost use Rattle.scenario_reader.specs.Expansion.{expanded};
 ghost use Rattle.scenario_reader.specs.Turns.{turn_in};
-ghost use Rattle.scenario_reader.specs.Scenarios.{json_in, is_write, turns_in, scenario_with, scenario_from, scenario_in};
+ghost use Rattle.scenario_reader.specs.Scenarios.{json_in, is_write, bounded, turns_in, scenario_with, scenario_from, scenario_in};
 
+use crate::expansion::{ListedTurn, are_few, expanded, in_order};
 use crate::head::{Head, head_in, keys_in};
 use crate::turns::each_turn;
 use openings::ServerInit;
-use orch_base::{MAX_SCENARIO_LEN, Moment};
-use orch_core::{Scenario, Turn, Turns};
+use orch_base::{MAX_SCENARIO_LEN, Moment, ServerNo};
+use orch_core::{Answers, Scenario, Turn, Turns};
 use scenario_filters::answered;
-use scenario_servers::{Listed, Names, inits_of, listed_count, opening_in, servers_in};
+use scenario_servers::{Listed, Names, inits_of, known_of, listed_count, opening_in, servers_in};
 use scenario_values::{FaultCode, ReadFault, fails, holds, items_in, under};
 use serde_json::Value;
 use std::alloc::Global;
@@ -49,14 +51,31 @@ fn is_small(servers: &[ServerInit], turns: &[Turn]) -> bool
 }
 
 #[tactic(auto, using(scenario_values::proofs::Unders::gives_under))]
-fn turns_at(alloc: Global, names: &Names, items: &[Value]) -> Result<Vec<Turn>, ReadFault>
+fn turns_at(alloc: Global, names: &Names, items: &[Value]) -> Result<Vec<ListedTurn>, ReadFault>
     ensures { Gives (λ v. v.items) fault_of result
         (place_under (codes "turns") (each (turn_in names.now) (items_view items.now))) }
 {
     under(alloc, b"turns", each_turn(alloc, names, items))
 }
 
-// The turns over these servers, where they are not too many.
+// The turns that the listed ones stand for, where they are not too many.
+#[tactic(auto, unfolding(crate::specs::Scenarios::bounded))]
+fn bounded(
+    alloc: Global,
+    servers: &[ServerInit],
+    ordered: &[ServerNo],
+    listed: Vec<ListedTurn>,
+) -> Result<Vec<Turn>, ReadFault>
+    requires { length ordered.now ≤ 1000 }
+    ensures { Gives (λ v. v.items) fault_of result (bounded servers.now (expanded ordered.now listed.items)) }
+{
+    holds(alloc, FaultCode::TooLarge, are_few(ordered, &listed))?;
+    let turns = expanded(alloc, ordered, listed)?;
+    holds(alloc, FaultCode::TooLarge, is_small(servers, &turns))?;
+    Ok(turns)
+}
+
+// The turns over these servers.
 #[tactic(auto, unfolding(crate::specs::Scenarios::turns_in))]
 fn turns_in(
     alloc: Global,
@@ -64,11 +83,12 @@ fn turns_in(
     servers: &[ServerInit],
     items: &[Value],
 ) -> Result<Turns, ReadFault>
+    requires { length servers.now ≤ 1000 }
     ensures { Gives (λ t. t) fault_of result (turns_in names.now servers.now (items_view items.now)) }
 {
-    let turns = turns_at(alloc, names, items)?;
-    holds(alloc, FaultCode::TooLarge, turns.len() <= 1_000_000)?;
-    holds(alloc, FaultCode::TooLarge, is_small(servers, &turns))?;
+    let listed = turns_at(alloc, names, items)?;
+    let ordered = in_order(alloc, servers)?;
+    let turns = bounded(alloc, servers, &ordered, listed)?;
     Ok(Turns::new(turns))
 }
 
@@ -85,6 +105,7 @@ fn scenario_with(
     ensures { Gives (λ s. s) fault_of result
         (scenario_with head (listed.names, listed.given.items) (items_view items.now)) }
 {
+    let known = known_of(alloc, &listed.given)?;
     let servers = inits_of(alloc, listed.given)?;
     let opening = opening_in(alloc, servers, head.gtid)?;
     let turns = turns_in(alloc, &listed.names, opening.servers(), items)?;
@@ -94,6 +115,7 @@ fn scenario_with(
         moment: Moment(head.moment),
         aliases: head.aliases,
         filters,
+        known: Answers::new(known),
         turns,
     })
 }
@@ -167,7 +189,7 @@ fn scenario_in(alloc: Global, bytes: &[u8]) -> Result<Scenario, ReadFault>
 
 /// Reads a scenario: the one that these bytes are, or the first fault of the walk over them, with its place. Want of
 /// memory also answers a filter's regular expression past the room that `regex` grants one. The time is that of the
-/// bytes, of the aliases and the filters for each server, and of `Opening::check`.
+/// bytes, of at most 1,000,000 turns, of the aliases and the filters for each server, and of `Opening::check`.
 pub fn read(alloc: Global, bytes: &[u8]) -> Result<Scenario, ReadFault>
     ensures exact { Gives (λ s. s) fault_of result (scenario_in bytes.now) }
     ensures sound { IfOk result IsScenario }

@@ -3,7 +3,7 @@
 ghost use Rattle.std.specs.Prelude.{◌≡◌};
 ghost use Rattle.orch_base.specs.Gives.{Gives};
 ghost use Rattle.scenario_values.specs.Faults.{fault_of, is_key};
-ghost use Rattle.scenario_reader.specs.Words.{is_word, built_word, unbuilt_words, word_at};
+ghost use Rattle.scenario_reader.specs.Words.{is_word, server_word, poll_word, built_word, unbuilt_words, word_at};
 
 use scenario_values::{FaultCode, ReadFault, fails};
 use std::alloc::Global;
@@ -20,6 +20,11 @@ pub enum Word {
     Cut,
     Join,
     Tick,
+    PollRead,
+    PollStore,
+    Polls,
+    Round,
+    Restart,
 }
 
 pub(crate) fn is_word(word: &str, text: &str) -> bool
@@ -28,9 +33,9 @@ pub(crate) fn is_word(word: &str, text: &str) -> bool
     word == text
 }
 
-// The words of the turns that are built.
-fn built_word(text: &str) -> Option<Word>
-    ensures { result ≡ built_word text.now }
+// The words of the servers' turns, and of time.
+fn server_word(text: &str) -> Option<Word>
+    ensures { result ≡ server_word text.now }
 {
     if is_word("write", text) {
         return Some(Word::Write);
@@ -62,20 +67,39 @@ fn built_word(text: &str) -> Option<Word>
     None
 }
 
+// The words of orchestrator's turns, and of those that stand for others.
+fn poll_word(text: &str) -> Option<Word>
+    ensures { result ≡ poll_word text.now }
+{
+    if is_word("poll-read", text) {
+        return Some(Word::PollRead);
+    }
+    if is_word("poll-store", text) {
+        return Some(Word::PollStore);
+    }
+    if is_word("polls", text) {
+        return Some(Word::Polls);
+    }
+    if is_word("round", text) {
+        return Some(Word::Round);
+    }
+    if is_word("restart", text) {
+        return Some(Word::Restart);
+    }
+    None
+}
+
+// The words of the turns that are built.
+fn built_word(text: &str) -> Option<Word>
+    ensures { result ≡ built_word text.now }
+{
+    server_word(text).or(poll_word(text))
+}
+
 fn is_unbuilt(text: &str) -> bool
     ensures { result ≡ is_key unbuilt_words text.now }
 {
-    [
-        "poll-read",
-        "poll-store",
-        "command",
-        "job",
-        "scan",
-        "restart",
-        "polls",
-        "round",
-    ]
-    .contains(&text)
+    ["command", "job", "scan"].contains(&text)
 }
 
 /// The word of a turn that is built. That of another turn of the format is `NotBuilt`, and any other text `BadTurn`.
