@@ -29,6 +29,7 @@ code_text code.BothGiven = codes "20 BothGiven"
 code_text code.BadPattern = codes "21 BadPattern"
 code_text code.BadVersion = codes "22 BadVersion"
 code_text code.BadTurn = codes "23 BadTurn"
+code_text code.BadCommand = codes "24 BadCommand"
 code_text code.NotBuilt = codes "25 NotBuilt"
 code_text code.AutoWithoutGtid = codes "26 AutoWithoutGtid"
 

@@ -34,6 +34,7 @@ fn code_text(code: FaultCode) -> &'static [u8]
         FaultCode::BadPattern => b"21 BadPattern",
         FaultCode::BadVersion => b"22 BadVersion",
         FaultCode::BadTurn => b"23 BadTurn",
+        FaultCode::BadCommand => b"24 BadCommand",
         FaultCode::NotBuilt => b"25 NotBuilt",
         FaultCode::AutoWithoutGtid => b"26 AutoWithoutGtid",
     }

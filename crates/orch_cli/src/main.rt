@@ -10,6 +10,7 @@ mod top;
 mod words;
 
 use edge::{FileSource, StreamSink};
+use instance_keeper::MemKeeper;
 use std::alloc::Global;
 use std::process::ExitCode;
 use std::{env, io};
@@ -34,5 +35,9 @@ fn main(rt: HostRuntime) -> ExitCode {
     };
     let mut source = FileSource::new(rt.stdin());
     let mut out = StreamSink::new(rt.stdout());
-    ExitCode::from(orch(alloc, &words, &mut source, &mut out, &mut err))
+    let mut keeper = match MemKeeper::new(alloc, Vec::new(alloc), Vec::new(alloc)) {
+        Ok(keeper) => keeper,
+        Err(_) => return ExitCode::from(close(&mut err, b"out of memory\n", 6)),
+    };
+    ExitCode::from(orch(alloc, &words, &mut source, &mut out, &mut err, &mut keeper))
 }

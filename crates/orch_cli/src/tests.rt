@@ -1,5 +1,8 @@
 use crate::top::orch;
-use orch_base::{MAX_SCENARIO_LEN, MemSink, MemSource};
+use binlog_coords::Coord;
+use gtid_sets::GtidSet;
+use instance_keeper::{Instance, Keeper, MemKeeper, Row, Seen};
+use orch_base::{IoState, MAX_SCENARIO_LEN, MemSink, MemSource, Moment, ServerNo, SourceState};
 use std::alloc::Global;
 use std::test::Fail;
 
@@ -92,6 +95,55 @@ const RUN: &[&str] = &["orch", "-c", "run"];
 
 const WALK: &[&str] = &["orch", "-c", "walk"];
 
+// Two pollers read a master before and after it fails, and the earlier reading is stored last.
+const TWO_POLLERS: &str =
+    "{\"version\":1,\"servers\":[{\"name\":\"m\",\"history\":[[\"m\",100,1]]},{\"name\":\"r\",\"source\":\"m\",\"executed\":1}],\"turns\":[[\"poll-read\",1,\"m\"],[\"fail\",\"m\"],[\"poll-read\",2,\"m\"],[\"poll-store\",2],[\"poll-store\",1]]}";
+
+const LATER_STANDS: &str = "1 poll-read 1 m:3306: read 1
+2 fail m:3306: done
+3 poll-read 2 m:3306: read 2 unreachable
+4 poll-store 2: stored
+5 poll-store 1: old 2
+server m:3306 down rw executed 1 end mysql-bin.000001:104 source none
+server r:3306 up ro executed 1 end mysql-bin.000001:104 source m:3306 at mysql-bin.000001:104 read mysql-bin.000001:104 io on sql on
+errant 0
+";
+
+// The servers that catch up, and one poll of each.
+const POLLS: &str =
+    "{\"version\":1,\"servers\":[{\"name\":\"m\",\"history\":[[\"m\",100,5]]},{\"name\":\"r\",\"source\":\"m\",\"executed\":2}],\"turns\":[[\"polls\"]]}";
+
+const POLLED: &str = "1 poll-read 0 m:3306: read 1
+2 poll-store 0: stored
+3 poll-read 0 r:3306: read 2
+4 poll-store 0: stored
+server m:3306 up rw executed 5 end mysql-bin.000001:504 source none
+server r:3306 up ro executed 2 end mysql-bin.000001:204 source m:3306 at mysql-bin.000001:204 read mysql-bin.000001:204 io on sql on
+errant 0
+";
+
+const POLLED_ONE: &str = "1 poll-read 0 m:3306: read 1
+2 poll-store 0: stored
+3 poll-read 0 r:3306: read 2
+";
+
+// A replica that the book lacks, a slot that a restart empties, and read numbers that go on behind it.
+const UNKNOWN: &str =
+    "{\"version\":1,\"servers\":[{\"name\":\"m\"},{\"name\":\"r\",\"source\":\"m\",\"known\":false}],\"turns\":[[\"poll-read\",1,\"m\"],[\"poll-read\",1,\"r\"],[\"poll-store\",1],[\"poll-store\",1],[\"poll-read\",63,\"m\"],[\"restart\"],[\"poll-store\",63],[\"poll-read\",0,\"m\"]]}";
+
+const IS_UNKNOWN: &str = "1 poll-read 1 m:3306: read 1
+2 poll-read 1 r:3306: unknown
+3 poll-store 1: stored
+4 poll-store 1: nothing
+5 poll-read 63 m:3306: read 2
+6 restart: done
+7 poll-store 63: nothing
+8 poll-read 0 m:3306: read 3
+server m:3306 up rw executed 0 end mysql-bin.000001:4 source none
+server r:3306 up ro executed 0 end mysql-bin.000001:4 source m:3306 at mysql-bin.000001:4 read mysql-bin.000001:4 io on sql on
+errant 0
+";
+
 fn words_of(alloc: Global, texts: &[&str]) -> Result<Vec<Vec<u8>>, Fail> {
     let mut words = Vec::new(alloc);
     for text in texts {
@@ -100,15 +152,23 @@ fn words_of(alloc: Global, texts: &[&str]) -> Result<Vec<Vec<u8>>, Fail> {
     Ok(words)
 }
 
+// A keeper without rows, of which this call fails.
+fn keeper_failing(alloc: Global, call: u64) -> Result<MemKeeper, Fail> {
+    Ok(MemKeeper::new(alloc, Vec::new(alloc), vec![in alloc; call]?)?)
+}
+
 #[test]
 fn answers(rt: HostRuntime) -> Result<(), Fail> {
     let alloc = rt.alloc();
     // The words, the scenario's text, the call of the source that fails; the status, and what out and err took.
-    let cases: [(&[&str], &str, u64, (u8, &str, &str)); 12] = [
+    let cases: [(&[&str], &str, u64, (u8, &str, &str)); 15] = [
         (RUN, CATCHES_UP, 0, (0, CAUGHT_UP, "")),
         (RUN, CUT, 0, (0, IS_CUT, "")),
         (RUN, HEALS, 0, (0, IS_HEALED, "")),
         (RUN, EACH_TURN, 0, (0, EACH_LINE, "")),
+        (RUN, TWO_POLLERS, 0, (0, LATER_STANDS, "")),
+        (RUN, POLLS, 0, (0, POLLED, "")),
+        (RUN, UNKNOWN, 0, (0, IS_UNKNOWN, "")),
         (RUN, CUT_SHORT, 0, (2, "", "scenario fault 2 NotJson\n")),
         (
             RUN,
@@ -144,7 +204,8 @@ fn answers(rt: HostRuntime) -> Result<(), Fail> {
         let mut out = MemSink::new(alloc, 2000, Vec::new(alloc))?;
         let mut err = MemSink::new(alloc, 100, Vec::new(alloc))?;
         let words = words_of(alloc, words)?;
-        let result = orch(alloc, &words, &mut source, &mut out, &mut err);
+        let mut keeper = keeper_failing(alloc, 0)?;
+        let result = orch(alloc, &words, &mut source, &mut out, &mut err, &mut keeper);
         assert_eq!(rt; str::from_utf8(err.written()).ok(), Some(err_bytes));
         assert_eq!(rt;
             str::from_utf8(out.written()).ok(),
@@ -171,7 +232,8 @@ fn failed_writes(rt: HostRuntime) -> Result<(), Fail> {
         let mut out = MemSink::new(alloc, room, vec![in alloc; out_fails]?)?;
         let mut err = MemSink::new(alloc, 100, Vec::new(alloc))?;
         let words = words_of(alloc, RUN)?;
-        let result = orch(alloc, &words, &mut source, &mut out, &mut err);
+        let mut keeper = keeper_failing(alloc, 0)?;
+        let result = orch(alloc, &words, &mut source, &mut out, &mut err, &mut keeper);
         assert_eq!(rt; result, status);
         assert_eq!(rt; out.written().len(), taken);
         assert!(rt; CAUGHT_UP.as_bytes().starts_with(out.written()));
@@ -191,10 +253,94 @@ fn one_byte_too_many(rt: HostRuntime) -> Result<(), Fail> {
     let mut out = MemSink::new(alloc, 100, Vec::new(alloc))?;
     let mut err = MemSink::new(alloc, 100, Vec::new(alloc))?;
     let words = words_of(alloc, RUN)?;
-    assert_eq!(rt; orch(alloc, &words, &mut source, &mut out, &mut err), 2);
+    let mut keeper = keeper_failing(alloc, 0)?;
+    let result = orch(alloc, &words, &mut source, &mut out, &mut err, &mut keeper);
+    assert_eq!(rt; result, 2);
     assert_eq!(rt;
         str::from_utf8(err.written()).ok(),
         Some("scenario fault 1 TooLong\n")
     );
+    Ok(())
+}
+
+#[test]
+fn keeper_fails(rt: HostRuntime) -> Result<(), Fail> {
+    let alloc = rt.alloc();
+    // The call of the keeper that fails and the room of out; the status, and what out and err took.
+    for (keeper_fails, room, status, out_bytes, err_bytes) in [
+        (1, 2000, 5, "", "keeper fault\n"),
+        (2, 2000, 5, "", "keeper fault\n"),
+        (
+            3,
+            2000,
+            5,
+            "1 poll-read 0 m:3306: read 1\n",
+            "keeper fault\n",
+        ),
+        (4, 2000, 5, POLLED_ONE, "keeper fault\n"),
+        (4, 7, 4, "1 poll-", "write fault\n"),
+        (5, 2000, 0, POLLED, ""),
+    ] {
+        let text = Vec::from_slice(alloc, POLLS.as_bytes())?;
+        let mut source = MemSource::new(text, Vec::new(alloc));
+        let mut out = MemSink::new(alloc, room, Vec::new(alloc))?;
+        let mut err = MemSink::new(alloc, 100, Vec::new(alloc))?;
+        let mut keeper = keeper_failing(alloc, keeper_fails)?;
+        let words = words_of(alloc, RUN)?;
+        let result = orch(alloc, &words, &mut source, &mut out, &mut err, &mut keeper);
+        assert_eq!(rt; result, status, "at {keeper_fails}");
+        assert_eq!(rt; str::from_utf8(out.written()).ok(), Some(out_bytes));
+        assert_eq!(rt; str::from_utf8(err.written()).ok(), Some(err_bytes));
+    }
+    Ok(())
+}
+
+// A row of a server without a source.
+fn row(alloc: Global, no: u32, read: u64) -> Row {
+    let start = Coord { file: 1, pos: 4 };
+    Row::Instance(Instance {
+        no: ServerNo(no),
+        read,
+        moment: Moment(0),
+        valid: true,
+        seen: Seen {
+            own_end: Some(start),
+            source: SourceState::Without,
+            exec: start,
+            read: start,
+            auto: false,
+            io: IoState::No,
+            sql: false,
+            read_only: false,
+            set: GtidSet::empty(alloc),
+        },
+    })
+}
+
+#[test]
+fn hostile_rows_stay(rt: HostRuntime) -> Result<(), Fail> {
+    let alloc = rt.alloc();
+    // The read number of the master's row counts. That of the replica, which isn't known, doesn't, and there is no third server.
+    let past = (1 << 63) + 1;
+    let mut rows = Vec::new(alloc);
+    rows.push(row(alloc, 0, 40))?;
+    rows.push(row(alloc, 1, past))?;
+    rows.push(row(alloc, 2, 7))?;
+    let mut keeper = MemKeeper::new(alloc, rows, Vec::new(alloc))?;
+    let text = Vec::from_slice(alloc, UNKNOWN.as_bytes())?;
+    let mut source = MemSource::new(text, Vec::new(alloc));
+    let mut out = MemSink::new(alloc, 2000, Vec::new(alloc))?;
+    let mut err = MemSink::new(alloc, 100, Vec::new(alloc))?;
+    let words = words_of(alloc, RUN)?;
+    let result = orch(alloc, &words, &mut source, &mut out, &mut err, &mut keeper);
+    assert_eq!(rt; result, 0);
+    assert!(rt;
+        out.written().starts_with(b"1 poll-read 1 m:3306: read 41\n2 poll-read 1 r:3306: unknown\n")
+    );
+    let kept = keeper.rows(alloc, &[])?;
+    assert_eq!(rt; kept.len(), 3);
+    assert!(rt; kept[0].is_same(&row(alloc, 0, 41)));
+    assert!(rt; kept[1].is_same(&row(alloc, 1, past)));
+    assert!(rt; kept[2].is_same(&row(alloc, 2, 7)));
     Ok(())
 }

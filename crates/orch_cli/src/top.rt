@@ -1,15 +1,17 @@
 //! The top call.
 
 ghost use Rattle.std.specs.Prelude.{◌≡◌, ◌⊎◌, ◌↔◌, map, false, IfSome};
-ghost use Rattle.std.specs.Io.KnownBytes.{Consumes};
+ghost use Rattle.std.specs.Io.KnownBytes.{Appends, Consumes};
 ghost use Rattle.orch_base.specs.Causes.{Rose};
-ghost use Rattle.orch_cli.specs.Ends.{EndsAs, err_of, Took, WritesOut, IsComplete, IsSafeRun};
+ghost use Rattle.orch_base.specs.Ends.{AppendsFront};
+ghost use Rattle.orch_cli.specs.Ends.{EndsAs, cut_line, err_of, FaultsAs, IsComplete, IsCut, IsSafeRun, Keeps, Took, WritesOut};
 ghost use Rattle.orch_cli.specs.Report.{report};
 ghost use Rattle.orch_cli.specs.Words.{is_taken};
 
 use crate::fault::fault_line;
 use crate::report::{Stop, report_from};
 use crate::words::is_taken;
+use instance_keeper::Keeper;
 use orch_base::{Sink, Source, write_all};
 use std::alloc::Global;
 
@@ -24,58 +26,86 @@ pub(crate) fn close<E: Sink>(err: &mut E, line: &[u8], status: u8) -> u8
     }
 }
 
+// Writes the replies before the turn that met a keeper's fault, and the line of the fault.
+fn close_cut<O: Sink, E: Sink>(out: &mut O, err: &mut E, replies: &[u8]) -> u8
+    ensures status { (result ≡ 5) ⊎ (result ≡ 4) }
+    ensures sink { result ≡ 4 → Rose (O.faults out.old) (O.faults out.new) }
+    ensures whole { result ≡ 5 → Appends (O.written out.old) (O.written out.new) replies.now }
+    ensures front { AppendsFront (O.written out.old) (O.written out.new) replies.now }
+    ensures err { Took (E.written err.old) (E.written err.new) (E.faults err.old) (E.faults err.new) (cut_line result) }
+{
+    match write_all(out, replies) {
+        Ok(()) => close(err, b"keeper fault\n", 5),
+        Err(_) => close(err, b"write fault\n", 4),
+    }
+}
+
 /// Runs the scenario that the source has, writes the report on out and what went wrong on err, and answers the
-/// program's status:
+/// program's status. What orchestrator knows is kept by the keeper: the run begins with its rows, and each change is kept
+/// before it is made.
 ///
 /// - 0: the report is written, and no reply in it is refused or failed.
 /// - 1: the words aren't taken; `usage` on err.
 /// - 2: the scenario has a fault; `scenario fault CODE NAME PATH` on err.
 /// - 3: the source failed; `read fault` on err.
 /// - 4: out failed, and took a front of the report; `write fault` on err.
+/// - 5: the keeper failed; out took the replies before that turn, which changed nothing; `keeper fault` on err.
 /// - 6: want of memory; `out of memory` on err.
 /// - 7: the report is written, and a reply in it is refused or failed.
 ///
 /// Where err fails it has a front of its line, and the status is the same.
-pub fn orch<S: Source, O: Sink, E: Sink>(
+pub fn orch<S: Source, O: Sink, E: Sink, K: Keeper>(
     alloc: Global,
     words: &[Vec<u8>],
     scenario: &mut S,
     out: &mut O,
     err: &mut E,
+    keeper: &mut K,
 ) -> u8
-    // 1 exactly where the words aren't taken.
+    // 1 exactly where the words aren't taken, and 2 exactly where the scenario has a fault.
     ensures usage { (result ≡ 1) ↔ (is_taken (map (λ w. w.items) words.now) ≡ false) }
+    ensures fault { IfSome (S.left scenario.old) (λ bytes. FaultsAs (map (λ w. w.items) words.now) bytes result) }
 
-    // 3 and 4 only where a count of faults rose, and 0 and 7 only where the source was read to its end.
+    // 3, 4 and 5 only where a count of faults rose, and 0 and 7 only where the source was read to its end.
     ensures source { result ≡ 3 → Rose (S.faults scenario.old) (S.faults scenario.new) }
     ensures sink { result ≡ 4 → Rose (O.faults out.old) (O.faults out.new) }
+    ensures keeper { result ≡ 5 → Rose (K.faults keeper.old) (K.faults keeper.new) }
     ensures read { IfSome (S.left scenario.old) (λ bytes.
         (result ≡ 0) ⊎ (result ≡ 7) → Consumes (S.left scenario.old) (S.left scenario.new) bytes) }
 
-    // The status, and what out and err took, against the report of the words and the bytes.
-    ensures status { IfSome (S.left scenario.old) (λ bytes.
-        EndsAs (report (map (λ w. w.items) words.now) bytes) result) }
-    ensures out { IfSome (S.left scenario.old) (λ bytes.
-        WritesOut (report (map (λ w. w.items) words.now) bytes) result (O.written out.old) (O.written out.new)) }
-    ensures err { IfSome (S.left scenario.old) (λ bytes.
+    // The status, and what out and err took, against the report of the words, the bytes and the kept rows.
+    ensures status { IfSome (S.left scenario.old) (λ bytes. IfSome (K.kept keeper.old) (λ rows.
+        EndsAs (report (map (λ w. w.items) words.now) bytes rows) result)) }
+    ensures out { IfSome (S.left scenario.old) (λ bytes. IfSome (K.kept keeper.old) (λ rows.
+        WritesOut (report (map (λ w. w.items) words.now) bytes rows) result (O.written out.old) (O.written out.new))) }
+    ensures err { IfSome (S.left scenario.old) (λ bytes. IfSome (K.kept keeper.old) (λ rows.
         Took (E.written err.old) (E.written err.new) (E.faults err.old) (E.faults err.new)
-        (err_of (report (map (λ w. w.items) words.now) bytes) result)) }
+        (err_of (report (map (λ w. w.items) words.now) bytes rows) result))) }
+
+    // After a keeper's fault out took exactly the replies before that turn.
+    ensures cut { IfSome (S.left scenario.old) (λ bytes. IfSome (K.kept keeper.old) (λ rows.
+        result ≡ 5 → IsCut bytes rows (K.kept keeper.new) (O.written out.old) (O.written out.new))) }
+
+    // The keeper has the rows of the last state.
+    ensures kept { IfSome (S.left scenario.old) (λ bytes. IfSome (K.kept keeper.old) (λ rows.
+        Keeps bytes rows (K.kept keeper.new) result)) }
 
     // Where the bytes are a scenario and no count rose, the whole report is written, or memory ran out.
-    ensures complete { IfSome (S.left scenario.old) (λ bytes.
-        IsComplete (map (λ w. w.items) words.now) bytes result
-        (S.faults scenario.old) (S.faults scenario.new) (O.faults out.old) (O.faults out.new)
-        (O.written out.old) (O.written out.new)) }
+    ensures complete { IfSome (S.left scenario.old) (λ bytes. IfSome (K.kept keeper.old) (λ rows.
+        IsComplete (map (λ w. w.items) words.now) bytes rows result
+        (S.faults scenario.old) (S.faults scenario.new) (K.faults keeper.old) (K.faults keeper.new)
+        (O.faults out.old) (O.faults out.new) (O.written out.old) (O.written out.new))) }
 
-    // Every quiet state of that run is safe, and every state is placed.
+    // Every quiet state of every run of these turns is safe, and every state is placed, whatever rows the keeper hands back.
     ensures safe { IfSome (S.left scenario.old) IsSafeRun }
 {
     if !is_taken(words) {
         return close(err, b"usage\n", 1);
     }
-    match report_from(alloc, scenario) {
+    match report_from(alloc, scenario, keeper) {
         Err(Stop::Memory) => close(err, b"out of memory\n", 6),
         Err(Stop::Source) => close(err, b"read fault\n", 3),
+        Err(Stop::Keeper(replies)) => close_cut(out, err, &replies),
         Err(Stop::Fault(fault)) => match fault_line(alloc, &fault) {
             Ok(line) => close(err, &line, 2),
             Err(_) => close(err, b"out of memory\n", 6),
