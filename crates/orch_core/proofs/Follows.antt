@@ -20,7 +20,10 @@ use Rattle.opening_book.proofs.Following.{Follow-all, Follow-change, Follow-load
 use Rattle.orch_core.specs.declared.scenario.Scenario.{Scenario}
 use Rattle.orch_core.specs.declared.turn.Turn.{Turn}
 use Rattle.orch_core.specs.declared.turn.Turn.TheVariants as turn
-use Rattle.orch_core.specs.Polls.{empty_slots, reading, changes_by, changes_of, slot_at, stored}
+use Rattle.commands.specs.declared.turn.CommandTurn.{CommandTurn}
+use Rattle.orch_core.specs.Commands.{IsCommand}
+use Rattle.orch_core.specs.Polls.{command_outcome, empty_slots, reading, changes_by, changes_of, slot_at, stored}
+use Rattle.orch_core.proofs.Outcomes.{outcome-fits, outcome-range, IsState-command}
 use Rattle.orch_core.specs.Scenarios.{IsScenario, names_of, start, start_changes, start_moment, start_rows, start_world}
 use Rattle.opening_book.specs.Counting.{counted, last_read, loaded}
 use Rattle.opening_book.specs.Opening.{changed_book, opening_changes}
@@ -97,6 +100,12 @@ Follow-stored : (rows : List Row) (b : Known) (slot : Option Observation) → Fo
 Follow-stored rows b None follow known = follow
 Follow-stored rows b (Some o) follow known = Follow-over rows b o follow known (instance_at b o.no) refl
 
+Follow-command : (rows : List Row) (s : State) (c : CommandTurn) → IsState s → IsCommand (length s.world.servers) c → Follow rows s.book
+    → Follow (changed rows (command_outcome s c).changes) (changed_book s.book (command_outcome s c).changes)
+Follow-command rows s c is command follow =
+    Follow-all rows s.book (command_outcome s c).changes follow
+    (both-all (λ x. fits (length s.book.names) x ≡ true) IsInRange (command_outcome s c).changes (outcome-fits s c is command) (outcome-range s c is command follow.book.small))
+
 pub Follow-step : (rows : List Row) (s : State) (t : Turn) → IsState s → IsTurn (length s.world.servers) t → Follow rows s.book → Follow (changed rows (changes_of s t)) (step rows s t).book
 Follow-step rows s (turn.Write n size) is turn follow = follow
 Follow-step rows s (turn.Fetch n) is turn follow = follow
@@ -112,6 +121,7 @@ Follow-step rows s (turn.PollStore p) is within follow =
     let slots = is.slots in
     let known = is.observed p None (omega (arith, within, slots)) in
     Follow-stored rows s.book (slot_at s p) follow (subst (λ n. IfSome (slot_at s p) (λ o. are_known n (observed_servers o) ≡ true)) (sym is.names) known)
+Follow-step rows s (turn.Command c) is within follow = Follow-command rows s c is within follow
 Follow-step rows s turn.Restart is within follow = Follow-loaded s.book.names rows follow.book.small follow.rising
 
 -- over a whole run
@@ -132,6 +142,7 @@ IsState-step rows s (turn.PollRead p n) is within = go (is_some (instance_at s.b
     go true = IsState-read s p n (reading s n) (next_count s.reads) (next_count s.reads) s.moment (step rows s (turn.PollRead p n)).journal is within.1 refl
     go false = record { names = is.names; slots = is.slots; observed = is.observed; placed = is.placed }
 IsState-step rows s (turn.PollStore p) is within = IsState-store s p (stored s.book (slot_at s p)) (slot_at s p) None (step rows s (turn.PollStore p)).journal is refl refl
+IsState-step rows s (turn.Command c) is within = IsState-command s (command_outcome s c).changes (command_outcome s c).reads (changed_book s.book (command_outcome s c).changes) (step rows s (turn.Command c)).journal is refl
 IsState-step rows s turn.Restart is within = IsState-restart s (loaded s.book.names rows) empty_slots (step rows s turn.Restart).journal is (rows, refl) refl
 
 servers-step : (rows : List Row) (s : State) (t : Turn) → length (step rows s t).world.servers ≡ length s.world.servers

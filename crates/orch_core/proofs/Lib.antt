@@ -5,3 +5,5 @@ pub mod Runs
 pub mod Starts
 pub mod RunLaws
 pub mod Follows
+pub mod Outcomes
+pub mod Permissions

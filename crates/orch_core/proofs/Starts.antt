@@ -91,7 +91,7 @@ names-change b (change.Remove table.Candidate key.Global) = refl
 names-change b (change.Remove table.Recovery key.Global) = refl
 names-change b (change.Remove table.Switch key.Global) = refl
 
-names-changed : (b : Known) (cs : List Change) → (changed_book b cs).names ≡ b.names
+pub names-changed : (b : Known) (cs : List Change) → (changed_book b cs).names ≡ b.names
 names-changed b [] = refl
 names-changed b (c ∷ cs) = names-changed (after_change b c) cs ∙ names-change b c
 

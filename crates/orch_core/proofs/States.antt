@@ -31,7 +31,8 @@ use Rattle.orch_core.specs.declared.turn.Reply.{Reply}
 use Rattle.orch_core.specs.declared.turn.Reply.TheVariants as answered
 use Rattle.orch_core.specs.Turns.{exchange_of, after_exchange, is_exchange, pollers, IsTurn}
 use Rattle.orch_core.specs.States.{State, IsState}
-use Rattle.orch_core.specs.Polls.{reading_by, empty_slots, stored, changes_of}
+use Rattle.orch_core.specs.Polls.{empty_slots, stored, changes_of}
+use Rattle.orch_core.specs.Readings.{reading_by}
 use Rattle.orch_core.specs.Replies.{exchange_reply, reply_of}
 use Rattle.orch_core.specs.Runs.{step, exchange_step}
 use Rattle.orch_core.specs.Keeping.{StepsTo, kept_if}
@@ -53,6 +54,7 @@ Allowed-turn count w (turn.Rotate n) is = (tt, tt)
 Allowed-turn count w (turn.Tick seconds) is = tt
 Allowed-turn count w (turn.PollRead p n) is = tt
 Allowed-turn count w (turn.PollStore p) is = tt
+Allowed-turn count w (turn.Command c) is = tt
 Allowed-turn count w turn.Restart is = tt
 
 pub Placed-turn : (count : ℕ) (w : World) (t : Turn) → IsTurn count t → Placed w → Placed (after_exchange w (exchange_of t))
@@ -210,6 +212,7 @@ step-exchange rows s (turn.Rotate n) is = refl
 step-exchange rows s (turn.Tick seconds) is = refl
 step-exchange rows s (turn.PollRead p n) is = absurd (false≢true is)
 step-exchange rows s (turn.PollStore p) is = absurd (false≢true is)
+step-exchange rows s (turn.Command c) is = absurd (false≢true is)
 step-exchange rows s turn.Restart is = absurd (false≢true is)
 
 pub changes-exchange : (s : State) (t : Turn) → is_exchange t ≡ true → changes_of s t ≡ []
@@ -224,6 +227,7 @@ changes-exchange s (turn.Rotate n) is = refl
 changes-exchange s (turn.Tick seconds) is = refl
 changes-exchange s (turn.PollRead p n) is = refl
 changes-exchange s (turn.PollStore p) is = absurd (false≢true is)
+changes-exchange s (turn.Command c) is = absurd (false≢true is)
 changes-exchange s turn.Restart is = refl
 
 pub reply-exchange : (s : State) (t : Turn) → is_exchange t ≡ true → reply_of s t ≡ exchange_reply s.world s.moment t
@@ -238,6 +242,7 @@ reply-exchange s (turn.Rotate n) is = refl
 reply-exchange s (turn.Tick seconds) is = refl
 reply-exchange s (turn.PollRead p n) is = absurd (false≢true is)
 reply-exchange s (turn.PollStore p) is = absurd (false≢true is)
+reply-exchange s (turn.Command c) is = absurd (false≢true is)
 reply-exchange s turn.Restart is = refl
 
 -- no change leaves the kept rows as they are

@@ -13,10 +13,11 @@ built_server_keys = codes "name" ∷ codes "uuid" ∷ codes "server_id" ∷ code
 
 abbrev pub built_turns : List (List ℕ)
 built_turns = codes "write" ∷ codes "fetch" ∷ codes "apply" ∷ codes "fail" ∷ codes "heal" ∷ codes "cut" ∷ codes "join" ∷ codes "rotate" ∷ codes "tick"
-    ∷ codes "poll-read" ∷ codes "poll-store" ∷ codes "polls" ∷ codes "round" ∷ codes "restart" ∷ []
+    ∷ codes "poll-read" ∷ codes "poll-store" ∷ codes "polls" ∷ codes "round" ∷ codes "command" ∷ codes "restart" ∷ []
 
 abbrev pub built_commands : List (List ℕ)
-built_commands = codes "run" ∷ []
+built_commands = codes "run" ∷ codes "discover" ∷ codes "forget" ∷ codes "topology" ∷ codes "clusters" ∷ codes "all-instances" ∷ codes "find"
+    ∷ codes "which-master" ∷ codes "which-replicas" ∷ codes "which-cluster" ∷ codes "which-cluster-instances" ∷ []
 
 -- top keys, server keys, turns and commands
 abbrev pub built_names : List (List ℕ)

@@ -1,4 +1,9 @@
 pub mod Faults
+pub mod Built
+pub mod Plain
+pub mod Readings
+pub mod Commands
+pub mod CommandsBy
 pub mod Turns
 pub mod States
 pub mod Polls
@@ -6,5 +11,5 @@ pub mod Replies
 pub mod Runs
 pub mod Keeping
 pub mod Scenarios
-pub mod Built
+pub mod Permission
 pub mod StateBy

@@ -22,7 +22,7 @@ step rows s t = record {
   journal = s.journal ++ (t, reply_of s t) ∷ [];
 }
 
--- after a turn that neither polls nor stores nor starts orchestrator again
+-- after a turn that neither polls nor stores, is no command, and doesn't start orchestrator again
 abbrev pub exchange_step : State → Turn → State
 exchange_step s t = record s {
   world = after_exchange s.world (exchange_of t);

@@ -4,6 +4,7 @@ use Rattle.std.specs.List.{filter_map}
 use Rattle.server_model.specs.declared.changes.Event.TheVariants as event
 use Rattle.server_model.specs.Run.{Exchange, Write, Fetch, Apply, Befall, Rotate, after}
 use Rattle.server_model.specs.Worlds.{World}
+use Rattle.orch_core.specs.Commands.{IsCommand}
 use Rattle.orch_core.specs.declared.turn.Turn.{Turn}
 use Rattle.orch_core.specs.declared.turn.Turn.TheVariants as turn
 
@@ -20,6 +21,7 @@ exchange_of (turn.Rotate n) = Some (Rotate n.0)
 exchange_of (turn.Tick seconds) = None
 exchange_of (turn.PollRead p n) = None
 exchange_of (turn.PollStore p) = None
+exchange_of (turn.Command c) = None
 exchange_of turn.Restart = None
 
 -- the exchanges of these turns, in order
@@ -53,12 +55,14 @@ moment_after now (turn.Join n link) = now
 moment_after now (turn.Rotate n) = now
 moment_after now (turn.PollRead p n) = now
 moment_after now (turn.PollStore p) = now
+moment_after now (turn.Command c) = now
 moment_after now turn.Restart = now
 
--- a turn that neither polls nor stores nor starts orchestrator again
+-- a turn that neither polls nor stores, is no command, and doesn't start orchestrator again
 abbrev pub is_exchange : Turn → Bool
 is_exchange (turn.PollRead p n) = false
 is_exchange (turn.PollStore p) = false
+is_exchange (turn.Command c) = false
 is_exchange turn.Restart = false
 is_exchange t = true
 
@@ -79,4 +83,5 @@ IsTurn count (turn.Rotate n) = n.0 < count
 IsTurn count (turn.Tick seconds) = seconds ≤ 1000000000
 IsTurn count (turn.PollRead p n) = (p < pollers) × (n.0 < count)
 IsTurn count (turn.PollStore p) = p < pollers
+IsTurn count (turn.Command c) = IsCommand count c
 IsTurn count turn.Restart = Unit {0}

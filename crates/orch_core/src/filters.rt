@@ -2,6 +2,7 @@
 
 ghost use Rattle.std.specs.Prelude.{◌≡◌, map, string_bytes};
 
+use commands::Answers;
 use orch_base::Label;
 use std::marker::Model;
 
@@ -86,43 +87,6 @@ impl Texts {
         ensures { map string_bytes result.items ≡ self }
     {
         self.texts
-    }
-}
-
-/// One answer for each server, which contracts see as that list.
-#[derive(Drop)]
-pub struct Answers {
-    answers: Vec<bool>,
-}
-
-impl Model for Answers {
-    ghost use Rattle.std.specs.Prelude.{List, Bool};
-
-    ghost Value = { List Bool };
-
-    ghost view = { λ a. a.answers.items };
-}
-
-impl Answers {
-    /// These answers. It takes no memory.
-    pub fn new(answers: Vec<bool>) -> Answers
-        ensures { result ≡ answers.items }
-    {
-        Answers { answers }
-    }
-
-    /// The answers by the servers' numbers.
-    pub fn as_slice(&self) -> &[bool]
-        ensures { result.now ≡ self.now }
-    {
-        &self.answers
-    }
-
-    /// Gives the answers back. It takes no memory.
-    pub fn into_vec(self) -> Vec<bool>
-        ensures { result.items ≡ self }
-    {
-        self.answers
     }
 }
 

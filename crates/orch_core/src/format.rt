@@ -12,7 +12,8 @@ pub fn built(what: &str) -> bool
         "version", "now", "gtid", "aliases", "filters", "servers", "turns", "name", "uuid", "server_id", "cluster", "logs",
         "read_only", "limit", "up", "desk", "feed", "known", "history", "source", "executed", "at", "read", "io", "sql", "auto",
         "detached", "until", "flushes", "write", "fetch", "apply", "fail", "heal", "cut", "join", "rotate", "tick",
-        "poll-read", "poll-store", "polls", "round", "restart", "run",
+        "poll-read", "poll-store", "polls", "round", "command", "restart", "run", "discover", "forget", "topology", "clusters", "all-instances",
+        "find", "which-master", "which-replicas", "which-cluster", "which-cluster-instances",
     ]
     .contains(&what)
 }

@@ -1,6 +1,6 @@
 //! Laws of runs.
 
-ghost use Rattle.std.specs.Prelude.{◌≡◌, ◌≢◌, ℕ, List, Some, All, length, slice_get, take};
+ghost use Rattle.std.specs.Prelude.{◌≡◌, ◌≢◌, ℕ, List, [], Some, All, length, slice_get, take};
 ghost use Rattle.binlog_coords.specs.declared.Coord.{Coord as At};
 ghost use Rattle.instance_keeper.specs.declared.row.Row.{Row as ARow};
 ghost use Rattle.server_model.specs.declared.answers.ApplyAnswer.TheVariants as answers;
@@ -17,7 +17,12 @@ ghost use Rattle.orch_base.specs.declared.server.ServerNo.{ServerNo as Number};
 ghost use Rattle.orch_core.specs.Turns.{IsTurn, exchange_of};
 ghost use Rattle.instance_keeper.specs.Rows.{changed, IsRising};
 ghost use Rattle.opening_book.specs.Following.{Follow};
+ghost use Rattle.commands.specs.declared.refusal.Refusal.{Refusal as ARefusal};
+ghost use Rattle.commands.specs.declared.turn.CommandTurn.{CommandTurn as ACommandTurn};
+ghost use Rattle.orch_core.specs.declared.turn.Reply.TheVariants as replies;
+ghost use Rattle.orch_core.specs.Permission.{IsAnswer, joined, refusal_for};
 ghost use Rattle.orch_core.specs.Polls.{changes_of};
+ghost use Rattle.orch_core.specs.Replies.{reply_of};
 ghost use Rattle.orch_core.specs.Runs.{held_run, run_turns, step, turns_of};
 ghost use Rattle.orch_core.specs.Scenarios.{IsScenario, start, start_changes};
 ghost use Rattle.orch_core.specs.States.{State, IsState};
@@ -58,4 +63,11 @@ pub fn skipped_never_comes()
 pub fn full_never_comes()
     ensures histories { (s : AScenario) (wait : ℕ) (rows : List ARow) (xs : List (List ARow × ATurn)) (k : ℕ) (t : ATurn) (e : Exchange) → IsScenario s → turns_of xs ≡ take k s.turns → slice_get s.turns k ≡ Some t → exchange_of t ≡ Some e → IsQuiet (run_turns (start s wait rows) xs).world → IsNotFull (run_turns (start s wait rows) xs).world e }
     ensures files { (s : AScenario) (wait : ℕ) (rows : List ARow) (xs : List (List ARow × ATurn)) (k : ℕ) (n : Number) → IsScenario s → turns_of xs ≡ take k s.turns → slice_get s.turns k ≡ Some (turns.Rotate n) → (rotate (run_turns (start s wait rows) xs).world n.0).0 ≢ rotating.Full }
+{}
+
+/// A command turn is refused exactly with the refusal of the permission table, and otherwise done. A refused one changes
+/// nothing: it joins the journal, and no kept row changes.
+pub fn commands_answer_by_the_table()
+    ensures answer { (s : State) (c : ACommandTurn) → IsAnswer (refusal_for s.world s.book c.command) (reply_of s (turns.Command c)) }
+    ensures refused { (rows : List ARow) (s : State) (c : ACommandTurn) (r : ARefusal) → reply_of s (turns.Command c) ≡ replies.Refused r → (changes_of s (turns.Command c) ≡ []) × (step rows s (turns.Command c) ≡ joined s (turns.Command c) (replies.Refused r)) }
 {}

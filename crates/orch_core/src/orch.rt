@@ -8,12 +8,16 @@ ghost use Rattle.opening_book.specs.Opening.{changed_book, opening_changes};
 ghost use Rattle.server_model.specs.Gtids.{IsNumbered};
 ghost use Rattle.server_model.specs.Safe.{Placed};
 ghost use Rattle.orch_core.specs.Turns.{after_exchange, exchange_of, later, moment_after, is_exchange, pollers, IsTurn};
-ghost use Rattle.orch_core.specs.Polls.{changes_by, changes_of, empty_slots, reading_by, stored};
+ghost use Rattle.orch_core.specs.Commands.{IsCommand};
+ghost use Rattle.orch_core.specs.Plain.{is_plain};
+ghost use Rattle.orch_core.specs.Polls.{changes_by, changes_of, empty_slots, stored};
+ghost use Rattle.orch_core.specs.Readings.{reading_by};
 ghost use Rattle.orch_core.specs.Replies.{exchange_reply, read_reply, reply_by, reply_of, stored_reply};
 ghost use Rattle.orch_core.specs.Keeping.{StepsTo, kept_if, asks, HasTurnCause};
 
+use crate::command::outcome_of;
 use crate::room::{flushes, room};
-use crate::{Reply, Scenario, Turn, TurnFault};
+use crate::{HeldCommand, Reply, Scenario, Turn, TurnFault};
 use instance_keeper::{Book, Change, Keeper, Observation, Row, StoreAnswer};
 use opening_book::{
     change_book, counted, last_read, latest_moment, loaded_book, opening_changes, seen_of,
@@ -61,49 +65,50 @@ fn later(now: Moment, seconds: u64) -> Moment
     Moment(now.0.saturating_add(seconds).min(LAST_MOMENT))
 }
 
-fn moment_after(now: Moment, t: Turn) -> Moment
-    ensures { result.0 ≡ moment_after now.0 t }
+fn moment_after(now: Moment, t: &Turn) -> Moment
+    ensures { result.0 ≡ moment_after now.0 t.now }
 {
     match t {
-        Turn::Tick(seconds) => later(now, seconds),
+        Turn::Tick(seconds) => later(now, *seconds),
         _ => now,
     }
 }
 
-fn exchange(world: &mut World, now: Moment, t: Turn) -> Reply
-    requires { IsTurn (length world.old.servers) t }
-    ensures reply { result ≡ exchange_reply world.old now.0 t }
-    ensures world { world.new ≡ after_exchange world.old (exchange_of t) }
+fn exchange(world: &mut World, now: Moment, t: &Turn) -> Reply
+    requires { IsTurn (length world.old.servers) t.now }
+    ensures reply { result ≡ exchange_reply world.old now.0 t.now }
+    ensures plain { is_plain result ≡ true }
+    ensures world { world.new ≡ after_exchange world.old (exchange_of t.now) }
     ensures servers { length world.new.servers ≡ length world.old.servers }
 {
     match t {
-        Turn::Write(no, size) => Reply::Write(world.write(no, size)),
-        Turn::Fetch(no) => Reply::Fetch(world.fetch(no)),
-        Turn::Apply(no) => Reply::Apply(world.apply(no)),
+        Turn::Write(no, size) => Reply::Write(world.write(*no, *size)),
+        Turn::Fetch(no) => Reply::Fetch(world.fetch(*no)),
+        Turn::Apply(no) => Reply::Apply(world.apply(*no)),
         Turn::Fail(no) => {
-            world.fail(no);
+            world.fail(*no);
             Reply::Done
         }
         Turn::Heal(no) => {
-            world.heal(no);
+            world.heal(*no);
             Reply::Done
         }
         Turn::Cut(no, link) => {
-            world.cut_link(no, link);
+            world.cut_link(*no, *link);
             Reply::Done
         }
         Turn::Join(no, link) => {
-            world.join_link(no, link);
+            world.join_link(*no, *link);
             Reply::Done
         }
-        Turn::Rotate(no) => Reply::Rotate(world.rotate(no)),
-        Turn::Tick(seconds) => Reply::Now(later(now, seconds)),
-        Turn::PollRead(_, _) | Turn::PollStore(_) | Turn::Restart => Reply::Done,
+        Turn::Rotate(no) => Reply::Rotate(world.rotate(*no)),
+        Turn::Tick(seconds) => Reply::Now(later(now, *seconds)),
+        Turn::PollRead(_, _) | Turn::PollStore(_) | Turn::Command(_) | Turn::Restart => Reply::Done,
     }
 }
 
-// A reading of a server, with this number, at this moment.
-fn read_server(
+/// A reading of a server, with this number, at this moment.
+pub(crate) fn read_server(
     alloc: Global,
     world: &World,
     no: ServerNo,
@@ -127,7 +132,8 @@ fn read_server(
 }
 
 fn read_reply(o: &Observation) -> Reply
-    ensures { result ≡ read_reply o.now }
+    ensures reply { result ≡ read_reply o.now }
+    ensures plain { is_plain result ≡ true }
 {
     if o.seen.is_some() {
         Reply::Read(o.read)
@@ -137,7 +143,8 @@ fn read_reply(o: &Observation) -> Reply
 }
 
 fn reply_by(answer: StoreAnswer) -> Reply
-    ensures { result ≡ reply_by answer }
+    ensures reply { result ≡ reply_by answer }
+    ensures plain { is_plain result ≡ true }
 {
     match answer {
         StoreAnswer::Unknown => Reply::Unknown,
@@ -150,6 +157,7 @@ fn reply_by(answer: StoreAnswer) -> Reply
 fn store(book: &mut Book, slot: Option<Observation>) -> Reply
     requires { IfSome slot (λ o. are_known (length book.old.names) (observed_servers o) ≡ true) }
     ensures reply { result ≡ stored_reply book.old slot }
+    ensures plain { is_plain result ≡ true }
     ensures book { book.new ≡ stored book.old slot }
 {
     match slot {
@@ -190,6 +198,23 @@ fn keep<K: Keeper>(
 {
     keeper.keep(alloc, names, changes)?;
     Ok(())
+}
+
+// Keeps the changes, where there are any.
+fn keep_some<K: Keeper>(
+    alloc: Global,
+    keeper: &mut K,
+    names: &[Name],
+    changes: &[Change],
+) -> Result<(), TurnFault>
+    ensures kept { K.kept keeper.new ≡ kept_if (is_ok result) (K.kept keeper.old) changes.now }
+    ensures cause { HasTurnCause (K.faults keeper.old) (K.faults keeper.new) result }
+    ensures idle { changes.now ≡ [] → keeper.new ≡ keeper.old }
+{
+    if changes.is_empty() {
+        return Ok(());
+    }
+    keep(alloc, keeper, names, changes)
 }
 
 // The rows that count, by the keeper.
@@ -239,9 +264,7 @@ fn complete<K: Keeper>(
     ensures idle { opening_changes world.now moment book known.now ≡ [] → keeper.new ≡ keeper.old }
 {
     let changes = opening_changes(alloc, world, moment, &book, known)?;
-    if !changes.is_empty() {
-        keep(alloc, keeper, book.names(), &changes)?;
-    }
+    keep_some(alloc, keeper, book.names(), &changes)?;
     change_book(&mut book, changes);
     Ok(book)
 }
@@ -278,10 +301,11 @@ impl Orch {
         ensures servers { length self.new.world.servers ≡ length self.old.world.servers }
     {
         self.journal.reserve(1)?;
-        let reply = exchange(&mut self.world, self.moment, t);
-        self.moment = moment_after(self.moment, t);
+        let reply = exchange(&mut self.world, self.moment, &t);
+        self.moment = moment_after(self.moment, &t);
+        let told = reply.again();
         self.journal.push_reserved((t, reply));
-        Ok(reply)
+        Ok(told)
     }
 
     fn poll_read(&mut self, alloc: Global, poller: u32, no: ServerNo) -> Result<Reply, Memory>
@@ -300,10 +324,11 @@ impl Orch {
         let read = self.reads.saturating_add(1);
         let o = read_server(alloc, &self.world, no, read, self.moment)?;
         let reply = read_reply(&o);
+        let told = reply.again();
         self.slots[poller as usize] = Some(o);
         self.reads = read;
         self.journal.push_reserved((turn, reply));
-        Ok(reply)
+        Ok(told)
     }
 
     fn poll_store<K: Keeper>(
@@ -324,8 +349,9 @@ impl Orch {
         keep_store(alloc, keeper, &self.book, &self.slots[poller as usize])?;
         let slot = self.slots[poller as usize].take();
         let reply = store(&mut self.book, slot);
+        let told = reply.again();
         self.journal.push_reserved((Turn::PollStore(poller), reply));
-        Ok(reply)
+        Ok(told)
     }
 
     fn restart<K: Keeper>(&mut self, alloc: Global, keeper: &mut K) -> Result<Reply, TurnFault>
@@ -343,6 +369,39 @@ impl Orch {
         self.book = book;
         self.journal.push_reserved((Turn::Restart, Reply::Done));
         Ok(Reply::Done)
+    }
+
+    // Does a command: what it changes is kept first.
+    fn command<K: Keeper>(
+        &mut self,
+        alloc: Global,
+        keeper: &mut K,
+        t: HeldCommand,
+    ) -> Result<Reply, TurnFault>
+        requires { IsCommand (length self.old.world.servers) t }
+        ensures reply { IfOk result (λ r. r ≡ reply_of self.old (Turn.Command t)) }
+        ensures ok { OnOk result (self.new ≡ step [] self.old (Turn.Command t)) }
+        ensures err { OnErr result (self.new ≡ self.old) }
+        ensures kept { K.kept keeper.new ≡ kept_if (is_ok result) (K.kept keeper.old) (changes_of self.old (Turn.Command t)) }
+        ensures cause { HasTurnCause (K.faults keeper.old) (K.faults keeper.new) result }
+        ensures idle { changes_of self.old (Turn.Command t) ≡ [] → keeper.new ≡ keeper.old }
+    {
+        self.journal.reserve(1)?;
+        let outcome = outcome_of(
+            alloc,
+            &self.world,
+            &self.book,
+            self.reads,
+            self.moment,
+            t.as_turn(),
+        )?;
+        let told = outcome.reply.copy(alloc)?;
+        keep_some(alloc, keeper, self.book.names(), &outcome.changes)?;
+        change_book(&mut self.book, outcome.changes);
+        self.reads = outcome.reads;
+        self.journal
+            .push_reserved((Turn::Command(t), outcome.reply));
+        Ok(told)
     }
 }
 
@@ -381,7 +440,7 @@ impl Orch {
         })
     }
 
-    /// One turn, which joins the journal with its reply. What it changes of the kept rows is kept first. Keeper comes only where the keeper's count of faults rose; after it, and after Memory, nothing has changed. The keeper is called only at a restart and where a kept row changes.
+    /// One turn, which joins the journal with its reply. What it changes of the kept rows is kept first, and a refused command changes nothing. Keeper comes only where the keeper's count of faults rose; after it, and after Memory, nothing has changed. The keeper is called only at a restart and where a kept row changes.
     pub fn turn<K: Keeper>(
         &mut self,
         alloc: Global,
@@ -400,8 +459,9 @@ impl Orch {
         match t {
             Turn::PollRead(poller, no) => Ok(self.poll_read(alloc, poller, no)?),
             Turn::PollStore(poller) => self.poll_store(alloc, keeper, poller),
+            Turn::Command(t) => self.command(alloc, keeper, t),
             Turn::Restart => self.restart(alloc, keeper),
-            _ => Ok(self.exchange_turn(t)?),
+            t => Ok(self.exchange_turn(t)?),
         }
     }
 
@@ -419,7 +479,7 @@ impl Orch {
         ensures servers { length self.new.world.servers ≡ length self.old.world.servers }
     {
         for t in turns {
-            self.turn(alloc, keeper, *t)?;
+            self.turn(alloc, keeper, t.copy(alloc)?)?;
         }
         Ok(())
     }

@@ -54,11 +54,17 @@ fn longest_flushes(servers: &[ServerInit]) -> u64
 fn writes(turns: &[Turn]) -> u64
     ensures { result ≡ count_by (λ t. makes is_write (exchange_of t)) turns.now }
 {
-    turns.iter().filter(|t| is_write(**t)).count() as u64
+    let mut count = 0;
+    for t in turns {
+        if is_write(t) {
+            count += 1;
+        }
+    }
+    count
 }
 
-fn is_write(t: Turn) -> bool
-    ensures { result ≡ makes is_write (exchange_of t) }
+fn is_write(t: &Turn) -> bool
+    ensures { result ≡ makes is_write (exchange_of t.now) }
 {
     matches!(t, Turn::Write(_, _))
 }
@@ -67,11 +73,17 @@ fn rotations(turns: &[Turn]) -> u64
     ensures value { result ≡ count_by (λ t. makes is_rotate (exchange_of t)) turns.now }
     ensures few { result ≤ length turns.now }
 {
-    turns.iter().filter(|t| is_rotate(**t)).count() as u64
+    let mut count = 0;
+    for t in turns {
+        if is_rotate(t) {
+            count += 1;
+        }
+    }
+    count
 }
 
-fn is_rotate(t: Turn) -> bool
-    ensures { result ≡ makes is_rotate (exchange_of t) }
+fn is_rotate(t: &Turn) -> bool
+    ensures { result ≡ makes is_rotate (exchange_of t.now) }
 {
     matches!(t, Turn::Rotate(_))
 }

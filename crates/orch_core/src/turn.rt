@@ -1,10 +1,56 @@
 //! Turns, and what they answer.
 
-use orch_base::{Moment, ServerNo};
+ghost use Rattle.std.specs.Prelude.{◌≡◌, IfOk, true};
+ghost use Rattle.orch_core.specs.Plain.{is_plain};
+
+use commands::{CommandTurn, Lines, Refusal};
+use orch_base::{Memory, Moment, ServerNo};
 use server_model::{ApplyAnswer, FetchAnswer, Link, RotateAnswer, WriteAnswer};
+use std::alloc::Global;
+use std::marker::Model;
+
+/// A command turn on the heap, which contracts see as that turn.
+#[derive(Drop)]
+pub struct HeldCommand {
+    turn: Box<CommandTurn>,
+}
+
+impl Model for HeldCommand {
+    ghost use Rattle.std.specs.Prelude.{box_value};
+    ghost use Rattle.commands.specs.declared.turn.CommandTurn.{CommandTurn as ATurn};
+
+    ghost Value = { ATurn };
+
+    ghost view = { λ c. box_value c.turn };
+}
+
+impl HeldCommand {
+    /// This turn.
+    pub fn new(alloc: Global, turn: CommandTurn) -> Result<HeldCommand, Memory>
+        ensures { IfOk result (λ c. c ≡ turn) }
+    {
+        Ok(HeldCommand {
+            turn: Box::new(alloc, turn)?,
+        })
+    }
+
+    /// The turn.
+    pub fn as_turn(&self) -> &CommandTurn
+        ensures { result.now ≡ self.now }
+    {
+        &self.turn
+    }
+
+    /// The same turn once more.
+    pub fn copy(&self, alloc: Global) -> Result<HeldCommand, Memory>
+        ensures { IfOk result (λ c. c ≡ self.now) }
+    {
+        HeldCommand::new(alloc, self.turn.copy(alloc)?)
+    }
+}
 
 /// What happens next.
-#[derive(Clone, Copy, Debug, PartialEq, Eq)]
+#[derive(Drop)]
 pub enum Turn {
     /// An ordinary client's transaction of this size, 1 to 1,000,000 bytes.
     Write(ServerNo, u32),
@@ -28,12 +74,37 @@ pub enum Turn {
     PollRead(u32, ServerNo),
     /// What this poller, 0 to 63, has in its slot is stored.
     PollStore(u32),
+    /// A command, with what it is given.
+    Command(HeldCommand),
     /// Orchestrator starts again.
     Restart,
 }
 
+impl Turn {
+    /// The same turn once more.
+    pub fn copy(&self, alloc: Global) -> Result<Turn, Memory>
+        ensures { IfOk result (λ t. t ≡ self.now) }
+    {
+        Ok(match self {
+            Turn::Write(no, size) => Turn::Write(*no, *size),
+            Turn::Fetch(no) => Turn::Fetch(*no),
+            Turn::Apply(no) => Turn::Apply(*no),
+            Turn::Fail(no) => Turn::Fail(*no),
+            Turn::Heal(no) => Turn::Heal(*no),
+            Turn::Cut(no, link) => Turn::Cut(*no, *link),
+            Turn::Join(no, link) => Turn::Join(*no, *link),
+            Turn::Rotate(no) => Turn::Rotate(*no),
+            Turn::Tick(seconds) => Turn::Tick(*seconds),
+            Turn::PollRead(poller, no) => Turn::PollRead(*poller, *no),
+            Turn::PollStore(poller) => Turn::PollStore(*poller),
+            Turn::Command(command) => Turn::Command(command.copy(alloc)?),
+            Turn::Restart => Turn::Restart,
+        })
+    }
+}
+
 /// What a turn answers.
-#[derive(Clone, Copy, Debug, PartialEq, Eq)]
+#[derive(Drop)]
 pub enum Reply {
     Write(WriteAnswer),
     Fetch(FetchAnswer),
@@ -55,4 +126,42 @@ pub enum Reply {
     Old(u64),
     /// The slot is empty.
     Nothing,
+    /// The command is done, with these lines.
+    Told(Lines),
+    /// The command is refused, and changed nothing.
+    Refused(Refusal),
+}
+
+impl Reply {
+    /// The same reply once more, of one without lines. It takes no memory.
+    pub(crate) fn again(&self) -> Reply
+        requires { is_plain self.now ≡ true }
+        ensures { result ≡ self.now }
+    {
+        match self {
+            Reply::Write(answer) => Reply::Write(*answer),
+            Reply::Fetch(answer) => Reply::Fetch(*answer),
+            Reply::Apply(answer) => Reply::Apply(*answer),
+            Reply::Rotate(answer) => Reply::Rotate(*answer),
+            Reply::Now(now) => Reply::Now(*now),
+            Reply::Read(read) => Reply::Read(*read),
+            Reply::ReadUnreachable(read) => Reply::ReadUnreachable(*read),
+            Reply::Unknown => Reply::Unknown,
+            Reply::Stored => Reply::Stored,
+            Reply::Old(read) => Reply::Old(*read),
+            Reply::Nothing => Reply::Nothing,
+            Reply::Refused(refusal) => Reply::Refused(*refusal),
+            Reply::Done | Reply::Told(_) => Reply::Done,
+        }
+    }
+
+    /// The same reply once more.
+    pub fn copy(&self, alloc: Global) -> Result<Reply, Memory>
+        ensures { IfOk result (λ r. r ≡ self.now) }
+    {
+        match self {
+            Reply::Told(lines) => Ok(Reply::Told(lines.copy(alloc)?)),
+            plain => Ok(plain.again()),
+        }
+    }
 }

@@ -1,0 +1,6 @@
+use Rattle.orch_core.specs.Commands.{Outcome}
+use Rattle.orch_core.specs.declared.command.Outcome.{Outcome as Inside}
+
+-- what contracts see of an outcome
+abbrev pub outcome : Inside → Outcome
+outcome o = record { reply = o.reply; changes = o.changes.items; reads = o.reads }

@@ -1,0 +1,40 @@
+-- The permission table: what refuses a command, by the book, and of discover by the server itself.
+use Rattle.std.specs.Prelude.{◌≡◌, Bool, ◌&&◌, not, List, [], ◌∷◌, ◌++◌, Option, Some, None, is_some, if◌then◌else◌}
+use Rattle.orch_base.specs.declared.server.ServerNo.{ServerNo}
+use Rattle.instance_keeper.specs.Book.{Known}
+use Rattle.server_model.specs.Gtids.{status}
+use Rattle.server_model.specs.Worlds.{World}
+use Rattle.opening_book.specs.Seeing.{seen_in}
+use Rattle.commands.specs.declared.line.Line.{Line}
+use Rattle.commands.specs.declared.refusal.Refusal.{Refusal}
+use Rattle.commands.specs.declared.refusal.Refusal.TheVariants.{UnknownInstance, Unreachable}
+use Rattle.commands.specs.declared.turn.Command.{Command}
+use Rattle.commands.specs.Names.{needs_of}
+use Rattle.asking_commands.specs.Answers.{is_known}
+use Rattle.orch_core.specs.declared.turn.Reply.{Reply}
+use Rattle.orch_core.specs.declared.turn.Reply.TheVariants as answered
+use Rattle.orch_core.specs.declared.turn.Turn.{Turn}
+use Rattle.orch_core.specs.Commands.{reads_server}
+use Rattle.orch_core.specs.States.{State}
+
+-- 2: an instance that the command uses isn't in the book; discover takes any server
+abbrev pub is_unknown : Known → Command → Bool
+is_unknown b c = (needs_of c.name).i && not (if reads_server c.name then is_some c.i else is_known b c.i)
+
+-- 5: orchestrator doesn't reach the server
+abbrev pub unreached : World → Option ServerNo → Option Refusal
+unreached w None = None
+unreached w (Some i) = if is_some (seen_in (status w i.0)) then None else Some (Unreachable i)
+
+-- the refusal with the lowest number that applies
+abbrev pub refusal_for : World → Known → Command → Option Refusal
+refusal_for w b c = if is_unknown b c then Some UnknownInstance else (if reads_server c.name then unreached w c.i else None)
+
+-- refused exactly with the refusal that applies, else done
+abbrev pub IsAnswer : Option Refusal → Reply → Type 0
+IsAnswer None r = (lines : List Line) × (r ≡ answered.Told lines)
+IsAnswer (Some refusal) r = r ≡ answered.Refused refusal
+
+-- the state after a turn that changes nothing: it joins the journal with its reply
+abbrev pub joined : State → Turn → Reply → State
+joined s t r = record s { journal = s.journal ++ (t, r) ∷ [] }
