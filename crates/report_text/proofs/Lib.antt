@@ -1,1 +1,2 @@
 pub mod ServerLines
+pub mod Levels

@@ -1,7 +1,6 @@
 -- The line of a turn with its reply.
-use Rattle.std.specs.Prelude.{ℕ, ◌+◌, List, [], ◌∷◌, ◌++◌, codes, decimal, slice_get, Option, Some, None}
-use Rattle.orch_base.specs.Names.{HostPort, printed}
-use Rattle.orch_base.specs.declared.server.ServerNo.{ServerNo}
+use Rattle.std.specs.Prelude.{ℕ, ◌+◌, List, [], ◌∷◌, ◌++◌, codes, decimal, Option, Some, None}
+use Rattle.orch_base.specs.Names.{HostPort}
 use Rattle.binlog_coords.specs.Text.{coord_text}
 use Rattle.server_model.specs.declared.answers.WriteAnswer.{WriteAnswer}
 use Rattle.server_model.specs.declared.answers.WriteAnswer.TheVariants as wrote
@@ -13,18 +12,13 @@ use Rattle.server_model.specs.declared.answers.RotateAnswer.{RotateAnswer}
 use Rattle.server_model.specs.declared.answers.RotateAnswer.TheVariants as rotated
 use Rattle.server_model.specs.declared.changes.Link.{Link}
 use Rattle.server_model.specs.declared.changes.Link.TheVariants as link
+use Rattle.commands.specs.declared.line.Line.{Line}
+use Rattle.report_text.specs.Names.{name_text}
+use Rattle.report_text.specs.Commands.{command_text, refusal_text, told_lines}
 use Rattle.orch_core.specs.declared.turn.Turn.{Turn}
 use Rattle.orch_core.specs.declared.turn.Turn.TheVariants as turn
 use Rattle.orch_core.specs.declared.turn.Reply.{Reply}
 use Rattle.orch_core.specs.declared.turn.Reply.TheVariants as answered
-
-abbrev pub printed_at : Option HostPort → List ℕ
-printed_at None = []
-printed_at (Some name) = printed name
-
--- the name of the server of this number
-abbrev pub name_text : List HostPort → ServerNo → List ℕ
-name_text names n = printed_at (slice_get names n.0)
 
 abbrev pub link_text : Link → List ℕ
 link_text link.Desk = codes "desk"
@@ -42,6 +36,7 @@ words_text names (turn.Rotate n) = codes "rotate " ++ name_text names n
 words_text names (turn.Tick seconds) = codes "tick " ++ decimal seconds
 words_text names (turn.PollRead poller n) = codes "poll-read " ++ decimal poller ++ codes " " ++ name_text names n
 words_text names (turn.PollStore poller) = codes "poll-store " ++ decimal poller
+words_text names (turn.Command c) = command_text names c.command
 words_text names turn.Restart = codes "restart"
 
 abbrev pub write_text : WriteAnswer → List ℕ
@@ -72,25 +67,44 @@ rotate_text rotated.Down = codes "down"
 rotate_text rotated.NotLogging = codes "not logging"
 rotate_text rotated.Full = codes "full"
 
-abbrev pub answer_text : Reply → List ℕ
-answer_text (answered.Write a) = write_text a
-answer_text (answered.Fetch a) = fetch_text a
-answer_text (answered.Apply a) = apply_text a
-answer_text answered.Done = codes "done"
-answer_text (answered.Rotate a) = rotate_text a
-answer_text (answered.Now t) = codes "now " ++ decimal t.0
-answer_text (answered.Read number) = codes "read " ++ decimal number
-answer_text (answered.ReadUnreachable number) = codes "read " ++ decimal number ++ codes " unreachable"
-answer_text answered.Unknown = codes "unknown"
-answer_text answered.Stored = codes "stored"
-answer_text (answered.Old number) = codes "old " ++ decimal number
-answer_text answered.Nothing = codes "nothing"
+abbrev pub answer_text : List HostPort → Reply → List ℕ
+answer_text names (answered.Write a) = write_text a
+answer_text names (answered.Fetch a) = fetch_text a
+answer_text names (answered.Apply a) = apply_text a
+answer_text names answered.Done = codes "done"
+answer_text names (answered.Rotate a) = rotate_text a
+answer_text names (answered.Now t) = codes "now " ++ decimal t.0
+answer_text names (answered.Read number) = codes "read " ++ decimal number
+answer_text names (answered.ReadUnreachable number) = codes "read " ++ decimal number ++ codes " unreachable"
+answer_text names answered.Unknown = codes "unknown"
+answer_text names answered.Stored = codes "stored"
+answer_text names (answered.Old number) = codes "old " ++ decimal number
+answer_text names answered.Nothing = codes "nothing"
+answer_text names (answered.Told lines) = codes "done"
+answer_text names (answered.Refused r) = refusal_text names r
 
--- N WORDS: REPLY
+-- the lines of a command that is done
+abbrev pub told_in : Reply → Option (List Line)
+told_in (answered.Told lines) = Some lines
+told_in r = None
+
+abbrev pub lines_of : Option (List Line) → List Line
+lines_of None = []
+lines_of (Some lines) = lines
+
+-- N WORDS: REPLY, and the lines of a command that is done, each behind two spaces
 unfoldable pub line_text : List HostPort → ℕ → Turn → Reply → List ℕ
-line_text names number t r = decimal number ++ codes " " ++ words_text names t ++ codes ": " ++ answer_text r ++ codes "\n"
+line_text names number t r = decimal number ++ codes " " ++ words_text names t ++ codes ": " ++ answer_text names r ++ codes "\n" ++ told_lines (codes "  ") names (lines_of (told_in r))
 
 -- a line for each turn with its reply, numbered from this number on
 abbrev pub lines_text : List HostPort → ℕ → List (Turn × Reply) → List ℕ
 lines_text names number [] = []
 lines_text names number (e ∷ es) = line_text names number e.0 e.1 ++ lines_text names (number + 1) es
+
+abbrev pub plain_by : List HostPort → Reply → Option (List Line) → List ℕ
+plain_by names r None = answer_text names r ++ codes "\n"
+plain_by names r (Some lines) = told_lines [] names lines
+
+-- what a single command writes of its reply: the lines of one that is done, else the reply
+unfoldable pub plain_text_of : List HostPort → Reply → List ℕ
+plain_text_of names r = plain_by names r (told_in r)

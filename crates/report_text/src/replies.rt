@@ -1,13 +1,17 @@
 //! The line of a turn with its reply.
 
-ghost use Rattle.std.specs.Prelude.{◌≡◌, ◌++◌, codes, decimal, OnOk, OnErr};
-ghost use Rattle.report_text.specs.Lines.{name_text, link_text, words_text, write_text, fetch_text, apply_text, rotate_text, answer_text, line_text};
+ghost use Rattle.std.specs.Prelude.{◌≡◌, ◌++◌, codes, decimal, option_map, OnOk, OnErr};
+ghost use Rattle.report_text.specs.Commands.{told_lines};
+ghost use Rattle.report_text.specs.Names.{name_text};
+ghost use Rattle.report_text.specs.Lines.{lines_of, plain_text_of, told_in, link_text, words_text, write_text, fetch_text, apply_text, rotate_text, answer_text, line_text};
 ghost use Rattle.binlog_coords.specs.Text.{coord_text};
 
+use crate::command::{print_command, print_refusal, print_told_lines};
+use crate::names::print_at_server;
 use crate::number::print_number;
 use binlog_coords::{Coord, print_coord};
 use orch_base::{Memory, Name, ServerNo};
-use orch_core::{Reply, Turn};
+use orch_core::{Line, Reply, Turn};
 use server_model::{ApplyAnswer, FetchAnswer, Link, RotateAnswer, WriteAnswer};
 
 // The word and the number.
@@ -16,28 +20,6 @@ fn print_counted(word: &[u8], number: u64, out: &mut Vec<u8>) -> Result<(), Memo
 {
     out.extend_from_slice(word)?;
     print_number(number, out)
-}
-
-fn print_name(names: &[Name], no: ServerNo, out: &mut Vec<u8>) -> Result<(), Memory>
-    ensures { OnOk result (out.new.items ≡ out.old.items ++ name_text names.now no) }
-{
-    match names.get(no.0 as usize) {
-        Some(name) => name.print(out),
-        None => Ok(()),
-    }
-}
-
-// The word, a space and the server's name.
-fn print_at_server(
-    word: &[u8],
-    names: &[Name],
-    no: ServerNo,
-    out: &mut Vec<u8>,
-) -> Result<(), Memory>
-    ensures { OnOk result (out.new.items ≡ out.old.items ++ (word.now ++ name_text names.now no)) }
-{
-    out.extend_from_slice(word)?;
-    print_name(names, no, out)
 }
 
 fn link_word(link: Link) -> &'static [u8]
@@ -95,6 +77,7 @@ fn print_words(t: &Turn, names: &[Name], out: &mut Vec<u8>) -> Result<(), Memory
         Turn::Tick(seconds) => print_counted(b"tick ", *seconds, out),
         Turn::PollRead(poller, no) => print_poll_read(*poller, names, *no, out),
         Turn::PollStore(poller) => print_counted(b"poll-store ", u64::from(*poller), out),
+        Turn::Command(held) => print_command(&held.as_turn().command, names, out),
         Turn::Restart => out.extend_from_slice(b"restart"),
     }
 }
@@ -163,8 +146,8 @@ fn print_between(before: &[u8], number: u64, after: &[u8], out: &mut Vec<u8>) ->
     out.extend_from_slice(after)
 }
 
-fn print_answer(r: &Reply, out: &mut Vec<u8>) -> Result<(), Memory>
-    ensures { OnOk result (out.new.items ≡ out.old.items ++ answer_text r.now) }
+fn print_answer(r: &Reply, names: &[Name], out: &mut Vec<u8>) -> Result<(), Memory>
+    ensures { OnOk result (out.new.items ≡ out.old.items ++ answer_text names.now r.now) }
 {
     match r {
         Reply::Write(answer) => print_write(answer, out),
@@ -179,6 +162,28 @@ fn print_answer(r: &Reply, out: &mut Vec<u8>) -> Result<(), Memory>
         Reply::Stored => out.extend_from_slice(b"stored"),
         Reply::Old(number) => print_counted(b"old ", *number, out),
         Reply::Nothing => out.extend_from_slice(b"nothing"),
+        Reply::Told(_) => out.extend_from_slice(b"done"),
+        Reply::Refused(refusal) => print_refusal(refusal, names, out),
+    }
+}
+
+// The lines of a command that is done.
+fn told_in(r: &Reply) -> Option<&[Line]>
+    ensures { option_map (λ lines. lines.now) result ≡ told_in r.now }
+{
+    match r {
+        Reply::Told(lines) => Some(lines.as_slice()),
+        _ => None,
+    }
+}
+
+// The lines of a command that is done, each behind two spaces.
+fn print_lines(r: &Reply, names: &[Name], out: &mut Vec<u8>) -> Result<(), Memory>
+    ensures { OnOk result (out.new.items ≡ out.old.items ++ told_lines (codes "  ") names.now (lines_of (told_in r.now))) }
+{
+    match told_in(r) {
+        Some(lines) => print_told_lines(b"  ", lines, names, out),
+        None => Ok(()),
     }
 }
 
@@ -196,12 +201,13 @@ fn print_line(
     out.extend_from_slice(b" ")?;
     print_words(t, names, out)?;
     out.extend_from_slice(b": ")?;
-    print_answer(r, out)?;
-    out.extend_from_slice(b"\n")
+    print_answer(r, names, out)?;
+    out.extend_from_slice(b"\n")?;
+    print_lines(r, names, out)
 }
 
-/// Appends the line of a turn with its reply: the number, the turn's words, `: ` and the reply; or nothing at want of
-/// memory. A server has its name in `names` by its number.
+/// Appends the line of a turn with its reply: the number, the turn's words, `: ` and the reply; and behind it the lines of a
+/// command that is done, each after two spaces; or nothing at want of memory. A server has its name in `names` by its number.
 pub fn reply_text(
     number: u64,
     t: &Turn,
@@ -215,4 +221,28 @@ pub fn reply_text(
     let mut line = Vec::new(*out.allocator());
     print_line(number, t, r, names, &mut line)?;
     out.append(&mut line)
+}
+
+#[tactic(auto, unfolding(crate::specs::Lines::plain_text_of))]
+fn print_plain(r: &Reply, names: &[Name], out: &mut Vec<u8>) -> Result<(), Memory>
+    ensures { OnOk result (out.new.items ≡ out.old.items ++ plain_text_of names.now r.now) }
+{
+    match told_in(r) {
+        Some(lines) => print_told_lines(b"", lines, names, out),
+        None => {
+            print_answer(r, names, out)?;
+            out.extend_from_slice(b"\n")
+        }
+    }
+}
+
+/// Appends what a single command writes of its reply: the lines of one that is done, else the reply's own line; or nothing at
+/// want of memory. A server has its name in `names` by its number.
+pub fn plain_text(r: &Reply, names: &[Name], out: &mut Vec<u8>) -> Result<(), Memory>
+    ensures ok { OnOk result (out.new.items ≡ out.old.items ++ plain_text_of names.now r.now) }
+    ensures err { OnErr result (out.new.items ≡ out.old.items) }
+{
+    let mut text = Vec::new(*out.allocator());
+    print_plain(r, names, &mut text)?;
+    out.append(&mut text)
 }

@@ -16,7 +16,8 @@ fn up_word(up: bool) -> &'static [u8]
     if up { b"up" } else { b"down" }
 }
 
-fn mode_word(read_only: bool) -> &'static [u8]
+/// Read-only or writable.
+pub(crate) fn mode_word(read_only: bool) -> &'static [u8]
     ensures { result.now ≡ mode_text read_only }
 {
     if read_only { b"ro" } else { b"rw" }

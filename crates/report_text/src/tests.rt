@@ -1,13 +1,19 @@
-use crate::reply_text;
+use crate::{plain_text, reply_text};
 use binlog_coords::Coord;
-use orch_base::{Moment, Name, ServerNo};
-use orch_core::{Reply, Turn};
+use orch_base::{Label, Moment, Name, ServerNo, Version};
+use orch_core::{
+    Command, CommandName, CommandTurn, HeldCommand, Keys, Line, Lines, Refusal, Reply, StateWord,
+    Turn,
+};
 use server_model::{ApplyAnswer, FetchAnswer, Link, RotateAnswer, WriteAnswer};
+use std::alloc::Global;
 use std::test::Fail;
 
 const M: ServerNo = ServerNo(0);
 
 const R: ServerNo = ServerNo(1);
+
+const S: ServerNo = ServerNo(2);
 
 const C: Coord = Coord { file: 2, pos: 304 };
 
@@ -181,5 +187,168 @@ fn an_older_reading_is_told_in_its_lines(rt: HostRuntime) -> Result<(), Fail> {
     let lines =
         "1 poll-read 1 m:3306: read 1\n2 fail m:3306: done\n3 poll-read 2 m:3306: read 2 unreachable\n4 poll-store 2: stored\n5 poll-store 1: old 2\n";
     assert_eq!(rt; str::from_utf8(&out).ok(), Some(lines));
+    Ok(())
+}
+
+fn command(
+    alloc: Global,
+    name: CommandName,
+    i: Option<ServerNo>,
+    d: Option<ServerNo>,
+) -> Result<Turn, Fail> {
+    let keys = Keys {
+        rule: None,
+        duration: None,
+        reason: None,
+        owner: None,
+        pattern: None,
+    };
+    let command = Command { name, i, d };
+    let held = HeldCommand::new(alloc, CommandTurn { command, keys })?;
+    Ok(Turn::Command(held))
+}
+
+#[test]
+fn a_refused_command_tells_no_lines(rt: HostRuntime) -> Result<(), Fail> {
+    let alloc = rt.alloc();
+    let names = vec![in alloc;
+        Name::read(alloc, "m")?,
+        Name::read(alloc, "r")?,
+        Name::read(alloc, "s")?,
+    ]?;
+    let cases = [
+        (
+            (CommandName::Topology, Some(M), None),
+            Refusal::UnknownInstance,
+            "topology m:3306",
+            "refused 2 UnknownInstance",
+        ),
+        (
+            (CommandName::Discover, Some(M), None),
+            Refusal::Unreachable(M),
+            "discover m:3306",
+            "refused 5 Unreachable m:3306",
+        ),
+        (
+            (CommandName::MoveBelow, Some(R), Some(S)),
+            Refusal::Unreachable(S),
+            "move-below r:3306 s:3306",
+            "refused 5 Unreachable s:3306",
+        ),
+    ];
+    for ((name, i, d), refusal, words, text) in cases {
+        let reply = Reply::Refused(refusal);
+        let mut out = Vec::new(alloc);
+        reply_text(3, &command(alloc, name, i, d)?, &reply, &names, &mut out)?;
+        plain_text(&reply, &names, &mut out)?;
+        let wanted = format!(in alloc; "3 command {words}: {text}\n{text}\n")?;
+        assert_eq!(rt; str::from_utf8(&out).ok(), Some(wanted.as_str()));
+    }
+    Ok(())
+}
+
+fn instance(depth: u32, no: ServerNo, state: StateWord, patch: u16, read_only: bool) -> Line {
+    let version = Version {
+        major: 8,
+        minor: 0,
+        patch,
+    };
+    Line::Instance {
+        depth,
+        no,
+        state,
+        version,
+        read_only,
+    }
+}
+
+#[test]
+fn each_line_is_told(rt: HostRuntime) -> Result<(), Fail> {
+    let alloc = rt.alloc();
+    let names = vec![in alloc;
+        Name::read(alloc, "m")?,
+        Name::read(alloc, "r")?,
+        Name::read(alloc, "s")?,
+    ]?;
+    let turn = command(alloc, CommandName::WhichMaster, Some(S), None)?;
+    let cases = [
+        (Line::Server(M), "m:3306"),
+        (Line::NoMaster, "none"),
+        (
+            instance(0, M, StateWord::Ok, 36, false),
+            "m:3306 [ok,8.0.36,rw]",
+        ),
+        (
+            instance(1, S, StateWord::Detached, 4, false),
+            "+ s:3306 [detached,8.0.4,rw]",
+        ),
+        (
+            instance(2, R, StateWord::Stopped, 36, true),
+            "  + r:3306 [stopped,8.0.36,ro]",
+        ),
+        (
+            instance(4, R, StateWord::Unreachable, 100, true),
+            "      + r:3306 [unreachable,8.0.100,ro]",
+        ),
+    ];
+    for (line, text) in cases {
+        let reply = Reply::Told(Lines::new(vec![in alloc; line]?));
+        let mut out = Vec::new(alloc);
+        reply_text(3, &turn, &reply, &names, &mut out)?;
+        plain_text(&reply, &names, &mut out)?;
+        let wanted = format!(in alloc; "3 command which-master s:3306: done\n  {text}\n{text}\n")?;
+        assert_eq!(rt; str::from_utf8(&out).ok(), Some(wanted.as_str()));
+    }
+    Ok(())
+}
+
+fn cluster(alloc: Global, label: &str) -> Result<Line, Fail> {
+    let label = String::from_str(alloc, label)?;
+    Ok(Line::Cluster(Label::new(label)))
+}
+
+#[test]
+fn all_lines_are_told_in_order(rt: HostRuntime) -> Result<(), Fail> {
+    let alloc = rt.alloc();
+    let names = vec![in alloc;
+        Name::read(alloc, "m")?,
+        Name::read(alloc, "r")?,
+        Name::read(alloc, "s")?,
+    ]?;
+    let tree = vec![in alloc;
+        instance(0, M, StateWord::Ok, 36, false),
+        instance(1, S, StateWord::Ok, 36, true),
+        instance(2, R, StateWord::Ok, 36, true),
+    ]?;
+    let clusters = vec![in alloc; cluster(alloc, "c1m:3306")?, cluster(alloc, "orders")?]?;
+    let cases = [
+        (
+            command(alloc, CommandName::Topology, Some(M), None)?,
+            tree,
+            "7 command topology m:3306: done\n  m:3306 [ok,8.0.36,rw]\n  + s:3306 [ok,8.0.36,ro]\n    + r:3306 [ok,8.0.36,ro]\n",
+            "m:3306 [ok,8.0.36,rw]\n+ s:3306 [ok,8.0.36,ro]\n  + r:3306 [ok,8.0.36,ro]\n",
+        ),
+        (
+            command(alloc, CommandName::Clusters, None, None)?,
+            clusters,
+            "7 command clusters: done\n  c1m:3306\n  orders\n",
+            "c1m:3306\norders\n",
+        ),
+        (
+            command(alloc, CommandName::WhichReplicas, Some(R), None)?,
+            Vec::new(alloc),
+            "7 command which-replicas r:3306: done\n",
+            "",
+        ),
+    ];
+    for (turn, lines, in_report, alone) in cases {
+        let reply = Reply::Told(Lines::new(lines));
+        let mut report = Vec::new(alloc);
+        reply_text(7, &turn, &reply, &names, &mut report)?;
+        let mut plain = Vec::new(alloc);
+        plain_text(&reply, &names, &mut plain)?;
+        assert_eq!(rt; str::from_utf8(&report).ok(), Some(in_report));
+        assert_eq!(rt; str::from_utf8(&plain).ok(), Some(alone));
+    }
     Ok(())
 }

@@ -1,0 +1,12 @@
+-- Servers' names by their numbers.
+use Rattle.std.specs.Prelude.{ℕ, List, [], slice_get, Option, Some, None}
+use Rattle.orch_base.specs.Names.{HostPort, printed}
+use Rattle.orch_base.specs.declared.server.ServerNo.{ServerNo}
+
+abbrev pub printed_at : Option HostPort → List ℕ
+printed_at None = []
+printed_at (Some name) = printed name
+
+-- the name of the server of this number
+abbrev pub name_text : List HostPort → ServerNo → List ℕ
+name_text names n = printed_at (slice_get names n.0)
