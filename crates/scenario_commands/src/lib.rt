@@ -3,9 +3,11 @@
 
 mod command;
 mod keys;
+mod laws;
 mod pattern;
 #[cfg(test)]
 mod tests;
 
 pub use command::command_in;
+pub use laws::read_commands_are_sound;
 pub use pattern::{found, printed_names};
