@@ -7,7 +7,7 @@ use Rattle.std.proofs.lemmas.List.Sums.{sum_by-cons}
 use Rattle.serde_json.specs.Data.{Data, Items, no_items, item}
 use Rattle.orch_base.specs.declared.server.ServerNo.{ServerNo}
 use Rattle.orch_base.specs.declared.source.TheConstants.{MAX_SCENARIO_LEN}
-use Rattle.orch_base.specs.Names.{HostPort}
+use Rattle.orch_base.specs.Names.{HostPort, printed}
 use Rattle.openings.specs.declared.init.ServerInit.{ServerInit}
 use Rattle.openings.specs.declared.opening.Flaw.{Flaw}
 use Rattle.openings.specs.Flaws.{flaw_in}
@@ -15,7 +15,8 @@ use Rattle.openings.specs.Opening.{Opened, opening, opening_or, IsListed, IsChec
 use Rattle.replication_laws.specs.Room.{is_write as adds}
 use Rattle.orch_core.specs.declared.scenario.Scenario.{Scenario}
 use Rattle.orch_core.specs.declared.turn.Turn.{Turn}
-use Rattle.orch_core.specs.declared.turn.Turn.TheVariants.{Write, Fetch, Apply, Fail, Heal, Cut, Join, Rotate, Tick, PollRead, PollStore, Restart}
+use Rattle.orch_core.specs.declared.turn.Turn.TheVariants.{Write, Fetch, Apply, Fail, Heal, Cut, Join, Rotate, Tick, PollRead, PollStore, Command, Restart}
+use Rattle.orch_core.specs.Commands.{IsCommand}
 use Rattle.orch_core.specs.Scenarios.{room_of, IsScenario}
 use Rattle.orch_core.specs.Turns.{exchange_of, makes, IsTurn}
 use Rattle.orch_core.proofs.Rooms.{room_of-counted}
@@ -34,13 +35,15 @@ use Rattle.scenario_servers.proofs.ServerSteps.{named-ok}
 use Rattle.scenario_servers.proofs.Steps.{same_Ok, bind-ok, holds-ok, under-ok, needed-ok, optional-ok, number-ok, each_from-length, each_from-all}
 use Rattle.scenario_filters.specs.Aliases.{aliases_in}
 use Rattle.scenario_filters.specs.Filters.{filters_in, no_filters, answered}
+use Rattle.scenario_commands.specs.Commands.{command_in}
+use Rattle.scenario_commands.proofs.Sound.{command-has}
 use Rattle.scenario_reader.specs.declared.head.Head.{Head}
 use Rattle.scenario_reader.specs.declared.expansion.ListedTurn.{ListedTurn}
 use Rattle.scenario_reader.specs.declared.expansion.ListedTurn.TheVariants.{One, Polls, Round}
 use Rattle.scenario_reader.specs.declared.word.Word.{Word}
 use Rattle.scenario_reader.specs.declared.word.Word.TheVariants as word
 use Rattle.scenario_reader.specs.Words.{word_at}
-use Rattle.scenario_reader.specs.Expansion.{in_order, expanded}
+use Rattle.scenario_reader.specs.Expansion.{server_names, printed_of, in_order, expanded}
 use Rattle.scenario_reader.specs.Turns.{one_of, two_of, link_in, poller_in, server_of, size_of, link_of, seconds_of, poll_of, poller_of, turn_by, alone, turn_of, turn_with, turn_from, turn_in}
 use Rattle.scenario_reader.specs.Scenarios.{json_in, one_in, is_write, keys_in, head_in, bounded, turns_in, scenario_with, scenario_from, scenario_in}
 use Rattle.scenario_reader.proofs.Expansions.{IsListedTurn, expanded-are}
@@ -115,36 +118,39 @@ alone-has : (count : ℕ) (turn : ListedTurn) (rest : Items) (t : ListedTurn) �
 alone-has count turn no_items t is e = subst (IsListedTurn count) (same_Ok turn t e) is
 alone-has count turn (item a rest) t is e = cc
 
-turn_of-has : (names : List (Option HostPort)) (w : Word) (rest : Items) (t : ListedTurn) → turn_of names w rest ≡ Ok t → IsListedTurn (length names) t
-turn_of-has names word.Write rest t e =
+turn_of-has : (names : List (Option HostPort)) (printed : List (List ℕ)) (w : Word) (rest : Items) (t : ListedTurn) → length printed ≡ length names → turn_of names printed w rest ≡ Ok t
+    → IsListedTurn (length names) t
+turn_of-has names printed word.Write rest t counts e =
     made-has (length names) (IsSized (length names)) (λ p. Write p.0 p.1) (size_of names rest) t (λ p is. (is.within, is.some, is.few)) (size-has names rest) e
-turn_of-has names word.Fetch rest t e = made-has (length names) (λ n. n.0 < length names) Fetch (server_of names rest) t (λ n is. is) (server-has names rest) e
-turn_of-has names word.Apply rest t e = made-has (length names) (λ n. n.0 < length names) Apply (server_of names rest) t (λ n is. is) (server-has names rest) e
-turn_of-has names word.Fail rest t e = made-has (length names) (λ n. n.0 < length names) Fail (server_of names rest) t (λ n is. is) (server-has names rest) e
-turn_of-has names word.Heal rest t e = made-has (length names) (λ n. n.0 < length names) Heal (server_of names rest) t (λ n is. is) (server-has names rest) e
-turn_of-has names word.Rotate rest t e = made-has (length names) (λ n. n.0 < length names) Rotate (server_of names rest) t (λ n is. is) (server-has names rest) e
-turn_of-has names word.Cut rest t e = made-has (length names) (λ p. p.0.0 < length names) (λ p. Cut p.0 p.1) (link_of names rest) t (λ p is. is) (link-has names rest) e
-turn_of-has names word.Join rest t e = made-has (length names) (λ p. p.0.0 < length names) (λ p. Join p.0 p.1) (link_of names rest) t (λ p is. is) (link-has names rest) e
-turn_of-has names word.Tick rest t e = made-has (length names) (λ n. n ≤ 1000000000) Tick (seconds_of rest) t (λ n is. is) (seconds-have rest) e
-turn_of-has names word.PollRead rest t e =
+turn_of-has names printed word.Fetch rest t counts e = made-has (length names) (λ n. n.0 < length names) Fetch (server_of names rest) t (λ n is. is) (server-has names rest) e
+turn_of-has names printed word.Apply rest t counts e = made-has (length names) (λ n. n.0 < length names) Apply (server_of names rest) t (λ n is. is) (server-has names rest) e
+turn_of-has names printed word.Fail rest t counts e = made-has (length names) (λ n. n.0 < length names) Fail (server_of names rest) t (λ n is. is) (server-has names rest) e
+turn_of-has names printed word.Heal rest t counts e = made-has (length names) (λ n. n.0 < length names) Heal (server_of names rest) t (λ n is. is) (server-has names rest) e
+turn_of-has names printed word.Rotate rest t counts e = made-has (length names) (λ n. n.0 < length names) Rotate (server_of names rest) t (λ n is. is) (server-has names rest) e
+turn_of-has names printed word.Cut rest t counts e = made-has (length names) (λ p. p.0.0 < length names) (λ p. Cut p.0 p.1) (link_of names rest) t (λ p is. is) (link-has names rest) e
+turn_of-has names printed word.Join rest t counts e = made-has (length names) (λ p. p.0.0 < length names) (λ p. Join p.0 p.1) (link_of names rest) t (λ p is. is) (link-has names rest) e
+turn_of-has names printed word.Tick rest t counts e = made-has (length names) (λ n. n ≤ 1000000000) Tick (seconds_of rest) t (λ n is. is) (seconds-have rest) e
+turn_of-has names printed word.PollRead rest t counts e =
     made-has (length names) (IsPoll (length names)) (λ p. PollRead p.0 p.1) (poll_of names rest) t (λ p is. (is.poller, is.within)) (poll-has names rest) e
-turn_of-has names word.PollStore rest t e = made-has (length names) (λ p. p < 64) PollStore (poller_of rest) t (λ p is. is) (poller-has rest) e
-turn_of-has names word.Polls rest t e = alone-has (length names) Polls rest t tt e
-turn_of-has names word.Round rest t e = alone-has (length names) Round rest t tt e
-turn_of-has names word.Restart rest t e = alone-has (length names) (One Restart) rest t tt e
+turn_of-has names printed word.PollStore rest t counts e = made-has (length names) (λ p. p < 64) PollStore (poller_of rest) t (λ p is. is) (poller-has rest) e
+turn_of-has names printed word.Polls rest t counts e = alone-has (length names) Polls rest t tt e
+turn_of-has names printed word.Round rest t counts e = alone-has (length names) Round rest t tt e
+turn_of-has names printed word.Command rest t counts e =
+    made-has (length names) (IsCommand (length names)) Command (command_in names printed rest) t (λ c is. is) (λ c f. command-has names printed rest c counts f) e
+turn_of-has names printed word.Restart rest t counts e = alone-has (length names) (One Restart) rest t tt e
 
-turn-has : (names : List (Option HostPort)) (d : Data) (t : ListedTurn) → turn_in names d ≡ Ok t → IsListedTurn (length names) t
+turn-has : (names : List (Option HostPort)) (printed : List (List ℕ)) (d : Data) (t : ListedTurn) → length printed ≡ length names → turn_in names printed d ≡ Ok t → IsListedTurn (length names) t
 unfolding turn_in turn_with
-turn-has names d t e =
-    let items = bind-ok (items_in d) (turn_from names) t e in
+turn-has names printed d t counts e =
+    let items = bind-ok (items_in d) (turn_from names printed) t e in
     go items.0 items.2
   where
-    go : (ds : Items) → turn_from names ds ≡ Ok t → IsListedTurn (length names) t
+    go : (ds : Items) → turn_from names printed ds ≡ Ok t → IsListedTurn (length names) t
     go no_items e = cc
     go (item first rest) e =
         let text = bind-ok (under_item 0 (text_in first)) _ t e in
         let w = bind-ok (word_at text.0) _ t text.2 in
-        turn_of-has names w.0 rest t w.2
+        turn_of-has names printed w.0 rest t counts w.2
 
 -- turns of so many servers, few of them, within the room of what is listed
 record AreTurns (servers : List ServerInit) (ts : List Turn) : Type 0 where
@@ -164,12 +170,19 @@ bounded-have servers made ts are e =
       room = leb-true _ 4000000 (holds-ok TooLarge _ small.0 small.1);
     })
 
+-- a printed name for each server
+printed_count : (servers : List ServerInit) → length (printed_of servers) ≡ length servers
+printed_count servers = length-map (server_names servers) printed ∙ length-map servers (λ (i : ServerInit). i.settings.name)
+
 turns-have : (names : List (Option HostPort)) (servers : List ServerInit) (items : Items) (ts : List Turn) → length names ≡ length servers → turns_in names servers items ≡ Ok ts → AreTurns servers ts
 unfolding turns_in
 turns-have names servers items ts count e =
-    let listed = bind-ok (under (codes "turns") (each (turn_in names) items)) _ ts e in
-    let ok : each (turn_in names) items ≡ Ok listed.0 = under-ok (codes "turns") _ listed.0 listed.1 in
-    let are : All (IsListedTurn (length names)) listed.0 = each_from-all (IsListedTurn (length names)) (λ n d. turn_in names d) (λ n d t f. turn-has names d t f) 0 items listed.0 ok in
+    let texts = printed_of servers in
+    let counts : length texts ≡ length names = printed_count servers ∙ sym count in
+    let listed = bind-ok (under (codes "turns") (each (turn_in names texts) items)) _ ts e in
+    let ok : each (turn_in names texts) items ≡ Ok listed.0 = under-ok (codes "turns") _ listed.0 listed.1 in
+    let are : All (IsListedTurn (length names)) listed.0 =
+    each_from-all (IsListedTurn (length names)) (λ n d. turn_in names texts d) (λ n d t f. turn-has names texts d t counts f) 0 items listed.0 ok in
     bounded-have servers (expanded (in_order servers) listed.0) ts
     (expanded-are (length servers) (in_order servers) (order_within servers) listed.0 (subst (λ n. All (IsListedTurn n) listed.0) count are))
     listed.2
@@ -258,6 +271,7 @@ adds-turn (Rotate n) = refl
 adds-turn (Tick seconds) = refl
 adds-turn (PollRead p n) = refl
 adds-turn (PollStore p) = refl
+adds-turn (Command c) = refl
 adds-turn Restart = refl
 
 written : (ts : List Turn) → count_by (λ t. makes adds (exchange_of t)) ts ≡ count_by is_write ts

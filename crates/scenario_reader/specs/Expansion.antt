@@ -1,8 +1,8 @@
 -- The turns that listed turns stand for.
-use Rattle.std.specs.Prelude.{◌++◌, ◌∷◌, List, [], map}
+use Rattle.std.specs.Prelude.{ℕ, ◌++◌, ◌∷◌, List, [], map}
 use Rattle.std.specs.List.{flat_map}
 use Rattle.orch_base.specs.declared.server.ServerNo.{ServerNo}
-use Rattle.orch_base.specs.Names.{HostPort}
+use Rattle.orch_base.specs.Names.{HostPort, printed}
 use Rattle.openings.specs.declared.init.ServerInit.{ServerInit}
 use Rattle.orch_core.specs.declared.turn.Turn.{Turn}
 use Rattle.orch_core.specs.declared.turn.Turn.TheVariants.{Fetch, Apply, PollRead, PollStore}
@@ -12,6 +12,10 @@ use Rattle.scenario_reader.specs.declared.expansion.ListedTurn.TheVariants.{One,
 
 abbrev pub server_names : List ServerInit → List HostPort
 server_names servers = map (λ i. i.settings.name) servers
+
+-- the servers' names as they are printed
+abbrev pub printed_of : List ServerInit → List (List ℕ)
+printed_of servers = map printed (server_names servers)
 
 -- the servers' numbers in the order of their names
 abbrev pub in_order : List ServerInit → List ServerNo

@@ -21,7 +21,7 @@ use Rattle.scenario_servers.specs.Openings.{inits_of, known_of, listed_count, is
 use Rattle.scenario_filters.specs.Aliases.{aliases_in}
 use Rattle.scenario_filters.specs.Filters.{filters_in, no_filters, answered}
 use Rattle.scenario_reader.specs.declared.head.Head.{Head}
-use Rattle.scenario_reader.specs.Expansion.{in_order, expanded}
+use Rattle.scenario_reader.specs.Expansion.{in_order, expanded, printed_of}
 use Rattle.scenario_reader.specs.Turns.{turn_in}
 
 -- ---- the text
@@ -84,7 +84,7 @@ bounded servers turns = do
 -- the turns that the listed ones stand for, each of which is read before they are counted
 unfoldable pub turns_in : List (Option HostPort) → List ServerInit → Items → Result (List Turn) Fault
 turns_in names servers items = do
-  listed ← under (codes "turns") (each (turn_in names) items)
+  listed ← under (codes "turns") (each (turn_in names (printed_of servers)) items)
   bounded servers (expanded (in_order servers) listed)
 
 -- the opening of the servers, and the turns over them

@@ -7,12 +7,13 @@ use Rattle.orch_base.specs.Names.{HostPort}
 use Rattle.server_model.specs.declared.changes.Link.{Link}
 use Rattle.server_model.specs.declared.changes.Link.TheVariants.{Desk, Feed}
 use Rattle.orch_core.specs.declared.turn.Turn.{Turn}
-use Rattle.orch_core.specs.declared.turn.Turn.TheVariants.{Write, Fetch, Apply, Fail, Heal, Cut, Join, Rotate, Tick, PollRead, PollStore, Restart}
+use Rattle.orch_core.specs.declared.turn.Turn.TheVariants.{Write, Fetch, Apply, Fail, Heal, Cut, Join, Rotate, Tick, PollRead, PollStore, Command, Restart}
 use Rattle.scenario_values.specs.declared.fault.Fault.{Fault}
 use Rattle.scenario_values.specs.declared.fault.FaultCode.TheVariants.{BadTurn, BadNumber}
 use Rattle.scenario_values.specs.Faults.{fails, under_item}
 use Rattle.scenario_values.specs.Values.{items_in, text_in, number_in}
 use Rattle.scenario_servers.specs.Names.{server_named}
+use Rattle.scenario_commands.specs.Commands.{command_in}
 use Rattle.scenario_reader.specs.declared.expansion.ListedTurn.{ListedTurn}
 use Rattle.scenario_reader.specs.declared.expansion.ListedTurn.TheVariants.{One, Polls, Round}
 use Rattle.scenario_reader.specs.declared.word.Word.{Word}
@@ -92,33 +93,34 @@ abbrev pub alone : ListedTurn → Items → Result ListedTurn Fault
 alone turn no_items = Ok turn
 alone turn _ = fails BadTurn
 
-abbrev pub turn_of : List (Option HostPort) → Word → Items → Result ListedTurn Fault
-turn_of names word.Write rest = turn_by (λ p. Write p.0 p.1) (size_of names rest)
-turn_of names word.Fetch rest = turn_by Fetch (server_of names rest)
-turn_of names word.Apply rest = turn_by Apply (server_of names rest)
-turn_of names word.Fail rest = turn_by Fail (server_of names rest)
-turn_of names word.Heal rest = turn_by Heal (server_of names rest)
-turn_of names word.Rotate rest = turn_by Rotate (server_of names rest)
-turn_of names word.Cut rest = turn_by (λ p. Cut p.0 p.1) (link_of names rest)
-turn_of names word.Join rest = turn_by (λ p. Join p.0 p.1) (link_of names rest)
-turn_of names word.Tick rest = turn_by Tick (seconds_of rest)
-turn_of names word.PollRead rest = turn_by (λ p. PollRead p.0 p.1) (poll_of names rest)
-turn_of names word.PollStore rest = turn_by PollStore (poller_of rest)
-turn_of names word.Polls rest = alone Polls rest
-turn_of names word.Round rest = alone Round rest
-turn_of names word.Restart rest = alone (One Restart) rest
+abbrev pub turn_of : List (Option HostPort) → List (List ℕ) → Word → Items → Result ListedTurn Fault
+turn_of names printed word.Write rest = turn_by (λ p. Write p.0 p.1) (size_of names rest)
+turn_of names printed word.Fetch rest = turn_by Fetch (server_of names rest)
+turn_of names printed word.Apply rest = turn_by Apply (server_of names rest)
+turn_of names printed word.Fail rest = turn_by Fail (server_of names rest)
+turn_of names printed word.Heal rest = turn_by Heal (server_of names rest)
+turn_of names printed word.Rotate rest = turn_by Rotate (server_of names rest)
+turn_of names printed word.Cut rest = turn_by (λ p. Cut p.0 p.1) (link_of names rest)
+turn_of names printed word.Join rest = turn_by (λ p. Join p.0 p.1) (link_of names rest)
+turn_of names printed word.Tick rest = turn_by Tick (seconds_of rest)
+turn_of names printed word.PollRead rest = turn_by (λ p. PollRead p.0 p.1) (poll_of names rest)
+turn_of names printed word.PollStore rest = turn_by PollStore (poller_of rest)
+turn_of names printed word.Polls rest = alone Polls rest
+turn_of names printed word.Round rest = alone Round rest
+turn_of names printed word.Command rest = turn_by Command (command_in names printed rest)
+turn_of names printed word.Restart rest = alone (One Restart) rest
 
-unfoldable pub turn_with : List (Option HostPort) → Data → Items → Result ListedTurn Fault
-turn_with names first rest = do
+unfoldable pub turn_with : List (Option HostPort) → List (List ℕ) → Data → Items → Result ListedTurn Fault
+turn_with names printed first rest = do
   text ← under_item 0 (text_in first)
   word ← word_at text
-  turn_of names word rest
+  turn_of names printed word rest
 
-abbrev pub turn_from : List (Option HostPort) → Items → Result ListedTurn Fault
-turn_from names no_items = fails BadTurn
-turn_from names (item first rest) = turn_with names first rest
+abbrev pub turn_from : List (Option HostPort) → List (List ℕ) → Items → Result ListedTurn Fault
+turn_from names printed no_items = fails BadTurn
+turn_from names printed (item first rest) = turn_with names printed first rest
 
-unfoldable pub turn_in : List (Option HostPort) → Data → Result ListedTurn Fault
-turn_in names d = do
+unfoldable pub turn_in : List (Option HostPort) → List (List ℕ) → Data → Result ListedTurn Fault
+turn_in names printed d = do
   items ← items_in d
-  turn_from names items
+  turn_from names printed items

@@ -6,7 +6,7 @@ use Rattle.scenario_values.specs.declared.fault.Fault.{Fault}
 use Rattle.scenario_values.specs.declared.fault.FaultCode.TheVariants.{BadTurn, NotBuilt}
 use Rattle.scenario_values.specs.Faults.{fails, is_key}
 use Rattle.scenario_reader.specs.declared.word.Word.{Word}
-use Rattle.scenario_reader.specs.declared.word.Word.TheVariants.{Write, Fetch, Apply, Fail, Heal, Rotate, Cut, Join, Tick, PollRead, PollStore, Polls, Round, Restart}
+use Rattle.scenario_reader.specs.declared.word.Word.TheVariants.{Write, Fetch, Apply, Fail, Heal, Rotate, Cut, Join, Tick, PollRead, PollStore, Polls, Round, Command, Restart}
 
 abbrev pub is_word : List ℕ → List ℕ → Bool
 is_word word text = pointwise nat_eq word text
@@ -33,7 +33,8 @@ poll_word text =
     else (if is_word (codes "polls") text then Some Polls
     else (if is_word (codes "round") text then Some Round
     else (if is_word (codes "restart") text then Some Restart
-    else None))))
+    else (if is_word (codes "command") text then Some Command
+    else None)))))
 
 -- the turns that are built
 abbrev pub built_word : List ℕ → Option Word
@@ -41,7 +42,7 @@ built_word text = option_or (server_word text) (poll_word text)
 
 -- the turns that aren't built yet
 abbrev pub unbuilt_words : List (List ℕ)
-unbuilt_words = codes "command" ∷ codes "job" ∷ codes "scan" ∷ []
+unbuilt_words = codes "job" ∷ codes "scan" ∷ []
 
 abbrev pub word_or_fails : List ℕ → Option Word → Result Word Fault
 word_or_fails text None = if is_key unbuilt_words text then fails NotBuilt else fails BadTurn

@@ -1,12 +1,13 @@
 //! What listed turns stand for.
 
 ghost use Rattle.std.specs.Prelude.{◌≡◌, ◌++◌, ◌≤◌, IfOk, OnOk, length, nat_le};
-ghost use Rattle.scenario_reader.specs.Expansion.{server_names, in_order, polls_of, steps_of, expansion_of, expanded};
+ghost use Rattle.scenario_reader.specs.Expansion.{printed_of, server_names, in_order, polls_of, steps_of, expansion_of, expanded};
 
 use name_order::in_name_order;
 use openings::ServerInit;
-use orch_base::{Memory, Name, ServerNo};
+use orch_base::{Label, Memory, Name, ServerNo};
 use orch_core::Turn;
+use scenario_commands::printed_names;
 use std::alloc::Global;
 
 /// A turn as a scenario lists it.
@@ -30,6 +31,14 @@ fn server_names(alloc: Global, servers: &[ServerInit]) -> Result<Vec<Name>, Memo
         names.push(server.settings.name.copy(alloc)?)?;
     }
     Ok(names)
+}
+
+/// The servers' names as they are printed.
+pub(crate) fn printed_of(alloc: Global, servers: &[ServerInit]) -> Result<Vec<Label>, Memory>
+    ensures { IfOk result (λ printed. printed.items ≡ printed_of servers.now) }
+{
+    let names = server_names(alloc, servers)?;
+    printed_names(alloc, &names)
 }
 
 /// The servers' numbers in the order of their names.

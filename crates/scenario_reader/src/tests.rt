@@ -1,4 +1,6 @@
 use crate::walk::read;
+use commands::CommandName;
+use instance_keeper::Rule;
 use orch_base::ServerNo;
 use orch_core::Turn;
 use scenario_values::{FaultCode, ReadFault};
@@ -125,7 +127,6 @@ fn turns_have_codes_and_paths(rt: HostRuntime) -> Result<(), Fail> {
         ("[]", FaultCode::BadTurn, "/turns/1"),
         ("[1]", FaultCode::BadType, "/turns/1/0"),
         (r#"["spin"]"#, FaultCode::BadTurn, "/turns/1"),
-        (r#"["command",1]"#, FaultCode::NotBuilt, "/turns/1"),
         (r#"["job"]"#, FaultCode::NotBuilt, "/turns/1"),
         (r#"["scan",1,2]"#, FaultCode::NotBuilt, "/turns/1"),
         (r#"["write","x"]"#, FaultCode::BadTurn, "/turns/1"),
@@ -169,6 +170,69 @@ fn turns_have_codes_and_paths(rt: HostRuntime) -> Result<(), Fail> {
         };
         assert_eq!(rt; found, code, "{turn}");
         assert_eq!(rt; str::from_utf8(&at).ok(), Some(path), "{turn}");
+    }
+    Ok(())
+}
+
+#[test]
+fn commands_have_codes_and_paths(rt: HostRuntime) -> Result<(), Fail> {
+    for (parts, code, path) in [
+        (r#""topology""#, FaultCode::BadTurn, "/turns/0"),
+        (r#""topology",{},{}"#, FaultCode::BadTurn, "/turns/0"),
+        ("1,1", FaultCode::BadType, "/turns/0/1"),
+        (r#""run",{}"#, FaultCode::BadCommand, "/turns/0/1"),
+        (r#""spin",1"#, FaultCode::BadCommand, "/turns/0/1"),
+        (r#""move-up",1"#, FaultCode::NotBuilt, "/turns/0/1"),
+        (r#""recover",{"i":"m"}"#, FaultCode::NotBuilt, "/turns/0/1"),
+        (r#""topology",["m"]"#, FaultCode::BadType, "/turns/0/2"),
+        (r#""topology",{}"#, FaultCode::BadCommand, "/turns/0/2"),
+        (r#""find",{"i":"m"}"#, FaultCode::BadCommand, "/turns/0/2"),
+        (
+            r#""topology",{"z":1,"a/b":1}"#,
+            FaultCode::UnknownKey,
+            "/turns/0/2/a~1b",
+        ),
+        (r#""forget",{"i":7}"#, FaultCode::BadType, "/turns/0/2/i"),
+        (r#""forget",{"i":":"}"#, FaultCode::BadName, "/turns/0/2/i"),
+        (
+            r#""forget",{"i":"m:3307"}"#,
+            FaultCode::UnknownName,
+            "/turns/0/2/i",
+        ),
+        (
+            r#""forget",{"i":"m","d":"r"}"#,
+            FaultCode::UnknownName,
+            "/turns/0/2/d",
+        ),
+        (
+            r#""clusters",{"rule":"must"}"#,
+            FaultCode::BadNumber,
+            "/turns/0/2/rule",
+        ),
+        (
+            r#""clusters",{"duration":60}"#,
+            FaultCode::BadType,
+            "/turns/0/2/duration",
+        ),
+        (
+            r#""clusters",{"duration":"31536001"}"#,
+            FaultCode::BadNumber,
+            "/turns/0/2/duration",
+        ),
+        (
+            r#""find",{"pattern":"("}"#,
+            FaultCode::BadPattern,
+            "/turns/0/2/pattern",
+        ),
+    ] {
+        let text = format!(in rt.alloc();
+            "{{\"version\":1,\"servers\":[{{\"name\":\"m\"}}],\"turns\":[[\"command\",{parts}],1]}}"
+        )?;
+        let Some((found, at)) = fault_in(rt.alloc(), text.as_bytes()) else {
+            panic!(rt; "{parts}");
+        };
+        assert_eq!(rt; found, code, "{parts}");
+        assert_eq!(rt; str::from_utf8(&at).ok(), Some(path), "{parts}");
     }
     Ok(())
 }
@@ -221,16 +285,51 @@ fn every_key_is_read(rt: HostRuntime) -> Result<(), Fail> {
     Ok(())
 }
 
-// The turns of polls over these servers.
-fn polls(first: ServerNo, second: ServerNo, third: ServerNo) -> [Turn; 6] {
-    [
-        Turn::PollRead(0, first),
-        Turn::PollStore(0),
-        Turn::PollRead(0, second),
-        Turn::PollStore(0),
-        Turn::PollRead(0, third),
-        Turn::PollStore(0),
-    ]
+#[test]
+fn a_command_has_what_it_is_given(rt: HostRuntime) -> Result<(), Fail> {
+    let text = r#"{
+        "version": 1, "servers": [{"name": "m"}, {"name": "r:3307", "source": "m"}],
+        "turns": [["command", "find", {"pattern": "3307$", "owner": "me", "reason": "why", "duration": "2h",
+            "rule": "prefer_not", "d": "m:3306", "i": "r:3307"}], ["command", "clusters", {}]]
+    }"#;
+    let Ok(scenario) = read(rt.alloc(), text.as_bytes()) else {
+        panic!(rt; "not read");
+    };
+    let [Turn::Command(find), Turn::Command(clusters)] = scenario.turns.as_slice() else {
+        panic!(rt; "other turns");
+    };
+    let find = find.as_turn();
+    assert_eq!(rt; find.command.name, CommandName::Find);
+    assert_eq!(rt;
+        (find.command.i, find.command.d),
+        (Some(ServerNo(1)), Some(ServerNo(0)))
+    );
+    assert_eq!(rt;
+        (find.keys.rule, find.keys.duration),
+        (Some(Rule::PreferNot), Some(7_200))
+    );
+    assert_eq!(rt; find.keys.reason.as_ref().map(|r| r.as_str()), Some("why"));
+    assert_eq!(rt; find.keys.owner.as_ref().map(|o| o.as_str()), Some("me"));
+    let Some(pattern) = &find.keys.pattern else {
+        panic!(rt; "no pattern");
+    };
+    assert_eq!(rt; pattern.answers.as_slice(), [false, true].as_slice());
+    let clusters = clusters.as_turn();
+    assert_eq!(rt; clusters.command.name, CommandName::Clusters);
+    assert!(rt; clusters.command.i.is_none() && clusters.keys.pattern.is_none());
+    Ok(())
+}
+
+// What a turn says of these.
+fn shown(alloc: Global, turn: &Turn) -> Result<String, Fail> {
+    Ok(match turn {
+        Turn::Fetch(no) => format!(in alloc; "fetch {}", no.0)?,
+        Turn::Apply(no) => format!(in alloc; "apply {}", no.0)?,
+        Turn::PollRead(poller, no) => format!(in alloc; "read {poller} {}", no.0)?,
+        Turn::PollStore(poller) => format!(in alloc; "store {poller}")?,
+        Turn::Restart => String::from_str(alloc, "restart")?,
+        _ => String::new(alloc),
+    })
 }
 
 #[test]
@@ -239,32 +338,37 @@ fn polls_and_rounds_stand_for_turns_in_name_order(rt: HostRuntime) -> Result<(),
         "version": 1, "servers": [{"name": "a:10"}, {"name": "b:1"}, {"name": "a:2"}],
         "turns": [["polls"], ["restart"], ["round"], ["poll-read", 63, "b:1"], ["poll-store", 63]]
     }"#;
-    let scenario = match read(rt.alloc(), text.as_bytes()) {
-        Ok(scenario) => scenario,
-        Err(_) => panic!(rt; "not read"),
+    let Ok(scenario) = read(rt.alloc(), text.as_bytes()) else {
+        panic!(rt; "not read");
     };
-    let (first, second, third) = (ServerNo(2), ServerNo(0), ServerNo(1));
     let turns = scenario.turns.as_slice();
-    assert_eq!(rt; turns.len(), 21);
-    assert_eq!(rt; &turns[..6], polls(first, second, third).as_slice());
-    assert_eq!(rt; turns[6], Turn::Restart);
-    assert_eq!(rt;
-        &turns[7..13],
-        [
-            Turn::Fetch(first),
-            Turn::Apply(first),
-            Turn::Fetch(second),
-            Turn::Apply(second),
-            Turn::Fetch(third),
-            Turn::Apply(third)
-        ]
-        .as_slice()
-    );
-    assert_eq!(rt; &turns[13..19], polls(first, second, third).as_slice());
-    assert_eq!(rt;
-        &turns[19..],
-        [Turn::PollRead(63, third), Turn::PollStore(63)].as_slice()
-    );
+    let wanted = [
+        "read 0 2",
+        "store 0",
+        "read 0 0",
+        "store 0",
+        "read 0 1",
+        "store 0",
+        "restart",
+        "fetch 2",
+        "apply 2",
+        "fetch 0",
+        "apply 0",
+        "fetch 1",
+        "apply 1",
+        "read 0 2",
+        "store 0",
+        "read 0 0",
+        "store 0",
+        "read 0 1",
+        "store 0",
+        "read 63 1",
+        "store 63",
+    ];
+    assert_eq!(rt; turns.len(), wanted.len());
+    for (turn, want) in turns.iter().zip(wanted) {
+        assert_eq!(rt; shown(rt.alloc(), turn)?.as_str(), want);
+    }
     Ok(())
 }
 

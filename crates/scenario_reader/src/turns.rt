@@ -6,13 +6,15 @@ ghost use Rattle.serde_json.specs.View.{view, items_view};
 ghost use Rattle.scenario_values.specs.Faults.{fault_of, under_item, each};
 ghost use Rattle.scenario_values.specs.Values.{text_in, number_in};
 ghost use Rattle.scenario_servers.specs.Names.{server_named};
-ghost use Rattle.orch_core.specs.declared.turn.Turn.TheVariants.{Write, Cut, Join, PollRead};
+ghost use Rattle.orch_core.specs.declared.turn.Turn.TheVariants.{Write, Cut, Join, PollRead, Command};
+ghost use Rattle.scenario_commands.specs.Commands.{command_in};
 ghost use Rattle.scenario_reader.specs.Turns.{link_in, poller_in, one_of, two_of, server_of, size_of, link_of, seconds_of, poll_of, poller_of, turn_by, alone, turn_of, turn_with, turn_from, turn_in};
 
 use crate::expansion::ListedTurn;
 use crate::word::{Word, is_word, word_at};
-use orch_base::ServerNo;
-use orch_core::Turn;
+use orch_base::{Label, ServerNo};
+use orch_core::{HeldCommand, Turn};
+use scenario_commands::command_in;
 use scenario_servers::{Names, server_named};
 use scenario_values::{FaultCode, ReadFault, fails, items_in, number_in, text_in, under_item};
 use serde_json::Value;
@@ -197,9 +199,21 @@ fn alone(alloc: Global, turn: ListedTurn, rest: &[Value]) -> Result<ListedTurn, 
     }
 }
 
+fn command_of(
+    alloc: Global,
+    names: &Names,
+    printed: &[Label],
+    rest: &[Value],
+) -> Result<ListedTurn, ReadFault>
+    ensures { Gives (λ t. t) fault_of result (turn_by Command (command_in names.now printed.now (items_view rest.now))) }
+{
+    let command = command_in(alloc, names, printed, rest)?;
+    Ok(ListedTurn::One(Turn::Command(HeldCommand::new(alloc, command)?)))
+}
+
 #[rattlefmt::skip]
-fn turn_of(alloc: Global, names: &Names, word: Word, rest: &[Value]) -> Result<ListedTurn, ReadFault>
-    ensures { Gives (λ t. t) fault_of result (turn_of names.now word (items_view rest.now)) }
+fn turn_of(alloc: Global, names: &Names, printed: &[Label], word: Word, rest: &[Value]) -> Result<ListedTurn, ReadFault>
+    ensures { Gives (λ t. t) fault_of result (turn_of names.now printed.now word (items_view rest.now)) }
 {
     match word {
         Word::Write => write_of(alloc, names, rest),
@@ -215,6 +229,7 @@ fn turn_of(alloc: Global, names: &Names, word: Word, rest: &[Value]) -> Result<L
         Word::PollStore => Ok(ListedTurn::One(Turn::PollStore(poller_of(alloc, rest)?))),
         Word::Polls => alone(alloc, ListedTurn::Polls, rest),
         Word::Round => alone(alloc, ListedTurn::Round, rest),
+        Word::Command => command_of(alloc, names, printed, rest),
         Word::Restart => alone(alloc, ListedTurn::One(Turn::Restart), rest),
     }
 }
@@ -223,43 +238,55 @@ fn turn_of(alloc: Global, names: &Names, word: Word, rest: &[Value]) -> Result<L
 fn turn_with(
     alloc: Global,
     names: &Names,
+    printed: &[Label],
     first: &Value,
     rest: &[Value],
 ) -> Result<ListedTurn, ReadFault>
-    ensures { Gives (λ t. t) fault_of result (turn_with names.now (view first.now) (items_view rest.now)) }
+    ensures { Gives (λ t. t) fault_of result (turn_with names.now printed.now (view first.now) (items_view rest.now)) }
 {
     let text = text_at(alloc, first)?;
     let word = word_at(alloc, text)?;
-    turn_of(alloc, names, word, rest)
+    turn_of(alloc, names, printed, word, rest)
 }
 
-fn turn_from(alloc: Global, names: &Names, items: &[Value]) -> Result<ListedTurn, ReadFault>
-    ensures { Gives (λ t. t) fault_of result (turn_from names.now (items_view items.now)) }
+fn turn_from(
+    alloc: Global,
+    names: &Names,
+    printed: &[Label],
+    items: &[Value],
+) -> Result<ListedTurn, ReadFault>
+    ensures { Gives (λ t. t) fault_of result (turn_from names.now printed.now (items_view items.now)) }
 {
     match items.split_first() {
-        Some((first, rest)) => turn_with(alloc, names, first, rest),
+        Some((first, rest)) => turn_with(alloc, names, printed, first, rest),
         None => Err(fails(alloc, FaultCode::BadTurn)),
     }
 }
 
 #[tactic(auto, unfolding(crate::specs::Turns::turn_in))]
-fn turn_in(alloc: Global, names: &Names, value: &Value) -> Result<ListedTurn, ReadFault>
-    ensures { Gives (λ t. t) fault_of result (turn_in names.now (view value.now)) }
+fn turn_in(
+    alloc: Global,
+    names: &Names,
+    printed: &[Label],
+    value: &Value,
+) -> Result<ListedTurn, ReadFault>
+    ensures { Gives (λ t. t) fault_of result (turn_in names.now printed.now (view value.now)) }
 {
     let items = items_in(alloc, value)?;
-    turn_from(alloc, names, items)
+    turn_from(alloc, names, printed, items)
 }
 
 #[tactic(auto, using(scenario_values::proofs::Unders::gives_under))]
 fn turn_at(
     alloc: Global,
     names: &Names,
+    printed: &[Label],
     number: usize,
     value: &Value,
 ) -> Result<ListedTurn, ReadFault>
-    ensures { Gives (λ t. t) fault_of result (under_item number (turn_in names.now (view value.now))) }
+    ensures { Gives (λ t. t) fault_of result (under_item number (turn_in names.now printed.now (view value.now))) }
 {
-    under_item(alloc, number, turn_in(alloc, names, value))
+    under_item(alloc, number, turn_in(alloc, names, printed, value))
 }
 
 /// Each turn in order. A turn that isn't known or has another number of parts is `BadTurn` at the turn, one that isn't
@@ -267,13 +294,14 @@ fn turn_at(
 pub(crate) fn each_turn(
     alloc: Global,
     names: &Names,
+    printed: &[Label],
     items: &[Value],
 ) -> Result<Vec<ListedTurn>, ReadFault>
-    ensures { Gives (λ v. v.items) fault_of result (each (turn_in names.now) (items_view items.now)) }
+    ensures { Gives (λ v. v.items) fault_of result (each (turn_in names.now printed.now) (items_view items.now)) }
 {
     let mut turns = Vec::new(alloc);
     for (number, value) in items.iter().enumerate() {
-        turns.push(turn_at(alloc, names, number, value)?)?;
+        turns.push(turn_at(alloc, names, printed, number, value)?)?;
     }
     Ok(turns)
 }

@@ -16,11 +16,11 @@ ghost use Rattle.scenario_reader.specs.Expansion.{expanded};
 ghost use Rattle.scenario_reader.specs.Turns.{turn_in};
 ghost use Rattle.scenario_reader.specs.Scenarios.{json_in, is_write, bounded, turns_in, scenario_with, scenario_from, scenario_in};
 
-use crate::expansion::{ListedTurn, are_few, expanded, in_order};
+use crate::expansion::{ListedTurn, are_few, expanded, in_order, printed_of};
 use crate::head::{Head, head_in, keys_in};
 use crate::turns::each_turn;
 use openings::ServerInit;
-use orch_base::{MAX_SCENARIO_LEN, Moment, ServerNo};
+use orch_base::{Label, MAX_SCENARIO_LEN, Moment, ServerNo};
 use orch_core::{Answers, Scenario, Turn, Turns};
 use scenario_filters::answered;
 use scenario_servers::{Listed, Names, inits_of, known_of, listed_count, opening_in, servers_in};
@@ -30,13 +30,22 @@ use std::alloc::Global;
 
 const MOST: u64 = 4_000_000;
 
+fn is_write(turn: &Turn) -> bool
+    ensures { result ≡ is_write turn.now }
+{
+    matches!(turn, Turn::Write(_, _))
+}
+
 fn writes(turns: &[Turn]) -> usize
     ensures { result ≡ count_by is_write turns.now }
 {
-    turns
-        .iter()
-        .filter(|turn| matches!(turn, Turn::Write(_, _)))
-        .count()
+    let mut count = 0;
+    for turn in turns {
+        if is_write(turn) {
+            count += 1;
+        }
+    }
+    count
 }
 
 // Whether the servers times the transactions that they list and the turns write are at most 4,000,000.
@@ -51,11 +60,16 @@ fn is_small(servers: &[ServerInit], turns: &[Turn]) -> bool
 }
 
 #[tactic(auto, using(scenario_values::proofs::Unders::gives_under))]
-fn turns_at(alloc: Global, names: &Names, items: &[Value]) -> Result<Vec<ListedTurn>, ReadFault>
+fn turns_at(
+    alloc: Global,
+    names: &Names,
+    printed: &[Label],
+    items: &[Value],
+) -> Result<Vec<ListedTurn>, ReadFault>
     ensures { Gives (λ v. v.items) fault_of result
-        (place_under (codes "turns") (each (turn_in names.now) (items_view items.now))) }
+        (place_under (codes "turns") (each (turn_in names.now printed.now) (items_view items.now))) }
 {
-    under(alloc, b"turns", each_turn(alloc, names, items))
+    under(alloc, b"turns", each_turn(alloc, names, printed, items))
 }
 
 // The turns that the listed ones stand for, where they are not too many.
@@ -86,7 +100,8 @@ fn turns_in(
     requires { length servers.now ≤ 1000 }
     ensures { Gives (λ t. t) fault_of result (turns_in names.now servers.now (items_view items.now)) }
 {
-    let listed = turns_at(alloc, names, items)?;
+    let printed = printed_of(alloc, servers)?;
+    let listed = turns_at(alloc, names, &printed, items)?;
     let ordered = in_order(alloc, servers)?;
     let turns = bounded(alloc, servers, &ordered, listed)?;
     Ok(Turns::new(turns))

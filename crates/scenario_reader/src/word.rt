@@ -24,6 +24,7 @@ pub enum Word {
     PollStore,
     Polls,
     Round,
+    Command,
     Restart,
 }
 
@@ -86,6 +87,9 @@ fn poll_word(text: &str) -> Option<Word>
     if is_word("restart", text) {
         return Some(Word::Restart);
     }
+    if is_word("command", text) {
+        return Some(Word::Command);
+    }
     None
 }
 
@@ -99,7 +103,7 @@ fn built_word(text: &str) -> Option<Word>
 fn is_unbuilt(text: &str) -> bool
     ensures { result ≡ is_key unbuilt_words text.now }
 {
-    ["command", "job", "scan"].contains(&text)
+    ["job", "scan"].contains(&text)
 }
 
 /// The word of a turn that is built. That of another turn of the format is `NotBuilt`, and any other text `BadTurn`.
