@@ -1,21 +1,34 @@
 -- How a call ends.
-use Rattle.std.specs.Prelude.{◌≡◌, ℕ, ◌⊎◌, ◌==◌, List, [], codes, if◌then◌else◌, true, take, Option, Some, Ok, Err}
+use Rattle.std.specs.Prelude.{◌≡◌, ℕ, ◌⊎◌, ◌==◌, ◌++◌, List, [], codes, if◌then◌else◌, length, slice_get, take, Option, Some, Result, Ok, Err}
 use Rattle.std.specs.Io.KnownBytes.{Appends}
 use Rattle.server_model.specs.Safe.{Safe, Placed, IsQuiet}
 use Rattle.instance_keeper.specs.declared.row.Row.{Row}
 use Rattle.orch_base.specs.Causes.{Rose}
 use Rattle.orch_base.specs.Ends.{AppendsFront}
 use Rattle.orch_core.specs.declared.scenario.Scenario.{Scenario}
+use Rattle.commands.specs.declared.refusal.Refusal.{Refusal}
+use Rattle.commands.specs.declared.turn.CommandTurn.{CommandTurn}
+use Rattle.orch_core.specs.declared.turn.Reply.TheVariants as answered
 use Rattle.orch_core.specs.declared.turn.Turn.{Turn}
-use Rattle.orch_core.specs.Runs.{run_turns, turns_of}
-use Rattle.orch_core.specs.Scenarios.{start}
+use Rattle.orch_core.specs.declared.turn.Turn.TheVariants as turn
+use Rattle.orch_core.specs.Permission.{IsAnswer, joined, refusal_for}
+use Rattle.orch_core.specs.Polls.{changes_of}
+use Rattle.orch_core.specs.Replies.{reply_of}
+use Rattle.orch_core.specs.Runs.{run_turns, step, turns_of}
+use Rattle.orch_core.specs.States.{State}
+use Rattle.orch_core.specs.Scenarios.{names_of, start}
 use Rattle.scenario_values.specs.declared.fault.Fault.{Fault}
-use Rattle.orch_cli.specs.Report.{Answer, last_held, run_answer, waits}
-use Rattle.orch_cli.specs.Stops.{KeepsSome, WasCut}
+use Rattle.command_line.specs.declared.parts.Places.{Places}
+use Rattle.command_line.specs.declared.usage.Usage.{Usage}
+use Rattle.command_line.specs.declared.usage.Usage.TheVariants.{BadWords}
+use Rattle.command_line.specs.Places.{places_of}
+use Rattle.command_tasks.specs.Own.{task_of, turns_taken}
+use Rattle.task_reports.specs.Report.{Answer, last_held}
+use Rattle.task_reports.specs.Tellings.{KeepsSome, WasCut}
+use Rattle.orch_cli.specs.Report.{read_answer}
 use Rattle.scenario_reader.specs.Scenarios.{scenario_in}
-use Rattle.orch_cli.specs.Words.{is_taken}
 
--- the answer has a report
+-- it is a report
 abbrev pub IsRun : Answer → Type 0
 IsRun a = (a.status ≡ 0) ⊎ (a.status ≡ 7)
 
@@ -24,10 +37,20 @@ IsRun a = (a.status ≡ 0) ⊎ (a.status ≡ 7)
 abbrev pub EndsAs : Answer → ℕ → Type 0
 EndsAs a status = (status ≡ a.status) ⊎ (status ≡ 3) ⊎ ((status ≡ 4) × IsRun a) ⊎ ((status ≡ 5) × IsRun a) ⊎ (status ≡ 6)
 
--- 2 exactly where words that are taken come with bytes that have a fault, unless the source failed or memory ran out
-pub record FaultsAs (words : List (List ℕ)) (bytes : List ℕ) (status : ℕ) : Type 0 where
-  pub only : status ≡ 2 → (is_taken words ≡ true) × ((f : Fault) × (scenario_in bytes ≡ Err f))
-  pub always : (f : Fault) → is_taken words ≡ true → scenario_in bytes ≡ Err f → (status ≡ 2) ⊎ (status ≡ 3) ⊎ (status ≡ 6)
+-- 1 only where the words aren't taken, and always there, but for want of memory while they are read
+pub record IsUsage (words : List (List ℕ)) (status : ℕ) : Type 0 where
+  pub only : status ≡ 1 → places_of words ≡ Err BadWords
+  pub always : places_of words ≡ Err BadWords → (status ≡ 1) ⊎ (status ≡ 6)
+
+-- 2 exactly where the bytes have a fault, unless the source failed or memory ran out
+pub record FaultsBy (bytes : List ℕ) (status : ℕ) : Type 0 where
+  pub only : status ≡ 2 → (f : Fault) × (scenario_in bytes ≡ Err f)
+  pub always : (f : Fault) → scenario_in bytes ≡ Err f → (status ≡ 2) ⊎ (status ≡ 3) ⊎ (status ≡ 6)
+
+-- so it is where the words are taken, and elsewhere it isn't 2
+abbrev pub FaultsAs : Result Places Usage → List ℕ → ℕ → Type 0
+FaultsAs (Ok p) bytes status = FaultsBy bytes status
+FaultsAs (Err usage) bytes status = status ≡ 2 → ⊥
 
 -- the line on err
 abbrev pub err_of : Answer → ℕ → List ℕ
@@ -46,6 +69,13 @@ cut_line status = if status == 4 then codes "write fault\n" else codes "keeper f
 abbrev pub Took : Option (List ℕ) → Option (List ℕ) → ℕ → ℕ → List ℕ → Type 0
 Took before after faults_before faults_after bytes = Appends before after bytes ⊎ (Rose faults_before faults_after × AppendsFront before after bytes)
 
+-- Err took the line of the status. Where a sink failed on which a report was to be written, it took a front of a refusal before
+-- that line.
+abbrev pub TookErr : Answer → ℕ → Option (List ℕ) → Option (List ℕ) → ℕ → ℕ → Type 0
+TookErr a status before after faults_before faults_after =
+    Took before after faults_before faults_after (err_of a status)
+    ⊎ ((status ≡ 4) × ((n : ℕ) × Took before after faults_before faults_after (take n a.err ++ codes "write fault\n")))
+
 -- Out took the answer's bytes whole where the call ends with its status, a front of them where a sink or the keeper failed,
 -- else nothing.
 pub record WritesOut (a : Answer) (status : ℕ) (before after : Option (List ℕ)) : Type 0 where
@@ -55,29 +85,69 @@ pub record WritesOut (a : Answer) (status : ℕ) (before after : Option (List �
 
 -- After a keeper's fault out took exactly the replies before the turn that met it, and the keeper has the rows of the state
 -- before that turn; or there was no run yet.
-abbrev pub IsCut : List ℕ → List Row → Option (List Row) → (before after : Option (List ℕ)) → Type 0
-IsCut bytes rows kept before after =
-    (s : Scenario) × (scenario_in bytes ≡ Ok s) × ((text : List ℕ) × WasCut s rows kept text × Appends before after text)
+abbrev pub IsCut : Places → List ℕ → List Row → Option (List Row) → (before after : Option (List ℕ)) → Type 0
+IsCut p bytes rows kept before after =
+    (s : Scenario) × (scenario_in bytes ≡ Ok s) × ((text : List ℕ) × WasCut (task_of p (names_of s)) s rows kept text × Appends before after text)
 
 -- What the keeper has after a call: the rows of the last state of a run that is reported, the rows of one of its states or
 -- those of before where something failed, and those of before where nothing was run.
-pub record Keeps (bytes : List ℕ) (rows : List Row) (kept : Option (List Row)) (status : ℕ) : Type 0 where
+pub record Keeps (p : Places) (bytes : List ℕ) (rows : List Row) (kept : Option (List Row)) (status : ℕ) : Type 0 where
   pub idle : (status ≡ 1) ⊎ (status ≡ 2) ⊎ (status ≡ 3) → kept ≡ Some rows
-  pub last : (s : Scenario) → scenario_in bytes ≡ Ok s → (status ≡ 0) ⊎ (status ≡ 7) → kept ≡ Some (last_held s rows).rows
-  pub some : (kept ≡ Some rows) ⊎ ((s : Scenario) × (scenario_in bytes ≡ Ok s) × KeepsSome s rows kept)
+  pub last : (s : Scenario) → scenario_in bytes ≡ Ok s → (status ≡ 0) ⊎ (status ≡ 7) → kept ≡ Some (last_held (task_of p (names_of s)) s rows).rows
+  pub some : (kept ≡ Some rows) ⊎ ((s : Scenario) × (scenario_in bytes ≡ Ok s) × KeepsSome (task_of p (names_of s)) s rows kept)
 
--- Where the bytes are read as a scenario and neither the source, the keeper nor out fails, the whole report is written with
--- its status, or memory ran out.
-abbrev pub IsComplete : List (List ℕ) → List ℕ → List Row → (status source_before source_after keeper_before keeper_after out_before out_after : ℕ)
-    → (before after : Option (List ℕ)) → Type 0
-IsComplete words bytes rows status source_before source_after keeper_before keeper_after out_before out_after before after =
-    (s : Scenario) → is_taken words ≡ true → scenario_in bytes ≡ Ok s
-    → ¬ (Rose source_before source_after) → ¬ (Rose keeper_before keeper_after) → ¬ (Rose out_before out_after)
-    → ((status ≡ (run_answer s rows).status) × Appends before after (run_answer s rows).out) ⊎ (status ≡ 6)
+-- how a call ends whose words are taken, by the bytes and the kept rows
+pub record EndsBy (p : Places) (bytes : List ℕ) (rows : List Row) (kept : Option (List Row)) (status : ℕ) (out_before out_after err_before err_after : Option (List ℕ)) (faults_before faults_after : ℕ) : Type 0 where
+  pub status_is : EndsAs (read_answer p (scenario_in bytes) rows) status
+  pub out : WritesOut (read_answer p (scenario_in bytes) rows) status out_before out_after
+  pub err : TookErr (read_answer p (scenario_in bytes) rows) status err_before err_after faults_before faults_after
+  pub cut : status ≡ 5 → IsCut p bytes rows kept out_before out_after
+  pub keeps : Keeps p bytes rows kept status
 
--- every quiet state of every run of the turns of the scenario that these bytes are is safe, and every state is placed,
--- whatever rows the keeper hands back at the opening and at each turn
-abbrev pub IsSafeRun : List ℕ → Type 0
-IsSafeRun bytes = (s : Scenario) (rows : List Row) (xs : List (List Row × Turn)) (k : ℕ) → scenario_in bytes ≡ Ok s → turns_of xs ≡ take k s.turns
-    → (IsQuiet (run_turns (start s waits rows) xs).world → Safe (run_turns (start s waits rows) xs).world)
-    × Placed (run_turns (start s waits rows) xs).world
+-- after a keeper's fault, which comes only where the words are taken
+abbrev pub CutBy : Result Places Usage → List ℕ → List Row → Option (List Row) → (before after : Option (List ℕ)) → Type 0
+CutBy (Ok p) bytes rows kept before after = IsCut p bytes rows kept before after
+CutBy (Err usage) bytes rows kept before after = ⊥
+
+-- what the keeper has; where the words aren't taken, what it had
+abbrev pub KeepsBy : Result Places Usage → List ℕ → List Row → Option (List Row) → ℕ → Type 0
+KeepsBy (Ok p) bytes rows kept status = Keeps p bytes rows kept status
+KeepsBy (Err usage) bytes rows kept status = kept ≡ Some rows
+
+-- no count of faults rose: of the source, of the keeper, of out or of err
+pub record NoneRose (source_before source_after keeper_before keeper_after out_before out_after err_before err_after : ℕ) : Type 0 where
+  pub source : ¬ (Rose source_before source_after)
+  pub keeper : ¬ (Rose keeper_before keeper_after)
+  pub out : ¬ (Rose out_before out_after)
+  pub err : ¬ (Rose err_before err_after)
+
+-- the whole answer is written with its status, or memory ran out
+abbrev pub IsWhole : Answer → ℕ → (before after : Option (List ℕ)) → Type 0
+IsWhole a status before after = ((status ≡ a.status) × Appends before after a.out) ⊎ (status ≡ 6)
+
+-- ---- what holds of each run of the turns that the words take, over the scenario that these bytes are, whatever rows the
+-- keeper hands back at the opening and at each turn
+
+-- the state after some of the turns of a run
+abbrev pub state_at : Places → Scenario → List Row → List (List Row × Turn) → State
+state_at p s rows xs = run_turns (start s p.wait rows) xs
+
+-- every quiet state is safe, and every state is placed
+abbrev pub IsSafeRun : List (List ℕ) → List ℕ → Type 0
+IsSafeRun words bytes = (p : Places) (s : Scenario) (rows : List Row) (xs : List (List Row × Turn)) (k : ℕ) → places_of words ≡ Ok p → scenario_in bytes ≡ Ok s
+    → turns_of xs ≡ take k (turns_taken (task_of p (names_of s)).own s.turns)
+    → (IsQuiet (state_at p s rows xs).world → Safe (state_at p s rows xs).world) × Placed (state_at p s rows xs).world
+
+-- a command turn is refused exactly with the refusal of the permission table, else done; and a refused one joins the journal
+-- and changes nothing else, and no kept row
+pub record Obeys (rows : List Row) (s : State) (c : CommandTurn) : Type 0 where
+  pub answer : IsAnswer (refusal_for s.world s.book c.command) (reply_of s (turn.Command c))
+  pub refused : (r : Refusal) → reply_of s (turn.Command c) ≡ answered.Refused r
+      → (changes_of s (turn.Command c) ≡ []) × (step rows s (turn.Command c) ≡ joined s (turn.Command c) (answered.Refused r))
+
+-- so each command turn does, in the state before it
+abbrev pub ObeysTable : List (List ℕ) → List ℕ → Type 0
+ObeysTable words bytes = (p : Places) (s : Scenario) (rows now : List Row) (xs : List (List Row × Turn)) (c : CommandTurn) → places_of words ≡ Ok p → scenario_in bytes ≡ Ok s
+    → slice_get (turns_taken (task_of p (names_of s)).own s.turns) (length xs) ≡ Some (turn.Command c)
+    → turns_of xs ≡ take (length xs) (turns_taken (task_of p (names_of s)).own s.turns)
+    → Obeys now (state_at p s rows xs) c

@@ -3,7 +3,28 @@
 ghost use Rattle.std.specs.Prelude.{◌≡◌};
 
 use orch_base::{Failed, Sink, Source};
-use std::io::{Read, Write};
+use std::fs::File;
+use std::io::{self, ErrorKind, Read, Write};
+use std::rt::Stdin;
+
+/// What a scenario is read from.
+#[derive(Drop)]
+pub(crate) enum Input {
+    Standard(Stdin),
+    Opened(File),
+    /// A file that couldn't be opened: each read fails.
+    Missing,
+}
+
+impl Read for Input {
+    fn read(&mut self, buf: &mut [u8]) -> io::Result<usize> {
+        match self {
+            Input::Standard(stdin) => stdin.read(buf),
+            Input::Opened(file) => file.read(buf),
+            Input::Missing => Err(io::Error::from(ErrorKind::NotFound)),
+        }
+    }
+}
 
 /// A reader, and how many of its reads failed.
 #[derive(Drop)]
@@ -70,7 +91,6 @@ impl<W: Write> Sink for StreamSink<W> {
 #[cfg(test)]
 mod tests {
     use super::*;
-    use std::io::{self, ErrorKind};
 
     // A pipe whose other end is closed.
     #[derive(Drop)]
@@ -102,6 +122,9 @@ mod tests {
         let mut broken = FileSource::new(Broken);
         assert!(rt; broken.read(&mut buf).is_err());
         assert_eq!(rt; broken.faults, 1);
+        let mut missing = FileSource::new(Input::Missing);
+        assert!(rt; missing.read(&mut buf).is_err());
+        assert_eq!(rt; missing.faults, 1);
 
         let mut room = [0; 3];
         let mut sink = StreamSink::new(room.as_mut_slice());

@@ -1,4 +1,4 @@
-//! Runs the scenario that stands on standard input.
+//! Does what the words of the command line ask with a scenario.
 #![tactic(auto)]
 
 mod edge;
@@ -7,11 +7,13 @@ mod report;
 #[cfg(test)]
 mod tests;
 mod top;
-mod words;
 
-use edge::{FileSource, StreamSink};
+use command_line::{Usage, places};
+use edge::{FileSource, Input, StreamSink};
 use instance_keeper::MemKeeper;
+use orch_base::Label;
 use std::alloc::Global;
+use std::fs::File;
 use std::process::ExitCode;
 use std::{env, io};
 use top::{close, orch};
@@ -24,6 +26,17 @@ fn words_of(rt: &HostRuntime, alloc: Global) -> io::Result<Vec<Vec<u8>>> {
     Ok(words)
 }
 
+// What the scenario is read from: standard input, or the file of this path.
+fn input(rt: &HostRuntime, path: Option<Label>) -> Input {
+    let Some(path) = path else {
+        return Input::Standard(rt.stdin());
+    };
+    match File::open(rt, path.as_str()) {
+        Ok(file) => Input::Opened(file),
+        Err(_) => Input::Missing,
+    }
+}
+
 fn main(rt: HostRuntime) -> ExitCode {
     let alloc = rt.alloc();
     let mut err = StreamSink::new(rt.stderr());
@@ -33,7 +46,12 @@ fn main(rt: HostRuntime) -> ExitCode {
         Err(fault) if fault.kind() == io::ErrorKind::InvalidData => Vec::new(alloc),
         Err(_) => return ExitCode::from(close(&mut err, b"out of memory\n", 6)),
     };
-    let mut source = FileSource::new(rt.stdin());
+    let path = match places(alloc, &words) {
+        Ok(places) => places.scenario,
+        Err(Usage::BadWords) => None,
+        Err(Usage::Memory) => return ExitCode::from(close(&mut err, b"out of memory\n", 6)),
+    };
+    let mut source = FileSource::new(input(&rt, path));
     let mut out = StreamSink::new(rt.stdout());
     let mut keeper = match MemKeeper::new(alloc, Vec::new(alloc), Vec::new(alloc)) {
         Ok(keeper) => keeper,

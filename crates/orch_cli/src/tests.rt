@@ -144,6 +144,40 @@ server r:3306 up ro executed 0 end mysql-bin.000001:4 source m:3306 at mysql-bin
 errant 0
 ";
 
+// A server alone.
+const ALONE: &str = "{\"version\":1,\"servers\":[{\"name\":\"m\"}]}";
+
+// A chain of three, of which the one in the middle has more files.
+const CHAIN: &str =
+    "{\"version\":1,\"servers\":[{\"name\":\"m\",\"history\":[[\"m\",100,4]]},{\"name\":\"s\",\"source\":\"m\",\"executed\":4,\"limit\":200},{\"name\":\"r\",\"source\":\"s\",\"executed\":1}]}";
+
+const TREE: &str = "m:3306 [ok,8.0.36,rw]
++ s:3306 [ok,8.0.36,ro]
+  + r:3306 [ok,8.0.36,ro]
+";
+
+// The replica is forgotten, and then polled.
+const FORGETS: &str =
+    "{\"version\":1,\"servers\":[{\"name\":\"m\",\"history\":[[\"m\",100,5]]},{\"name\":\"r\",\"source\":\"m\",\"executed\":2}],\"turns\":[[\"command\",\"forget\",{\"i\":\"r\"}],[\"poll-read\",1,\"r\"]]}";
+
+const IS_FORGOTTEN: &str = "1 command forget r:3306: done
+  r:3306
+2 poll-read 1 r:3306: unknown
+server m:3306 up rw executed 5 end mysql-bin.000001:504 source none
+server r:3306 up ro executed 2 end mysql-bin.000001:204 source m:3306 at mysql-bin.000001:204 read mysql-bin.000001:204 io on sql on
+errant 0
+";
+
+// A master that is down, a detached replica of it, and one that the book lacks.
+const APART: &str =
+    "{\"version\":1,\"servers\":[{\"name\":\"m\",\"up\":false},{\"name\":\"d\",\"source\":\"m\",\"detached\":true},{\"name\":\"r\",\"source\":\"m\",\"known\":false}],\"turns\":[[\"command\",\"which-master\",{\"i\":\"d\"}],[\"command\",\"which-master\",{\"i\":\"r\"}]]}";
+
+const APART_TABLES: &str = "server m:3306 down rw executed 0 end mysql-bin.000001:4 source none
+server d:3306 up ro executed 0 end mysql-bin.000001:4 source m:3306 detached at mysql-bin.000001:4 read mysql-bin.000001:4 io off sql off
+server r:3306 up ro executed 0 end mysql-bin.000001:4 source m:3306 at mysql-bin.000001:4 read mysql-bin.000001:4 io on sql on
+errant 0
+";
+
 fn words_of(alloc: Global, texts: &[&str]) -> Result<Vec<Vec<u8>>, Fail> {
     let mut words = Vec::new(alloc);
     for text in texts {
@@ -161,7 +195,7 @@ fn keeper_failing(alloc: Global, call: u64) -> Result<MemKeeper, Fail> {
 fn answers(rt: HostRuntime) -> Result<(), Fail> {
     let alloc = rt.alloc();
     // The words, the scenario's text, the call of the source that fails; the status, and what out and err took.
-    let cases: [(&[&str], &str, u64, (u8, &str, &str)); 15] = [
+    let cases: [(&[&str], &str, u64, (u8, &str, &str)); 16] = [
         (RUN, CATCHES_UP, 0, (0, CAUGHT_UP, "")),
         (RUN, CUT, 0, (0, IS_CUT, "")),
         (RUN, HEALS, 0, (0, IS_HEALED, "")),
@@ -169,6 +203,7 @@ fn answers(rt: HostRuntime) -> Result<(), Fail> {
         (RUN, TWO_POLLERS, 0, (0, LATER_STANDS, "")),
         (RUN, POLLS, 0, (0, POLLED, "")),
         (RUN, UNKNOWN, 0, (0, IS_UNKNOWN, "")),
+        (RUN, FORGETS, 0, (0, IS_FORGOTTEN, "")),
         (RUN, CUT_SHORT, 0, (2, "", "scenario fault 2 NotJson\n")),
         (
             RUN,
@@ -214,6 +249,211 @@ fn answers(rt: HostRuntime) -> Result<(), Fail> {
         );
         assert_eq!(rt; result, status, "after {err_bytes}");
     }
+    Ok(())
+}
+
+// What a call answers: its status, and what out and err took of at most so many bytes.
+fn call(
+    alloc: Global,
+    words: &[Vec<u8>],
+    text: &str,
+    err_room: usize,
+) -> Result<(u8, MemSink, MemSink), Fail> {
+    let text = Vec::from_slice(alloc, text.as_bytes())?;
+    let mut source = MemSource::new(text, Vec::new(alloc));
+    let mut out = MemSink::new(alloc, 2000, Vec::new(alloc))?;
+    let mut err = MemSink::new(alloc, err_room, Vec::new(alloc))?;
+    let mut keeper = keeper_failing(alloc, 0)?;
+    let status = orch(alloc, words, &mut source, &mut out, &mut err, &mut keeper);
+    Ok((status, out, err))
+}
+
+#[test]
+fn single_commands(rt: HostRuntime) -> Result<(), Fail> {
+    let alloc = rt.alloc();
+    // The words behind the program's name, and the scenario; the status, and what out and err took.
+    let cases: [(&[&str], &str, (u8, &str, &str)); 15] = [
+        (
+            &["-c", "topology", "-i", "m"],
+            ALONE,
+            (0, "m:3306 [ok,8.0.36,rw]\n", ""),
+        ),
+        (&["-c", "topology", "-i", "s"], CHAIN, (0, TREE, "")),
+        (
+            &["-c", "topology", "-i", "z"],
+            ALONE,
+            (7, "", "refused 2 UnknownInstance\n"),
+        ),
+        (
+            &["--tables", "-i", "z", "-c", "topology"],
+            ALONE,
+            (7, "", "refused 2 UnknownInstance\n"),
+        ),
+        (
+            &["-c", "forget", "-i", "r"],
+            APART,
+            (7, "", "refused 2 UnknownInstance\n"),
+        ),
+        (
+            &["-c", "discover", "-i", "m"],
+            APART,
+            (7, "", "refused 5 Unreachable m:3306\n"),
+        ),
+        (
+            &["-c", "discover", "-i", "m", "--tables"],
+            APART,
+            (7, APART_TABLES, "refused 5 Unreachable m:3306\n"),
+        ),
+        (
+            &["-c", "discover", "-i", "r:3306"],
+            APART,
+            (0, "r:3306\n", ""),
+        ),
+        (
+            &["-c", "which-master", "-i", "d"],
+            APART,
+            (0, "m:3306\n", ""),
+        ),
+        (&["-c", "which-master", "-i", "m"], CHAIN, (0, "none\n", "")),
+        (
+            &["-c", "which-replicas", "-i", "m"],
+            CHAIN,
+            (0, "s:3306\n", ""),
+        ),
+        (
+            &["-c", "which-cluster", "-i", "r"],
+            CHAIN,
+            (0, "m:3306\n", ""),
+        ),
+        (
+            &["-c", "which-cluster-instances", "-i", "r"],
+            CHAIN,
+            (0, "m:3306\nr:3306\ns:3306\n", ""),
+        ),
+        (&["-c", "all-instances"], APART, (0, "d:3306\nm:3306\n", "")),
+        (
+            &["-c", "find", "--pattern", "[dr]"],
+            APART,
+            (0, "d:3306\n", ""),
+        ),
+    ];
+    for (given, text, (status, out_bytes, err_bytes)) in cases {
+        let mut words = words_of(alloc, &["orch"])?;
+        words.append(&mut words_of(alloc, given)?)?;
+        let (result, out, err) = call(alloc, &words, text, 100)?;
+        assert_eq!(rt; str::from_utf8(out.written()).ok(), Some(out_bytes));
+        assert_eq!(rt;
+            str::from_utf8(err.written()).ok(),
+            Some(err_bytes),
+            "after {out_bytes}"
+        );
+        assert_eq!(rt; result, status, "after {out_bytes}{err_bytes}");
+    }
+    Ok(())
+}
+
+#[test]
+fn refused_in_a_run(rt: HostRuntime) -> Result<(), Fail> {
+    let alloc = rt.alloc();
+    let (result, out, err) = call(alloc, &words_of(alloc, RUN)?, APART, 100)?;
+    assert!(rt;
+        out.written().starts_with(
+            b"1 command which-master d:3306: done\n  m:3306\n2 command which-master r:3306: refused 2 UnknownInstance\nserver m:3306 down"
+        )
+    );
+    assert!(rt; err.written().is_empty());
+    assert_eq!(rt; result, 7);
+    Ok(())
+}
+
+#[test]
+fn words_that_are_not_taken(rt: HostRuntime) -> Result<(), Fail> {
+    let alloc = rt.alloc();
+    let cases: [&[&str]; 24] = [
+        &[],
+        &["orch"],
+        &["orch", "run"],
+        &["orch", "-c"],
+        &["orch", "-c", "walk"],
+        &["orch", "-c", "relocate", "-i", "r", "-d", "m"],
+        &["orch", "-c", "topology"],
+        &["orch", "-c", "topology", "-i", "m:0"],
+        &["orch", "-c", "topology", "-i", ""],
+        &["orch", "-c", "find"],
+        &["orch", "-c", "find", "--pattern", "("],
+        &["orch", "-c", "run", "more"],
+        &["orch", "-c", "run", "--help"],
+        &["orch", "--help"],
+        &["orch", "-c", "run", "--db", "book"],
+        &["orch", "-c", "run", "--tables", "--tables"],
+        &["orch", "-c", "run", "-d", "m:65536"],
+        &["orch", "-c", "run", "--wait", "0"],
+        &["orch", "-c", "run", "--wait", "10001"],
+        &["orch", "-c", "run", "--pollers", "17"],
+        &["orch", "-c", "run", "--workers", "-1"],
+        &["orch", "-c", "run", "--seed", "18446744073709551616"],
+        &["orch", "-c", "run", "--duration", "1y"],
+        &["orch", "-c", "run", "--promotion-rule", "must"],
+    ];
+    for given in cases {
+        let (result, out, err) = call(alloc, &words_of(alloc, given)?, ALONE, 100)?;
+        assert_eq!(rt; str::from_utf8(err.written()).ok(), Some("usage\n"));
+        assert!(rt; out.written().is_empty());
+        assert_eq!(rt; result, 1);
+    }
+    // No UTF-8.
+    let mut words = words_of(alloc, RUN)?;
+    words.push(vec![in alloc; 255u8]?)?;
+    let (result, out, err) = call(alloc, &words, ALONE, 100)?;
+    assert_eq!(rt; err.written(), b"usage\n".as_slice());
+    assert!(rt; out.written().is_empty());
+    assert_eq!(rt; result, 1);
+    Ok(())
+}
+
+// Three clusters: the first has a master and 13 replicas, the others 12.
+fn three_clusters(alloc: Global) -> Result<String, Fail> {
+    let mut text = String::from_str(alloc, "{\"version\":1,\"servers\":[")?;
+    for (cluster, replicas) in [("c1", 13), ("c2", 12), ("c3", 12)] {
+        let master = format!(in alloc;
+            "{{\"name\":\"{cluster}m\",\"history\":[[\"{cluster}m\",500,100]]}},"
+        )?;
+        text.push_str(master.as_str())?;
+        for no in 1..replicas + 1 {
+            let replica = format!(in alloc;
+                "{{\"name\":\"{cluster}r{no:02}\",\"source\":\"{cluster}m\",\"executed\":100}},"
+            )?;
+            text.push_str(replica.as_str())?;
+        }
+    }
+    text.pop();
+    text.push_str("],\"turns\":[[\"polls\"],[\"fail\",\"c1m\"],[\"polls\"]]}")?;
+    Ok(text)
+}
+
+#[test]
+fn clusters_of_forty_servers(rt: HostRuntime) -> Result<(), Fail> {
+    let alloc = rt.alloc();
+    let text = three_clusters(alloc)?;
+    let words = words_of(alloc, &["orch", "-c", "clusters"])?;
+    let (result, out, err) = call(alloc, &words, text.as_str(), 100)?;
+    assert!(rt; err.written().is_empty());
+    assert_eq!(rt;
+        str::from_utf8(out.written()).ok(),
+        Some("c1m:3306\nc2m:3306\nc3m:3306\n")
+    );
+    assert_eq!(rt; result, 0);
+    Ok(())
+}
+
+#[test]
+fn refusals_that_err_does_not_take(rt: HostRuntime) -> Result<(), Fail> {
+    let alloc = rt.alloc();
+    let words = words_of(alloc, &["orch", "-c", "forget", "-i", "z", "--tables"])?;
+    let (result, out, err) = call(alloc, &words, ALONE, 12)?;
+    assert_eq!(rt; str::from_utf8(err.written()).ok(), Some("refused 2 Un"));
+    assert!(rt; out.written().is_empty());
+    assert_eq!(rt; result, 4);
     Ok(())
 }
 

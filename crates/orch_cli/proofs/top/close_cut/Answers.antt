@@ -1,5 +1,5 @@
 use Rattle.std.proofs.Common.{refl}
-use Rattle.orch_cli.proofs.TopLemmas.{cut_took}
+use Rattle.orch_cli.proofs.Sinks.{cut_took}
 use Rattle.orch_cli.proofs.top.close_cut.Goals as goal
 
 pub returns-in-Ok-clause-err : goal.returns-in-Ok-clause-err

@@ -1,5 +1,0 @@
-use Rattle.orch_cli.proofs.Tellings.{opening_told}
-use Rattle.orch_cli.proofs.report.open.Goals as goal
-
-pub returns-in-Ok-clause-told : goal.returns-in-Ok-clause-told
-returns-in-Ok-clause-told g c = opening_told _ _ c.args.scenario.now c.in-Ok.orch (c.in-Ok.ensures.ok) (c.in-Ok.ensures.kept)
