@@ -11,44 +11,9 @@ use Rattle.std.proofs.lemmas.Bool.{ltb-true}
 use Rattle.std.proofs.lemmas.Option.{slice_get-get_or}
 use Rattle.std.specs.Option.{is_some, IfSome}
 use Rattle.orch_base.specs.declared.server.ServerNo.{ServerNo}
-use Rattle.instance_keeper.specs.Book.{Known, instance_at}
-use Rattle.instance_keeper.specs.declared.observation.Instance.{Instance}
-use Rattle.server_model.specs.Worlds.{World}
 use Rattle.commands.specs.declared.line.Line.{Line}
 use Rattle.commands.specs.declared.line.Line.TheVariants as line
-use Rattle.name_order.specs.NameOrder.{by_name}
 use Rattle.asking_commands.specs.Labels.{each_once, is_again}
-use Rattle.asking_commands.specs.Trees.{instance_line, node_line}
-
-pub copied-some : {X : Type 0} (o : Option (Bor X)) (r : Option X) (x : Bor X) → option_copied o ≡ r → o ≡ Some x → r ≡ Some x.now
-copied-some o r x is some = sym is ∙ ap option_copied some
-
-pub copied-none : {X : Type 0} (o : Option (Bor X)) (r : Option X) → option_copied o ≡ r → o ≡ None → r ≡ None
-copied-none o r is none = sym is ∙ ap option_copied none
-
--- what a look-up in a slice found
-pub got : {X : Type 0} (xs : List X) (k : ℕ) (o : Option (Bor X)) (x : Bor X) → o ≡ Some x → is_some o ≡ ltb k (length xs) → IfSome o (λ y. y.now ≡ get_or xs k y.now) → slice_get xs k ≡ Some x.now
-got xs k o x some within at =
-    let short : k < length xs = ltb-true k (length xs) (sym within ∙ ap is_some some) in
-    let here : x.now ≡ get_or xs k x.now = subst (λ (p : Option (Bor _)). IfSome p (λ y. y.now ≡ get_or xs k y.now)) some at in
-    slice_get-get_or xs k x.now short ∙ ap Some (sym here)
-
-abbrev by_instance : Known → World → ℕ → ServerNo → Option Line
-by_instance b w depth server = option_map (instance_line w depth server) (instance_at b server)
-
-pub node-some : (b : Known) (w : World) (order : List ServerNo) (place depth : ℕ) (server : ServerNo) (i : Instance) → order ≡ by_name b.names
-    → slice_get order place ≡ Some server → instance_at b server ≡ Some i → Some (instance_line w depth server i) ≡ node_line b w (place, depth)
-node-some b w order place depth server i is at known =
-    sym (ap (λ (xs : List ServerNo). option_and_then (by_instance b w depth) (slice_get xs place)) (sym is)
-    ∙ ap (option_and_then (by_instance b w depth)) at
-    ∙ ap (option_map (instance_line w depth server)) known)
-
-pub node-none : (b : Known) (w : World) (order : List ServerNo) (place depth : ℕ) (server : ServerNo) → order ≡ by_name b.names
-    → slice_get order place ≡ Some server → instance_at b server ≡ None → None ≡ node_line b w (place, depth)
-node-none b w order place depth server is at none =
-    sym (ap (λ (xs : List ServerNo). option_and_then (by_instance b w depth) (slice_get xs place)) (sym is)
-    ∙ ap (option_and_then (by_instance b w depth)) at
-    ∙ ap (option_map (instance_line w depth server)) none)
 
 cons-list : (o : Option Line) → cons_option o [] ≡ option_to_list o
 cons-list None = refl
@@ -100,7 +65,7 @@ range-more a (suc n) =
     let same : (a + 1) + n ≡ a + suc n = omega arith in
     ap (λ (xs : List ℕ). a ∷ xs) (range-more (a + 1) n ∙ ap (λ (i : ℕ). range_with_len (a + 1) n ++ i ∷ []) same)
 
--- one more place: its tree where it passes
+-- one more node: its tree where it passes
 pub trees-more : (tree : ℕ → List Line) (passes : ℕ → Bool) (place : ℕ) (passed : Bool) → passed ≡ passes place
     → flat_map tree (filter passes (range_with_len 0 (place + 1))) ≡ flat_map tree (filter passes (range_with_len 0 place)) ++ cond passed (tree place) []
 trees-more tree passes place passed test =

@@ -2,10 +2,13 @@
 use Rattle.std.specs.Prelude.{Bool, true, false, ◌&&◌, not, List, [], Option, Some, None, Result, Ok, Err, if◌then◌else◌}
 use Rattle.orch_base.specs.declared.server.ServerNo.{ServerNo}
 use Rattle.instance_keeper.specs.Book.{Known}
-use Rattle.server_model.specs.Worlds.{World}
 use Rattle.commands.specs.declared.line.Line.{Line}
 use Rattle.commands.specs.declared.name.CommandName.{CommandName}
-use Rattle.commands.specs.declared.name.CommandName.TheVariants.{AllInstances, Clusters, Find, Topology, WhichCluster, WhichClusterInstances, WhichMaster, WhichReplicas}
+use Rattle.commands.specs.declared.route.Question.{Question}
+use Rattle.commands.specs.declared.route.Question.TheVariants.{AllInstances, Clusters, Find, Topology, WhichCluster, WhichClusterInstances, WhichMaster, WhichReplicas}
+use Rattle.commands.specs.declared.route.Route.{Route}
+use Rattle.commands.specs.declared.route.Route.TheVariants.{Discovers, Forgets, Asks, Unbuilt}
+use Rattle.commands.specs.Routes.{route_of}
 use Rattle.commands.specs.declared.refusal.Refusal.{Refusal}
 use Rattle.commands.specs.declared.refusal.Refusal.TheVariants.{UnknownInstance}
 use Rattle.commands.specs.declared.turn.Command.{Command}
@@ -14,21 +17,20 @@ use Rattle.commands.specs.declared.turn.Found.{Found}
 use Rattle.commands.specs.Names.{needs_of}
 use Rattle.asking_commands.specs.declared.answers.AnswerFault.{AnswerFault}
 use Rattle.asking_commands.specs.declared.answers.AnswerFault.TheVariants as fault
-use Rattle.asking_commands.specs.Asking.{all_instances, cluster_instances, cluster_of, found, is_instance, master_of, replicas_of}
+use Rattle.book_views.specs.Sources.{is_instance}
+use Rattle.asking_commands.specs.Asking.{all_instances, cluster_instances, cluster_of, found, master_of, replica_lines}
 use Rattle.asking_commands.specs.Labels.{clusters_of}
 use Rattle.asking_commands.specs.Trees.{topology_of}
 
+abbrev pub is_question : Route → Bool
+is_question Discovers = false
+is_question Forgets = false
+is_question (Asks question) = true
+is_question Unbuilt = false
+
 -- a command that only asks the book
 abbrev pub asks : CommandName → Bool
-asks Topology = true
-asks WhichMaster = true
-asks WhichReplicas = true
-asks WhichCluster = true
-asks WhichClusterInstances = true
-asks Clusters = true
-asks AllInstances = true
-asks Find = true
-asks other = false
+asks name = is_question (route_of name)
 
 -- an instance of the book is given
 abbrev pub is_known : Known → Option ServerNo → Bool
@@ -43,32 +45,37 @@ abbrev pub answers_of : Option Found → List Bool
 answers_of None = []
 answers_of (Some f) = f.answers
 
--- of an instance
-abbrev pub about : Known → World → CommandName → ServerNo → List Line
-about b w Topology i = topology_of b w i
-about b w WhichMaster i = master_of b i
-about b w WhichReplicas i = replicas_of b i
-about b w WhichCluster i = cluster_of w i
-about b w WhichClusterInstances i = cluster_instances b w i
-about b w other i = []
+-- the lines about the instance, where one is given
+abbrev pub about : (ServerNo → List Line) → Option ServerNo → List Line
+about lines None = []
+about lines (Some i) = lines i
 
-abbrev pub about_given : Known → World → CommandName → Option ServerNo → List Line
-about_given b w name None = []
-about_given b w name (Some i) = about b w name i
+abbrev pub answer_to : Known → CommandTurn → Question → List Line
+answer_to b t Topology = about (topology_of b) t.command.i
+answer_to b t WhichMaster = about (master_of b) t.command.i
+answer_to b t WhichReplicas = about (replica_lines b) t.command.i
+answer_to b t WhichCluster = about (cluster_of b) t.command.i
+answer_to b t WhichClusterInstances = about (cluster_instances b) t.command.i
+answer_to b t Clusters = clusters_of b
+answer_to b t AllInstances = all_instances b
+answer_to b t Find = found b (answers_of t.keys.pattern)
 
--- the lines of a command that asks; of any other none
-abbrev pub lines_of : Known → World → CommandTurn → CommandName → List Line
-lines_of b w t Clusters = clusters_of b w
-lines_of b w t AllInstances = all_instances b
-lines_of b w t Find = found b (answers_of t.keys.pattern)
-lines_of b w t name = about_given b w name t.command.i
+-- a question is answered; what does anything else has no lines here
+abbrev pub lines_by : Known → CommandTurn → Route → List Line
+lines_by b t (Asks question) = answer_to b t question
+lines_by b t Discovers = []
+lines_by b t Forgets = []
+lines_by b t Unbuilt = []
+
+abbrev pub lines_of : Known → CommandTurn → CommandName → List Line
+lines_of b t name = lines_by b t (route_of name)
 
 abbrev pub unless_refused : Result Unit Refusal → List Line → Result (List Line) AnswerFault
 unless_refused (Err refusal) lines = Err (fault.Refused refusal)
 unless_refused (Ok permit) lines = Ok lines
 
-unfoldable pub answer_of : Known → World → CommandTurn → Result (List Line) AnswerFault
-answer_of b w t = unless_refused (permitted b t.command) (lines_of b w t t.command.name)
+unfoldable pub answer_of : Known → CommandTurn → Result (List Line) AnswerFault
+answer_of b t = unless_refused (permitted b t.command) (lines_of b t t.command.name)
 
 -- the fault of an answer, and nothing at want of memory
 abbrev pub answer_fault : AnswerFault → Option AnswerFault

@@ -3,12 +3,12 @@ use Rattle.std.specs.Prelude.{ℕ, Bool, false, List, [], ◌∷◌, map, filter
 use Rattle.std.specs.Cmp.Lexicographic.{pointwise, slice_cmp}
 use Rattle.std.specs.Ordering.{nat_cmp}
 use Rattle.instance_keeper.specs.Book.{Known}
-use Rattle.server_model.specs.Worlds.{World}
 use Rattle.name_order.specs.NameOrder.{by_name}
 use Rattle.name_order.specs.Sorts.{sort_by}
 use Rattle.commands.specs.declared.line.Line.{Line}
 use Rattle.commands.specs.declared.line.Line.TheVariants as line
-use Rattle.asking_commands.specs.Asking.{is_instance, label_at}
+use Rattle.book_views.specs.Sources.{is_instance}
+use Rattle.asking_commands.specs.Asking.{label_at}
 
 -- it is the same as the first behind it
 abbrev pub is_again : List ℕ → List (List ℕ) → Bool
@@ -21,9 +21,9 @@ each_once [] = []
 each_once (one ∷ rest) = if is_again one rest then each_once rest else one ∷ each_once rest
 
 -- the labels of the book's instances
-abbrev pub labels_of : Known → World → List (List ℕ)
-labels_of b w = map (label_at w) (filter (is_instance b) (by_name b.names))
+abbrev pub labels_of : Known → List (List ℕ)
+labels_of b = map (label_at b) (filter (is_instance b) (by_name b.names))
 
 -- each of them once, by their bytes
-unfoldable pub clusters_of : Known → World → List Line
-clusters_of b w = map line.Cluster (each_once (sort_by (slice_cmp nat_cmp) (labels_of b w)))
+unfoldable pub clusters_of : Known → List Line
+clusters_of b = map line.Cluster (each_once (sort_by (slice_cmp nat_cmp) (labels_of b)))

@@ -3,23 +3,22 @@
 ghost use Rattle.std.specs.Prelude.{◌≡◌, ◌<◌, IfOk, IsTrue, length};
 ghost use Rattle.orch_base.specs.Gives.{Gives};
 ghost use Rattle.commands.specs.Turns.{is_within};
-ghost use Rattle.asking_commands.specs.Answers.{about, about_given, answer_fault, answer_of, answers_of, asks, is_known, lines_of, permitted};
+ghost use Rattle.asking_commands.specs.Answers.{answer_fault, answer_of, answer_to, answers_of, asks, is_known, lines_of, permitted};
 
 use crate::Memory;
 use crate::labels::clusters;
 use crate::listing::{
-    all_instances, find, is_instance, which_cluster, which_cluster_instances, which_master,
-    which_replicas,
+    all_instances, find, which_cluster, which_cluster_instances, which_master, which_replicas,
 };
 use crate::trees::topology;
-use commands::{Command, CommandName, CommandTurn, Found, Lines, Refusal};
+use book_views::is_instance;
+use commands::{Command, CommandName, CommandTurn, Found, Lines, Question, Refusal, Route};
 use instance_keeper::Book;
 use orch_base::ServerNo;
-use server_model::World;
 use std::alloc::Global;
 
 /// Why there is no answer.
-#[derive(Clone, Copy, Debug, PartialEq, Eq)]
+#[derive(Drop)]
 pub enum AnswerFault {
     /// The command is refused.
     Refused(Refusal),
@@ -41,17 +40,10 @@ impl From<Memory> for AnswerFault {
 pub fn asks(name: CommandName) -> bool
     ensures { result ≡ asks name }
 {
-    matches!(
-        name,
-        CommandName::Topology
-            | CommandName::WhichMaster
-            | CommandName::WhichReplicas
-            | CommandName::WhichCluster
-            | CommandName::WhichClusterInstances
-            | CommandName::Clusters
-            | CommandName::AllInstances
-            | CommandName::Find
-    )
+    match name.route() {
+        Route::Asks(_) => true,
+        Route::Discovers | Route::Forgets | Route::Unbuilt => false,
+    }
 }
 
 fn is_known(book: &Book, i: Option<ServerNo>) -> bool
@@ -75,28 +67,6 @@ pub fn permit(book: &Book, command: Command) -> Result<(), Refusal>
     Ok(())
 }
 
-// The lines of a command about an instance.
-fn about(
-    alloc: Global,
-    book: &Book,
-    world: &World,
-    name: CommandName,
-    i: ServerNo,
-) -> Result<Lines, Memory>
-    requires servers { length book.now.names ≡ length world.now.servers }
-    requires i { i.0 < length book.now.names }
-    ensures { IfOk result (λ lines. lines ≡ about book.now world.now name i) }
-{
-    match name {
-        CommandName::Topology => topology(alloc, book, world, i),
-        CommandName::WhichMaster => which_master(alloc, book, i),
-        CommandName::WhichReplicas => which_replicas(alloc, book, i),
-        CommandName::WhichCluster => which_cluster(alloc, world, i),
-        CommandName::WhichClusterInstances => which_cluster_instances(alloc, book, world, i),
-        _ => Ok(Lines::new(Vec::new(alloc))),
-    }
-}
-
 fn answers_of(pattern: &Option<Found>) -> &[bool]
     ensures { result.now ≡ answers_of pattern.now }
 {
@@ -106,36 +76,53 @@ fn answers_of(pattern: &Option<Found>) -> &[bool]
     }
 }
 
-fn lines_of(alloc: Global, book: &Book, world: &World, turn: &CommandTurn) -> Result<Lines, Memory>
-    requires servers { length book.now.names ≡ length world.now.servers }
-    requires i { IsTrue (is_within (length book.now.names) turn.now.command.i) }
-    ensures { IfOk result (λ lines. lines ≡ lines_of book.now world.now turn.now turn.now.command.name) }
+fn answer_to(
+    alloc: Global,
+    book: &Book,
+    turn: &CommandTurn,
+    question: Question,
+) -> Result<Lines, Memory>
+    requires { IsTrue (is_within (length book.now.names) turn.now.command.i) }
+    ensures { IfOk result (λ lines. lines ≡ answer_to book.now turn.now question) }
 {
-    match turn.command.name {
-        CommandName::Clusters => clusters(alloc, book, world),
-        CommandName::AllInstances => all_instances(alloc, book),
-        CommandName::Find => find(alloc, book, answers_of(&turn.keys.pattern)),
-        name => match turn.command.i {
-            Some(i) => about(alloc, book, world, name, i),
-            None => Ok(Lines::new(Vec::new(alloc))),
-        },
+    match (question, turn.command.i) {
+        (Question::Clusters, _) => clusters(alloc, book),
+        (Question::AllInstances, _) => all_instances(alloc, book),
+        (Question::Find, _) => find(alloc, book, answers_of(&turn.keys.pattern)),
+        (Question::Topology, Some(i)) => topology(alloc, book, i),
+        (Question::WhichMaster, Some(i)) => which_master(alloc, book, i),
+        (Question::WhichReplicas, Some(i)) => which_replicas(alloc, book, i),
+        (Question::WhichCluster, Some(i)) => which_cluster(alloc, book, i),
+        (Question::WhichClusterInstances, Some(i)) => which_cluster_instances(alloc, book, i),
+        (
+            Question::Topology
+            | Question::WhichMaster
+            | Question::WhichReplicas
+            | Question::WhichCluster
+            | Question::WhichClusterInstances,
+            None,
+        ) => Ok(Lines::new(Vec::new(alloc))),
+    }
+}
+
+fn lines_of(alloc: Global, book: &Book, turn: &CommandTurn) -> Result<Lines, Memory>
+    requires { IsTrue (is_within (length book.now.names) turn.now.command.i) }
+    ensures { IfOk result (λ lines. lines ≡ lines_of book.now turn.now turn.now.command.name) }
+{
+    match turn.command.name.route() {
+        Route::Asks(question) => answer_to(alloc, book, turn, question),
+        Route::Discovers | Route::Forgets | Route::Unbuilt => Ok(Lines::new(Vec::new(alloc))),
     }
 }
 
 /// The lines of a command that only asks the book, or `UnknownInstance` exactly where it uses an instance that the book hasn't. Any other command has no lines here.
 #[tactic(auto, unfolding(crate::specs::Answers::answer_of))]
-pub fn answer(
-    alloc: Global,
-    book: &Book,
-    world: &World,
-    turn: &CommandTurn,
-) -> Result<Lines, AnswerFault>
-    requires servers { length book.now.names ≡ length world.now.servers }
-    requires i { IsTrue (is_within (length book.now.names) turn.now.command.i) }
-    ensures { Gives (λ lines. lines) answer_fault result (answer_of book.now world.now turn.now) }
+pub fn answer(alloc: Global, book: &Book, turn: &CommandTurn) -> Result<Lines, AnswerFault>
+    requires { IsTrue (is_within (length book.now.names) turn.now.command.i) }
+    ensures { Gives (λ lines. lines) answer_fault result (answer_of book.now turn.now) }
 {
     match permit(book, turn.command) {
-        Ok(()) => Ok(lines_of(alloc, book, world, turn)?),
+        Ok(()) => Ok(lines_of(alloc, book, turn)?),
         Err(refusal) => Err(AnswerFault::Refused(refusal)),
     }
 }

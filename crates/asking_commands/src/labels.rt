@@ -7,34 +7,32 @@ ghost use Rattle.name_order.specs.Sorts.{sort_by};
 ghost use Rattle.asking_commands.specs.Labels.{clusters_of, is_again, labels_of};
 
 use crate::Memory;
-use crate::listing::{book_order, is_instance, label_at};
+use crate::listing::label_at;
+use book_views::is_instance;
 use commands::{Line, Lines};
 use instance_keeper::Book;
 use orch_base::Label;
-use server_model::World;
 use std::alloc::Global;
 
 // The labels of the book's instances.
-fn labels_of<'a>(alloc: Global, book: &Book, world: &'a World) -> Result<Vec<&'a Label>, Memory>
-    requires { length book.now.names ≡ length world.now.servers }
-    ensures { IfOk result (λ labels. map (λ l. l.now) labels.items ≡ labels_of book.now world.now) }
+fn labels_of<'a>(alloc: Global, book: &'a Book) -> Result<Vec<&'a Label>, Memory>
+    ensures { IfOk result (λ labels. map (λ l. l.now) labels.items ≡ labels_of book.now) }
 {
     let mut labels = Vec::new(alloc);
-    let order = book_order(alloc, book)?;
-    for no in &order {
+    let order = book.order();
+    for no in order {
         if is_instance(book, *no) {
-            labels.push(label_at(world, *no))?;
+            labels.push(label_at(book, *no))?;
         }
     }
     Ok(labels)
 }
 
 // The labels in order.
-fn sorted_labels<'a>(alloc: Global, book: &Book, world: &'a World) -> Result<Vec<&'a Label>, Memory>
-    requires { length book.now.names ≡ length world.now.servers }
-    ensures { IfOk result (λ labels. map (λ l. l.now) labels.items ≡ sort_by (slice_cmp nat_cmp) (labels_of book.now world.now)) }
+fn sorted_labels<'a>(alloc: Global, book: &'a Book) -> Result<Vec<&'a Label>, Memory>
+    ensures { IfOk result (λ labels. map (λ l. l.now) labels.items ≡ sort_by (slice_cmp nat_cmp) (labels_of book.now)) }
 {
-    let mut labels = labels_of(alloc, book, world)?;
+    let mut labels = labels_of(alloc, book)?;
     labels.sort_by(|one, other| {
         let (one, other) = (one.as_str().as_bytes(), other.as_str().as_bytes());
         one.cmp(other)
@@ -53,11 +51,10 @@ fn is_last(label: &Label, rest: &[&Label]) -> bool
 }
 
 /// The labels of the clusters of the book's instances, each once, by their bytes.
-pub fn clusters(alloc: Global, book: &Book, world: &World) -> Result<Lines, Memory>
-    requires { length book.now.names ≡ length world.now.servers }
-    ensures { IfOk result (λ lines. lines ≡ clusters_of book.now world.now) }
+pub fn clusters(alloc: Global, book: &Book) -> Result<Lines, Memory>
+    ensures { IfOk result (λ lines. lines ≡ clusters_of book.now) }
 {
-    let labels = sorted_labels(alloc, book, world)?;
+    let labels = sorted_labels(alloc, book)?;
     let mut lines = Vec::new(alloc);
     for (k, label) in labels.iter().enumerate() {
         if is_last(label, &labels[k + 1..]) {

@@ -4,8 +4,6 @@
 mod answers;
 mod labels;
 mod listing;
-#[cfg(test)]
-mod tests;
 mod trees;
 
 pub use answers::{AnswerFault, answer, asks, permit};
@@ -15,4 +13,4 @@ pub use listing::{
 };
 /// Want of memory.
 pub use orch_base::Memory;
-pub use trees::{book_forest, topology};
+pub use trees::topology;

@@ -5,8 +5,6 @@ mod fault;
 mod filter;
 mod filters;
 mod pattern;
-#[cfg(test)]
-mod tests;
 
 pub use fault::FilterFault;
 pub use filters::Filters;

@@ -1,8 +1,12 @@
 -- The commands that are built, and what each needs.
-use Rattle.std.specs.Prelude.{Bool, true, List, [], ◌∷◌, codes, find, Option, is_some, option_map, Result, Ok, Err, if◌then◌else◌}
+use Rattle.std.specs.Prelude.{Bool, true, List, [], ◌∷◌, codes, find, Option, Some, None, is_some, option_map, Result, Ok, Err, if◌then◌else◌}
 use Rattle.std.specs.Str.{bytes_eq}
 use Rattle.clap.specs.Walk.{Row, Text, first_of}
 use Rattle.orch_base.specs.Gives.{◌>>=◌}
+use Rattle.commands.specs.declared.name.CommandName.{CommandName}
+use Rattle.commands.specs.declared.needs.Needs.{Needs as Keys}
+use Rattle.commands.specs.Names.{nothing, needs_of as keys_of}
+use Rattle.commands.specs.Routes.{is_built, route_of}
 use Rattle.command_line.specs.declared.command.Needs.{Needs}
 use Rattle.command_line.specs.declared.command.Needs.TheVariants.{Nothing, Instance, Pattern}
 use Rattle.command_line.specs.declared.usage.Usage.{Usage}
@@ -44,3 +48,13 @@ command_in rows = do
   command ← or_bad (first_of (codes "c") rows)
   needs ← or_bad (needs_of command)
   if has_needed needs rows then Ok command else Err BadWords
+
+-- the keys of a turn that such a command needs
+abbrev pub keys_needed : Needs → Keys
+keys_needed Nothing = nothing
+keys_needed Instance = record nothing { i = true }
+keys_needed Pattern = record nothing { pattern = true }
+
+-- the keys that a command needs, where its route is built
+abbrev pub keys_where_built : CommandName → Option Keys
+keys_where_built name = if is_built (route_of name) then Some (keys_of name) else None

@@ -1,8 +1,8 @@
 -- What the texts of the options are read as.
 use Rattle.std.specs.Prelude.{ℕ, List, length, nat_le, if◌then◌else◌, Option, Some, None, Result, Ok, Err}
 use Rattle.cluster_filters.specs.Patterns.{is_pattern}
-use Rattle.instance_keeper.specs.declared.recovery.Rule.{Rule}
-use Rattle.option_values.specs.Values.{number_within, rule_at, seconds_at}
+use Rattle.orch_base.specs.declared.rule.Rule.{Rule}
+use Rattle.commands.specs.Values.{number_within, rule_at, seconds_at}
 use Rattle.orch_base.specs.declared.name.NameFault.{NameFault}
 use Rattle.orch_base.specs.Gives.{◌>>=◌}
 use Rattle.orch_base.specs.Names.{HostPort, name_at}

@@ -2,15 +2,15 @@
 #![tactic(auto)]
 
 mod command;
+mod laws;
 mod options;
 mod parts;
-#[cfg(test)]
-mod tests;
 mod usage;
 mod value;
 mod words;
 
 /// Want of memory.
+pub use laws::named_commands_are_built;
 pub use orch_base::Memory;
 pub use parts::Places;
 pub use usage::Usage;

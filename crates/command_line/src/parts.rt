@@ -14,8 +14,7 @@ use crate::value::{
     number_or,
 };
 use clap::ArgMatches;
-use instance_keeper::Rule;
-use orch_base::{Label, Name};
+use orch_base::{Label, Name, Rule};
 use std::alloc::Global;
 
 /// The values of a command line's options. One that isn't given is None, or has its default.

@@ -7,9 +7,8 @@ ghost use Rattle.command_line.specs.Values.{duration_in, maybe, name_in, number_
 
 use crate::usage::Usage;
 use cluster_filters::{FilterFault, Pattern};
-use instance_keeper::Rule;
-use option_values::{number_within, rule_at, seconds_at};
-use orch_base::{Label, Name, NameFault};
+use commands::{number_within, rule_at, seconds_at};
+use orch_base::{Label, Name, NameFault, Rule};
 use std::alloc::Global;
 
 fn name_in(alloc: Global, text: &str) -> Result<Name, Usage>

@@ -24,9 +24,9 @@ use Rattle.command_line.specs.Usages.{or_bad}
 use Rattle.command_line.specs.declared.parts.Places.{Places}
 use Rattle.command_line.specs.declared.usage.Usage.{Usage}
 use Rattle.command_line.specs.declared.usage.Usage.TheVariants.{BadWords}
-use Rattle.instance_keeper.specs.declared.recovery.Rule.{Rule}
-use Rattle.orch_core.specs.Built.{is_built}
-use Rattle.orch_core.specs.Commands.{IsCommand}
+use Rattle.orch_base.specs.declared.rule.Rule.{Rule}
+use Rattle.scenarios.specs.Built.{is_built}
+use Rattle.scenarios.specs.Turns.{IsCommand}
 use Rattle.scenario_commands.specs.Found.{found_in, found_of}
 use Rattle.scenario_servers.proofs.Steps.{bind-ok, same_Ok}
 use Rattle.scenario_values.specs.declared.fault.FaultCode.TheVariants.{BadPattern}

@@ -9,13 +9,13 @@ use Rattle.commands.specs.Names.{name_of, needs_of}
 use Rattle.command_line.specs.declared.parts.Places.{Places}
 use Rattle.command_line.specs.Places.{places_of}
 use Rattle.commands.specs.declared.refusal.Refusal.TheVariants.{UnknownInstance}
-use Rattle.orch_core.specs.Commands.{IsCommand}
+use Rattle.scenarios.specs.Turns.{IsCommand}
 use Rattle.orch_core.specs.Replies.{reply_of}
 use Rattle.orch_core.specs.States.{State}
-use Rattle.orch_core.specs.declared.turn.Reply.{Reply}
-use Rattle.orch_core.specs.declared.turn.Reply.TheVariants as answered
-use Rattle.orch_core.specs.declared.turn.Turn.{Turn}
-use Rattle.orch_core.specs.declared.turn.Turn.TheVariants as turn
+use Rattle.turns.specs.declared.turn.Reply.{Reply}
+use Rattle.turns.specs.declared.turn.Reply.TheVariants as answered
+use Rattle.turns.specs.declared.turn.Turn.{Turn}
+use Rattle.turns.specs.declared.turn.Turn.TheVariants as turn
 use Rattle.scenario_commands.specs.Found.{found_of}
 use Rattle.command_tasks.specs.declared.own.Own.{Own}
 use Rattle.command_tasks.specs.declared.own.Task.{Task}

@@ -2,8 +2,8 @@
 
 ghost use Rattle.std.specs.Prelude.{◌≡◌, ◌≤◌, All, IfOk, IfSome, OnOk, OnErr, length};
 ghost use Rattle.orch_core.specs.Keeping.{HasTurnCause, Ran};
-ghost use Rattle.orch_core.specs.Runs.{held_run};
-ghost use Rattle.orch_core.specs.Turns.{IsTurn};
+ghost use Rattle.orch_core.specs.Runs.{held_run, recorder};
+ghost use Rattle.scenarios.specs.Turns.{IsTurn};
 ghost use Rattle.command_tasks.specs.Own.{IsOwn, own_of, own_about, own_reply, own_turns, pattern_for, server_of, shows_tables, task_of, turn_for, turns_taken};
 ghost use Rattle.command_tasks.specs.Taking.{RanSome, Stays};
 
@@ -168,9 +168,9 @@ fn own_turn<K: Keeper>(
     orch: &mut Orch,
     own: &Own,
 ) -> Result<Option<Reply>, TurnFault>
-    requires { IsOwn (length orch.old.world.servers) own.now }
-    ensures reply { IfOk result (λ r. r ≡ own_reply own.now orch.old) }
-    ensures ok { OnOk result (Ran (K.kept keeper.old) orch.old (own_turns own.now) (K.kept keeper.new) orch.new) }
+    requires { IsOwn (length orch.old.state.world.servers) own.now }
+    ensures reply { IfOk result (λ r. r ≡ own_reply own.now orch.old.state) }
+    ensures ok { OnOk result (Ran recorder (K.kept keeper.old) orch.old (own_turns own.now) (K.kept keeper.new) orch.new) }
     ensures err { OnErr result (Stays (K.kept keeper.old) orch.old (own_turns own.now) (K.kept keeper.new) orch.new) }
     ensures cause { HasTurnCause (K.faults keeper.old) (K.faults keeper.new) result }
 {
@@ -194,10 +194,10 @@ pub fn take_turns<K: Keeper>(
     turns: &[Turn],
     own: &Own,
 ) -> Result<Option<Reply>, TurnFault>
-    requires turns { All (IsTurn (length orch.old.world.servers)) turns.now }
-    requires own { IsOwn (length orch.old.world.servers) own.now }
-    ensures reply { IfSome (K.kept keeper.old) (λ rows. IfOk result (λ r. r ≡ own_reply own.now (held_run (record { rows = rows; state = orch.old }) turns.now).state)) }
-    ensures ok { OnOk result (Ran (K.kept keeper.old) orch.old (turns_taken own.now turns.now) (K.kept keeper.new) orch.new) }
+    requires turns { All (IsTurn (length orch.old.state.world.servers)) turns.now }
+    requires own { IsOwn (length orch.old.state.world.servers) own.now }
+    ensures reply { IfSome (K.kept keeper.old) (λ rows. IfOk result (λ r. r ≡ own_reply own.now (held_run recorder (record { rows = rows; state = orch.old }) turns.now).state.state)) }
+    ensures ok { OnOk result (Ran recorder (K.kept keeper.old) orch.old (turns_taken own.now turns.now) (K.kept keeper.new) orch.new) }
     ensures err { OnErr result (RanSome (K.kept keeper.old) orch.old (turns_taken own.now turns.now) (K.kept keeper.new) orch.new) }
     ensures cause { HasTurnCause (K.faults keeper.old) (K.faults keeper.new) result }
 {

@@ -1,9 +1,10 @@
--- The commands' words, and what each command needs.
-use Rattle.std.specs.Prelude.{ℕ, true, false, List, [], ◌∷◌, codes, find, Option}
+-- The commands' words, and what each command needs and uses.
+use Rattle.std.specs.Prelude.{ℕ, Bool, true, false, ◌&&◌, ◌||◌, not, List, [], ◌∷◌, codes, find, Option}
 use Rattle.std.specs.Str.{bytes_eq}
 use Rattle.commands.specs.declared.name.CommandName.{CommandName}
 use Rattle.commands.specs.declared.name.CommandName.TheVariants.{MoveUp, MoveUpReplicas, MoveBelow, Repoint, TakeSiblings, TakeMaster, MoveGtid, MoveReplicasGtid, EnableGtid, DisableGtid, Relocate, RelocateReplicas, RegroupReplicas, DetachReplica, ReattachReplica, ResetReplica, StartReplica, StopReplica, RestartReplica, SetReadOnly, SetWriteable, Discover, Forget, BeginDowntime, EndDowntime, RegisterCandidate, Recover, GracefulMasterTakeover, AckClusterRecoveries, Topology, WhichMaster, WhichReplicas, WhichCluster, WhichClusterInstances, Clusters, AllInstances, Find, ReplicationAnalysis, AuditRecoveries, DisableGlobalRecoveries, EnableGlobalRecoveries, CheckGlobalRecoveries}
 use Rattle.commands.specs.declared.needs.Needs.{Needs}
+use Rattle.commands.specs.declared.needs.Uses.{Uses}
 
 -- a command's word
 abbrev pub word_of : CommandName → List ℕ
@@ -63,13 +64,40 @@ nothing = record { i = false; d = false; rule = false; pattern = false }
 
 -- the keys that must be there
 abbrev pub needs_of : CommandName → Needs
+needs_of MoveUp = record nothing { i = true }
+needs_of MoveUpReplicas = record nothing { i = true }
 needs_of MoveBelow = record nothing { i = true; d = true }
+needs_of Repoint = record nothing { i = true }
+needs_of TakeSiblings = record nothing { i = true }
+needs_of TakeMaster = record nothing { i = true }
 needs_of MoveGtid = record nothing { i = true; d = true }
 needs_of MoveReplicasGtid = record nothing { i = true; d = true }
+needs_of EnableGtid = record nothing { i = true }
+needs_of DisableGtid = record nothing { i = true }
 needs_of Relocate = record nothing { i = true; d = true }
 needs_of RelocateReplicas = record nothing { i = true; d = true }
+needs_of RegroupReplicas = record nothing { i = true }
+needs_of DetachReplica = record nothing { i = true }
+needs_of ReattachReplica = record nothing { i = true }
+needs_of ResetReplica = record nothing { i = true }
+needs_of StartReplica = record nothing { i = true }
+needs_of StopReplica = record nothing { i = true }
+needs_of RestartReplica = record nothing { i = true }
+needs_of SetReadOnly = record nothing { i = true }
+needs_of SetWriteable = record nothing { i = true }
+needs_of Discover = record nothing { i = true }
+needs_of Forget = record nothing { i = true }
+needs_of BeginDowntime = record nothing { i = true }
+needs_of EndDowntime = record nothing { i = true }
 needs_of RegisterCandidate = record nothing { i = true; rule = true }
+needs_of Recover = record nothing { i = true }
 needs_of GracefulMasterTakeover = record nothing { i = true; d = true }
+needs_of AckClusterRecoveries = record nothing { i = true }
+needs_of Topology = record nothing { i = true }
+needs_of WhichMaster = record nothing { i = true }
+needs_of WhichReplicas = record nothing { i = true }
+needs_of WhichCluster = record nothing { i = true }
+needs_of WhichClusterInstances = record nothing { i = true }
 needs_of Clusters = nothing
 needs_of AllInstances = nothing
 needs_of Find = record nothing { pattern = true }
@@ -78,4 +106,55 @@ needs_of AuditRecoveries = nothing
 needs_of DisableGlobalRecoveries = nothing
 needs_of EnableGlobalRecoveries = nothing
 needs_of CheckGlobalRecoveries = nothing
-needs_of other = record nothing { i = true }
+
+abbrev pub unused : Uses
+unused = record { i = false; d = false; rule = false; duration = false; reason = false; owner = false; pattern = false }
+
+-- the keys that make a difference where they are there
+abbrev pub uses_of : CommandName → Uses
+uses_of MoveUp = record unused { i = true }
+uses_of MoveUpReplicas = record unused { i = true }
+uses_of MoveBelow = record unused { i = true; d = true }
+uses_of Repoint = record unused { i = true; d = true }
+uses_of TakeSiblings = record unused { i = true }
+uses_of TakeMaster = record unused { i = true }
+uses_of MoveGtid = record unused { i = true; d = true }
+uses_of MoveReplicasGtid = record unused { i = true; d = true }
+uses_of EnableGtid = record unused { i = true }
+uses_of DisableGtid = record unused { i = true }
+uses_of Relocate = record unused { i = true; d = true }
+uses_of RelocateReplicas = record unused { i = true; d = true }
+uses_of RegroupReplicas = record unused { i = true }
+uses_of DetachReplica = record unused { i = true }
+uses_of ReattachReplica = record unused { i = true }
+uses_of ResetReplica = record unused { i = true }
+uses_of StartReplica = record unused { i = true }
+uses_of StopReplica = record unused { i = true }
+uses_of RestartReplica = record unused { i = true }
+uses_of SetReadOnly = record unused { i = true }
+uses_of SetWriteable = record unused { i = true }
+uses_of Discover = record unused { i = true }
+uses_of Forget = record unused { i = true }
+uses_of BeginDowntime = record unused { i = true; duration = true; reason = true; owner = true }
+uses_of EndDowntime = record unused { i = true }
+uses_of RegisterCandidate = record unused { i = true; rule = true }
+uses_of Recover = record unused { i = true }
+uses_of GracefulMasterTakeover = record unused { i = true; d = true }
+uses_of AckClusterRecoveries = record unused { i = true }
+uses_of Topology = record unused { i = true }
+uses_of WhichMaster = record unused { i = true }
+uses_of WhichReplicas = record unused { i = true }
+uses_of WhichCluster = record unused { i = true }
+uses_of WhichClusterInstances = record unused { i = true }
+uses_of Clusters = unused
+uses_of AllInstances = unused
+uses_of Find = record unused { pattern = true }
+uses_of ReplicationAnalysis = unused
+uses_of AuditRecoveries = unused
+uses_of DisableGlobalRecoveries = unused
+uses_of EnableGlobalRecoveries = unused
+uses_of CheckGlobalRecoveries = unused
+
+-- each key that is needed is used
+abbrev pub covers : Uses → Needs → Bool
+covers uses needs = (uses.i || not needs.i) && (uses.d || not needs.d) && (uses.rule || not needs.rule) && (uses.pattern || not needs.pattern)

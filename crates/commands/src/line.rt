@@ -2,8 +2,10 @@
 
 ghost use Rattle.std.specs.Prelude.{◌≡◌, ◌↔◌, IfOk, IsTrue};
 
-use crate::Memory;
-use orch_base::{Label, ServerNo, Version};
+use crate::{Memory, Refusal};
+use binlog_coords::Coord;
+use orch_base::{Code, Ending, Kind, Label, Moment, Rule, ServerNo, Version};
+use server_words::Spot;
 use std::alloc::Global;
 use std::marker::Model;
 
@@ -18,6 +20,59 @@ pub enum StateWord {
     Detached,
     /// `unreachable`: its last reading didn't reach it.
     Unreachable,
+}
+
+/// Why a replica isn't below the promoted server.
+#[derive(Clone, Copy, Debug, PartialEq, Eq)]
+pub enum Lost {
+    /// It executed more of the failed server's log than the promoted one: up to here.
+    Ahead(Coord),
+    /// It executed less of the failed server's log than the promoted one: up to here.
+    Behind(Coord),
+    /// It wasn't reached.
+    Unreachable,
+    /// It stands elsewhere than below the failed server.
+    Moved(Spot),
+    /// It writes no binary log.
+    NotLogging,
+    /// Its rule of promotion is `must_not`.
+    MustNot,
+}
+
+/// What a line says of a recovery.
+#[derive(Drop)]
+pub struct RecoveryLine {
+    /// Its number, counted from 1.
+    pub id: u64,
+    /// The label of the cluster.
+    pub cluster: Label,
+    pub kind: Kind,
+    /// The server that failed, or is replaced.
+    pub failed: ServerNo,
+    pub begun: Moment,
+    /// When it ended: none for one that hasn't.
+    pub ended: Option<Moment>,
+    pub outcome: Ending,
+    /// Whether it is acknowledged.
+    pub acked: bool,
+}
+
+impl RecoveryLine {
+    /// The same line once more.
+    pub fn copy(&self, alloc: Global) -> Result<RecoveryLine, Memory>
+        ensures { IfOk result (λ l. l ≡ self.now) }
+    {
+        Ok(RecoveryLine {
+            id: self.id,
+            cluster: self.cluster.copy(alloc)?,
+            kind: self.kind,
+            failed: self.failed,
+            begun: self.begun,
+            ended: self.ended,
+            outcome: self.outcome,
+            acked: self.acked,
+        })
+    }
 }
 
 /// What a line says.
@@ -38,6 +93,60 @@ pub enum Line {
         version: Version,
         /// Whether it refuses clients' writes (`read_only`).
         read_only: bool,
+    },
+    /// The first server replicates from the second.
+    Follows(ServerNo, ServerNo),
+    /// This server was promoted in a master's place.
+    Promoted(ServerNo),
+    /// This server takes over the replicas of an intermediate master.
+    Successor(ServerNo),
+    /// A replica isn't below the promoted server.
+    Lost {
+        no: ServerNo,
+        why: Lost,
+        /// Whether it was detached from its source.
+        detached: bool,
+    },
+    /// An instance's analysis.
+    Analysis {
+        no: ServerNo,
+        code: Code,
+        /// Its replicas.
+        replicas: u32,
+        /// Those whose last reading reached them.
+        valid: u32,
+        /// Those of them that replicate.
+        replicating: u32,
+        /// Those of them that haven't executed all that they read.
+        lagging: u32,
+    },
+    /// An instance is in downtime until this moment.
+    Downtime(ServerNo, Moment),
+    /// An instance is registered with a rule of promotion until this moment.
+    Candidate {
+        no: ServerNo,
+        rule: Rule,
+        until: Moment,
+    },
+    /// So many recoveries were acknowledged.
+    Acknowledged(u64),
+    /// Recoveries are enabled.
+    Enabled,
+    /// Recoveries are disabled.
+    Disabled,
+    /// A recovery of the audit.
+    Recovery(RecoveryLine),
+    /// A recovery of an instance with this analysis was begun, as this job.
+    Begun {
+        no: ServerNo,
+        code: Code,
+        job: u64,
+    },
+    /// A recovery of an instance with this analysis was refused.
+    Refused {
+        no: ServerNo,
+        code: Code,
+        refusal: Refusal,
     },
 }
 
@@ -62,6 +171,49 @@ impl Line {
                 state: *state,
                 version: *version,
                 read_only: *read_only,
+            },
+            Line::Follows(no, source) => Line::Follows(*no, *source),
+            Line::Promoted(no) => Line::Promoted(*no),
+            Line::Successor(no) => Line::Successor(*no),
+            Line::Lost { no, why, detached } => Line::Lost {
+                no: *no,
+                why: *why,
+                detached: *detached,
+            },
+            Line::Analysis {
+                no,
+                code,
+                replicas,
+                valid,
+                replicating,
+                lagging,
+            } => Line::Analysis {
+                no: *no,
+                code: *code,
+                replicas: *replicas,
+                valid: *valid,
+                replicating: *replicating,
+                lagging: *lagging,
+            },
+            Line::Downtime(no, until) => Line::Downtime(*no, *until),
+            Line::Candidate { no, rule, until } => Line::Candidate {
+                no: *no,
+                rule: *rule,
+                until: *until,
+            },
+            Line::Acknowledged(count) => Line::Acknowledged(*count),
+            Line::Enabled => Line::Enabled,
+            Line::Disabled => Line::Disabled,
+            Line::Recovery(recovery) => Line::Recovery(recovery.copy(alloc)?),
+            Line::Begun { no, code, job } => Line::Begun {
+                no: *no,
+                code: *code,
+                job: *job,
+            },
+            Line::Refused { no, code, refusal } => Line::Refused {
+                no: *no,
+                code: *code,
+                refusal: refusal.copy(alloc)?,
             },
         })
     }

@@ -4,8 +4,7 @@ ghost use Rattle.std.specs.Prelude.{◌≡◌, IfOk};
 ghost use Rattle.commands.specs.Turns.{fits, has_needed, is_within};
 
 use crate::{CommandName, Memory};
-use instance_keeper::Rule;
-use orch_base::{Label, ServerNo};
+use orch_base::{Label, Rule, ServerNo};
 use std::alloc::Global;
 use std::marker::Model;
 

@@ -9,3 +9,4 @@ pub mod RoundTrip
 pub mod SameSets
 pub mod Count
 pub mod Inserts
+pub mod Parts

@@ -8,8 +8,6 @@ mod interval;
 mod print;
 mod reserved;
 mod set;
-#[cfg(test)]
-mod tests;
 
 pub use fault::GtidFault;
 pub use interval::{Interval, LARGEST};

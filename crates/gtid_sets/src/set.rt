@@ -1,6 +1,6 @@
 //! Sets of GTIDs.
 
-ghost use Rattle.std.specs.Prelude.{◌≡◌, ℕ, List, ◌^◌, ◌<◌, ◌≤◌, ◌↔◌, ◌&&◌, ◌||◌, ◌⊎◌, ◌==◌, ◌++◌, ◌∷◌, not, nat_le, nat_lt, true, false, IsTrue, [], length, slice_index_or, IfOk, OnOk, OnErr};
+ghost use Rattle.std.specs.Prelude.{◌≡◌, ℕ, List, ◌^◌, ◌<◌, ◌≤◌, ◌↔◌, ◌&&◌, ◌||◌, ◌⊎◌, ◌==◌, ◌++◌, ◌∷◌, not, nat_le, nat_lt, true, false, IsTrue, [], length, slice_index_or, IfOk, OnOk, OnErr, filter};
 ghost use Rattle.std.specs.Bool.{OnTrue, OnFalse};
 ghost use Rattle.gtid_sets.specs.declared.interval.Interval.{Interval};
 ghost use Rattle.std.specs.List.{All, AllPairs, AllWithin, list_any};
@@ -168,6 +168,22 @@ impl GtidSet {
         )
     }
 
+    /// The GTIDs of one UUID. It takes time in the number of intervals.
+    pub fn of_uuid(&self, uuid: u128) -> Result<GtidSet, Memory>
+        ensures part { IfOk result (λ part. part ≡ filter (λ s. s.uuid == uuid) self.now) }
+        ensures has { IfOk result (λ part. (u n : ℕ) → holds part u n ≡ ((u == uuid) && holds self.now u n)) }
+    {
+        let intervals = part_of(*self.intervals.allocator(), &self.intervals, uuid)?;
+        Ok(GtidSet { intervals })
+    }
+
+    /// Shows to proofs that a set's intervals stand in order, and that no two of them overlap or touch. It takes no memory.
+    pub fn show_order(&self)
+        ensures { IsSet self.now }
+    {
+        let _intervals = self.intervals.len();
+    }
+
     // Appends an interval that begins nowhere before those of the set, joined to the last one where
     // they overlap or touch.
     fn append(&mut self, next: Interval) -> Result<(), Memory>
@@ -186,6 +202,17 @@ impl GtidSet {
         }
         Ok(())
     }
+}
+
+// The intervals of one UUID.
+fn part_of(alloc: Global, intervals: &[Interval], uuid: u128) -> Result<Vec<Interval>, Memory>
+    ensures { IfOk result (λ part. part.items ≡ filter (λ s. s.uuid == uuid) intervals.now) }
+{
+    intervals
+        .iter()
+        .copied()
+        .filter(|s| s.uuid == uuid)
+        .collect(alloc)
 }
 
 fn single(alloc: Global, interval: Interval) -> Result<GtidSet, Memory>

@@ -1,14 +1,15 @@
 -- What keeps a book a book.
 use Rattle.std.proofs.Common.{◌≡◌, ℕ, suc, zero, ◌+◌, ◌<◌, ◌^◌, Bool, true, false, List, [], ◌∷◌, length, get_or, replicate, Option, None, Some, refl, sym, ap, ◌∙◌, subst, All, zero-add, add-zero, arith}
 use Rattle.std.specs.Prelude.{◌&&◌, nat_lt, IfSome, slice_set, option_map, unwrap_or}
-use Rattle.std.proofs.lemmas.List.{length-set, length-replicate}
+use Rattle.std.proofs.lemmas.List.{length-set, length-replicate, length-map}
 use Rattle.std.proofs.lemmas.List.Elements.{All-set, All-replicate, All-head, All-tail}
 use Rattle.std.proofs.lemmas.Bool.{ltb-true}
-use Rattle.orch_base.specs.Names.{HostPort}
 use Rattle.orch_base.specs.declared.server.ServerNo.{ServerNo}
+use Rattle.orch_base.specs.declared.server.Settings.{Settings}
 use Rattle.instance_keeper.specs.declared.observation.Observation.{Observation}
-use Rattle.instance_keeper.specs.declared.observation.Seen.{Seen}
+use Rattle.server_words.specs.declared.status.Status.{Status as Seen}
 use Rattle.instance_keeper.specs.declared.observation.Instance.{Instance}
+use Rattle.instance_keeper.specs.declared.bridge.Bridge.{Bridge}
 use Rattle.instance_keeper.specs.declared.row.Downtime.{Downtime}
 use Rattle.instance_keeper.specs.declared.row.Candidate.{Candidate}
 use Rattle.instance_keeper.specs.declared.row.Row.{Row}
@@ -19,7 +20,7 @@ use Rattle.instance_keeper.specs.declared.row.Table.{Table}
 use Rattle.instance_keeper.specs.declared.row.Table.TheVariants as table
 use Rattle.instance_keeper.specs.declared.row.Key.{Key}
 use Rattle.instance_keeper.specs.declared.row.Key.TheVariants as key
-use Rattle.instance_keeper.specs.Book.{Known, IsBook, IsNumbered, HasKnownSource, are_known, row_fits, source_servers, seen_servers, observed_servers, instance_at, renewed, empty_book, after_put, after_removal, after_change, fits}
+use Rattle.instance_keeper.specs.Book.{Known, IsBook, IsNumbered, HasKnownSource, are_known, row_fits, source_servers, seen_servers, observed_servers, instance_at, renewed, names_of, empty_book, after_put, after_removal, after_change, fits}
 
 pub both_true : (a b : Bool) → (a && b) ≡ true → (a ≡ true) × (b ≡ true)
 both_true true true e = (refl, refl)
@@ -47,25 +48,33 @@ numbered_at no_of from (suc n) (y ∷ ys) h =
     let shift : from + 1 + n ≡ from + suc n = omega arith in
     subst (λ k. IfSome (get_or ys n None) (λ a. (no_of a).0 ≡ k)) shift (numbered_at no_of (from + 1) n ys h.1)
 
-pub empty_is : (names : List HostPort) → length names < 2 ^ 32 → IsBook (empty_book names)
-empty_is names small = record {
-  small = small;
-  instances = length-replicate (length names) None;
-  downtimes = length-replicate (length names) None;
-  candidates = length-replicate (length names) None;
-  instance_numbers = numbered_none (λ i. i.no) 0 (length names);
-  downtime_numbers = numbered_none (λ d. d.no) 0 (length names);
-  candidate_numbers = numbered_none (λ c. c.no) 0 (length names);
-  sources = All-replicate (HasKnownSource (length names)) (length names) None tt;
-}
+pub empty_is : (settings : List Settings) → length settings < 2 ^ 32 → IsBook (empty_book settings)
+empty_is settings small =
+    let len : length settings ≡ length (names_of settings) = sym (length-map settings (λ s. s.name)) in
+    record {
+      small = omega (arith, small, len);
+      named = refl;
+      instances = length-replicate (length settings) None ∙ len;
+      downtimes = length-replicate (length settings) None ∙ len;
+      candidates = length-replicate (length settings) None ∙ len;
+      rings = length-replicate {A = List Bridge} (length settings) [] ∙ len;
+      leases = length-replicate {A = Option ℕ} (length settings) None ∙ len;
+      instance_numbers = numbered_none (λ i. i.no) 0 (length settings);
+      downtime_numbers = numbered_none (λ d. d.no) 0 (length settings);
+      candidate_numbers = numbered_none (λ c. c.no) 0 (length settings);
+      sources = All-replicate (HasKnownSource (length (names_of settings))) (length settings) None tt;
+    }
 
 -- a book in which a server's place takes a value of its own
 pub instance_set : (b : Known) (n : ℕ) (x : Option Instance) → IsBook b → IfSome x (λ i. i.no.0 ≡ n) → HasKnownSource (length b.names) x → IsBook (record b { instances = slice_set b.instances n x })
 instance_set b n x is own known = record {
   small = is.small;
+  named = is.named;
   instances = length-set b.instances n x ∙ is.instances;
   downtimes = is.downtimes;
   candidates = is.candidates;
+  rings = is.rings;
+  leases = is.leases;
   instance_numbers = numbered_set (λ i. i.no) 0 n x b.instances is.instance_numbers (subst (λ k. IfSome x (λ i. i.no.0 ≡ k)) (sym (zero-add n)) own);
   downtime_numbers = is.downtime_numbers;
   candidate_numbers = is.candidate_numbers;
@@ -73,27 +82,32 @@ instance_set b n x is own known = record {
 }
 
 -- the book without a row, from its parts
-pub empty_from : (count : ℕ) (names wanted : List HostPort) (instances : List (Option Instance)) (downtimes : List (Option Downtime)) (candidates : List (Option Candidate))
-    → names ≡ wanted → length wanted ≡ count → count < 2 ^ 32 → instances ≡ replicate count None → downtimes ≡ replicate count None → candidates ≡ replicate count None
-    → record { names = names; instances = instances; downtimes = downtimes; candidates = candidates; switch = None } ≡ empty_book wanted
-empty_from count names wanted instances downtimes candidates n len small i d c =
+pub empty_from : (count : ℕ) (settings wanted : List Settings) (instances : List (Option Instance)) (downtimes : List (Option Downtime)) (candidates : List (Option Candidate)) (rings : List (List Bridge)) (leases : List (Option ℕ))
+    → settings ≡ wanted → length wanted ≡ count → instances ≡ replicate count None → downtimes ≡ replicate count None → candidates ≡ replicate count None → rings ≡ replicate count [] → leases ≡ replicate count None
+    → record { settings = settings; names = names_of settings; instances = instances; downtimes = downtimes; candidates = candidates; switch = None; rings = rings; leases = leases } ≡ empty_book wanted
+empty_from count settings wanted instances downtimes candidates rings leases n len i d c r l =
     let i2 : instances ≡ replicate (length wanted) None = i ∙ ap (λ k. replicate k None) (sym len) in
     let d2 : downtimes ≡ replicate (length wanted) None = d ∙ ap (λ k. replicate k None) (sym len) in
     let c2 : candidates ≡ replicate (length wanted) None = c ∙ ap (λ k. replicate k None) (sym len) in
+    let r2 : rings ≡ replicate (length wanted) [] = r ∙ ap (λ k. replicate k []) (sym len) in
+    let l2 : leases ≡ replicate (length wanted) None = l ∙ ap (λ k. replicate k None) (sym len) in
     cc
 
-pub empty_from_is : (count : ℕ) (names wanted : List HostPort) (instances : List (Option Instance)) (downtimes : List (Option Downtime)) (candidates : List (Option Candidate))
-    → names ≡ wanted → length wanted ≡ count → count < 2 ^ 32 → instances ≡ replicate count None → downtimes ≡ replicate count None → candidates ≡ replicate count None
-    → IsBook (record { names = names; instances = instances; downtimes = downtimes; candidates = candidates; switch = None })
-empty_from_is count names wanted instances downtimes candidates n len small i d c =
-    subst IsBook (sym (empty_from count names wanted instances downtimes candidates n len small i d c)) (empty_is wanted (omega (arith, len, small)))
+pub empty_from_is : (count : ℕ) (settings wanted : List Settings) (instances : List (Option Instance)) (downtimes : List (Option Downtime)) (candidates : List (Option Candidate)) (rings : List (List Bridge)) (leases : List (Option ℕ))
+    → settings ≡ wanted → length wanted ≡ count → count < 2 ^ 32 → instances ≡ replicate count None → downtimes ≡ replicate count None → candidates ≡ replicate count None → rings ≡ replicate count [] → leases ≡ replicate count None
+    → IsBook (record { settings = settings; names = names_of settings; instances = instances; downtimes = downtimes; candidates = candidates; switch = None; rings = rings; leases = leases })
+empty_from_is count settings wanted instances downtimes candidates rings leases n len small i d c r l =
+    subst IsBook (sym (empty_from count settings wanted instances downtimes candidates rings leases n len i d c r l)) (empty_is wanted (omega (arith, len, small)))
 
 pub downtime_set : (b : Known) (n : ℕ) (x : Option Downtime) → IsBook b → IfSome x (λ d. d.no.0 ≡ n) → IsBook (record b { downtimes = slice_set b.downtimes n x })
 downtime_set b n x is own = record {
   small = is.small;
+  named = is.named;
   instances = is.instances;
   downtimes = length-set b.downtimes n x ∙ is.downtimes;
   candidates = is.candidates;
+  rings = is.rings;
+  leases = is.leases;
   instance_numbers = is.instance_numbers;
   downtime_numbers = numbered_set (λ d. d.no) 0 n x b.downtimes is.downtime_numbers (subst (λ k. IfSome x (λ d. d.no.0 ≡ k)) (sym (zero-add n)) own);
   candidate_numbers = is.candidate_numbers;
@@ -103,9 +117,12 @@ downtime_set b n x is own = record {
 pub candidate_set : (b : Known) (n : ℕ) (x : Option Candidate) → IsBook b → IfSome x (λ c. c.no.0 ≡ n) → IsBook (record b { candidates = slice_set b.candidates n x })
 candidate_set b n x is own = record {
   small = is.small;
+  named = is.named;
   instances = is.instances;
   downtimes = is.downtimes;
   candidates = length-set b.candidates n x ∙ is.candidates;
+  rings = is.rings;
+  leases = is.leases;
   instance_numbers = is.instance_numbers;
   downtime_numbers = is.downtime_numbers;
   candidate_numbers = numbered_set (λ c. c.no) 0 n x b.candidates is.candidate_numbers (subst (λ k. IfSome x (λ c. c.no.0 ≡ k)) (sym (zero-add n)) own);
@@ -115,9 +132,42 @@ candidate_set b n x is own = record {
 pub switch_set : (b : Known) (x : Option Bool) → IsBook b → IsBook (record b { switch = x })
 switch_set b x is = record {
   small = is.small;
+  named = is.named;
   instances = is.instances;
   downtimes = is.downtimes;
   candidates = is.candidates;
+  rings = is.rings;
+  leases = is.leases;
+  instance_numbers = is.instance_numbers;
+  downtime_numbers = is.downtime_numbers;
+  candidate_numbers = is.candidate_numbers;
+  sources = is.sources;
+}
+
+pub rings_set : (b : Known) (n : ℕ) (x : List Bridge) → IsBook b → IsBook (record b { rings = slice_set b.rings n x })
+rings_set b n x is = record {
+  small = is.small;
+  named = is.named;
+  instances = is.instances;
+  downtimes = is.downtimes;
+  candidates = is.candidates;
+  rings = length-set b.rings n x ∙ is.rings;
+  leases = is.leases;
+  instance_numbers = is.instance_numbers;
+  downtime_numbers = is.downtime_numbers;
+  candidate_numbers = is.candidate_numbers;
+  sources = is.sources;
+}
+
+pub leases_set : (b : Known) (xs : List (Option ℕ)) → IsBook b → length xs ≡ length b.leases → IsBook (record b { leases = xs })
+leases_set b xs is same = record {
+  small = is.small;
+  named = is.named;
+  instances = is.instances;
+  downtimes = is.downtimes;
+  candidates = is.candidates;
+  rings = is.rings;
+  leases = same ∙ is.leases;
   instance_numbers = is.instance_numbers;
   downtime_numbers = is.downtime_numbers;
   candidate_numbers = is.candidate_numbers;
@@ -139,7 +189,7 @@ put_is b (row.Recovery r) is h = is
 put_is b (row.Switch enabled) is h = switch_set b (Some enabled) is
 
 pub removal_is : (b : Known) (t : Table) (k : Key) → IsBook b → IsBook (after_removal b t k)
-removal_is b table.Instance (key.Server n) is = instance_set b n.0 None is tt tt
+removal_is b table.Instance (key.Server n) is = rings_set (record b { instances = slice_set b.instances n.0 None }) n.0 [] (instance_set b n.0 None is tt tt)
 removal_is b table.Downtime (key.Server n) is = downtime_set b n.0 None is tt
 removal_is b table.Candidate (key.Server n) is = candidate_set b n.0 None is tt
 removal_is b table.Switch key.Global is = switch_set b None is
@@ -161,6 +211,10 @@ put_kept b view r i now same is h own e =
 
 pub none_kept : (b : Known) (n : ℕ) (now : List (Option Instance)) → IsBook b → now ≡ slice_set b.instances n None → IsBook (record b { instances = now })
 none_kept b n now is e = subst (λ l. IsBook (record b { instances = l })) (sym e) (instance_set b n None is tt tt)
+
+pub none_ringed : (b : Known) (n : ℕ) (now : List (Option Instance)) (rings : List (List Bridge)) → IsBook b → now ≡ slice_set b.instances n None → rings ≡ slice_set b.rings n []
+    → IsBook (record b { instances = now; rings = rings })
+none_ringed b n now rings is e r = subst (λ l. IsBook (record b { instances = now; rings = l })) (sym r) (rings_set (record b { instances = now }) n [] (none_kept b n now is e))
 
 source_known : (count : ℕ) (s : Option Seen) (kept : Seen) → are_known count (source_servers kept.source) ≡ true → are_known count (seen_servers s) ≡ true → are_known count (source_servers (unwrap_or s kept).source) ≡ true
 source_known count None kept h g = h

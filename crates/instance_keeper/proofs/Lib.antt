@@ -7,3 +7,6 @@ pub mod LookUps
 pub mod BookRows
 pub mod BookLaws
 pub mod SameRows
+pub mod Ranked
+pub mod Leasing
+pub mod Ringed

@@ -1,6 +1,6 @@
 -- Equal instances are those that the code tells to be equal.
 use Rattle.std.proofs.Common.{◌≡◌, ℕ, Bool, true, false, List, [], ◌∷◌, Option, None, Some, refl, sym, ap, subst, arith}
-use Rattle.std.specs.Prelude.{◌==◌, ◌&&◌, not, if◌then◌else◌}
+use Rattle.std.specs.Prelude.{◌==◌, ◌&&◌, if◌then◌else◌}
 use Rattle.std.proofs.lemmas.Bool.{false≢true}
 use Rattle.binlog_coords.specs.declared.Coord.{Coord}
 use Rattle.gtid_sets.specs.declared.interval.Interval.{Interval}
@@ -10,7 +10,7 @@ use Rattle.orch_base.specs.declared.server.SourceState.{SourceState}
 use Rattle.orch_base.specs.declared.server.SourceState.TheVariants as source
 use Rattle.orch_base.specs.declared.server.IoState.{IoState}
 use Rattle.orch_base.specs.declared.server.IoState.TheVariants as io
-use Rattle.instance_keeper.specs.declared.observation.Seen.{Seen}
+use Rattle.server_words.specs.declared.status.Status.{Status as Seen}
 use Rattle.instance_keeper.specs.declared.observation.Instance.{Instance}
 use Rattle.instance_keeper.specs.declared.row.Row.TheVariants as row
 use Rattle.instance_keeper.specs.declared.row.Change.TheVariants as change

@@ -1,19 +1,20 @@
 -- What orchestrator knows, by the servers' numbers.
-use Rattle.std.specs.Prelude.{◌≡◌, ℕ, ◌+◌, ◌<◌, ◌^◌, ◌&&◌, nat_lt, Bool, true, false, if◌then◌else◌, List, [], ◌∷◌, ◌++◌, length, fold, replicate, filter_map, slice_set, slice_index_or, Option, None, Some, option_map, unwrap_or, is_some, IfSome, ⊤}
+use Rattle.std.specs.Prelude.{◌≡◌, ℕ, ◌+◌, ◌<◌, ◌^◌, ◌&&◌, nat_lt, Bool, true, false, if◌then◌else◌, List, [], ◌∷◌, ◌++◌, length, map, fold, replicate, filter_map, slice_set, slice_index_or, Option, None, Some, Result, Ok, Err, option_map, unwrap_or, is_some, IfSome, ⊤}
 use Rattle.std.specs.List.{All, list_all}
 use Rattle.std.specs.Option.{option_to_list}
 use Rattle.orch_base.specs.Names.{HostPort}
 use Rattle.orch_base.specs.declared.server.ServerNo.{ServerNo}
+use Rattle.orch_base.specs.declared.server.Settings.{Settings}
 use Rattle.orch_base.specs.declared.server.Moment.{Moment}
 use Rattle.orch_base.specs.declared.server.SourceState.{SourceState}
 use Rattle.orch_base.specs.declared.server.SourceState.TheVariants as source
-use Rattle.instance_keeper.specs.declared.observation.Seen.{Seen}
+use Rattle.server_words.specs.declared.status.Status.{Status as Seen}
 use Rattle.instance_keeper.specs.declared.observation.Observation.{Observation}
 use Rattle.instance_keeper.specs.declared.observation.Instance.{Instance}
-use Rattle.instance_keeper.specs.declared.recovery.Ending.{Ending}
-use Rattle.instance_keeper.specs.declared.recovery.Ending.TheVariants as ending
-use Rattle.instance_keeper.specs.declared.recovery.Rule.{Rule}
-use Rattle.instance_keeper.specs.declared.recovery.Rule.TheVariants as rule
+use Rattle.orch_base.specs.declared.recovery.Ending.{Ending}
+use Rattle.orch_base.specs.declared.recovery.Ending.TheVariants as ending
+use Rattle.orch_base.specs.declared.rule.Rule.{Rule}
+use Rattle.orch_base.specs.declared.rule.Rule.TheVariants as rule
 use Rattle.instance_keeper.specs.declared.row.Downtime.{Downtime}
 use Rattle.instance_keeper.specs.declared.row.Candidate.{Candidate}
 use Rattle.instance_keeper.specs.declared.row.Row.{Row}
@@ -26,16 +27,23 @@ use Rattle.instance_keeper.specs.declared.row.Change.{Change}
 use Rattle.instance_keeper.specs.declared.row.Change.TheVariants as change
 use Rattle.instance_keeper.specs.declared.book.StoreAnswer.{StoreAnswer}
 use Rattle.instance_keeper.specs.declared.book.StoreAnswer.TheVariants as answer
+use Rattle.instance_keeper.specs.declared.bridge.Bridge.{Bridge}
+use Rattle.instance_keeper.specs.declared.lease.LeaseFault.{LeaseFault}
+use Rattle.instance_keeper.specs.Bridges.{bridge_in, ringed}
 use Rattle.instance_keeper.specs.Rows.{table_of}
 use Rattle.instance_keeper.specs.Same.{same_instance}
 
--- each list has a place for each server, by its number; the switch is none without a row
+-- each list has a place for each server, by its number; the settings and names never change; the switch is none without a
+-- row
 pub record Known : Type 0 where
+  pub settings : List Settings
   pub names : List HostPort
   pub instances : List (Option Instance)
   pub downtimes : List (Option Downtime)
   pub candidates : List (Option Candidate)
   pub switch : Option Bool
+  pub rings : List (List Bridge)
+  pub leases : List (Option ℕ)
 
 -- the numbers of the servers that a value names
 abbrev pub source_servers : SourceState → List ℕ
@@ -87,13 +95,20 @@ abbrev pub fits : ℕ → Change → Bool
 fits count (change.Put r) = row_fits count r
 fits count (change.Remove t k) = is_of_book t && are_known count (key_servers k)
 
-abbrev pub empty_book : List HostPort → Known
-empty_book names = record {
-  names = names;
-  instances = replicate (length names) None;
-  downtimes = replicate (length names) None;
-  candidates = replicate (length names) None;
+-- the names of servers, by their settings
+abbrev pub names_of : List Settings → List HostPort
+names_of settings = map (λ s. s.name) settings
+
+abbrev pub empty_book : List Settings → Known
+empty_book settings = record {
+  settings = settings;
+  names = names_of settings;
+  instances = replicate (length settings) None;
+  downtimes = replicate (length settings) None;
+  candidates = replicate (length settings) None;
   switch = None;
+  rings = replicate (length settings) [];
+  leases = replicate (length settings) None;
 }
 
 abbrev pub after_put : Known → Row → Known
@@ -104,7 +119,7 @@ after_put b (row.Recovery r) = b
 after_put b (row.Switch enabled) = record b { switch = Some enabled }
 
 abbrev pub after_removal : Known → Table → Key → Known
-after_removal b table.Instance (key.Server n) = record b { instances = slice_set b.instances n.0 None }
+after_removal b table.Instance (key.Server n) = record b { instances = slice_set b.instances n.0 None; rings = slice_set b.rings n.0 [] }
 after_removal b table.Downtime (key.Server n) = record b { downtimes = slice_set b.downtimes n.0 None }
 after_removal b table.Candidate (key.Server n) = record b { candidates = slice_set b.candidates n.0 None }
 after_removal b table.Switch key.Global = record b { switch = None }
@@ -119,8 +134,8 @@ abbrev pub after_row : Known → Row → Known
 after_row b r = if row_fits (length b.names) r then after_put b r else b
 
 -- the book of these rows: of two with one table and key the last stands
-abbrev pub book_made : List HostPort → List Row → Known
-book_made names rows = fold after_row (empty_book names) rows
+abbrev pub book_made : List Settings → List Row → Known
+book_made settings rows = fold after_row (empty_book settings) rows
 
 abbrev pub instance_at : Known → ServerNo → Option Instance
 instance_at b n = slice_index_or b.instances n.0 None
@@ -134,9 +149,13 @@ abbrev pub store_answer : Option Instance → Observation → StoreAnswer
 store_answer None o = answer.Unknown
 store_answer (Some kept) o = if nat_lt o.read kept.read then answer.Old kept.read else answer.Stored
 
+-- the instance, renewed by a reading, and the bridge that the reading shows
+abbrev pub renewed_book : Known → Observation → Option Instance → Known
+renewed_book b o now = record b { instances = slice_set b.instances o.no.0 now; rings = ringed b.rings o.no (bridge_in o.no o.seen) }
+
 abbrev pub stored_over : Known → Observation → Option Instance → Known
 stored_over b o None = b
-stored_over b o (Some kept) = if nat_lt o.read kept.read then b else after_put b (row.Instance (renewed kept o))
+stored_over b o (Some kept) = if nat_lt o.read kept.read then b else renewed_book b o (Some (renewed kept o))
 
 abbrev pub after_store : Known → Observation → Known
 after_store b o = stored_over b o (instance_at b o.no)
@@ -148,6 +167,18 @@ renewal kept now = if same_instance kept now then None else Some (change.Put (ro
 abbrev pub store_change : Option Instance → Observation → Option Change
 store_change None o = None
 store_change (Some kept) o = if nat_lt o.read kept.read then None else renewal kept (renewed kept o)
+
+-- with one more bridge
+abbrev pub after_bridge : Known → Bridge → Known
+after_bridge b x = record b { rings = ringed b.rings x.no (Some x) }
+
+-- the job that has a server's lease
+abbrev pub lease_at : Known → ServerNo → Option ℕ
+lease_at b n = slice_index_or b.leases n.0 None
+
+abbrev pub lease_result : Option LeaseFault → Result Unit LeaseFault
+lease_result None = Ok tt
+lease_result (Some fault) = Err fault
 
 -- the end of a downtime that still lasts
 abbrev pub end_after : ℕ → Option Downtime → Option Moment
@@ -180,12 +211,15 @@ IsNumbered no_of from (x ∷ xs) = IfSome x (λ a. (no_of a).0 ≡ from) × IsNu
 abbrev pub HasKnownSource : ℕ → Option Instance → Type 0
 HasKnownSource count x = IfSome x (λ i. are_known count (source_servers i.seen.source) ≡ true)
 
--- every server has its places, and every source is known
+-- the names are those of the settings, every server has its places, and every source is known
 pub record IsBook (b : Known) : Type 0 where
   pub small : length b.names < 2 ^ 32
+  pub named : b.names ≡ names_of b.settings
   pub instances : length b.instances ≡ length b.names
   pub downtimes : length b.downtimes ≡ length b.names
   pub candidates : length b.candidates ≡ length b.names
+  pub rings : length b.rings ≡ length b.names
+  pub leases : length b.leases ≡ length b.names
   pub instance_numbers : IsNumbered (λ i. i.no) 0 b.instances
   pub downtime_numbers : IsNumbered (λ d. d.no) 0 b.downtimes
   pub candidate_numbers : IsNumbered (λ c. c.no) 0 b.candidates

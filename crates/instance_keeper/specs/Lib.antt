@@ -4,3 +4,6 @@ pub mod Same
 pub mod Book
 pub mod Spots
 pub mod Ranges
+pub mod ServerLists
+pub mod Bridges
+pub mod Leases

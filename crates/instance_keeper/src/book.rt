@@ -1,17 +1,23 @@
 //! The book: what orchestrator knows.
 
-ghost use Rattle.std.specs.Prelude.{◌≡◌, ◌<◌, ◌^◌, None, Some, IfOk, OnOk, IsTrue, true, length, map, replicate, slice_get, slice_set, slice_index_or, option_map, unwrap_or, nat_lt};
+ghost use Rattle.std.specs.Prelude.{◌≡◌, ◌<◌, ◌^◌, All, None, Some, [], IfOk, OnErr, OnOk, IsTrue, true, length, map, replicate, slice_get, slice_set, slice_index_or, option_map, unwrap_or, nat_lt};
 ghost use Rattle.std.specs.Option.{option_copied};
 ghost use Rattle.indexmap.specs.IndexMap.{values};
+ghost use Rattle.name_order.specs.NameOrder.{by_name, rank_of, IsOrder};
+ghost use Rattle.instance_keeper.specs.Bridges.{bridge_in, has_exec, has_own, latest_that, ring_at, ringed};
+ghost use Rattle.instance_keeper.specs.Leases.{first_busy, given_back, taken};
 ghost use Rattle.instance_keeper.specs.Spots.{CountsUp};
-ghost use Rattle.instance_keeper.specs.Book.{are_known, source_servers, observed_servers, ending_servers, servers_of, key_servers, row_fits, fits, empty_book, after_put, after_removal, after_change, after_row, book_made, instance_at, renewed, store_answer, after_store, renewal, store_change, downtime_at, rule_at, IsBook};
+ghost use Rattle.instance_keeper.specs.Book.{are_known, source_servers, observed_servers, ending_servers, servers_of, key_servers, row_fits, fits, empty_book, after_put, after_bridge, after_removal, after_change, lease_at, lease_result, after_row, book_made, instance_at, renewed, store_answer, after_store, renewal, store_change, downtime_at, rule_at, IsBook};
 
-use crate::Memory;
+use crate::bridge::{Bridge, Ring, bridge_in};
+use crate::lease::{LeaseFault, first_busy, give_back, take};
 use crate::observation::{Instance, Observation};
-use crate::recovery::{Ending, Rule};
 use crate::row::{Candidate, Change, Downtime, Key, Row, Table};
+use crate::server_list::ServerList;
+use crate::{Memory, Rule};
+use binlog_coords::Coord;
 use indexmap::IndexMap;
-use orch_base::{Moment, Name, ServerNo, Settings, SourceState};
+use orch_base::{Ending, Moment, Name, ServerNo, Settings, SourceState};
 use std::alloc::Global;
 use std::marker::Model;
 
@@ -202,33 +208,26 @@ impl Change {
 /// What orchestrator knows: the instances, downtimes and candidates by the servers' numbers, and the switch.
 #[derive(Drop)]
 pub struct Book {
-    names: Vec<Name>,
+    servers: ServerList,
     instances: Instances,
     downtimes: Vec<Option<Downtime>>,
     candidates: Vec<Option<Candidate>>,
     switch: Option<bool>,
+    rings: Vec<Ring>,
+    leases: Vec<Option<u64>>,
 }
 
 impl Model for Book {
+    ghost use Rattle.std.specs.Prelude.{map};
     ghost use Rattle.indexmap.specs.IndexMap.{values};
     ghost use Rattle.instance_keeper.specs.Spots.{CountsUp};
     ghost use Rattle.instance_keeper.specs.Book.{Known, IsBook};
 
     ghost Value = { Known };
 
-    ghost view = { λ b. record { names = b.names.items; instances = values b.instances; downtimes = b.downtimes.items; candidates = b.candidates.items; switch = b.switch } };
+    ghost view = { λ b. record { settings = b.servers; names = map (λ s. s.name) b.servers; instances = values b.instances; downtimes = b.downtimes.items; candidates = b.candidates.items; switch = b.switch; rings = b.rings.items; leases = b.leases.items } };
 
-    ghost invariant = { λ b. CountsUp 0 b.instances.entries × IsBook (record { names = b.names.items; instances = values b.instances; downtimes = b.downtimes.items; candidates = b.candidates.items; switch = b.switch }) };
-}
-
-fn copy_names(alloc: Global, settings: &[Settings]) -> Result<Vec<Name>, Memory>
-    ensures { IfOk result (λ names. names.items ≡ map (λ s. s.name) settings.now) }
-{
-    let mut names = Vec::with_capacity(alloc, settings.len())?;
-    for server in settings {
-        names.push(server.name.copy(alloc)?)?;
-    }
-    Ok(names)
+    ghost invariant = { λ b. CountsUp 0 b.instances.entries × IsBook (record { settings = b.servers; names = map (λ s. s.name) b.servers; instances = values b.instances; downtimes = b.downtimes.items; candidates = b.candidates.items; switch = b.switch; rings = b.rings.items; leases = b.leases.items }) };
 }
 
 // A place for each server, all of them empty.
@@ -242,19 +241,43 @@ fn empty_places<T: Drop>(alloc: Global, count: u32) -> Result<Vec<Option<T>>, Me
     Ok(places)
 }
 
+// A ring for each server, all of them empty.
+fn empty_rings(alloc: Global, count: u32) -> Result<Vec<Ring>, Memory>
+    ensures { IfOk result (λ rings. rings.items ≡ replicate count []) }
+{
+    let mut rings = Vec::with_capacity(alloc, count as usize)?;
+    for _ in 0..count {
+        rings.push(Ring::with_room(alloc)?)?;
+    }
+    Ok(rings)
+}
+
+// The bridge that a reading shows: none where the server wasn't reached.
+fn bridge_shown(o: &Observation) -> Option<Bridge>
+    ensures { result ≡ bridge_in o.now.no o.now.seen }
+{
+    match &o.seen {
+        Some(seen) => bridge_in(o.no, seen),
+        None => None,
+    }
+}
+
 impl Book {
-    // The book of servers of these names, without a row.
-    fn empty(alloc: Global, names: Vec<Name>) -> Result<Book, Memory>
-        requires { length names.items < 2 ^ 32 }
-        ensures { IfOk result (λ b. b ≡ empty_book names.items) }
+    // The book of these servers, without a row.
+    fn empty(alloc: Global, settings: &[Settings]) -> Result<Book, Memory>
+        requires { length settings.now < 2 ^ 32 }
+        ensures { IfOk result (λ b. b ≡ empty_book settings.now) }
     {
-        let count = names.len() as u32;
+        let servers = ServerList::make(alloc, settings)?;
+        let count = servers.count();
         Ok(Book {
-            names,
+            servers,
             instances: empty_instances(alloc, count)?,
             downtimes: empty_places(alloc, count)?,
             candidates: empty_places(alloc, count)?,
             switch: None,
+            rings: empty_rings(alloc, count)?,
+            leases: empty_places(alloc, count)?,
         })
     }
 
@@ -263,14 +286,30 @@ impl Book {
         ensures count { result ≡ length self.now.names }
         ensures holds { IsBook self.now }
     {
-        self.names.len() as u32
+        self.servers.count()
+    }
+
+    /// The servers' settings by number.
+    pub fn all_settings(&self) -> &[Settings]
+        ensures settings { result.now ≡ self.now.settings }
+        ensures count { length result.now ≡ length self.now.names }
+    {
+        self.servers.all()
+    }
+
+    /// A server's settings, which never change.
+    pub fn settings(&self, no: ServerNo) -> &Settings
+        requires { no.0 < length self.now.names }
+        ensures { Some result.now ≡ slice_get self.now.settings no.0 }
+    {
+        &self.servers.all()[no.0 as usize]
     }
 
     /// The servers' names by number.
     pub fn names(&self) -> &[Name]
         ensures { result.now ≡ self.now.names }
     {
-        &self.names
+        self.servers.names()
     }
 
     /// The name of a server.
@@ -278,7 +317,26 @@ impl Book {
         requires { no.0 < length self.now.names }
         ensures { Some result.now ≡ slice_get self.now.names no.0 }
     {
-        &self.names[no.0 as usize]
+        &self.servers.names()[no.0 as usize]
+    }
+
+    /// The servers' numbers in name order: by the host's bytes, then by the port; of equal names the lower number comes
+    /// first.
+    pub fn order(&self) -> &[ServerNo]
+        ensures order { result.now ≡ by_name self.now.names }
+        ensures count { length result.now ≡ length self.now.names }
+        ensures once { IsOrder result.now }
+        ensures within { All (λ server. server.0 < length self.now.names) result.now }
+    {
+        self.servers.order()
+    }
+
+    /// A server's place in name order, counted from 0.
+    pub fn rank(&self, no: ServerNo) -> u32
+        requires { no.0 < length self.now.names }
+        ensures { result ≡ rank_of (by_name self.now.names) no.0 }
+    {
+        self.servers.rank(no)
     }
 
     /// What is known of a server: none where it is no instance.
@@ -323,20 +381,12 @@ impl Book {
     /// The book of these servers and rows: of two rows with one table and key the later stands. A row of the recovery table, and one that names an unknown server, are passed over.
     pub fn make(alloc: Global, settings: &[Settings], rows: &[Row]) -> Result<Book, Memory>
         requires { length settings.now < 2 ^ 32 }
-        ensures made { IfOk result (λ b. b ≡ book_made (map (λ s. s.name) settings.now) rows.now) }
+        ensures made { IfOk result (λ b. b ≡ book_made settings.now rows.now) }
+        ensures settings { IfOk result (λ b. b.settings ≡ settings.now) }
         ensures names { IfOk result (λ b. b.names ≡ map (λ s. s.name) settings.now) }
         ensures count { IfOk result (λ b. length b.names ≡ length settings.now) }
     {
-        Book::of_names(alloc, copy_names(alloc, settings)?, rows)
-    }
-
-    /// The book of servers of these names, by number, and of these rows, as `make` makes it.
-    pub fn of_names(alloc: Global, names: Vec<Name>, rows: &[Row]) -> Result<Book, Memory>
-        requires { length names.items < 2 ^ 32 }
-        ensures made { IfOk result (λ b. b ≡ book_made names.items rows.now) }
-        ensures names { IfOk result (λ b. b.names ≡ names.items) }
-    {
-        let mut book = Book::empty(alloc, names)?;
+        let mut book = Book::empty(alloc, settings)?;
         'rows: for row in rows {
             book.take(alloc, row)?;
         }
@@ -346,6 +396,7 @@ impl Book {
     // Puts a row, where a book takes it.
     fn take(&mut self, alloc: Global, row: &Row) -> Result<(), Memory>
         ensures after { OnOk result (self.new ≡ after_row self.old row.now) }
+        ensures settings { self.new.settings ≡ self.old.settings }
         ensures names { self.new.names ≡ self.old.names }
     {
         if row.fits(self.servers()) {
@@ -358,6 +409,7 @@ impl Book {
     pub fn set(&mut self, change: Change)
         requires { IsTrue (fits (length self.old.names) change) }
         ensures after { self.new ≡ after_change self.old change }
+        ensures settings { self.new.settings ≡ self.old.settings }
         ensures names { self.new.names ≡ self.old.names }
     {
         match change {
@@ -369,6 +421,7 @@ impl Book {
     fn put(&mut self, row: Row)
         requires { row_fits (length self.old.names) row ≡ true }
         ensures after { self.new ≡ after_put self.old row }
+        ensures settings { self.new.settings ≡ self.old.settings }
         ensures names { self.new.names ≡ self.old.names }
     {
         match row {
@@ -388,11 +441,13 @@ impl Book {
     fn remove(&mut self, table: Table, key: Key)
         requires { are_known (length self.old.names) (key_servers key) ≡ true }
         ensures after { self.new ≡ after_removal self.old table key }
+        ensures settings { self.new.settings ≡ self.old.settings }
         ensures names { self.new.names ≡ self.old.names }
     {
         match (table, key) {
             (Table::Instance, Key::Server(no)) => {
                 put_at(&mut self.instances, no.0, None);
+                self.rings[no.0 as usize].clear();
             }
             (Table::Downtime, Key::Server(no)) => self.downtimes[no.0 as usize] = None,
             (Table::Candidate, Key::Server(no)) => self.candidates[no.0 as usize] = None,
@@ -438,15 +493,84 @@ impl Book {
         requires { IsTrue (are_known (length self.old.names) (observed_servers o)) }
         ensures answer { result ≡ store_answer (instance_at self.old o.no) o }
         ensures after { self.new ≡ after_store self.old o }
+        ensures settings { self.new.settings ≡ self.old.settings }
         ensures names { self.new.names ≡ self.old.names }
     {
         match self.last_read(o.no) {
             None => StoreAnswer::Unknown,
             Some(kept) if o.read < kept => StoreAnswer::Old(kept),
             Some(_) => {
+                let no = o.no;
+                let shown = bridge_shown(&o);
                 self.renew(o);
+                self.add_shown(no, shown);
                 StoreAnswer::Stored
             }
         }
+    }
+
+    // Adds the bridge that a reading of a server shows, if it shows one.
+    fn add_shown(&mut self, no: ServerNo, shown: Option<Bridge>)
+        requires { no.0 < length self.old.names }
+        ensures { self.new ≡ record self.old { rings = ringed self.old.rings no shown } }
+    {
+        if let Some(bridge) = shown {
+            self.rings[no.0 as usize].add(bridge);
+        }
+    }
+
+    /// Adds a bridge to its server's ring, unless it is equal to the latest there. A ring of 16 drops its oldest. It takes
+    /// no memory.
+    pub fn add_bridge(&mut self, bridge: Bridge)
+        requires { bridge.no.0 < length self.old.names }
+        ensures { self.new ≡ after_bridge self.old bridge }
+    {
+        self.add_shown(bridge.no, Some(bridge));
+    }
+
+    /// The latest kept bridge of a server under this source with this executed coordinate.
+    pub fn bridge_by_exec(&self, no: ServerNo, source: ServerNo, exec: Coord) -> Option<Bridge>
+        requires { no.0 < length self.now.names }
+        ensures { result ≡ latest_that (has_exec source exec) (ring_at self.now.rings no) }
+    {
+        self.rings[no.0 as usize].by_exec(source, exec)
+    }
+
+    /// The latest kept bridge of a server under this source with this own coordinate.
+    pub fn bridge_by_own(&self, no: ServerNo, source: ServerNo, own: Coord) -> Option<Bridge>
+        requires { no.0 < length self.now.names }
+        ensures { result ≡ latest_that (has_own source own) (ring_at self.now.rings no) }
+    {
+        self.rings[no.0 as usize].by_own(source, own)
+    }
+
+    /// The job that has a server's lease: none exactly where none has.
+    pub fn lease(&self, no: ServerNo) -> Option<u64>
+        requires { no.0 < length self.now.names }
+        ensures { result ≡ lease_at self.now no }
+    {
+        self.leases[no.0 as usize]
+    }
+
+    /// Gives a job the leases of all these servers, or, where one of them has a lease, of none: Busy names the first that
+    /// has one. It takes no memory.
+    pub fn take_leases(&mut self, list: &[ServerNo], job: u64) -> Result<(), LeaseFault>
+        requires { All (λ k. k.0 < length self.old.names) list.now }
+        ensures result { result ≡ lease_result (first_busy self.old.leases list.now) }
+        ensures ok { OnOk result (self.new ≡ record self.old { leases = taken self.old.leases list.now job }) }
+        ensures err { OnErr result (self.new ≡ self.old) }
+    {
+        if let Some(fault) = first_busy(&self.leases, list) {
+            return Err(fault);
+        }
+        take(&mut self.leases, list, job);
+        Ok(())
+    }
+
+    /// Takes all leases of a job from it. It takes no memory.
+    pub fn free_leases(&mut self, job: u64)
+        ensures { self.new ≡ record self.old { leases = given_back self.old.leases job } }
+    {
+        give_back(&mut self.leases, job);
     }
 }

@@ -3,26 +3,29 @@
 #![tactic(auto)]
 
 mod book;
-mod code;
+mod bridge;
 mod keeper;
 mod laws;
+mod lease;
 mod memory;
 mod observation;
 mod recovery;
 mod row;
-#[cfg(test)]
-mod tests;
+mod server_list;
 mod threads;
 
 pub use book::{Book, StoreAnswer};
-pub use code::Code;
+pub use bridge::{Bridge, bridge_in};
 pub use keeper::{Keeper, KeeperFault};
 pub use laws::{
     last_row_stands, places_differ, rows_are_a_map, rows_follow_the_book, same_look_ups_same_rows,
 };
+pub use lease::LeaseFault;
 pub use memory::{MemKeeper, row_map};
-pub use observation::{Instance, Observation, Seen};
+pub use observation::{Instance, Observation};
 /// Want of memory.
-pub use orch_base::Memory;
-pub use recovery::{CauseName, Ending, Kind, Recovery, Rule};
+pub use orch_base::{CauseName, Code, Ending, Kind, Memory, Rule};
+pub use recovery::Recovery;
 pub use row::{Candidate, Change, Downtime, Key, Row, Table};
+/// What one status of a server shows.
+pub use server_words::Status as Seen;

@@ -1,68 +1,8 @@
-//! Rules of promotion, and recoveries.
+//! Recoveries.
 
 use crate::Memory;
-use orch_base::{Label, Moment, ServerNo};
+use orch_base::{Ending, Kind, Label, Moment, ServerNo};
 use std::alloc::Global;
-
-/// Whether a server should be promoted (orchestrator's documentation, "register-candidate"): the best first.
-#[derive(Clone, Copy, Debug, PartialEq, Eq, PartialOrd, Ord)]
-pub enum Rule {
-    /// Before others.
-    Prefer,
-    /// As it is, without a registration.
-    Neutral,
-    /// After others.
-    PreferNot,
-    /// Never.
-    MustNot,
-}
-
-/// What is recovered.
-#[derive(Clone, Copy, Debug, PartialEq, Eq)]
-pub enum Kind {
-    /// A master that failed.
-    Master,
-    /// An intermediate master that failed.
-    Intermediate,
-    /// A master that is replaced as planned.
-    Takeover,
-}
-
-/// The name of a cause that ends a recovery.
-#[derive(Clone, Copy, Debug, PartialEq, Eq)]
-pub enum CauseName {
-    /// A server wasn't reached.
-    Unreachable,
-    /// The last wait was spent.
-    WaitSpent,
-    /// A server replicates from elsewhere than it was seen to.
-    Interfered,
-    /// A server's threads run.
-    Running,
-    /// The server would be below itself.
-    Loop,
-    /// The server has transactions that its new source hasn't.
-    Errant,
-    /// A replica has another source.
-    Moved,
-    /// The server that had failed was reached.
-    Reachable,
-    /// No replica may be promoted.
-    NoCandidate,
-}
-
-/// How a recovery ended.
-#[derive(Clone, Copy, Debug, PartialEq, Eq)]
-pub enum Ending {
-    /// It hasn't ended.
-    Unended,
-    /// This server was promoted.
-    Promoted(ServerNo),
-    /// It failed by this cause.
-    Failed(CauseName),
-    /// Orchestrator was restarted meanwhile.
-    Interrupted,
-}
 
 /// A recovery, as the audit has it (orchestrator's documentation, "Topology recovery").
 #[derive(Drop)]

@@ -3,9 +3,9 @@
 ghost use Rattle.std.specs.Prelude.{◌≡◌, nat_lt};
 ghost use Rattle.instance_keeper.specs.Rows.{key_number, place, table_number};
 
-use crate::Memory;
 use crate::observation::Instance;
-use crate::recovery::{Recovery, Rule};
+use crate::recovery::Recovery;
+use crate::{Memory, Rule};
 use orch_base::{Label, Moment, ServerNo};
 use std::alloc::Global;
 

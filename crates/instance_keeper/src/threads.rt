@@ -1,8 +1,9 @@
 //! The types of this crate can be moved between threads, and shared by them.
 
 use crate::book::{Book, StoreAnswer};
-use crate::code::Code;
+use crate::bridge::Bridge;
 use crate::keeper::KeeperFault;
+use crate::lease::LeaseFault;
 use crate::memory::MemKeeper;
 use crate::observation::{Instance, Observation};
 use crate::recovery::Recovery;
@@ -13,7 +14,8 @@ fn crosses_threads<T: Send + Sync>() {}
 fn all_cross_threads() {
     crosses_threads::<Book>();
     crosses_threads::<StoreAnswer>();
-    crosses_threads::<Code>();
+    crosses_threads::<Bridge>();
+    crosses_threads::<LeaseFault>();
     crosses_threads::<KeeperFault>();
     crosses_threads::<MemKeeper>();
     crosses_threads::<Instance>();

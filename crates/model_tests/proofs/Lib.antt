@@ -1,1 +1,2 @@
+pub mod CheckedOnes
 pub mod Listings

@@ -1,5 +1,7 @@
-//! Tests of the modelled servers, exchange by exchange.
+//! Tests of the modelled servers: the check of an opening, and exchange by exchange.
 #![tactic(auto)]
 
+#[cfg(test)]
+mod checks;
 #[cfg(test)]
 mod tests;

@@ -1,22 +1,25 @@
-ghost use Rattle.std.specs.Prelude.{◌≡◌, ◌<◌, ◌≤◌, ℕ, All, IfOk, None, Some, false, length, slice_get, true};
+ghost use Rattle.std.specs.Prelude.{◌≡◌, ◌≤◌, IfOk, length};
 ghost use Rattle.openings.specs.Listed.{transactions as transactions_of};
-ghost use Rattle.openings.specs.Opening.{opening as opening_of, IsAlone, IsListed, IsPart, IsServer};
+ghost use Rattle.openings.specs.Opening.{opening as opening_of, IsListed};
 ghost use Rattle.openings.specs.Servers.{parts_of};
-ghost use Rattle.orch_base.specs.Names.{same_name};
 ghost use Rattle.server_model.specs.Attach.{IsTarget};
 ghost use Rattle.server_model.specs.Gtids.{IsAutoTarget};
-ghost use Rattle.server_model.specs.Opening.{Fits};
+ghost use Rattle.world_openings.specs.Opening.{Fits};
 
 use binlog_coords::Coord;
 use gtid_sets::GtidSet;
+use made_openings::are_listed;
+use opening_checks::CheckedOpening;
+use openings::{Counts, Opening, Part, Parts, ServerInit, parts_of};
 use orch_base::{IoState, Label, Name, ServerNo, Settings, SourceState, Txn, Version};
 use server_model::{
-    ApplyAnswer, AttachFault, Counts, FetchAnswer, Link, Opening, Part, Parts, Plain, RotateAnswer,
-    ServerInit, Spot, Status, StatusFault, Threads, Unreachable, World, WriteAnswer,
+    ApplyAnswer, Ask, AttachFault, FetchAnswer, Link, Plain, RotateAnswer, Spot, Status,
+    StatusFault, Threads, Unreachable, World, WriteAnswer,
 };
 use std::alloc::Global;
 use std::process::Abort;
 use std::test::*;
+use world_openings::OpenedWorld;
 
 // What orchestrator asks of a server.
 #[derive(Clone, Copy)]
@@ -115,91 +118,33 @@ fn replica(alloc: Global, name: &str, id: u32, executed: u64) -> Result<ServerIn
     Ok(init)
 }
 
-fn listed_parts(init: &ServerInit) -> &[Part]
-    ensures { result.now ≡ parts_of init.now }
-{
-    match &init.history {
-        Some(parts) => parts.as_slice(),
-        None => &[],
-    }
-}
-
-// Asserts the ranges of a part.
-fn assert_part(rt: &impl Abort, part: &Part, servers: u32)
-    ensures part { IsPart servers part.now }
-    ensures few { part.now.count ≤ 1000 }
-{
-    assert!(rt; part.origin.0 < servers);
-    assert!(rt; 1 <= part.size && part.size <= 1000000);
-    assert!(rt; 1 <= part.count && part.count <= 1000);
-}
-
-// Asserts the ranges of the parts, and counts their transactions.
-fn count(rt: &impl Abort, parts: &[Part], servers: u32) -> u64
-    ensures parts { All (IsPart servers) parts.now }
-    ensures count { result ≡ transactions_of parts.now }
-    ensures few { result ≤ 1000 }
+// How many transactions the parts have, at most 2,000.
+fn count(rt: &impl Abort, parts: &[Part]) -> u64
+    ensures { result ≡ transactions_of parts.now }
 {
     let mut count = 0;
     for part in parts {
-        assert_part(rt, part, servers);
+        assert!(rt; count <= 1000 && part.count <= 1000);
         count += part.count;
-        assert!(rt; count <= 1000);
     }
     count
 }
 
-// Asserts that what speaks of a source alone is given where there is one, and what needs GTIDs where they are used.
-fn assert_given(rt: &impl Abort, init: &ServerInit, servers: u32, gtid: bool)
-    ensures source { (m : ServerNo) → init.now.source ≡ Some m → m.0 < servers }
-    ensures alone { init.now.source ≡ None → IsAlone init.now }
-    ensures auto { init.now.auto ≡ true → gtid ≡ true }
+// Asserts that a server's history has at most so many transactions, and that it has at most so many flush points.
+fn assert_within(rt: &impl Abort, init: &ServerInit, room: u64, flushes: u64)
+    ensures history { transactions_of (parts_of init.now) ≤ room }
+    ensures flush_points { length init.now.flushes ≤ flushes }
 {
-    assert!(rt; gtid || !init.auto);
-    match init.source {
-        Some(m) => assert!(rt; m.0 < servers),
-        None => {
-            assert!(rt; init.executed == 0 && init.at.is_none() && init.read.is_none());
-            assert!(rt; !init.auto && !init.detached && init.until.is_none());
-        }
-    }
+    assert!(rt; count(rt, parts_of(init)) <= room);
+    assert!(rt; init.flushes.as_slice().len() as u64 <= flushes);
 }
 
-// Asserts the ranges of a server, and counts the transactions that are listed of it.
-fn count_listed(rt: &impl Abort, init: &ServerInit, servers: u32, gtid: bool) -> u64
-    ensures server { IsServer servers gtid init.now }
-    ensures count { result ≡ transactions_of (parts_of init.now) }
-    ensures few { result ≤ 1000 }
+// Asserts that the servers fit into a world with this room.
+fn assert_fits(rt: &impl Abort, servers: &[ServerInit], gtid: bool, room: u64, flushes: u64)
+    ensures { Fits (opening_of servers.now gtid) room flushes }
 {
-    let limit = init.settings.limit;
-    assert!(rt; 100 <= limit && limit <= 1073741824);
-    let label = init.settings.cluster.as_str();
-    assert!(rt; 1 <= label.len() && label.len() <= 261);
-    assert!(rt; init.flushes.as_slice().len() <= 1000);
-    assert_given(rt, init, servers, gtid);
-    count(rt, listed_parts(init), servers)
-}
-
-// Asserts that two servers differ in name and UUID.
-fn assert_differ(rt: &impl Abort, own: &ServerInit, other: &ServerInit)
-    ensures names { same_name own.now.settings.name other.now.settings.name ≡ false }
-    ensures uuids { ¬ (own.now.settings.uuid ≡ other.now.settings.uuid) }
-{
-    assert!(rt; !own.settings.name.is_same(&other.settings.name));
-    assert!(rt; own.settings.uuid != other.settings.uuid);
-}
-
-// Asserts that no other server has the name or the UUID of server k.
-fn assert_apart(rt: &impl Abort, servers: &[ServerInit], k: usize, own: &ServerInit)
-    ensures names { (n : ℕ) (i : ServerInit) → slice_get servers.now n ≡ Some i
-        → same_name own.now.settings.name i.settings.name ≡ true → k ≡ n }
-    ensures uuids { (n : ℕ) (i : ServerInit) → slice_get servers.now n ≡ Some i
-        → own.now.settings.uuid ≡ i.settings.uuid → k ≡ n }
-{
-    for (n, init) in servers.iter().enumerate() {
-        if n != k {
-            assert_differ(rt, own, init);
-        }
+    for init in servers {
+        assert_within(rt, init, room, flushes);
     }
 }
 
@@ -208,16 +153,8 @@ fn assert_listed(rt: &impl Abort, servers: &[ServerInit], gtid: bool, room: u64,
     ensures listed { IsListed (opening_of servers.now gtid) }
     ensures fits { Fits (opening_of servers.now gtid) room flushes }
 {
-    assert!(rt; 1 <= servers.len());
-    assert!(rt; servers.len() <= 3);
-    let mut total = 0;
-    for (n, init) in servers.iter().enumerate() {
-        let count = count_listed(rt, init, servers.len() as u32, gtid);
-        assert!(rt; count <= room);
-        assert!(rt; init.flushes.as_slice().len() as u64 <= flushes);
-        assert_apart(rt, servers, n, init);
-        total += count;
-    }
+    assert!(rt; are_listed(servers, gtid));
+    assert_fits(rt, servers, gtid, room, flushes);
 }
 
 // The opening of listed servers, which have no flaw.
@@ -229,7 +166,7 @@ fn opening(alloc: Global, servers: Vec<ServerInit>, gtid: bool) -> Result<Openin
     Ok(opening)
 }
 
-// The world of these servers, one to three.
+// The world of these servers.
 fn world_of(
     rt: &impl Abort,
     alloc: Global,
@@ -358,6 +295,22 @@ fn status(
 ) -> Result<Status, StatusFault> {
     assert!(rt; no.0 < world.servers());
     world.status(alloc, no)
+}
+
+// What a status would show.
+fn shown(rt: &impl Abort, alloc: Global, world: &World, no: ServerNo) -> Result<Status, Fail> {
+    assert!(rt; no.0 < world.servers());
+    Ok(world.shows(alloc, no)?)
+}
+
+fn is_reached(rt: &impl Abort, world: &World, no: ServerNo) -> bool {
+    assert!(rt; no.0 < world.servers());
+    world.is_reached(no)
+}
+
+fn asked(rt: &impl Abort, world: &mut World, no: ServerNo, ask: Ask) -> Result<(), Unreachable> {
+    assert!(rt; no.0 < world.servers());
+    world.ask(no, ask)
 }
 
 fn set_text(alloc: Global, set: &GtidSet) -> Result<Vec<u8>, Fail> {
@@ -711,5 +664,12 @@ fn sees_servers(rt: HostRuntime) -> Result<(), Fail> {
     assert_eq!(rt; status(&rt, alloc, w, R)?.io, IoState::Connecting);
     befall(&rt, w, R, Event::Cut(Link::Desk));
     assert!(rt; matches!(status(&rt, alloc, w, R), Err(StatusFault::Unreachable)));
+    assert!(rt; is_reached(&rt, w, M) && !is_reached(&rt, w, R));
+    let hidden = shown(&rt, alloc, w, R)?;
+    assert_eq!(rt; (hidden.io, hidden.read_only), (IoState::Connecting, true));
+    assert_eq!(rt; asked(&rt, w, R, Ask::SetReadOnly(false)), Err(Unreachable));
+    befall(&rt, w, R, Event::Join(Link::Desk));
+    assert_eq!(rt; asked(&rt, w, R, Ask::SetReadOnly(false)), Ok(()));
+    assert!(rt; is_reached(&rt, w, R) && !shown(&rt, alloc, w, R)?.read_only);
     Ok(())
 }

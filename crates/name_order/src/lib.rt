@@ -3,8 +3,6 @@
 
 mod laws;
 mod order;
-#[cfg(test)]
-mod tests;
 
 pub use laws::servers_stand_in_name_order;
 /// Want of memory.

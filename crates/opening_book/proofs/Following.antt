@@ -5,6 +5,8 @@ use Rattle.std.proofs.lemmas.Bool.{false≢true}
 use Rattle.std.proofs.lemmas.List.Elements.{All-nil, All-cons, All-head, All-tail}
 use Rattle.std.specs.List.{cons_option}
 use Rattle.orch_base.specs.declared.server.Moment.{Moment}
+use Rattle.orch_base.specs.declared.server.Settings.{Settings}
+use Rattle.std.proofs.lemmas.List.{length-map}
 use Rattle.server_model.specs.declared.server.Server.{Server}
 use Rattle.server_model.specs.Worlds.{World, server_at}
 use Rattle.opening_book.specs.Opening.{changed_book, missing, missing_from, put_instance}
@@ -164,23 +166,23 @@ none-filtered : {A : Type 0} (f : A → Row) (n : ℕ) → filter_map (option_ma
 none-filtered f zero = refl
 none-filtered f (suc n) = none-filtered f n
 
-empty-rows : (names : List HostPort) (p : ℕ) → row_in (book_rows (empty_book names)) p ≡ None
-empty-rows names p = rw (none-filtered row.Instance (length names), none-filtered row.Downtime (length names), none-filtered row.Candidate (length names)) refl
+empty-rows : (settings : List Settings) (p : ℕ) → row_in (book_rows (empty_book settings)) p ≡ None
+empty-rows settings p = rw (none-filtered row.Instance (length settings), none-filtered row.Downtime (length settings), none-filtered row.Candidate (length settings)) refl
 
 -- rows follow the book that is loaded of them
-pub Follow-loaded : (names : List HostPort) (rows : List Row) → length names < 2 ^ 32 → IsRising rows → Follow rows (loaded names rows)
+pub Follow-loaded : (settings : List Settings) (rows : List Row) → length settings < 2 ^ 32 → IsRising rows → Follow rows (loaded settings rows)
 unfolding IsLike
-Follow-loaded names rows small rising =
-    let count = length names in
-    let made : (p : ℕ) → IsLike count (loaded names rows) × (row_in (book_rows (loaded names rows)) p ≡ picked (both count) p (row_in (book_rows (empty_book names)) p) (map_of rows)) =
-    λ p. made-rows count (empty_book names) (map_of rows) p (empty_is names small, refl) in
-    let look : (p : ℕ) → row_in (book_rows (loaded names rows)) p ≡ passing (both count) (row_in rows p) = λ p.
-    (made p).1 ∙ ap (λ (x : Option Row). picked (both count) p x (map_of rows)) (empty-rows names p)
+Follow-loaded settings rows small rising =
+    let count = length settings in
+    let made : (p : ℕ) → IsLike count (loaded settings rows) × (row_in (book_rows (loaded settings rows)) p ≡ picked (both count) p (row_in (book_rows (empty_book settings)) p) (map_of rows)) =
+    λ p. made-rows count (empty_book settings) (map_of rows) p (empty_is settings small, length-map settings (λ s. s.name)) in
+    let look : (p : ℕ) → row_in (book_rows (loaded settings rows)) p ≡ passing (both count) (row_in rows p) = λ p.
+    (made p).1 ∙ ap (λ (x : Option Row). picked (both count) p x (map_of rows)) (empty-rows settings p)
     ∙ picked-rising (both count) p (map_of rows) (map_of_rising rows) ∙ ap (passing (both count)) (map_of-rising rows p rising) in
     record {
       rising = rising;
       book = (made 0).0.0;
-      each = λ p. subst (λ n. IsKeptFor n (row_in rows p) (row_in (book_rows (loaded names rows)) p)) (sym (made 0).0.1)
+      each = λ p. subst (λ n. IsKeptFor n (row_in rows p) (row_in (book_rows (loaded settings rows)) p)) (sym (made 0).0.1)
           (subst (IsKeptFor count (row_in rows p)) (sym (look p)) (kept_for count (row_in rows p)));
     }
 

@@ -1,3 +1,2 @@
-pub mod Executed
 pub mod Missing
 pub mod Following

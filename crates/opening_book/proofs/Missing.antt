@@ -1,21 +1,13 @@
 -- The changes of an opening, one server after another.
 use Rattle.std.proofs.Common.{◌≡◌, ℕ, ◌+◌, ◌<◌, Bool, List, [], ◌∷◌, ◌++◌, length, take, get_or, Option, None, Some, refl, sym, ap, ◌∙◌, append_assoc, append-nil, zero, suc, arith}
-use Rattle.std.specs.Prelude.{All, IfSome, slice_get}
 use Rattle.std.specs.List.{cons_option}
 use Rattle.std.specs.Option.{option_to_list}
 use Rattle.std.proofs.lemmas.List.{take_more, length-take}
-use Rattle.std.proofs.lemmas.List.Elements.{All-head, All-tail}
 use Rattle.orch_base.specs.declared.server.Moment.{Moment}
 use Rattle.instance_keeper.specs.declared.row.Change.{Change}
 use Rattle.instance_keeper.specs.Book.{Known}
 use Rattle.server_model.specs.Worlds.{World}
 use Rattle.opening_book.specs.Opening.{missing, missing_from}
-
--- what holds of each element holds of the one at a place
-pub each-some : {A : Type 0} (P : A → Type 0) (xs : List A) (n : ℕ) → All P xs → IfSome (slice_get xs n) P
-each-some P [] n all = tt
-each-some P (x ∷ xs) zero all = All-head P x xs all
-each-some P (x ∷ xs) (suc n) all = each-some P xs n (All-tail P x xs all)
 
 cons-append : (o : Option Change) (xs ys : List Change) → cons_option o xs ++ ys ≡ cons_option o (xs ++ ys)
 cons-append None xs ys = refl

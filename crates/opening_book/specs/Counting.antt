@@ -1,7 +1,7 @@
 -- Kept rows that count: those of the scenario's servers whose numbers are in their ranges.
 use Rattle.std.specs.Prelude.{ℕ, ◌^◌, ◌&&◌, nat_le, Bool, true, List, Option, None, Some, filter, fold, length, max}
-use Rattle.orch_base.specs.Names.{HostPort}
 use Rattle.orch_base.specs.declared.server.Moment.{Moment}
+use Rattle.orch_base.specs.declared.server.Settings.{Settings}
 use Rattle.instance_keeper.specs.declared.row.Row.{Row}
 use Rattle.instance_keeper.specs.declared.row.Row.TheVariants as row
 use Rattle.instance_keeper.specs.Rows.{map_of}
@@ -62,5 +62,5 @@ abbrev pub last_read : List Row → ℕ
 last_read rows = fold later_read 0 rows
 
 -- the book of the rows that count
-abbrev pub loaded : List HostPort → List Row → Known
-loaded names rows = book_made names (counted (length names) rows)
+abbrev pub loaded : List Settings → List Row → Known
+loaded settings rows = book_made settings (counted (length settings) rows)

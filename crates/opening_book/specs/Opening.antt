@@ -1,14 +1,13 @@
 -- The book at an opening: that of the rows that count, and an instance of each known server that it lacks.
-use Rattle.std.specs.Prelude.{◌≡◌, ℕ, ◌+◌, ◌&&◌, Bool, true, if◌then◌else◌, List, [], ◌∷◌, All, fold, length, Option, None, Some, is_none, slice_index_or}
+use Rattle.std.specs.Prelude.{ℕ, ◌+◌, ◌&&◌, Bool, if◌then◌else◌, List, [], ◌∷◌, fold, length, Option, None, Some, is_none, slice_index_or}
 use Rattle.std.specs.List.{cons_option}
 use Rattle.orch_base.specs.declared.server.Moment.{Moment}
 use Rattle.instance_keeper.specs.declared.observation.Instance.{Instance}
 use Rattle.instance_keeper.specs.declared.row.Row.TheVariants as row
 use Rattle.instance_keeper.specs.declared.row.Change.{Change}
 use Rattle.instance_keeper.specs.declared.row.Change.TheVariants as change
-use Rattle.instance_keeper.specs.Book.{Known, are_known, source_servers, after_change}
+use Rattle.instance_keeper.specs.Book.{Known, after_change}
 use Rattle.server_model.specs.declared.server.Server.{Server}
-use Rattle.server_model.specs.Gtids.{IsNumbered}
 use Rattle.server_model.specs.Worlds.{World, server_at}
 use Rattle.opening_book.specs.Seeing.{would_show}
 
@@ -35,8 +34,3 @@ opening_changes w at b known = missing_from w at b 0 known
 -- the book after these changes
 abbrev pub changed_book : Known → List Change → Known
 changed_book b changes = fold after_change b changes
-
--- each source is one of the servers, and each transaction has a number and a server of its own
-pub record IsSeeable (w : World) (s : Server) : Type 0 where
-  pub source : are_known (length w.servers) (source_servers s.source) ≡ true
-  pub numbered : All (IsNumbered (length w.servers)) s.history.txns

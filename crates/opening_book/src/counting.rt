@@ -6,7 +6,7 @@ ghost use Rattle.instance_keeper.specs.Book.{book_made};
 
 use crate::Memory;
 use instance_keeper::{Book, Recovery, Row, row_map};
-use orch_base::{Moment, Name};
+use orch_base::{Moment, Settings};
 use std::alloc::Global;
 
 /// Read numbers and moments of rows that count are at most this.
@@ -108,20 +108,10 @@ pub fn last_read(rows: &[Row]) -> u64
     last
 }
 
-fn copy_names(alloc: Global, names: &[Name]) -> Result<Vec<Name>, Memory>
-    ensures { IfOk result (λ copies. copies.items ≡ names.now) }
+/// The book of these servers, by number, and of these rows.
+pub fn loaded_book(alloc: Global, settings: &[Settings], rows: &[Row]) -> Result<Book, Memory>
+    requires { length settings.now < 2 ^ 32 }
+    ensures { IfOk result (λ b. b ≡ book_made settings.now rows.now) }
 {
-    let mut copies = Vec::with_capacity(alloc, names.len())?;
-    'names: for name in names {
-        copies.push(name.copy(alloc)?)?;
-    }
-    Ok(copies)
-}
-
-/// The book of servers of these names, by number, and of these rows.
-pub fn loaded_book(alloc: Global, names: &[Name], rows: &[Row]) -> Result<Book, Memory>
-    requires { length names.now < 2 ^ 32 }
-    ensures { IfOk result (λ b. b ≡ book_made names.now rows.now) }
-{
-    Book::of_names(alloc, copy_names(alloc, names)?, rows)
+    Book::make(alloc, settings, rows)
 }

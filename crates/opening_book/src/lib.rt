@@ -4,13 +4,9 @@
 mod counting;
 mod laws;
 mod opening;
-mod seeing;
-#[cfg(test)]
-mod tests;
 
 pub use counting::{counted, last_read, latest_moment, loaded_book};
 pub use laws::kept_rows_follow_the_book;
 pub use opening::{change_book, opening_changes};
 /// Want of memory.
 pub use orch_base::Memory;
-pub use seeing::seen_of;

@@ -2,7 +2,7 @@
 use Rattle.std.proofs.Common.{◌≡◌, ℕ, ◌+◌, ◌<◌, ◌≤◌, List, [], ◌∷◌, ◌++◌, length, take, replicate, refl, sym, subst, ap, ◌∙◌, inl, inr, Some, None, Option, arith, suc, length-append}
 use Rattle.std.specs.Prelude.{slice_get, All, slice_index_or}
 use Rattle.std.proofs.lemmas.Option.{slice_get-get_or, slice_get_within, get_or_from_slice_get}
-use Rattle.std.proofs.lemmas.List.{length-replicate, length-take}
+use Rattle.std.proofs.lemmas.List.{length-replicate, length-take, take_all}
 use Rattle.std.proofs.lemmas.List.Sums.{sum_by-cons}
 use Rattle.orch_base.specs.declared.server.ServerNo.{ServerNo}
 use Rattle.orch_base.specs.declared.server.Txn.{Txn}
@@ -109,3 +109,7 @@ parts_at-few servers n range = at (slice_get servers n) refl
 
 pub length-listed : (parts : List Part) → length (listed_history parts) ≡ transactions parts
 length-listed parts = let joined : length (listed_history parts) ≡ 0 + length (singles parts) = length-joined_by [] (singles parts) in let sum = length-singles parts in omega arith
+
+-- what is listed is all that the parts have
+pub listed-all : (parts : List Part) (n : ℕ) → n ≡ transactions parts → joined_by [] (take n (singles parts)) ≡ listed_history parts
+listed-all parts n is = let size = length-singles parts in ap (joined_by []) (take_all n (singles parts) (omega arith))

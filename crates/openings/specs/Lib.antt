@@ -9,8 +9,4 @@ pub mod Sound
 pub mod SameInits
 pub mod Taking
 pub mod Laying
-pub mod ServerTests
-pub mod Places
-pub mod KinTable
-pub mod Checks
 pub mod Apart

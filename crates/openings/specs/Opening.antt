@@ -1,12 +1,9 @@
 -- Openings: the servers of a scenario, within the limits and without a flaw.
-use Rattle.std.specs.Prelude.{◌≡◌, ℕ, ◌*◌, ◌<◌, ◌≤◌, Bool, true, false, List, length, sum_by, All, Option, Some, None, Result, Ok, Err, slice_get}
+use Rattle.std.specs.Prelude.{◌≡◌, ℕ, ◌*◌, ◌<◌, ◌≤◌, Bool, true, false, List, length, sum_by, All, Some, None, slice_get}
 use Rattle.orch_base.specs.declared.server.ServerNo.{ServerNo}
 use Rattle.orch_base.specs.Names.{same_name}
 use Rattle.openings.specs.declared.part.Part.{Part}
 use Rattle.openings.specs.declared.init.ServerInit.{ServerInit}
-use Rattle.openings.specs.declared.opening.Flaw.{Flaw}
-use Rattle.openings.specs.declared.opening.OpeningFault.{OpeningFault}
-use Rattle.openings.specs.declared.opening.OpeningFault.TheVariants.{Flawed, Memory}
 use Rattle.openings.specs.Listed.{transactions}
 use Rattle.openings.specs.Servers.{parts_of}
 use Rattle.openings.specs.Flaws.{flaw_in}
@@ -59,16 +56,3 @@ pub record IsListed (o : Opened) : Type 0 where
 pub record IsChecked (o : Opened) : Type 0 where
   pub listed : IsListed o
   pub sound : flaw_in o.servers ≡ None
-
-abbrev pub opening_or : Opened → Option (Flaw × ℕ) → Result Opened (Flaw × ℕ)
-opening_or o None = Ok o
-opening_or o (Some f) = Err f
-
--- the opening of these servers, or the first flaw that they have, with the first server that has it
-abbrev pub checked : List ServerInit → Bool → Result Opened (Flaw × ℕ)
-checked servers gtid = opening_or (opening servers gtid) (flaw_in servers)
-
--- the flaw that a fault names, and nothing at want of memory
-abbrev pub flaw_of : OpeningFault → Option (Flaw × ℕ)
-flaw_of (Flawed flaw n) = Some (flaw, n.0)
-flaw_of Memory = None

@@ -10,8 +10,8 @@ use crate::{Part, ServerInit, transactions};
 use orch_base::{Memory, ServerNo, Txn};
 use std::alloc::Global;
 
-// The number of a server's source.
-pub(crate) fn source_no(servers: &[ServerInit], n: u32) -> Option<u32>
+/// The number of a server's source.
+pub fn source_no(servers: &[ServerInit], n: u32) -> Option<u32>
     ensures { result ≡ sources servers.now n }
 {
     let init = servers.get(n as usize)?;
@@ -20,7 +20,7 @@ pub(crate) fn source_no(servers: &[ServerInit], n: u32) -> Option<u32>
 
 // The server at the top of the sources above one; each is followed once at most.
 #[tactic(auto, using(crate::proofs::Chains::root_steps))]
-pub(crate) fn root_of(servers: &[ServerInit], n: u32) -> u32
+fn root_of(servers: &[ServerInit], n: u32) -> u32
     ensures { result ≡ root_of servers.now n }
 {
     let mut at = n;
@@ -33,8 +33,8 @@ pub(crate) fn root_of(servers: &[ServerInit], n: u32) -> u32
     at
 }
 
-// The parts that are listed of a server.
-pub(crate) fn parts_of(init: &ServerInit) -> &[Part]
+/// The parts that are listed of a server.
+pub fn parts_of(init: &ServerInit) -> &[Part]
     ensures { result.now ≡ parts_of init.now }
 {
     match &init.history {
@@ -43,7 +43,7 @@ pub(crate) fn parts_of(init: &ServerInit) -> &[Part]
     }
 }
 
-pub(crate) fn parts_at(servers: &[ServerInit], n: u32) -> &[Part]
+fn parts_at(servers: &[ServerInit], n: u32) -> &[Part]
     ensures { result.now ≡ parts_at (slice_get servers.now n) }
 {
     match servers.get(n as usize) {
@@ -52,8 +52,8 @@ pub(crate) fn parts_at(servers: &[ServerInit], n: u32) -> &[Part]
     }
 }
 
-// How many transactions a server has executed.
-pub(crate) fn count_of(init: &ServerInit) -> u64
+/// How many transactions a server has executed.
+pub fn count_of(init: &ServerInit) -> u64
     requires { transactions (parts_of init.now) < 2 ^ 64 }
     ensures { result ≡ count_of init.now }
 {
@@ -96,7 +96,7 @@ fn add_part(history: &mut Vec<Txn>, counts: &mut [u64], part: &Part, taken: u64)
 }
 
 // The first transactions that these parts list, of so many servers.
-pub(crate) fn history_of(
+fn history_of(
     alloc: Global,
     servers: usize,
     parts: &[Part],
@@ -139,12 +139,9 @@ pub fn history_at(
     history_of(alloc, servers.len(), parts, count, room)
 }
 
-// What a server has executed.
-pub(crate) fn executed_by(
-    alloc: Global,
-    servers: &[ServerInit],
-    n: ServerNo,
-) -> Result<Vec<Txn>, Memory>
+/// What a server has executed, in order. The time is that of the servers and of what is listed at the top of its
+/// sources. `Err` is want of memory.
+pub fn executed_by(alloc: Global, servers: &[ServerInit], n: ServerNo) -> Result<Vec<Txn>, Memory>
     requires { PartsInRange servers.now }
     ensures history { IfOk result (λ v. v.items ≡ history_at servers.now n.0) }
     ensures few { IfOk result (λ v. length v.items ≤ 4000000) }
@@ -153,12 +150,8 @@ pub(crate) fn executed_by(
     history_at(alloc, servers, n, listed)
 }
 
-// All that these parts list, of so many servers.
-pub(crate) fn listed_history(
-    alloc: Global,
-    servers: usize,
-    parts: &[Part],
-) -> Result<Vec<Txn>, Memory>
+/// All that these parts list, of so many servers. `Err` is want of memory.
+pub fn listed_history(alloc: Global, servers: usize, parts: &[Part]) -> Result<Vec<Txn>, Memory>
     requires parts { All (IsPart servers) parts.now }
     requires few { transactions parts.now ≤ 4000000 }
     ensures { IfOk result (λ v. v.items ≡ listed_history parts.now) }

@@ -52,8 +52,9 @@ fn lay(log: &mut LogIndex, flushes: &[u64], history: &[Txn])
     flush_at(log, flushes, next, history.len() as u64);
 }
 
-// The log of a server that has executed these transactions. A flush point behind them all is none.
-pub(crate) fn laid_log(
+/// The log of a server that has executed these transactions, as `log_of` makes it, where a flush point behind them all is
+/// none. `Err` is want of memory.
+pub fn laid_log(
     alloc: Global,
     init: &ServerInit,
     history: &[Txn],

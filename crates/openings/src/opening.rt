@@ -1,11 +1,9 @@
 //! Openings.
 
 ghost use Rattle.std.specs.Prelude.{◌≡◌, ◌↔◌, IfOk, IsTrue};
-ghost use Rattle.openings.specs.declared.opening.OpeningFault.TheVariants.{Memory};
 
 use crate::ServerInit;
-use crate::check::check_servers;
-use orch_base::{Memory, ServerNo};
+use orch_base::Memory;
 use std::alloc::Global;
 use std::marker::Model;
 
@@ -28,23 +26,6 @@ pub enum Flaw {
     BadPlace,
     /// The server's history isn't kin to those of the others.
     NotKin,
-}
-
-/// Why servers were refused.
-#[derive(Clone, Copy, Debug, PartialEq, Eq)]
-pub enum OpeningFault {
-    /// The first flaw, and the first server that has it.
-    Flawed(Flaw, ServerNo),
-    /// Want of memory.
-    Memory,
-}
-
-impl From<Memory> for OpeningFault {
-    ghost from_gives = { λ _ e. e ≡ Memory };
-
-    fn from(_e: Memory) -> OpeningFault {
-        OpeningFault::Memory
-    }
 }
 
 fn copy_servers(alloc: Global, servers: &[ServerInit]) -> Result<Vec<ServerInit>, Memory>
@@ -92,22 +73,14 @@ impl Model for Opening {
 
 impl Opening {
     ghost use Rattle.std.specs.Prelude.{◌≡◌, ◌↔◌, IfOk, IsTrue};
-    ghost use Rattle.orch_base.specs.Gives.{Gives};
-    ghost use Rattle.openings.specs.Opening.{checked, flaw_of, opening, IsChecked, IsListed};
+    ghost use Rattle.openings.specs.Opening.{opening, IsChecked};
 
-    /// The opening of these servers, whose numbers are in their ranges, if they have no flaw. Each flaw is looked for at
-    /// all servers before the next one. The time is that of the servers, squared, and of the servers times the listed
-    /// transactions.
-    pub fn check(
-        alloc: Global,
-        servers: Vec<ServerInit>,
-        gtid: bool,
-    ) -> Result<Opening, OpeningFault>
-        requires { IsListed (opening servers.items gtid) }
-        ensures { Gives (λ o. o) flaw_of result (checked servers.items gtid) }
+    /// The opening of these servers, which are within the limits and without a flaw. It takes no memory.
+    pub fn of_checked(servers: Vec<ServerInit>, gtid: bool) -> Opening
+        requires { IsChecked (opening servers.items gtid) }
+        ensures { result ≡ opening servers.items gtid }
     {
-        check_servers(alloc, &servers)?;
-        Ok(Opening { servers, gtid })
+        Opening { servers, gtid }
     }
 
     /// The servers in the scenario's order.
@@ -124,6 +97,7 @@ impl Opening {
     {
         self.gtid
     }
+
     /// The same opening once more. `Err` is want of memory.
     pub fn copy(&self, alloc: Global) -> Result<Opening, Memory>
         ensures { IfOk result (λ o. o ≡ self.now) }

@@ -1,19 +1,25 @@
 //! What every layer stands on: servers by name and number, and sources and sinks that count their faults.
 #![tactic(auto)]
 
+mod code;
 mod failed;
 mod label;
 mod memory;
 mod name;
+mod recovery;
+mod rule;
 mod server;
 mod sink;
 mod source;
 mod threads;
 
+pub use code::Code;
 pub use failed::{Failed, NotRead};
 pub use label::Label;
 pub use memory::{MemSink, MemSource};
 pub use name::{Name, NameFault, printed_reads};
+pub use recovery::{CauseName, Ending, Kind};
+pub use rule::Rule;
 pub use server::{IoState, Moment, ServerNo, Settings, SourceState, Txn, Version};
 pub use sink::{Sink, write_all};
 pub use source::{MAX_SCENARIO_LEN, Source, read_all};

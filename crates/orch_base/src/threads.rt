@@ -1,8 +1,11 @@
 //! The types of this crate can be moved between threads, and shared by them.
 
+use crate::code::Code;
 use crate::failed::NotRead;
 use crate::memory::{MemSink, MemSource};
 use crate::name::{Name, NameFault};
+use crate::recovery::{CauseName, Ending, Kind};
+use crate::rule::Rule;
 use crate::server::{IoState, Moment, Settings, SourceState, Txn};
 
 fn crosses_threads<T: Send + Sync>() {}
@@ -16,6 +19,11 @@ fn all_cross_threads() {
     crosses_threads::<SourceState>();
     crosses_threads::<IoState>();
     crosses_threads::<Settings>();
+    crosses_threads::<Code>();
+    crosses_threads::<Rule>();
+    crosses_threads::<Kind>();
+    crosses_threads::<CauseName>();
+    crosses_threads::<Ending>();
     crosses_threads::<MemSource>();
     crosses_threads::<MemSink>();
 }

@@ -17,9 +17,9 @@ use Rattle.scenario_values.specs.declared.fault.FaultCode.TheVariants.{TooLong}
 use Rattle.scenario_values.specs.declared.fault.ReadFault.{ReadFault}
 use Rattle.scenario_values.specs.declared.fault.ReadFault.TheVariants as reading
 use Rattle.scenario_values.specs.Faults.{fault_of}
-use Rattle.orch_core.specs.declared.scenario.Scenario.{Scenario}
-use Rattle.orch_core.specs.Runs.{Held}
-use Rattle.orch_core.specs.Scenarios.{names_of}
+use Rattle.scenarios.specs.declared.scenario.Scenario.{Scenario}
+use Rattle.orch_core.specs.Runs.{Held, Recorded}
+use Rattle.scenarios.specs.Scenarios.{names_of}
 use Rattle.task_reports.proofs.Fronts.{cut_begins, front_of_whole, whole_is_front}
 use Rattle.task_reports.proofs.Tellings.{last_is_after}
 use Rattle.task_reports.specs.declared.report.Report.{Report}
@@ -222,7 +222,7 @@ module _ (p : Places) (bytes : List ℕ) (rows : List Row) (now : Option (List R
       record {
         idle = λ idle. absurd (busy idle);
         last = λ s' read' done. kept ∙ ap (λ (x : Scenario). Some (last_held (task_of p (names_of x)) x rows).rows) (same_Ok s s' (sym read ∙ read'));
-        some = inr (s, read, inr (length (turns_taken c.own s.turns), within, kept ∙ ap (λ (h : Held). Some h.rows) (last_is_after c s rows)));
+        some = inr (s, read, inr (length (turns_taken c.own s.turns), within, kept ∙ ap (λ (h : Held Recorded). Some h.rows) (last_is_after c s rows)));
       }
 
   done_busy : (n : ℕ) → (n ≡ 0) ⊎ (n ≡ 7) → (n ≡ 1) ⊎ (n ≡ 2) ⊎ (n ≡ 3) → ⊥

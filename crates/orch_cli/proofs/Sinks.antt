@@ -12,10 +12,10 @@ use Rattle.command_line.specs.declared.parts.Places.{Places}
 use Rattle.command_line.specs.declared.usage.Usage.{Usage}
 use Rattle.command_line.specs.Places.{places_of}
 use Rattle.scenario_values.specs.declared.fault.Fault.{Fault}
-use Rattle.orch_core.specs.declared.scenario.Scenario.{Scenario}
-use Rattle.orch_core.specs.declared.turn.Reply.{Reply}
-use Rattle.orch_core.specs.Scenarios.{names_of}
-use Rattle.orch_core.specs.States.{State}
+use Rattle.scenarios.specs.declared.scenario.Scenario.{Scenario}
+use Rattle.turns.specs.declared.turn.Reply.{Reply}
+use Rattle.scenarios.specs.Scenarios.{names_of}
+use Rattle.orch_core.specs.Runs.{Recorded}
 use Rattle.command_tasks.specs.declared.own.Task.{Task}
 use Rattle.orch_cli.specs.Ends.{IsRun, Took, cut_line}
 use Rattle.command_tasks.specs.Own.{own_reply, shows_tables, task_of}
@@ -50,13 +50,13 @@ pub status_is : (b : Bool) → (status_of b ≡ 0) ⊎ (status_of b ≡ 7)
 status_is true = inr refl
 status_is false = inl refl
 
-reply_status : (shown : Bool) (names : List HostPort) (state : State) (reply : Option Reply) → IsRun (reply_answer shown names state reply)
+reply_status : (shown : Bool) (names : List HostPort) (state : Recorded) (reply : Option Reply) → IsRun (reply_answer shown names state reply)
 reply_status shown names state None = status_is (any_refused state)
 reply_status shown names state (Some r) = status_is (is_refused r)
 
 pub run_status : (c : Task) (s : Scenario) (rows : List Row) → IsRun (task_answer c s rows)
 unfolding task_answer
-run_status c s rows = reply_status (shows_tables c) (names_of s) (last_held c s rows).state (own_reply c.own (scenario_held c.waits s rows).state)
+run_status c s rows = reply_status (shows_tables c) (names_of s) (last_held c s rows).state (own_reply c.own (scenario_held c.waits s rows).state.state)
 
 pub answer_ended : (p : Places) (read : Result Scenario Fault) (rows : List Row) → Ended (read_answer p read rows).status
 answer_ended p (Ok s) rows = done_ended _ (run_status (task_of p (names_of s)) s rows)

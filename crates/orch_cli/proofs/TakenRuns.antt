@@ -1,20 +1,20 @@
 -- Each run of the turns that the words take: its states are safe, and its commands answer by the permission table.
-use Rattle.std.proofs.Common.{◌≡◌, ℕ, List, [], ◌++◌, length, Option, Some, None, Ok, ◌∙◌, sym, ap, subst, take}
+use Rattle.std.proofs.Common.{◌≡◌, ℕ, List, [], ◌++◌, length, Option, Some, None, Ok, ◌∙◌, refl, sym, ap, subst, take}
 use Rattle.std.specs.Prelude.{IfSome, All}
 use Rattle.std.proofs.lemmas.List.{length-map}
 use Rattle.std.proofs.lemmas.List.Elements.{All-append, All-cons, All-nil, All-take}
 use Rattle.command_line.specs.declared.parts.Places.{Places}
 use Rattle.command_line.specs.Places.{places_of}
-use Rattle.orch_core.specs.declared.scenario.Scenario.{Scenario}
-use Rattle.orch_core.specs.Scenarios.{names_of}
+use Rattle.scenarios.specs.declared.scenario.Scenario.{Scenario}
+use Rattle.scenarios.specs.Scenarios.{names_of}
 use Rattle.orch_cli.specs.Ends.{IsSafeRun, ObeysTable, state_at}
 use Rattle.command_tasks.specs.Own.{task_of, turns_taken}
-use Rattle.orch_core.specs.declared.turn.Turn.TheVariants as turn
+use Rattle.turns.specs.declared.turn.Turn.TheVariants as turn
 use Rattle.orch_core.specs.Runs.{turns_of}
-use Rattle.orch_core.specs.Scenarios.{IsScenario}
-use Rattle.orch_core.specs.Turns.{IsTurn}
-use Rattle.orch_core.proofs.Permissions.{answers_by_table, refused_changes_nothing}
-use Rattle.orch_core.proofs.RunLaws.{Placed-turns, Safe-quiet}
+use Rattle.scenarios.specs.Scenarios.{IsScenario}
+use Rattle.scenarios.specs.Turns.{IsTurn}
+use Rattle.run_laws.proofs.Permissions.{answers_by_table, refused_changes_nothing}
+use Rattle.run_laws.proofs.RunLaws.{Holds, Holds-comes}
 use Rattle.scenario_reader.proofs.Sound.{scenario_in_sound}
 use Rattle.command_tasks.proofs.Owns.{own_is}
 use Rattle.command_tasks.specs.declared.own.Own.{Own}
@@ -49,7 +49,8 @@ safe_run words None = tt
 safe_run words (Some bytes) = λ p s rows xs k taken read ran.
     let is = scenario_in_sound bytes s read in
     let all : All (IsTurn (length s.opening.servers)) (turns_of xs) = subst (All (IsTurn (length s.opening.servers))) (sym ran) (taken_turns words p s k taken is) in
-    (Safe-quiet s p.wait rows xs is all, Placed-turns s p.wait rows xs is all)
+    let holds : Holds (state_at p s rows xs) = Holds-comes s xs (state_at p s rows xs) (record { scenario = is; wait = p.wait; rows = rows; turns = all; state = refl }) in
+    (holds.safe, holds.placed)
 
 pub obeys : (words : List (List ℕ)) (left : Option (List ℕ)) → IfSome left (λ bytes. ObeysTable words bytes)
 obeys words None = tt

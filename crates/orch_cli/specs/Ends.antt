@@ -5,18 +5,19 @@ use Rattle.server_model.specs.Safe.{Safe, Placed, IsQuiet}
 use Rattle.instance_keeper.specs.declared.row.Row.{Row}
 use Rattle.orch_base.specs.Causes.{Rose}
 use Rattle.orch_base.specs.Ends.{AppendsFront}
-use Rattle.orch_core.specs.declared.scenario.Scenario.{Scenario}
+use Rattle.scenarios.specs.declared.scenario.Scenario.{Scenario}
 use Rattle.commands.specs.declared.refusal.Refusal.{Refusal}
 use Rattle.commands.specs.declared.turn.CommandTurn.{CommandTurn}
-use Rattle.orch_core.specs.declared.turn.Reply.TheVariants as answered
-use Rattle.orch_core.specs.declared.turn.Turn.{Turn}
-use Rattle.orch_core.specs.declared.turn.Turn.TheVariants as turn
-use Rattle.orch_core.specs.Permission.{IsAnswer, joined, refusal_for}
+use Rattle.turns.specs.declared.turn.Reply.TheVariants as answered
+use Rattle.turns.specs.declared.turn.Turn.{Turn}
+use Rattle.turns.specs.declared.turn.Turn.TheVariants as turn
+use Rattle.orch_core.specs.Permission.{IsAnswer, refusal_for}
 use Rattle.orch_core.specs.Polls.{changes_of}
 use Rattle.orch_core.specs.Replies.{reply_of}
-use Rattle.orch_core.specs.Runs.{run_turns, step, turns_of}
+use Rattle.orch_core.specs.Runs.{engine, run_turns, step, turns_of}
 use Rattle.orch_core.specs.States.{State}
-use Rattle.orch_core.specs.Scenarios.{names_of, start}
+use Rattle.scenarios.specs.Scenarios.{names_of}
+use Rattle.orch_core.specs.Scenarios.{start}
 use Rattle.scenario_values.specs.declared.fault.Fault.{Fault}
 use Rattle.command_line.specs.declared.parts.Places.{Places}
 use Rattle.command_line.specs.declared.usage.Usage.{Usage}
@@ -130,7 +131,7 @@ IsWhole a status before after = ((status ≡ a.status) × Appends before after a
 
 -- the state after some of the turns of a run
 abbrev pub state_at : Places → Scenario → List Row → List (List Row × Turn) → State
-state_at p s rows xs = run_turns (start s p.wait rows) xs
+state_at p s rows xs = run_turns engine (start s p.wait rows) xs
 
 -- every quiet state is safe, and every state is placed
 abbrev pub IsSafeRun : List (List ℕ) → List ℕ → Type 0
@@ -138,12 +139,12 @@ IsSafeRun words bytes = (p : Places) (s : Scenario) (rows : List Row) (xs : List
     → turns_of xs ≡ take k (turns_taken (task_of p (names_of s)).own s.turns)
     → (IsQuiet (state_at p s rows xs).world → Safe (state_at p s rows xs).world) × Placed (state_at p s rows xs).world
 
--- a command turn is refused exactly with the refusal of the permission table, else done; and a refused one joins the journal
--- and changes nothing else, and no kept row
+-- a command turn is refused exactly with the refusal of the permission table, else done; and a refused one changes nothing, and
+-- no kept row
 pub record Obeys (rows : List Row) (s : State) (c : CommandTurn) : Type 0 where
   pub answer : IsAnswer (refusal_for s.world s.book c.command) (reply_of s (turn.Command c))
   pub refused : (r : Refusal) → reply_of s (turn.Command c) ≡ answered.Refused r
-      → (changes_of s (turn.Command c) ≡ []) × (step rows s (turn.Command c) ≡ joined s (turn.Command c) (answered.Refused r))
+      → (changes_of rows s (turn.Command c) ≡ []) × (step rows s (turn.Command c) ≡ s)
 
 -- so each command turn does, in the state before it
 abbrev pub ObeysTable : List (List ℕ) → List ℕ → Type 0

@@ -5,8 +5,8 @@ use Rattle.command_line.specs.declared.parts.Places.{Places}
 use Rattle.command_line.specs.declared.usage.Usage.{Usage}
 use Rattle.command_line.specs.Places.{places_of}
 use Rattle.command_tasks.specs.Own.{task_of}
-use Rattle.orch_core.specs.declared.scenario.Scenario.{Scenario}
-use Rattle.orch_core.specs.Scenarios.{names_of}
+use Rattle.scenarios.specs.declared.scenario.Scenario.{Scenario}
+use Rattle.scenarios.specs.Scenarios.{names_of}
 use Rattle.scenario_values.specs.declared.fault.Fault.{Fault}
 use Rattle.scenario_reader.specs.Scenarios.{scenario_in}
 use Rattle.task_reports.specs.Report.{Answer, task_answer}

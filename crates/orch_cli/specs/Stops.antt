@@ -4,8 +4,8 @@ use Rattle.instance_keeper.specs.declared.row.Row.{Row}
 use Rattle.orch_base.specs.Causes.{Rose}
 use Rattle.command_line.specs.declared.parts.Places.{Places}
 use Rattle.command_tasks.specs.Own.{task_of}
-use Rattle.orch_core.specs.declared.scenario.Scenario.{Scenario}
-use Rattle.orch_core.specs.Scenarios.{names_of}
+use Rattle.scenarios.specs.declared.scenario.Scenario.{Scenario}
+use Rattle.scenarios.specs.Scenarios.{names_of}
 use Rattle.scenario_values.specs.declared.fault.ReadFault.{ReadFault}
 use Rattle.scenario_values.specs.declared.fault.ReadFault.TheVariants as reading
 use Rattle.scenario_reader.specs.Scenarios.{scenario_in}

@@ -3,7 +3,7 @@
 ghost use Rattle.std.specs.Prelude.{◌≡◌, IfOk, IfSome, Err};
 ghost use Rattle.std.specs.Io.KnownBytes.{Consumes};
 ghost use Rattle.orch_base.specs.Causes.{Rose};
-ghost use Rattle.orch_core.specs.Scenarios.{IsScenario, names_of};
+ghost use Rattle.scenarios.specs.Scenarios.{IsScenario, names_of};
 ghost use Rattle.command_tasks.specs.Own.{IsTaken, task_of};
 ghost use Rattle.task_reports.specs.Tellings.{RunTells, HasKeepersCause as HasHaltsCause};
 ghost use Rattle.orch_cli.specs.Stops.{HasKeepersCause, ReadsAs, Tells, stop_by};

@@ -1,9 +1,6 @@
 pub mod Servers
-pub mod Rooms
+pub mod Sources
 pub mod States
 pub mod Runs
 pub mod Starts
-pub mod RunLaws
-pub mod Follows
 pub mod Outcomes
-pub mod Permissions

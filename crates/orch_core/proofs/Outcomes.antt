@@ -7,7 +7,7 @@ use Rattle.orch_base.specs.declared.server.ServerNo.{ServerNo}
 use Rattle.orch_base.specs.Memory.{next_count}
 use Rattle.instance_keeper.specs.declared.observation.Instance.{Instance}
 use Rattle.instance_keeper.specs.declared.observation.Observation.{Observation}
-use Rattle.instance_keeper.specs.declared.observation.Seen.{Seen}
+use Rattle.server_words.specs.declared.status.Status.{Status as Seen}
 use Rattle.instance_keeper.specs.declared.row.Change.{Change}
 use Rattle.instance_keeper.specs.declared.row.Change.TheVariants as change
 use Rattle.instance_keeper.specs.declared.row.Key.TheVariants as key
@@ -21,21 +21,19 @@ use Rattle.opening_book.specs.Opening.{changed_book}
 use Rattle.commands.specs.declared.line.Line.{Line}
 use Rattle.commands.specs.declared.line.Line.TheVariants as line
 use Rattle.commands.specs.declared.refusal.Refusal.{Refusal}
-use Rattle.commands.specs.declared.refusal.Refusal.TheVariants.{UnknownInstance}
+use Rattle.commands.specs.declared.refusal.Refusal.TheVariants.{UnknownInstance, Unreachable}
 use Rattle.commands.specs.declared.turn.CommandTurn.{CommandTurn}
 use Rattle.commands.specs.Turns.{has_needed, is_within}
 use Rattle.asking_commands.specs.declared.answers.AnswerFault.TheVariants as fault
 use Rattle.asking_commands.specs.Answers.{lines_of, permitted, unless_refused}
-use Rattle.asking_commands.specs.Asking.{is_instance}
-use Rattle.server_model.specs.Safe.{Placed}
-use Rattle.orch_core.specs.declared.turn.Turn.{Turn}
-use Rattle.orch_core.specs.declared.turn.Reply.{Reply}
-use Rattle.orch_core.specs.declared.turn.Reply.TheVariants as answered
-use Rattle.orch_core.specs.Commands.{IsCommand, asked, discovered, discovery, first_seen, forgotten, outcome_by, outcome_of, reads_server, refusal, removes, told}
+use Rattle.book_views.specs.Sources.{is_instance}
+use Rattle.orch_core.proofs.Sources.{KnowsSources}
+use Rattle.scenarios.specs.Turns.{IsCommand}
+use Rattle.orch_core.specs.Commands.{Outcome, asked, discovered, discovery, first_seen, forgotten, outcome_by, outcome_of, reads_server, refusal, removes, told, told_with}
 use Rattle.orch_core.specs.Polls.{command_outcome}
 use Rattle.orch_core.specs.Readings.{reading_by}
 use Rattle.orch_core.specs.States.{State, IsState}
-use Rattle.orch_core.proofs.Starts.{names-changed}
+use Rattle.orch_core.proofs.Starts.{names-changed, settings-changed}
 use Rattle.orch_core.proofs.States.{reading_known, one_known}
 
 below : (m n : ℕ) → nat_lt m n ≡ true → m < n
@@ -77,57 +75,112 @@ module _ (count : ℕ) (P : Change → Type 0) (puts : (i : Instance) → fits c
         go false true = All-nil P
         go false false = All-cons P (change.Put (row.Instance (renewed kept o))) [] (renewed-has kept) (All-nil P)
 
-  discovered-has : (b : Known) (reads : ℕ) (o : Observation) → are_known count (observed_servers o) ≡ true → All P (discovered b reads o o.seen).changes
+  -- of both lists of an outcome
+  record Has (o : Outcome) : Type 0 where
+    book : All P o.book
+    rows : All P o.rows
+
+  Has-with : (reads : ℕ) (l : Line) (cs : List Change) → All P cs → Has (told_with reads l cs)
+  Has-with reads l cs all = record { book = all; rows = all }
+
+  Has-refusal : (reads : ℕ) (r : Refusal) → Has (refusal reads r)
+  Has-refusal reads r = record { book = All-nil P; rows = All-nil P }
+
+  discovered-has : (b : Known) (reads : ℕ) (o : Observation) → are_known count (observed_servers o) ≡ true → Has (discovered b reads o o.seen)
   discovered-has b reads o known = go o.seen refl
     where
-      go : (x : Option Seen) → o.seen ≡ x → All P (discovered b reads o x).changes
-      go None at = All-nil P
-      go (Some seen) at = discovery-has o seen at known (instance_at b o.no)
+      go : (x : Option Seen) → o.seen ≡ x → Has (discovered b reads o x)
+      go None at = Has-refusal reads (Unreachable o.no)
+      go (Some seen) at = Has-with o.read (line.Server o.no) (option_to_list (discovery (instance_at b o.no) o seen)) (discovery-has o seen at known (instance_at b o.no))
 
   -- forget
-  forgotten-has : (b : Known) (reads : ℕ) (i : ServerNo) → i.0 < count → All P (forgotten b reads i).changes
+  forgotten-has : (b : Known) (reads : ℕ) (i : ServerNo) → i.0 < count → Has (forgotten b reads i)
   forgotten-has b reads i within = go (is_instance b i)
     where
-      go : (there : Bool) → All P (if there then record { reply = answered.Told (line.Server i ∷ []); changes = change.Remove table.Instance (key.Server i) ∷ []; reads = reads } else refusal reads UnknownInstance).changes
-      go true = All-cons P (change.Remove table.Instance (key.Server i)) [] (removals i within) (All-nil P)
-      go false = All-nil P
+      go : (there : Bool) → Has (if there then told_with reads (line.Server i) (change.Remove table.Instance (key.Server i) ∷ []) else refusal reads UnknownInstance)
+      go true = Has-with reads (line.Server i) (change.Remove table.Instance (key.Server i) ∷ []) (All-cons P (change.Remove table.Instance (key.Server i)) [] (removals i within) (All-nil P))
+      go false = Has-refusal reads UnknownInstance
 
   -- the others
-  asked-has : (reads : ℕ) (p : Result Unit Refusal) (lines : List Line) → All P (asked reads p lines).changes
-  asked-has reads (Ok permit) lines = All-nil P
-  asked-has reads (Err r) lines = All-nil P
+  asked-has : (reads : ℕ) (p : Result Unit Refusal) (lines : List Line) → Has (asked reads p lines)
+  asked-has reads (Ok permit) lines = record { book = All-nil P; rows = All-nil P }
+  asked-has reads (Err r) lines = Has-refusal reads r
 
-  outcome-has : (s : State) (c : CommandTurn) → Placed s.world → length s.world.servers ≡ count → IsCommand count c → All P (command_outcome s c).changes
+  outcome-has : (s : State) (c : CommandTurn) → KnowsSources s.world.servers → length s.world.servers ≡ count → IsCommand count c → Has (command_outcome s c)
   unfolding outcome_of
-  outcome-has s c placed servers command = at c.command.i (given-within count c command)
+  outcome-has s c sources servers command = at c.command.i (given-within count c command)
     where
-      at : (i : Option ServerNo) → is_within count i ≡ true → All P (outcome_by s.world s.book s.reads s.moment c i).changes
-      at None within = asked-has s.reads (permitted s.book c.command) (lines_of s.book s.world c c.command.name)
+      at : (i : Option ServerNo) → is_within count i ≡ true → Has (outcome_by s.world s.book s.reads s.moment c i)
+      at None within = asked-has s.reads (permitted s.book c.command) (lines_of s.book c c.command.name)
       at (Some i) within = go (reads_server c.command.name) (removes c.command.name)
         where
-          go : (discovers forgets : Bool) → All P
+          go : (discovers forgets : Bool) → Has
               (if discovers then discovered s.book s.reads (reading_by s.world i (next_count s.reads) s.moment) (reading_by s.world i (next_count s.reads) s.moment).seen
-              else (if forgets then forgotten s.book s.reads i else asked s.reads (permitted s.book c.command) (lines_of s.book s.world c c.command.name))).changes
+              else (if forgets then forgotten s.book s.reads i else asked s.reads (permitted s.book c.command) (lines_of s.book c c.command.name)))
           go true forgets =
               let here : i.0 < length s.world.servers = subst (λ (n : ℕ). i.0 < n) (sym servers) (below i.0 count within) in
               discovered-has s.book s.reads (reading_by s.world i (next_count s.reads) s.moment)
-              (subst (λ (n : ℕ). are_known n (observed_servers (reading_by s.world i (next_count s.reads) s.moment)) ≡ true) servers (reading_known s.world i (next_count s.reads) s.moment placed here))
+              (subst (λ (n : ℕ). are_known n (observed_servers (reading_by s.world i (next_count s.reads) s.moment)) ≡ true) servers (reading_known s.world i (next_count s.reads) s.moment sources here))
           go false true = forgotten-has s.book s.reads i (below i.0 count within)
-          go false false = asked-has s.reads (permitted s.book c.command) (lines_of s.book s.world c c.command.name)
+          go false false = asked-has s.reads (permitted s.book c.command) (lines_of s.book c c.command.name)
 
-pub outcome-fits : (s : State) (c : CommandTurn) → IsState s → IsCommand (length s.world.servers) c → All (λ x. fits (length s.book.names) x ≡ true) (command_outcome s c).changes
+-- each change of a command fits the book
+pub record Fits (count : ℕ) (o : Outcome) : Type 0 where
+  pub book : All (λ x. fits count x ≡ true) o.book
+  pub rows : All (λ x. fits count x ≡ true) o.rows
+
+pub outcome-fits : (s : State) (c : CommandTurn) → IsState s → IsCommand (length s.world.servers) c → Fits (length s.book.names) (command_outcome s c)
 outcome-fits s c is command =
-    outcome-has (length s.book.names) (λ x. fits (length s.book.names) x ≡ true) (λ i h. h) (λ i within. one_known (length s.book.names) i.0 within) s c is.placed (sym is.names)
-    (subst (λ (n : ℕ). IsCommand n c) (sym is.names) command)
+    let has = outcome-has (length s.book.names) (λ x. fits (length s.book.names) x ≡ true) (λ i h. h) (λ i within. one_known (length s.book.names) i.0 within) s c is.sources (sym is.names)
+    (subst (λ (n : ℕ). IsCommand n c) (sym is.names) command) in
+    record { book = has.book; rows = has.rows }
 
-pub outcome-range : (s : State) (c : CommandTurn) → IsState s → IsCommand (length s.world.servers) c → length s.book.names < 2 ^ 32 → All IsInRange (command_outcome s c).changes
+pub outcome-range : (s : State) (c : CommandTurn) → IsState s → IsCommand (length s.world.servers) c → length s.book.names < 2 ^ 32 → All IsInRange (command_outcome s c).rows
 outcome-range s c is command few =
-    outcome-has (length s.book.names) IsInRange (λ i h. tt) (λ i within. omega (arith, within, few)) s c is.placed (sym is.names) (subst (λ (n : ℕ). IsCommand n c) (sym is.names) command)
+    (outcome-has (length s.book.names) IsInRange (λ i h. tt) (λ i within. omega (arith, within, few)) s c is.sources (sym is.names) (subst (λ (n : ℕ). IsCommand n c) (sym is.names) command)).rows
 
-pub IsState-command : (s : State) (cs : List Change) (reads : ℕ) (b : Known) (journal : List (Turn × Reply)) → IsState s → b ≡ changed_book s.book cs → IsState (record s { book = b; reads = reads; journal = journal })
-IsState-command s cs reads b journal is changes = record {
+-- today a command changes the book and the kept rows alike
+module _ (b : Known) where
+  asked-alike : (reads : ℕ) (p : Result Unit Refusal) (lines : List Line) → (asked reads p lines).book ≡ (asked reads p lines).rows
+  asked-alike reads (Ok permit) lines = refl
+  asked-alike reads (Err r) lines = refl
+
+  discovered-alike : (reads : ℕ) (o : Observation) (x : Option Seen) → (discovered b reads o x).book ≡ (discovered b reads o x).rows
+  discovered-alike reads o None = refl
+  discovered-alike reads o (Some seen) = refl
+
+  forgotten-alike : (reads : ℕ) (i : ServerNo) → (forgotten b reads i).book ≡ (forgotten b reads i).rows
+  forgotten-alike reads i = go (is_instance b i)
+    where
+      go : (there : Bool) → (if there then told_with reads (line.Server i) (change.Remove table.Instance (key.Server i) ∷ []) else refusal reads UnknownInstance).book
+          ≡ (if there then told_with reads (line.Server i) (change.Remove table.Instance (key.Server i) ∷ []) else refusal reads UnknownInstance).rows
+      go true = refl
+      go false = refl
+
+abbrev outcome_with : State → CommandTurn → ServerNo → Bool → Bool → Outcome
+outcome_with s c i discovers forgets =
+    if discovers then discovered s.book s.reads (reading_by s.world i (next_count s.reads) s.moment) (reading_by s.world i (next_count s.reads) s.moment).seen
+    else (if forgets then forgotten s.book s.reads i else asked s.reads (permitted s.book c.command) (lines_of s.book c c.command.name))
+
+alike-with : (s : State) (c : CommandTurn) (i : ServerNo) (discovers forgets : Bool) → (outcome_with s c i discovers forgets).book ≡ (outcome_with s c i discovers forgets).rows
+alike-with s c i true forgets = discovered-alike s.book s.reads (reading_by s.world i (next_count s.reads) s.moment) (reading_by s.world i (next_count s.reads) s.moment).seen
+alike-with s c i false true = forgotten-alike s.book s.reads i
+alike-with s c i false false = asked-alike s.book s.reads (permitted s.book c.command) (lines_of s.book c c.command.name)
+
+pub outcome-alike : (s : State) (c : CommandTurn) → (command_outcome s c).book ≡ (command_outcome s c).rows
+unfolding outcome_of
+outcome-alike s c = at c.command.i
+  where
+    at : (i : Option ServerNo) → (outcome_by s.world s.book s.reads s.moment c i).book ≡ (outcome_by s.world s.book s.reads s.moment c i).rows
+    at None = asked-alike s.book s.reads (permitted s.book c.command) (lines_of s.book c c.command.name)
+    at (Some i) = alike-with s c i (reads_server c.command.name) (removes c.command.name)
+
+pub IsState-command : (s : State) (cs : List Change) (reads : ℕ) (b : Known) → IsState s → b ≡ changed_book s.book cs → IsState (record s { book = b; reads = reads })
+IsState-command s cs reads b is changes = record {
   names = ap (λ (x : Known). length x.names) changes ∙ (ap length (names-changed s.book cs) ∙ is.names);
+  settings = ap (λ (x : Known). length x.settings) changes ∙ (ap length (settings-changed s.book cs) ∙ is.settings);
   slots = is.slots;
   observed = is.observed;
-  placed = is.placed;
+  sources = is.sources;
+  moment = is.moment;
 }

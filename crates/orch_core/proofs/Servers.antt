@@ -1,33 +1,34 @@
 -- No exchange adds a server or takes one away.
-use Rattle.std.proofs.Common.{◌≡◌, ◌∙◌, ℕ, false, length, refl, ap, Option, Some, None}
+use Rattle.std.proofs.Common.{◌≡◌, ◌∙◌, ℕ, false, List, [], ◌∷◌, length, refl, ap, Option, Some, None}
 use Rattle.std.proofs.lemmas.List.{length-set}
 use Rattle.std.specs.Prelude.{Result, Ok, Err}
 use Rattle.binlog_coords.specs.declared.Coord.{Coord}
 use Rattle.binlog_coords.specs.declared.Next.TheVariants as next
 use Rattle.orch_base.specs.declared.server.ServerNo.{ServerNo}
-use Rattle.server_model.specs.declared.answers.ApplyStep.{ApplyStep}
-use Rattle.server_model.specs.declared.answers.ApplyStep.TheVariants as applying
-use Rattle.server_model.specs.declared.answers.FetchStep.{FetchStep}
-use Rattle.server_model.specs.declared.answers.FetchStep.TheVariants as receiving
-use Rattle.server_model.specs.declared.answers.RotateAnswer.{RotateAnswer}
-use Rattle.server_model.specs.declared.answers.RotateAnswer.TheVariants as rotating
-use Rattle.server_model.specs.declared.answers.Unreachable.{Unreachable}
-use Rattle.server_model.specs.declared.answers.WriteAnswer.{WriteAnswer}
-use Rattle.server_model.specs.declared.answers.WriteAnswer.TheVariants as wrote
-use Rattle.server_model.specs.declared.attach.AttachFault.{AttachFault}
-use Rattle.server_model.specs.declared.changes.Ask.{Ask}
+use Rattle.server_model.specs.declared.decisions.ApplyStep.{ApplyStep}
+use Rattle.server_model.specs.declared.decisions.ApplyStep.TheVariants as applying
+use Rattle.server_model.specs.declared.decisions.FetchStep.{FetchStep}
+use Rattle.server_model.specs.declared.decisions.FetchStep.TheVariants as receiving
+use Rattle.server_words.specs.declared.answers.RotateAnswer.{RotateAnswer}
+use Rattle.server_words.specs.declared.answers.RotateAnswer.TheVariants as rotating
+use Rattle.server_words.specs.declared.answers.Unreachable.{Unreachable}
+use Rattle.server_words.specs.declared.answers.WriteAnswer.{WriteAnswer}
+use Rattle.server_words.specs.declared.answers.WriteAnswer.TheVariants as wrote
+use Rattle.server_words.specs.declared.attach.AttachFault.{AttachFault}
+use Rattle.server_words.specs.declared.changes.Ask.{Ask}
 use Rattle.server_model.specs.declared.server.Server.{Server}
 use Rattle.server_model.specs.Exchanges.{took, own_txn, write_answer, after_write, fetch_step, after_fetch, apply_step, after_apply}
 use Rattle.server_model.specs.Attach.{attach_answer, attached_to, after_attach}
 use Rattle.server_model.specs.Desk.{asked, befallen, rotated, desk_answer, rotate_answer, after_change, after_desk, after_rotate}
 use Rattle.server_model.specs.Gtids.{attach_auto_answer, after_attach_auto, attached_auto, auto_coord, uuids}
-use Rattle.server_model.specs.Run.{Exchange, Write, Fetch, Apply, Request, Befall, Rotate, Attach, AttachAuto, after}
+use Rattle.server_model.specs.Run.{Exchange, Write, Fetch, Apply, Request, Befall, Rotate, Attach, AttachAuto, after, run}
 use Rattle.server_model.specs.Worlds.{World, server_at}
 use Rattle.openings.specs.Opening.{Opened}
-use Rattle.server_model.specs.Opening.{opened_world}
-use Rattle.server_model.proofs.Opened.{length-opened_from}
-use Rattle.orch_core.specs.declared.scenario.Scenario.{Scenario}
-use Rattle.orch_core.specs.Scenarios.{start_world, room_of, flushes_of}
+use Rattle.world_openings.specs.Opening.{opened_world}
+use Rattle.world_openings.proofs.Opened.{length-opened_from}
+use Rattle.scenarios.specs.declared.scenario.Scenario.{Scenario}
+use Rattle.scenarios.specs.Scenarios.{room_of, flushes_of}
+use Rattle.orch_core.specs.Scenarios.{start_world}
 
 servers-write : (w : World) (n size : ℕ) (o : Option Server) (a : WriteAnswer) → length (after_write w n size o a).servers ≡ length w.servers
 servers-write w n size None a = refl
@@ -89,6 +90,11 @@ servers-after w (Befall n e) = servers-change w n (befallen e) (server_at w n)
 servers-after w (Rotate n) = servers-rotate w n (server_at w n) (rotate_answer (server_at w n))
 servers-after w (Attach n expect to at) = servers-attach w n to at (server_at w n) (attach_answer w n expect to.0 (server_at w n))
 servers-after w (AttachAuto n observed to) = servers-attach_auto w n to (server_at w n) (attach_auto_answer w n observed to.0 (server_at w n))
+
+-- over some exchanges
+pub servers-run : (w : World) (es : List Exchange) → length (run w es).servers ≡ length w.servers
+servers-run w [] = refl
+servers-run w (e ∷ es) = servers-run (after w e) es ∙ servers-after w e
 
 pub servers-opened : (o : Opened) (room flushes : ℕ) → length (opened_world o room flushes).servers ≡ length o.servers
 servers-opened o room flushes = length-opened_from o.servers room flushes 0 o.servers

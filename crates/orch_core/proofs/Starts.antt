@@ -1,6 +1,8 @@
 -- The state with which a scenario's run begins.
-use Rattle.std.proofs.Common.{◌≡◌, ◌∙◌, ℕ, ◌+◌, Bool, true, false, List, [], ◌∷◌, length, refl, sym, ap, subst, Option, Some, None}
-use Rattle.std.specs.Prelude.{All, IfSome, IsTrue, ◌&&◌, is_none, slice_index_or, if◌then◌else◌}
+use Rattle.std.proofs.Common.{◌≡◌, ◌∙◌, ℕ, ◌+◌, ◌<◌, ◌≤◌, ◌^◌, Bool, true, false, List, [], ◌∷◌, length, get_or, refl, sym, ap, subst, Option, Some, None, arith}
+use Rattle.std.specs.Prelude.{All, IfSome, IsTrue, ◌&&◌, filter, is_none, max, nat_le, nat_lt, slice_index_or, if◌then◌else◌}
+use Rattle.std.proofs.lemmas.Bool.{leb-true}
+use Rattle.std.proofs.lemmas.List.Sums.{get_or-le-sum_by}
 use Rattle.std.specs.List.{cons_option}
 use Rattle.std.proofs.lemmas.List.{length-map, length-replicate}
 use Rattle.std.proofs.lemmas.List.Elements.{All-nil, All-cons, All-replicate}
@@ -12,38 +14,106 @@ use Rattle.instance_keeper.specs.declared.row.Change.{Change}
 use Rattle.instance_keeper.specs.declared.row.Change.TheVariants as change
 use Rattle.instance_keeper.specs.declared.row.Table.TheVariants as table
 use Rattle.instance_keeper.specs.declared.row.Key.TheVariants as key
-use Rattle.instance_keeper.specs.Book.{Known, source_servers, fits, after_change, book_made}
-use Rattle.opening_book.specs.Counting.{counted, last_read, latest, loaded}
-use Rattle.instance_keeper.specs.Rows.{changed}
-use Rattle.orch_base.specs.Names.{HostPort}
+use Rattle.instance_keeper.specs.Book.{Known, are_known, servers_of, source_servers, fits, after_change, book_made}
+use Rattle.instance_keeper.proofs.Books.{both_true}
+use Rattle.opening_book.specs.Counting.{counted, counts, end_or, greatest, greatest_id, is_end_in_range, is_in_range, last_read, latest, loaded, raised}
+use Rattle.instance_keeper.specs.Rows.{changed, map_of}
+use Rattle.instance_keeper.specs.declared.row.Row.TheVariants as row
+use Rattle.orch_base.specs.declared.server.Settings.{Settings}
 use Rattle.opening_book.specs.Opening.{changed_book, missing, missing_from, opening_changes, put_instance}
-use Rattle.replication_laws.proofs.Keeping.{Placed-safe}
-use Rattle.replication_laws.proofs.Openings.{Safe-opened}
-use Rattle.server_model.proofs.OpenedSets.{numbered-opened}
 use Rattle.server_model.specs.declared.server.Server.{Server}
-use Rattle.server_model.specs.Gtids.{IsNumbered}
-use Rattle.server_model.specs.Opening.{opened_world}
-use Rattle.server_model.specs.Safe.{Placed}
+use Rattle.openings.specs.Listed.{transactions}
+use Rattle.openings.specs.Servers.{parts_of}
+use Rattle.orch_base.specs.declared.server.ServerNo.{ServerNo}
+use Rattle.orch_base.specs.declared.server.SourceState.TheVariants.{Attached, Detached}
+use Rattle.world_openings.proofs.Opened.{given-opened}
+use Rattle.world_openings.specs.Opening.{Fits, opened_world, source_state}
 use Rattle.server_model.specs.Worlds.{World, server_at}
-use Rattle.orch_core.specs.declared.scenario.Scenario.{Scenario}
-use Rattle.orch_core.specs.declared.turn.Turn.{Turn}
-use Rattle.orch_core.specs.declared.turn.Reply.{Reply}
+use Rattle.scenarios.specs.declared.scenario.Scenario.{Scenario}
 use Rattle.orch_core.specs.Polls.{empty_slots}
 use Rattle.orch_core.specs.Keeping.{kept_if}
-use Rattle.orch_core.specs.Scenarios.{IsScenario, room_of, flushes_of, start_world, names_of, start_rows, start_moment, start_changes, start, StartsBy, kept_at_start}
-use Rattle.orch_core.specs.States.{IsState}
-use Rattle.orch_core.specs.Turns.{pollers}
-use Rattle.orch_core.proofs.Rooms.{Fits-start, room_of-few}
+use Rattle.scenarios.specs.Scenarios.{IsScenario, room_of, flushes_of, settings_of}
+use Rattle.scenarios.specs.Turns.{pollers}
+use Rattle.scenarios.proofs.Rooms.{longest-at, room_of-few}
+use Rattle.orch_core.specs.declared.configuration.Configuration.{Configuration}
+use Rattle.orch_core.specs.Scenarios.{configuration_of, start_world, start_rows, start_moment, start_changes, start, StartsBy, kept_at_start}
+use Rattle.orch_core.specs.States.{HasKnownSource, IsSlot, IsState, State}
 use Rattle.orch_core.proofs.Servers.{servers-start}
-use Rattle.orch_core.proofs.States.{IsSlot, names-made, both_known, sources_known, names-put}
+use Rattle.orch_core.proofs.Sources.{KnowsSources, source-at}
+use Rattle.orch_core.proofs.States.{names-made, settings-made, both_known, names-put, settings-put}
 
-pub Placed-start : (s : Scenario) → IsScenario s → Placed (start_world s)
-Placed-start s is = Placed-safe (start_world s) (Safe-opened s.opening (room_of s) (flushes_of s) is.checked)
+-- ---- the servers
 
-pub numbered-start : (s : Scenario) → IsScenario s → All (λ x. All (IsNumbered (length (start_world s).servers)) x.history.txns) (start_world s).servers
-numbered-start s is = λ k d h. numbered-opened s.opening (room_of s) (flushes_of s) is.checked (Fits-start s) (room_of-few s is) k _ (slice_get-get_or (start_world s).servers k d h)
+pub Fits-start : (s : Scenario) → Fits s.opening (room_of s) (flushes_of s)
+Fits-start s = record {
+  histories = λ k d within. omega (arith, get_or-le-sum_by (λ i. transactions (parts_of i)) s.opening.servers k d within);
+  flush_points = λ k d within. omega (arith, longest-at s.opening.servers k _ (slice_get-get_or s.opening.servers k d within));
+}
 
--- the changes of an opening fit the book
+below : (m n : ℕ) → m < n → nat_lt m n ≡ true
+below m n h = grind arith
+
+-- what is opened has the source that is given
+opened-source : (count : ℕ) (detached : Bool) (from : Option ServerNo) → ((m : ServerNo) → from ≡ Some m → m.0 < count) → are_known count (source_servers (source_state detached from)) ≡ true
+opened-source count detached None known = refl
+opened-source count detached (Some m) known = go detached
+  where
+    here : are_known count (m.0 ∷ []) ≡ true
+    here = rw (below m.0 count (known m refl)) refl
+
+    go : (b : Bool) → are_known count (source_servers (if b then Detached m else Attached m)) ≡ true
+    go true = here
+    go false = here
+
+-- each source is one of the servers
+pub sources-start : (s : Scenario) → IsScenario s → KnowsSources (start_world s).servers
+sources-start s is = λ k d within.
+    let servers = (start_world s).servers in
+    let g = given-opened s.opening (room_of s) (flushes_of s) k (get_or servers k d) (slice_get-get_or servers k d within) in
+    let known : are_known (length s.opening.servers) (source_servers (source_state g.init.detached g.init.source)) ≡ true =
+    opened-source (length s.opening.servers) g.init.detached g.init.source (is.checked.listed.each k g.init g.place).source in
+    subst (λ (count : ℕ). HasKnownSource count (get_or servers k d)) (sym (servers-start s))
+    (subst (λ (x : Server). are_known (length s.opening.servers) (source_servers x.source) ≡ true) (sym g.is_opened) known)
+
+-- ---- the moment
+
+max-most : (a b most : ℕ) → a ≤ most → b ≤ most → max a b ≤ most
+max-most a b most first second = omega arith
+
+at_most : (n most : ℕ) → nat_le n most ≡ true → n ≤ most
+at_most n most h = leb-true n most h
+
+ended-most : (now : ℕ) (ended : Option Moment) → now ≤ greatest → is_end_in_range ended ≡ true → end_or now ended ≤ greatest
+ended-most now None most is = most
+ended-most now (Some ended) most is = max-most now ended.0 greatest most (at_most ended.0 greatest is)
+
+raised-most : (now : ℕ) (r : Row) → now ≤ greatest → is_in_range r ≡ true → raised now r ≤ greatest
+raised-most now (row.Instance i) most is = most
+raised-most now (row.Downtime d) most is = max-most now d.begun.0 greatest most (at_most d.begun.0 greatest (both_true (nat_le d.begun.0 greatest) (nat_le d.until.0 greatest) is).0)
+raised-most now (row.Candidate c) most is = most
+raised-most now (row.Recovery r) most is =
+    let moments = (both_true (nat_le 1 r.id && nat_le r.id greatest_id) (nat_le r.begun.0 greatest && is_end_in_range r.ended) is).1 in
+    let parts = both_true (nat_le r.begun.0 greatest) (is_end_in_range r.ended) moments in
+    ended-most (max now r.begun.0) r.ended (max-most now r.begun.0 greatest most (at_most r.begun.0 greatest parts.0)) parts.1
+raised-most now (row.Switch enabled) most is = most
+
+filtered-most : (count now : ℕ) (rows : List Row) → now ≤ greatest → latest now (filter (counts count) rows) ≤ greatest
+filtered-most count now [] most = most
+filtered-most count now (r ∷ rows) most = go (counts count r) refl (filtered-most count now rows most) (λ later. filtered-most count (raised now r) rows later)
+  where
+    go : (b : Bool) → counts count r ≡ b → latest now (filter (counts count) rows) ≤ greatest → (raised now r ≤ greatest → latest (raised now r) (filter (counts count) rows) ≤ greatest)
+        → latest now (if b then r ∷ filter (counts count) rows else filter (counts count) rows) ≤ greatest
+    go true is rest more = more (raised-most now r most (both_true (are_known count (servers_of r)) (is_in_range r) is).1)
+    go false is rest more = rest
+
+-- no row that counts is later than the end of time
+few : (n : ℕ) → n ≤ 1000000000000000 → n ≤ greatest
+few n early = omega arith
+
+pub latest-most : (count now : ℕ) (rows : List Row) → now ≤ greatest → latest now (counted count rows) ≤ greatest
+latest-most count now rows most = filtered-most count now (map_of rows) most
+
+-- ---- the changes of an opening fit the book
 
 FitsBook : ℕ → List Change → Type 0
 FitsBook count cs = All (λ c. IsTrue (fits count c)) cs
@@ -53,25 +123,25 @@ unfolding FitsBook
 fits-option count None cs here rest = rest
 fits-option count (Some c) cs here rest = All-cons (λ x. IsTrue (fits count x)) c cs here rest
 
-fits-instance : (w : World) (at : Moment) (n : ℕ) (o : Option Server) → Placed w → server_at w n ≡ o → IfSome (put_instance w at n o) (λ c. IsTrue (fits (length w.servers) c))
-fits-instance w at n None placed here = tt
-fits-instance w at n (Some s) placed here = both_known (length w.servers) n (source_servers s.source) (slice_get_within w.servers n s here) (sources_known w n s placed here)
+fits-instance : (w : World) (at : Moment) (n : ℕ) (o : Option Server) → KnowsSources w.servers → server_at w n ≡ o → IfSome (put_instance w at n o) (λ c. IsTrue (fits (length w.servers) c))
+fits-instance w at n None sources here = tt
+fits-instance w at n (Some s) sources here = both_known (length w.servers) n (source_servers s.source) (slice_get_within w.servers n s here) (source-at w.servers n s sources here)
 
-fits-missing : (w : World) (at : Moment) (b : Known) (n : ℕ) (known : Bool) → Placed w → IfSome (missing w at b n known) (λ c. IsTrue (fits (length w.servers) c))
-fits-missing w at b n known placed = go (known && is_none (slice_index_or b.instances n None))
+fits-missing : (w : World) (at : Moment) (b : Known) (n : ℕ) (known : Bool) → KnowsSources w.servers → IfSome (missing w at b n known) (λ c. IsTrue (fits (length w.servers) c))
+fits-missing w at b n known sources = go (known && is_none (slice_index_or b.instances n None))
   where
     go : (lacks : Bool) → IfSome (if lacks then put_instance w at n (server_at w n) else None) (λ c. IsTrue (fits (length w.servers) c))
-    go true = fits-instance w at n (server_at w n) placed refl
+    go true = fits-instance w at n (server_at w n) sources refl
     go false = tt
 
-fits-from : (w : World) (at : Moment) (b : Known) (n : ℕ) (known : List Bool) → Placed w → FitsBook (length w.servers) (missing_from w at b n known)
+fits-from : (w : World) (at : Moment) (b : Known) (n : ℕ) (known : List Bool) → KnowsSources w.servers → FitsBook (length w.servers) (missing_from w at b n known)
 unfolding FitsBook
-fits-from w at b n [] placed = All-nil (λ c. IsTrue (fits (length w.servers) c))
-fits-from w at b n (k ∷ ks) placed = fits-option (length w.servers) (missing w at b n k) (missing_from w at b (n + 1) ks) (fits-missing w at b n k placed) (fits-from w at b (n + 1) ks placed)
+fits-from w at b n [] sources = All-nil (λ c. IsTrue (fits (length w.servers) c))
+fits-from w at b n (k ∷ ks) sources = fits-option (length w.servers) (missing w at b n k) (missing_from w at b (n + 1) ks) (fits-missing w at b n k sources) (fits-from w at b (n + 1) ks sources)
 
-pub fits-opening : (w : World) (at : Moment) (b : Known) (known : List Bool) → Placed w → length b.names ≡ length w.servers → All (λ c. IsTrue (fits (length b.names) c)) (opening_changes w at b known)
+pub fits-opening : (w : World) (at : Moment) (b : Known) (known : List Bool) → KnowsSources w.servers → length b.names ≡ length w.servers → All (λ c. IsTrue (fits (length b.names) c)) (opening_changes w at b known)
 unfolding FitsBook
-fits-opening w at b known placed names = subst (λ count. All (λ c. IsTrue (fits count c)) (opening_changes w at b known)) (sym names) (fits-from w at b 0 known placed)
+fits-opening w at b known sources names = subst (λ count. All (λ c. IsTrue (fits count c)) (opening_changes w at b known)) (sym names) (fits-from w at b 0 known sources)
 
 names-change : (b : Known) (c : Change) → (after_change b c).names ≡ b.names
 names-change b (change.Put r) = names-put b r
@@ -95,10 +165,37 @@ pub names-changed : (b : Known) (cs : List Change) → (changed_book b cs).names
 names-changed b [] = refl
 names-changed b (c ∷ cs) = names-changed (after_change b c) cs ∙ names-change b c
 
-pub book-names : (s : Scenario) (w : World) (names : List HostPort) (items : List Row) (b : Known) → w ≡ start_world s → names ≡ names_of s → b ≡ book_made names items → length b.names ≡ length w.servers
-book-names s w names items b world names_are loads =
-    ap (λ (x : Known). length x.names) loads ∙ (ap length (names-made names items) ∙ (ap length names_are
-    ∙ (length-map s.opening.servers (λ i. i.settings.name) ∙ sym (ap (λ (x : World). length x.servers) world ∙ servers-start s))))
+settings-change : (b : Known) (c : Change) → (after_change b c).settings ≡ b.settings
+settings-change b (change.Put r) = settings-put b r
+settings-change b (change.Remove table.Instance (key.Server n)) = refl
+settings-change b (change.Remove table.Downtime (key.Server n)) = refl
+settings-change b (change.Remove table.Candidate (key.Server n)) = refl
+settings-change b (change.Remove table.Recovery (key.Server n)) = refl
+settings-change b (change.Remove table.Switch (key.Server n)) = refl
+settings-change b (change.Remove table.Instance (key.Id id)) = refl
+settings-change b (change.Remove table.Downtime (key.Id id)) = refl
+settings-change b (change.Remove table.Candidate (key.Id id)) = refl
+settings-change b (change.Remove table.Recovery (key.Id id)) = refl
+settings-change b (change.Remove table.Switch (key.Id id)) = refl
+settings-change b (change.Remove table.Instance key.Global) = refl
+settings-change b (change.Remove table.Downtime key.Global) = refl
+settings-change b (change.Remove table.Candidate key.Global) = refl
+settings-change b (change.Remove table.Recovery key.Global) = refl
+settings-change b (change.Remove table.Switch key.Global) = refl
+
+pub settings-changed : (b : Known) (cs : List Change) → (changed_book b cs).settings ≡ b.settings
+settings-changed b [] = refl
+settings-changed b (c ∷ cs) = settings-changed (after_change b c) cs ∙ settings-change b c
+
+pub book-settings : (s : Scenario) (w : World) (settings : List Settings) (items : List Row) (b : Known) → w ≡ start_world s → settings ≡ settings_of s → b ≡ book_made settings items → length b.settings ≡ length w.servers
+book-settings s w settings items b world settings_are loads =
+    ap (λ (x : Known). length x.settings) loads ∙ (ap length (settings-made settings items) ∙ (ap length settings_are
+    ∙ (length-map s.opening.servers (λ i. i.settings) ∙ sym (ap (λ (x : World). length x.servers) world ∙ servers-start s))))
+
+pub book-names : (s : Scenario) (w : World) (settings : List Settings) (items : List Row) (b : Known) → w ≡ start_world s → settings ≡ settings_of s → b ≡ book_made settings items → length b.names ≡ length w.servers
+book-names s w settings items b world settings_are loads =
+    ap (λ (x : Known). length x.names) loads ∙ (ap length (names-made settings items) ∙ (length-map settings (λ x. x.name)
+    ∙ (sym (ap length (settings-made settings items)) ∙ (sym (ap (λ (x : Known). length x.settings) loads) ∙ book-settings s w settings items b world settings_are loads))))
 
 -- the world of an opening, with room as it was counted
 pub world_made : (s : Scenario) (w : World) (room flushes : ℕ) → w ≡ opened_world s.opening room flushes → room ≡ room_of s → flushes ≡ flushes_of s → w ≡ start_world s
@@ -106,33 +203,46 @@ world_made s w room flushes made room_is flushes_are =
     made ∙ ap (λ (n : ℕ). opened_world s.opening n flushes) room_is ∙ ap (λ (n : ℕ). opened_world s.opening (room_of s) n) flushes_are
 
 -- the pieces of an opening, as they were made one after another
-pub record IsOpening (s : Scenario) (w : World) (names : List HostPort) (items : List Row) (moment : Moment) (b b' : Known) (slots : List (Option Observation)) (reads : ℕ) : Type 0 where
+pub record IsOpening (s : Scenario) (w : World) (settings : List Settings) (items : List Row) (moment : Moment) (b b' : Known) (slots : List (Option Observation)) (reads : ℕ) (wait : ℕ) (configuration : Configuration) : Type 0 where
   pub world : w ≡ start_world s
-  pub names_made : names ≡ names_of s
+  pub settings_made : settings ≡ settings_of s
   pub moment_made : moment.0 ≡ latest s.moment.0 items
-  pub loads : b ≡ book_made names items
+  pub loads : b ≡ book_made settings items
   pub completes : b' ≡ changed_book b (opening_changes w moment b s.known)
   pub empty : slots ≡ empty_slots
   pub read : reads ≡ last_read items
+  pub configured : configuration ≡ configuration_of wait s
+  pub some : (rows : List Row) × (items ≡ counted (length settings) rows)
 
-module _ (s : Scenario) (w : World) (names : List HostPort) (items : List Row) (moment : Moment) (b b' : Known) (slots : List (Option Observation)) (reads : ℕ) (is : IsOpening s w names items moment b b' slots reads) where
-  pub IsState-made : (wait : ℕ) (journal : List (Turn × Reply)) → IsScenario s → IsState (record { world = w; moment = moment.0; book = b'; slots = slots; reads = reads; wait = wait; journal = journal })
-  IsState-made wait journal scenario = record {
-    names = ap (λ (x : Known). length x.names) is.completes ∙ (ap length (names-changed b (opening_changes w moment b s.known)) ∙ book-names s w names items b is.world is.names_made is.loads);
+module _ (s : Scenario) (w : World) (settings : List Settings) (items : List Row) (moment : Moment) (b b' : Known) (slots : List (Option Observation)) (reads wait : ℕ) (configuration : Configuration)
+    (is : IsOpening s w settings items moment b b' slots reads wait configuration) where
+  abbrev made : State
+  made = record { world = w; moment = moment.0; book = b'; slots = slots; reads = reads; last_job = 0; configuration = configuration }
+
+  moment-most : IsScenario s → moment.0 ≤ 2 ^ 63
+  moment-most scenario =
+      let early : s.moment.0 ≤ greatest = few s.moment.0 scenario.moment in
+      subst (λ (n : ℕ). n ≤ greatest) (sym (is.moment_made ∙ ap (latest s.moment.0) is.some.1)) (latest-most (length settings) s.moment.0 is.some.0 early)
+
+  pub IsState-made : IsScenario s → IsState made
+  IsState-made scenario = record {
+    names = ap (λ (x : Known). length x.names) is.completes ∙ (ap length (names-changed b (opening_changes w moment b s.known)) ∙ book-names s w settings items b is.world is.settings_made is.loads);
+    settings = ap (λ (x : Known). length x.settings) is.completes ∙ (ap length (settings-changed b (opening_changes w moment b s.known)) ∙ book-settings s w settings items b is.world is.settings_made is.loads);
     slots = ap length is.empty ∙ length-replicate {A = Option Observation} pollers None;
     observed = subst (All (IsSlot (length w.servers))) (sym is.empty) (All-replicate (IsSlot (length w.servers)) pollers None tt);
-    placed = subst Placed (sym is.world) (Placed-start s scenario);
+    sources = subst (λ (x : World). KnowsSources x.servers) (sym is.world) (sources-start s scenario);
+    moment = moment-most scenario;
   }
 
-  module _ (rows : List Row) (counting : items ≡ counted (length names) rows) where
+  module _ (rows : List Row) (counting : items ≡ counted (length settings) rows) where
     items_made : items ≡ start_rows s rows
-    items_made = counting ∙ ap (λ (ns : List HostPort). counted (length ns) rows) is.names_made ∙ ap (λ (n : ℕ). counted n rows) (length-map s.opening.servers (λ i. i.settings.name))
+    items_made = counting ∙ ap (λ (ns : List Settings). counted (length ns) rows) is.settings_made ∙ ap (λ (n : ℕ). counted n rows) (length-map s.opening.servers (λ i. i.settings))
 
     moment_is : moment ≡ start_moment s rows
     moment_is = ap (λ (n : ℕ). record { 0 = n }) (is.moment_made ∙ ap (latest s.moment.0) items_made)
 
-    book_is : b ≡ loaded (names_of s) rows
-    book_is = is.loads ∙ ap (book_made names) counting ∙ ap (λ (ns : List HostPort). loaded ns rows) is.names_made
+    book_is : b ≡ loaded (settings_of s) rows
+    book_is = is.loads ∙ ap (book_made settings) counting ∙ ap (λ (ns : List Settings). loaded ns rows) is.settings_made
 
     pub changes_are : opening_changes w moment b s.known ≡ start_changes s rows
     changes_are =
@@ -140,22 +250,23 @@ module _ (s : Scenario) (w : World) (names : List HostPort) (items : List Row) (
         ∙ ap (λ (x : Moment). opening_changes (start_world s) x b s.known) moment_is
         ∙ ap (λ (x : Known). opening_changes (start_world s) (start_moment s rows) x s.known) book_is
 
-    pub state_is : (wait : ℕ) → record { world = w; moment = moment.0; book = b'; slots = slots; reads = reads; wait = wait; journal = [] } ≡ start s wait rows
-    state_is wait =
+    pub state_is : made ≡ start s wait rows
+    state_is =
         let book = is.completes ∙ ap (changed_book b) changes_are ∙ ap (λ (x : Known). changed_book x (start_changes s rows)) book_is in
         let read = is.read ∙ ap last_read items_made in
-        ap (λ (x : World). record { world = x; moment = moment.0; book = b'; slots = slots; reads = reads; wait = wait; journal = [] }) is.world
-        ∙ ap (λ (x : Moment). record { world = start_world s; moment = x.0; book = b'; slots = slots; reads = reads; wait = wait; journal = [] }) moment_is
-        ∙ ap (λ (x : Known). record { world = start_world s; moment = (start_moment s rows).0; book = x; slots = slots; reads = reads; wait = wait; journal = [] }) book
-        ∙ ap (λ (x : List (Option Observation)). record (start s wait rows) { slots = x; reads = reads }) is.empty
-        ∙ ap (λ (x : ℕ). record (start s wait rows) { reads = x }) read
+        let begins : State = start s wait rows in
+        ap (λ (x : World). record made { world = x }) is.world
+        ∙ ap (λ (x : Moment). record made { world = start_world s; moment = x.0 }) moment_is
+        ∙ ap (λ (x : Known). record made { world = start_world s; moment = (start_moment s rows).0; book = x }) book
+        ∙ ap (λ (x : List (Option Observation)). record begins { slots = x; reads = reads; configuration = configuration }) is.empty
+        ∙ ap (λ (x : ℕ). record begins { reads = x; configuration = configuration }) read
+        ∙ ap (λ (x : Configuration). record begins { configuration = x }) is.configured
 
-  pub StartsBy-made : (kept : Option (List Row)) (wait : ℕ) (journal : List (Turn × Reply)) → journal ≡ [] → IfSome kept (λ rows. items ≡ counted (length names) rows) → (rows : List Row) × (items ≡ counted (length names) rows)
-      → StartsBy kept s wait (record { world = w; moment = moment.0; book = b'; slots = slots; reads = reads; wait = wait; journal = journal })
-  StartsBy-made None wait journal none told some = (some.0, ap (λ (x : List (Turn × Reply)). record { world = w; moment = moment.0; book = b'; slots = slots; reads = reads; wait = wait; journal = x }) none ∙ state_is some.0 some.1 wait)
-  StartsBy-made (Some rows) wait journal none told some = ap (λ (x : List (Turn × Reply)). record { world = w; moment = moment.0; book = b'; slots = slots; reads = reads; wait = wait; journal = x }) none ∙ state_is rows told wait
+  pub StartsBy-made : (kept : Option (List Row)) → IfSome kept (λ rows. items ≡ counted (length settings) rows) → StartsBy kept s wait made
+  StartsBy-made None told = (is.some.0, state_is is.some.0 is.some.1)
+  StartsBy-made (Some rows) told = state_is rows told
 
-  pub kept_made : (kept : Option (List Row)) → IfSome kept (λ rows. items ≡ counted (length names) rows)
+  pub kept_made : (kept : Option (List Row)) → IfSome kept (λ rows. items ≡ counted (length settings) rows)
       → kept_if true kept (opening_changes w moment b s.known) ≡ kept_at_start true kept s
   kept_made None told = refl
   kept_made (Some rows) told = ap (λ (cs : List Change). Some (changed rows cs)) (changes_are rows told)

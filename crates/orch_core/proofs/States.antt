@@ -1,68 +1,61 @@
 -- Turns keep what holds of states.
-use Rattle.std.proofs.Common.{◌≡◌, ℕ, ◌<◌, Bool, true, false, List, [], ◌∷◌, ◌++◌, length, Option, None, Some, refl, sym, ap, subst, ◌∙◌, arith}
-use Rattle.std.specs.Prelude.{All, IfSome, ◌&&◌, nat_lt, slice_set, fold, Ok, Err, if◌then◌else◌}
+use Rattle.std.proofs.Common.{◌≡◌, ℕ, ◌+◌, ◌<◌, ◌≤◌, ◌^◌, Bool, true, false, List, [], ◌∷◌, length, Option, None, Some, refl, sym, ap, subst, ◌∙◌, arith}
+use Rattle.std.specs.Prelude.{All, min, IfSome, ◌&&◌, nat_lt, slice_set, fold, map, Ok, Err, if◌then◌else◌}
 use Rattle.std.proofs.lemmas.Bool.{false≢true}
-use Rattle.std.proofs.lemmas.List.{length-set, length-replicate}
+use Rattle.std.proofs.lemmas.List.{length-set, length-replicate, length-map}
 use Rattle.std.proofs.lemmas.List.Elements.{All-set, All-replicate}
 use Rattle.std.proofs.lemmas.Option.{slice_get_within}
-use Rattle.orch_base.specs.Names.{HostPort}
+use Rattle.orch_base.specs.declared.server.Settings.{Settings}
 use Rattle.orch_base.specs.declared.server.ServerNo.{ServerNo}
-use Rattle.orch_base.specs.declared.server.SourceState.{SourceState}
-use Rattle.orch_base.specs.declared.server.SourceState.TheVariants as source
 use Rattle.instance_keeper.specs.declared.observation.Observation.{Observation}
 use Rattle.instance_keeper.specs.declared.observation.Instance.{Instance}
+use Rattle.instance_keeper.specs.declared.row.Change.{Change}
 use Rattle.instance_keeper.specs.declared.row.Row.{Row}
+use Rattle.instance_keeper.specs.Rows.{changed}
 use Rattle.instance_keeper.specs.declared.row.Row.TheVariants as row
-use Rattle.instance_keeper.specs.Book.{Known, are_known, observed_servers, seen_servers, source_servers, row_fits, empty_book, after_put, after_row, book_made, instance_at, renewed, stored_over}
+use Rattle.instance_keeper.specs.Book.{Known, are_known, observed_servers, seen_servers, source_servers, row_fits, empty_book, after_put, after_row, book_made, instance_at, renewed, renewed_book, stored_over}
 use Rattle.opening_book.specs.Counting.{counted, loaded}
 use Rattle.opening_book.specs.Seeing.{seen_in}
-use Rattle.replication_laws.proofs.Runs as exchanges
 use Rattle.server_model.specs.declared.server.Server.{Server}
-use Rattle.server_model.specs.declared.status.Status.{Status}
-use Rattle.server_model.specs.declared.status.StatusFault.{StatusFault}
-use Rattle.server_model.specs.declared.status.StatusFault.TheVariants as seeing
+use Rattle.server_words.specs.declared.status.Status.{Status}
+use Rattle.server_words.specs.declared.status.StatusFault.{StatusFault}
+use Rattle.server_words.specs.declared.status.StatusFault.TheVariants as seeing
 use Rattle.server_model.specs.Gtids.{status, status_in, status_of, source_at, seen_set}
-use Rattle.server_model.specs.Run.{Exchange, Allowed, JoinsWell}
-use Rattle.server_model.specs.Safe.{Placed}
-use Rattle.server_model.specs.Worlds.{World, server_at, source_no}
-use Rattle.orch_core.specs.declared.turn.Turn.{Turn}
-use Rattle.orch_core.specs.declared.turn.Turn.TheVariants as turn
-use Rattle.orch_core.specs.declared.turn.Reply.{Reply}
-use Rattle.orch_core.specs.declared.turn.Reply.TheVariants as answered
-use Rattle.orch_core.specs.Turns.{exchange_of, after_exchange, is_exchange, pollers, IsTurn}
-use Rattle.orch_core.specs.States.{State, IsState}
+use Rattle.server_model.specs.Run.{AllAllowed, AllJoinWell, run}
+use Rattle.server_model.specs.Worlds.{World, server_at}
+use Rattle.turns.specs.declared.turn.Turn.{Turn}
+use Rattle.turns.specs.declared.turn.Turn.TheVariants as turn
+use Rattle.scenarios.specs.Turns.{pollers, IsTurn}
+use Rattle.orch_core.specs.Turns.{exchanges_of, is_exchange, ticked}
+use Rattle.orch_core.specs.States.{State, IsSlot, IsState}
+use Rattle.orch_core.proofs.Sources.{KnowsSources, source-at, sources-run}
 use Rattle.orch_core.specs.Polls.{empty_slots, stored, changes_of}
 use Rattle.orch_core.specs.Readings.{reading_by}
 use Rattle.orch_core.specs.Replies.{exchange_reply, reply_of}
-use Rattle.orch_core.specs.Runs.{step, exchange_step}
-use Rattle.orch_core.specs.Keeping.{StepsTo, kept_if}
+use Rattle.orch_core.specs.Runs.{engine, step, exchange_step}
+use Rattle.orch_core.specs.Keeping.{StepsTo, asks, kept_by, kept_if}
 
--- a turn's exchange is allowed, and is no attachment
-abbrev pub AllowedIf : World → Option Exchange → Type 0
-AllowedIf w None = Unit {0}
-AllowedIf w (Some e) = Allowed w e × JoinsWell w e
+-- a turn's exchanges are allowed, and none is an attachment
 
-pub Allowed-turn : (count : ℕ) (w : World) (t : Turn) → IsTurn count t → AllowedIf w (exchange_of t)
-Allowed-turn count w (turn.Write n size) is = (is.1, tt)
-Allowed-turn count w (turn.Fetch n) is = (tt, tt)
-Allowed-turn count w (turn.Apply n) is = (tt, tt)
-Allowed-turn count w (turn.Fail n) is = (tt, tt)
-Allowed-turn count w (turn.Heal n) is = (tt, tt)
-Allowed-turn count w (turn.Cut n link) is = (tt, tt)
-Allowed-turn count w (turn.Join n link) is = (tt, tt)
-Allowed-turn count w (turn.Rotate n) is = (tt, tt)
-Allowed-turn count w (turn.Tick seconds) is = tt
-Allowed-turn count w (turn.PollRead p n) is = tt
-Allowed-turn count w (turn.PollStore p) is = tt
-Allowed-turn count w (turn.Command c) is = tt
-Allowed-turn count w turn.Restart is = tt
+pub Allowed-turn : (count : ℕ) (w : World) (t : Turn) → IsTurn count t → AllAllowed w (exchanges_of t) × AllJoinWell w (exchanges_of t)
+Allowed-turn count w (turn.Write n size) is = ((is.1, tt), (tt, tt))
+Allowed-turn count w (turn.Fetch n) is = ((tt, tt), (tt, tt))
+Allowed-turn count w (turn.Apply n) is = ((tt, tt), (tt, tt))
+Allowed-turn count w (turn.Fail n) is = ((tt, tt), (tt, tt))
+Allowed-turn count w (turn.Heal n) is = ((tt, tt), (tt, tt))
+Allowed-turn count w (turn.Cut n link) is = ((tt, tt), (tt, tt))
+Allowed-turn count w (turn.Join n link) is = ((tt, tt), (tt, tt))
+Allowed-turn count w (turn.Rotate n) is = ((tt, tt), (tt, tt))
+Allowed-turn count w (turn.Tick seconds) is = (tt, tt)
+Allowed-turn count w (turn.Job job) is = (tt, tt)
+Allowed-turn count w turn.Scan is = (tt, tt)
+Allowed-turn count w (turn.PollRead p n) is = (tt, tt)
+Allowed-turn count w (turn.PollStore p) is = (tt, tt)
+Allowed-turn count w (turn.Command c) is = (tt, tt)
+Allowed-turn count w turn.Restart is = (tt, tt)
 
-pub Placed-turn : (count : ℕ) (w : World) (t : Turn) → IsTurn count t → Placed w → Placed (after_exchange w (exchange_of t))
-Placed-turn count w t is placed = go (exchange_of t) (Allowed-turn count w t is)
-  where
-    go : (o : Option Exchange) → AllowedIf w o → Placed (after_exchange w o)
-    go None allowed = placed
-    go (Some e) allowed = exchanges.Placed-after w e placed allowed.0
+min-most : (a most : ℕ) → min a most ≤ most
+min-most a most = omega arith
 
 lt_true : (m n : ℕ) → m < n → nat_lt m n ≡ true
 lt_true m n h = grind arith
@@ -74,34 +67,20 @@ one_known count n h = rw (lt_true n count h) refl
 pub both_known : (count n : ℕ) (ns : List ℕ) → n < count → are_known count ns ≡ true → are_known count (n ∷ ns) ≡ true
 both_known count n ns h rest = rw (lt_true n count h, rest) refl
 
-source_known : (w : World) (n : ℕ) (s : Server) (from : SourceState) → Placed w → server_at w n ≡ Some s → s.source ≡ from → are_known (length w.servers) (source_servers from) ≡ true
-source_known w n s source.Without placed at is = refl
-source_known w n s (source.Attached m) placed at is =
-    let there = placed.logging n m.0 s at (ap source_no is) in one_known (length w.servers) m.0 (slice_get_within w.servers m.0 there.0 there.1)
-source_known w n s (source.Detached m) placed at is =
-    let there = placed.logging n m.0 s at (ap source_no is) in one_known (length w.servers) m.0 (slice_get_within w.servers m.0 there.0 there.1)
-
-pub sources_known : (w : World) (n : ℕ) (s : Server) → Placed w → server_at w n ≡ Some s → are_known (length w.servers) (source_servers s.source) ≡ true
-sources_known w n s placed at = source_known w n s s.source placed at refl
-
 seen_if : (w : World) (b : Bool) (x : Status) (fault : StatusFault) → are_known (length w.servers) (source_servers x.source) ≡ true
     → are_known (length w.servers) (seen_servers (seen_in (if b then Ok x else Err fault))) ≡ true
 seen_if w true x fault known = known
 seen_if w false x fault known = refl
 
-seen_known : (w : World) (n : ℕ) (o : Option Server) → Placed w → server_at w n ≡ o → are_known (length w.servers) (seen_servers (seen_in (status_in w o))) ≡ true
-seen_known w n None placed at = refl
-seen_known w n (Some s) placed at = seen_if w (s.up && s.desk) (status_of s (source_at w s) (seen_set w s)) seeing.Unreachable (sources_known w n s placed at)
+seen_known : (w : World) (n : ℕ) (o : Option Server) → KnowsSources w.servers → server_at w n ≡ o → are_known (length w.servers) (seen_servers (seen_in (status_in w o))) ≡ true
+seen_known w n None all at = refl
+seen_known w n (Some s) all at = seen_if w (s.up && s.desk) (status_of s (source_at w s) (seen_set w s)) seeing.Unreachable (source-at w.servers n s all at)
 
-pub reading_known : (w : World) (n : ServerNo) (read now : ℕ) → Placed w → n.0 < length w.servers → are_known (length w.servers) (observed_servers (reading_by w n read now)) ≡ true
-reading_known w n read now placed within =
-    both_known (length w.servers) n.0 (seen_servers (seen_in (status w n.0))) within (seen_known w n.0 (server_at w n.0) placed refl)
+pub reading_known : (w : World) (n : ServerNo) (read now : ℕ) → KnowsSources w.servers → n.0 < length w.servers → are_known (length w.servers) (observed_servers (reading_by w n read now)) ≡ true
+reading_known w n read now all within =
+    both_known (length w.servers) n.0 (seen_servers (seen_in (status w n.0))) within (seen_known w n.0 (server_at w n.0) all refl)
 
--- a slot's reading is of the servers
-abbrev pub IsSlot : ℕ → Option Observation → Type 0
-IsSlot count slot = IfSome slot (λ o. are_known count (observed_servers o) ≡ true)
-
--- no change of a book, and no loading, changes its names
+-- no change of a book changes its names, and a loaded one has those of its settings
 
 pub names-put : (b : Known) (r : Row) → (after_put b r).names ≡ b.names
 names-put b (row.Instance i) = refl
@@ -121,17 +100,17 @@ names-rows : (b : Known) (rows : List Row) → (fold after_row b rows).names ≡
 names-rows b [] = refl
 names-rows b (r ∷ rows) = names-rows (after_row b r) rows ∙ names-row b r
 
-pub names-made : (names : List HostPort) (rows : List Row) → (book_made names rows).names ≡ names
-names-made names rows = names-rows (empty_book names) rows
+pub names-made : (settings : List Settings) (rows : List Row) → (book_made settings rows).names ≡ map (λ x. x.name) settings
+names-made settings rows = names-rows (empty_book settings) rows
 
-pub names-loaded : (names : List HostPort) (rows : List Row) → (loaded names rows).names ≡ names
-names-loaded names rows = names-made names (counted (length names) rows)
+pub names-loaded : (settings : List Settings) (rows : List Row) → (loaded settings rows).names ≡ map (λ x. x.name) settings
+names-loaded settings rows = names-made settings (counted (length settings) rows)
 
 names-over : (b : Known) (o : Observation) (kept : Option Instance) → (stored_over b o kept).names ≡ b.names
 names-over b o None = refl
 names-over b o (Some kept) = go (nat_lt o.read kept.read)
   where
-    go : (old : Bool) → (if old then b else after_put b (row.Instance (renewed kept o))).names ≡ b.names
+    go : (old : Bool) → (if old then b else renewed_book b o (Some (renewed kept o))).names ≡ b.names
     go true = refl
     go false = refl
 
@@ -139,114 +118,161 @@ pub names-stored : (b : Known) (slot : Option Observation) → (stored b slot).n
 names-stored b None = refl
 names-stored b (Some o) = names-over b o (instance_at b o.no)
 
+-- nor its settings
+
+pub settings-put : (b : Known) (r : Row) → (after_put b r).settings ≡ b.settings
+settings-put b (row.Instance i) = refl
+settings-put b (row.Downtime d) = refl
+settings-put b (row.Candidate c) = refl
+settings-put b (row.Recovery r) = refl
+settings-put b (row.Switch enabled) = refl
+
+settings-row : (b : Known) (r : Row) → (after_row b r).settings ≡ b.settings
+settings-row b r = go (row_fits (length b.names) r)
+  where
+    go : (fits : Bool) → (if fits then after_put b r else b).settings ≡ b.settings
+    go true = settings-put b r
+    go false = refl
+
+settings-rows : (b : Known) (rows : List Row) → (fold after_row b rows).settings ≡ b.settings
+settings-rows b [] = refl
+settings-rows b (r ∷ rows) = settings-rows (after_row b r) rows ∙ settings-row b r
+
+pub settings-made : (settings : List Settings) (rows : List Row) → (book_made settings rows).settings ≡ settings
+settings-made settings rows = settings-rows (empty_book settings) rows
+
+pub settings-loaded : (settings : List Settings) (rows : List Row) → (loaded settings rows).settings ≡ settings
+settings-loaded settings rows = settings-made settings (counted (length settings) rows)
+
+settings-over : (b : Known) (o : Observation) (kept : Option Instance) → (stored_over b o kept).settings ≡ b.settings
+settings-over b o None = refl
+settings-over b o (Some kept) = go (nat_lt o.read kept.read)
+  where
+    go : (old : Bool) → (if old then b else renewed_book b o (Some (renewed kept o))).settings ≡ b.settings
+    go true = refl
+    go false = refl
+
+pub settings-stored : (b : Known) (slot : Option Observation) → (stored b slot).settings ≡ b.settings
+settings-stored b None = refl
+settings-stored b (Some o) = settings-over b o (instance_at b o.no)
+
 -- each turn keeps what holds of states
 
-pub IsState-exchange : (s : State) (t : Turn) (w : World) (moment : ℕ) (journal : List (Turn × Reply)) → IsState s → IsTurn (length s.world.servers) t
-    → w ≡ after_exchange s.world (exchange_of t) → length w.servers ≡ length s.world.servers → IsState (record s { world = w; moment = moment; journal = journal })
-IsState-exchange s t w moment journal is turn world servers = record {
+-- a moment later is still at most 2^63
+pub ticked-most : (now : ℕ) (t : Turn) → now ≤ 2 ^ 63 → ticked now t ≤ 2 ^ 63
+ticked-most now (turn.Tick seconds) most = min-most (now + seconds) (2 ^ 63)
+ticked-most now (turn.Job job) most = most
+ticked-most now turn.Scan most = most
+ticked-most now (turn.Write n size) most = most
+ticked-most now (turn.Fetch n) most = most
+ticked-most now (turn.Apply n) most = most
+ticked-most now (turn.Fail n) most = most
+ticked-most now (turn.Heal n) most = most
+ticked-most now (turn.Cut n link) most = most
+ticked-most now (turn.Join n link) most = most
+ticked-most now (turn.Rotate n) most = most
+ticked-most now (turn.PollRead p n) most = most
+ticked-most now (turn.PollStore p) most = most
+ticked-most now (turn.Command c) most = most
+ticked-most now turn.Restart most = most
+
+pub IsState-exchange : (s : State) (t : Turn) (w : World) (moment : ℕ) → IsState s → IsTurn (length s.world.servers) t
+    → w ≡ run s.world (exchanges_of t) → length w.servers ≡ length s.world.servers → moment ≡ ticked s.moment t → IsState (record s { world = w; moment = moment })
+IsState-exchange s t w moment is turn world servers passed = record {
   names = is.names ∙ sym servers;
+  settings = is.settings ∙ sym servers;
   slots = is.slots;
   observed = subst (λ count. All (IsSlot count) s.slots) (sym servers) is.observed;
-  placed = subst Placed (sym world) (Placed-turn (length s.world.servers) s.world t turn is.placed);
+  sources = subst (λ (v : World). KnowsSources v.servers) (sym world) (sources-run s.world (exchanges_of t) (Allowed-turn (length s.world.servers) s.world t turn).0 is.sources);
+  moment = subst (λ (n : ℕ). n ≤ 2 ^ 63) (sym passed) (ticked-most s.moment t is.moment);
 }
 
-pub IsState-read : (s : State) (p : ℕ) (n : ServerNo) (o : Observation) (reads : ℕ) (read now : ℕ) (journal : List (Turn × Reply)) → IsState s → n.0 < length s.world.servers
-    → o ≡ reading_by s.world n read now → IsState (record s { slots = slice_set s.slots p (Some o); reads = reads; journal = journal })
-IsState-read s p n o reads read now journal is within reading = record {
+pub IsState-read : (s : State) (p : ℕ) (n : ServerNo) (o : Observation) (reads : ℕ) (read now : ℕ) → IsState s → n.0 < length s.world.servers
+    → o ≡ reading_by s.world n read now → IsState (record s { slots = slice_set s.slots p (Some o); reads = reads })
+IsState-read s p n o reads read now is within reading = record {
   names = is.names;
+  settings = is.settings;
   slots = length-set s.slots p (Some o) ∙ is.slots;
-  observed = All-set (IsSlot (length s.world.servers)) s.slots p (Some o) (ap (λ (x : Observation). are_known (length s.world.servers) (observed_servers x)) reading ∙ reading_known s.world n read now is.placed within) is.observed;
-  placed = is.placed;
+  observed = All-set (IsSlot (length s.world.servers)) s.slots p (Some o) (ap (λ (x : Observation). are_known (length s.world.servers) (observed_servers x)) reading ∙ reading_known s.world n read now is.sources within) is.observed;
+  sources = is.sources;
+  moment = is.moment;
 }
 
-pub IsState-store : (s : State) (p : ℕ) (b : Known) (slot left : Option Observation) (journal : List (Turn × Reply)) → IsState s → b ≡ stored s.book slot → left ≡ None
-    → IsState (record s { book = b; slots = slice_set s.slots p left; journal = journal })
-IsState-store s p b slot left journal is stores empty = record {
+pub IsState-store : (s : State) (p : ℕ) (b : Known) (slot left : Option Observation) → IsState s → b ≡ stored s.book slot → left ≡ None
+    → IsState (record s { book = b; slots = slice_set s.slots p left })
+IsState-store s p b slot left is stores empty = record {
   names = ap (λ (x : Known). length x.names) stores ∙ (ap length (names-stored s.book slot) ∙ is.names);
+  settings = ap (λ (x : Known). length x.settings) stores ∙ (ap length (settings-stored s.book slot) ∙ is.settings);
   slots = length-set s.slots p left ∙ is.slots;
   observed = All-set (IsSlot (length s.world.servers)) s.slots p left (subst (IsSlot (length s.world.servers)) (sym empty) tt) is.observed;
-  placed = is.placed;
+  sources = is.sources;
+  moment = is.moment;
 }
 
-pub IsState-restart : (s : State) (b : Known) (slots : List (Option Observation)) (journal : List (Turn × Reply)) → IsState s → (rows : List Row) × (b ≡ loaded s.book.names rows) → slots ≡ empty_slots
-    → IsState (record s { book = b; slots = slots; journal = journal })
-IsState-restart s b slots journal is loads empty = record {
-  names = ap (λ (x : Known). length x.names) loads.1 ∙ (ap length (names-loaded s.book.names loads.0) ∙ is.names);
+pub IsState-restart : (s : State) (b : Known) (slots : List (Option Observation)) → IsState s → (rows : List Row) × (b ≡ loaded s.book.settings rows) → slots ≡ empty_slots
+    → IsState (record s { book = b; slots = slots })
+IsState-restart s b slots is loads empty = record {
+  names = ap (λ (x : Known). length x.names) loads.1 ∙ (ap length (names-loaded s.book.settings loads.0) ∙ (length-map s.book.settings (λ x. x.name) ∙ is.settings));
+  settings = ap (λ (x : Known). length x.settings) loads.1 ∙ (ap length (settings-loaded s.book.settings loads.0) ∙ is.settings);
   slots = ap length empty ∙ length-replicate {A = Option Observation} pollers None;
   observed = subst (All (IsSlot (length s.world.servers))) (sym empty) (All-replicate (IsSlot (length s.world.servers)) pollers None tt);
-  placed = is.placed;
+  sources = is.sources;
+  moment = is.moment;
 }
 
 -- a restart by the rows that the keeper gave
 
-pub StepsTo-restart : (kept : Option (List Row)) (s : State) (b : Known) (slots : List (Option Observation)) (journal : List (Turn × Reply))
-    → IfSome kept (λ rows. b ≡ loaded s.book.names rows) → (rows : List Row) × (b ≡ loaded s.book.names rows) → slots ≡ empty_slots → journal ≡ s.journal ++ (turn.Restart, answered.Done) ∷ []
-    → StepsTo kept s turn.Restart (record s { book = b; slots = slots; journal = journal })
-StepsTo-restart kept s b slots journal told some empty more = go kept told
+pub StepsTo-restart : (kept : Option (List Row)) (s : State) (b : Known) (slots : List (Option Observation))
+    → IfSome kept (λ rows. b ≡ loaded s.book.settings rows) → (rows : List Row) × (b ≡ loaded s.book.settings rows) → slots ≡ empty_slots
+    → StepsTo engine kept s turn.Restart (record s { book = b; slots = slots })
+StepsTo-restart kept s b slots told some empty = go kept told
   where
-    is : (rows : List Row) → b ≡ loaded s.book.names rows → record s { book = b; slots = slots; journal = journal } ≡ step rows s turn.Restart
+    is : (rows : List Row) → b ≡ loaded s.book.settings rows → record s { book = b; slots = slots } ≡ step rows s turn.Restart
     is rows loads =
-        ap (λ (x : Known). record s { book = x; slots = slots; journal = journal }) loads
-        ∙ ap (λ (x : List (Option Observation)). record s { book = loaded s.book.names rows; slots = x; journal = journal }) empty
-        ∙ ap (λ (x : List (Turn × Reply)). record s { book = loaded s.book.names rows; slots = empty_slots; journal = x }) more
+        ap (λ (x : Known). record s { book = x; slots = slots }) loads
+        ∙ ap (λ (x : List (Option Observation)). record s { book = loaded s.book.settings rows; slots = x }) empty
 
-    go : (kept : Option (List Row)) → IfSome kept (λ rows. b ≡ loaded s.book.names rows) → StepsTo kept s turn.Restart (record s { book = b; slots = slots; journal = journal })
+    go : (kept : Option (List Row)) → IfSome kept (λ rows. b ≡ loaded s.book.settings rows) → StepsTo engine kept s turn.Restart (record s { book = b; slots = slots })
     go None told = (some.0, is some.0 some.1)
     go (Some rows) told = is rows told
 
 -- a turn that asks the keeper for nothing
 
-pub StepsTo-any : (kept : Option (List Row)) (s now : State) (t : Turn) → ((rows : List Row) → now ≡ step rows s t) → StepsTo kept s t now
+pub StepsTo-any : (kept : Option (List Row)) (s now : State) (t : Turn) → ((rows : List Row) → now ≡ step rows s t) → StepsTo engine kept s t now
 StepsTo-any None s now t is = ([], is [])
 StepsTo-any (Some rows) s now t is = is rows
 
-pub step-exchange : (rows : List Row) (s : State) (t : Turn) → is_exchange t ≡ true → step rows s t ≡ exchange_step s t
-step-exchange rows s (turn.Write n size) is = refl
-step-exchange rows s (turn.Fetch n) is = refl
-step-exchange rows s (turn.Apply n) is = refl
-step-exchange rows s (turn.Fail n) is = refl
-step-exchange rows s (turn.Heal n) is = refl
-step-exchange rows s (turn.Cut n link) is = refl
-step-exchange rows s (turn.Join n link) is = refl
-step-exchange rows s (turn.Rotate n) is = refl
-step-exchange rows s (turn.Tick seconds) is = refl
-step-exchange rows s (turn.PollRead p n) is = absurd (false≢true is)
-step-exchange rows s (turn.PollStore p) is = absurd (false≢true is)
-step-exchange rows s (turn.Command c) is = absurd (false≢true is)
-step-exchange rows s turn.Restart is = absurd (false≢true is)
+-- what is made of a turn that is an exchange
+pub record IsExchange (rows : List Row) (s : State) (t : Turn) : Type 0 where
+  pub steps : step rows s t ≡ exchange_step s t
+  pub changes : changes_of rows s t ≡ []
+  pub reply : reply_of s t ≡ exchange_reply s.world s.moment t
+  pub asks_not : asks t ≡ false
 
-pub changes-exchange : (s : State) (t : Turn) → is_exchange t ≡ true → changes_of s t ≡ []
-changes-exchange s (turn.Write n size) is = refl
-changes-exchange s (turn.Fetch n) is = refl
-changes-exchange s (turn.Apply n) is = refl
-changes-exchange s (turn.Fail n) is = refl
-changes-exchange s (turn.Heal n) is = refl
-changes-exchange s (turn.Cut n link) is = refl
-changes-exchange s (turn.Join n link) is = refl
-changes-exchange s (turn.Rotate n) is = refl
-changes-exchange s (turn.Tick seconds) is = refl
-changes-exchange s (turn.PollRead p n) is = refl
-changes-exchange s (turn.PollStore p) is = absurd (false≢true is)
-changes-exchange s (turn.Command c) is = absurd (false≢true is)
-changes-exchange s turn.Restart is = refl
-
-pub reply-exchange : (s : State) (t : Turn) → is_exchange t ≡ true → reply_of s t ≡ exchange_reply s.world s.moment t
-reply-exchange s (turn.Write n size) is = refl
-reply-exchange s (turn.Fetch n) is = refl
-reply-exchange s (turn.Apply n) is = refl
-reply-exchange s (turn.Fail n) is = refl
-reply-exchange s (turn.Heal n) is = refl
-reply-exchange s (turn.Cut n link) is = refl
-reply-exchange s (turn.Join n link) is = refl
-reply-exchange s (turn.Rotate n) is = refl
-reply-exchange s (turn.Tick seconds) is = refl
-reply-exchange s (turn.PollRead p n) is = absurd (false≢true is)
-reply-exchange s (turn.PollStore p) is = absurd (false≢true is)
-reply-exchange s (turn.Command c) is = absurd (false≢true is)
-reply-exchange s turn.Restart is = refl
+pub exchange-is : (rows : List Row) (s : State) (t : Turn) → is_exchange t ≡ true → IsExchange rows s t
+exchange-is rows s (turn.Write n size) is = record { steps = refl; changes = refl; reply = refl; asks_not = refl }
+exchange-is rows s (turn.Fetch n) is = record { steps = refl; changes = refl; reply = refl; asks_not = refl }
+exchange-is rows s (turn.Apply n) is = record { steps = refl; changes = refl; reply = refl; asks_not = refl }
+exchange-is rows s (turn.Fail n) is = record { steps = refl; changes = refl; reply = refl; asks_not = refl }
+exchange-is rows s (turn.Heal n) is = record { steps = refl; changes = refl; reply = refl; asks_not = refl }
+exchange-is rows s (turn.Cut n link) is = record { steps = refl; changes = refl; reply = refl; asks_not = refl }
+exchange-is rows s (turn.Join n link) is = record { steps = refl; changes = refl; reply = refl; asks_not = refl }
+exchange-is rows s (turn.Rotate n) is = record { steps = refl; changes = refl; reply = refl; asks_not = refl }
+exchange-is rows s (turn.Tick seconds) is = record { steps = refl; changes = refl; reply = refl; asks_not = refl }
+exchange-is rows s (turn.Job job) is = record { steps = refl; changes = refl; reply = refl; asks_not = refl }
+exchange-is rows s turn.Scan is = record { steps = refl; changes = refl; reply = refl; asks_not = refl }
+exchange-is rows s (turn.PollRead p n) is = absurd (false≢true is)
+exchange-is rows s (turn.PollStore p) is = absurd (false≢true is)
+exchange-is rows s (turn.Command c) is = absurd (false≢true is)
+exchange-is rows s turn.Restart is = absurd (false≢true is)
 
 -- no change leaves the kept rows as they are
 pub kept_same : (made : Bool) (kept : Option (List Row)) → kept_if made kept [] ≡ kept
 kept_same true None = refl
 kept_same true (Some rows) = refl
 kept_same false kept = refl
+
+pub kept_unchanged : (made : Bool) (kept : Option (List Row)) (s : State) (t : Turn) → ((rows : List Row) → changes_of rows s t ≡ []) → kept_by engine made kept s t ≡ kept
+kept_unchanged true None s t none = refl
+kept_unchanged true (Some rows) s t none = ap (λ (cs : List Change). Some (changed rows cs)) (none rows)
+kept_unchanged false kept s t none = refl

@@ -1,11 +1,11 @@
 -- Commands: what each answers, and what it changes.
-use Rattle.std.specs.Prelude.{◌≡◌, ℕ, ◌≤◌, Bool, true, false, length, List, [], ◌∷◌, Option, Some, None, IfSome, Result, Ok, Err, if◌then◌else◌}
+use Rattle.std.specs.Prelude.{ℕ, Bool, true, false, List, [], ◌∷◌, Option, Some, None, Result, Ok, Err, if◌then◌else◌}
 use Rattle.std.specs.Option.{option_to_list}
 use Rattle.orch_base.specs.declared.server.ServerNo.{ServerNo}
 use Rattle.orch_base.specs.Memory.{next_count}
 use Rattle.instance_keeper.specs.declared.observation.Instance.{Instance}
 use Rattle.instance_keeper.specs.declared.observation.Observation.{Observation}
-use Rattle.instance_keeper.specs.declared.observation.Seen.{Seen}
+use Rattle.server_words.specs.declared.status.Status.{Status as Seen}
 use Rattle.instance_keeper.specs.declared.row.Change.{Change}
 use Rattle.instance_keeper.specs.declared.row.Change.TheVariants as change
 use Rattle.instance_keeper.specs.declared.row.Key.TheVariants as key
@@ -16,48 +16,47 @@ use Rattle.server_model.specs.Worlds.{World}
 use Rattle.commands.specs.declared.line.Line.{Line}
 use Rattle.commands.specs.declared.line.Line.TheVariants as line
 use Rattle.commands.specs.declared.name.CommandName.{CommandName}
-use Rattle.commands.specs.declared.name.CommandName.TheVariants.{Discover, Forget}
+use Rattle.commands.specs.declared.route.Route.{Route}
+use Rattle.commands.specs.declared.route.Route.TheVariants.{Discovers, Forgets, Asks, Unbuilt}
+use Rattle.commands.specs.Routes.{route_of}
 use Rattle.commands.specs.declared.refusal.Refusal.{Refusal}
 use Rattle.commands.specs.declared.refusal.Refusal.TheVariants.{UnknownInstance, Unreachable}
 use Rattle.commands.specs.declared.turn.CommandTurn.{CommandTurn}
-use Rattle.commands.specs.Names.{word_of}
-use Rattle.commands.specs.Turns.{fits}
 use Rattle.asking_commands.specs.Answers.{lines_of, permitted}
-use Rattle.asking_commands.specs.Asking.{is_instance}
-use Rattle.orch_core.specs.declared.turn.Reply.{Reply}
-use Rattle.orch_core.specs.declared.turn.Reply.TheVariants as answered
-use Rattle.orch_core.specs.Built.{is_built}
+use Rattle.book_views.specs.Sources.{is_instance}
+use Rattle.turns.specs.declared.turn.Reply.{Reply}
+use Rattle.turns.specs.declared.turn.Reply.TheVariants as answered
 use Rattle.orch_core.specs.Readings.{reading_by}
 
--- A command over so many servers: it is built, what it needs is there, each number and text is in its range, and a pattern has
--- an answer for each server.
-pub record IsCommand (count : ℕ) (t : CommandTurn) : Type 0 where
-  pub fits : fits count t ≡ true
-  pub built : is_built (word_of t.command.name) ≡ true
-  pub duration : IfSome t.keys.duration (λ n. (1 ≤ n) × (n ≤ 31536000))
-  pub reason : IfSome t.keys.reason (λ text. length text ≤ 255)
-  pub owner : IfSome t.keys.owner (λ text. length text ≤ 255)
-  pub answers : IfSome t.keys.pattern (λ f. length f.answers ≡ count)
-
--- what a command answers, what it changes of the book and of the kept rows, and the greatest read number after it
+-- what a command answers, what it changes of the book, what it changes of the kept rows, and the greatest read number after it
 pub record Outcome : Type 0 where
   pub reply : Reply
-  pub changes : List Change
+  pub book : List Change
+  pub rows : List Change
   pub reads : ℕ
 
 -- a refusal changes nothing
 abbrev pub refusal : ℕ → Refusal → Outcome
-refusal reads r = record { reply = answered.Refused r; changes = []; reads = reads }
+refusal reads r = record { reply = answered.Refused r; book = []; rows = []; reads = reads }
+
+-- one line, and these changes of the book and of the kept rows alike
+abbrev pub told_with : ℕ → Line → List Change → Outcome
+told_with reads line cs = record { reply = answered.Told (line ∷ []); book = cs; rows = cs; reads = reads }
 
 -- lines, and no change
 abbrev pub told : ℕ → List Line → Outcome
-told reads lines = record { reply = answered.Told lines; changes = []; reads = reads }
+told reads lines = record { reply = answered.Told lines; book = []; rows = []; reads = reads }
 
 -- ---- discover reads the server itself
 
+abbrev pub is_discovery : Route → Bool
+is_discovery Discovers = true
+is_discovery Forgets = false
+is_discovery (Asks question) = false
+is_discovery Unbuilt = false
+
 abbrev pub reads_server : CommandName → Bool
-reads_server Discover = true
-reads_server other = false
+reads_server name = is_discovery (route_of name)
 
 abbrev pub first_seen : Observation → Seen → Instance
 first_seen o seen = record { no = o.no; read = o.read; moment = o.moment; valid = true; seen = seen }
@@ -69,22 +68,23 @@ discovery (Some kept) o seen = store_change (Some kept) o
 
 abbrev pub discovered : Known → ℕ → Observation → Option Seen → Outcome
 discovered b reads o None = refusal reads (Unreachable o.no)
-discovered b reads o (Some seen) = record {
-  reply = answered.Told (line.Server o.no ∷ []);
-  changes = option_to_list (discovery (instance_at b o.no) o seen);
-  reads = o.read;
-}
+discovered b reads o (Some seen) = told_with o.read (line.Server o.no) (option_to_list (discovery (instance_at b o.no) o seen))
 
 -- ---- forget removes the instance
 
+abbrev pub is_removal : Route → Bool
+is_removal Discovers = false
+is_removal Forgets = true
+is_removal (Asks question) = false
+is_removal Unbuilt = false
+
 abbrev pub removes : CommandName → Bool
-removes Forget = true
-removes other = false
+removes name = is_removal (route_of name)
 
 abbrev pub forgotten : Known → ℕ → ServerNo → Outcome
 forgotten b reads i =
     if is_instance b i
-    then record { reply = answered.Told (line.Server i ∷ []); changes = change.Remove table.Instance (key.Server i) ∷ []; reads = reads }
+    then told_with reads (line.Server i) (change.Remove table.Instance (key.Server i) ∷ [])
     else refusal reads UnknownInstance
 
 -- ---- the others ask the book
@@ -95,11 +95,11 @@ asked reads (Ok permit) lines = told reads lines
 
 -- the outcome of a command by its instance
 abbrev pub outcome_by : World → Known → ℕ → ℕ → CommandTurn → Option ServerNo → Outcome
-outcome_by w b reads now t None = asked reads (permitted b t.command) (lines_of b w t t.command.name)
+outcome_by w b reads now t None = asked reads (permitted b t.command) (lines_of b t t.command.name)
 outcome_by w b reads now t (Some i) =
     if reads_server t.command.name then discovered b reads (reading_by w i (next_count reads) now) (reading_by w i (next_count reads) now).seen
     else (if removes t.command.name then forgotten b reads i
-    else asked reads (permitted b t.command) (lines_of b w t t.command.name))
+    else asked reads (permitted b t.command) (lines_of b t t.command.name))
 
 -- the outcome of a command, by the greatest read number and the moment
 unfoldable pub outcome_of : World → Known → ℕ → ℕ → CommandTurn → Outcome

@@ -1,5 +1,5 @@
 -- What a run does with its keeper.
-use Rattle.std.specs.Prelude.{◌≡◌, ◌≤◌, ℕ, Bool, true, false, List, Option, Some, None, Result, Err, if◌then◌else◌}
+use Rattle.std.specs.Prelude.{◌≡◌, ◌≢◌, ◌≤◌, ◌<◌, ◌⊎◌, ℕ, Bool, true, false, List, [], length, take, slice_get, Option, Some, None, Result, Err, if◌then◌else◌}
 use Rattle.std.specs.Option.{option_map}
 use Rattle.orch_base.specs.Causes.{Rose}
 use Rattle.instance_keeper.specs.declared.row.Row.{Row}
@@ -7,29 +7,56 @@ use Rattle.instance_keeper.specs.declared.row.Change.{Change}
 use Rattle.instance_keeper.specs.Rows.{changed}
 use Rattle.orch_core.specs.declared.fault.TurnFault.{TurnFault}
 use Rattle.orch_core.specs.declared.fault.TurnFault.TheVariants as fault
-use Rattle.orch_core.specs.declared.turn.Turn.{Turn}
-use Rattle.orch_core.specs.declared.turn.Turn.TheVariants as turn
-use Rattle.orch_core.specs.Runs.{step, LeadsTo, kept_after}
-use Rattle.orch_core.specs.States.{State}
+use Rattle.turns.specs.declared.turn.Turn.{Turn}
+use Rattle.turns.specs.declared.turn.Turn.TheVariants as turn
+use Rattle.orch_core.specs.Runs.{Machine, LeadsTo, kept_after}
 
 -- a turn leads from one state to another: by the kept rows, where the keeper tells them, and by some rows where it doesn't
-abbrev pub StepsTo : Option (List Row) → State → Turn → State → Type 0
-StepsTo None s t now = (rows : List Row) × (now ≡ step rows s t)
-StepsTo (Some rows) s t now = now ≡ step rows s t
+abbrev pub StepsTo : {A : Type 0} → Machine A → Option (List Row) → A → Turn → A → Type 0
+StepsTo m None s t now = (rows : List Row) × (now ≡ m.next rows s t)
+StepsTo m (Some rows) s t now = now ≡ m.next rows s t
 
 -- the kept rows with these changes, where they are made and the keeper tells its rows
 abbrev pub kept_if : Bool → Option (List Row) → List Change → Option (List Row)
 kept_if made kept changes = if made then option_map (λ rows. changed rows changes) kept else kept
 
+-- the kept rows after a turn, where it was taken and the keeper tells its rows
+abbrev pub kept_by : {A : Type 0} → Machine A → Bool → Option (List Row) → A → Turn → Option (List Row)
+kept_by m made kept s t = if made then option_map (λ rows. changed rows (m.changes rows s t)) kept else kept
+
 -- a restart asks the keeper for its rows
 abbrev pub asks : Turn → Bool
 asks turn.Restart = true
-asks t = false
+asks (turn.Write n size) = false
+asks (turn.Fetch n) = false
+asks (turn.Apply n) = false
+asks (turn.Fail n) = false
+asks (turn.Heal n) = false
+asks (turn.Cut n link) = false
+asks (turn.Join n link) = false
+asks (turn.Rotate n) = false
+asks (turn.Tick seconds) = false
+asks (turn.Job job) = false
+asks turn.Scan = false
+asks (turn.PollRead p n) = false
+asks (turn.PollStore p) = false
+asks (turn.Command c) = false
+
+-- a turn that calls the keeper: it asks for the rows, or changes one
+abbrev pub Calls : {A : Type 0} → Machine A → A → Turn → Type 0
+Calls m s t = (asks t ≡ true) ⊎ ((rows : List Row) × (m.changes rows s t ≢ []))
 
 -- the turns led from one state, and the kept rows beside it, to another
-pub record Ran (kept : Option (List Row)) (s : State) (ts : List Turn) (kept' : Option (List Row)) (now : State) : Type 0 where
-  pub state : LeadsTo kept s ts now
-  pub rows : kept' ≡ kept_after kept s ts
+pub record Ran {A : Type 0} (m : Machine A) (kept : Option (List Row)) (s : A) (ts : List Turn) (kept' : Option (List Row)) (now : A) : Type 0 where
+  pub state : LeadsTo m kept s ts now
+  pub rows : kept' ≡ kept_after m kept s ts
+
+-- the run was cut off at one of its turns: those before it are done, and where the keeper failed it was called there
+pub record WasCutOff {A : Type 0} (m : Machine A) (kept : Option (List Row)) (s : A) (ts : List Turn) (kept' : Option (List Row)) (now : A) (why : TurnFault) : Type 0 where
+  pub k : ℕ
+  pub within : k < length ts
+  pub ran : Ran m kept s (take k ts) kept' now
+  pub calls : why ≡ fault.Keeper → (t : Turn) → slice_get ts k ≡ Some t → Calls m now t
 
 -- the count never falls, and Keeper comes only where it rose
 pub record HasTurnCause {A : Type 0} (before now : ℕ) (result : Result A TurnFault) : Type 0 where

@@ -1,6 +1,4 @@
 pub mod Faults
-pub mod Built
-pub mod Plain
 pub mod Readings
 pub mod Commands
 pub mod CommandsBy
@@ -12,4 +10,5 @@ pub mod Runs
 pub mod Keeping
 pub mod Scenarios
 pub mod Permission
-pub mod StateBy
+pub mod EngineBy
+pub mod OrchBy

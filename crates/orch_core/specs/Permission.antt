@@ -1,5 +1,5 @@
 -- The permission table: what refuses a command, by the book, and of discover by the server itself.
-use Rattle.std.specs.Prelude.{◌≡◌, Bool, ◌&&◌, not, List, [], ◌∷◌, ◌++◌, Option, Some, None, is_some, if◌then◌else◌}
+use Rattle.std.specs.Prelude.{◌≡◌, Bool, ◌&&◌, not, List, Option, Some, None, is_some, if◌then◌else◌}
 use Rattle.orch_base.specs.declared.server.ServerNo.{ServerNo}
 use Rattle.instance_keeper.specs.Book.{Known}
 use Rattle.server_model.specs.Gtids.{status}
@@ -11,11 +11,9 @@ use Rattle.commands.specs.declared.refusal.Refusal.TheVariants.{UnknownInstance,
 use Rattle.commands.specs.declared.turn.Command.{Command}
 use Rattle.commands.specs.Names.{needs_of}
 use Rattle.asking_commands.specs.Answers.{is_known}
-use Rattle.orch_core.specs.declared.turn.Reply.{Reply}
-use Rattle.orch_core.specs.declared.turn.Reply.TheVariants as answered
-use Rattle.orch_core.specs.declared.turn.Turn.{Turn}
+use Rattle.turns.specs.declared.turn.Reply.{Reply}
+use Rattle.turns.specs.declared.turn.Reply.TheVariants as answered
 use Rattle.orch_core.specs.Commands.{reads_server}
-use Rattle.orch_core.specs.States.{State}
 
 -- 2: an instance that the command uses isn't in the book; discover takes any server
 abbrev pub is_unknown : Known → Command → Bool
@@ -34,7 +32,3 @@ refusal_for w b c = if is_unknown b c then Some UnknownInstance else (if reads_s
 abbrev pub IsAnswer : Option Refusal → Reply → Type 0
 IsAnswer None r = (lines : List Line) × (r ≡ answered.Told lines)
 IsAnswer (Some refusal) r = r ≡ answered.Refused refusal
-
--- the state after a turn that changes nothing: it joins the journal with its reply
-abbrev pub joined : State → Turn → Reply → State
-joined s t r = record s { journal = s.journal ++ (t, r) ∷ [] }

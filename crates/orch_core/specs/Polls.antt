@@ -12,10 +12,10 @@ use Rattle.opening_book.specs.Opening.{changed_book}
 use Rattle.commands.specs.declared.turn.CommandTurn.{CommandTurn}
 use Rattle.orch_core.specs.Commands.{Outcome, outcome_of}
 use Rattle.orch_core.specs.Readings.{reading_by}
-use Rattle.orch_core.specs.declared.turn.Turn.{Turn}
-use Rattle.orch_core.specs.declared.turn.Turn.TheVariants as turn
+use Rattle.turns.specs.declared.turn.Turn.{Turn}
+use Rattle.turns.specs.declared.turn.Turn.TheVariants as turn
 use Rattle.orch_core.specs.States.{State}
-use Rattle.orch_core.specs.Turns.{pollers}
+use Rattle.scenarios.specs.Turns.{pollers}
 
 abbrev pub empty_slots : List (Option Observation)
 empty_slots = replicate pollers None
@@ -32,7 +32,18 @@ abbrev pub slots_after : State → Turn → List (Option Observation)
 slots_after s (turn.PollRead p n) = if is_some (instance_at s.book n) then slice_set s.slots p (Some (reading s n)) else s.slots
 slots_after s (turn.PollStore p) = slice_set s.slots p None
 slots_after s turn.Restart = empty_slots
-slots_after s t = s.slots
+slots_after s (turn.Write n size) = s.slots
+slots_after s (turn.Fetch n) = s.slots
+slots_after s (turn.Apply n) = s.slots
+slots_after s (turn.Fail n) = s.slots
+slots_after s (turn.Heal n) = s.slots
+slots_after s (turn.Cut n link) = s.slots
+slots_after s (turn.Join n link) = s.slots
+slots_after s (turn.Rotate n) = s.slots
+slots_after s (turn.Tick seconds) = s.slots
+slots_after s (turn.Job job) = s.slots
+slots_after s turn.Scan = s.slots
+slots_after s (turn.Command c) = s.slots
 
 -- what a command answers and changes
 abbrev pub command_outcome : State → CommandTurn → Outcome
@@ -42,7 +53,19 @@ command_outcome s c = outcome_of s.world s.book s.reads s.moment c
 abbrev pub reads_after : State → Turn → ℕ
 reads_after s (turn.PollRead p n) = if is_some (instance_at s.book n) then next_count s.reads else s.reads
 reads_after s (turn.Command c) = (command_outcome s c).reads
-reads_after s t = s.reads
+reads_after s (turn.Write n size) = s.reads
+reads_after s (turn.Fetch n) = s.reads
+reads_after s (turn.Apply n) = s.reads
+reads_after s (turn.Fail n) = s.reads
+reads_after s (turn.Heal n) = s.reads
+reads_after s (turn.Cut n link) = s.reads
+reads_after s (turn.Join n link) = s.reads
+reads_after s (turn.Rotate n) = s.reads
+reads_after s (turn.Tick seconds) = s.reads
+reads_after s (turn.Job job) = s.reads
+reads_after s turn.Scan = s.reads
+reads_after s (turn.PollStore p) = s.reads
+reads_after s turn.Restart = s.reads
 
 abbrev pub stored : Known → Option Observation → Known
 stored b None = b
@@ -51,16 +74,39 @@ stored b (Some o) = after_store b o
 -- the slot's reading is stored, a command's changes are made, and a restart loads the rows that count
 abbrev pub book_after : List Row → State → Turn → Known
 book_after rows s (turn.PollStore p) = stored s.book (slot_at s p)
-book_after rows s (turn.Command c) = changed_book s.book (command_outcome s c).changes
-book_after rows s turn.Restart = loaded s.book.names rows
-book_after rows s t = s.book
+book_after rows s (turn.Command c) = changed_book s.book (command_outcome s c).book
+book_after rows s turn.Restart = loaded s.book.settings rows
+book_after rows s (turn.Write n size) = s.book
+book_after rows s (turn.Fetch n) = s.book
+book_after rows s (turn.Apply n) = s.book
+book_after rows s (turn.Fail n) = s.book
+book_after rows s (turn.Heal n) = s.book
+book_after rows s (turn.Cut n link) = s.book
+book_after rows s (turn.Join n link) = s.book
+book_after rows s (turn.Rotate n) = s.book
+book_after rows s (turn.Tick seconds) = s.book
+book_after rows s (turn.Job job) = s.book
+book_after rows s turn.Scan = s.book
+book_after rows s (turn.PollRead p n) = s.book
 
 abbrev pub changes_by : Known → Option Observation → List Change
 changes_by b None = []
 changes_by b (Some o) = option_to_list (store_change (instance_at b o.no) o)
 
--- the changes of the kept rows that a turn makes
-abbrev pub changes_of : State → Turn → List Change
-changes_of s (turn.PollStore p) = changes_by s.book (slot_at s p)
-changes_of s (turn.Command c) = (command_outcome s c).changes
-changes_of s t = []
+-- the changes of the kept rows that a turn makes, by the rows that the keeper has
+abbrev pub changes_of : List Row → State → Turn → List Change
+changes_of rows s (turn.PollStore p) = changes_by s.book (slot_at s p)
+changes_of rows s (turn.Command c) = (command_outcome s c).rows
+changes_of rows s (turn.Write n size) = []
+changes_of rows s (turn.Fetch n) = []
+changes_of rows s (turn.Apply n) = []
+changes_of rows s (turn.Fail n) = []
+changes_of rows s (turn.Heal n) = []
+changes_of rows s (turn.Cut n link) = []
+changes_of rows s (turn.Join n link) = []
+changes_of rows s (turn.Rotate n) = []
+changes_of rows s (turn.Tick seconds) = []
+changes_of rows s (turn.Job job) = []
+changes_of rows s turn.Scan = []
+changes_of rows s (turn.PollRead p n) = []
+changes_of rows s turn.Restart = []

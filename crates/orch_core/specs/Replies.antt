@@ -1,5 +1,5 @@
 -- What each turn answers.
-use Rattle.std.specs.Prelude.{ℕ, Option, Some, None, is_some, if◌then◌else◌}
+use Rattle.std.specs.Prelude.{◌≡◌, ℕ, Option, Some, None, is_some, if◌then◌else◌}
 use Rattle.instance_keeper.specs.declared.book.StoreAnswer.{StoreAnswer}
 use Rattle.instance_keeper.specs.declared.book.StoreAnswer.TheVariants as store
 use Rattle.instance_keeper.specs.declared.observation.Observation.{Observation}
@@ -7,13 +7,19 @@ use Rattle.instance_keeper.specs.Book.{Known, instance_at, store_answer}
 use Rattle.server_model.specs.Desk.{rotate}
 use Rattle.server_model.specs.Exchanges.{write, fetch, apply}
 use Rattle.server_model.specs.Worlds.{World}
-use Rattle.orch_core.specs.declared.turn.Turn.{Turn}
-use Rattle.orch_core.specs.declared.turn.Turn.TheVariants as turn
-use Rattle.orch_core.specs.declared.turn.Reply.{Reply}
-use Rattle.orch_core.specs.declared.turn.Reply.TheVariants as answered
+use Rattle.turns.specs.declared.turn.Turn.{Turn}
+use Rattle.turns.specs.declared.turn.Turn.TheVariants as turn
+use Rattle.turns.specs.declared.turn.Reply.{Reply}
+use Rattle.turns.specs.declared.turn.Reply.TheVariants as answered
+use Rattle.orch_core.specs.declared.engine.Replies.{Replies}
 use Rattle.orch_core.specs.States.{State}
 use Rattle.orch_core.specs.Polls.{command_outcome, reading, slot_at}
 use Rattle.orch_core.specs.Turns.{later}
+
+-- both are this reply
+pub record AreReply (r : Reply) (both : Replies) : Type 0 where
+  pub told : both.told ≡ r
+  pub written : both.written ≡ r
 
 -- the number of a reading, and whether it reached the server
 abbrev pub read_reply : Observation → Reply
@@ -35,10 +41,30 @@ exchange_reply w now (turn.Fetch n) = answered.Fetch (fetch w n.0).0
 exchange_reply w now (turn.Apply n) = answered.Apply (apply w n.0).0
 exchange_reply w now (turn.Rotate n) = answered.Rotate (rotate w n.0).0
 exchange_reply w now (turn.Tick seconds) = answered.Now (record { 0 = later now seconds })
-exchange_reply w now t = answered.Done
+exchange_reply w now (turn.Job job) = answered.Done
+exchange_reply w now turn.Scan = answered.Done
+exchange_reply w now (turn.Fail n) = answered.Done
+exchange_reply w now (turn.Heal n) = answered.Done
+exchange_reply w now (turn.Cut n link) = answered.Done
+exchange_reply w now (turn.Join n link) = answered.Done
+exchange_reply w now (turn.PollRead p n) = answered.Done
+exchange_reply w now (turn.PollStore p) = answered.Done
+exchange_reply w now (turn.Command c) = answered.Done
+exchange_reply w now turn.Restart = answered.Done
 
 abbrev pub reply_of : State → Turn → Reply
+reply_of s (turn.Write n size) = exchange_reply s.world s.moment (turn.Write n size)
+reply_of s (turn.Fetch n) = exchange_reply s.world s.moment (turn.Fetch n)
+reply_of s (turn.Apply n) = exchange_reply s.world s.moment (turn.Apply n)
+reply_of s (turn.Fail n) = exchange_reply s.world s.moment (turn.Fail n)
+reply_of s (turn.Heal n) = exchange_reply s.world s.moment (turn.Heal n)
+reply_of s (turn.Cut n link) = exchange_reply s.world s.moment (turn.Cut n link)
+reply_of s (turn.Join n link) = exchange_reply s.world s.moment (turn.Join n link)
+reply_of s (turn.Rotate n) = exchange_reply s.world s.moment (turn.Rotate n)
+reply_of s (turn.Tick seconds) = exchange_reply s.world s.moment (turn.Tick seconds)
+reply_of s (turn.Job job) = exchange_reply s.world s.moment (turn.Job job)
+reply_of s turn.Scan = exchange_reply s.world s.moment turn.Scan
 reply_of s (turn.PollRead p n) = if is_some (instance_at s.book n) then read_reply (reading s n) else answered.Unknown
 reply_of s (turn.PollStore p) = stored_reply s.book (slot_at s p)
 reply_of s (turn.Command c) = (command_outcome s c).reply
-reply_of s t = exchange_reply s.world s.moment t
+reply_of s turn.Restart = answered.Done

@@ -2,61 +2,80 @@
 use Rattle.std.specs.Prelude.{◌≡◌, List, [], ◌∷◌, ◌++◌, fold, map, Option, Some, None}
 use Rattle.std.specs.Option.{option_map}
 use Rattle.instance_keeper.specs.declared.row.Row.{Row}
+use Rattle.instance_keeper.specs.declared.row.Change.{Change}
 use Rattle.instance_keeper.specs.Rows.{changed}
-use Rattle.orch_core.specs.declared.turn.Turn.{Turn}
-use Rattle.orch_core.specs.Turns.{exchange_of, after_exchange, moment_after}
+use Rattle.server_model.specs.Run.{run}
+use Rattle.turns.specs.declared.turn.Reply.{Reply}
+use Rattle.turns.specs.declared.turn.Turn.{Turn}
+use Rattle.orch_core.specs.Turns.{exchanges_at, exchanges_of, moment_after, ticked}
 use Rattle.orch_core.specs.States.{State}
 use Rattle.orch_core.specs.Polls.{book_after, slots_after, reads_after, changes_of}
-use Rattle.orch_core.specs.Replies.{exchange_reply, reply_of}
+use Rattle.orch_core.specs.Replies.{reply_of}
 
--- the state after a turn: its exchange is made, the book, the slots and the read numbers change with it, and it joins the
--- journal with its reply; a restart has these rows from the keeper
+-- the state after a turn: its exchanges are made, and the moment, the book, the slots and the read numbers change with it; a
+-- restart has these rows from the keeper
 abbrev pub step : List Row → State → Turn → State
-step rows s t = record {
-  world = after_exchange s.world (exchange_of t);
-  moment = moment_after s.moment t;
+step rows s t = record s {
+  world = run s.world (exchanges_at s t);
+  moment = moment_after rows s t;
   book = book_after rows s t;
   slots = slots_after s t;
   reads = reads_after s t;
-  wait = s.wait;
-  journal = s.journal ++ (t, reply_of s t) ∷ [];
 }
 
 -- after a turn that neither polls nor stores, is no command, and doesn't start orchestrator again
 abbrev pub exchange_step : State → Turn → State
-exchange_step s t = record s {
-  world = after_exchange s.world (exchange_of t);
-  moment = moment_after s.moment t;
-  journal = s.journal ++ (t, exchange_reply s.world s.moment t) ∷ [];
-}
+exchange_step s t = record s { world = run s.world (exchanges_of t); moment = ticked s.moment t }
+
+-- a state, and each turn so far with its reply, in order
+pub record Recorded : Type 0 where
+  pub state : State
+  pub journal : List (Turn × Reply)
+
+-- a turn joins the journal with its reply
+abbrev pub record_turn : List Row → Recorded → Turn → Recorded
+record_turn rows r t = record { state = step rows r.state t; journal = r.journal ++ (t, reply_of r.state t) ∷ [] }
+
+-- what a turn makes of one kind of state, and the changes of the kept rows that it makes, by the rows that the keeper has
+pub record Machine (A : Type 0) : Type 0 where
+  pub next : List Row → A → Turn → A
+  pub changes : List Row → A → Turn → List Change
+
+-- without a journal
+abbrev pub engine : Machine State
+engine = record { next = step; changes = changes_of }
+
+-- and with one
+abbrev pub recorder : Machine Recorded
+recorder = record { next = record_turn; changes = λ rows r t. changes_of rows r.state t }
 
 -- the state after turns, each with the rows that the keeper has then
-abbrev pub run_turns : State → List (List Row × Turn) → State
-run_turns s [] = s
-run_turns s (x ∷ xs) = run_turns (step x.0 s x.1) xs
+abbrev pub run_turns : {A : Type 0} → Machine A → A → List (List Row × Turn) → A
+run_turns m s [] = s
+run_turns m s (x ∷ xs) = run_turns m (m.next x.0 s x.1) xs
 
 -- the turns alone
 abbrev pub turns_of : List (List Row × Turn) → List Turn
 turns_of xs = map (λ x. x.1) xs
 
 -- a state, and the kept rows beside it
-pub record Held : Type 0 where
+pub record Held (A : Type 0) : Type 0 where
   pub rows : List Row
-  pub state : State
+  pub state : A
 
 -- both after a turn, where nobody else changes the rows
-abbrev pub held_step : Held → Turn → Held
-held_step h t = record { rows = changed h.rows (changes_of h.state t); state = step h.rows h.state t }
+abbrev pub held_step : {A : Type 0} → Machine A → Held A → Turn → Held A
+held_step m h t = record { rows = changed h.rows (m.changes h.rows h.state t); state = m.next h.rows h.state t }
 
-abbrev pub held_run : Held → List Turn → Held
-held_run h ts = fold held_step h ts
+abbrev pub held_run : {A : Type 0} → Machine A → Held A → List Turn → Held A
+held_run m h ts = fold (held_step m) h ts
 
 -- the turns lead from one state to another: by the kept rows, where the keeper tells them, and by some rows at each turn
 -- where it doesn't
-abbrev pub LeadsTo : Option (List Row) → State → List Turn → State → Type 0
-LeadsTo None s ts now = (xs : List (List Row × Turn)) × (turns_of xs ≡ ts) × (now ≡ run_turns s xs)
-LeadsTo (Some rows) s ts now = now ≡ (held_run (record { rows = rows; state = s }) ts).state
+abbrev pub LeadsTo : {A : Type 0} → Machine A → Option (List Row) → A → List Turn → A → Type 0
+LeadsTo m None s ts now = (xs : List (List Row × Turn)) × (turns_of xs ≡ ts) × (now ≡ run_turns m s xs)
+LeadsTo m (Some rows) s ts now = now ≡ (held_run m (record { rows = rows; state = s }) ts).state
 
 -- the kept rows after the turns, where the keeper tells them
-abbrev pub kept_after : Option (List Row) → State → List Turn → Option (List Row)
-kept_after kept s ts = option_map (λ rows. (held_run (record { rows = rows; state = s }) ts).rows) kept
+abbrev pub kept_after : {A : Type 0} → Machine A → Option (List Row) → A → List Turn → Option (List Row)
+kept_after m kept s ts = option_map (λ rows. (held_run m (record { rows = rows; state = s }) ts).rows) kept

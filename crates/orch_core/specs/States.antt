@@ -1,27 +1,37 @@
 -- What a run is at a moment.
-use Rattle.std.specs.Prelude.{◌≡◌, ℕ, true, length, List, Option, IfSome, All}
+use Rattle.std.specs.Prelude.{◌≡◌, ◌≤◌, ◌^◌, ℕ, true, length, List, Option, IfSome, All}
 use Rattle.instance_keeper.specs.declared.observation.Observation.{Observation}
-use Rattle.instance_keeper.specs.Book.{Known, are_known, observed_servers}
-use Rattle.server_model.specs.Safe.{Placed}
+use Rattle.instance_keeper.specs.Book.{Known, are_known, observed_servers, source_servers}
+use Rattle.orch_core.specs.declared.configuration.Configuration.{Configuration}
+use Rattle.server_model.specs.declared.server.Server.{Server}
 use Rattle.server_model.specs.Worlds.{World}
-use Rattle.orch_core.specs.declared.turn.Turn.{Turn}
-use Rattle.orch_core.specs.declared.turn.Reply.{Reply}
-use Rattle.orch_core.specs.Turns.{pollers}
+use Rattle.scenarios.specs.Turns.{pollers}
 
--- the servers, the moment, what orchestrator knows, the pollers' slots, the greatest read number so far, how many waits a
--- job has, and each turn so far with its reply
+-- the servers, the moment, what orchestrator knows, the pollers' slots, the greatest read number so far, the number of the last
+-- job, and what holds throughout the run
 pub record State : Type 0 where
   pub world : World
   pub moment : ℕ
   pub book : Known
   pub slots : List (Option Observation)
   pub reads : ℕ
-  pub wait : ℕ
-  pub journal : List (Turn × Reply)
+  pub last_job : ℕ
+  pub configuration : Configuration
 
--- every server is in the book's lists, every poller has its slot, and each reading is of the servers
+-- the server's source, if it has one, is one of so many servers
+abbrev pub HasKnownSource : ℕ → Server → Type 0
+HasKnownSource count s = are_known count (source_servers s.source) ≡ true
+
+-- the slot's reading, if it has one, is of so many servers
+abbrev pub IsSlot : ℕ → Option Observation → Type 0
+IsSlot count slot = IfSome slot (λ o. are_known count (observed_servers o) ≡ true)
+
+-- every server is in the book's lists, every poller has its slot, each reading and each source is of the servers, and time stands
+-- still at 2^63
 pub record IsState (s : State) : Type 0 where
   pub names : length s.book.names ≡ length s.world.servers
+  pub settings : length s.book.settings ≡ length s.world.servers
   pub slots : length s.slots ≡ pollers
-  pub observed : All (λ slot. IfSome slot (λ o. are_known (length s.world.servers) (observed_servers o) ≡ true)) s.slots
-  pub placed : Placed s.world
+  pub observed : All (IsSlot (length s.world.servers)) s.slots
+  pub sources : All (HasKnownSource (length s.world.servers)) s.world.servers
+  pub moment : s.moment ≤ 2 ^ 63

@@ -1,87 +1,74 @@
--- Turns: the exchange that each makes, the moment after it, and whether it is one of the scenario's.
-use Rattle.std.specs.Prelude.{ℕ, ◌+◌, ◌^◌, ◌<◌, ◌≤◌, Bool, false, true, List, Option, Some, None, min}
-use Rattle.std.specs.List.{filter_map}
-use Rattle.server_model.specs.declared.changes.Event.TheVariants as event
-use Rattle.server_model.specs.Run.{Exchange, Write, Fetch, Apply, Befall, Rotate, after}
-use Rattle.server_model.specs.Worlds.{World}
-use Rattle.orch_core.specs.Commands.{IsCommand}
-use Rattle.orch_core.specs.declared.turn.Turn.{Turn}
-use Rattle.orch_core.specs.declared.turn.Turn.TheVariants as turn
+-- Turns: the exchanges that each makes, and the moment after it.
+use Rattle.std.specs.Prelude.{ℕ, ◌+◌, ◌^◌, Bool, false, true, List, [], ◌∷◌, min}
+use Rattle.instance_keeper.specs.declared.row.Row.{Row}
+use Rattle.server_words.specs.declared.changes.Event.TheVariants as event
+use Rattle.server_model.specs.Run.{Exchange, Write, Fetch, Apply, Befall, Rotate}
+use Rattle.turns.specs.declared.turn.Turn.{Turn}
+use Rattle.turns.specs.declared.turn.Turn.TheVariants as turn
+use Rattle.orch_core.specs.States.{State}
 
--- the exchange that a turn makes, if it makes one
-abbrev pub exchange_of : Turn → Option Exchange
-exchange_of (turn.Write n size) = Some (Write n.0 size)
-exchange_of (turn.Fetch n) = Some (Fetch n.0)
-exchange_of (turn.Apply n) = Some (Apply n.0)
-exchange_of (turn.Fail n) = Some (Befall n.0 event.Fail)
-exchange_of (turn.Heal n) = Some (Befall n.0 event.Heal)
-exchange_of (turn.Cut n link) = Some (Befall n.0 (event.Cut link))
-exchange_of (turn.Join n link) = Some (Befall n.0 (event.Join link))
-exchange_of (turn.Rotate n) = Some (Rotate n.0)
-exchange_of (turn.Tick seconds) = None
-exchange_of (turn.PollRead p n) = None
-exchange_of (turn.PollStore p) = None
-exchange_of (turn.Command c) = None
-exchange_of turn.Restart = None
+-- the exchanges of a turn that looks at no state
+abbrev pub exchanges_of : Turn → List Exchange
+exchanges_of (turn.Write n size) = Write n.0 size ∷ []
+exchanges_of (turn.Fetch n) = Fetch n.0 ∷ []
+exchanges_of (turn.Apply n) = Apply n.0 ∷ []
+exchanges_of (turn.Fail n) = Befall n.0 event.Fail ∷ []
+exchanges_of (turn.Heal n) = Befall n.0 event.Heal ∷ []
+exchanges_of (turn.Cut n link) = Befall n.0 (event.Cut link) ∷ []
+exchanges_of (turn.Join n link) = Befall n.0 (event.Join link) ∷ []
+exchanges_of (turn.Rotate n) = Rotate n.0 ∷ []
+exchanges_of (turn.Tick seconds) = []
+exchanges_of (turn.Job job) = []
+exchanges_of turn.Scan = []
+exchanges_of (turn.PollRead p n) = []
+exchanges_of (turn.PollStore p) = []
+exchanges_of (turn.Command c) = []
+exchanges_of turn.Restart = []
 
--- the exchanges of these turns, in order
-abbrev pub exchanges_of : List Turn → List Exchange
-exchanges_of ts = filter_map exchange_of ts
-
--- whether a turn makes an exchange that meets a test
-abbrev pub makes : (Exchange → Bool) → Option Exchange → Bool
-makes test None = false
-makes test (Some e) = test e
-
--- the world after a turn
-abbrev pub after_exchange : World → Option Exchange → World
-after_exchange w None = w
-after_exchange w (Some e) = after w e
+-- the exchanges that a turn makes in a state, in order
+abbrev pub exchanges_at : State → Turn → List Exchange
+exchanges_at s t = exchanges_of t
 
 -- so many seconds later; the moment stands still at 2^63
 abbrev pub later : ℕ → ℕ → ℕ
 later now seconds = min (now + seconds) (2 ^ 63)
 
--- the moment after a turn
-abbrev pub moment_after : ℕ → Turn → ℕ
-moment_after now (turn.Tick seconds) = later now seconds
-moment_after now (turn.Write n size) = now
-moment_after now (turn.Fetch n) = now
-moment_after now (turn.Apply n) = now
-moment_after now (turn.Fail n) = now
-moment_after now (turn.Heal n) = now
-moment_after now (turn.Cut n link) = now
-moment_after now (turn.Join n link) = now
-moment_after now (turn.Rotate n) = now
-moment_after now (turn.PollRead p n) = now
-moment_after now (turn.PollStore p) = now
-moment_after now (turn.Command c) = now
-moment_after now turn.Restart = now
+-- only a tick lets time pass
+abbrev pub ticked : ℕ → Turn → ℕ
+ticked now (turn.Tick seconds) = later now seconds
+ticked now (turn.Job job) = now
+ticked now turn.Scan = now
+ticked now (turn.Write n size) = now
+ticked now (turn.Fetch n) = now
+ticked now (turn.Apply n) = now
+ticked now (turn.Fail n) = now
+ticked now (turn.Heal n) = now
+ticked now (turn.Cut n link) = now
+ticked now (turn.Join n link) = now
+ticked now (turn.Rotate n) = now
+ticked now (turn.PollRead p n) = now
+ticked now (turn.PollStore p) = now
+ticked now (turn.Command c) = now
+ticked now turn.Restart = now
+
+-- the moment after a turn, by the rows that the keeper has
+abbrev pub moment_after : List Row → State → Turn → ℕ
+moment_after rows s t = ticked s.moment t
 
 -- a turn that neither polls nor stores, is no command, and doesn't start orchestrator again
 abbrev pub is_exchange : Turn → Bool
+is_exchange (turn.Write n size) = true
+is_exchange (turn.Fetch n) = true
+is_exchange (turn.Apply n) = true
+is_exchange (turn.Fail n) = true
+is_exchange (turn.Heal n) = true
+is_exchange (turn.Cut n link) = true
+is_exchange (turn.Join n link) = true
+is_exchange (turn.Rotate n) = true
+is_exchange (turn.Tick seconds) = true
+is_exchange (turn.Job job) = true
+is_exchange turn.Scan = true
 is_exchange (turn.PollRead p n) = false
 is_exchange (turn.PollStore p) = false
 is_exchange (turn.Command c) = false
 is_exchange turn.Restart = false
-is_exchange t = true
-
--- so many pollers
-abbrev pub pollers : ℕ
-pollers = 64
-
--- the turn is of one of so many servers, and its numbers are in their ranges
-abbrev pub IsTurn : ℕ → Turn → Type 0
-IsTurn count (turn.Write n size) = (n.0 < count) × (0 < size) × (size ≤ 1000000)
-IsTurn count (turn.Fetch n) = n.0 < count
-IsTurn count (turn.Apply n) = n.0 < count
-IsTurn count (turn.Fail n) = n.0 < count
-IsTurn count (turn.Heal n) = n.0 < count
-IsTurn count (turn.Cut n link) = n.0 < count
-IsTurn count (turn.Join n link) = n.0 < count
-IsTurn count (turn.Rotate n) = n.0 < count
-IsTurn count (turn.Tick seconds) = seconds ≤ 1000000000
-IsTurn count (turn.PollRead p n) = (p < pollers) × (n.0 < count)
-IsTurn count (turn.PollStore p) = p < pollers
-IsTurn count (turn.Command c) = IsCommand count c
-IsTurn count turn.Restart = Unit {0}

@@ -6,37 +6,45 @@ ghost use Rattle.instance_keeper.specs.Book.{instance_at};
 ghost use Rattle.orch_base.specs.Memory.{next_count};
 ghost use Rattle.commands.specs.Turns.{is_within};
 ghost use Rattle.asking_commands.specs.Answers.{lines_of, permitted};
-ghost use Rattle.orch_core.specs.Commands.{asked, discovered, discovery, forgotten, outcome_of, reads_server, refusal, removes};
+ghost use Rattle.orch_core.specs.Commands.{asked, discovered, discovery, forgotten, outcome_of, reads_server, refusal, removes, told_with};
 ghost use Rattle.orch_core.specs.CommandsBy.{outcome};
 ghost use Rattle.orch_core.specs.Readings.{reading_by};
 
 use crate::Reply;
-use crate::orch::read_server;
+use crate::engine::read_server;
 use asking_commands::{AnswerFault, answer};
-use commands::{CommandName, CommandTurn, Line, Lines, Refusal};
+use commands::{CommandName, CommandTurn, Line, Lines, Refusal, Route};
 use instance_keeper::{Book, Change, Instance, Key, Observation, Row, Seen, Table};
 use orch_base::{Memory, Moment, ServerNo};
 use server_model::World;
 use std::alloc::Global;
 
-/// What a command answers, what it changes of the book and of the kept rows, and the greatest read number after it.
+/// What a command answers, what it changes of the book, what it changes of the kept rows, and the greatest read number after
+/// it.
 #[derive(Drop)]
 pub(crate) struct Outcome {
     pub(crate) reply: Reply,
-    pub(crate) changes: Vec<Change>,
+    pub(crate) book: Vec<Change>,
+    pub(crate) rows: Vec<Change>,
     pub(crate) reads: u64,
 }
 
 fn reads_server(name: CommandName) -> bool
     ensures { result ≡ reads_server name }
 {
-    matches!(name, CommandName::Discover)
+    match name.route() {
+        Route::Discovers => true,
+        Route::Forgets | Route::Asks(_) | Route::Unbuilt => false,
+    }
 }
 
 fn removes(name: CommandName) -> bool
     ensures { result ≡ removes name }
 {
-    matches!(name, CommandName::Forget)
+    match name.route() {
+        Route::Forgets => true,
+        Route::Discovers | Route::Asks(_) | Route::Unbuilt => false,
+    }
 }
 
 fn refused(alloc: Global, reads: u64, why: Refusal) -> Outcome
@@ -44,7 +52,8 @@ fn refused(alloc: Global, reads: u64, why: Refusal) -> Outcome
 {
     Outcome {
         reply: Reply::Refused(why),
-        changes: Vec::new(alloc),
+        book: Vec::new(alloc),
+        rows: Vec::new(alloc),
         reads,
     }
 }
@@ -59,14 +68,31 @@ fn named(alloc: Global, no: ServerNo) -> Result<Reply, Memory>
 }
 
 // A list of the change, where there is one.
-fn listed(alloc: Global, change: Option<Change>) -> Result<Vec<Change>, Memory>
-    ensures { IfOk result (λ v. v.items ≡ option_to_list change) }
+fn listed(alloc: Global, change: &Option<Change>) -> Result<Vec<Change>, Memory>
+    ensures { IfOk result (λ v. v.items ≡ option_to_list change.now) }
 {
     let mut changes = Vec::new(alloc);
     if let Some(change) = change {
-        changes.push(change)?;
+        changes.push(change.copy(alloc)?)?;
     }
     Ok(changes)
+}
+
+// The instance's name, and this change of the book and of the kept rows alike.
+fn told_with(
+    alloc: Global,
+    reads: u64,
+    no: ServerNo,
+    change: Option<Change>,
+) -> Result<Outcome, Memory>
+    ensures { IfOk result (λ out. outcome out ≡ told_with reads (Line.Server no) (option_to_list change)) }
+{
+    Ok(Outcome {
+        reply: named(alloc, no)?,
+        book: listed(alloc, &change)?,
+        rows: listed(alloc, &change)?,
+        reads,
+    })
 }
 
 // An instance that the book lacks is put there; one that it has is stored as any reading is.
@@ -94,11 +120,7 @@ fn discovered(alloc: Global, book: &Book, reads: u64, o: &Observation) -> Result
         return Ok(refused(alloc, reads, Refusal::Unreachable(o.no)));
     };
     let change = discovery(book, o, seen)?;
-    Ok(Outcome {
-        reply: named(alloc, o.no)?,
-        changes: listed(alloc, change)?,
-        reads: o.read,
-    })
+    told_with(alloc, o.read, o.no, change)
 }
 
 // Reads the server itself.
@@ -127,30 +149,20 @@ fn forget(alloc: Global, book: &Book, no: ServerNo, reads: u64) -> Result<Outcom
         return Ok(refused(alloc, reads, Refusal::UnknownInstance));
     }
     let removal = Change::Remove(Table::Instance, Key::Server(no));
-    Ok(Outcome {
-        reply: named(alloc, no)?,
-        changes: listed(alloc, Some(removal))?,
-        reads,
-    })
+    told_with(alloc, reads, no, Some(removal))
 }
 
 // Asks the book.
 #[tactic(auto, unfolding(asking_commands::specs::Answers::answer_of), using(crate::proofs::Outcomes::asked_told, crate::proofs::Outcomes::asked_refused))]
-fn ask(
-    alloc: Global,
-    world: &World,
-    book: &Book,
-    reads: u64,
-    t: &CommandTurn,
-) -> Result<Outcome, Memory>
-    requires servers { length book.now.names ≡ length world.now.servers }
-    requires i { IsTrue (is_within (length book.now.names) t.now.command.i) }
-    ensures { IfOk result (λ out. outcome out ≡ asked reads (permitted book.now t.now.command) (lines_of book.now world.now t.now t.now.command.name)) }
+fn ask(alloc: Global, book: &Book, reads: u64, t: &CommandTurn) -> Result<Outcome, Memory>
+    requires { IsTrue (is_within (length book.now.names) t.now.command.i) }
+    ensures { IfOk result (λ out. outcome out ≡ asked reads (permitted book.now t.now.command) (lines_of book.now t.now t.now.command.name)) }
 {
-    match answer(alloc, book, world, t) {
+    match answer(alloc, book, t) {
         Ok(lines) => Ok(Outcome {
             reply: Reply::Told(lines),
-            changes: Vec::new(alloc),
+            book: Vec::new(alloc),
+            rows: Vec::new(alloc),
             reads,
         }),
         Err(AnswerFault::Refused(refusal)) => Ok(refused(alloc, reads, refusal)),
@@ -177,6 +189,6 @@ pub(crate) fn outcome_of(
             discover(alloc, world, book, no, reads, moment)
         }
         Some(no) if removes(t.command.name) => forget(alloc, book, no, reads),
-        _ => ask(alloc, world, book, reads, t),
+        Some(_) | None => ask(alloc, book, reads, t),
     }
 }

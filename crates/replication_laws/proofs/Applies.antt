@@ -12,15 +12,15 @@ use Rattle.binlog_coords.proofs.Places.{Laid, next_after-step, next_after-reache
 use Rattle.orch_base.specs.declared.server.SourceState.{SourceState}
 use Rattle.orch_base.specs.declared.server.SourceState.TheVariants.{Without, Attached, Detached}
 use Rattle.orch_base.specs.declared.server.Txn.{Txn}
-use Rattle.server_model.specs.declared.answers.ApplyAnswer.TheVariants as answers
-use Rattle.server_model.specs.declared.answers.ApplyStep.{ApplyStep}
-use Rattle.server_model.specs.declared.answers.ApplyStep.TheVariants as applying
+use Rattle.server_words.specs.declared.answers.ApplyAnswer.TheVariants as answers
+use Rattle.server_model.specs.declared.decisions.ApplyStep.{ApplyStep}
+use Rattle.server_model.specs.declared.decisions.ApplyStep.TheVariants as applying
 use Rattle.server_model.specs.declared.server.Server.{Server}
 use Rattle.server_model.specs.Exchanges.{apply_step, apply_answer, apply_txn, applied, apply_from, after_apply, attached_at, is_attached, is_reached, took}
 use Rattle.orch_base.specs.Histories.{count_own, holds}
 use Rattle.server_model.specs.Safe.{Safe, Placed, StandsIn, AttachedWell}
 use Rattle.server_model.specs.Worlds.{World, server_at, with_server, histories, history_of, source_no}
-use Rattle.openings.proofs.Fronts.{slice_get-take, take-more}
+use Rattle.server_model.proofs.Lists.{slice_get-take, take-more}
 use Rattle.replication_laws.specs.Growth.{GoesOn, Grows}
 use Rattle.replication_laws.proofs.Histories.{IsKin-extended, IsKin-once, holds-at}
 use Rattle.replication_laws.proofs.Keeping.{Same, Still, Standing-well, Standing-placed, Linked-safe, Safe-linked, Linked-placed, Placed-linked, Placed-safe, Linked-keeps, Linked-same, Linked-still, Grows-refl, Grows-with, Idle-same, Safe-idle}

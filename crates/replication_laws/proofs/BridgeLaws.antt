@@ -13,10 +13,10 @@ use Rattle.orch_base.specs.declared.server.SourceState.{SourceState}
 use Rattle.orch_base.specs.declared.server.SourceState.TheVariants.{Without, Attached, Detached}
 use Rattle.orch_base.specs.declared.server.Settings.{Settings}
 use Rattle.orch_base.specs.declared.server.Txn.{Txn}
-use Rattle.server_model.specs.declared.attach.Spot.TheVariants as spot
+use Rattle.server_words.specs.declared.attach.Spot.TheVariants as spot
 use Rattle.server_model.specs.declared.server.Server.{Server}
-use Rattle.server_model.specs.declared.status.Status.{Status}
-use Rattle.server_model.specs.declared.status.StatusFault.TheVariants as seeing
+use Rattle.server_words.specs.declared.status.Status.{Status}
+use Rattle.server_words.specs.declared.status.StatusFault.TheVariants as seeing
 use Rattle.server_model.specs.Attach.{same_spot, spot_below, live_spot}
 use Rattle.server_model.specs.Gtids.{status, status_in, status_of, own_end_of, source_at, seen_set}
 use Rattle.server_model.specs.Layout.{LaysOut}

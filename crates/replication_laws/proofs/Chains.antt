@@ -10,7 +10,7 @@ use Rattle.server_model.specs.Attach.{chain_meets, chain_on}
 use Rattle.server_model.specs.Safe.{Placed, Grounded, Root, Under}
 use Rattle.server_model.specs.Worlds.{World, server_at, sources, source_of}
 use Rattle.replication_laws.specs.Below.{Reaches, Here, Up}
-use Rattle.server_model.proofs.OpenedWorlds.{not_self}
+use Rattle.server_model.proofs.Chains.{not_self}
 
 -- the chains where one server lost its source
 pub Grounded-cut : (up up' : ℕ → Option ℕ) (n : ℕ) → up' n ≡ None → ((x : ℕ) → (x ≡ n → ⊥) → up' x ≡ up x) → (x : ℕ) → Grounded up x → Grounded up' x

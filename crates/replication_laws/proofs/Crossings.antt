@@ -8,7 +8,7 @@ use Rattle.binlog_coords.proofs.Places.{same_coord-true}
 use Rattle.orch_base.specs.declared.server.ServerNo.{ServerNo}
 use Rattle.orch_base.specs.declared.server.SourceState.{SourceState}
 use Rattle.orch_base.specs.declared.server.SourceState.TheVariants.{Without, Attached, Detached}
-use Rattle.server_model.specs.declared.attach.Spot.TheVariants as spot
+use Rattle.server_words.specs.declared.attach.Spot.TheVariants as spot
 use Rattle.server_model.specs.Attach.{same_spot, spot_below}
 use Rattle.server_model.specs.Run.{IsJunction, JoinsWell, Attach}
 use Rattle.server_model.specs.Safe.{Safe}

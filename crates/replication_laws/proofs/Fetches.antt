@@ -8,8 +8,8 @@ use Rattle.binlog_coords.specs.Log.{place, is_before, next_after, StepFrom}
 use Rattle.binlog_coords.proofs.Places.{Laid, Laid-Grown, next_after-step}
 use Rattle.orch_base.specs.declared.server.SourceState.{SourceState}
 use Rattle.orch_base.specs.declared.server.SourceState.TheVariants.{Without, Attached, Detached}
-use Rattle.server_model.specs.declared.answers.FetchStep.{FetchStep}
-use Rattle.server_model.specs.declared.answers.FetchStep.TheVariants as receiving
+use Rattle.server_model.specs.declared.decisions.FetchStep.{FetchStep}
+use Rattle.server_model.specs.declared.decisions.FetchStep.TheVariants as receiving
 use Rattle.server_model.specs.declared.server.Server.{Server}
 use Rattle.server_model.specs.Exchanges.{fetch_step, fetch_from, after_fetch, attached_at, is_attached}
 use Rattle.server_model.specs.Layout.{LaysOut}

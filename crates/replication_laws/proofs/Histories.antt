@@ -7,11 +7,15 @@ use Rattle.std.proofs.lemmas.List.{take-append-le, length-take-le}
 use Rattle.std.proofs.lemmas.List.Sums.{sum_by-take-le}
 use Rattle.std.proofs.Math.Seq.{take-length, take-append_seam}
 use Rattle.orch_base.specs.Histories.{same_txn, count_own, holds}
-use Rattle.openings.proofs.Fronts.{slice_get-snoc_cases, take-more}
-use Rattle.openings.proofs.Joined.{tick, count_own-push}
 use Rattle.server_model.specs.Exchanges.{own_txn}
 use Rattle.server_model.specs.Safe.{IsKin}
 use Rattle.orch_base.specs.declared.server.Txn.{Txn}
+use Rattle.server_model.proofs.Lists.{slice_get-snoc_cases, take-more}
+use Rattle.server_model.proofs.Takes.{count_own-push}
+
+-- one or nothing
+abbrev pub tick : Bool → ℕ
+tick b = cond b 1 0
 
 -- an element of a list with one more at its end
 pub slice_get-snoc_old : {X : Type 0} (xs : List X) (y x : X) (i : ℕ) → slice_get xs i ≡ Some x → slice_get (xs ++ y ∷ []) i ≡ Some x

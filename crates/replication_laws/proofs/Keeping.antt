@@ -17,7 +17,7 @@ use Rattle.orch_base.specs.declared.server.Settings.{Settings}
 use Rattle.server_model.specs.Safe.{IsKin, Safe, Placed, StandsIn, AttachedWell, Grounded, IsSource, HaveOwnUuids}
 use Rattle.server_model.specs.Worlds.{World, server_at, with_server, histories, sources, source_of, source_no}
 use Rattle.replication_laws.specs.Growth.{GoesOn, Grows}
-use Rattle.server_model.proofs.OpenedWorlds.{not_self}
+use Rattle.server_model.proofs.Chains.{not_self}
 use Rattle.replication_laws.proofs.Worlds.{at_with_same, at_with_other, sources-kept, histories-kept}
 
 pub prefix-trans : (xs ys zs : List Txn) → take (length xs) ys ≡ xs → take (length ys) zs ≡ ys → take (length xs) zs ≡ xs

@@ -14,7 +14,6 @@ pub mod BridgeLaws
 pub mod Loops
 pub mod Unchanged
 pub mod Files
-pub mod OpeningKin
-pub mod Openings
 pub mod Rooms
 pub mod SeenSets
+pub mod ShownCoords

@@ -1,6 +1,6 @@
 use Rattle.std.proofs.Common.{◌≡◌, ℕ, ◌<◌, Bool, true, false, cond, List, [], ◌∷◌, ◌++◌, ◌+◌, length, length-append, refl, sym, ◌∙◌, ap, subst, inl, inr, Some}
 use Rattle.std.specs.Prelude.{slice_get}
-use Rattle.openings.proofs.Fronts.{slice_get-snoc_cases}
+use Rattle.server_model.proofs.Lists.{slice_get-snoc_cases}
 use Rattle.std.proofs.Math.Seq.{take-append_seam}
 use Rattle.binlog_coords.specs.declared.Coord.{Coord}
 use Rattle.binlog_coords.specs.Grown.{Grown}

@@ -3,9 +3,9 @@ use Rattle.std.proofs.Common.{◌≡◌, ℕ, Bool, true, false, cond, not, List
 use Rattle.std.specs.Prelude.{Result, Ok, Err}
 use Rattle.std.proofs.lemmas.Option.{slice_get_within}
 use Rattle.gtid_sets.specs.declared.interval.Interval.{Interval}
-use Rattle.server_model.specs.declared.attach.AttachFault.{AttachFault}
-use Rattle.server_model.specs.declared.attach.AttachFault.TheVariants as attaching
-use Rattle.server_model.specs.declared.attach.Spot.{Spot}
+use Rattle.server_words.specs.declared.attach.AttachFault.{AttachFault}
+use Rattle.server_words.specs.declared.attach.AttachFault.TheVariants as attaching
+use Rattle.server_words.specs.declared.attach.Spot.{Spot}
 use Rattle.server_model.specs.declared.server.Server.{Server}
 use Rattle.server_model.specs.Attach.{spot_below, live_spot, same_spot, chain_meets, attach_answer}
 use Rattle.server_model.specs.Gtids.{uuids, errant_set, answer_by_sets, attach_auto_answer}

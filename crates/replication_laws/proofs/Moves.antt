@@ -10,19 +10,19 @@ use Rattle.gtid_sets.specs.declared.interval.Interval.{Interval}
 use Rattle.orch_base.specs.declared.server.ServerNo.{ServerNo}
 use Rattle.orch_base.specs.declared.server.SourceState.{SourceState}
 use Rattle.orch_base.specs.declared.server.SourceState.TheVariants.{Without, Attached, Detached}
-use Rattle.server_model.specs.declared.answers.RotateAnswer.{RotateAnswer}
-use Rattle.server_model.specs.declared.answers.RotateAnswer.TheVariants as rotating
-use Rattle.server_model.specs.declared.answers.Unreachable.{Unreachable}
-use Rattle.server_model.specs.declared.attach.AttachFault.{AttachFault}
-use Rattle.server_model.specs.declared.attach.AttachFault.TheVariants as attaching
-use Rattle.server_model.specs.declared.attach.Spot.{Spot}
-use Rattle.server_model.specs.declared.changes.Ask.{Ask}
-use Rattle.server_model.specs.declared.changes.Ask.TheVariants as asking
-use Rattle.server_model.specs.declared.changes.Event.{Event}
-use Rattle.server_model.specs.declared.changes.Event.TheVariants as event
-use Rattle.server_model.specs.declared.changes.Link.TheVariants as link
-use Rattle.server_model.specs.declared.changes.Threads.{Threads}
-use Rattle.server_model.specs.declared.changes.Threads.TheVariants as threads
+use Rattle.server_words.specs.declared.answers.RotateAnswer.{RotateAnswer}
+use Rattle.server_words.specs.declared.answers.RotateAnswer.TheVariants as rotating
+use Rattle.server_words.specs.declared.answers.Unreachable.{Unreachable}
+use Rattle.server_words.specs.declared.attach.AttachFault.{AttachFault}
+use Rattle.server_words.specs.declared.attach.AttachFault.TheVariants as attaching
+use Rattle.server_words.specs.declared.attach.Spot.{Spot}
+use Rattle.server_words.specs.declared.changes.Ask.{Ask}
+use Rattle.server_words.specs.declared.changes.Ask.TheVariants as asking
+use Rattle.server_words.specs.declared.changes.Event.{Event}
+use Rattle.server_words.specs.declared.changes.Event.TheVariants as event
+use Rattle.server_words.specs.declared.changes.Link.TheVariants as link
+use Rattle.server_words.specs.declared.changes.Threads.{Threads}
+use Rattle.server_words.specs.declared.changes.Threads.TheVariants as threads
 use Rattle.server_model.specs.declared.server.Server.{Server}
 use Rattle.server_model.specs.Attach.{spot_below, live_spot, same_spot, chain_meets, attach_answer, attached_to, after_attach, IsTarget}
 use Rattle.server_model.specs.Desk.{stopped, started, detached, detached_source, reattached, attached_source, is_detached, without_source, asked, healed, befallen, rotated, after_change, after_desk, after_rotate}

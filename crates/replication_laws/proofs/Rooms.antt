@@ -8,49 +8,32 @@ use Rattle.binlog_coords.specs.declared.Coord.{Coord}
 use Rattle.binlog_coords.specs.declared.Next.TheVariants as next
 use Rattle.orch_base.specs.declared.server.ServerNo.{ServerNo}
 use Rattle.orch_base.specs.declared.server.Txn.{Txn}
-use Rattle.openings.proofs.Joined.{tick}
-use Rattle.server_model.specs.declared.answers.ApplyAnswer.TheVariants as answers
-use Rattle.server_model.specs.declared.answers.ApplyStep.{ApplyStep}
-use Rattle.server_model.specs.declared.answers.FetchStep.{FetchStep}
-use Rattle.server_model.specs.declared.answers.FetchStep.TheVariants as receiving
-use Rattle.server_model.specs.declared.answers.RotateAnswer.{RotateAnswer}
-use Rattle.server_model.specs.declared.answers.RotateAnswer.TheVariants as rotating
-use Rattle.server_model.specs.declared.answers.Unreachable.{Unreachable}
-use Rattle.server_model.specs.declared.answers.WriteAnswer.{WriteAnswer}
-use Rattle.server_model.specs.declared.answers.WriteAnswer.TheVariants as wrote
-use Rattle.server_model.specs.declared.attach.AttachFault.{AttachFault}
-use Rattle.server_model.specs.declared.changes.Ask.{Ask}
+use Rattle.server_words.specs.declared.answers.ApplyAnswer.TheVariants as answers
+use Rattle.server_model.specs.declared.decisions.ApplyStep.{ApplyStep}
+use Rattle.server_model.specs.declared.decisions.FetchStep.{FetchStep}
+use Rattle.server_model.specs.declared.decisions.FetchStep.TheVariants as receiving
+use Rattle.server_words.specs.declared.answers.RotateAnswer.{RotateAnswer}
+use Rattle.server_words.specs.declared.answers.RotateAnswer.TheVariants as rotating
+use Rattle.server_words.specs.declared.answers.Unreachable.{Unreachable}
+use Rattle.server_words.specs.declared.answers.WriteAnswer.{WriteAnswer}
+use Rattle.server_words.specs.declared.answers.WriteAnswer.TheVariants as wrote
+use Rattle.server_words.specs.declared.attach.AttachFault.{AttachFault}
+use Rattle.server_words.specs.declared.changes.Ask.{Ask}
 use Rattle.server_model.specs.declared.server.Server.{Server}
 use Rattle.server_model.specs.Attach.{attach_answer, attached_to, after_attach}
 use Rattle.server_model.specs.Desk.{asked, befallen, rotated, desk_answer, rotate_answer, after_change, after_desk, after_rotate}
 use Rattle.server_model.specs.Exchanges.{took, own_txn, write_answer, after_write, fetch_step, after_fetch, apply_step, apply_answer, after_apply}
 use Rattle.orch_base.specs.Histories.{count_own}
-use Rattle.openings.specs.declared.init.ServerInit.{ServerInit}
-use Rattle.openings.specs.Listed.{transactions}
-use Rattle.openings.specs.Opening.{Opened, IsChecked}
-use Rattle.openings.specs.Servers.{parts_of}
-use Rattle.server_model.specs.Opening.{opened_world, Fits}
 use Rattle.server_model.specs.Gtids.{attach_auto_answer, after_attach_auto, attached_auto, auto_coord, uuids}
-use Rattle.server_model.specs.Run.{Exchange, Write, Fetch, Apply, Request, Befall, Rotate, Attach, AttachAuto, after, run, AllAllowed, AllJoinWell}
+use Rattle.server_model.specs.Run.{Exchange, Write, Fetch, Apply, Request, Befall, Rotate, Attach, AttachAuto, is_write, after, run, AllAllowed, AllJoinWell}
 use Rattle.server_model.specs.Safe.{Safe, IsQuiet}
 use Rattle.server_model.specs.Worlds.{World, server_at, with_server}
-use Rattle.server_model.proofs.Opened.{given-opened}
-use Rattle.server_model.proofs.OpenedWorlds.{length-history_at}
-use Rattle.replication_laws.specs.Room.{is_write, is_rotate, room_for, LeavesFiles, HasFiles, IsNotFull}
+use Rattle.replication_laws.specs.Room.{Fitting, AllFit, IsNotFull}
 use Rattle.replication_laws.proofs.Applies.{Taking, Facing, Halts, Forgets, Idles, Passes, Skips, Fills, Executes, Facing-step, after_executed, not_held}
-use Rattle.replication_laws.proofs.Files.{not_full-files}
+use Rattle.replication_laws.proofs.Histories.{tick}
 use Rattle.replication_laws.proofs.Keeping.{at_cases, Same, Placed-safe}
 use Rattle.replication_laws.proofs.Moves.{Same-asked, Same-befallen}
-use Rattle.replication_laws.proofs.Openings.{Safe-opened}
 use Rattle.replication_laws.proofs.Runs.{Safe-after, quiet-run}
-
--- a server with this room that has executed at most so many transactions
-record Fitting (room total : ℕ) (s : Server) : Type 0 where
-  room_is : s.history.room ≡ room
-  within : length s.history.txns ≤ total
-
-abbrev AllFit : ℕ → ℕ → World → Type 0
-AllFit room total w = (n : ℕ) (s : Server) → server_at w n ≡ Some s → Fitting room total s
 
 module _ (room total : ℕ) (w : World) (fit : AllFit room total w) where
   AllFit-more : (more : ℕ) → AllFit room (total + more) w
@@ -181,7 +164,8 @@ not_full-here room total w fit safe (Rotate n) more = tt
 not_full-here room total w fit safe (Attach n expect to at) more = tt
 not_full-here room total w fit safe (AttachAuto n observed to) more = tt
 
-not_full-run : (room : ℕ) (es : List Exchange) (k : ℕ) (e : Exchange) (total : ℕ) (w : World) → AllFit room total w → Safe w → AllAllowed w es → AllJoinWell w es
+-- so no exchange of a run finds a history full
+pub not_full-run : (room : ℕ) (es : List Exchange) (k : ℕ) (e : Exchange) (total : ℕ) (w : World) → AllFit room total w → Safe w → AllAllowed w es → AllJoinWell w es
     → total + count_by is_write es ≤ room → slice_get es k ≡ Some e → IsQuiet (run w (take k es)) → IsNotFull (run w (take k es)) e
 not_full-run room [] k e total w fit safe allowed joins more h q = cc
 not_full-run room (x ∷ es) zero e total w fit safe allowed joins more h q =
@@ -191,39 +175,3 @@ not_full-run room (x ∷ es) (suc k) e total w fit safe allowed joins more h q =
     not_full-run room es k e (total + tick (is_write x)) (after w x) (AllFit-after room total w fit safe x)
     (Safe-after w x safe allowed.0 joins.0 (quiet-run (after w x) (take k es) q)) allowed.1 joins.1
     (omega (arith, more, sum_by-cons (λ y. tick (is_write y)) x es)) h q
-
--- what the opening lists
-abbrev listed_in : Opened → ℕ
-listed_in o = sum_by (λ i. transactions (parts_of i)) o.servers
-
-Fits-listed : (o : Opened) → Fits o (listed_in o) (sum_by (λ i. length i.flushes) o.servers)
-Fits-listed o = record {
-  histories = λ k d lt. get_or-le-sum_by (λ i. transactions (parts_of i)) o.servers k d lt;
-  flush_points = λ k d lt. get_or-le-sum_by (λ i. length i.flushes) o.servers k d lt;
-}
-
-AllFit-opened : (o : Opened) (room flushes : ℕ) → AllFit room (listed_in o) (opened_world o room flushes)
-AllFit-opened o room flushes = λ n s at.
-    let g = given-opened o room flushes n s at in
-    subst (Fitting room (listed_in o)) (sym g.is_opened)
-    (record { room_is = refl; within = length-history_at o (listed_in o) (sum_by (λ i. length i.flushes) o.servers) n (Fits-listed o) })
-
-pub not_full-opened : (o : Opened) (room flushes : ℕ) (es : List Exchange) (k : ℕ) (e : Exchange) → IsChecked o → AllAllowed (opened_world o room flushes) es
-    → AllJoinWell (opened_world o room flushes) es → room_for o es ≤ room
-    → slice_get es k ≡ Some e → IsQuiet (run (opened_world o room flushes) (take k es)) → IsNotFull (run (opened_world o room flushes) (take k es)) e
-not_full-opened o room flushes es k e checked allowed joins more h q =
-    not_full-run room es k e (listed_in o) (opened_world o room flushes) (AllFit-opened o room flushes) (Safe-opened o room flushes checked) allowed joins more h q
-
--- the room for new files with which servers open
-pub HasFiles-opened : (o : Opened) (room flushes count : ℕ) → LeavesFiles count o flushes → HasFiles count (opened_world o room flushes)
-HasFiles-opened o room flushes count leaves = λ n s at.
-    let g = given-opened o room flushes n s at in
-    let is = get_or_from_slice_get o.servers n g.init g.init g.place in
-    let left : length g.init.flushes + count ≤ flushes =
-    subst (λ (i : ServerInit). length i.flushes + count ≤ flushes) is (leaves n g.init (slice_get_within o.servers n g.init g.place)) in
-    subst (λ (x : Server). count ≤ x.log.flushes) (sym g.is_opened) (omega arith)
-
--- so no rotation of a run finds a log full
-pub not_full-rotations : (o : Opened) (room flushes : ℕ) (es : List Exchange) (k n : ℕ) → LeavesFiles (count_by is_rotate es) o flushes → slice_get es k ≡ Some (Rotate n)
-    → rotate_answer (server_at (run (opened_world o room flushes) (take k es)) n) ≡ rotating.Full → ⊥
-not_full-rotations o room flushes es k n leaves h = not_full-files es k n (opened_world o room flushes) (HasFiles-opened o room flushes (count_by is_rotate es) leaves) h

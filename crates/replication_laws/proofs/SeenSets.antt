@@ -10,12 +10,12 @@ use Rattle.gtid_sets.specs.declared.interval.Interval.{Interval}
 use Rattle.orch_base.specs.declared.server.ServerNo.{ServerNo}
 use Rattle.orch_base.specs.declared.server.Settings.{Settings}
 use Rattle.orch_base.specs.declared.server.Txn.{Txn}
-use Rattle.server_model.specs.declared.answers.ApplyStep.{ApplyStep}
-use Rattle.server_model.specs.declared.answers.ApplyStep.TheVariants as applying
-use Rattle.server_model.specs.declared.answers.WriteAnswer.{WriteAnswer}
-use Rattle.server_model.specs.declared.answers.WriteAnswer.TheVariants as wrote
+use Rattle.server_model.specs.declared.decisions.ApplyStep.{ApplyStep}
+use Rattle.server_model.specs.declared.decisions.ApplyStep.TheVariants as applying
+use Rattle.server_words.specs.declared.answers.WriteAnswer.{WriteAnswer}
+use Rattle.server_words.specs.declared.answers.WriteAnswer.TheVariants as wrote
 use Rattle.server_model.specs.declared.server.Server.{Server}
-use Rattle.server_model.specs.declared.status.Status.{Status}
+use Rattle.server_words.specs.declared.status.Status.{Status}
 use Rattle.server_model.specs.Exchanges.{took, own_txn, write_answer, after_write, apply_step, after_apply}
 use Rattle.server_model.specs.Gtids.{uuid_of, uuids, executed_set, status}
 use Rattle.server_model.specs.Run.{Exchange, Write, Fetch, Apply, Request, Befall, Rotate, Attach, AttachAuto, after, run, Allowed, JoinsWell, AllAllowed}

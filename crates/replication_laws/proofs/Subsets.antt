@@ -8,7 +8,7 @@ use Rattle.std.proofs.lemmas.Option.{same_Some, slice_get_within, slice_get-get_
 use Rattle.std.proofs.lemmas.List.{length-take, length-take-le, nil_from_length}
 use Rattle.std.proofs.Math.Seq.{take-length}
 use Rattle.gtid_sets.specs.declared.interval.Interval.{Interval}
-use Rattle.openings.proofs.Fronts.{slice_get-take}
+use Rattle.server_model.proofs.Lists.{slice_get-take}
 use Rattle.orch_base.specs.Histories.{same_txn, holds}
 use Rattle.orch_base.specs.declared.server.Txn.{Txn}
 use Rattle.server_model.specs.Gtids.{uuids, has_gtid, set_of, held_len, errant_set}

@@ -4,17 +4,17 @@ use Rattle.std.specs.Prelude.{Result, Ok, Err}
 use Rattle.binlog_coords.specs.declared.Coord.{Coord}
 use Rattle.binlog_coords.specs.declared.Next.TheVariants as next
 use Rattle.orch_base.specs.declared.server.ServerNo.{ServerNo}
-use Rattle.server_model.specs.declared.answers.ApplyStep.{ApplyStep}
-use Rattle.server_model.specs.declared.answers.ApplyStep.TheVariants as applying
-use Rattle.server_model.specs.declared.answers.FetchStep.{FetchStep}
-use Rattle.server_model.specs.declared.answers.FetchStep.TheVariants as receiving
-use Rattle.server_model.specs.declared.answers.RotateAnswer.{RotateAnswer}
-use Rattle.server_model.specs.declared.answers.RotateAnswer.TheVariants as rotating
-use Rattle.server_model.specs.declared.answers.Unreachable.{Unreachable}
-use Rattle.server_model.specs.declared.answers.WriteAnswer.{WriteAnswer}
-use Rattle.server_model.specs.declared.answers.WriteAnswer.TheVariants as wrote
-use Rattle.server_model.specs.declared.attach.AttachFault.{AttachFault}
-use Rattle.server_model.specs.declared.changes.Ask.{Ask}
+use Rattle.server_model.specs.declared.decisions.ApplyStep.{ApplyStep}
+use Rattle.server_model.specs.declared.decisions.ApplyStep.TheVariants as applying
+use Rattle.server_model.specs.declared.decisions.FetchStep.{FetchStep}
+use Rattle.server_model.specs.declared.decisions.FetchStep.TheVariants as receiving
+use Rattle.server_words.specs.declared.answers.RotateAnswer.{RotateAnswer}
+use Rattle.server_words.specs.declared.answers.RotateAnswer.TheVariants as rotating
+use Rattle.server_words.specs.declared.answers.Unreachable.{Unreachable}
+use Rattle.server_words.specs.declared.answers.WriteAnswer.{WriteAnswer}
+use Rattle.server_words.specs.declared.answers.WriteAnswer.TheVariants as wrote
+use Rattle.server_words.specs.declared.attach.AttachFault.{AttachFault}
+use Rattle.server_words.specs.declared.changes.Ask.{Ask}
 use Rattle.server_model.specs.declared.server.Server.{Server}
 use Rattle.server_model.specs.Attach.{attach_answer, after_attach}
 use Rattle.server_model.specs.Desk.{desk_answer, after_desk, rotate_answer, after_rotate}

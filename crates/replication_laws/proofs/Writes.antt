@@ -4,8 +4,8 @@ use Rattle.std.specs.Prelude.{nat_le}
 use Rattle.orch_base.specs.declared.server.SourceState.{SourceState}
 use Rattle.orch_base.specs.declared.server.SourceState.TheVariants.{Without, Attached, Detached}
 use Rattle.orch_base.specs.declared.server.Txn.{Txn}
-use Rattle.server_model.specs.declared.answers.WriteAnswer.{WriteAnswer}
-use Rattle.server_model.specs.declared.answers.WriteAnswer.TheVariants as wrote
+use Rattle.server_words.specs.declared.answers.WriteAnswer.{WriteAnswer}
+use Rattle.server_words.specs.declared.answers.WriteAnswer.TheVariants as wrote
 use Rattle.server_model.specs.declared.server.Server.{Server}
 use Rattle.server_model.specs.Exchanges.{took, own_txn, write_answer, after_write}
 use Rattle.orch_base.specs.Histories.{same_txn, count_own}

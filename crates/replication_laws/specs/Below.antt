@@ -1,6 +1,6 @@
 -- Who is below whom, by attached and detached sources, and when an attachment comes to ask that.
 use Rattle.std.specs.Prelude.{◌≡◌, ℕ, true, false, ◌&&◌, ◌||◌, Option, Some}
-use Rattle.server_model.specs.declared.attach.Spot.{Spot}
+use Rattle.server_words.specs.declared.attach.Spot.{Spot}
 use Rattle.server_model.specs.declared.server.Server.{Server}
 use Rattle.server_model.specs.Attach.{same_spot, live_spot}
 use Rattle.server_model.specs.Worlds.{World, server_at}

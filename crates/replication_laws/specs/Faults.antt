@@ -1,13 +1,13 @@
 -- Answers that say that nothing was done.
 use Rattle.std.specs.Prelude.{Bool, true, false, Result, Ok, Err}
-use Rattle.server_model.specs.declared.answers.ApplyAnswer.{ApplyAnswer}
-use Rattle.server_model.specs.declared.answers.ApplyAnswer.TheVariants as applied_as
-use Rattle.server_model.specs.declared.answers.FetchAnswer.{FetchAnswer}
-use Rattle.server_model.specs.declared.answers.FetchAnswer.TheVariants as fetching
-use Rattle.server_model.specs.declared.answers.RotateAnswer.{RotateAnswer}
-use Rattle.server_model.specs.declared.answers.RotateAnswer.TheVariants as rotating
-use Rattle.server_model.specs.declared.answers.WriteAnswer.{WriteAnswer}
-use Rattle.server_model.specs.declared.answers.WriteAnswer.TheVariants as wrote
+use Rattle.server_words.specs.declared.answers.ApplyAnswer.{ApplyAnswer}
+use Rattle.server_words.specs.declared.answers.ApplyAnswer.TheVariants as applied_as
+use Rattle.server_words.specs.declared.answers.FetchAnswer.{FetchAnswer}
+use Rattle.server_words.specs.declared.answers.FetchAnswer.TheVariants as fetching
+use Rattle.server_words.specs.declared.answers.RotateAnswer.{RotateAnswer}
+use Rattle.server_words.specs.declared.answers.RotateAnswer.TheVariants as rotating
+use Rattle.server_words.specs.declared.answers.WriteAnswer.{WriteAnswer}
+use Rattle.server_words.specs.declared.answers.WriteAnswer.TheVariants as wrote
 use Rattle.server_model.specs.Attach.{attach_at}
 use Rattle.server_model.specs.Desk.{ask, rotate}
 use Rattle.server_model.specs.Exchanges.{write, fetch, apply}

@@ -4,3 +4,4 @@ pub mod Faults
 pub mod Growth
 pub mod Observed
 pub mod Room
+pub mod Showing

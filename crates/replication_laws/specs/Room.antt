@@ -1,44 +1,20 @@
 -- How much room histories and new files take in a run.
-use Rattle.std.specs.Prelude.{◌≡◌, ◌≢◌, ℕ, ◌+◌, ◌≤◌, Bool, true, false, List, length, All, count_by, sum_by, Some}
-use Rattle.openings.specs.Listed.{transactions}
-use Rattle.openings.specs.Opening.{Opened}
-use Rattle.openings.specs.Servers.{parts_of}
-use Rattle.server_model.specs.declared.answers.ApplyAnswer.TheVariants as applied_as
-use Rattle.server_model.specs.declared.answers.WriteAnswer.TheVariants as wrote
+use Rattle.std.specs.Prelude.{◌≡◌, ◌≢◌, ℕ, ◌≤◌, length, Some}
+use Rattle.server_words.specs.declared.answers.ApplyAnswer.TheVariants as applied_as
+use Rattle.server_words.specs.declared.answers.WriteAnswer.TheVariants as wrote
 use Rattle.server_model.specs.declared.server.Server.{Server}
 use Rattle.server_model.specs.Exchanges.{write, apply}
 use Rattle.server_model.specs.Run.{Exchange, Write, Fetch, Apply, Request, Befall, Rotate, Attach, AttachAuto}
 use Rattle.server_model.specs.Worlds.{World, server_at}
 
--- a client's write
-abbrev pub is_write : Exchange → Bool
-is_write (Write n size) = true
-is_write (Fetch n) = false
-is_write (Apply n) = false
-is_write (Request n a) = false
-is_write (Befall n e) = false
-is_write (Rotate n) = false
-is_write (Attach n expect to at) = false
-is_write (AttachAuto n observed to) = false
+-- a server with this room for transactions that has executed at most so many
+pub record Fitting (room total : ℕ) (s : Server) : Type 0 where
+  pub room_is : s.history.room ≡ room
+  pub within : length s.history.txns ≤ total
 
--- a new file is asked for
-abbrev pub is_rotate : Exchange → Bool
-is_rotate (Rotate n) = true
-is_rotate (Write n size) = false
-is_rotate (Fetch n) = false
-is_rotate (Apply n) = false
-is_rotate (Request n a) = false
-is_rotate (Befall n e) = false
-is_rotate (Attach n expect to at) = false
-is_rotate (AttachAuto n observed to) = false
-
--- the transactions that the opening lists, and those that these exchanges may add
-abbrev pub room_for : Opened → List Exchange → ℕ
-room_for o es = sum_by (λ i. transactions (parts_of i)) o.servers + count_by is_write es
-
--- beside what each server's flushes take there is room for so many new files
-abbrev pub LeavesFiles : ℕ → Opened → ℕ → Type 0
-LeavesFiles count o flushes = All (λ i. length i.flushes + count ≤ flushes) o.servers
+-- each server has this room, and has executed at most so many
+abbrev pub AllFit : ℕ → ℕ → World → Type 0
+AllFit room total w = (n : ℕ) (s : Server) → server_at w n ≡ Some s → Fitting room total s
 
 -- each server's log has room for so many new files
 abbrev pub HasFiles : ℕ → World → Type 0

@@ -3,8 +3,8 @@
 ghost use Rattle.std.specs.Prelude.{◌≡◌, ℕ, List, Ok, Some};
 ghost use Rattle.binlog_coords.specs.declared.Coord.{Coord as At};
 ghost use Rattle.orch_base.specs.declared.server.ServerNo.{ServerNo};
-ghost use Rattle.server_model.specs.declared.attach.Spot.TheVariants as spot;
-ghost use Rattle.server_model.specs.declared.status.Status.{Status as Seen};
+ghost use Rattle.server_words.specs.declared.attach.Spot.TheVariants as spot;
+ghost use Rattle.server_words.specs.declared.status.Status.{Status as Seen};
 ghost use Rattle.server_model.specs.Gtids.{status};
 ghost use Rattle.server_model.specs.Run.{Exchange, Attach, after, run, Allowed, JoinsWell, AllAllowed};
 ghost use Rattle.server_model.specs.Safe.{Safe, Placed};

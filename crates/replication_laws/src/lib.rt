@@ -5,31 +5,30 @@ mod bridges;
 mod faults;
 mod observed;
 mod placed;
+mod showing;
 
-ghost use Rattle.std.specs.Prelude.{◌≡◌, ◌≢◌, ℕ, ◌<◌, ◌≤◌, List, Some, true, count_by, slice_get, take};
+ghost use Rattle.std.specs.Prelude.{◌≡◌, ◌≢◌, ℕ, ◌+◌, ◌<◌, ◌≤◌, List, Some, true, count_by, slice_get, take};
 ghost use Rattle.orch_base.specs.declared.server.ServerNo.{ServerNo};
 ghost use Rattle.orch_base.specs.declared.server.Txn.{Txn as ATxn};
 ghost use Rattle.binlog_coords.specs.declared.Coord.{Coord as At};
-ghost use Rattle.server_model.specs.declared.answers.ApplyAnswer.TheVariants as answers;
-ghost use Rattle.server_model.specs.declared.answers.ApplyStep.TheVariants as steps;
-ghost use Rattle.server_model.specs.declared.answers.RotateAnswer.TheVariants as rotating;
-ghost use Rattle.server_model.specs.declared.attach.Spot.{Spot as ASpot};
-ghost use Rattle.server_model.specs.declared.attach.Spot.TheVariants as spot;
-ghost use Rattle.server_model.specs.declared.changes.Ask.{Ask as Asked};
-ghost use Rattle.server_model.specs.declared.changes.Event.{Event as AnEvent};
+ghost use Rattle.server_words.specs.declared.answers.ApplyAnswer.TheVariants as answers;
+ghost use Rattle.server_model.specs.declared.decisions.ApplyStep.TheVariants as steps;
+ghost use Rattle.server_words.specs.declared.answers.RotateAnswer.TheVariants as rotating;
+ghost use Rattle.server_words.specs.declared.attach.Spot.{Spot as ASpot};
+ghost use Rattle.server_words.specs.declared.attach.Spot.TheVariants as spot;
+ghost use Rattle.server_words.specs.declared.changes.Ask.{Ask as Asked};
+ghost use Rattle.server_words.specs.declared.changes.Event.{Event as AnEvent};
 ghost use Rattle.server_model.specs.Attach.{attach_at, IsTarget};
 ghost use Rattle.server_model.specs.Desk.{ask, befall, rotate};
 ghost use Rattle.server_model.specs.Exchanges.{write, fetch, apply, apply_step};
-ghost use Rattle.openings.specs.Opening.{Opened, IsChecked};
-ghost use Rattle.server_model.specs.Opening.{opened_world};
 ghost use Rattle.orch_base.specs.Histories.{same_txn};
 ghost use Rattle.gtid_sets.specs.declared.interval.Interval.{Interval};
 ghost use Rattle.server_model.specs.Gtids.{attach_auto, IsAutoTarget};
-ghost use Rattle.server_model.specs.Run.{Exchange, Rotate, Attach, AttachAuto, after, run, Allowed, JoinsWell, AllAllowed, AllJoinWell};
+ghost use Rattle.server_model.specs.Run.{Exchange, Rotate, Attach, AttachAuto, is_rotate, is_write, after, run, Allowed, JoinsWell, AllAllowed, AllJoinWell};
 ghost use Rattle.server_model.specs.Safe.{Safe, Placed, IsQuiet};
 ghost use Rattle.server_model.specs.Worlds.{World, server_at, histories};
 ghost use Rattle.replication_laws.specs.Growth.{Grows};
-ghost use Rattle.replication_laws.specs.Room.{room_for, is_rotate, LeavesFiles, HasFiles, IsNotFull};
+ghost use Rattle.replication_laws.specs.Room.{AllFit, HasFiles, IsNotFull};
 
 pub use bridges::{bridges_stand, crossings_join_well, status_pairs_stand};
 pub use faults::faults_change_nothing;
@@ -37,6 +36,7 @@ pub use observed::observed_sets_stand;
 pub use placed::{
     each_exchange_keeps_placed, loops_are_found, no_server_is_below_itself, safe_worlds_are_placed,
 };
+pub use showing::shown_coordinates_have_places;
 
 /// A fetch and an apply keep a safe world safe, quiet or not. A write keeps it safe where the world after it is quiet:
 /// where no server with a source has accepted it, or any write before it. In each exchange with a safe world every
@@ -98,14 +98,6 @@ pub fn no_transaction_twice()
     ensures { (w : World) (n i j : ℕ) (x y : ATxn) → Safe w → slice_get (histories w n) i ≡ Some x → slice_get (histories w n) j ≡ Some y → same_txn x y ≡ true → i ≡ j }
 {}
 
-/// The world that a checked opening opens is safe, so every server with a source, attached or detached, stands in the log
-/// of its source, and no errant write is counted in it.
-pub fn openings_are_safe()
-    ensures safe { (o : Opened) (room flushes : ℕ) → IsChecked o → Safe (opened_world o room flushes) }
-    ensures placed { (o : Opened) (room flushes : ℕ) → IsChecked o → Placed (opened_world o room flushes) }
-    ensures quiet { (o : Opened) (room flushes : ℕ) → IsQuiet (opened_world o room flushes) }
-{}
-
 /// In a safe world no applier is about to skip a transaction as executed before, with or without GTIDs, and so none
 /// answers that it did.
 pub fn skipped_never_comes()
@@ -113,14 +105,10 @@ pub fn skipped_never_comes()
     ensures answer { (w : World) (n : ℕ) (to : At) → Safe w → (apply w n).0 ≢ answers.Skipped to }
 {}
 
-/// From the world of a checked opening, with room at each server for all transactions that the opening lists and one
-/// more for each write of the run, no exchange of the run finds a history full where the state before it is quiet.
-/// Where each server of a world has room for as many new files as a run asks for, none of them finds a log full, in any
-/// run. An opened server has the room that its own flushes leave: with room for them and for the new files of a run, none
-/// of the run finds a log full.
-pub fn full_never_comes()
-    ensures histories { (o : Opened) (room flushes : ℕ) (es : List Exchange) (k : ℕ) (e : Exchange) → IsChecked o → AllAllowed (opened_world o room flushes) es → AllJoinWell (opened_world o room flushes) es → room_for o es ≤ room → slice_get es k ≡ Some e → IsQuiet (run (opened_world o room flushes) (take k es)) → IsNotFull (run (opened_world o room flushes) (take k es)) e }
+/// From a safe world whose servers have room for as many transactions as each has executed at most and one more for
+/// each write of the run, no exchange of the run finds a history full where the state before it is quiet. Where each
+/// server has room for as many new files as a run asks for, none of them finds a log full, in any run.
+pub fn room_lasts()
+    ensures histories { (room total : ℕ) (w : World) (es : List Exchange) (k : ℕ) (e : Exchange) → AllFit room total w → Safe w → AllAllowed w es → AllJoinWell w es → total + count_by is_write es ≤ room → slice_get es k ≡ Some e → IsQuiet (run w (take k es)) → IsNotFull (run w (take k es)) e }
     ensures files { (w : World) (es : List Exchange) (k n : ℕ) → HasFiles (count_by is_rotate es) w → slice_get es k ≡ Some (Rotate n) → (rotate (run w (take k es)) n).0 ≢ rotating.Full }
-    ensures opened { (o : Opened) (room flushes count : ℕ) → LeavesFiles count o flushes → HasFiles count (opened_world o room flushes) }
-    ensures rotations { (o : Opened) (room flushes : ℕ) (es : List Exchange) (k n : ℕ) → LeavesFiles (count_by is_rotate es) o flushes → slice_get es k ≡ Some (Rotate n) → (rotate (run (opened_world o room flushes) (take k es)) n).0 ≢ rotating.Full }
 {}

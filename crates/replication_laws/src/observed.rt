@@ -3,7 +3,7 @@
 ghost use Rattle.std.specs.Prelude.{◌≡◌, ℕ, List, Ok};
 ghost use Rattle.gtid_sets.specs.declared.interval.Interval.{Interval};
 ghost use Rattle.orch_base.specs.declared.server.ServerNo.{ServerNo};
-ghost use Rattle.server_model.specs.declared.status.Status.{Status as Seen};
+ghost use Rattle.server_words.specs.declared.status.Status.{Status as Seen};
 ghost use Rattle.server_model.specs.Gtids.{status};
 ghost use Rattle.server_model.specs.Run.{Exchange, AttachAuto, after, run, Allowed, JoinsWell, AllAllowed};
 ghost use Rattle.server_model.specs.Safe.{Placed};

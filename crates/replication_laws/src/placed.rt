@@ -4,8 +4,8 @@ ghost use Rattle.std.specs.Prelude.{◌≡◌, ℕ, ◌<◌, List, Some, Err, tr
 ghost use Rattle.orch_base.specs.declared.server.ServerNo.{ServerNo};
 ghost use Rattle.binlog_coords.specs.declared.Coord.{Coord as At};
 ghost use Rattle.gtid_sets.specs.declared.interval.Interval.{Interval as Those};
-ghost use Rattle.server_model.specs.declared.attach.AttachFault.TheVariants as attaching;
-ghost use Rattle.server_model.specs.declared.attach.Spot.{Spot as ASpot};
+ghost use Rattle.server_words.specs.declared.attach.AttachFault.TheVariants as attaching;
+ghost use Rattle.server_words.specs.declared.attach.Spot.{Spot as ASpot};
 ghost use Rattle.server_model.specs.Attach.{attach_at, chain_meets};
 ghost use Rattle.server_model.specs.Gtids.{attach_auto};
 ghost use Rattle.server_model.specs.Run.{Exchange, after, run, Allowed, AllAllowed};

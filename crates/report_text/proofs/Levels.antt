@@ -1,7 +1,7 @@
 -- Levels, counted from the front and from the back.
 use Rattle.std.proofs.Common.{◌≡◌, ℕ, ◌+◌, List, ◌++◌, zero, suc, refl, ◌∙◌, ap, append_assoc, add-one}
 use Rattle.std.specs.Prelude.{codes}
-use Rattle.report_text.specs.Commands.{levels_text}
+use Rattle.report_text.specs.Told.{levels_text}
 
 -- a level more behind the others is one before them
 level_behind : (k : ℕ) → levels_text k ++ codes "  " ≡ levels_text (suc k)

@@ -3,7 +3,7 @@ use Rattle.std.proofs.Common.{◌≡◌, ℕ, ◌+◌, ◌<◌, List, [], ◌∷
 use Rattle.std.specs.Prelude.{option_map, slice_get}
 use Rattle.orch_base.specs.declared.server.Settings.{Settings}
 use Rattle.binlog_coords.specs.Index.{Index}
-use Rattle.server_model.specs.declared.plain.Plain.{Plain}
+use Rattle.server_words.specs.declared.plain.Plain.{Plain}
 use Rattle.server_model.specs.declared.server.Server.{Server}
 use Rattle.server_model.specs.Plains.{plain_of, log_of}
 use Rattle.server_model.specs.Worlds.{World}

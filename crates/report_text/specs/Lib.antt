@@ -1,4 +1,9 @@
-pub mod Names
-pub mod Lines
-pub mod Tables
+pub mod Causes
 pub mod Commands
+pub mod Lines
+pub mod Names
+pub mod Recoveries
+pub mod Refusals
+pub mod Tables
+pub mod Told
+pub mod Words

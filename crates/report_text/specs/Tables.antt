@@ -7,7 +7,7 @@ use Rattle.binlog_coords.specs.declared.Coord.{Coord}
 use Rattle.binlog_coords.specs.Index.{Index}
 use Rattle.binlog_coords.specs.Log.{end_of}
 use Rattle.binlog_coords.specs.Text.{coord_text}
-use Rattle.server_model.specs.declared.plain.Plain.{Plain}
+use Rattle.server_words.specs.declared.plain.Plain.{Plain}
 use Rattle.server_model.specs.declared.server.Server.{Server}
 use Rattle.server_model.specs.Plains.{plain_of, log_of}
 use Rattle.server_model.specs.Worlds.{World, server_at}

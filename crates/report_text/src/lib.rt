@@ -1,13 +1,16 @@
 //! The bytes of replies and tables. What is named `print` appends, and at want of memory may leave a part behind.
 #![tactic(auto)]
 
+mod cause;
 mod command;
+mod line;
 mod names;
 mod number;
+mod recovery;
+mod refusal;
 mod replies;
 mod table;
-#[cfg(test)]
-mod tests;
+mod words;
 
 pub use replies::{plain_text, reply_text};
 pub use table::tables;

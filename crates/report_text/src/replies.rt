@@ -1,26 +1,22 @@
 //! The line of a turn with its reply.
 
 ghost use Rattle.std.specs.Prelude.{◌≡◌, ◌++◌, codes, decimal, option_map, OnOk, OnErr};
-ghost use Rattle.report_text.specs.Commands.{told_lines};
+ghost use Rattle.report_text.specs.Told.{told_lines};
 ghost use Rattle.report_text.specs.Names.{name_text};
 ghost use Rattle.report_text.specs.Lines.{lines_of, plain_text_of, told_in, link_text, words_text, write_text, fetch_text, apply_text, rotate_text, answer_text, line_text};
 ghost use Rattle.binlog_coords.specs.Text.{coord_text};
 
-use crate::command::{print_command, print_refusal, print_told_lines};
+use crate::cause::print_cause;
+use crate::command::print_command;
+use crate::line::print_told_lines;
 use crate::names::print_at_server;
-use crate::number::print_number;
+use crate::number::{print_counted, print_number};
+use crate::refusal::print_refusal;
 use binlog_coords::{Coord, print_coord};
+use commands::Line;
 use orch_base::{Memory, Name, ServerNo};
-use orch_core::{Line, Reply, Turn};
-use server_model::{ApplyAnswer, FetchAnswer, Link, RotateAnswer, WriteAnswer};
-
-// The word and the number.
-fn print_counted(word: &[u8], number: u64, out: &mut Vec<u8>) -> Result<(), Memory>
-    ensures { OnOk result (out.new.items ≡ out.old.items ++ (word.now ++ decimal number)) }
-{
-    out.extend_from_slice(word)?;
-    print_number(number, out)
-}
+use server_words::{ApplyAnswer, FetchAnswer, Link, RotateAnswer, WriteAnswer};
+use turns::{Reply, Turn};
 
 fn link_word(link: Link) -> &'static [u8]
     ensures { result.now ≡ link_text link }
@@ -78,6 +74,8 @@ fn print_words(t: &Turn, names: &[Name], out: &mut Vec<u8>) -> Result<(), Memory
         Turn::PollRead(poller, no) => print_poll_read(*poller, names, *no, out),
         Turn::PollStore(poller) => print_counted(b"poll-store ", u64::from(*poller), out),
         Turn::Command(held) => print_command(&held.as_turn().command, names, out),
+        Turn::Job(job) => print_counted(b"job ", *job, out),
+        Turn::Scan => out.extend_from_slice(b"scan"),
         Turn::Restart => out.extend_from_slice(b"restart"),
     }
 }
@@ -163,21 +161,47 @@ fn print_answer(r: &Reply, names: &[Name], out: &mut Vec<u8>) -> Result<(), Memo
         Reply::Old(number) => print_counted(b"old ", *number, out),
         Reply::Nothing => out.extend_from_slice(b"nothing"),
         Reply::Told(_) => out.extend_from_slice(b"done"),
-        Reply::Refused(refusal) => print_refusal(refusal, names, out),
+        Reply::Refused(refusal) => {
+            out.extend_from_slice(b"refused ")?;
+            print_refusal(refusal, names, out)
+        }
+        Reply::Begun(job) => print_counted(b"begun ", *job, out),
+        Reply::Going => out.extend_from_slice(b"going"),
+        Reply::Failed(held) => {
+            out.extend_from_slice(b"failed ")?;
+            print_cause(held.as_cause(), names, out)
+        }
+        Reply::NoJob => out.extend_from_slice(b"no job"),
     }
 }
 
-// The lines of a command that is done.
+// The lines of what is done.
 fn told_in(r: &Reply) -> Option<&[Line]>
     ensures { option_map (λ lines. lines.now) result ≡ told_in r.now }
 {
     match r {
         Reply::Told(lines) => Some(lines.as_slice()),
-        _ => None,
+        Reply::Write(_)
+        | Reply::Fetch(_)
+        | Reply::Apply(_)
+        | Reply::Done
+        | Reply::Rotate(_)
+        | Reply::Now(_)
+        | Reply::Read(_)
+        | Reply::ReadUnreachable(_)
+        | Reply::Unknown
+        | Reply::Stored
+        | Reply::Old(_)
+        | Reply::Nothing
+        | Reply::Refused(_)
+        | Reply::Begun(_)
+        | Reply::Going
+        | Reply::Failed(_)
+        | Reply::NoJob => None,
     }
 }
 
-// The lines of a command that is done, each behind two spaces.
+// The lines of what is done, each behind two spaces.
 fn print_lines(r: &Reply, names: &[Name], out: &mut Vec<u8>) -> Result<(), Memory>
     ensures { OnOk result (out.new.items ≡ out.old.items ++ told_lines (codes "  ") names.now (lines_of (told_in r.now))) }
 {

@@ -9,7 +9,6 @@ use Rattle.serde_json.specs.Find.{get}
 use Rattle.serde_json.specs.Find.{get}
 use Rattle.orch_base.specs.declared.server.ServerNo.{ServerNo}
 use Rattle.orch_base.specs.Names.{HostPort}
-use Rattle.instance_keeper.proofs.Books.{both_true}
 use Rattle.commands.specs.declared.name.CommandName.{CommandName}
 use Rattle.commands.specs.declared.turn.Command.{Command}
 use Rattle.commands.specs.declared.turn.CommandTurn.{CommandTurn}
@@ -19,9 +18,9 @@ use Rattle.commands.specs.Names.{name_of, needs_of, word_of}
 use Rattle.commands.specs.Turns.{is_there, is_within}
 use Rattle.commands.proofs.Words.{word_of-name_of}
 use Rattle.cluster_filters.specs.Patterns.{is_found, is_pattern}
-use Rattle.option_values.specs.Values.{number_and_unit, number_at, seconds_at, within}
-use Rattle.orch_core.specs.Built.{is_built}
-use Rattle.orch_core.specs.Commands.{IsCommand}
+use Rattle.commands.specs.Values.{number_and_unit, number_at, seconds_at, within}
+use Rattle.scenarios.specs.Built.{is_built}
+use Rattle.scenarios.specs.Turns.{IsCommand}
 use Rattle.scenario_values.specs.declared.fault.Fault.{Fault}
 use Rattle.scenario_values.specs.declared.fault.Fault.{Fault}
 use Rattle.scenario_values.specs.declared.fault.FaultCode.TheVariants.{BadCommand, BadNumber, BadPattern, NotBuilt}
@@ -32,6 +31,14 @@ use Rattle.scenario_servers.proofs.ServerSteps.{named-ok}
 use Rattle.scenario_servers.proofs.Steps.{same_Ok, bind-ok, or_fails-ok, holds-ok, under-ok, maybe-ok}
 use Rattle.scenario_commands.specs.Commands.{command_in, command_keys, duration_in, given_in, instances_in, keys_in, name_in, parts_of, pattern_in, rule_in, short_in}
 use Rattle.scenario_commands.specs.Found.{found_in, found_of}
+
+both_true : (a b : Bool) → (a && b) ≡ true → (a ≡ true) × (b ≡ true)
+both_true true true e = (refl, refl)
+both_true true false e = (refl, e)
+both_true false b e = (e, absurd (false_true e))
+  where
+    false_true : false ≡ true → ⊥
+    false_true e = cc
 
 -- what is read where it is given has what each that is read has
 given_has : {A : Type 0} (P : A → Type 0) (key : List ℕ) (read : Data → Result A Fault) (d : Data) (o : Option A) → ((v : Data) (x : A) → read v ≡ Ok x → P x) → maybe key read d ≡ Ok o → IfSome o P

@@ -8,11 +8,11 @@ use Rattle.commands.specs.declared.turn.Command.{Command}
 use Rattle.commands.specs.declared.turn.CommandTurn.{CommandTurn}
 use Rattle.commands.specs.declared.turn.Found.{Found}
 use Rattle.commands.specs.declared.turn.Keys.{Keys}
-use Rattle.instance_keeper.specs.declared.recovery.Rule.{Rule}
-use Rattle.option_values.specs.Values.{rule_at, seconds_at}
+use Rattle.orch_base.specs.declared.rule.Rule.{Rule}
+use Rattle.commands.specs.Values.{rule_at, seconds_at}
 use Rattle.orch_base.specs.Gives.{◌>>=◌}
 use Rattle.orch_base.specs.Names.{HostPort}
-use Rattle.orch_core.specs.Built.{is_built}
+use Rattle.scenarios.specs.Built.{is_built}
 use Rattle.scenario_commands.specs.Found.{found_in}
 use Rattle.scenario_servers.specs.Names.{server_named}
 use Rattle.scenario_values.specs.declared.fault.Fault.{Fault}

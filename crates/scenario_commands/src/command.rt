@@ -9,9 +9,9 @@ ghost use Rattle.serde_json.specs.View.{view, items_view};
 use crate::keys::given_in;
 use commands::{CommandName, CommandTurn};
 use orch_base::Label;
-use orch_core::built;
 use scenario_servers::Names;
 use scenario_values::{FaultCode, ReadFault, fails, text_in, under_item};
+use scenarios::built;
 use serde_json::Value;
 use std::alloc::Global;
 

@@ -8,10 +8,8 @@ ghost use Rattle.scenario_values.specs.Faults.{fault_of, maybe};
 ghost use Rattle.serde_json.specs.View.{view};
 
 use crate::pattern::found;
-use commands::{Command, CommandName, CommandTurn, Found, Keys};
-use instance_keeper::Rule;
-use option_values::{rule_at, seconds_at};
-use orch_base::{Label, ServerNo};
+use commands::{Command, CommandName, CommandTurn, Found, Keys, rule_at, seconds_at};
+use orch_base::{Label, Rule, ServerNo};
 use scenario_servers::{Names, server_named};
 use scenario_values::{
     FaultCode, ReadFault, fails, holds, members_in, only_keys, text_in, text_within, under,

@@ -5,9 +5,7 @@ mod command;
 mod keys;
 mod laws;
 mod pattern;
-#[cfg(test)]
-mod tests;
 
 pub use command::command_in;
-pub use laws::read_commands_are_sound;
+pub use laws::{listed_commands_have_routes, read_commands_are_sound};
 pub use pattern::{found, printed_names};

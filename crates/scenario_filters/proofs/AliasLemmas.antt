@@ -6,7 +6,7 @@ use Rattle.std.specs.declared.alloc.Global.{Global}
 use Rattle.serde_json.specs.declared.value.Value.{Value}
 use Rattle.serde_json.specs.View.{view, members_view}
 use Rattle.orch_base.specs.Gives.{◌>>=◌}
-use Rattle.orch_core.specs.declared.filters.Alias.{Alias}
+use Rattle.scenarios.specs.declared.filters.Alias.{Alias}
 use Rattle.scenario_values.specs.declared.fault.Fault.{Fault}
 use Rattle.scenario_values.specs.Faults.{under}
 use Rattle.scenario_values.proofs.Each.{with_front}

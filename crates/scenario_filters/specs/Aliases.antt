@@ -3,7 +3,7 @@ use Rattle.std.specs.Prelude.{ℕ, ◌∷◌, List, [], nat_eq, if◌then◌else
 use Rattle.std.specs.Cmp.Lexicographic.{pointwise}
 use Rattle.serde_json.specs.Data.{Data, Members, no_members, member}
 use Rattle.orch_base.specs.Gives.{◌>>=◌}
-use Rattle.orch_core.specs.declared.filters.Alias.{Alias}
+use Rattle.scenarios.specs.declared.filters.Alias.{Alias}
 use Rattle.scenario_values.specs.declared.fault.Fault.{Fault}
 use Rattle.scenario_values.specs.Faults.{under}
 use Rattle.scenario_values.specs.Values.{members_in, text_in, label_or_fails, text_within}

@@ -4,9 +4,9 @@ use Rattle.serde_json.specs.Data.{Data}
 use Rattle.cluster_filters.specs.Forms.{form_of, has_pattern, forms_of, some_matches}
 use Rattle.orch_base.specs.Gives.{◌>>=◌}
 use Rattle.openings.specs.declared.init.ServerInit.{ServerInit}
-use Rattle.orch_core.specs.declared.filters.Alias.{Alias}
-use Rattle.orch_core.specs.declared.filters.FilterList.{FilterList}
-use Rattle.orch_core.specs.declared.filters.ClusterFilters.{ClusterFilters}
+use Rattle.scenarios.specs.declared.filters.Alias.{Alias}
+use Rattle.scenarios.specs.declared.filters.FilterList.{FilterList}
+use Rattle.scenarios.specs.declared.filters.ClusterFilters.{ClusterFilters}
 use Rattle.scenario_values.specs.declared.fault.Fault.{Fault}
 use Rattle.scenario_values.specs.declared.fault.FaultCode.TheVariants.{BadPattern}
 use Rattle.scenario_values.specs.Faults.{holds, optional, only_keys, each}

@@ -7,8 +7,8 @@ ghost use Rattle.scenario_values.specs.Faults.{fault_of, under};
 ghost use Rattle.scenario_filters.specs.Aliases.{alias_in, aliases_from, aliases_in, alias_of};
 
 use orch_base::Label;
-use orch_core::{Alias, Aliases};
 use scenario_values::{ReadFault, label_or_fails, members_in, text_in, text_within, under};
+use scenarios::{Alias, Aliases};
 use serde_json::{Map, Value};
 use std::alloc::Global;
 

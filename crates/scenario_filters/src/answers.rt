@@ -8,9 +8,9 @@ ghost use Rattle.scenario_filters.specs.Filters.{HavePatterns, AreRead, answered
 use crate::aliases::alias_of;
 use crate::filters::FilterTexts;
 use cluster_filters::{FilterFault, Filters};
+use openings::ServerInit;
 use orch_base::Memory;
-use orch_core::{Alias, Aliases, Answers, ClusterFilters, FilterList, Texts};
-use server_model::ServerInit;
+use scenarios::{Alias, Aliases, Answers, ClusterFilters, FilterList, Texts};
 use std::alloc::Global;
 
 // The filters of texts that have patterns.

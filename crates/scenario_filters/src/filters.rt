@@ -10,10 +10,10 @@ ghost use Rattle.scenario_filters.specs.Filters.{filter_in, list_in, everything,
 
 use cluster_filters::{FilterFault, Filters};
 use orch_base::Memory;
-use orch_core::Texts;
 use scenario_values::{
     FaultCode, ReadFault, fails, items_in, members_in, only_keys, text_in, under, under_item,
 };
+use scenarios::Texts;
 use serde_json::Value;
 use std::alloc::Global;
 

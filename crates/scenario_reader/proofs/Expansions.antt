@@ -6,9 +6,9 @@ use Rattle.std.proofs.lemmas.Bool.Decides.{nat_tests}
 use Rattle.std.proofs.lemmas.List.Folds.{length-flat_map-take}
 use Rattle.std.proofs.lemmas.List.Elements.{All-nil, All-cons, All-head, All-tail}
 use Rattle.orch_base.specs.declared.server.ServerNo.{ServerNo}
-use Rattle.orch_core.specs.declared.turn.Turn.{Turn}
-use Rattle.orch_core.specs.declared.turn.Turn.TheVariants.{Fetch, Apply, PollRead, PollStore}
-use Rattle.orch_core.specs.Turns.{IsTurn}
+use Rattle.turns.specs.declared.turn.Turn.{Turn}
+use Rattle.turns.specs.declared.turn.Turn.TheVariants.{Fetch, Apply, PollRead, PollStore}
+use Rattle.scenarios.specs.Turns.{IsTurn}
 use Rattle.scenario_reader.specs.declared.expansion.ListedTurn.{ListedTurn}
 use Rattle.scenario_reader.specs.declared.expansion.ListedTurn.TheVariants.{One, Polls, Round}
 use Rattle.scenario_reader.specs.Expansion.{polls_of, steps_of, expansion_of, expanded}

@@ -1,9 +1,8 @@
 -- What is read as a scenario meets the condition of the calls that take one.
-use Rattle.std.proofs.Common.{◌≡◌, ℕ, ◌+◌, ◌*◌, ◌<◌, ◌≤◌, ◌⊎◌, inl, inr, ◌∙◌, Bool, cond, leb, List, [], ◌∷◌, length, All, Option, Some, None, Result, Ok, refl, ap, subst, sym, arith}
+use Rattle.std.proofs.Common.{◌≡◌, ℕ, ◌+◌, ◌*◌, ◌<◌, ◌≤◌, ◌⊎◌, inl, inr, ◌∙◌, Bool, leb, List, [], ◌∷◌, length, All, Option, Some, None, Result, Ok, refl, ap, subst, sym, arith}
 use Rattle.std.specs.Prelude.{count_by, codes, decimal, slice_get}
 use Rattle.std.proofs.lemmas.Bool.{leb-true}
 use Rattle.std.proofs.lemmas.List.{length-map}
-use Rattle.std.proofs.lemmas.List.Sums.{sum_by-cons}
 use Rattle.serde_json.specs.Data.{Data, Items, no_items, item}
 use Rattle.orch_base.specs.declared.server.ServerNo.{ServerNo}
 use Rattle.orch_base.specs.declared.source.TheConstants.{MAX_SCENARIO_LEN}
@@ -11,16 +10,16 @@ use Rattle.orch_base.specs.Names.{HostPort, printed}
 use Rattle.openings.specs.declared.init.ServerInit.{ServerInit}
 use Rattle.openings.specs.declared.opening.Flaw.{Flaw}
 use Rattle.openings.specs.Flaws.{flaw_in}
-use Rattle.openings.specs.Opening.{Opened, opening, opening_or, IsListed, IsChecked}
-use Rattle.replication_laws.specs.Room.{is_write as adds}
-use Rattle.orch_core.specs.declared.scenario.Scenario.{Scenario}
-use Rattle.orch_core.specs.declared.turn.Turn.{Turn}
-use Rattle.orch_core.specs.declared.turn.Turn.TheVariants.{Write, Fetch, Apply, Fail, Heal, Cut, Join, Rotate, Tick, PollRead, PollStore, Command, Restart}
-use Rattle.orch_core.specs.Commands.{IsCommand}
-use Rattle.orch_core.specs.Scenarios.{room_of, IsScenario}
-use Rattle.orch_core.specs.Turns.{exchange_of, makes, IsTurn}
-use Rattle.orch_core.proofs.Rooms.{room_of-counted}
-use Rattle.server_model.specs.declared.changes.Link.{Link}
+use Rattle.openings.specs.Opening.{Opened, opening, IsListed, IsChecked}
+use Rattle.opening_checks.specs.Checked.{found_of, opening_or}
+use Rattle.opening_checks.specs.Values.{value_at}
+use Rattle.scenarios.specs.declared.scenario.Scenario.{Scenario}
+use Rattle.turns.specs.declared.turn.Turn.{Turn}
+use Rattle.turns.specs.declared.turn.Turn.TheVariants.{Write, Fetch, Apply, Fail, Heal, Cut, Join, Rotate, Tick, PollRead, PollStore, Command, Restart}
+use Rattle.scenarios.specs.Turns.{IsCommand}
+use Rattle.scenarios.specs.Scenarios.{IsScenario}
+use Rattle.scenarios.specs.Turns.{IsTurn, is_write}
+use Rattle.server_words.specs.declared.changes.Link.{Link}
 use Rattle.scenario_values.specs.declared.fault.Fault.{Fault}
 use Rattle.scenario_values.specs.declared.fault.FaultCode.{FaultCode}
 use Rattle.scenario_values.specs.declared.fault.FaultCode.TheVariants.{TooLong, TooLarge}
@@ -28,7 +27,8 @@ use Rattle.scenario_values.specs.Faults.{holds, under, under_item, needed, optio
 use Rattle.scenario_values.specs.Values.{items_in, bool_in, text_in, number_in}
 use Rattle.scenario_servers.specs.declared.given.Given.{Given}
 use Rattle.scenario_servers.specs.Names.{server_named, listed_names, listed_uuids}
-use Rattle.scenario_servers.specs.Openings.{inits_from, inits_of, known_of, listed_count, is_small, code_of, place_at, fails_at, opening_or_fails, opening_in, IsGiven}
+use Rattle.scenario_servers.specs.Openings.{inits_from, inits_of, known_of, IsGiven}
+use Rattle.scenario_openings.specs.Openings.{listed_count, is_small, code_of, keys_of, fails_at, opening_or_fails, opening_in}
 use Rattle.scenario_servers.specs.Servers.{server_in, listed_in, servers_in}
 use Rattle.scenario_servers.proofs.Reading.{read_given}
 use Rattle.scenario_servers.proofs.ServerSteps.{named-ok}
@@ -45,7 +45,7 @@ use Rattle.scenario_reader.specs.declared.word.Word.TheVariants as word
 use Rattle.scenario_reader.specs.Words.{word_at}
 use Rattle.scenario_reader.specs.Expansion.{server_names, printed_of, in_order, expanded}
 use Rattle.scenario_reader.specs.Turns.{one_of, two_of, link_in, poller_in, server_of, size_of, link_of, seconds_of, poll_of, poller_of, turn_by, alone, turn_of, turn_with, turn_from, turn_in}
-use Rattle.scenario_reader.specs.Scenarios.{json_in, one_in, is_write, keys_in, head_in, bounded, turns_in, scenario_with, scenario_from, scenario_in}
+use Rattle.scenario_reader.specs.Scenarios.{json_in, one_in, keys_in, head_in, bounded, turns_in, scenario_with, scenario_from, scenario_in}
 use Rattle.scenario_reader.proofs.Expansions.{IsListedTurn, expanded-are}
 use Rattle.scenario_reader.proofs.Order.{order_within}
 
@@ -232,9 +232,9 @@ opening-has servers gtid o given e =
     } in
     go listed (flaw_in servers) refl small.2
   where
-    go : IsListed (opening servers gtid) → (f : Option (Flaw × ℕ)) → flaw_in servers ≡ f → opening_or_fails servers (opening_or (opening servers gtid) f) ≡ Ok o → IsOpened servers o
+    go : IsListed (opening servers gtid) → (f : Option (Flaw × ℕ)) → flaw_in servers ≡ f → opening_or_fails (opening_or (opening servers gtid) (found_of servers f)) ≡ Ok o → IsOpened servers o
     go listed None none e = subst (IsOpened servers) (same_Ok (opening servers gtid) o e) (record { checked = record { listed = listed; sound = none }; same = refl })
-    go listed (Some f) some e = absurd (never (code_of f.0) (codes "servers" ∷ decimal f.1 ∷ place_at servers f.0 (slice_get servers f.1)) o e)
+    go listed (Some f) some e = absurd (never (code_of f.0) (codes "servers" ∷ decimal f.1 ∷ keys_of (value_at servers f.0 (slice_get servers f.1))) o e)
 
 -- ---- the keys before the servers
 
@@ -253,33 +253,6 @@ moment-has d h e =
     by : (n : ℕ) → (n ≡ 0) ⊎ ((v : Data) × (number_in 0 1000000000000000 v ≡ Ok n)) → n ≤ 1000000000000000
     by n (inl zero) = omega arith
     by n (inr there) = (number-ok 0 1000000000000000 there.0 n there.1).1
-
--- ---- room
-
-tick : Bool → ℕ
-tick b = cond b 1 0
-
-adds-turn : (t : Turn) → makes adds (exchange_of t) ≡ is_write t
-adds-turn (Write n size) = refl
-adds-turn (Fetch n) = refl
-adds-turn (Apply n) = refl
-adds-turn (Fail n) = refl
-adds-turn (Heal n) = refl
-adds-turn (Cut n link) = refl
-adds-turn (Join n link) = refl
-adds-turn (Rotate n) = refl
-adds-turn (Tick seconds) = refl
-adds-turn (PollRead p n) = refl
-adds-turn (PollStore p) = refl
-adds-turn (Command c) = refl
-adds-turn Restart = refl
-
-written : (ts : List Turn) → count_by (λ t. makes adds (exchange_of t)) ts ≡ count_by is_write ts
-unfolding tick
-written [] = refl
-written (t ∷ ts) =
-    let one : tick (makes adds (exchange_of t)) ≡ tick (is_write t) = ap tick (adds-turn t) in
-    omega (arith, one, written ts, sum_by-cons (λ x. tick (makes adds (exchange_of x))) t ts, sum_by-cons (λ x. tick (is_write x)) t ts)
 
 -- ---- the whole
 
@@ -301,13 +274,12 @@ scenario_with-sound head given items s early are names e =
       known = known_of given.1;
       turns = ts.0;
     } in
-    let room : room_of made ≡ listed_count o.0.servers + count_by is_write ts.0 = room_of-counted made ∙ ap (λ n. listed_count o.0.servers + n) (written ts.0) in
     subst IsScenario (same_Ok made s ts.2) (record {
       checked = opened.checked;
       moment = early;
       turns = turns.turns;
       few = turns.few;
-      room = subst (λ n. length o.0.servers * n ≤ 4000000) (sym room) turns.room;
+      room = turns.room;
       known = known;
       master = length-map _ _;
       intermediate = length-map _ _;

@@ -4,8 +4,8 @@ use Rattle.std.specs.List.{flat_map}
 use Rattle.orch_base.specs.declared.server.ServerNo.{ServerNo}
 use Rattle.orch_base.specs.Names.{HostPort, printed}
 use Rattle.openings.specs.declared.init.ServerInit.{ServerInit}
-use Rattle.orch_core.specs.declared.turn.Turn.{Turn}
-use Rattle.orch_core.specs.declared.turn.Turn.TheVariants.{Fetch, Apply, PollRead, PollStore}
+use Rattle.turns.specs.declared.turn.Turn.{Turn}
+use Rattle.turns.specs.declared.turn.Turn.TheVariants.{Fetch, Apply, PollRead, PollStore}
 use Rattle.name_order.specs.NameOrder.{by_name}
 use Rattle.scenario_reader.specs.declared.expansion.ListedTurn.{ListedTurn}
 use Rattle.scenario_reader.specs.declared.expansion.ListedTurn.TheVariants.{One, Polls, Round}

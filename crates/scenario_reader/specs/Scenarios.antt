@@ -8,16 +8,17 @@ use Rattle.orch_base.specs.declared.source.TheConstants.{MAX_SCENARIO_LEN}
 use Rattle.orch_base.specs.Gives.{◌>>=◌}
 use Rattle.orch_base.specs.Names.{HostPort}
 use Rattle.openings.specs.declared.init.ServerInit.{ServerInit}
-use Rattle.orch_core.specs.declared.scenario.Scenario.{Scenario}
-use Rattle.orch_core.specs.declared.turn.Turn.{Turn}
-use Rattle.orch_core.specs.declared.turn.Turn.TheVariants.{Write}
+use Rattle.scenarios.specs.declared.scenario.Scenario.{Scenario}
+use Rattle.scenarios.specs.Turns.{is_write}
+use Rattle.turns.specs.declared.turn.Turn.{Turn}
 use Rattle.scenario_values.specs.declared.fault.Fault.{Fault}
 use Rattle.scenario_values.specs.declared.fault.FaultCode.TheVariants.{TooLong, NotJson, Missing, BadType, BadVersion, TooLarge}
 use Rattle.scenario_values.specs.Faults.{or_fails, holds, under, needed, optional, unbuilt, only_keys, each}
 use Rattle.scenario_values.specs.Values.{members_in, items_in, bool_in, number_in}
 use Rattle.scenario_servers.specs.declared.given.Given.{Given}
 use Rattle.scenario_servers.specs.Servers.{servers_in}
-use Rattle.scenario_servers.specs.Openings.{inits_of, known_of, listed_count, is_small, opening_in}
+use Rattle.scenario_servers.specs.Openings.{inits_of, known_of}
+use Rattle.scenario_openings.specs.Openings.{listed_count, is_small, opening_in}
 use Rattle.scenario_filters.specs.Aliases.{aliases_in}
 use Rattle.scenario_filters.specs.Filters.{filters_in, no_filters, answered}
 use Rattle.scenario_reader.specs.declared.head.Head.{Head}
@@ -47,12 +48,6 @@ one_in d = do
 
 abbrev pub is_there : List ℕ → Data → Bool
 is_there key d = is_some (get key d)
-
--- ---- the sizes
-
-abbrev pub is_write : Turn → Bool
-is_write (Write n size) = true
-is_write _ = false
 
 -- ---- the whole
 

@@ -6,8 +6,8 @@ ghost use Rattle.scenario_reader.specs.Expansion.{printed_of, server_names, in_o
 use name_order::in_name_order;
 use openings::ServerInit;
 use orch_base::{Label, Memory, Name, ServerNo};
-use orch_core::Turn;
 use scenario_commands::printed_names;
+use scenarios::Turn;
 use std::alloc::Global;
 
 /// A turn as a scenario lists it.

@@ -8,11 +8,11 @@ ghost use Rattle.scenario_filters.specs.Aliases.{aliases_in};
 ghost use Rattle.scenario_filters.specs.Filters.{filters_in, no_filters, AreRead};
 ghost use Rattle.scenario_reader.specs.Scenarios.{is_one, one_in, is_there, keys_in, head_in};
 
-use orch_core::Aliases;
 use scenario_filters::{FilterTexts, aliases_in, filters_in, no_filters};
 use scenario_values::{
     FaultCode, ReadFault, bool_at, fails, holds, members_in, number_at, only_keys, unbuilt, under,
 };
+use scenarios::Aliases;
 use serde_json::Value;
 use std::alloc::Global;
 

@@ -2,7 +2,7 @@
 
 ghost use Rattle.std.specs.Prelude.{◌≡◌, ◌++◌, ◌∷◌, [], true, false, codes, filter, is_some, not};
 ghost use Rattle.std.specs.List.{list_all, list_any};
-ghost use Rattle.orch_core.specs.Built.{built_turns, is_built};
+ghost use Rattle.scenarios.specs.Built.{built_turns, is_built};
 ghost use Rattle.scenario_servers.specs.Servers.{own_keys, replica_keys};
 ghost use Rattle.scenario_reader.specs.Scenarios.{top_keys};
 ghost use Rattle.scenario_reader.specs.Words.{built_word, unbuilt_words};

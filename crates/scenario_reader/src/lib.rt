@@ -4,9 +4,7 @@
 mod expansion;
 mod head;
 mod laws;
-#[cfg(test)]
-mod tests;
-mod turns;
+mod turn_forms;
 mod walk;
 mod word;
 

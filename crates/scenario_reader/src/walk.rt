@@ -4,27 +4,30 @@ ghost use Rattle.std.specs.Prelude.{◌≡◌, ◌+◌, ◌≤◌, ℕ, List, []
 ghost use Rattle.orch_base.specs.Gives.{Gives};
 ghost use Rattle.serde_json.specs.Data.{no_items};
 ghost use Rattle.serde_json.specs.View.{view, items_view};
-ghost use Rattle.orch_core.specs.declared.scenario.Scenario.{Scenario as AScenario};
-ghost use Rattle.orch_core.specs.Scenarios.{IsScenario};
+ghost use Rattle.scenarios.specs.declared.scenario.Scenario.{Scenario as AScenario};
+ghost use Rattle.scenarios.specs.Scenarios.{IsScenario};
+ghost use Rattle.scenarios.specs.Turns.{is_write};
 ghost use Rattle.scenario_values.specs.declared.fault.FaultCode.TheVariants.{TooLong};
 ghost use Rattle.scenario_values.specs.Faults.{fault_of, under as place_under, needed, optional, each};
 ghost use Rattle.scenario_values.specs.Values.{items_in};
-ghost use Rattle.scenario_servers.specs.Openings.{is_small, listed_count, inits_of, IsGiven};
+ghost use Rattle.scenario_servers.specs.Openings.{inits_of, IsGiven};
+ghost use Rattle.scenario_openings.specs.Openings.{is_small, listed_count};
 ghost use Rattle.scenario_servers.specs.Servers.{servers_in};
 ghost use Rattle.scenario_filters.specs.Filters.{AreRead};
 ghost use Rattle.scenario_reader.specs.Expansion.{expanded};
 ghost use Rattle.scenario_reader.specs.Turns.{turn_in};
-ghost use Rattle.scenario_reader.specs.Scenarios.{json_in, is_write, bounded, turns_in, scenario_with, scenario_from, scenario_in};
+ghost use Rattle.scenario_reader.specs.Scenarios.{json_in, bounded, turns_in, scenario_with, scenario_from, scenario_in};
 
 use crate::expansion::{ListedTurn, are_few, expanded, in_order, printed_of};
 use crate::head::{Head, head_in, keys_in};
-use crate::turns::each_turn;
+use crate::turn_forms::each_turn;
 use openings::ServerInit;
 use orch_base::{Label, MAX_SCENARIO_LEN, Moment, ServerNo};
-use orch_core::{Answers, Scenario, Turn, Turns};
 use scenario_filters::answered;
-use scenario_servers::{Listed, Names, inits_of, known_of, listed_count, opening_in, servers_in};
+use scenario_openings::{listed_count, opening_in};
+use scenario_servers::{Listed, Names, inits_of, known_of, servers_in};
 use scenario_values::{FaultCode, ReadFault, fails, holds, items_in, under};
+use scenarios::{Answers, Scenario, Turn, Turns};
 use serde_json::Value;
 use std::alloc::Global;
 

@@ -1,8 +1,5 @@
 pub mod Apartness
-pub mod Counts
-pub mod Faults
 pub mod NameTables
-pub mod PassedFlaws
 pub mod Printed
 pub mod Reading
 pub mod ServerSteps

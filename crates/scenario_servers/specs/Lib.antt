@@ -2,5 +2,4 @@ pub mod Labels
 pub mod NameTable
 pub mod Names
 pub mod Openings
-pub mod Places
 pub mod Servers

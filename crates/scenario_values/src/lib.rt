@@ -4,8 +4,6 @@
 mod fault;
 mod field;
 mod key;
-#[cfg(test)]
-mod tests;
 mod value;
 
 pub use fault::{Fault, FaultCode, Path, ReadFault, fails, holds, under, under_item};

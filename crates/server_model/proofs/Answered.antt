@@ -5,7 +5,7 @@ use Rattle.std.proofs.lemmas.Bool.Decides.{nat_tests}
 use Rattle.orch_base.specs.Histories.{count_own}
 use Rattle.server_model.specs.Worlds.{World, server_at, has_source}
 use Rattle.server_model.specs.Exchanges.{took, own_txn, write_answer, after_write}
-use Rattle.server_model.specs.declared.answers.WriteAnswer.TheVariants as wrote
+use Rattle.server_words.specs.declared.answers.WriteAnswer.TheVariants as wrote
 use Rattle.server_model.specs.declared.server.Server.{Server}
 
 pub write-answered : (w : World) (n own : ℕ) (s : Server) → server_at w n ≡ Some s → s.up ≡ true → s.read_only ≡ false → length s.history.txns < s.history.room

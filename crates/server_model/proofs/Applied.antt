@@ -14,8 +14,8 @@ use Rattle.orch_base.specs.Histories.{holds}
 use Rattle.server_model.specs.Worlds.{World, server_at, source_no}
 use Rattle.server_model.specs.Exchanges.{took, apply_step, apply_from, apply_txn, applied, attached_at, is_applying, is_reached, after_apply, IsReady}
 use Rattle.server_model.specs.Links.{relay_step, step_to, IsFit, IsLinked, IsKept}
-use Rattle.server_model.specs.declared.answers.ApplyStep.{ApplyStep}
-use Rattle.server_model.specs.declared.answers.ApplyStep.TheVariants as applying
+use Rattle.server_model.specs.declared.decisions.ApplyStep.{ApplyStep}
+use Rattle.server_model.specs.declared.decisions.ApplyStep.TheVariants as applying
 use Rattle.server_model.specs.declared.server.Server.{Server}
 use Rattle.server_model.specs.declared.ledger.Ledger.{Ledger}
 use Rattle.gtid_sets.specs.Reserved.{Reserved}

@@ -16,8 +16,8 @@ use Rattle.server_model.specs.Attach.{chain_meets, spot_below}
 use Rattle.server_model.specs.Gtids.{uuids, uuids_in, set_of, has_gtid, held_len, auto_coord, auto_readiness, auto_decision, answer_by_sets, errant_answer, errant_set, attach_auto_answer, attached_auto, after_attach_auto, attach_fault, IsAutoTarget, IsSetOf}
 use Rattle.server_model.specs.Links.{IsFit}
 use Rattle.server_model.specs.Worlds.{World, server_at, sources}
-use Rattle.server_model.specs.declared.attach.AttachFault.{AttachFault}
-use Rattle.server_model.specs.declared.attach.AttachFault.TheVariants as attaching
+use Rattle.server_words.specs.declared.attach.AttachFault.{AttachFault}
+use Rattle.server_words.specs.declared.attach.AttachFault.TheVariants as attaching
 use Rattle.server_model.specs.declared.server.Server.{Server}
 use Rattle.server_model.proofs.Changed.{chain-apart}
 use Rattle.server_model.proofs.Errants.{errant-is}

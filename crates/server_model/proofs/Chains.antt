@@ -1,6 +1,9 @@
-use Rattle.std.proofs.Common.{◌≡◌, ℕ, ◌+◌, ◌-◌, ◌<◌, true, false, ap, ◌||◌, Option, Some, None, arith, suc, ◌∙◌}
+-- Walks up the sources.
+use Rattle.std.proofs.Common.{◌≡◌, ℕ, ◌+◌, ◌-◌, ◌<◌, true, false, sym, subst, ap, ◌||◌, Option, Some, None, arith, suc, ◌∙◌}
 use Rattle.std.specs.Prelude.{◌==◌}
 use Rattle.std.proofs.lemmas.Bool.{eq-eqb, ne_eqb}
+use Rattle.std.proofs.lemmas.Option.{same_Some}
+use Rattle.orch_base.specs.Chains.{Grounded, Root, Under}
 use Rattle.server_model.specs.Attach.{chain_meets, chain_on}
 
 -- one step of the walk
@@ -22,3 +25,10 @@ chain_meets-on up k i at n m h apart some =
     ∙ ap (chain_on (λ x. chain_meets up (k - (i + 1)) x n)) some
 
 pub ruleset chain_steps = (chain_meets-here, chain_meets-ended, chain_meets-on)
+
+-- no server is its own source
+pub not_self : (up : ℕ → Option ℕ) (n : ℕ) → Grounded up n → up n ≡ Some n → ⊥
+not_self up n (Root n' none) h = cc
+not_self up n (Under n' m e g) h =
+    let same : m ≡ n = same_Some m n (sym e ∙ h) in
+    not_self up m g (subst (λ (k : ℕ). up k ≡ Some m) (sym same) e)

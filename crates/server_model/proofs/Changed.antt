@@ -13,9 +13,9 @@ use Rattle.orch_base.specs.declared.server.ServerNo.{ServerNo}
 use Rattle.orch_base.specs.declared.server.SourceState.{SourceState}
 use Rattle.orch_base.specs.declared.server.SourceState.TheVariants.{Without, Attached, Detached}
 use Rattle.server_model.specs.Attach.{spot_below, live_spot, same_spot, chain_meets, attach_decision, attach_answer, attached_to, after_attach, IsTarget}
-use Rattle.server_model.specs.declared.attach.Spot.{Spot}
-use Rattle.server_model.specs.declared.attach.AttachFault.{AttachFault}
-use Rattle.server_model.specs.declared.attach.AttachFault.TheVariants as attaching
+use Rattle.server_words.specs.declared.attach.Spot.{Spot}
+use Rattle.server_words.specs.declared.attach.AttachFault.{AttachFault}
+use Rattle.server_words.specs.declared.attach.AttachFault.TheVariants as attaching
 use Rattle.server_model.specs.Desk.{stopped, started, detached, reattached, without_source, asked, detached_source, attached_source, empties, with_link, healed, befallen, rotated, desk_answer, after_desk, befall, rotate_answer, after_rotate, is_detached}
 use Rattle.server_model.specs.Exchanges.{is_attached}
 use Rattle.orch_base.specs.Histories.{count_own}
@@ -23,15 +23,15 @@ use Rattle.server_model.specs.Kept.{Kept}
 use Rattle.binlog_coords.specs.Index.{Index}
 use Rattle.server_model.specs.Links.{HasSize, IsFit, IsLinked, IsKept}
 use Rattle.server_model.specs.Worlds.{World, server_at, source_no, sources}
-use Rattle.server_model.specs.declared.answers.RotateAnswer.TheVariants as rotating
-use Rattle.server_model.specs.declared.changes.Ask.{Ask}
-use Rattle.server_model.specs.declared.changes.Ask.TheVariants as asking
-use Rattle.server_model.specs.declared.changes.Event.{Event}
-use Rattle.server_model.specs.declared.changes.Event.TheVariants as event
-use Rattle.server_model.specs.declared.changes.Link.{Link}
-use Rattle.server_model.specs.declared.changes.Link.TheVariants as link
-use Rattle.server_model.specs.declared.changes.Threads.{Threads}
-use Rattle.server_model.specs.declared.changes.Threads.TheVariants as threads
+use Rattle.server_words.specs.declared.answers.RotateAnswer.TheVariants as rotating
+use Rattle.server_words.specs.declared.changes.Ask.{Ask}
+use Rattle.server_words.specs.declared.changes.Ask.TheVariants as asking
+use Rattle.server_words.specs.declared.changes.Event.{Event}
+use Rattle.server_words.specs.declared.changes.Event.TheVariants as event
+use Rattle.server_words.specs.declared.changes.Link.{Link}
+use Rattle.server_words.specs.declared.changes.Link.TheVariants as link
+use Rattle.server_words.specs.declared.changes.Threads.{Threads}
+use Rattle.server_words.specs.declared.changes.Threads.TheVariants as threads
 use Rattle.server_model.specs.declared.ledger.Ledger.{Ledger}
 use Rattle.server_model.specs.declared.server.Server.{Server}
 use Rattle.server_model.proofs.Keeps.{IsKept-any, IsKept-with, beside_of}

@@ -13,7 +13,7 @@ use Rattle.orch_base.specs.declared.server.SourceState.TheVariants.{Without, Att
 use Rattle.server_model.specs.Worlds.{World, server_at, source_no}
 use Rattle.server_model.specs.Exchanges.{fetch_step, fetch_from, attached_at, is_attached, is_receiving, after_fetch}
 use Rattle.server_model.specs.Links.{entries_of, IsFit, IsLinked, IsKept}
-use Rattle.server_model.specs.declared.answers.FetchStep.TheVariants as receiving
+use Rattle.server_model.specs.declared.decisions.FetchStep.TheVariants as receiving
 use Rattle.server_model.specs.declared.server.Server.{Server}
 use Rattle.server_model.specs.declared.ledger.Ledger.{Ledger}
 use Rattle.server_model.proofs.Lists.{set_self}

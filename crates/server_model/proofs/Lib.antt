@@ -13,8 +13,4 @@ pub mod Changed
 pub mod Seen
 pub mod AutoAttached
 pub mod Chains
-pub mod Opened
-pub mod LaidLogs
-pub mod OpenedWorlds
-pub mod OpenedSets
-pub mod Placings
+pub mod Standing

@@ -51,3 +51,19 @@ take-more [] i x h = cc
 take-more (z ∷ xs) zero x h = let e : z ≡ x = same_Some z x h in ap (λ y. y ∷ []) e
 take-more (z ∷ xs) (suc i) x h =
     let e : suc i + 1 ≡ suc (i + 1) = omega arith in rw e (ap (λ ys. z ∷ ys) (take-more xs i x h))
+
+-- an element of a list with one more at its end is an old one or the new one
+pub slice_get-snoc_cases : {X : Type 0} (xs : List X) (y x : X) (i : ℕ) → slice_get (xs ++ y ∷ []) i ≡ Some x → (slice_get xs i ≡ Some x) ⊎ ((i ≡ length xs) × (x ≡ y))
+slice_get-snoc_cases [] y x zero h = inr (refl, sym (same_Some y x h))
+slice_get-snoc_cases [] y x (suc i) h = cc
+slice_get-snoc_cases (z ∷ xs) y x zero h = inl h
+slice_get-snoc_cases (z ∷ xs) y x (suc i) h =
+    elim (slice_get-snoc_cases xs y x i h) [ inl old ↦ inl old | inr new ↦ inr (ap suc new.0, new.1) ]
+
+-- what is taken of a list is taken of one that goes on
+pub slice_get-take : {X : Type 0} (xs : List X) (n i : ℕ) (x : X) → slice_get (take n xs) i ≡ Some x → slice_get xs i ≡ Some x
+slice_get-take [] zero i x h = h
+slice_get-take [] (suc n) i x h = h
+slice_get-take (z ∷ xs) zero i x h = cc
+slice_get-take (z ∷ xs) (suc n) zero x h = h
+slice_get-take (z ∷ xs) (suc n) (suc i) x h = slice_get-take xs n i x h

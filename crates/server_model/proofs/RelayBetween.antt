@@ -14,7 +14,7 @@ use Rattle.binlog_coords.specs.Relay.{IsRelay, Empty, Took, Passed}
 use Rattle.binlog_coords.proofs.Places.{before-file, Laid-Grown, place-monotone, next_after-step, next_after-reaches, same_coord-true}
 use Rattle.binlog_coords.proofs.Steps.{next_after-entry, next_after-rotate}
 use Rattle.server_model.specs.Links.{entries_of}
-use Rattle.server_model.specs.Makings.{entries_from}
+use Rattle.server_model.specs.Ledgers.{entries_from}
 use Rattle.server_model.proofs.RelaySteps.{entries-length}
 
 before_or_same : (c d : Coord) → is_at_or_before c d ≡ true → same_coord c d ≡ false → is_before c d ≡ true

@@ -1,21 +1,36 @@
 -- What is seen of a server.
-use Rattle.std.proofs.Common.{◌≡◌, ℕ, Bool, true, false, cond, List, sym, ◌∙◌, ap, subst, Option, Some, Ok, Err, ◌&&◌}
+use Rattle.std.proofs.Common.{◌≡◌, ℕ, Bool, true, false, cond, List, refl, sym, ◌∙◌, ap, subst, Option, Some, None, Ok, Err}
+use Rattle.std.specs.Prelude.{option_map}
+use Rattle.std.proofs.lemmas.Bool.{false≢true}
+use Rattle.std.proofs.lemmas.Option.{same_Some}
 use Rattle.gtid_sets.specs.Reserved.{Reserved}
 use Rattle.gtid_sets.specs.declared.interval.Interval.{Interval}
-use Rattle.server_model.specs.Gtids.{uuids_in, seen_set, source_at, status, status_of, status_in, IsSetOf}
+use Rattle.server_model.specs.Desk.{can_reach}
+use Rattle.server_model.specs.Gtids.{uuids_in, seen_set, source_at, shown, shown_of, status, status_of, status_in, IsSetOf}
 use Rattle.server_model.specs.Worlds.{World, server_at}
 use Rattle.server_model.specs.declared.server.Server.{Server}
-use Rattle.server_model.specs.declared.status.Status.{Status}
-use Rattle.server_model.specs.declared.status.StatusFault.TheVariants as seeing
+use Rattle.server_words.specs.declared.status.Status.{Status}
+use Rattle.server_words.specs.declared.status.StatusFault.TheVariants as seeing
 
-pub status-unreached : (w : World) (n : ℕ) (s : Server) → server_at w n ≡ Some s → (s.up && s.desk) ≡ false → status w n ≡ Err seeing.Unreachable
-status-unreached w n s at off = ap (status_in w) at ∙ ap (λ b. cond b (Ok (status_of s (source_at w s) (seen_set w s))) (Err seeing.Unreachable)) off
+pub status-unreached : (w : World) (n : ℕ) → can_reach (server_at w n) ≡ false → status w n ≡ Err seeing.Unreachable
+status-unreached w n off = go (server_at w n) off
+  where
+    go : (o : Option Server) → can_reach o ≡ false → status_in w o ≡ Err seeing.Unreachable
+    go None h = refl
+    go (Some s) h = ap (λ b. cond b (Ok (shown_of w s)) (Err seeing.Unreachable)) h
 
-pub status-reached : (w : World) (n : ℕ) (s : Server) (o : Option Server) (set : List Interval) (x : Status) → server_at w n ≡ Some s → (s.up && s.desk) ≡ true
-    → o ≡ source_at w s → set ≡ seen_set w s → x ≡ status_of s o set → status w n ≡ Ok x
-status-reached w n s o set x at on source seen is =
-    ap (status_in w) at ∙ ap (λ b. cond b (Ok (status_of s (source_at w s) (seen_set w s))) (Err seeing.Unreachable)) on
-    ∙ ap (λ y. Ok (status_of s y (seen_set w s))) (sym source) ∙ ap (λ y. Ok (status_of s o y)) (sym seen) ∙ ap Ok (sym is)
+pub status-reached : (w : World) (n : ℕ) (x : Status) → can_reach (server_at w n) ≡ true → shown w n ≡ Some x → status w n ≡ Ok x
+status-reached w n x on shows = go (server_at w n) on shows
+  where
+    go : (o : Option Server) → can_reach o ≡ true → option_map (shown_of w) o ≡ Some x → status_in w o ≡ Ok x
+    go None h e = absurd (false≢true h)
+    go (Some s) h e = ap (λ b. cond b (Ok (shown_of w s)) (Err seeing.Unreachable)) h ∙ ap Ok (same_Some (shown_of w s) x e)
+
+pub shown-is : (w : World) (n : ℕ) (s : Server) (o : Option Server) (set : List Interval) (x : Status) → server_at w n ≡ Some s
+    → o ≡ source_at w s → set ≡ seen_set w s → x ≡ status_of s o set → shown w n ≡ Some x
+shown-is w n s o set x at source seen is =
+    ap (option_map (shown_of w)) at
+    ∙ ap (λ y. Some (status_of s y (seen_set w s))) (sym source) ∙ ap (λ y. Some (status_of s o y)) (sym seen) ∙ ap Some (sym is)
 
 -- the set that is kept is the one that is seen
 pub seen-kept : (w : World) (servers : List Server) (gtid : Bool) (errant : ℕ) (s : Server) (e : Reserved) → record { servers = servers; gtid = gtid; errant = errant } ≡ w

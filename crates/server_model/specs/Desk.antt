@@ -5,17 +5,17 @@ use Rattle.binlog_coords.specs.declared.Coord.{Coord}
 use Rattle.binlog_coords.specs.Log.{flush, end_of, file_start}
 use Rattle.orch_base.specs.declared.server.SourceState.{SourceState}
 use Rattle.orch_base.specs.declared.server.SourceState.TheVariants.{Without, Attached, Detached}
-use Rattle.server_model.specs.declared.answers.Unreachable.{Unreachable}
-use Rattle.server_model.specs.declared.answers.RotateAnswer.{RotateAnswer}
-use Rattle.server_model.specs.declared.answers.RotateAnswer.TheVariants as rotating
-use Rattle.server_model.specs.declared.changes.Threads.{Threads}
-use Rattle.server_model.specs.declared.changes.Threads.TheVariants as threads
-use Rattle.server_model.specs.declared.changes.Link.{Link}
-use Rattle.server_model.specs.declared.changes.Link.TheVariants as link
-use Rattle.server_model.specs.declared.changes.Ask.{Ask}
-use Rattle.server_model.specs.declared.changes.Ask.TheVariants as asking
-use Rattle.server_model.specs.declared.changes.Event.{Event}
-use Rattle.server_model.specs.declared.changes.Event.TheVariants as event
+use Rattle.server_words.specs.declared.answers.Unreachable.{Unreachable}
+use Rattle.server_words.specs.declared.answers.RotateAnswer.{RotateAnswer}
+use Rattle.server_words.specs.declared.answers.RotateAnswer.TheVariants as rotating
+use Rattle.server_words.specs.declared.changes.Threads.{Threads}
+use Rattle.server_words.specs.declared.changes.Threads.TheVariants as threads
+use Rattle.server_words.specs.declared.changes.Link.{Link}
+use Rattle.server_words.specs.declared.changes.Link.TheVariants as link
+use Rattle.server_words.specs.declared.changes.Ask.{Ask}
+use Rattle.server_words.specs.declared.changes.Ask.TheVariants as asking
+use Rattle.server_words.specs.declared.changes.Event.{Event}
+use Rattle.server_words.specs.declared.changes.Event.TheVariants as event
 use Rattle.server_model.specs.declared.server.Server.{Server}
 use Rattle.server_model.specs.Exchanges.{is_attached}
 use Rattle.server_model.specs.Worlds.{World, server_at, with_server}
@@ -77,6 +77,11 @@ empties asking.Detach s = is_attached s.source
 empties asking.Reattach s = false
 empties asking.Reset s = true
 empties (asking.SetReadOnly on) s = false
+
+-- whether orchestrator reaches a server: it is up, and its desk link is joined
+abbrev pub can_reach : Option Server → Bool
+can_reach None = false
+can_reach (Some s) = s.up && s.desk
 
 abbrev pub desk_answer : Option Server → Result (Unit {0}) Unreachable
 desk_answer None = Err (record {})

@@ -8,16 +8,16 @@ use Rattle.binlog_coords.specs.Log.{push, is_at_or_before, same_coord, next_afte
 use Rattle.orch_base.specs.declared.server.Txn.{Txn}
 use Rattle.orch_base.specs.declared.server.SourceState.{SourceState}
 use Rattle.orch_base.specs.declared.server.SourceState.TheVariants.{Without, Attached, Detached}
-use Rattle.server_model.specs.declared.answers.WriteAnswer.{WriteAnswer}
-use Rattle.server_model.specs.declared.answers.WriteAnswer.TheVariants as wrote
-use Rattle.server_model.specs.declared.answers.FetchAnswer.{FetchAnswer}
-use Rattle.server_model.specs.declared.answers.FetchAnswer.TheVariants as fetching
-use Rattle.server_model.specs.declared.answers.FetchStep.{FetchStep}
-use Rattle.server_model.specs.declared.answers.FetchStep.TheVariants as receiving
-use Rattle.server_model.specs.declared.answers.ApplyStep.{ApplyStep}
-use Rattle.server_model.specs.declared.answers.ApplyStep.TheVariants as applying
-use Rattle.server_model.specs.declared.answers.ApplyAnswer.{ApplyAnswer}
-use Rattle.server_model.specs.declared.answers.ApplyAnswer.TheVariants as applied_as
+use Rattle.server_words.specs.declared.answers.WriteAnswer.{WriteAnswer}
+use Rattle.server_words.specs.declared.answers.WriteAnswer.TheVariants as wrote
+use Rattle.server_words.specs.declared.answers.FetchAnswer.{FetchAnswer}
+use Rattle.server_words.specs.declared.answers.FetchAnswer.TheVariants as fetching
+use Rattle.server_model.specs.declared.decisions.FetchStep.{FetchStep}
+use Rattle.server_model.specs.declared.decisions.FetchStep.TheVariants as receiving
+use Rattle.server_model.specs.declared.decisions.ApplyStep.{ApplyStep}
+use Rattle.server_model.specs.declared.decisions.ApplyStep.TheVariants as applying
+use Rattle.server_words.specs.declared.answers.ApplyAnswer.{ApplyAnswer}
+use Rattle.server_words.specs.declared.answers.ApplyAnswer.TheVariants as applied_as
 use Rattle.server_model.specs.declared.server.Server.{Server}
 use Rattle.orch_base.specs.Histories.{count_own, holds}
 use Rattle.server_model.specs.Worlds.{World, server_at, with_server, has_source}

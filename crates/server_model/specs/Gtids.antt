@@ -1,6 +1,6 @@
 -- What servers tell by GTIDs (MySQL 8.0 Reference Manual, "GTID Format and Storage", "GTID Auto-Positioning"): the set of
 -- what a server has executed, what orchestrator sees of a server in one exchange, and a change of source by a set.
-use Rattle.std.specs.Prelude.{◌≡◌, ℕ, ◌<◌, ◌≤◌, Bool, true, false, ◌&&◌, ◌||◌, not, if◌then◌else◌, List, [], ◌∷◌, length, Option, Some, None, Result, Ok, Err, option_and_then, slice_get}
+use Rattle.std.specs.Prelude.{◌≡◌, ℕ, ◌<◌, ◌≤◌, Bool, true, false, ◌&&◌, ◌||◌, not, if◌then◌else◌, List, [], ◌∷◌, length, Option, Some, None, Result, Ok, Err, option_and_then, option_map, slice_get}
 use Rattle.std.specs.List.{filter, fold, prefix_len, All}
 use Rattle.binlog_coords.specs.declared.Coord.{Coord}
 use Rattle.binlog_coords.specs.Log.{coord_after, end_of, file_start}
@@ -13,12 +13,12 @@ use Rattle.orch_base.specs.declared.server.IoState.{IoState}
 use Rattle.orch_base.specs.declared.server.IoState.TheVariants as io
 use Rattle.orch_base.specs.declared.server.ServerNo.{ServerNo}
 use Rattle.orch_base.specs.declared.server.Txn.{Txn}
-use Rattle.server_model.specs.declared.attach.AttachFault.{AttachFault}
-use Rattle.server_model.specs.declared.attach.AttachFault.TheVariants as attaching
+use Rattle.server_words.specs.declared.attach.AttachFault.{AttachFault}
+use Rattle.server_words.specs.declared.attach.AttachFault.TheVariants as attaching
 use Rattle.server_model.specs.declared.server.Server.{Server}
-use Rattle.server_model.specs.declared.status.Status.{Status}
-use Rattle.server_model.specs.declared.status.StatusFault.{StatusFault}
-use Rattle.server_model.specs.declared.status.StatusFault.TheVariants as seeing
+use Rattle.server_words.specs.declared.status.Status.{Status}
+use Rattle.server_words.specs.declared.status.StatusFault.{StatusFault}
+use Rattle.server_words.specs.declared.status.StatusFault.TheVariants as seeing
 use Rattle.server_model.specs.Attach.{attached_to, chain_meets, spot_below}
 use Rattle.server_model.specs.Worlds.{World, server_at, sources, source_no, with_server}
 
@@ -84,9 +84,16 @@ source_at w s = option_and_then (λ m. server_at w m) (source_no s.source)
 abbrev pub seen_set : World → Server → List Interval
 seen_set w s = if w.gtid then executed_set w s else []
 
+-- what a status would show of a server, reached or not
+abbrev pub shown_of : World → Server → Status
+shown_of w s = status_of s (source_at w s) (seen_set w s)
+
+abbrev pub shown : World → ℕ → Option Status
+shown w n = option_map (shown_of w) (server_at w n)
+
 abbrev pub status_in : World → Option Server → Result Status StatusFault
 status_in w None = Err seeing.Unreachable
-status_in w (Some s) = if s.up && s.desk then Ok (status_of s (source_at w s) (seen_set w s)) else Err seeing.Unreachable
+status_in w (Some s) = if s.up && s.desk then Ok (shown_of w s) else Err seeing.Unreachable
 
 -- what orchestrator sees of a server in one exchange
 abbrev pub status : World → ℕ → Result Status StatusFault
@@ -188,6 +195,6 @@ pub record AreGtids (servers : List Server) (executed : List Reserved) (gtid : B
   pub logged : (n : ℕ) (s : Server) → slice_get servers n ≡ Some s → s.settings.logs ≡ true → length s.log.log.entries ≡ length s.history.txns
   pub kept : (n : ℕ) (s : Server) (e : Reserved) → slice_get servers n ≡ Some s → slice_get executed n ≡ Some e → IsSetOf gtid (uuids_in servers) s e
 
--- the set that is kept of a server at the opening
-abbrev pub opened_set : Bool → (ℕ → ℕ) → ℕ → List Txn → Reserved
-opened_set gtid uuid room txns = if gtid then record { intervals = set_of uuid txns; room = room } else record { intervals = []; room = 0 }
+-- the set of a history, where GTIDs are used, in room for so many transactions
+abbrev pub reserved_set : Bool → (ℕ → ℕ) → ℕ → List Txn → Reserved
+reserved_set gtid uuid room txns = if gtid then record { intervals = set_of uuid txns; room = room } else record { intervals = []; room = 0 }

@@ -1,7 +1,6 @@
 pub mod Kept
 pub mod KeptBy
 pub mod Layout
-pub mod Opening
 pub mod Worlds
 pub mod Exchanges
 pub mod Desk
@@ -11,5 +10,6 @@ pub mod Safe
 pub mod Run
 pub mod Plains
 pub mod Links
-pub mod Makings
+pub mod Standing
+pub mod Ledgers
 pub mod WorldsBy

@@ -10,8 +10,8 @@ use Rattle.orch_base.specs.declared.server.Txn.{Txn}
 use Rattle.orch_base.specs.Histories.{count_own}
 use Rattle.server_model.specs.Exchanges.{applied}
 use Rattle.server_model.specs.Worlds.{source_no}
-use Rattle.server_model.specs.declared.answers.ApplyStep.{ApplyStep}
-use Rattle.server_model.specs.declared.answers.ApplyStep.TheVariants as applying
+use Rattle.server_model.specs.declared.decisions.ApplyStep.{ApplyStep}
+use Rattle.server_model.specs.declared.decisions.ApplyStep.TheVariants as applying
 use Rattle.server_model.specs.declared.server.Server.{Server}
 use Rattle.server_model.specs.declared.ledger.Ledger.{Ledger}
 

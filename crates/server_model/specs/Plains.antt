@@ -1,7 +1,7 @@
 -- What is told of a server for the tables.
 use Rattle.std.specs.Prelude.{Option, Some, None, if◌then◌else◌}
 use Rattle.binlog_coords.specs.Index.{Index}
-use Rattle.server_model.specs.declared.plain.Plain.{Plain}
+use Rattle.server_words.specs.declared.plain.Plain.{Plain}
 use Rattle.server_model.specs.declared.server.Server.{Server}
 
 abbrev pub plain_of : Server → Plain

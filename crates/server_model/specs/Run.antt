@@ -1,13 +1,13 @@
 -- Runs: lists of exchanges, one after another.
-use Rattle.std.specs.Prelude.{◌≡◌, ℕ, ◌<◌, true, List, [], ◌∷◌, length, take, Some}
+use Rattle.std.specs.Prelude.{◌≡◌, ℕ, ◌<◌, Bool, true, false, List, [], ◌∷◌, length, take, Some}
 use Rattle.binlog_coords.specs.declared.Coord.{Coord}
 use Rattle.binlog_coords.specs.Log.{place}
 use Rattle.gtid_sets.specs.declared.interval.Interval.{Interval}
 use Rattle.gtid_sets.specs.Sets.{holds}
 use Rattle.orch_base.specs.declared.server.ServerNo.{ServerNo}
-use Rattle.server_model.specs.declared.attach.Spot.{Spot}
-use Rattle.server_model.specs.declared.changes.Ask.{Ask}
-use Rattle.server_model.specs.declared.changes.Event.{Event}
+use Rattle.server_words.specs.declared.attach.Spot.{Spot}
+use Rattle.server_words.specs.declared.changes.Ask.{Ask}
+use Rattle.server_words.specs.declared.changes.Event.{Event}
 use Rattle.server_model.specs.declared.server.Server.{Server}
 use Rattle.server_model.specs.Attach.{attach_at, same_spot, live_spot, IsTarget}
 use Rattle.server_model.specs.Desk.{ask, befall, rotate}
@@ -26,6 +26,28 @@ pub data Exchange : Type 0 where
   Rotate : (n : ℕ) → Exchange
   Attach : (n : ℕ) (expect : Spot) (to : ServerNo) (at : Coord) → Exchange
   AttachAuto : (n : ℕ) (observed : List Interval) (to : ServerNo) → Exchange
+
+-- a client's write
+abbrev pub is_write : Exchange → Bool
+is_write (Write n size) = true
+is_write (Fetch n) = false
+is_write (Apply n) = false
+is_write (Request n a) = false
+is_write (Befall n e) = false
+is_write (Rotate n) = false
+is_write (Attach n expect to at) = false
+is_write (AttachAuto n observed to) = false
+
+-- a new file is asked for
+abbrev pub is_rotate : Exchange → Bool
+is_rotate (Rotate n) = true
+is_rotate (Write n size) = false
+is_rotate (Fetch n) = false
+is_rotate (Apply n) = false
+is_rotate (Request n a) = false
+is_rotate (Befall n e) = false
+is_rotate (Attach n expect to at) = false
+is_rotate (AttachAuto n observed to) = false
 
 abbrev pub after : World → Exchange → World
 after w (Write n size) = (write w n size).1

@@ -2,7 +2,7 @@
 
 ghost use Rattle.std.specs.Prelude.{◌≡◌, ◌<◌, ◌≤◌, All, IfOk, length, map, true, if◌then◌else◌};
 ghost use Rattle.gtid_sets.specs.Adding.{with_pair};
-ghost use Rattle.server_model.specs.Gtids.{auto_readiness, errant_answer, held_len, opened_set, uuids_in, IsNumbered};
+ghost use Rattle.server_model.specs.Gtids.{auto_readiness, errant_answer, held_len, reserved_set, uuids_in, IsNumbered};
 
 use crate::attach::spot_below;
 use crate::{AttachFault, Server};
@@ -81,7 +81,7 @@ fn executed_set(
 ) -> Result<ReservedSet, Memory>
     requires numbered { All (IsNumbered (length servers.now)) txns.now }
     requires fits { length txns.now ≤ room }
-    ensures { IfOk result (λ set. set ≡ opened_set gtid (uuids_in servers.now) room txns.now) }
+    ensures { IfOk result (λ set. set ≡ reserved_set gtid (uuids_in servers.now) room txns.now) }
 {
     if !gtid {
         return ReservedSet::with_room(alloc, 0);
@@ -93,20 +93,20 @@ fn executed_set(
     Ok(executed)
 }
 
-/// The set of what each server has executed, where GTIDs are used, in room for so many transactions.
+/// The set of what each server has executed, where GTIDs are used, in the room that its history has.
 pub(crate) fn executed_sets(
     alloc: Global,
     servers: &[Server],
     gtid: bool,
-    room: u64,
 ) -> Result<Vec<ReservedSet>, Memory>
     requires numbered { All (λ s. All (IsNumbered (length servers.now)) s.history.txns) servers.now }
-    requires fits { All (λ s. length s.history.txns ≤ room) servers.now }
-    ensures { IfOk result (λ v. v.items ≡ map (λ s. opened_set gtid (uuids_in servers.now) room s.history.txns) servers.now) }
+    requires fits { All (λ s. length s.history.txns ≤ s.history.room) servers.now }
+    ensures { IfOk result (λ v. v.items ≡ map (λ s. reserved_set gtid (uuids_in servers.now) s.history.room s.history.txns) servers.now) }
 {
     let mut sets = Vec::new(alloc);
     for s in servers {
-        sets.push(executed_set(alloc, servers, gtid, room, s.history.as_slice())?)?;
+        let (room, txns) = (s.history.room(), s.history.as_slice());
+        sets.push(executed_set(alloc, servers, gtid, room, txns)?)?;
     }
     Ok(sets)
 }

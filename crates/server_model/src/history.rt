@@ -53,7 +53,7 @@ impl History {
     }
 
     /// Adds a transaction at the end.
-    pub fn push(&mut self, t: Txn)
+    pub(crate) fn push(&mut self, t: Txn)
         requires { length self.old.txns < self.old.room }
         ensures { self.new ≡ record self.old { txns = self.old.txns ++ t ∷ [] } }
     {
@@ -61,7 +61,7 @@ impl History {
     }
 
     /// The transaction of this index, from 0.
-    pub fn get(&self, k: u64) -> Option<Txn>
+    pub(crate) fn get(&self, k: u64) -> Option<Txn>
         ensures { result ≡ slice_get self.now.txns k }
     {
         self.txns.get(k as usize).copied()

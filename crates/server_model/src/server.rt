@@ -42,7 +42,7 @@ impl Server {
     ghost use Rattle.server_model.specs.Desk.{stopped, started, detached, reattached, without_source, asked, with_link, healed, befallen, rotated};
 
     /// The history takes the transaction, and so does the log of a server that logs.
-    pub fn take(&mut self, t: Txn)
+    pub(crate) fn take(&mut self, t: Txn)
         requires room { length self.old.history.txns < self.old.history.room }
         requires log_room { length self.old.log.log.entries < self.old.log.room }
         requires some { 0 < t.size }
@@ -120,7 +120,7 @@ impl Server {
     }
 
     /// Does what orchestrator asks.
-    pub fn ask(&mut self, ask: Ask)
+    pub(crate) fn ask(&mut self, ask: Ask)
         ensures { self.new ≡ asked ask self.old }
     {
         match ask {
@@ -137,7 +137,7 @@ impl Server {
     }
 
     /// Attaches the server to `to` at `at`, with its threads off.
-    pub fn attach(&mut self, to: ServerNo, at: Coord)
+    pub(crate) fn attach(&mut self, to: ServerNo, at: Coord)
         ensures { self.new ≡ attached_to to at self.old }
     {
         self.source = SourceState::Attached(to);
@@ -150,7 +150,7 @@ impl Server {
     }
 
     /// Attaches the server to `to` at `at`, with its threads off, to find its place by GTIDs from then on.
-    pub fn attach_auto(&mut self, to: ServerNo, at: Coord)
+    pub(crate) fn attach_auto(&mut self, to: ServerNo, at: Coord)
         ensures { self.new ≡ attached_auto to at self.old }
     {
         self.attach(to, at);
@@ -184,7 +184,7 @@ impl Server {
     }
 
     /// Takes what befalls the server.
-    pub fn befall(&mut self, event: Event)
+    pub(crate) fn befall(&mut self, event: Event)
         ensures { self.new ≡ befallen event self.old }
     {
         match event {
@@ -198,7 +198,7 @@ impl Server {
     }
 
     /// The next file of its log begins.
-    pub fn rotate(&mut self)
+    pub(crate) fn rotate(&mut self)
         requires { 0 < self.old.log.flushes }
         ensures { self.new ≡ rotated self.old }
     {

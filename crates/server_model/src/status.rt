@@ -3,51 +3,11 @@
 ghost use Rattle.std.specs.Prelude.{◌≡◌};
 ghost use Rattle.std.specs.Option.{option_copied};
 ghost use Rattle.server_model.specs.Gtids.{io_of, status_of};
-ghost use Rattle.server_model.specs.declared.status.StatusFault.TheVariants.{Memory as NoMemory};
 
 use crate::Server;
-use binlog_coords::Coord;
 use gtid_sets::GtidSet;
-use orch_base::{IoState, Memory, SourceState};
-
-/// A server as one exchange shows it (MySQL 8.0 Reference Manual, "SHOW REPLICA STATUS Statement", "SHOW BINARY LOG
-/// STATUS Statement").
-#[derive(Drop)]
-pub struct Status {
-    /// The end of its own binary log; None exactly for a server that doesn't log.
-    pub own_end: Option<Coord>,
-    pub source: SourceState,
-    /// How far its applier has executed its source's log; the log's beginning for a server without a source.
-    pub exec: Coord,
-    /// How far its receiver has read its source's log; the log's beginning for a server without a source.
-    pub read: Coord,
-    /// Whether it finds its place by GTIDs (SOURCE_AUTO_POSITION).
-    pub auto: bool,
-    /// Its receiver.
-    pub io: IoState,
-    /// Whether its applier is on.
-    pub sql: bool,
-    pub read_only: bool,
-    /// The GTIDs of what it has executed (`gtid_executed`); empty where the servers don't use GTIDs.
-    pub set: GtidSet,
-}
-
-/// Why nothing was seen of a server.
-#[derive(Clone, Copy, Debug, PartialEq, Eq)]
-pub enum StatusFault {
-    /// The server is down, or its link to the desk is cut.
-    Unreachable,
-    /// Want of memory.
-    Memory,
-}
-
-impl From<Memory> for StatusFault {
-    ghost from_gives = { λ _ e. e ≡ NoMemory };
-
-    fn from(_e: Memory) -> StatusFault {
-        StatusFault::Memory
-    }
-}
+use orch_base::IoState;
+use server_words::Status;
 
 fn io_of(r: &Server, source: Option<&Server>) -> IoState
     ensures { result ≡ io_of r.now (option_copied source.entry) }

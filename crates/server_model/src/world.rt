@@ -3,25 +3,25 @@
 ghost use Rattle.std.specs.Prelude.{◌≡◌, ◌+◌, ◌<◌, ◌≤◌, length, Some, IfOk, IsSomeAnd, option_and_then, option_map, slice_get};
 ghost use Rattle.std.specs.Option.{option_copied};
 ghost use Rattle.orch_base.specs.Gives.{Gives};
-ghost use Rattle.server_model.specs.Worlds.{server_at, source_no};
-ghost use Rattle.server_model.specs.Gtids.{attach_auto_answer, after_attach_auto, attach_fault, auto_coord, status as status_of_server, status_fault, uuids, IsAutoTarget};
+ghost use Rattle.server_model.specs.Worlds.{server_at};
+ghost use Rattle.server_model.specs.Gtids.{attach_auto_answer, after_attach_auto, attach_fault, auto_coord, shown, status as status_of_server, status_fault, uuids, IsAutoTarget};
 ghost use Rattle.server_model.specs.Exchanges.{write_answer, after_write, fetch_step, fetch_answer, after_fetch, attached_at, apply_step, apply_answer, after_apply, IsReady};
 ghost use Rattle.server_model.specs.Attach.{attach_answer, after_attach, IsTarget};
-ghost use Rattle.server_model.specs.Desk.{ask as ask_of, befall, desk_answer, rotate_answer, after_rotate};
-ghost use Rattle.server_model.specs.Opening.{opened_world, Fits};
+ghost use Rattle.server_model.specs.Desk.{ask as ask_of, befall, can_reach, desk_answer, rotate_answer, after_rotate};
 ghost use Rattle.server_model.specs.Plains.{plain_of, log_of};
+ghost use Rattle.server_model.specs.Standing.{world_with, CanStand};
 
 use crate::attach::{attach_decision, chain_meets};
 use crate::gtids::{auto_readiness, errant_answer, executed_sets, held_len, keep_gtid, uuid_of};
-use crate::making::servers_of;
+use crate::ledgers::{above, ledgers_of, most_room};
 use crate::status::status_of;
 use crate::steps::{
     apply_answer, empties, errant_writes, fetch_answer, is_applying, is_reachable, is_reached,
     is_receiving, own_of, receiver_step, relay_step,
 };
 use crate::{
-    ApplyAnswer, ApplyStep, Ask, AttachFault, Event, FetchAnswer, FetchStep, Ledger, Link, Opening,
-    Plain, RotateAnswer, Server, Spot, Status, StatusFault, Threads, Unreachable, WriteAnswer,
+    ApplyAnswer, ApplyStep, Ask, AttachFault, Event, FetchAnswer, FetchStep, Ledger, Link, Plain,
+    RotateAnswer, Server, Spot, Status, StatusFault, Threads, Unreachable, WriteAnswer,
 };
 use binlog_coords::{Coord, LogIndex, Next};
 use gtid_sets::{GtidSet, ReservedSet};
@@ -53,18 +53,15 @@ impl Model for World {
 }
 
 impl World {
-    /// The world that an opening opens, with room for so many transactions and calls of `rotate` at each server.
-    pub fn make(alloc: Global, from: &Opening, room: u64, flushes: u64) -> Result<World, Memory>
-        requires fits { Fits from.now room flushes }
-        requires room { room ≤ 4000000 }
-        requires flushes { flushes ≤ 4000000 }
-        ensures world { IfOk result (λ w. w ≡ opened_world from.now room flushes) }
-        ensures servers { IfOk result (λ w. length w.servers ≡ length from.now.servers) }
+    /// The world of these servers, before any exchange: at most 1,000, by their numbers from 0. Each has room for the
+    /// transactions and calls of `rotate` that its history and its log have room for.
+    pub fn of(alloc: Global, servers: Vec<Server>, gtid: bool) -> Result<World, Memory>
+        requires { CanStand servers.items }
+        ensures { IfOk result (λ w. w ≡ world_with servers.items gtid) }
     {
-        let _checked = from.servers();
-        let (servers, ledgers) = servers_of(alloc, from, room, flushes)?;
-        let gtid = from.gtid();
-        let executed = executed_sets(alloc, &servers, gtid, room)?;
+        let room = most_room(&servers);
+        let ledgers = ledgers_of(alloc, &servers, room)?;
+        let executed = executed_sets(alloc, &servers, gtid)?;
         Ok(World {
             servers,
             ledgers,
@@ -74,7 +71,7 @@ impl World {
         })
     }
 
-    /// How many servers there are: 1 to 1,000.
+    /// How many servers there are: at most 1,000.
     pub fn servers(&self) -> u32
         ensures { result ≡ length self.now.servers }
     {
@@ -399,7 +396,9 @@ impl World {
         self.ask(no, Ask::SetReadOnly(on))
     }
 
-    fn ask(&mut self, no: ServerNo, ask: Ask) -> Result<(), Unreachable>
+    /// Does what orchestrator asks of a server. Unreachable exactly where the server is down or its desk link cut; then
+    /// nothing changes.
+    pub fn ask(&mut self, no: ServerNo, ask: Ask) -> Result<(), Unreachable>
         requires { no.0 < length self.old.servers }
         ensures answer { result ≡ desk_answer (server_at self.old no.0) }
         ensures world { self.new ≡ (ask_of self.old no.0 ask).1 }
@@ -520,14 +519,23 @@ impl World {
         attach_decision(&self.servers[no.0 as usize], expect, loops)
     }
 
-    // The server above another, attached or detached.
-    fn above(&self, source: SourceState) -> Option<&Server>
-        ensures { option_copied result ≡ option_and_then (λ m. server_at self.now m) (source_no source) }
+    /// Whether orchestrator reaches a server: it is up, and its desk link is joined.
+    pub fn is_reached(&self, no: ServerNo) -> bool
+        requires { no.0 < length self.now.servers }
+        ensures { result ≡ can_reach (server_at self.now no.0) }
     {
-        match source {
-            SourceState::Attached(m) | SourceState::Detached(m) => self.servers.get(m.0 as usize),
-            SourceState::Without => None,
-        }
+        is_reachable(&self.servers[no.0 as usize])
+    }
+
+    /// What a status would show of a server, reached or not. It takes time in the size of the server's executed set.
+    pub fn shows(&self, alloc: Global, no: ServerNo) -> Result<Status, Memory>
+        requires { no.0 < length self.now.servers }
+        ensures { IfOk result (λ s. shown self.now no.0 ≡ Some s) }
+    {
+        let n = no.0 as usize;
+        let s = &self.servers[n];
+        let set = self.executed[n].copy(alloc)?;
+        Ok(status_of(s, above(&self.servers, s.source), set))
     }
 
     /// What orchestrator sees of a server in one exchange: Unreachable exactly where the server is down or its desk link
@@ -536,13 +544,10 @@ impl World {
         requires { no.0 < length self.now.servers }
         ensures { Gives (λ s. s) status_fault result (status_of_server self.now no.0) }
     {
-        let n = no.0 as usize;
-        let s = &self.servers[n];
-        if !is_reachable(s) {
+        if !self.is_reached(no) {
             return Err(StatusFault::Unreachable);
         }
-        let set = self.executed[n].copy(alloc)?;
-        Ok(status_of(s, self.above(s.source), set))
+        Ok(self.shows(alloc, no)?)
     }
 
     /// Attaches a server to `to`, a server that logs, by the GTIDs that were observed of it, where GTIDs are used: Errant

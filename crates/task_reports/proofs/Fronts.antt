@@ -7,12 +7,12 @@ use Rattle.std.specs.Io.KnownBytes.{Appends}
 use Rattle.orch_base.specs.Ends.{AppendsFront}
 use Rattle.orch_base.specs.Names.{HostPort}
 use Rattle.instance_keeper.specs.declared.row.Row.{Row}
-use Rattle.orch_core.specs.declared.scenario.Scenario.{Scenario}
-use Rattle.orch_core.specs.declared.turn.Turn.{Turn}
-use Rattle.orch_core.specs.declared.turn.Reply.{Reply}
+use Rattle.scenarios.specs.declared.scenario.Scenario.{Scenario}
+use Rattle.turns.specs.declared.turn.Turn.{Turn}
+use Rattle.turns.specs.declared.turn.Reply.{Reply}
 use Rattle.orch_core.specs.Replies.{reply_of}
-use Rattle.orch_core.specs.Runs.{Held, held_run, held_step}
-use Rattle.orch_core.specs.Scenarios.{names_of}
+use Rattle.orch_core.specs.Runs.{Held, Recorded, held_run, held_step, recorder}
+use Rattle.scenarios.specs.Scenarios.{names_of}
 use Rattle.report_text.specs.Lines.{line_text, lines_text}
 use Rattle.report_text.specs.Tables.{tables_text}
 use Rattle.orch_core.specs.States.{State}
@@ -28,11 +28,11 @@ pub record Grows (before after : List (Turn × Reply)) : Type 0 where
   pub more : List (Turn × Reply)
   pub is : after ≡ before ++ more
 
-journal_grows : (h : Held) (ts : List Turn) → Grows h.state.journal (held_run h ts).state.journal
+journal_grows : (h : Held Recorded) (ts : List Turn) → Grows h.state.journal (held_run recorder h ts).state.journal
 journal_grows h [] = record { more = []; is = sym (append-nil h.state.journal) }
 journal_grows h (t ∷ ts) =
-    let entry : Turn × Reply = (t, reply_of h.state t) in
-    let rest = journal_grows (held_step h t) ts in
+    let entry : Turn × Reply = (t, reply_of h.state.state t) in
+    let rest = journal_grows (held_step recorder h t) ts in
     record { more = entry ∷ rest.more; is = rest.is ∙ append_assoc h.state.journal (entry ∷ []) rest.more }
 
 lines-append : (names : List HostPort) (number : ℕ) (xs ys : List (Turn × Reply)) → lines_text names number (xs ++ ys) ≡ lines_text names number xs ++ lines_text names (number + length xs) ys
@@ -47,11 +47,11 @@ lines-append names number (x ∷ xs) ys =
     ∙ sym (append_assoc first (lines_text names (number + 1) xs) (lines_text names (number + length (x ∷ xs)) ys))
 
 -- all turns, and the first ones and the rest
-last-rest : (c : Task) (s : Scenario) (rows : List Row) (k : ℕ) → last_held c s rows ≡ held_run (held_after c s rows k) (drop k (turns_taken c.own s.turns))
+last-rest : (c : Task) (s : Scenario) (rows : List Row) (k : ℕ) → last_held c s rows ≡ held_run recorder (held_after c s rows k) (drop k (turns_taken c.own s.turns))
 unfolding last_held held_after
 last-rest c s rows k =
     let ts = turns_taken c.own s.turns in
-    ap (held_run (opened c.waits s rows)) (sym (take-append-drop k ts)) ∙ fold-append held_step (opened c.waits s rows) (take k ts) (drop k ts)
+    ap (held_run recorder (opened c.waits s rows)) (sym (take-append-drop k ts)) ∙ fold-append (held_step recorder) (opened c.waits s rows) (take k ts) (drop k ts)
 
 -- one text begins with another
 pub record Begins (front whole : List ℕ) : Type 0 where
@@ -66,26 +66,26 @@ replies_begin c s rows k =
     let left = drop k (turns_taken c.own s.turns) in
     let grown = journal_grows h left in
     let last = last_held c s rows in
-    let journal : last.state.journal ≡ h.state.journal ++ grown.more = ap (λ (g : Held). g.state.journal) (last-rest c s rows k) ∙ grown.is in
+    let journal : last.state.journal ≡ h.state.journal ++ grown.more = ap (λ (g : Held Recorded). g.state.journal) (last-rest c s rows k) ∙ grown.is in
     let more = lines_text names (1 + length h.state.journal) grown.more in
     let text : replies_text names last.state ≡ replies_text names h.state ++ more = ap (lines_text names 1) journal ∙ lines-append names 1 h.state.journal grown.more in
     record {
-      rest = more ++ tables_text last.state.world;
-      is = ap (λ (bytes : List ℕ). bytes ++ tables_text last.state.world) text ∙ append_assoc (replies_text names h.state) more (tables_text last.state.world);
+      rest = more ++ tables_text last.state.state.world;
+      is = ap (λ (bytes : List ℕ). bytes ++ tables_text last.state.state.world) text ∙ append_assoc (replies_text names h.state) more (tables_text last.state.state.world);
     }
 
 -- what is left of a run is a front of its report, and nothing is one of any
-left_begins : (o : Own) (shown : Bool) (names : List HostPort) (then mid last : State) → Begins (replies_text names then) (report_text names last) → Begins (cut_text o names then) (reply_answer shown names last (own_reply o mid)).out
-left_begins own.Run shown names then mid last begins = begins
-left_begins own.Unknown shown names then mid last begins = record { rest = (reply_answer shown names last (own_reply own.Unknown mid)).out; is = refl }
-left_begins (own.Takes t) shown names then mid last begins = record { rest = (reply_answer shown names last (own_reply (own.Takes t) mid)).out; is = refl }
+left_begins : (o : Own) (shown : Bool) (names : List HostPort) (then last : Recorded) (mid : State) → Begins (replies_text names then) (report_text names last) → Begins (cut_text o names then) (reply_answer shown names last (own_reply o mid)).out
+left_begins own.Run shown names then last mid begins = begins
+left_begins own.Unknown shown names then last mid begins = record { rest = (reply_answer shown names last (own_reply own.Unknown mid)).out; is = refl }
+left_begins (own.Takes t) shown names then last mid begins = record { rest = (reply_answer shown names last (own_reply (own.Takes t) mid)).out; is = refl }
 
 -- so what a keeper's fault leaves is a front of the report
 pub cut_begins : (c : Task) (s : Scenario) (rows : List Row) (now : Option (List Row)) (text : List ℕ) → WasCut c s rows now text → Begins text (task_answer c s rows).out
 unfolding task_answer
 cut_begins c s rows now text (inl none) = record { rest = (task_answer c s rows).out; is = ap (λ (bytes : List ℕ). bytes ++ (task_answer c s rows).out) (sym none.0) }
 cut_begins c s rows now text (inr cut) =
-    let begins = left_begins c.own (shows_tables c) (names_of s) (held_after c s rows cut.0).state (scenario_held c.waits s rows).state (last_held c s rows).state (replies_begin c s rows cut.0) in
+    let begins = left_begins c.own (shows_tables c) (names_of s) (held_after c s rows cut.0).state (last_held c s rows).state (scenario_held c.waits s rows).state.state (replies_begin c s rows cut.0) in
     record { rest = begins.rest; is = begins.is ∙ ap (λ (bytes : List ℕ). bytes ++ begins.rest) (sym cut.2) }
 
 -- a front of a front is one of the whole

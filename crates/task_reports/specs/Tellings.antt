@@ -9,10 +9,10 @@ use Rattle.command_tasks.specs.declared.own.Task.{Task}
 use Rattle.command_tasks.specs.Own.{shows_tables, turns_taken}
 use Rattle.orch_core.specs.declared.fault.TurnFault.{TurnFault}
 use Rattle.orch_core.specs.declared.fault.TurnFault.TheVariants as fault
-use Rattle.orch_core.specs.declared.scenario.Scenario.{Scenario}
-use Rattle.orch_core.specs.declared.turn.Reply.{Reply}
-use Rattle.orch_core.specs.Scenarios.{names_of}
-use Rattle.orch_core.specs.States.{State}
+use Rattle.scenarios.specs.declared.scenario.Scenario.{Scenario}
+use Rattle.turns.specs.declared.turn.Reply.{Reply}
+use Rattle.scenarios.specs.Scenarios.{names_of}
+use Rattle.orch_core.specs.Runs.{Recorded}
 use Rattle.task_reports.specs.declared.report.Report.{Report}
 use Rattle.task_reports.specs.declared.report.Halt.{Halt}
 use Rattle.task_reports.specs.declared.report.Halt.TheVariants as halts
@@ -31,10 +31,10 @@ abbrev pub text_of : Answer → Text
 text_of a = record { out = a.out; err = a.err; is_refused = a.status == 7 }
 
 -- a run leaves its replies before a keeper's fault, any other command nothing
-abbrev pub cut_text : Own → List HostPort → State → List ℕ
-cut_text own.Run names state = replies_text names state
-cut_text own.Unknown names state = []
-cut_text (own.Takes t) names state = []
+abbrev pub cut_text : Own → List HostPort → Recorded → List ℕ
+cut_text own.Run names run = replies_text names run
+cut_text own.Unknown names run = []
+cut_text (own.Takes t) names run = []
 
 -- After a keeper's fault: there is no run yet and the kept rows are as before, or the run stands before one of its turns;
 -- the text has exactly the replies before that turn, or nothing, and the kept rows are those of that state.
@@ -47,18 +47,18 @@ abbrev pub KeepsSome : Task → Scenario → List Row → Option (List Row) → 
 KeepsSome c s rows now = (now ≡ Some rows) ⊎ ((k : ℕ) × (k ≤ length (turns_taken c.own s.turns)) × (now ≡ Some (held_after c s rows k).rows))
 
 -- what is told of a scenario's opening, and the kept rows behind it
-abbrev pub OpeningTells : ℕ → Scenario → List Row → Option (List Row) → Result State Halt → Type 0
-OpeningTells waits s rows now (Ok state) = (state ≡ (opened waits s rows).state) × (now ≡ Some (opened waits s rows).rows)
+abbrev pub OpeningTells : ℕ → Scenario → List Row → Option (List Row) → Result Recorded Halt → Type 0
+OpeningTells waits s rows now (Ok run) = (run ≡ (opened waits s rows).state) × (now ≡ Some (opened waits s rows).rows)
 OpeningTells waits s rows now (Err (halts.Keeper text)) = (text.items ≡ []) × (now ≡ Some rows)
 OpeningTells waits s rows now (Err halts.Memory) = now ≡ Some rows
 
 -- what is told of turns that have come to this state, with the command's own reply: the report where all were taken, and
 -- what is left where the keeper stopped them
-abbrev pub IsReported : Task → List HostPort → State → Result (Option Reply) TurnFault → Result Report Halt → Type 0
-IsReported c names state (Ok reply) (Ok r) = view r ≡ text_of (reply_answer (shows_tables c) names state reply)
-IsReported c names state (Err fault.Keeper) (Err (halts.Keeper text)) = text.items ≡ cut_text c.own names state
-IsReported c names state taken (Err halts.Memory) = ⊤
-IsReported c names state taken result = ⊥
+abbrev pub IsReported : Task → List HostPort → Recorded → Result (Option Reply) TurnFault → Result Report Halt → Type 0
+IsReported c names run (Ok reply) (Ok r) = view r ≡ text_of (reply_answer (shows_tables c) names run reply)
+IsReported c names run (Err fault.Keeper) (Err (halts.Keeper text)) = text.items ≡ cut_text c.own names run
+IsReported c names run taken (Err halts.Memory) = ⊤
+IsReported c names run taken result = ⊥
 
 -- what is told of a scenario's run, and the kept rows behind it
 abbrev pub RunTells : Task → Scenario → List Row → Option (List Row) → Result Report Halt → Type 0

@@ -1,7 +1,7 @@
 //! The report of a task over a scenario.
 
 ghost use Rattle.std.specs.Prelude.{◌≡◌, ◌++◌, [], IfOk, OnOk, IfSome, Err, length, if◌then◌else◌};
-ghost use Rattle.orch_core.specs.Scenarios.{IsScenario, names_of};
+ghost use Rattle.scenarios.specs.Scenarios.{IsScenario, names_of};
 ghost use Rattle.report_text.specs.Tables.{tables_text};
 ghost use Rattle.command_tasks.specs.Own.{IsOwn, shows_tables};
 ghost use Rattle.task_reports.specs.Report.{any_refused, is_refused, replies_text, reply_answer, report_text, run_answer, told_answer};
@@ -56,7 +56,25 @@ pub fn names_of(alloc: Global, scenario: &Scenario) -> Result<Vec<Name>, Memory>
 fn is_refused(reply: &Reply) -> bool
     ensures { result ≡ is_refused reply.now }
 {
-    matches!(reply, Reply::Refused(_))
+    match reply {
+        Reply::Refused(_) | Reply::Failed(_) => true,
+        Reply::Write(_)
+        | Reply::Fetch(_)
+        | Reply::Apply(_)
+        | Reply::Done
+        | Reply::Rotate(_)
+        | Reply::Now(_)
+        | Reply::Read(_)
+        | Reply::ReadUnreachable(_)
+        | Reply::Unknown
+        | Reply::Stored
+        | Reply::Old(_)
+        | Reply::Nothing
+        | Reply::Told(_)
+        | Reply::Begun(_)
+        | Reply::Going
+        | Reply::NoJob => false,
+    }
 }
 
 #[tactic(auto, unfolding(crate::specs::Report::any_refused))]
@@ -101,7 +119,7 @@ fn run_report(alloc: Global, names: &[Name], orch: &Orch) -> Result<Report, Memo
 
 // The tables, where they are asked for.
 fn some_tables(alloc: Global, asked: bool, orch: &Orch) -> Result<Vec<u8>, Memory>
-    ensures { IfOk result (λ v. v.items ≡ (if asked then tables_text orch.now.world else [])) }
+    ensures { IfOk result (λ v. v.items ≡ (if asked then tables_text orch.now.state.world else [])) }
 {
     let mut text = Vec::new(alloc);
     if asked {
@@ -118,7 +136,7 @@ fn told_report(
     orch: &Orch,
     reply: &Reply,
 ) -> Result<Report, Memory>
-    ensures { IfOk result (λ r. view r ≡ text_of (told_answer asked names.now orch.now.world reply.now)) }
+    ensures { IfOk result (λ r. view r ≡ text_of (told_answer asked names.now orch.now.state.world reply.now)) }
 {
     let mut told = Vec::new(alloc);
     plain_text(reply, names, &mut told)?;
@@ -160,7 +178,7 @@ fn open<K: Keeper>(
     requires { IsScenario scenario.now }
     ensures told { IfSome (K.kept keeper.old) (λ rows. OpeningTells waits scenario.now rows (K.kept keeper.new) result) }
     ensures cause { HasKeepersCause (K.faults keeper.old) (K.faults keeper.new) result }
-    ensures servers { IfOk result (λ o. length o.world.servers ≡ length scenario.now.opening.servers) }
+    ensures servers { IfOk result (λ o. length o.state.world.servers ≡ length scenario.now.opening.servers) }
 {
     match Orch::make(alloc, scenario, keeper, waits) {
         Ok(orch) => Ok(orch),

@@ -5,8 +5,6 @@ mod forest;
 mod laws;
 mod links;
 mod loops;
-#[cfg(test)]
-mod tests;
 
 pub use forest::Forest;
 pub use laws::{forests_are_computed, sources_have_one_forest, walks_list_their_tree};

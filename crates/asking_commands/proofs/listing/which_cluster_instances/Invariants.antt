@@ -5,4 +5,4 @@ use Rattle.asking_commands.specs.Asking.{is_of_cluster}
 use Rattle.asking_commands.proofs.listing.which_cluster_instances.Given as goal
 
 abbrev pub invariant-loop-no : goal.invariant-loop-no
-invariant-loop-no l = l.lines.items ≡ map line.Server (filter (is_of_cluster l.book l.world l.label) (take l.no-index l.no-items))
+invariant-loop-no l = l.lines.items ≡ map line.Server (filter (is_of_cluster l.book l.label) (take l.no-index l.order))

@@ -3,5 +3,5 @@ use Rattle.std.specs.Prelude.{filter_map}
 use Rattle.asking_commands.specs.Trees.{node_line}
 use Rattle.asking_commands.proofs.trees.push_nodes.Given as goal
 
-abbrev pub invariant-loop-place : goal.invariant-loop-place
-invariant-loop-place l = l.lines.items ≡ l.initial.lines.items ++ filter_map (node_line l.book l.world) (take l.place-index l.nodes)
+abbrev pub invariant-loop-node : goal.invariant-loop-node
+invariant-loop-node l = l.lines.items ≡ l.initial.lines.items ++ filter_map (node_line l.book) (take l.node-index l.nodes)

@@ -1,14 +1,9 @@
 use Rattle.std.proofs.Common.{◌++◌, ◌∙◌, ap, sym, length, take, false, List, Option, arith}
-use Rattle.std.specs.Prelude.{All}
 use Rattle.std.specs.Option.{option_to_list}
 use Rattle.instance_keeper.specs.declared.row.Change.{Change}
-use Rattle.server_model.specs.Gtids.{IsNumbered}
 use Rattle.opening_book.specs.Opening.{missing_from}
-use Rattle.opening_book.proofs.Missing.{each-some, missing-more}
+use Rattle.opening_book.proofs.Missing.{missing-more}
 use Rattle.opening_book.proofs.opening.opening_changes.Goals as goal
-
-pub missing-requires-clause-numbered : goal.missing-requires-clause-numbered
-missing-requires-clause-numbered c = each-some (λ s. All (IsNumbered (length c.args.world.now.servers)) s.history.txns) c.args.world.now.servers c.loop-no.no c.requires.numbered
 
 pub loop-no-preserved : goal.loop-no-preserved
 loop-no-preserved c =

@@ -1,7 +1,6 @@
 use Rattle.std.proofs.Common.{◌∙◌, ap, arith, length}
 use Rattle.std.proofs.lemmas.Result.{IfOk-weaker}
-use Rattle.openings.proofs.KinTables.{listed-all}
-use Rattle.openings.proofs.Sizes.{length-listed}
+use Rattle.openings.proofs.Sizes.{length-listed, listed-all}
 use Rattle.openings.proofs.histories.listed_history.Goals as goal
 
 pub history_of-requires-clause-fits : goal.history_of-requires-clause-fits

@@ -1,6 +1,6 @@
 use Rattle.std.proofs.Common.{◌≡◌, ◌≤◌, take}
 use Rattle.std.specs.Prelude.{count_by}
-use Rattle.scenario_reader.specs.Scenarios.{is_write}
+use Rattle.scenarios.specs.Turns.{is_write}
 use Rattle.scenario_reader.proofs.walk.writes.Given as goal
 
 abbrev pub invariant-loop-turn : goal.invariant-loop-turn

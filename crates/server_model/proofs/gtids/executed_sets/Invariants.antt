@@ -1,7 +1,7 @@
 use Rattle.std.proofs.Common.{◌≡◌, take}
 use Rattle.std.specs.Prelude.{map}
-use Rattle.server_model.specs.Gtids.{opened_set, uuids_in}
+use Rattle.server_model.specs.Gtids.{reserved_set, uuids_in}
 use Rattle.server_model.proofs.gtids.executed_sets.Given as goal
 
 abbrev pub invariant-loop-s : goal.invariant-loop-s
-invariant-loop-s l = l.sets.items ≡ map (λ s. opened_set l.gtid (uuids_in l.servers) l.room s.history.txns) (take l.s-index l.servers)
+invariant-loop-s l = l.sets.items ≡ map (λ s. reserved_set l.gtid (uuids_in l.servers) s.history.room s.history.txns) (take l.s-index l.servers)

@@ -1,15 +1,15 @@
 use Rattle.std.proofs.Common.{◌≡◌, ◌∙◌, true, subst, arith}
-use Rattle.orch_core.specs.declared.turn.Turn.{Turn}
-use Rattle.orch_core.specs.Keeping.{StepsTo, kept_if}
-use Rattle.orch_core.specs.Polls.{changes_of}
+use Rattle.turns.specs.declared.turn.Turn.{Turn}
+use Rattle.orch_core.specs.Keeping.{StepsTo, kept_by}
+use Rattle.orch_core.specs.Runs.{recorder}
 use Rattle.orch_core.proofs.Runs.{Ran-next}
 use Rattle.orch_core.proofs.orch.Orch.run.Goals as goal
 
 pub loop-t-preserved : goal.loop-t-preserved
 loop-t-preserved g c = record {
-  ran = Ran-next _ _ _ _ _ _ c.args.turns.now c.loop-t.t-index c.t-item.result (omega arith) c.loop-t.invariant.ran
-      (subst (λ (t : Turn). StepsTo (g.K.Keeper.kept c.loop-t.keeper) c.loop-t.self t c.turn.new.self) (c.in_ok-copy.ensures ∙ c.t-item.is) c.in_ok-turn.ensures.ok)
-      (subst (λ (t : Turn). g.K.Keeper.kept c.turn.new.keeper ≡ kept_if true (g.K.Keeper.kept c.loop-t.keeper) (changes_of c.loop-t.self t)) (c.in_ok-copy.ensures ∙ c.t-item.is) c.in_ok-turn.ensures.kept);
+  ran = Ran-next recorder _ _ _ _ _ _ c.args.turns.now c.loop-t.t-index c.t-item.result (omega arith) c.loop-t.invariant.ran
+      (subst (λ (t : Turn). StepsTo recorder (g.K.Keeper.kept c.loop-t.keeper) c.loop-t.self t c.turn.new.self) (c.in_ok-copy.ensures ∙ c.t-item.is) c.in_ok-turn.ensures.ok)
+      (subst (λ (t : Turn). g.K.Keeper.kept c.turn.new.keeper ≡ kept_by recorder true (g.K.Keeper.kept c.loop-t.keeper) c.loop-t.self t) (c.in_ok-copy.ensures ∙ c.t-item.is) c.in_ok-turn.ensures.kept);
   later = omega (arith, c.loop-t.invariant.later, c.turn.ensures.cause.later);
   servers = c.turn.ensures.servers ∙ c.loop-t.invariant.servers;
 }

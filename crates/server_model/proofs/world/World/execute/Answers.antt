@@ -2,7 +2,7 @@ use Rattle.std.proofs.Common.{◌<◌, List, length, subst, sym, ap, ◌∙◌, 
 use Rattle.server_model.specs.Worlds.{World}
 use Rattle.server_model.proofs.Lists.{slice_get-index}
 use Rattle.server_model.proofs.Takes.{own-small}
-use Rattle.server_model.specs.declared.answers.ApplyStep.TheVariants as applying
+use Rattle.server_model.specs.declared.decisions.ApplyStep.TheVariants as applying
 use Rattle.server_model.specs.Gtids.{uuids_in}
 use Rattle.server_model.specs.declared.server.Server.{Server}
 use Rattle.server_model.proofs.ExecutedSets.{AreGtids-took, set-room}

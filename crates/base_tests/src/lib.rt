@@ -1,0 +1,23 @@
+//! Tests of the lowest crates: names, coordinates, GTID sets, filters, forests, the order of servers.
+#![tactic(auto)]
+
+#[cfg(test)]
+mod coords;
+#[cfg(test)]
+mod filters;
+#[cfg(test)]
+mod forest;
+#[cfg(test)]
+mod in_memory;
+#[cfg(test)]
+mod names;
+#[cfg(test)]
+mod order;
+#[cfg(test)]
+mod servers;
+#[cfg(test)]
+mod sets;
+#[cfg(test)]
+mod sinks;
+#[cfg(test)]
+mod sources;

@@ -1,0 +1,63 @@
+-- The nodes of sources.
+use Rattle.std.proofs.Common.{◌≡◌, ℕ, ◌<◌, Bool, true, false, cond, length, get_or, map, None, Some, sym, ap, ◌∙◌, subst, inl, inr, arith}
+use Rattle.std.specs.Prelude.{option_and_then}
+use Rattle.std.proofs.lemmas.Bool.{cases_lt}
+use Rattle.std.proofs.lemmas.List.{get_or-map, get_or_past, length-map}
+use Rattle.std.proofs.lemmas.List.FromFn.{length-map-range_with_len}
+use Rattle.std.proofs.lemmas.Option.{same_Some}
+use Rattle.orch_base.specs.declared.server.ServerNo.{ServerNo}
+use Rattle.orch_base.specs.declared.server.SourceState.{SourceState}
+use Rattle.orch_base.specs.declared.server.SourceState.TheVariants.{Without, Attached, Detached}
+use Rattle.instance_keeper.specs.Book.{Known, IsBook, are_known, instance_at, source_servers}
+use Rattle.topology_tree.specs.Forests.{IsClosed}
+use Rattle.topology_tree.specs.Making.{forest_of}
+use Rattle.topology_tree.specs.Making as making
+use Rattle.name_order.specs.NameOrder.{by_name, rank_of}
+use Rattle.name_order.proofs.Arranged.{by_name-within}
+use Rattle.name_order.proofs.ByName.{IsOrder-by_name, length-by_name}
+use Rattle.name_order.proofs.Placing.{place-of_number, rank-of_place}
+use Rattle.book_views.specs.Sources.{is_instance, seen_source, source_in}
+use Rattle.book_views.specs.Forests.{book_forest, node_at, node_of, source_node, source_nodes}
+use Rattle.book_views.proofs.Reading.{known-below, source-known}
+
+pub length-nodes : (b : Known) → length (source_nodes b) ≡ length b.names
+unfolding source_nodes
+length-nodes b = length-map (by_name b.names) (source_node b) ∙ length-by_name b.names
+
+pub rank-below : (b : Known) (s : ServerNo) → s.0 < length b.names → node_at b s < length b.names
+rank-below b s below =
+    let order = by_name b.names in
+    let at = place-of_number order (IsOrder-by_name b.names) s.0 (omega (arith, below, length-by_name b.names)) in
+    let d : ServerNo = record { 0 = 0 } in
+    let same : (get_or order at.0 d).0 ≡ s.0 = at.2 d in
+    let rank : rank_of order s.0 ≡ at.0 = ap (rank_of order) (sym same) ∙ rank-of_place order (IsOrder-by_name b.names) at.0 d at.1 in
+    omega (arith, rank, at.1, length-by_name b.names)
+
+placed-below : (b : Known) (s : ServerNo) (m : ℕ) → s.0 < length b.names → node_of b s ≡ Some m → m < length b.names
+placed-below b s m below is = by_test (is_instance b s) is
+  where
+    by_test : (known : Bool) → cond known (Some (node_at b s)) None ≡ Some m → m < length b.names
+    by_test true e = subst (λ (k : ℕ). k < length b.names) (same_Some (node_at b s) m e) (rank-below b s below)
+    by_test false e = cc
+
+by_source : (b : Known) (source : SourceState) (m : ℕ) → are_known (length b.names) (source_servers source) ≡ true → option_and_then (node_of b) (source_in source) ≡ Some m → m < length b.names
+by_source b Without m known e = cc
+by_source b (Attached s) m known e = placed-below b s m (known-below (length b.names) s.0 known) e
+by_source b (Detached s) m known e = placed-below b s m (known-below (length b.names) s.0 known) e
+
+pub nodes-closed : (b : Known) → IsBook b → IsClosed (source_nodes b)
+unfolding source_nodes
+nodes-closed b is n m at = elim (cases_lt n (length (by_name b.names))) [
+  | inl within ↦
+      (let d : ServerNo = record { 0 = 0 } in
+      let server = get_or (by_name b.names) n d in
+      let here : source_node b server ≡ Some m = sym (get_or-map (source_node b) (by_name b.names) n d None within) ∙ at in
+      let below = by_source b (seen_source (instance_at b server)) m (source-known b server is (by_name-within b.names n d within)) here in
+      omega (arith, below, length-nodes b))
+  | inr past ↦
+      (let none : None ≡ Some m = sym (get_or_past (map (source_node b) (by_name b.names)) n None (omega (arith, past, length-map (by_name b.names) (source_node b)))) ∙ at in cc)
+]
+
+pub length-forest : (b : Known) → length (book_forest b) ≡ length b.names
+unfolding book_forest forest_of
+length-forest b = length-map-range_with_len (making.parent_of (source_nodes b)) 0 (length (source_nodes b)) ∙ length-nodes b

@@ -1,0 +1,7 @@
+use Rattle.std.proofs.Common.{◌≡◌, take}
+use Rattle.std.specs.Prelude.{filter}
+use Rattle.book_views.specs.Sources.{is_replica_of}
+use Rattle.book_views.proofs.sources.replicas.Given as goal
+
+abbrev pub invariant-loop-no : goal.invariant-loop-no
+invariant-loop-no l = l.replicas.items ≡ filter (is_replica_of l.book l.i) (take l.no-index l.order)

@@ -1,0 +1,36 @@
+-- What a book tells of its instances and their sources.
+use Rattle.std.specs.Prelude.{Bool, false, ◌==◌, List, filter, Option, Some, None, is_some}
+use Rattle.orch_base.specs.declared.server.ServerNo.{ServerNo}
+use Rattle.orch_base.specs.declared.server.SourceState.{SourceState}
+use Rattle.orch_base.specs.declared.server.SourceState.TheVariants.{Without, Attached, Detached}
+use Rattle.instance_keeper.specs.Book.{Known, instance_at}
+use Rattle.instance_keeper.specs.declared.observation.Instance.{Instance}
+use Rattle.name_order.specs.NameOrder.{by_name}
+
+-- the server is an instance of the book
+abbrev pub is_instance : Known → ServerNo → Bool
+is_instance b server = is_some (instance_at b server)
+
+-- the source that was seen: none of a server that is no instance
+abbrev pub seen_source : Option Instance → SourceState
+seen_source None = Without
+seen_source (Some i) = i.seen.source
+
+-- the source, attached or detached
+abbrev pub source_in : SourceState → Option ServerNo
+source_in Without = None
+source_in (Attached source) = Some source
+source_in (Detached source) = Some source
+
+abbrev pub is_attached_to : ServerNo → SourceState → Bool
+is_attached_to i Without = false
+is_attached_to i (Attached source) = source.0 == i.0
+is_attached_to i (Detached source) = false
+
+-- the server is an instance that is attached to it
+abbrev pub is_replica_of : Known → ServerNo → ServerNo → Bool
+is_replica_of b i server = is_attached_to i (seen_source (instance_at b server))
+
+-- the instances that are attached to it, in name order
+abbrev pub replicas_of : Known → ServerNo → List ServerNo
+replicas_of b i = filter (is_replica_of b i) (by_name b.names)

@@ -1,0 +1,10 @@
+//! Views of a book: its instances' sources and replicas, and a server's place in the forest of sources.
+#![tactic(auto)]
+
+mod forest;
+mod sources;
+
+pub use forest::{book_forest, is_below, parent, server_at};
+/// Want of memory.
+pub use orch_base::Memory;
+pub use sources::{is_instance, replicas, seen_source};

@@ -1,0 +1,76 @@
+-- Numbers and durations.
+use Rattle.std.proofs.Common.{◌≡◌, ◌≢◌, ℕ, ◌-◌, ◌^◌, Bool, true, false, cond, eqb, List, [], ◌∷◌, ◌++◌, length, drop, take, Option, Some, None, Result, Ok, Err, Bor, refl, sym, ap, ◌∙◌, arith, leb, ltb, length-append}
+use Rattle.std.specs.Prelude.{◌&&◌, option_map}
+use Rattle.std.specs.Char.{is_ascii_digit}
+use Rattle.std.specs.List.{list_all}
+use Rattle.std.specs.Option.{MatchOption}
+use Rattle.std.specs.Result.{OkIff, result_ok}
+use Rattle.std.specs.Str.{all_ascii_digits}
+use Rattle.std.specs.Str.Parse.{ParsesUnsigned, digits_value}
+use Rattle.std.specs.Cmp.Lexicographic.{pointwise, same_text, nat_list_eq_equiv}
+use Rattle.std.proofs.lemmas.Bool.{false≢true, le-leb, leb-true, lt-ltb, ltb-true}
+use Rattle.std.proofs.lemmas.List.{drop_at, take_at, take-append-drop}
+use Rattle.std.proofs.lemmas.Str.Parse.{parse_digits}
+use Rattle.orch_base.proofs.NameLemmas.{own}
+use Rattle.commands.specs.Values.{before, number_at}
+
+-- `r` is `Ok v` exactly where both tests hold
+by_tests : {E : Type 0} (a b : Bool) (v : ℕ) (r : Result ℕ E) (P : Type 0) → OkIff r P v → (P → (a ≡ true) × (b ≡ true)) → (a ≡ true → b ≡ true → P) → result_ok r ≡ cond (a && b) (Some v) None
+by_tests true true v (Ok x) P h f g = ap (λ (n : ℕ). Some n) h.1
+by_tests true true v (Err e) P h f g = absurd (h (g refl refl))
+by_tests true false v (Ok x) P h f g = absurd (false≢true (f h.0).1)
+by_tests true false v (Err e) P h f g = refl
+by_tests false b v (Ok x) P h f g = absurd (false≢true (f h.0).0)
+by_tests false b v (Err e) P h f g = refl
+
+all_digits : (ds : List ℕ) → list_all is_ascii_digit ds ≡ all_ascii_digits ds
+all_digits [] = refl
+all_digits (d ∷ ds) = ap (λ (b : Bool). is_ascii_digit d && b) (all_digits ds)
+
+third_holds : (a b c : Bool) → b ≡ true → (a && c) ≡ (a && b && c)
+third_holds true true c e = refl
+third_holds false b c e = refl
+third_holds true false c e = absurd cc
+
+one_fails : (a b c : Bool) → b ≡ false → (a && b && c) ≡ false
+one_fails true true c e = absurd cc
+one_fails false b c e = refl
+one_fails true false c e = refl
+
+pub number_at-parse : {E : Type 0} (bs : List ℕ) (r : Result ℕ E) → list_all is_ascii_digit bs ≡ true → ParsesUnsigned 64 10 bs r → result_ok r ≡ number_at bs
+number_at-parse bs r digits h =
+    let all : all_ascii_digits bs ≡ true = sym (all_digits bs) ∙ digits in
+    let tests = by_tests (leb 1 (length bs)) (ltb (digits_value 10 bs) (2 ^ 64)) (digits_value 10 bs) r _ (parse_digits own 64 bs r h all)
+    (λ p. (le-leb _ _ (omega arith), lt-ltb _ _ (omega arith)))
+    (λ some small. (omega (arith, leb-true _ _ some), omega (arith, ltb-true _ _ small))) in
+    tests ∙ ap (λ (b : Bool). cond b (Some (digits_value 10 bs)) None) (third_holds (leb 1 (length bs)) (all_ascii_digits bs) (ltb (digits_value 10 bs) (2 ^ 64)) all)
+
+-- a text with another byte is no number
+pub number_at-other : (bs : List ℕ) → list_all is_ascii_digit bs ≡ false → number_at bs ≡ None
+number_at-other bs other =
+    ap (λ (b : Bool). cond b (Some (digits_value 10 bs)) None) (one_fails (leb 1 (length bs)) (all_ascii_digits bs) (ltb (digits_value 10 bs) (2 ^ 64)) (sym (all_digits bs) ∙ other))
+
+-- ---- a letter at the end
+
+fits : (x : List ℕ) (c n : ℕ) → length (x ++ c ∷ []) ≡ n → length x ≡ n - 1
+fits x c n e = omega (arith, e, length-append x (c ∷ []))
+
+-- a text that ends with the letter
+ends : (c : ℕ) (x : List ℕ) → before c (x ++ c ∷ []) ≡ Some x
+ends c x =
+    let at : length x ≡ length (x ++ c ∷ []) - 1 = fits x c _ refl in
+    let tail : drop (length (x ++ c ∷ []) - 1) (x ++ c ∷ []) ≡ c ∷ [] = drop_at x (c ∷ []) _ at in
+    let front : take (length (x ++ c ∷ []) - 1) (x ++ c ∷ []) ≡ x = take_at x (c ∷ []) _ at in
+    ap (λ (t : List ℕ). cond (pointwise eqb (c ∷ []) t) (Some (take (length (x ++ c ∷ []) - 1) (x ++ c ∷ []))) None) tail
+    ∙ ap (λ (b : Bool). cond b (Some (take (length (x ++ c ∷ []) - 1) (x ++ c ∷ []))) None) (nat_list_eq_equiv.refl (c ∷ []))
+    ∙ ap Some front
+
+ends_not : (c : ℕ) (bs : List ℕ) (b : Bool) → pointwise eqb (c ∷ []) (drop (length bs - 1) bs) ≡ b → ((front : List ℕ) → bs ≢ front ++ (c ∷ [])) → cond b (Some (take (length bs - 1) bs)) None ≡ None
+ends_not c bs false e none = refl
+ends_not c bs true e none =
+    let tail : c ∷ [] ≡ drop (length bs - 1) bs = same_text _ _ (sym e) in
+    absurd (none (take (length bs - 1) bs) (sym (take-append-drop (length bs - 1) bs) ∙ ap (λ (t : List ℕ). take (length bs - 1) bs ++ t) (sym tail)))
+
+pub before_strips : (c : ℕ) (bs : List ℕ) (r : Option (Bor (List ℕ))) → MatchOption r ((front : List ℕ) → bs ≢ front ++ (c ∷ [])) (λ x. bs ≡ x.now ++ (c ∷ [])) → option_map (λ s. s.now) r ≡ before c bs
+before_strips c bs None h = sym (ends_not c bs _ refl h)
+before_strips c bs (Some x) h = sym (ap (before c) h ∙ ends c x.now)

@@ -1,0 +1,5 @@
+use Rattle.commands.proofs.Routes.{needed-used}
+use Rattle.commands.proofs.laws.needed_keys_are_used.Goals as goal
+
+pub returns : goal.returns
+returns c = needed-used

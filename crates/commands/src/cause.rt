@@ -1,0 +1,80 @@
+//! Why a job fails.
+
+ghost use Rattle.std.specs.Prelude.{◌≡◌, IfOk};
+ghost use Rattle.commands.specs.Causes.{cause_name};
+
+use crate::{HeldSet, Memory};
+use orch_base::{CauseName, ServerNo, SourceState};
+use server_words::Spot;
+use std::alloc::Global;
+
+/// Why a job fails.
+#[derive(Drop)]
+pub enum Cause {
+    /// This server wasn't reached.
+    Unreachable(ServerNo),
+    /// The last wait for this server was spent.
+    WaitSpent(ServerNo),
+    /// This server was expected at one spot and found at another.
+    Interfered {
+        no: ServerNo,
+        expected: Spot,
+        found: Spot,
+    },
+    /// A thread of this server is on.
+    Running(ServerNo),
+    /// This server would be below itself.
+    Loop(ServerNo),
+    /// This server has executed these, which its new source lacks.
+    Errant(ServerNo, HeldSet),
+    /// This server has another source than the one that it was seen to have: this one.
+    Moved(ServerNo, SourceState),
+    /// This server, which had failed, was reached.
+    Reachable(ServerNo),
+    /// No replica may be promoted.
+    NoCandidate,
+}
+
+impl Cause {
+    /// The cause's name.
+    pub fn name(&self) -> CauseName
+        ensures { result ≡ cause_name self.now }
+    {
+        match self {
+            Cause::Unreachable(_) => CauseName::Unreachable,
+            Cause::WaitSpent(_) => CauseName::WaitSpent,
+            Cause::Interfered { .. } => CauseName::Interfered,
+            Cause::Running(_) => CauseName::Running,
+            Cause::Loop(_) => CauseName::Loop,
+            Cause::Errant(_, _) => CauseName::Errant,
+            Cause::Moved(_, _) => CauseName::Moved,
+            Cause::Reachable(_) => CauseName::Reachable,
+            Cause::NoCandidate => CauseName::NoCandidate,
+        }
+    }
+
+    /// The same cause once more.
+    pub fn copy(&self, alloc: Global) -> Result<Cause, Memory>
+        ensures { IfOk result (λ c. c ≡ self.now) }
+    {
+        Ok(match self {
+            Cause::Unreachable(no) => Cause::Unreachable(*no),
+            Cause::WaitSpent(no) => Cause::WaitSpent(*no),
+            Cause::Interfered {
+                no,
+                expected,
+                found,
+            } => Cause::Interfered {
+                no: *no,
+                expected: *expected,
+                found: *found,
+            },
+            Cause::Running(no) => Cause::Running(*no),
+            Cause::Loop(no) => Cause::Loop(*no),
+            Cause::Errant(no, set) => Cause::Errant(*no, set.copy(alloc)?),
+            Cause::Moved(no, source) => Cause::Moved(*no, *source),
+            Cause::Reachable(no) => Cause::Reachable(*no),
+            Cause::NoCandidate => Cause::NoCandidate,
+        })
+    }
+}

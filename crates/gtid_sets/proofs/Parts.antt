@@ -1,0 +1,22 @@
+-- The part of a set that is of one UUID.
+use Rattle.std.proofs.Common.{◌≡◌, ℕ, ◌+◌, ◌<◌, ◌==◌, ◌&&◌, Bool, true, List, filter, arith}
+use Rattle.std.specs.List.{list_any}
+use Rattle.std.proofs.lemmas.Grind.{common_steps}
+use Rattle.std.proofs.lemmas.List.Elements.{All-filter}
+use Rattle.std.proofs.lemmas.List.Kept.{AllPairs-filter}
+use Rattle.std.proofs.lemmas.Map.Views.{any-filter_same}
+use Rattle.gtid_sets.specs.declared.interval.Interval.{Interval}
+use Rattle.gtid_sets.specs.Sets.{high, holds, low, spans, IsInterval, IsSet}
+
+pub part_is_set : (uuid : ℕ) (xs : List Interval) → IsSet xs → IsSet (filter (λ s. s.uuid == uuid) xs)
+part_is_set uuid xs set = record {
+  each = All-filter (λ s. s.uuid == uuid) IsInterval xs set.each;
+  apart = AllPairs-filter (λ s t. high s + 1 < low t) (λ s. s.uuid == uuid) xs set.apart;
+}
+
+-- an interval that has a pair is of the pair's UUID
+spans_uuid : (uuid u n : ℕ) (s : Interval) → spans u n s ≡ true → (s.uuid == uuid) ≡ (u == uuid)
+spans_uuid uuid u n s spans = grind (arith, common_steps)
+
+pub part_holds : (uuid : ℕ) (xs : List Interval) (u n : ℕ) → holds (filter (λ s. s.uuid == uuid) xs) u n ≡ ((u == uuid) && holds xs u n)
+part_holds uuid xs u n = any-filter_same (spans u n) (λ s. s.uuid == uuid) (u == uuid) (spans_uuid uuid u n) xs

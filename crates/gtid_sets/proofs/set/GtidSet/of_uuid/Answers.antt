@@ -1,0 +1,16 @@
+use Rattle.std.proofs.Common.{◌≡◌, ℕ, ◌==◌, ◌&&◌, List, filter, sym, subst}
+use Rattle.gtid_sets.specs.declared.interval.Interval.{Interval}
+use Rattle.gtid_sets.specs.Sets.{holds, IsSet}
+use Rattle.gtid_sets.proofs.Parts.{part_is_set, part_holds}
+use Rattle.gtid_sets.proofs.set.GtidSet.of_uuid.Goals as goal
+
+pub invariant_of-result : goal.invariant_of-result
+invariant_of-result c =
+    let part : c.in_ok-intervals.intervals.items ≡ filter (λ s. s.uuid == c.args.uuid) c.self.inside.intervals.items = cc c.in_ok-intervals.ensures in
+    subst IsSet (sym part) (part_is_set c.args.uuid c.self.inside.intervals.items c.self.invariant)
+
+pub returns-clause-has : goal.returns-clause-has
+returns-clause-has c =
+    let part : c.in_ok-intervals.intervals.items ≡ filter (λ s. s.uuid == c.args.uuid) c.args.self.now = cc c.in_ok-intervals.ensures in
+    let P : List Interval → Type 0 = λ xs. (u n : ℕ) → holds xs u n ≡ ((u == c.args.uuid) && holds c.args.self.now u n) in
+    subst P (sym part) (part_holds c.args.uuid c.args.self.now)

@@ -1,0 +1,11 @@
+use Rattle.std.proofs.Common.{◌≡◌, take}
+use Rattle.std.specs.Prelude.{fold}
+use Rattle.instance_keeper.specs.Book.{after_row, empty_book, names_of}
+use Rattle.instance_keeper.proofs.book.Book.make.Given as goal
+
+abbrev pub invariant-rows : goal.invariant-rows
+invariant-rows l = record {
+  made : l.book ≡ fold after_row (empty_book l.settings) (take l.row-index l.rows);
+  settings : l.book.settings ≡ l.settings;
+  names : l.book.names ≡ names_of l.settings;
+}

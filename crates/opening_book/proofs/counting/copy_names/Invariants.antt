@@ -1,5 +1,0 @@
-use Rattle.std.proofs.Common.{◌≡◌, take}
-use Rattle.opening_book.proofs.counting.copy_names.Given as goal
-
-abbrev pub invariant-names : goal.invariant-names
-invariant-names l = l.copies.items ≡ take l.name-index l.names

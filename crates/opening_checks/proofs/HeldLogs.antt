@@ -1,0 +1,38 @@
+-- The logs of sources as they are kept.
+use Rattle.std.proofs.Common.{◌≡◌, ℕ, List, [], ◌∷◌, ◌⊎◌, inl, inr, length, replicate, sym, ap, subst, ◌∙◌, refl, Option, Some, None, suc, zero}
+use Rattle.std.specs.Prelude.{slice_get, slice_set}
+use Rattle.std.proofs.lemmas.List.{length-replicate, length-set}
+use Rattle.std.proofs.lemmas.Option.{same_Some}
+use Rattle.binlog_coords.specs.Index.{Index}
+use Rattle.openings.specs.declared.init.ServerInit.{ServerInit}
+use Rattle.openings.specs.Servers.{log_at}
+use Rattle.openings.proofs.Members.{get-replicate}
+use Rattle.opening_checks.specs.SourceLogs.{AreLogs}
+
+no_log : (l : Index) → Some l ≡ None → ⊥
+no_log l e = cc
+
+pub AreLogs-none : (servers : List ServerInit) (logs : List (Option Index)) → logs ≡ replicate (length servers) None → AreLogs servers logs
+AreLogs-none servers logs none = record {
+  count = ap length none ∙ length-replicate (length servers) None;
+  each = λ n l at. absurd (no_log l (get-replicate (length servers) None (Some l) n (ap (λ (ls : List (Option Index)). slice_get ls n) (sym none) ∙ at)));
+}
+
+-- an element of a list with one that was put: that one, or an old one
+put_cases : {X : Type 0} (xs : List X) (n : ℕ) (v : X) (j : ℕ) (y : X) → slice_get (slice_set xs n v) j ≡ Some y → ((j ≡ n) × (y ≡ v)) ⊎ (slice_get xs j ≡ Some y)
+put_cases [] zero v j y h = inr h
+put_cases [] (suc n) v j y h = inr h
+put_cases (x ∷ xs) zero v zero y h = inl (refl, sym (same_Some v y h))
+put_cases (x ∷ xs) zero v (suc j) y h = inr h
+put_cases (x ∷ xs) (suc n) v zero y h = inr h
+put_cases (x ∷ xs) (suc n) v (suc j) y h = elim (put_cases xs n v j y h) [ inl new ↦ inl (ap suc new.0, new.1) | inr old ↦ inr old ]
+
+-- the log of a server joins those that are kept
+pub AreLogs-put : (servers : List ServerInit) (logs : List (Option Index)) (n : ℕ) (l : Index) → AreLogs servers logs → l.log ≡ log_at servers n → AreLogs servers (slice_set logs n (Some l))
+AreLogs-put servers logs n l are is = record { count = length-set logs n (Some l) ∙ are.count; each = each }
+  where
+    each : (k : ℕ) (m : Index) → slice_get (slice_set logs n (Some l)) k ≡ Some (Some m) → m.log ≡ log_at servers k
+    each k m at = elim (put_cases logs n (Some l) k (Some m) at) [
+      | inl new ↦ ap (λ (x : Index). x.log) (same_Some m l new.1) ∙ is ∙ ap (log_at servers) (sym new.0)
+      | inr old ↦ are.each k m old
+    ]

@@ -1,0 +1,28 @@
+use Rattle.std.proofs.Common.{◌≡◌, ◌∙◌, ap, sym, subst, true, List, ◌+◌, Some, length, refl}
+use Rattle.std.specs.Prelude.{slice_get, is_some, not}
+use Rattle.std.proofs.lemmas.Option.{slice_get_read}
+use Rattle.openings.specs.Flaws.{not_kin}
+use Rattle.opening_checks.specs.KinTable.{IsTable}
+use Rattle.opening_checks.specs.declared.kin_row.Link.{Link}
+use Rattle.opening_checks.proofs.KinTables.{first_met-on, not_kin-kin, not_kin-skip, source-there, IsTable-skip}
+use Rattle.opening_checks.proofs.kin.first_not_kin.Goals.{then-is_none+in_ok-is_kin+else-not-is_kin, else-is_none}
+use Rattle.opening_checks.proofs.kin.first_not_kin.Goals as goal
+
+pub loop-n-preserved : goal.loop-n-preserved
+loop-n-preserved c =
+    let servers = c.args.servers.now in
+    let n = c.loop-n.n in
+    let init = c.index-servers-n.result in
+    let there : slice_get servers n ≡ Some init = slice_get_read servers (length servers) n init refl c.loop-n-test.true c.index-servers-n.is in
+    elim c.if-is_none.branch [
+      | then-is_none+in_ok-is_kin+else-not-is_kin w ↦ (
+        first_met-on (not_kin servers) servers n init there (not_kin-kin servers n init (sym w.in_ok-is_kin.ensures.kin ∙ w.if-not-is_kin.false)) ∙ c.loop-n.invariant.0,
+        subst (λ (rows : List (List Link)). IsTable servers (n + 1) rows) (sym w.table-is) (w.in_ok-is_kin.ensures.table w.if-not-is_kin.false),
+      )
+      | else-is_none w ↦ (
+          let some : is_some init.source ≡ true = c.is_none.ensures ∙ ap not w.if-is_none.false in
+          let source = source-there init some in (
+            first_met-on (not_kin servers) servers n init there (not_kin-skip servers n init source.0 source.1) ∙ c.loop-n.invariant.0,
+            subst (λ (rows : List (List Link)). IsTable servers (n + 1) rows) (sym w.table-is) (IsTable-skip servers n c.loop-n.table init source.0 there source.1 c.loop-n.invariant.1),
+          ))
+    ]

@@ -1,0 +1,48 @@
+//! What a check answers of servers with a flaw.
+
+ghost use Rattle.std.specs.Prelude.{◌≡◌};
+ghost use Rattle.opening_checks.specs.declared.fault.OpeningFault.TheVariants.{Memory};
+
+use openings::Flaw;
+use orch_base::{Memory, ServerNo};
+
+/// The value of a server that is to blame for a flaw.
+#[derive(Clone, Copy, Debug, PartialEq, Eq)]
+pub enum FlawedValue {
+    Source,
+    /// How many of its source's transactions the server has executed.
+    Executed,
+    /// The executed coordinate.
+    At,
+    /// The read coordinate.
+    Read,
+    /// The whole history.
+    History,
+    /// The origin of a part of the history, by the part's number from 0 on.
+    Origin(usize),
+    /// All flush points.
+    Flushes,
+    /// A flush point, by its number from 0 on.
+    Flush(usize),
+}
+
+/// Why servers were refused.
+#[derive(Clone, Copy, Debug, PartialEq, Eq)]
+pub enum OpeningFault {
+    /// The first flaw, the first server that has it, and the value of that server that is to blame. This is the source
+    /// for `BothGiven`, `SourceNotLogging` and `Loop`, the executed count for `TooMany`, and the history for `NotKin`.
+    /// For `OtherCluster` it is the source, or the first origin of another cluster. For `BadPlace` it is all flush
+    /// points of a server without a log, the first flush point that falls or passes the count, or the first coordinate
+    /// out of place.
+    Flawed(Flaw, ServerNo, FlawedValue),
+    /// Want of memory.
+    Memory,
+}
+
+impl From<Memory> for OpeningFault {
+    ghost from_gives = { λ _ e. e ≡ Memory };
+
+    fn from(_e: Memory) -> OpeningFault {
+        OpeningFault::Memory
+    }
+}

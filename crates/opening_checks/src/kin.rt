@@ -1,0 +1,167 @@
+//! Whether listed histories are kin.
+
+ghost use Rattle.std.specs.Prelude.{◌≡◌, ◌+◌, ◌<◌, ◌≤◌, [], All, IfOk, None, Some, true, length, replicate, slice_get};
+ghost use Rattle.std.specs.List.{list_all};
+ghost use Rattle.orch_base.specs.Histories.{count_own};
+ghost use Rattle.openings.specs.Flaws.{first_met, not_kin};
+ghost use Rattle.openings.specs.Kin.{is_kin, links};
+ghost use Rattle.openings.specs.Listed.{listed_history};
+ghost use Rattle.opening_checks.specs.Checks.{server_of, IsToBlame};
+ghost use Rattle.opening_checks.specs.KinTable.{agrees_throughout, is_counted, with_link, with_links, CountsHome, IsOfServers, IsTable};
+ghost use Rattle.openings.specs.Servers.{history_at, parts_of};
+ghost use Rattle.openings.specs.declared.opening.Flaw.TheVariants.{NotKin};
+ghost use Rattle.openings.specs.Taking.{PartsInRange};
+
+use crate::fault::FlawedValue;
+use crate::kin_row::{Link, Row};
+use openings::{ServerInit, executed_by, listed_history, parts_of};
+use orch_base::{Memory, ServerNo, Txn};
+use std::alloc::Global;
+
+// How many transactions of its own a server has executed.
+fn own_count(alloc: Global, servers: &[ServerInit], n: ServerNo) -> Result<u64, Memory>
+    requires { PartsInRange servers.now }
+    ensures { IfOk result (λ count. count ≡ count_own n.0 (history_at servers.now n.0)) }
+{
+    let history = executed_by(alloc, servers, n)?;
+    Ok(count_own(n, &history))
+}
+
+fn count_own(origin: ServerNo, history: &[Txn]) -> u64
+    ensures { result ≡ count_own origin.0 history.now }
+{
+    history.iter().filter(|t| t.origin.0 == origin.0).count() as u64
+}
+
+fn own_counts(alloc: Global, servers: &[ServerInit]) -> Result<Vec<u64>, Memory>
+    requires parts { PartsInRange servers.now }
+    requires few { length servers.now ≤ 1000 }
+    ensures { IfOk result (λ own. CountsHome servers.now own.items) }
+{
+    let mut own = Vec::with_capacity(alloc, servers.len())?;
+    for n in 0..servers.len() as u32 {
+        own.push(own_count(alloc, servers, ServerNo(n))?)?;
+    }
+    Ok(own)
+}
+
+fn is_counted(own: &[u64], t: &Txn) -> bool
+    ensures { result ≡ is_counted own.now t.now }
+{
+    t.seq <= own.get(t.origin.0 as usize).copied().unwrap_or(0)
+}
+
+fn are_counted(own: &[u64], history: &[Txn]) -> bool
+    ensures { result ≡ list_all (is_counted own.now) history.now }
+{
+    history.iter().all(|t| is_counted(own, t))
+}
+
+// Whether the table agrees with each transaction of a history.
+fn agrees_throughout(rows: &[Row], history: &[Txn]) -> bool
+    requires { All (IsOfServers (length rows.now)) history.now }
+    ensures { result ≡ agrees_throughout rows.now history.now }
+{
+    let mut before = None;
+    for t in history {
+        let row = &rows[t.origin.0 as usize];
+        if !row.agrees(
+            t.seq,
+            Link {
+                before,
+                size: t.size,
+            },
+        ) {
+            return false;
+        }
+        before = Some(*t);
+    }
+    true
+}
+
+fn add_link(rows: &mut [Row], before: Option<Txn>, t: Txn) -> Result<(), Memory>
+    requires { t.origin.0 < length rows.old }
+    ensures { IfOk result (λ _. rows.new ≡ with_link rows.old (before, t)) }
+{
+    let row = &mut rows[t.origin.0 as usize];
+    row.take(
+        t.seq,
+        Link {
+            before,
+            size: t.size,
+        },
+    )
+}
+
+// The transactions of a history join the table.
+fn add_links(rows: &mut [Row], history: &[Txn]) -> Result<(), Memory>
+    requires { All (IsOfServers (length rows.old)) history.now }
+    ensures { IfOk result (λ _. rows.new ≡ with_links rows.old (links history.now)) }
+{
+    let mut before = None;
+    for t in history {
+        add_link(rows, before, *t)?;
+        before = Some(*t);
+    }
+    Ok(())
+}
+
+fn empty_rows(alloc: Global, count: usize) -> Result<Vec<Row>, Memory>
+    ensures { IfOk result (λ rows. rows.items ≡ replicate count []) }
+{
+    let mut rows = Vec::with_capacity(alloc, count)?;
+    for _ in 0..count {
+        rows.push(Row::new(alloc))?;
+    }
+    Ok(rows)
+}
+
+// Whether what server n lists is kin to what the servers before it list. If so, it joins the table.
+fn take_root(
+    alloc: Global,
+    servers: &[ServerInit],
+    n: u32,
+    init: &ServerInit,
+    own: &[u64],
+    rows: &mut [Row],
+) -> Result<bool, Memory>
+    requires parts { PartsInRange servers.now }
+    requires at { slice_get servers.now n ≡ Some init.now }
+    requires root { init.now.source ≡ None }
+    requires own { CountsHome servers.now own.now }
+    requires table { IsTable servers.now n rows.old }
+    ensures kin { IfOk result (λ b. b ≡ is_kin servers.now n (listed_history (parts_of init.now))) }
+    ensures table { IfOk result (λ b. b ≡ true → IsTable servers.now (n + 1) rows.new) }
+{
+    let history = listed_history(alloc, servers.len(), parts_of(init))?;
+    let listed = history.as_slice();
+    if !agrees_throughout(rows, listed) || !are_counted(own, listed) {
+        return Ok(false);
+    }
+    add_links(rows, listed)?;
+    Ok(true)
+}
+
+// The first server whose listed history isn't kin to those before it. The history is to blame.
+pub(crate) fn first_not_kin(
+    alloc: Global,
+    servers: &[ServerInit],
+) -> Result<Option<(ServerNo, FlawedValue)>, Memory>
+    requires parts { PartsInRange servers.now }
+    requires few { length servers.now ≤ 1000 }
+    ensures met { IfOk result (λ f. server_of f ≡ first_met (not_kin servers.now) 0 servers.now) }
+    ensures value { IfOk result (IsToBlame servers.now NotKin) }
+{
+    let own = own_counts(alloc, servers)?;
+    let mut rows = empty_rows(alloc, servers.len())?;
+    let table = rows.as_mut_slice();
+    for (n, init) in servers.iter().enumerate() {
+        if init.source.is_none() {
+            let is_kin = take_root(alloc, servers, n as u32, init, &own, table)?;
+            if !is_kin {
+                return Ok(Some((ServerNo(n as u32), FlawedValue::History)));
+            }
+        }
+    }
+    Ok(None)
+}

@@ -1,0 +1,14 @@
+//! The check of an opening: whether a scenario's servers have a flaw, and the value that is to blame for the first one.
+#![tactic(auto)]
+
+mod check;
+mod fault;
+mod flaws;
+mod kin;
+mod kin_row;
+mod opening;
+mod places;
+mod source_logs;
+
+pub use fault::{FlawedValue, OpeningFault};
+pub use opening::CheckedOpening;

@@ -1,0 +1,3 @@
+pub mod OpeningKin
+pub mod Openings
+pub mod Rooms

@@ -1,7 +1,0 @@
-use Rattle.std.proofs.Common.{◌≡◌, ◌-◌, length}
-use Rattle.openings.specs.Flaws.{below_itself, is_reached}
-use Rattle.openings.specs.Servers.{sources}
-use Rattle.openings.proofs.flaws.is_below_itself.Given as goal
-
-abbrev pub invariant-loop : goal.invariant-loop
-invariant-loop l = is_reached (sources l.servers) (length l.servers - l.counter) l.n l.at ≡ below_itself l.servers l.n

@@ -1,8 +1,0 @@
-use Rattle.std.proofs.Common.{◌≡◌, drop}
-use Rattle.std.specs.List.{list_all}
-use Rattle.openings.specs.Kin.{links_after}
-use Rattle.openings.specs.KinTable.{agrees_at, agrees_throughout}
-use Rattle.openings.proofs.kin.agrees_throughout.Given as goal
-
-abbrev pub invariant-loop-t : goal.invariant-loop-t
-invariant-loop-t l = list_all (agrees_at l.rows) (links_after l.before (drop l.t-index l.history)) ≡ agrees_throughout l.rows l.history

@@ -1,7 +1,0 @@
-use Rattle.std.proofs.Common.{◌≡◌, drop}
-use Rattle.openings.specs.Flaws.{first_met, not_kin}
-use Rattle.openings.specs.KinTable.{IsTable}
-use Rattle.openings.proofs.kin.first_not_kin.Given as goal
-
-abbrev pub invariant-loop-n : goal.invariant-loop-n
-invariant-loop-n l = (first_met (not_kin l.servers) l.n (drop l.n l.servers) ≡ first_met (not_kin l.servers) 0 l.servers) × IsTable l.servers l.n l.table

@@ -1,0 +1,50 @@
+//! What is recovered, and how it ends (orchestrator's documentation, "Topology recovery").
+
+use crate::server::ServerNo;
+
+/// What is recovered.
+#[derive(Clone, Copy, Debug, PartialEq, Eq)]
+pub enum Kind {
+    /// A master that failed.
+    Master,
+    /// An intermediate master that failed.
+    Intermediate,
+    /// A master that is replaced as planned.
+    Takeover,
+}
+
+/// The name of a cause that ends a recovery.
+#[derive(Clone, Copy, Debug, PartialEq, Eq)]
+pub enum CauseName {
+    /// A server wasn't reached.
+    Unreachable,
+    /// The last wait was spent.
+    WaitSpent,
+    /// A server replicates from elsewhere than it was seen to.
+    Interfered,
+    /// A server's threads run.
+    Running,
+    /// The server would be below itself.
+    Loop,
+    /// The server has transactions that its new source hasn't.
+    Errant,
+    /// A replica has another source.
+    Moved,
+    /// The server that had failed was reached.
+    Reachable,
+    /// No replica may be promoted.
+    NoCandidate,
+}
+
+/// How a recovery ended.
+#[derive(Clone, Copy, Debug, PartialEq, Eq)]
+pub enum Ending {
+    /// It hasn't ended.
+    Unended,
+    /// This server was promoted.
+    Promoted(ServerNo),
+    /// It failed by this cause.
+    Failed(CauseName),
+    /// Orchestrator was restarted meanwhile.
+    Interrupted,
+}

@@ -1,0 +1,14 @@
+//! Rules of promotion.
+
+/// Whether a server should be promoted (orchestrator's documentation, "register-candidate"): the best first.
+#[derive(Clone, Copy, Debug, PartialEq, Eq, PartialOrd, Ord)]
+pub enum Rule {
+    /// Before others.
+    Prefer,
+    /// As it is, without a registration.
+    Neutral,
+    /// After others.
+    PreferNot,
+    /// Never.
+    MustNot,
+}

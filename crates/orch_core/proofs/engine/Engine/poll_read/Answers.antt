@@ -1,0 +1,10 @@
+use Rattle.std.proofs.Common.{◌<◌, length, sym, subst}
+use Rattle.orch_core.specs.States.{State}
+use Rattle.orch_core.specs.EngineBy.{state_of}
+use Rattle.orch_core.proofs.States.{IsState-read}
+use Rattle.orch_core.proofs.engine.Engine.poll_read.Goals as goal
+
+pub invariant_of-self : goal.invariant_of-self
+invariant_of-self c =
+    let server = subst (λ (s : State). c.args.no.0 < length s.world.servers) (sym c.self.view_is) c.requires.server in
+    IsState-read (state_of c.self.inside) c.args.poller c.args.no c.in_ok-o.o _ _ _ c.self.invariant server c.in_ok-o.ensures

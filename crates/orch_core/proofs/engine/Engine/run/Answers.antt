@@ -1,0 +1,15 @@
+use Rattle.std.proofs.Common.{◌≡◌, ◌∙◌, true, subst, arith}
+use Rattle.turns.specs.declared.turn.Turn.{Turn}
+use Rattle.orch_core.specs.Keeping.{StepsTo, kept_by}
+use Rattle.orch_core.specs.Runs.{engine}
+use Rattle.orch_core.proofs.Runs.{Ran-next}
+use Rattle.orch_core.proofs.engine.Engine.run.Goals as goal
+
+pub loop-t-preserved : goal.loop-t-preserved
+loop-t-preserved g c = record {
+  ran = Ran-next engine _ _ _ _ _ _ c.args.turns.now c.loop-t.t-index c.t-item.result (omega arith) c.loop-t.invariant.ran
+      (subst (λ (t : Turn). StepsTo engine (g.K.Keeper.kept c.loop-t.keeper) c.loop-t.self t c.turn.new.self) c.t-item.is c.in_ok-turn.ensures.ok)
+      (subst (λ (t : Turn). g.K.Keeper.kept c.turn.new.keeper ≡ kept_by engine true (g.K.Keeper.kept c.loop-t.keeper) c.loop-t.self t) c.t-item.is c.in_ok-turn.ensures.kept);
+  later = omega (arith, c.loop-t.invariant.later, c.turn.ensures.cause.later);
+  servers = c.turn.ensures.servers ∙ c.loop-t.invariant.servers;
+}

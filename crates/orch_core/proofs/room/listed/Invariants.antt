@@ -1,7 +1,0 @@
-use Rattle.std.proofs.Common.{◌≡◌, take, sum_by}
-use Rattle.openings.specs.Listed.{transactions}
-use Rattle.openings.specs.Servers.{parts_of}
-use Rattle.orch_core.proofs.room.listed.Given as goal
-
-abbrev pub invariant-loop-server : goal.invariant-loop-server
-invariant-loop-server l = l.sum ≡ sum_by (λ i. transactions (parts_of i)) (take l.server-index l.servers)

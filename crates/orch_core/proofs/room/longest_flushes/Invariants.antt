@@ -1,6 +1,0 @@
-use Rattle.std.proofs.Common.{◌≡◌, take}
-use Rattle.orch_core.specs.Scenarios.{longest_flushes}
-use Rattle.orch_core.proofs.room.longest_flushes.Given as goal
-
-abbrev pub invariant-loop-server : goal.invariant-loop-server
-invariant-loop-server l = l.longest ≡ longest_flushes (take l.server-index l.servers)

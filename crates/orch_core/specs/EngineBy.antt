@@ -1,0 +1,17 @@
+use Rattle.orch_core.specs.States.{State, IsState}
+use Rattle.orch_core.specs.declared.engine.Engine.TheInside.{Inside}
+
+-- what contracts see of an engine
+abbrev pub state_of : Inside → State
+state_of a = record {
+  world = a.world;
+  moment = a.moment.0;
+  book = a.book;
+  slots = a.slots.items;
+  reads = a.reads;
+  last_job = a.last_job;
+  configuration = a.configuration;
+}
+
+abbrev pub IsStateInside : Inside → Type 0
+IsStateInside a = IsState (state_of a)

@@ -1,0 +1,594 @@
+//! The machine of a run: the servers, the moment, and what orchestrator knows, one turn after another. It writes no journal.
+
+ghost use Rattle.std.specs.Prelude.{◌≡◌, ◌≢◌, ◌<◌, ◌≤◌, ◌^◌, ℕ, List, [], All, IfOk, IfSome, IfErr, OnOk, OnErr, Err, true, false, is_ok, length, map};
+ghost use Rattle.instance_keeper.specs.declared.row.Row.{Row as ARow};
+ghost use Rattle.instance_keeper.specs.Book.{are_known, observed_servers};
+ghost use Rattle.opening_book.specs.Counting.{counted, loaded};
+ghost use Rattle.opening_book.specs.Opening.{changed_book, opening_changes};
+ghost use Rattle.server_model.specs.Run.{run};
+ghost use Rattle.scenarios.specs.Turns.{pollers, IsCommand, IsTurn};
+ghost use Rattle.turns.specs.Plain.{is_plain};
+ghost use Rattle.orch_core.specs.Turns.{exchanges_of, is_exchange, later, ticked};
+ghost use Rattle.orch_core.specs.Polls.{changes_by, changes_of, empty_slots, stored};
+ghost use Rattle.orch_core.specs.Readings.{reading_by};
+ghost use Rattle.orch_core.specs.Replies.{exchange_reply, read_reply, reply_by, reply_of, stored_reply, AreReply};
+ghost use Rattle.orch_core.specs.Runs.{engine};
+ghost use Rattle.orch_core.specs.Keeping.{StepsTo, kept_by, kept_if, asks, Calls, HasTurnCause};
+ghost use Rattle.orch_core.specs.Scenarios.{configuration_of};
+ghost use Rattle.orch_core.specs.States.{HasKnownSource};
+
+use crate::command::outcome_of;
+use crate::{Configuration, HeldCommand, Reply, Scenario, Turn, TurnFault};
+use instance_keeper::{Book, Change, Keeper, Observation, Row, StoreAnswer};
+use opening_book::{change_book, counted, last_read, latest_moment, loaded_book, opening_changes};
+use openings::ServerInit;
+use orch_base::{Memory, Moment, Name, ServerNo, Settings};
+use server_model::{StatusFault, World};
+use std::alloc::Global;
+use std::marker::Model;
+use world_openings::OpenedWorld;
+
+/// The last moment: where it would be passed, time stands still.
+const LAST_MOMENT: u64 = 1 << 63;
+
+/// So many pollers have a slot each.
+const POLLERS: u32 = 64;
+
+/// The block period in seconds.
+const BLOCK: u64 = 3600;
+
+/// The servers of a scenario after some turns, the moment, and what orchestrator knows.
+#[derive(Drop)]
+pub struct Engine {
+    world: World,
+    moment: Moment,
+    book: Book,
+    slots: Vec<Option<Observation>>,
+    reads: u64,
+    last_job: u64,
+    configuration: Configuration,
+}
+
+impl Model for Engine {
+    ghost use Rattle.orch_core.specs.States.{State};
+
+    ghost Value = { State };
+
+    ghost use Rattle.orch_core.specs.EngineBy.{state_of, IsStateInside};
+
+    ghost view = { state_of };
+
+    ghost invariant = { IsStateInside };
+}
+
+/// What a turn answers, twice: to be told, and to be written into a journal.
+#[derive(Drop)]
+pub(crate) struct Replies {
+    pub(crate) told: Reply,
+    pub(crate) written: Reply,
+}
+
+fn twice(reply: Reply) -> Replies
+    requires { is_plain reply ≡ true }
+    ensures { AreReply reply result }
+{
+    Replies {
+        told: reply.again(),
+        written: reply,
+    }
+}
+
+// The moment, so many seconds later.
+fn later(now: Moment, seconds: u64) -> Moment
+    ensures { result.0 ≡ later now.0 seconds }
+{
+    Moment(now.0.saturating_add(seconds).min(LAST_MOMENT))
+}
+
+fn ticked(now: Moment, t: &Turn) -> Moment
+    ensures { result.0 ≡ ticked now.0 t.now }
+{
+    match t {
+        Turn::Tick(seconds) => later(now, *seconds),
+        Turn::Write(_, _)
+        | Turn::Fetch(_)
+        | Turn::Apply(_)
+        | Turn::Fail(_)
+        | Turn::Heal(_)
+        | Turn::Cut(_, _)
+        | Turn::Join(_, _)
+        | Turn::Rotate(_)
+        | Turn::PollRead(_, _)
+        | Turn::PollStore(_)
+        | Turn::Command(_)
+        | Turn::Job(_)
+        | Turn::Scan
+        | Turn::Restart => now,
+    }
+}
+
+fn exchange(world: &mut World, now: Moment, t: &Turn) -> Reply
+    requires { IsTurn (length world.old.servers) t.now }
+    ensures reply { result ≡ exchange_reply world.old now.0 t.now }
+    ensures plain { is_plain result ≡ true }
+    ensures world { world.new ≡ run world.old (exchanges_of t.now) }
+    ensures servers { length world.new.servers ≡ length world.old.servers }
+{
+    match t {
+        Turn::Write(no, size) => Reply::Write(world.write(*no, *size)),
+        Turn::Fetch(no) => Reply::Fetch(world.fetch(*no)),
+        Turn::Apply(no) => Reply::Apply(world.apply(*no)),
+        Turn::Fail(no) => {
+            world.fail(*no);
+            Reply::Done
+        }
+        Turn::Heal(no) => {
+            world.heal(*no);
+            Reply::Done
+        }
+        Turn::Cut(no, link) => {
+            world.cut_link(*no, *link);
+            Reply::Done
+        }
+        Turn::Join(no, link) => {
+            world.join_link(*no, *link);
+            Reply::Done
+        }
+        Turn::Rotate(no) => Reply::Rotate(world.rotate(*no)),
+        Turn::Tick(seconds) => Reply::Now(later(now, *seconds)),
+        Turn::PollRead(_, _)
+        | Turn::PollStore(_)
+        | Turn::Command(_)
+        | Turn::Job(_)
+        | Turn::Scan
+        | Turn::Restart => Reply::Done,
+    }
+}
+
+/// A reading of a server, with this number, at this moment.
+pub(crate) fn read_server(
+    alloc: Global,
+    world: &World,
+    no: ServerNo,
+    read: u64,
+    moment: Moment,
+) -> Result<Observation, Memory>
+    requires { no.0 < length world.now.servers }
+    ensures { IfOk result (λ o. o ≡ reading_by world.now no read moment.0) }
+{
+    let seen = match world.status(alloc, no) {
+        Ok(status) => Some(status),
+        Err(StatusFault::Unreachable) => None,
+        Err(StatusFault::Memory) => return Err(Memory),
+    };
+    Ok(Observation {
+        no,
+        read,
+        moment,
+        seen,
+    })
+}
+
+fn read_reply(o: &Observation) -> Reply
+    ensures reply { result ≡ read_reply o.now }
+    ensures plain { is_plain result ≡ true }
+{
+    if o.seen.is_some() {
+        Reply::Read(o.read)
+    } else {
+        Reply::ReadUnreachable(o.read)
+    }
+}
+
+fn reply_by(answer: StoreAnswer) -> Reply
+    ensures reply { result ≡ reply_by answer }
+    ensures plain { is_plain result ≡ true }
+{
+    match answer {
+        StoreAnswer::Unknown => Reply::Unknown,
+        StoreAnswer::Old(read) => Reply::Old(read),
+        StoreAnswer::Stored => Reply::Stored,
+    }
+}
+
+// Empties the slot and stores its reading, where it has one. It takes no memory.
+fn store(book: &mut Book, slot: Option<Observation>) -> Reply
+    requires { IfSome slot (λ o. are_known (length book.old.names) (observed_servers o) ≡ true) }
+    ensures reply { result ≡ stored_reply book.old slot }
+    ensures plain { is_plain result ≡ true }
+    ensures book { book.new ≡ stored book.old slot }
+{
+    match slot {
+        None => Reply::Nothing,
+        Some(o) => reply_by(book.store_observation(o)),
+    }
+}
+
+// Keeps the changes that storing the slot's reading makes, where it makes any.
+fn keep_store<K: Keeper>(
+    alloc: Global,
+    keeper: &mut K,
+    book: &Book,
+    slot: &Option<Observation>,
+) -> Result<(), TurnFault>
+    requires { IfSome slot.now (λ o. o.no.0 < length book.now.names) }
+    ensures kept { K.kept keeper.new ≡ kept_if (is_ok result) (K.kept keeper.old) (changes_by book.now slot.now) }
+    ensures cause { HasTurnCause (K.faults keeper.old) (K.faults keeper.new) result }
+    ensures idle { changes_by book.now slot.now ≡ [] → keeper.new ≡ keeper.old }
+    ensures calls { result ≡ Err TurnFault.Keeper → changes_by book.now slot.now ≢ [] }
+{
+    let Some(o) = slot else {
+        return Ok(());
+    };
+    match book.change_by(o)? {
+        Some(change) => keep(alloc, keeper, book.names(), &[change]),
+        None => Ok(()),
+    }
+}
+
+fn keep<K: Keeper>(
+    alloc: Global,
+    keeper: &mut K,
+    names: &[Name],
+    changes: &[Change],
+) -> Result<(), TurnFault>
+    ensures kept { K.kept keeper.new ≡ kept_if (is_ok result) (K.kept keeper.old) changes.now }
+    ensures cause { HasTurnCause (K.faults keeper.old) (K.faults keeper.new) result }
+{
+    keeper.keep(alloc, names, changes)?;
+    Ok(())
+}
+
+// Keeps the changes, where there are any.
+fn keep_some<K: Keeper>(
+    alloc: Global,
+    keeper: &mut K,
+    names: &[Name],
+    changes: &[Change],
+) -> Result<(), TurnFault>
+    ensures kept { K.kept keeper.new ≡ kept_if (is_ok result) (K.kept keeper.old) changes.now }
+    ensures cause { HasTurnCause (K.faults keeper.old) (K.faults keeper.new) result }
+    ensures idle { changes.now ≡ [] → keeper.new ≡ keeper.old }
+    ensures calls { result ≡ Err TurnFault.Keeper → changes.now ≢ [] }
+{
+    if changes.is_empty() {
+        return Ok(());
+    }
+    keep(alloc, keeper, names, changes)
+}
+
+// The rows that count among these servers, by the keeper.
+fn counted_rows<K: Keeper>(
+    alloc: Global,
+    keeper: &mut K,
+    settings: &[Settings],
+) -> Result<Vec<Row>, TurnFault>
+    requires { length settings.now < 2 ^ 32 }
+    ensures told { IfSome (K.kept keeper.old) (λ rows. IfOk result (λ r. r.items ≡ counted (length settings.now) rows)) }
+    ensures some { IfOk result (λ r. (rows : List ARow) × (r.items ≡ counted (length settings.now) rows)) }
+    ensures kept { K.kept keeper.new ≡ K.kept keeper.old }
+    ensures cause { HasTurnCause (K.faults keeper.old) (K.faults keeper.new) result }
+{
+    let names = copy_names(alloc, settings)?;
+    let rows = keeper.rows(alloc, &names)?;
+    Ok(counted(alloc, settings.len() as u32, rows)?)
+}
+
+// The book of the rows that count, by the keeper.
+fn reload<K: Keeper>(alloc: Global, keeper: &mut K, book: &Book) -> Result<Book, TurnFault>
+    ensures told { IfSome (K.kept keeper.old) (λ rows. IfOk result (λ b. b ≡ loaded book.now.settings rows)) }
+    ensures some { IfOk result (λ b. (rows : List ARow) × (b ≡ loaded book.now.settings rows)) }
+    ensures kept { K.kept keeper.new ≡ K.kept keeper.old }
+    ensures cause { HasTurnCause (K.faults keeper.old) (K.faults keeper.new) result }
+{
+    let rows = keeper.rows(alloc, book.names())?;
+    let rows = counted(alloc, book.servers(), rows)?;
+    Ok(loaded_book(alloc, book.all_settings(), &rows)?)
+}
+
+// The book with the instances of the known servers that it lacks, which are kept first.
+fn complete<K: Keeper>(
+    alloc: Global,
+    keeper: &mut K,
+    world: &World,
+    moment: Moment,
+    mut book: Book,
+    known: &[bool],
+) -> Result<Book, TurnFault>
+    requires known { length known.now ≡ length world.now.servers }
+    requires names { length book.names ≡ length world.now.servers }
+    requires sources { All (HasKnownSource (length world.now.servers)) world.now.servers }
+    ensures book { IfOk result (λ b. b ≡ changed_book book (opening_changes world.now moment book known.now)) }
+    ensures kept { K.kept keeper.new ≡ kept_if (is_ok result) (K.kept keeper.old) (opening_changes world.now moment book known.now) }
+    ensures cause { HasTurnCause (K.faults keeper.old) (K.faults keeper.new) result }
+    ensures idle { opening_changes world.now moment book known.now ≡ [] → keeper.new ≡ keeper.old }
+{
+    let changes = opening_changes(alloc, world, moment, &book, known)?;
+    keep_some(alloc, keeper, book.names(), &changes)?;
+    change_book(&mut book, changes);
+    Ok(book)
+}
+
+fn make_slots(alloc: Global) -> Result<Vec<Option<Observation>>, Memory>
+    ensures { IfOk result (λ slots. slots.items ≡ empty_slots) }
+{
+    let mut slots = Vec::with_capacity(alloc, POLLERS as usize)?;
+    for _ in 0..POLLERS {
+        slots.push(None)?;
+    }
+    Ok(slots)
+}
+
+fn copy_settings(alloc: Global, servers: &[ServerInit]) -> Result<Vec<Settings>, Memory>
+    ensures { IfOk result (λ settings. settings.items ≡ map (λ i. i.settings) servers.now) }
+{
+    let mut settings = Vec::with_capacity(alloc, servers.len())?;
+    'servers: for server in servers {
+        settings.push(server.settings.copy(alloc)?)?;
+    }
+    Ok(settings)
+}
+
+fn copy_names(alloc: Global, settings: &[Settings]) -> Result<Vec<Name>, Memory>
+    ensures { IfOk result (λ names. names.items ≡ map (λ s. s.name) settings.now) }
+{
+    let mut names = Vec::with_capacity(alloc, settings.len())?;
+    'servers: for server in settings {
+        names.push(server.name.copy(alloc)?)?;
+    }
+    Ok(names)
+}
+
+fn configure(alloc: Global, s: &Scenario, wait: u32) -> Result<Configuration, Memory>
+    ensures { IfOk result (λ c. c ≡ configuration_of wait s.now) }
+{
+    Ok(Configuration {
+        wait,
+        block: BLOCK,
+        master: s.filters.master.passes.copy(alloc)?,
+        intermediate: s.filters.intermediate.passes.copy(alloc)?,
+    })
+}
+
+impl Engine {
+    ghost use Rattle.orch_core.specs.Runs.{step, exchange_step};
+
+    fn exchange_turn(&mut self, t: &Turn) -> Reply
+        requires turn { IsTurn (length self.old.world.servers) t.now }
+        requires exchange { is_exchange t.now ≡ true }
+        ensures reply { result ≡ exchange_reply self.old.world self.old.moment t.now }
+        ensures plain { is_plain result ≡ true }
+        ensures ok { self.new ≡ exchange_step self.old t.now }
+        ensures servers { length self.new.world.servers ≡ length self.old.world.servers }
+    {
+        let reply = exchange(&mut self.world, self.moment, t);
+        self.moment = ticked(self.moment, t);
+        reply
+    }
+
+    fn poll_read(&mut self, alloc: Global, poller: u32, no: ServerNo) -> Result<Reply, Memory>
+        requires poller { poller < pollers }
+        requires server { no.0 < length self.old.world.servers }
+        ensures reply { IfOk result (λ r. r ≡ reply_of self.old (Turn.PollRead poller no)) }
+        ensures plain { IfOk result (λ r. is_plain r ≡ true) }
+        ensures ok { OnOk result (self.new ≡ step [] self.old (Turn.PollRead poller no)) }
+        ensures err { OnErr result (self.new ≡ self.old) }
+    {
+        if self.book.instance(no).is_none() {
+            return Ok(Reply::Unknown);
+        }
+        let read = self.reads.saturating_add(1);
+        let o = read_server(alloc, &self.world, no, read, self.moment)?;
+        let reply = read_reply(&o);
+        self.slots[poller as usize] = Some(o);
+        self.reads = read;
+        Ok(reply)
+    }
+
+    fn poll_store<K: Keeper>(
+        &mut self,
+        alloc: Global,
+        keeper: &mut K,
+        poller: u32,
+    ) -> Result<Reply, TurnFault>
+        requires { poller < pollers }
+        ensures reply { IfOk result (λ r. r ≡ reply_of self.old (Turn.PollStore poller)) }
+        ensures plain { IfOk result (λ r. is_plain r ≡ true) }
+        ensures ok { OnOk result (self.new ≡ step [] self.old (Turn.PollStore poller)) }
+        ensures err { OnErr result (self.new ≡ self.old) }
+        ensures kept { K.kept keeper.new ≡ kept_if (is_ok result) (K.kept keeper.old) (changes_of [] self.old (Turn.PollStore poller)) }
+        ensures cause { HasTurnCause (K.faults keeper.old) (K.faults keeper.new) result }
+        ensures idle { changes_of [] self.old (Turn.PollStore poller) ≡ [] → keeper.new ≡ keeper.old }
+        ensures calls { result ≡ Err TurnFault.Keeper → changes_of [] self.old (Turn.PollStore poller) ≢ [] }
+    {
+        keep_store(alloc, keeper, &self.book, &self.slots[poller as usize])?;
+        let slot = self.slots[poller as usize].take();
+        Ok(store(&mut self.book, slot))
+    }
+
+    fn restart<K: Keeper>(&mut self, alloc: Global, keeper: &mut K) -> Result<Reply, TurnFault>
+        ensures reply { IfOk result (λ r. r ≡ reply_of self.old Turn.Restart) }
+        ensures plain { IfOk result (λ r. is_plain r ≡ true) }
+        ensures ok { OnOk result (StepsTo engine (K.kept keeper.old) self.old Turn.Restart self.new) }
+        ensures err { OnErr result (self.new ≡ self.old) }
+        ensures kept { K.kept keeper.new ≡ K.kept keeper.old }
+        ensures cause { HasTurnCause (K.faults keeper.old) (K.faults keeper.new) result }
+        ensures servers { length self.new.world.servers ≡ length self.old.world.servers }
+    {
+        let slots = make_slots(alloc)?;
+        let book = reload(alloc, keeper, &self.book)?;
+        self.slots = slots;
+        self.book = book;
+        Ok(Reply::Done)
+    }
+
+    // Does a command: what it changes of the kept rows is kept first.
+    fn command<K: Keeper>(
+        &mut self,
+        alloc: Global,
+        keeper: &mut K,
+        t: &HeldCommand,
+    ) -> Result<Replies, TurnFault>
+        requires { IsCommand (length self.old.world.servers) t.now }
+        ensures reply { IfOk result (λ r. AreReply (reply_of self.old (Turn.Command t.now)) r) }
+        ensures ok { OnOk result (self.new ≡ step [] self.old (Turn.Command t.now)) }
+        ensures err { OnErr result (self.new ≡ self.old) }
+        ensures kept { K.kept keeper.new ≡ kept_if (is_ok result) (K.kept keeper.old) (changes_of [] self.old (Turn.Command t.now)) }
+        ensures cause { HasTurnCause (K.faults keeper.old) (K.faults keeper.new) result }
+        ensures idle { changes_of [] self.old (Turn.Command t.now) ≡ [] → keeper.new ≡ keeper.old }
+        ensures calls { result ≡ Err TurnFault.Keeper → changes_of [] self.old (Turn.Command t.now) ≢ [] }
+    {
+        let outcome = outcome_of(
+            alloc,
+            &self.world,
+            &self.book,
+            self.reads,
+            self.moment,
+            t.as_turn(),
+        )?;
+        let told = outcome.reply.copy(alloc)?;
+        keep_some(alloc, keeper, self.book.names(), &outcome.rows)?;
+        change_book(&mut self.book, outcome.book);
+        self.reads = outcome.reads;
+        Ok(Replies {
+            told,
+            written: outcome.reply,
+        })
+    }
+}
+
+impl Engine {
+    ghost use Rattle.orch_core.specs.Keeping.{Ran, WasCutOff};
+    ghost use Rattle.scenarios.specs.Scenarios.{IsScenario};
+    ghost use Rattle.orch_core.specs.Scenarios.{StartsBy, kept_at_start};
+
+    /// The opening state of a scenario, by the rows that the keeper hands back: its servers as they begin, and the book of the rows that count and of the known servers that none of these is of. A job is to wait at most `wait` times. Each server gets room for all transactions of the listed histories and one more for each write turn, and for the longest list of flush points and one more new file for each rotate turn. What the book has beyond the rows is kept first. Keeper comes only where the keeper's count of faults rose; after it, and after Memory, the kept rows are as before.
+    pub fn make<K: Keeper>(
+        alloc: Global,
+        s: &Scenario,
+        keeper: &mut K,
+        wait: u32,
+    ) -> Result<Engine, TurnFault>
+        requires { IsScenario s.now }
+        ensures ok { IfOk result (λ e. StartsBy (K.kept keeper.old) s.now wait e) }
+        ensures kept { K.kept keeper.new ≡ kept_at_start (is_ok result) (K.kept keeper.old) s.now }
+        ensures cause { HasTurnCause (K.faults keeper.old) (K.faults keeper.new) result }
+        ensures servers { IfOk result (λ e. length e.world.servers ≡ length s.now.opening.servers) }
+    {
+        let world = World::make(alloc, &s.opening, s.room(), s.flushes())?;
+        let settings = copy_settings(alloc, s.opening.servers())?;
+        let slots = make_slots(alloc)?;
+        let configuration = configure(alloc, s, wait)?;
+        let rows = counted_rows(alloc, keeper, &settings)?;
+        let moment = latest_moment(s.moment, &rows);
+        let book = loaded_book(alloc, &settings, &rows)?;
+        let book = complete(alloc, keeper, &world, moment, book, s.known.as_slice())?;
+        Ok(Engine {
+            world,
+            moment,
+            book,
+            slots,
+            reads: last_read(&rows),
+            last_job: 0,
+            configuration,
+        })
+    }
+
+    /// One turn, with its reply twice.
+    pub(crate) fn replies<K: Keeper>(
+        &mut self,
+        alloc: Global,
+        keeper: &mut K,
+        t: &Turn,
+    ) -> Result<Replies, TurnFault>
+        requires { IsTurn (length self.old.world.servers) t.now }
+        ensures reply { IfOk result (λ r. AreReply (reply_of self.old t.now) r) }
+        ensures ok { OnOk result (StepsTo engine (K.kept keeper.old) self.old t.now self.new) }
+        ensures err { OnErr result (self.new ≡ self.old) }
+        ensures kept { K.kept keeper.new ≡ kept_by engine (is_ok result) (K.kept keeper.old) self.old t.now }
+        ensures cause { HasTurnCause (K.faults keeper.old) (K.faults keeper.new) result }
+        ensures idle { asks t.now ≡ false → changes_of [] self.old t.now ≡ [] → keeper.new ≡ keeper.old }
+        ensures calls { result ≡ Err TurnFault.Keeper → Calls engine self.old t.now }
+        ensures servers { length self.new.world.servers ≡ length self.old.world.servers }
+    {
+        match t {
+            Turn::PollRead(poller, no) => Ok(twice(self.poll_read(alloc, *poller, *no)?)),
+            Turn::PollStore(poller) => Ok(twice(self.poll_store(alloc, keeper, *poller)?)),
+            Turn::Command(t) => self.command(alloc, keeper, t),
+            Turn::Restart => Ok(twice(self.restart(alloc, keeper)?)),
+            Turn::Write(_, _)
+            | Turn::Fetch(_)
+            | Turn::Apply(_)
+            | Turn::Fail(_)
+            | Turn::Heal(_)
+            | Turn::Cut(_, _)
+            | Turn::Join(_, _)
+            | Turn::Rotate(_)
+            | Turn::Tick(_)
+            | Turn::Job(_)
+            | Turn::Scan => Ok(twice(self.exchange_turn(t))),
+        }
+    }
+
+    /// One turn. What it changes of the kept rows is kept first, and a refused command changes nothing. Keeper comes only where the keeper's count of faults rose, at a turn that calls the keeper; after it, and after Memory, nothing has changed. The keeper is called only at a restart and where a kept row changes.
+    pub fn turn<K: Keeper>(
+        &mut self,
+        alloc: Global,
+        keeper: &mut K,
+        t: &Turn,
+    ) -> Result<Reply, TurnFault>
+        requires { IsTurn (length self.old.world.servers) t.now }
+        ensures reply { IfOk result (λ r. r ≡ reply_of self.old t.now) }
+        ensures ok { OnOk result (StepsTo engine (K.kept keeper.old) self.old t.now self.new) }
+        ensures err { OnErr result (self.new ≡ self.old) }
+        ensures kept { K.kept keeper.new ≡ kept_by engine (is_ok result) (K.kept keeper.old) self.old t.now }
+        ensures cause { HasTurnCause (K.faults keeper.old) (K.faults keeper.new) result }
+        ensures idle { asks t.now ≡ false → changes_of [] self.old t.now ≡ [] → keeper.new ≡ keeper.old }
+        ensures calls { result ≡ Err TurnFault.Keeper → Calls engine self.old t.now }
+        ensures servers { length self.new.world.servers ≡ length self.old.world.servers }
+    {
+        let replies = self.replies(alloc, keeper, t)?;
+        Ok(replies.told)
+    }
+
+    /// All of the turns, in order, to the first fault: after it the turns before the one that gave up are done, and nothing of that one or of those after it. No turn takes memory that outlives it, but for what the servers and the book hold.
+    pub fn run<K: Keeper>(
+        &mut self,
+        alloc: Global,
+        keeper: &mut K,
+        turns: &[Turn],
+    ) -> Result<(), TurnFault>
+        requires { All (IsTurn (length self.old.world.servers)) turns.now }
+        ensures ok { OnOk result (Ran engine (K.kept keeper.old) self.old turns.now (K.kept keeper.new) self.new) }
+        ensures err { IfErr result (λ e. WasCutOff engine (K.kept keeper.old) self.old turns.now (K.kept keeper.new) self.new e) }
+        ensures cause { HasTurnCause (K.faults keeper.old) (K.faults keeper.new) result }
+        ensures servers { length self.new.world.servers ≡ length self.old.world.servers }
+    {
+        for t in turns {
+            self.turn(alloc, keeper, t)?;
+        }
+        Ok(())
+    }
+
+    /// The moment that it is now: at most 2^63.
+    pub fn now(&self) -> Moment
+        ensures value { result.0 ≡ self.now.moment }
+        ensures within { result.0 ≤ 2 ^ 63 }
+    {
+        self.moment
+    }
+
+    /// The servers as they are now.
+    pub fn world(&self) -> &World
+        ensures { result.now ≡ self.now.world }
+    {
+        &self.world
+    }
+
+    /// What orchestrator knows now.
+    pub fn book(&self) -> &Book
+        ensures { result.now ≡ self.now.book }
+    {
+        &self.book
+    }
+}

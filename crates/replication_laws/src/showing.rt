@@ -1,0 +1,19 @@
+//! What a status shows has places.
+
+ghost use Rattle.std.specs.Prelude.{◌≡◌, ℕ, List, Ok, Some};
+ghost use Rattle.server_words.specs.declared.status.Status.{Status as Seen};
+ghost use Rattle.server_model.specs.Gtids.{shown, status};
+ghost use Rattle.server_model.specs.Run.{Exchange, after, run, Allowed, AllAllowed};
+ghost use Rattle.server_model.specs.Safe.{Placed};
+ghost use Rattle.server_model.specs.Worlds.{World};
+ghost use Rattle.replication_laws.specs.Showing.{Shows};
+
+/// In a placed world, quiet or not, what a status shows of a server, reached or not, has places: its own end in its own
+/// log, and its executed and its read coordinate in the log of the source that it shows. That source logs, and the
+/// executed coordinate is not after the read one. So it is for good: after each exchange, and after each run.
+pub fn shown_coordinates_have_places()
+    ensures seen { (w : World) (n : ℕ) (seen : Seen) → Placed w → status w n ≡ Ok seen → Shows w n seen }
+    ensures unreached { (w : World) (n : ℕ) (seen : Seen) → Placed w → shown w n ≡ Some seen → Shows w n seen }
+    ensures stays { (w : World) (e : Exchange) (n : ℕ) (seen : Seen) → Placed w → Allowed w e → Shows w n seen → Shows (after w e) n seen }
+    ensures run_stays { (w : World) (es : List Exchange) (n : ℕ) (seen : Seen) → Placed w → AllAllowed w es → Shows w n seen → Shows (run w es) n seen }
+{}

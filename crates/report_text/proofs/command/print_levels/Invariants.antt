@@ -1,6 +1,0 @@
-use Rattle.std.proofs.Common.{◌≡◌, ◌++◌}
-use Rattle.report_text.specs.Commands.{levels_text}
-use Rattle.report_text.proofs.command.print_levels.Given as goal
-
-abbrev pub invariant-loop : goal.invariant-loop
-invariant-loop l = l.out.items ≡ l.fn.out.items ++ levels_text l.counter

@@ -1,0 +1,263 @@
+-- Runs of turns, state by state: what each turn's exchanges keep.
+use Rattle.std.proofs.Common.{◌≡◌, ℕ, ◌+◌, ◌-◌, ◌≤◌, ◌<◌, Bool, cond, List, [], ◌∷◌, ◌++◌, length, take, refl, sym, ◌∙◌, ap, subst, Option, Some, None, arith, zero, suc}
+use Rattle.std.specs.Prelude.{All, slice_get, count_by}
+use Rattle.std.proofs.Math.Seq.{take-append-add}
+use Rattle.std.proofs.lemmas.List.{append-nil}
+use Rattle.std.proofs.lemmas.List.Sums.{sum_by-append, sum_by-cons}
+use Rattle.std.proofs.lemmas.List.Elements.{All-head, All-tail, All-take}
+use Rattle.std.proofs.lemmas.Option.{get_or_from_slice_get, same_Some, slice_get_within}
+use Rattle.binlog_coords.specs.declared.Coord.{Coord}
+use Rattle.orch_base.specs.declared.server.ServerNo.{ServerNo}
+use Rattle.instance_keeper.specs.declared.row.Row.{Row}
+use Rattle.server_words.specs.declared.answers.ApplyAnswer.TheVariants as answers
+use Rattle.server_words.specs.declared.answers.RotateAnswer.TheVariants as rotating
+use Rattle.server_model.specs.Desk.{rotate, rotate_answer}
+use Rattle.server_model.specs.declared.server.Server.{Server}
+use Rattle.world_openings.proofs.Opened.{given-opened}
+use Rattle.server_model.specs.Exchanges.{apply}
+use Rattle.server_model.specs.Run.{Exchange, Rotate, is_rotate as opens_file, is_write as adds, after, run, AllAllowed, AllJoinWell}
+use Rattle.server_model.specs.Safe.{Safe, Placed, IsQuiet}
+use Rattle.server_model.specs.Worlds.{World, server_at}
+use Rattle.replication_laws.specs.Room.{HasFiles, IsNotFull}
+use Rattle.world_openings.specs.Room.{room_for}
+use Rattle.replication_laws.proofs.Applies.{no_skipped}
+use Rattle.replication_laws.proofs.Keeping.{Placed-safe}
+use Rattle.opening_laws.proofs.Openings.{Safe-opened}
+use Rattle.replication_laws.proofs.Files.{not_full-files}
+use Rattle.opening_laws.proofs.Rooms.{not_full-opened}
+use Rattle.replication_laws.proofs.Runs as exchanges
+use Rattle.turns.specs.declared.turn.Turn.{Turn}
+use Rattle.turns.specs.declared.turn.Turn.TheVariants as turn
+use Rattle.scenarios.specs.declared.scenario.Scenario.{Scenario}
+use Rattle.scenarios.specs.Scenarios.{IsScenario, flushes_of, listed_in, room_of}
+use Rattle.scenarios.specs.Turns.{IsTurn, is_rotate, is_write}
+use Rattle.scenarios.proofs.Rooms.{longest-at}
+use Rattle.orch_core.specs.Runs.{engine, run_turns, step, turns_of}
+use Rattle.orch_core.specs.Scenarios.{start, start_world}
+use Rattle.orch_core.specs.States.{State}
+use Rattle.orch_core.specs.Turns.{exchanges_at, exchanges_of}
+use Rattle.orch_core.proofs.States.{Allowed-turn}
+use Rattle.run_laws.specs.Runs.{ComesBy, ComesTo}
+
+-- ---- what holds of each state
+
+pub record Holds (s : State) : Type 0 where
+  pub placed : Placed s.world
+  pub safe : IsQuiet s.world → Safe s.world
+
+Holds-step : (count : ℕ) (rows : List Row) (s : State) (t : Turn) → IsTurn count t → Holds s → Holds (step rows s t)
+Holds-step count rows s t is holds =
+    let allowed = Allowed-turn count s.world t is in
+    record {
+      placed = exchanges.Placed-run s.world (exchanges_at s t) holds.placed allowed.0;
+      safe = λ q. exchanges.Safe-run s.world (exchanges_at s t) (holds.safe (exchanges.quiet-run s.world (exchanges_at s t) q)) allowed.0 allowed.1 q;
+    }
+
+Holds-run : (count : ℕ) (s : State) (xs : List (List Row × Turn)) → All (IsTurn count) (turns_of xs) → Holds s → Holds (run_turns engine s xs)
+Holds-run count s [] all holds = holds
+Holds-run count s (x ∷ xs) all holds =
+    Holds-run count (step x.0 s x.1) xs (All-tail (IsTurn count) x.1 (turns_of xs) all) (Holds-step count x.0 s x.1 (All-head (IsTurn count) x.1 (turns_of xs) all) holds)
+
+Holds-start : (s : Scenario) (wait : ℕ) (rows : List Row) → IsScenario s → Holds (start s wait rows)
+Holds-start s wait rows is =
+    let safe = Safe-opened s.opening (room_of s) (flushes_of s) is.checked in
+    record { placed = Placed-safe (start_world s) safe; safe = λ q. safe }
+
+pub Holds-comes : (s : Scenario) (xs : List (List Row × Turn)) (now : State) → ComesTo s xs now → Holds now
+Holds-comes s xs now comes =
+    subst Holds (sym comes.state) (Holds-run (length s.opening.servers) (start s comes.wait comes.rows) xs comes.turns (Holds-start s comes.wait comes.rows comes.scenario))
+
+pub not_skipped : (s : Scenario) (xs : List (List Row × Turn)) (now : State) (n : ℕ) (to : Coord) → ComesTo s xs now → IsQuiet now.world → (apply now.world n).0 ≡ answers.Skipped to → ⊥
+not_skipped s xs now n to comes q = no_skipped now.world n to ((Holds-comes s xs now comes).safe q)
+
+-- a state that is quiet came from quiet ones
+quiet-back : (s : State) (xs : List (List Row × Turn)) → IsQuiet (run_turns engine s xs).world → IsQuiet s.world
+quiet-back s [] q = q
+quiet-back s (x ∷ xs) q = exchanges.quiet-run s.world (exchanges_at s x.1) (quiet-back (step x.0 s x.1) xs q)
+
+pub quiet_before : (s : State) (xs : List (List Row × Turn)) (k : ℕ) → IsQuiet (run_turns engine s xs).world → IsQuiet (run_turns engine s (take k xs)).world
+quiet_before s xs zero q = quiet-back s xs q
+quiet_before s [] (suc k) q = q
+quiet_before s (x ∷ xs) (suc k) q = quiet_before (step x.0 s x.1) xs k q
+
+pub own_comes : (s : Scenario) (wait : ℕ) (rows : List Row) (xs : List (List Row × Turn)) (k : ℕ) → IsScenario s → turns_of xs ≡ take k s.turns → ComesBy s xs k (run_turns engine (start s wait rows) xs)
+own_comes s wait rows xs k is own = record {
+  comes = record {
+    scenario = is;
+    wait = wait;
+    rows = rows;
+    turns = subst (All (IsTurn (length s.opening.servers))) (sym own) (All-take (IsTurn (length s.opening.servers)) k s.turns is.turns);
+    state = refl;
+  };
+  own = own;
+}
+
+-- ---- the exchanges that were made, one after another
+
+along : State → List (List Row × Turn) → List Exchange
+along s [] = []
+along s (x ∷ xs) = exchanges_at s x.1 ++ along (step x.0 s x.1) xs
+
+run-append : (w : World) (es fs : List Exchange) → run w (es ++ fs) ≡ run (run w es) fs
+run-append w [] fs = refl
+run-append w (e ∷ es) fs = run-append (after w e) es fs
+
+world-along : (s : State) (xs : List (List Row × Turn)) → (run_turns engine s xs).world ≡ run s.world (along s xs)
+unfolding along
+world-along s [] = refl
+world-along s (x ∷ xs) = world-along (step x.0 s x.1) xs ∙ sym (run-append s.world (exchanges_at s x.1) (along (step x.0 s x.1) xs))
+
+-- what some exchanges need, and those after them
+record Fit (w : World) (es : List Exchange) : Type 0 where
+  allowed : AllAllowed w es
+  join : AllJoinWell w es
+
+Fit-append : (w : World) (es fs : List Exchange) → Fit w es → Fit (run w es) fs → Fit w (es ++ fs)
+Fit-append w [] fs here more = more
+Fit-append w (e ∷ es) fs here more =
+    let rest = Fit-append (after w e) es fs (record { allowed = here.allowed.1; join = here.join.1 }) more in
+    record { allowed = (here.allowed.0, rest.allowed); join = (here.join.0, rest.join) }
+
+Fit-turn : (count : ℕ) (s : State) (t : Turn) → IsTurn count t → Fit s.world (exchanges_at s t)
+Fit-turn count s t is = let fit = Allowed-turn count s.world t is in record { allowed = fit.0; join = fit.1 }
+
+Fit-along : (count : ℕ) (s : State) (xs : List (List Row × Turn)) → All (IsTurn count) (turns_of xs) → Fit s.world (along s xs)
+unfolding along
+Fit-along count s [] all = record { allowed = tt; join = tt }
+Fit-along count s (x ∷ xs) all =
+    Fit-append s.world (exchanges_at s x.1) (along (step x.0 s x.1) xs) (Fit-turn count s x.1 (All-head (IsTurn count) x.1 (turns_of xs) all))
+    (Fit-along count (step x.0 s x.1) xs (All-tail (IsTurn count) x.1 (turns_of xs) all))
+
+-- ---- how many of them add a transaction or a file
+
+abbrev tick : Bool → ℕ
+tick b = cond b 1 0
+
+-- an exchange of a kind is made by a turn of a kind
+record Tells (test : Exchange → Bool) (is : Turn → Bool) : Type 0 where
+  each : (t : Turn) → count_by test (exchanges_of t) ≡ tick (is t)
+
+adds-writes : Tells adds is_write
+adds-writes = record { each = each }
+  where
+    each : (t : Turn) → count_by adds (exchanges_of t) ≡ tick (is_write t)
+    each (turn.Write n size) = refl
+    each (turn.Fetch n) = refl
+    each (turn.Apply n) = refl
+    each (turn.Fail n) = refl
+    each (turn.Heal n) = refl
+    each (turn.Cut n link) = refl
+    each (turn.Join n link) = refl
+    each (turn.Rotate n) = refl
+    each (turn.Tick seconds) = refl
+    each (turn.Job job) = refl
+    each turn.Scan = refl
+    each (turn.PollRead p n) = refl
+    each (turn.PollStore p) = refl
+    each (turn.Command c) = refl
+    each turn.Restart = refl
+
+opens-rotates : Tells opens_file is_rotate
+opens-rotates = record { each = each }
+  where
+    each : (t : Turn) → count_by opens_file (exchanges_of t) ≡ tick (is_rotate t)
+    each (turn.Write n size) = refl
+    each (turn.Fetch n) = refl
+    each (turn.Apply n) = refl
+    each (turn.Fail n) = refl
+    each (turn.Heal n) = refl
+    each (turn.Cut n link) = refl
+    each (turn.Join n link) = refl
+    each (turn.Rotate n) = refl
+    each (turn.Tick seconds) = refl
+    each (turn.Job job) = refl
+    each turn.Scan = refl
+    each (turn.PollRead p n) = refl
+    each (turn.PollStore p) = refl
+    each (turn.Command c) = refl
+    each turn.Restart = refl
+
+module _ (test : Exchange → Bool) (is : Turn → Bool) (tells : Tells test is) where
+  count-along : (s : State) (xs : List (List Row × Turn)) → count_by test (along s xs) ≡ count_by is (turns_of xs)
+  unfolding along
+  count-along s [] = refl
+  count-along s (x ∷ xs) =
+      let here : count_by test (exchanges_of x.1) ≡ tick (is x.1) = tells.each x.1 in
+      let rest : count_by test (along (step x.0 s x.1) xs) ≡ count_by is (turns_of xs) = count-along (step x.0 s x.1) xs in
+      sum_by-append (λ e. tick (test e)) (exchanges_at s x.1) (along (step x.0 s x.1) xs)
+      ∙ (ap (λ (n : ℕ). n + count_by test (along (step x.0 s x.1) xs)) here ∙ ap (λ (n : ℕ). tick (is x.1) + n) rest)
+      ∙ sym (sum_by-cons (λ t. tick (is t)) x.1 (turns_of xs))
+
+  count-next : (ts : List Turn) (k : ℕ) (t : Turn) → slice_get ts k ≡ Some t → count_by is (take k ts) + tick (is t) ≤ count_by is ts
+  count-next [] k t at = cc
+  count-next (x ∷ ts) zero t at =
+      let same : tick (is x) ≡ tick (is t) = ap (λ y. tick (is y)) (same_Some x t at) in
+      omega (arith, same, sum_by-cons (λ y. tick (is y)) x ts)
+  count-next (x ∷ ts) (suc k) t at =
+      omega (arith, count-next ts k t at, sum_by-cons (λ y. tick (is y)) x ts, sum_by-cons (λ y. tick (is y)) x (take k ts))
+
+  -- those of the first turns and of the next one are no more than the scenario's turns of that kind
+  count-own : (s : State) (xs : List (List Row × Turn)) (ts : List Turn) (k : ℕ) (t : Turn) → turns_of xs ≡ take k ts → slice_get ts k ≡ Some t
+      → count_by test (along s xs ++ exchanges_of t) ≤ count_by is ts
+  count-own s xs ts k t own at =
+      let here : count_by test (exchanges_of t) ≡ tick (is t) = tells.each t in
+      let before : count_by test (along s xs) ≡ count_by is (take k ts) = count-along s xs ∙ ap (count_by is) own in
+      omega (arith, here, before, count-next ts k t at, sum_by-append (λ e. tick (test e)) (along s xs) (exchanges_of t))
+
+-- ---- no exchange of the scenario's own turns finds a history or a log full
+
+get-append : (es fs : List Exchange) (j : ℕ) → slice_get (es ++ fs) (length es + j) ≡ slice_get fs j
+get-append [] fs j = let same : 0 + j ≡ j = omega arith in ap (slice_get fs) same
+get-append (e ∷ es) fs j =
+    let same : length (e ∷ es) + j ≡ suc (length es + j) = omega arith in
+    ap (slice_get (e ∷ (es ++ fs))) same ∙ get-append es fs j
+
+module _ (s : Scenario) (xs : List (List Row × Turn)) (k : ℕ) (now : State) (by : ComesBy s xs k now) (t : Turn) (at : slice_get s.turns k ≡ Some t) where
+  abbrev first : State
+  first = start s by.comes.wait by.comes.rows
+
+  abbrev made : List Exchange
+  made = along first xs ++ exchanges_of t
+
+  now-world : now.world ≡ run (start_world s) (along first xs)
+  now-world = ap (λ (x : State). x.world) by.comes.state ∙ world-along first xs
+
+  t-is : IsTurn (length s.opening.servers) t
+  t-is = subst (IsTurn (length s.opening.servers)) (get_or_from_slice_get s.turns k t t at) (by.comes.scenario.turns k t (slice_get_within s.turns k t at))
+
+  fit : Fit (start_world s) made
+  fit =
+      Fit-append (start_world s) (along first xs) (exchanges_of t) (Fit-along (length s.opening.servers) first xs by.comes.turns)
+      (subst (λ (w : World). Fit w (exchanges_of t)) now-world (Fit-turn (length s.opening.servers) now t t-is))
+
+  -- the world after some of the turn's exchanges
+  run-made : (j : ℕ) → run (start_world s) (take (length (along first xs) + j) made) ≡ run now.world (take j (exchanges_at now t))
+  run-made j =
+      ap (run (start_world s)) (take-append-add (along first xs) (exchanges_of t) j)
+      ∙ run-append (start_world s) (along first xs) (take j (exchanges_of t))
+      ∙ ap (λ (w : World). run w (take j (exchanges_of t))) (sym now-world)
+
+  pub not_full : (j : ℕ) (e : Exchange) → slice_get (exchanges_at now t) j ≡ Some e → IsQuiet (run now.world (take j (exchanges_at now t))) → IsNotFull (run now.world (take j (exchanges_at now t))) e
+  not_full j e makes q =
+      let few = count-own adds is_write adds-writes first xs s.turns k t by.own at in
+      let room : room_for s.opening made ≤ room_of s = omega (arith, few) in
+      subst (λ w. IsNotFull w e) (run-made j)
+      (not_full-opened s.opening (room_of s) (flushes_of s) made (length (along first xs) + j) e by.comes.scenario.checked fit.allowed fit.join room
+      (get-append (along first xs) (exchanges_of t) j ∙ makes)
+      (subst IsQuiet (sym (run-made j)) q))
+
+  HasFiles-start : HasFiles (count_by opens_file made) (start_world s)
+  HasFiles-start n x there =
+      let g = given-opened s.opening (room_of s) (flushes_of s) n x there in
+      let points = longest-at s.opening.servers n g.init g.place in
+      let left : x.log.flushes ≡ flushes_of s - length g.init.flushes = ap (λ (y : Server). y.log.flushes) g.is_opened in
+      let few = count-own opens_file is_rotate opens-rotates first xs s.turns k t by.own at in
+      omega (arith, points, left, few)
+
+pub files_left : (s : Scenario) (xs : List (List Row × Turn)) (k : ℕ) (now : State) (n : ServerNo) → ComesBy s xs k now → slice_get s.turns k ≡ Some (turn.Rotate n) → (rotate now.world n.0).0 ≡ rotating.Full → ⊥
+files_left s xs k now n by at full =
+    let first = start s by.comes.wait by.comes.rows in
+    let es = along first xs in
+    not_full-files (made s xs k now by (turn.Rotate n) at) (length es + 0) n.0 (start_world s) (HasFiles-start s xs k now by (turn.Rotate n) at)
+    (get-append es (exchanges_of (turn.Rotate n)) 0)
+    (ap (λ (w : World). rotate_answer (server_at w n.0)) (run-made s xs k now by (turn.Rotate n) at 0) ∙ full)

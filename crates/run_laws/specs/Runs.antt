@@ -1,0 +1,23 @@
+-- Runs from a scenario's opening state, whatever rows the keeper hands back at the opening and at each turn.
+use Rattle.std.specs.Prelude.{◌≡◌, ℕ, List, All, length, take}
+use Rattle.instance_keeper.specs.declared.row.Row.{Row}
+use Rattle.turns.specs.declared.turn.Turn.{Turn}
+use Rattle.scenarios.specs.declared.scenario.Scenario.{Scenario}
+use Rattle.scenarios.specs.Scenarios.{IsScenario}
+use Rattle.scenarios.specs.Turns.{IsTurn}
+use Rattle.orch_core.specs.Runs.{engine, run_turns, turns_of}
+use Rattle.orch_core.specs.Scenarios.{start}
+use Rattle.orch_core.specs.States.{State}
+
+-- so many waits, these rows and these turns over a scenario's servers led to this state
+pub record ComesTo (s : Scenario) (xs : List (List Row × Turn)) (now : State) : Type 0 where
+  pub scenario : IsScenario s
+  pub wait : ℕ
+  pub rows : List Row
+  pub turns : All (IsTurn (length s.opening.servers)) (turns_of xs)
+  pub state : now ≡ run_turns engine (start s wait rows) xs
+
+-- and these were the scenario's own first k turns
+pub record ComesBy (s : Scenario) (xs : List (List Row × Turn)) (k : ℕ) (now : State) : Type 0 where
+  pub comes : ComesTo s xs now
+  pub own : turns_of xs ≡ take k s.turns

@@ -1,7 +1,0 @@
-use Rattle.std.proofs.Common.{ℕ, ◌<◌, get_or}
-use Rattle.openings.specs.Opening.{IsPart}
-use Rattle.openings.specs.declared.part.Part.{Part}
-use Rattle.scenario_servers.proofs.opening.tests.listed.are_parts.Given as goal
-
-abbrev pub invariant-loop-part : goal.invariant-loop-part
-invariant-loop-part l = (k : ℕ) (d : Part) → k < l.part-index → IsPart l.servers (get_or l.parts k d)

@@ -1,0 +1,7 @@
+use Rattle.std.proofs.Common.{◌≡◌, ◌≤◌, take}
+use Rattle.std.specs.Prelude.{count_by}
+use Rattle.scenarios.specs.Turns.{is_rotate}
+use Rattle.scenarios.proofs.room.rotations.Given as goal
+
+abbrev pub invariant-loop-t : goal.invariant-loop-t
+invariant-loop-t l = (l.count ≡ count_by is_rotate (take l.t-index l.turns)) × (l.count ≤ l.t-index)

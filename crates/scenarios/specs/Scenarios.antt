@@ -1,0 +1,48 @@
+-- Scenarios that can be run, and the room that a run takes.
+use Rattle.std.specs.Prelude.{◌≡◌, ℕ, ◌+◌, ◌*◌, ◌≤◌, List, [], ◌∷◌, length, map, All, count_by, sum_by, max}
+use Rattle.orch_base.specs.Names.{HostPort}
+use Rattle.orch_base.specs.declared.server.Settings.{Settings}
+use Rattle.openings.specs.declared.init.ServerInit.{ServerInit}
+use Rattle.openings.specs.Listed.{transactions}
+use Rattle.openings.specs.Opening.{IsChecked}
+use Rattle.openings.specs.Servers.{parts_of}
+use Rattle.scenarios.specs.declared.scenario.Scenario.{Scenario}
+use Rattle.scenarios.specs.Turns.{IsTurn, is_rotate, is_write}
+
+-- the transactions that histories list
+abbrev pub listed_in : List ServerInit → ℕ
+listed_in is = sum_by (λ i. transactions (parts_of i)) is
+
+-- the transactions that the scenario's histories list, and one more for each of its write turns
+abbrev pub room_of : Scenario → ℕ
+room_of s = listed_in s.opening.servers + count_by is_write s.turns
+
+-- the length of the longest list of flush points
+abbrev pub longest_flushes : List ServerInit → ℕ
+longest_flushes [] = 0
+longest_flushes (i ∷ is) = max (length i.flushes) (longest_flushes is)
+
+-- the flush points of one server, and one more new file for each of the scenario's rotate turns
+abbrev pub flushes_of : Scenario → ℕ
+flushes_of s = longest_flushes s.opening.servers + count_by is_rotate s.turns
+
+-- the servers' settings, in the scenario's order
+abbrev pub settings_of : Scenario → List Settings
+settings_of s = map (λ i. i.settings) s.opening.servers
+
+-- their names
+abbrev pub names_of : Scenario → List HostPort
+names_of s = map (λ i. i.settings.name) s.opening.servers
+
+-- The opening is checked, each turn is one of its servers', there are at most 1,000,000 turns, the servers together take
+-- room for at most 4,000,000 transactions, each server is known or not, and each filter list has an
+-- answer for each server.
+pub record IsScenario (s : Scenario) : Type 0 where
+  pub checked : IsChecked s.opening
+  pub moment : s.moment.0 ≤ 1000000000000000
+  pub turns : All (IsTurn (length s.opening.servers)) s.turns
+  pub few : length s.turns ≤ 1000000
+  pub room : length s.opening.servers * room_of s ≤ 4000000
+  pub known : length s.known ≡ length s.opening.servers
+  pub master : length s.filters.master.passes ≡ length s.opening.servers
+  pub intermediate : length s.filters.intermediate.passes ≡ length s.opening.servers

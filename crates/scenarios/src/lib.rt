@@ -1,0 +1,15 @@
+//! Scenarios: the servers as they begin and the turns that follow, which of them can be run, and how much room a run takes.
+#![tactic(auto)]
+
+mod filters;
+mod format;
+mod room;
+mod scenario;
+
+pub use commands::Answers;
+pub use filters::{Alias, Aliases, ClusterFilters, FilterList, Texts};
+pub use format::built;
+/// Want of memory.
+pub use orch_base::Memory;
+pub use scenario::{Scenario, Turns};
+pub use turns::{HeldCommand, Turn};

@@ -1,0 +1,95 @@
+//! Scenarios: the servers as they begin, and the turns that follow.
+
+ghost use Rattle.std.specs.Prelude.{◌≡◌, IfOk};
+
+use crate::{Aliases, Answers, ClusterFilters, Turn};
+use openings::Opening;
+use orch_base::{Memory, Moment};
+use std::alloc::Global;
+use std::marker::Model;
+
+/// Turns in order, which contracts see as that list.
+#[derive(Drop)]
+pub struct Turns {
+    turns: Vec<Turn>,
+}
+
+impl Model for Turns {
+    ghost use Rattle.std.specs.Prelude.{List};
+    ghost use Rattle.turns.specs.declared.turn.Turn.{Turn as ATurn};
+
+    ghost Value = { List ATurn };
+
+    ghost view = { λ t. t.turns.items };
+}
+
+impl Turns {
+    /// These turns. It takes no memory.
+    pub fn new(turns: Vec<Turn>) -> Turns
+        ensures { result ≡ turns.items }
+    {
+        Turns { turns }
+    }
+
+    /// The turns in order.
+    pub fn as_slice(&self) -> &[Turn]
+        ensures { result.now ≡ self.now }
+    {
+        &self.turns
+    }
+
+    /// Gives the turns back. It takes no memory.
+    pub fn into_vec(self) -> Vec<Turn>
+        ensures { result.items ≡ self }
+    {
+        self.turns
+    }
+
+    /// The same turns once more.
+    pub fn copy(&self, alloc: Global) -> Result<Turns, Memory>
+        ensures { IfOk result (λ t. t ≡ self.now) }
+    {
+        let turns = copy_turns(alloc, &self.turns)?;
+        Ok(Turns { turns })
+    }
+}
+
+fn copy_turns(alloc: Global, turns: &[Turn]) -> Result<Vec<Turn>, Memory>
+    ensures { IfOk result (λ copy. copy.items ≡ turns.now) }
+{
+    let mut copy = Vec::with_capacity(alloc, turns.len())?;
+    for turn in turns {
+        copy.push(turn.copy(alloc)?)?;
+    }
+    Ok(copy)
+}
+
+/// The servers as they begin, the moment, the clusters' aliases, whose recoveries may begin by themselves, what is known at
+/// the opening, and the turns that follow.
+#[derive(Drop)]
+pub struct Scenario {
+    pub opening: Opening,
+    /// When it begins: at most 1,000,000,000,000,000.
+    pub moment: Moment,
+    pub aliases: Aliases,
+    pub filters: ClusterFilters,
+    /// For each server whether the book knows it at the opening.
+    pub known: Answers,
+    pub turns: Turns,
+}
+
+impl Scenario {
+    /// The same scenario once more.
+    pub fn copy(&self, alloc: Global) -> Result<Scenario, Memory>
+        ensures { IfOk result (λ s. s ≡ self.now) }
+    {
+        Ok(Scenario {
+            opening: self.opening.copy(alloc)?,
+            moment: self.moment,
+            aliases: self.aliases.copy(alloc)?,
+            filters: self.filters.copy(alloc)?,
+            known: self.known.copy(alloc)?,
+            turns: self.turns.copy(alloc)?,
+        })
+    }
+}

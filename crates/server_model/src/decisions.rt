@@ -1,0 +1,25 @@
+//! What a receiver and an applier are to do next.
+
+use binlog_coords::{Coord, Next};
+use orch_base::Txn;
+
+/// What a receiver is to do next.
+#[derive(Clone, Copy, Debug, PartialEq, Eq)]
+pub enum FetchStep {
+    Halt,
+    Unlinked,
+    /// To take what follows in the source's log.
+    Take(Next),
+}
+
+/// What an applier is to do next.
+#[derive(Clone, Copy, Debug, PartialEq, Eq)]
+pub enum ApplyStep {
+    Halt,
+    ForgetUntil,
+    Idle,
+    Pass(Coord),
+    Skip(Coord),
+    NoRoom,
+    Execute(Txn, Coord),
+}

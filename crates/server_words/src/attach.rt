@@ -1,0 +1,43 @@
+//! Where servers stand, and why one isn't attached.
+
+ghost use Rattle.std.specs.Prelude.{◌≡◌};
+ghost use Rattle.server_words.specs.declared.attach.AttachFault.TheVariants.{Memory as NoMemory};
+
+use binlog_coords::Coord;
+use gtid_sets::GtidSet;
+use orch_base::{Memory, ServerNo};
+
+/// Where a server stands.
+#[derive(Clone, Copy, Debug, PartialEq, Eq)]
+pub enum Spot {
+    /// Under this source, which it keeps, at this executed coordinate.
+    At(ServerNo, Coord),
+    /// At this end of its own log.
+    OwnEnd(Coord),
+    Nowhere,
+}
+
+/// Why a server wasn't attached. Nothing has changed then.
+#[derive(Drop)]
+pub enum AttachFault {
+    /// Orchestrator doesn't reach the server.
+    Unreachable,
+    /// A thread of the server is on; it stands here.
+    Running(Spot),
+    /// The server was expected at the first spot, and was found at the second.
+    Interfered(Spot, Spot),
+    /// The new source is the server itself or below it.
+    Loop,
+    /// The server has executed these, which weren't observed of the new source. Only an attachment by a set answers it.
+    Errant(GtidSet),
+    /// Want of memory. Only an attachment by a set answers it.
+    Memory,
+}
+
+impl From<Memory> for AttachFault {
+    ghost from_gives = { λ _ e. e ≡ NoMemory };
+
+    fn from(_e: Memory) -> AttachFault {
+        AttachFault::Memory
+    }
+}

@@ -1,0 +1,92 @@
+//! What orchestrator sees of a server in one exchange.
+
+ghost use Rattle.std.specs.Prelude.{◌≡◌};
+ghost use Rattle.server_words.specs.declared.status.StatusFault.TheVariants.{Memory as NoMemory};
+
+use binlog_coords::Coord;
+use gtid_sets::GtidSet;
+use orch_base::{IoState, Memory, SourceState};
+
+/// A server as one exchange shows it (MySQL 8.0 Reference Manual, "SHOW REPLICA STATUS Statement", "SHOW BINARY LOG
+/// STATUS Statement").
+#[derive(Drop)]
+pub struct Status {
+    /// The end of its own binary log; None exactly for a server that doesn't log.
+    pub own_end: Option<Coord>,
+    pub source: SourceState,
+    /// How far its applier has executed its source's log; the log's beginning for a server without a source.
+    pub exec: Coord,
+    /// How far its receiver has read its source's log; the log's beginning for a server without a source.
+    pub read: Coord,
+    /// Whether it finds its place by GTIDs (SOURCE_AUTO_POSITION).
+    pub auto: bool,
+    /// Its receiver.
+    pub io: IoState,
+    /// Whether its applier is on.
+    pub sql: bool,
+    pub read_only: bool,
+    /// The GTIDs of what it has executed (`gtid_executed`); empty where the servers don't use GTIDs.
+    pub set: GtidSet,
+}
+
+impl Status {
+    ghost use Rattle.std.specs.Prelude.{◌≡◌, ◌↔◌, IfOk, IsTrue};
+
+    /// The same once more.
+    pub fn copy(&self) -> Result<Status, Memory>
+        ensures { IfOk result (λ s. s ≡ self.now) }
+    {
+        Ok(Status {
+            own_end: self.own_end,
+            source: self.source,
+            exec: self.exec,
+            read: self.read,
+            auto: self.auto,
+            io: self.io,
+            sql: self.sql,
+            read_only: self.read_only,
+            set: self.set.copy()?,
+        })
+    }
+
+    // Whether it replicates in the same way.
+    fn has_same_source(&self, other: &Status) -> bool
+        ensures { IsTrue result ↔ ((self.now.source ≡ other.now.source) × (self.now.exec ≡ other.now.exec) × (self.now.read ≡ other.now.read) × (self.now.auto ≡ other.now.auto)) }
+    {
+        (self.source == other.source && self.exec == other.exec)
+            && (self.read == other.read && self.auto == other.auto)
+    }
+
+    // Whether its threads and flags are the same.
+    fn has_same_threads(&self, other: &Status) -> bool
+        ensures { IsTrue result ↔ ((self.now.io ≡ other.now.io) × (self.now.sql ≡ other.now.sql) × (self.now.read_only ≡ other.now.read_only)) }
+    {
+        self.io == other.io && self.sql == other.sql && self.read_only == other.read_only
+    }
+
+    /// Whether the same was seen.
+    pub fn is_same(&self, other: &Status) -> bool
+        ensures { IsTrue result ↔ (self.now ≡ other.now) }
+    {
+        (self.own_end == other.own_end && self.set.is_same(&other.set))
+            && self.has_same_source(other)
+            && self.has_same_threads(other)
+    }
+}
+
+/// Why nothing was seen of a server.
+#[derive(Clone, Copy, Debug, PartialEq, Eq)]
+pub enum StatusFault {
+    /// The server is down, or its link to the desk is cut.
+    Unreachable,
+    /// Want of memory.
+    Memory,
+}
+
+impl From<Memory> for StatusFault {
+    ghost from_gives = { λ _ e. e ≡ NoMemory };
+
+    fn from(_e: Memory) -> StatusFault {
+        StatusFault::Memory
+    }
+}

@@ -1,0 +1,4 @@
+pub mod Opened
+pub mod LaidLogs
+pub mod OpenedWorlds
+pub mod Placings

@@ -1,0 +1,131 @@
+-- The servers of an opening, made one after another.
+use Rattle.std.proofs.Common.{◌≡◌, ℕ, ◌+◌, ◌<◌, List, [], ◌∷◌, ◌++◌, length, length-append, refl, sym, ◌∙◌, ap, inl, inr, Option, Some, None, arith, zero, suc}
+use Rattle.std.specs.Prelude.{option_map, slice_get, slice_set}
+use Rattle.std.proofs.lemmas.Bool.{cases_eq, cases_lt}
+use Rattle.std.proofs.lemmas.Option.{same_Some, slice_get_within}
+use Rattle.std.proofs.lemmas.List.{length-set}
+use Rattle.binlog_coords.specs.declared.Coord.{Coord}
+use Rattle.openings.specs.declared.init.ServerInit.{ServerInit}
+use Rattle.openings.specs.Opening.{Opened}
+use Rattle.openings.specs.Servers.{exec_of, read_of}
+use Rattle.server_model.specs.declared.server.Server.{Server}
+use Rattle.server_model.proofs.Lists.{set_same, set_other}
+use Rattle.world_openings.specs.Makings.{bare_server, placed_by, AreBare, ArePlaced, HaveLogs}
+use Rattle.world_openings.specs.Opening.{opened_from}
+use Rattle.world_openings.proofs.Opened.{server_at-opened, length-opened_from}
+use Rattle.world_openings.proofs.OpenedWorlds.{log_at-is}
+
+-- lists with the same elements are the same
+same-by_index : {X : Type 0} (xs ys : List X) → length xs ≡ length ys → ((k : ℕ) (x : X) → slice_get xs k ≡ Some x → slice_get ys k ≡ Some x) → xs ≡ ys
+same-by_index [] [] len each = refl
+same-by_index [] (y ∷ ys) len each = absurd (omega arith)
+same-by_index (x ∷ xs) [] len each = absurd (omega arith)
+same-by_index (x ∷ xs) (y ∷ ys) len each =
+    let head : y ≡ x = same_Some y x (each 0 x refl) in
+    let tail : xs ≡ ys = same-by_index xs ys (omega arith) (λ k z h. each (suc k) z h) in
+    ap (λ z. z ∷ xs) (sym head) ∙ ap (λ zs. y ∷ zs) tail
+
+-- what a list with one more element has
+slice_get-before : {X : Type 0} (xs : List X) (y : X) (k : ℕ) → k < length xs → slice_get (xs ++ y ∷ []) k ≡ slice_get xs k
+slice_get-before [] y k h = absurd (omega arith)
+slice_get-before (x ∷ xs) y zero h = refl
+slice_get-before (x ∷ xs) y (suc k) h = slice_get-before xs y k (omega arith)
+
+slice_get-last : {X : Type 0} (xs : List X) (y : X) → slice_get (xs ++ y ∷ []) (length xs) ≡ Some y
+slice_get-last [] y = refl
+slice_get-last (x ∷ xs) y = slice_get-last xs y
+
+there : {X : Type 0} (xs : List X) (k : ℕ) → k < length xs → (x : X) × (slice_get xs k ≡ Some x)
+there [] k h = absurd (omega arith)
+there (x ∷ xs) zero h = (x, refl)
+there (x ∷ xs) (suc k) h = there xs k (omega arith)
+
+pub AreBare-none : (o : Opened) (room flushes : ℕ) → AreBare o room flushes 0 []
+AreBare-none o room flushes = record { count = refl; each = λ k i at h. absurd (omega arith) }
+
+pub AreBare-more : (o : Opened) (room flushes n : ℕ) (servers : List Server) (i : ServerInit) → slice_get o.servers n ≡ Some i → AreBare o room flushes n servers
+    → AreBare o room flushes (n + 1) (servers ++ bare_server o.servers room flushes n i ∷ [])
+AreBare-more o room flushes n servers i at bare = record {
+  count = let c = bare.count in let e = length-append servers (bare_server o.servers room flushes n i ∷ []) in omega arith;
+  each = λ k j at_k h. elim (cases_eq k n) [
+    | inl here ↦
+        let same : i ≡ j = same_Some i j (sym at ∙ ap (slice_get o.servers) (sym here) ∙ at_k) in
+        ap (slice_get (servers ++ bare_server o.servers room flushes n i ∷ [])) (here ∙ sym bare.count)
+        ∙ slice_get-last servers (bare_server o.servers room flushes n i)
+        ∙ ap (λ (x : ServerInit). Some (bare_server o.servers room flushes n x)) same
+        ∙ ap (λ m. Some (bare_server o.servers room flushes m j)) (sym here)
+    | inr apart ↦
+        let c = bare.count in
+        slice_get-before servers (bare_server o.servers room flushes n i) k (omega arith) ∙ bare.each k j at_k (omega arith)
+  ];
+}
+
+-- they have their logs
+pub HaveLogs-bare : (o : Opened) (room flushes : ℕ) (servers : List Server) → AreBare o room flushes (length o.servers) servers → HaveLogs o.servers servers
+HaveLogs-bare o room flushes servers bare = record {
+  count = bare.count;
+  each = λ k i s at here.
+      let is : s ≡ bare_server o.servers room flushes k i =
+      same_Some s (bare_server o.servers room flushes k i) (sym here ∙ bare.each k i at (slice_get_within o.servers k i at)) in
+      ap (λ (x : Server). x.log.log) is ∙ sym (log_at-is o.servers k i at);
+}
+
+-- one server more has its coordinates
+pub ArePlaced-none : (inits : List ServerInit) (servers : List Server) → ArePlaced inits 0 servers servers
+ArePlaced-none inits servers = record { count = refl; done = λ k i s at here h. absurd (omega arith); rest = λ k s here h. here }
+
+pub ArePlaced-more : (inits : List ServerInit) (n : ℕ) (before servers : List Server) (i : ServerInit) (s : Server) (exec read : Coord) → slice_get inits n ≡ Some i
+    → slice_get servers n ≡ Some s → exec ≡ exec_of inits i → read ≡ read_of inits i → ArePlaced inits n before servers
+    → ArePlaced inits (n + 1) before (slice_set servers n (record s { exec = exec; read = read }))
+ArePlaced-more inits n before servers i s exec read at here is_exec is_read placed =
+    let new : Server = record s { exec = exec; read = read } in
+    let is : new ≡ placed_by inits i s = ap (λ (c : Coord). record s { exec = c; read = read }) is_exec ∙ ap (λ (c : Coord). record s { exec = exec_of inits i; read = c }) is_read in
+    record {
+      count = length-set servers n new ∙ placed.count;
+      done = λ k j t at_k was h. elim (cases_eq k n) [
+        | inl same ↦
+            let init : i ≡ j = same_Some i j (sym at ∙ ap (slice_get inits) (sym same) ∙ at_k) in
+            let old : s ≡ t = same_Some s t (sym here ∙ ap (slice_get servers) (sym same) ∙ placed.rest k t was (omega arith)) in
+            ap (slice_get (slice_set servers n new)) same ∙ set_same servers n s new here
+            ∙ ap Some is ∙ ap (λ (x : ServerInit). Some (placed_by inits x s)) init ∙ ap (λ (x : Server). Some (placed_by inits j x)) old
+        | inr apart ↦ set_other servers n s new here k apart ∙ placed.done k j t at_k was (omega arith)
+      ];
+      rest = λ k t was h. set_other servers n s new here k (λ same. absurd (omega arith)) ∙ placed.rest k t was (omega arith);
+    }
+
+-- a server with its coordinates keeps its log
+pub HaveLogs-placed : (inits : List ServerInit) (n : ℕ) (before servers : List Server) → HaveLogs inits before → ArePlaced inits n before servers → HaveLogs inits servers
+HaveLogs-placed inits n before servers logs placed = record {
+  count = placed.count ∙ logs.count;
+  each = λ k i s at here.
+      let within = slice_get_within servers k s here in
+      let count = placed.count in
+      let old = there before k (omega arith) in
+      elim (cases_lt k n) [
+        | inl done ↦ ap (λ (x : Server). x.log.log) (same_Some s (placed_by inits i old.0) (sym here ∙ placed.done k i old.0 at old.1 done)) ∙ logs.each k i old.0 at old.1
+        | inr after ↦ ap (λ (x : Server). x.log.log) (same_Some s old.0 (sym here ∙ placed.rest k old.0 old.1 after)) ∙ logs.each k i old.0 at old.1
+      ];
+}
+
+-- all servers, with their coordinates
+pub ArePlaced-all : (o : Opened) (room flushes : ℕ) (before servers : List Server) → AreBare o room flushes (length o.servers) before → ArePlaced o.servers (length o.servers) before servers
+    → servers ≡ opened_from o.servers room flushes 0 o.servers
+ArePlaced-all o room flushes before servers bare placed =
+    same-by_index servers (opened_from o.servers room flushes 0 o.servers) (placed.count ∙ bare.count ∙ sym (length-opened_from o.servers room flushes 0 o.servers))
+    (λ k s here.
+    let within = slice_get_within servers k s here in
+    let count = placed.count in
+    let few = bare.count in
+    let init = there o.servers k (omega arith) in
+    server_at-opened o room flushes k init.0 init.1
+    ∙ sym (placed.done k init.0 (bare_server o.servers room flushes k init.0) init.1 (bare.each k init.0 init.1 (omega arith)) (omega arith)) ∙ here)
+
+-- a listed server, by what is found of it
+pub listed-by : (inits : List ServerInit) (n : ℕ) (f g : ServerInit → Coord) (exec read : Coord) → option_map f (slice_get inits n) ≡ Some exec → option_map g (slice_get inits n) ≡ Some read
+    → (i : ServerInit) × (slice_get inits n ≡ Some i) × (exec ≡ f i) × (read ≡ g i)
+listed-by inits n f g exec read is_exec is_read = go (slice_get inits n) refl is_exec is_read
+  where
+    go : (o : Option ServerInit) → slice_get inits n ≡ o → option_map f o ≡ Some exec → option_map g o ≡ Some read
+        → (i : ServerInit) × (slice_get inits n ≡ Some i) × (exec ≡ f i) × (read ≡ g i)
+    go None at e r = cc
+    go (Some i) at e r = (i, at, sym (same_Some (f i) exec e), sym (same_Some (g i) read r))

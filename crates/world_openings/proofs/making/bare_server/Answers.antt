@@ -1,0 +1,53 @@
+use Rattle.std.proofs.Common.{◌≤◌, List, length, ap, subst, sym, ◌∙◌, arith}
+use Rattle.std.specs.Prelude.{All}
+use Rattle.orch_base.specs.declared.server.Txn.{Txn}
+use Rattle.openings.specs.Servers.{history_at}
+use Rattle.openings.specs.declared.init.ServerInit.{ServerInit}
+use Rattle.openings.proofs.Soundness.{sound_checked}
+use Rattle.openings.specs.Taking.{HasSize, PartsInRange}
+use Rattle.world_openings.proofs.OpenedWorlds.{Fits-at, length-history_at}
+use Rattle.world_openings.proofs.making.bare_server.Goals as goal
+
+pub history_at-requires-clause-parts : goal.history_at-requires-clause-parts
+history_at-requires-clause-parts c =
+    subst PartsInRange (sym c.servers.ensures.value) (record {
+      each = λ n i at. (c.servers.ensures.checked.listed.each n i at).parts;
+      few = λ n i at. let fit = (Fits-at c.args.from.now c.args.room c.args.flushes n i c.requires.fits at).0 in let room = c.requires.room in omega arith;
+    })
+
+pub history_at-requires-clause-fits : goal.history_at-requires-clause-fits
+history_at-requires-clause-fits c =
+    subst (λ (is : List ServerInit). length (history_at is c.args.no.0) ≤ c.args.room) (sym c.servers.ensures.value)
+    (length-history_at c.args.from.now c.args.room c.args.flushes c.args.no.0 c.requires.fits)
+
+pub log_of-requires-clause-limit_low : goal.log_of-requires-clause-limit_low
+log_of-requires-clause-limit_low c = (c.servers.ensures.checked.listed.each c.args.no.0 c.args.init.now c.requires.at).limit_low
+
+pub log_of-requires-clause-limit_high : goal.log_of-requires-clause-limit_high
+log_of-requires-clause-limit_high c = (c.servers.ensures.checked.listed.each c.args.no.0 c.args.init.now c.requires.at).limit_high
+
+pub log_of-requires-clause-sizes : goal.log_of-requires-clause-sizes
+log_of-requires-clause-sizes c = subst (λ (ts : List Txn). All HasSize ts) (sym c.deref.ensures.value) c.in_ok-txns.ensures.sizes
+
+pub log_of-requires-clause-fits : goal.log_of-requires-clause-fits
+log_of-requires-clause-fits c =
+    subst (λ (ts : List Txn). length ts ≤ c.args.room)
+    (sym (c.deref.ensures.value ∙ c.in_ok-txns.ensures.history ∙ ap (λ (is : List ServerInit). history_at is c.args.no.0) c.servers.ensures.value))
+    (length-history_at c.args.from.now c.args.room c.args.flushes c.args.no.0 c.requires.fits)
+
+pub log_of-requires-clause-left : goal.log_of-requires-clause-left
+log_of-requires-clause-left c = (Fits-at c.args.from.now c.args.room c.args.flushes c.args.no.0 c.args.init.now c.requires.fits c.requires.at).1
+
+pub log_of-requires-clause-counts : goal.log_of-requires-clause-counts
+log_of-requires-clause-counts c =
+    (ap (λ (ts : List Txn). length ts) (c.deref.ensures.value ∙ c.in_ok-txns.ensures.history ∙ ap (λ (is : List ServerInit). history_at is c.args.no.0) c.servers.ensures.value)
+    ∙ (sound_checked c.args.from.now c.servers.ensures.checked).counts c.args.no.0 c.args.init.now c.requires.at)
+
+pub log_of-requires-clause-points : goal.log_of-requires-clause-points
+log_of-requires-clause-points c = (sound_checked c.args.from.now c.servers.ensures.checked).flushes c.args.no.0 c.args.init.now c.requires.at
+
+pub new-requires-clause-fits : goal.new-requires-clause-fits
+new-requires-clause-fits c =
+    subst (λ (ts : List Txn). length ts ≤ c.args.room)
+    (sym (c.in_ok-txns.ensures.history ∙ ap (λ (is : List ServerInit). history_at is c.args.no.0) c.servers.ensures.value))
+    (length-history_at c.args.from.now c.args.room c.args.flushes c.args.no.0 c.requires.fits)

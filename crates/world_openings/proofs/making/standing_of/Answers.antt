@@ -1,0 +1,75 @@
+use Rattle.std.proofs.Common.{◌≡◌, ℕ, ◌<◌, List, length, Some, ap, subst, sym, ◌∙◌, arith, get_or}
+use Rattle.std.specs.Prelude.{option_map, slice_get}
+use Rattle.std.proofs.lemmas.Option.{slice_get_within}
+use Rattle.binlog_coords.specs.Log.{Log}
+use Rattle.openings.specs.Servers.{log_at, exec_of, read_of}
+use Rattle.openings.specs.Sound.{IsUnder}
+use Rattle.openings.specs.declared.init.ServerInit.{ServerInit}
+use Rattle.openings.proofs.Soundness.{sound_checked}
+use Rattle.server_model.specs.declared.server.Server.{Server}
+use Rattle.server_model.proofs.Lists.{slice_get-index}
+use Rattle.world_openings.specs.Makings.{exec_in, read_in, IsPlacedIn}
+use Rattle.world_openings.proofs.OpenedWorlds.{placed-under, exec_of-under, read_of-under, read_of-root}
+use Rattle.world_openings.proofs.making.standing_of.Goals as goal
+
+-- the server as it is listed
+listed-at : (inits listed : List ServerInit) (n : ℕ) (i : ServerInit) → inits ≡ listed → n < length listed → i ≡ get_or inits n i → slice_get listed n ≡ Some i
+listed-at inits listed n i same within is =
+    subst (λ (xs : List ServerInit). slice_get xs n ≡ Some i) same
+    (slice_get-index inits n i (subst (λ (xs : List ServerInit). n < length xs) (sym same) within) is)
+
+pub bounds-servers-m : goal.bounds-servers-m
+bounds-servers-m c =
+    let o = c.args.from.now in
+    let at = listed-at c.servers-inits.result.now o.servers c.args.no.0 c.index-inits-no.result c.servers-inits.ensures.value c.requires.there c.index-inits-no.is in
+    let u = (sound_checked o c.servers-inits.ensures.checked).under c.args.no.0 c.index-inits-no.result c.in-Some.m at c.in-Some.is in
+    let within = slice_get_within o.servers c.in-Some.m.0 u.source u.there in
+    let count = c.requires.logs.count in
+    omega arith
+
+-- the source's server, and its log
+record Above (listed : List ServerInit) (i : ServerInit) (m : ℕ) (s : Server) : Type 0 where
+  under : IsUnder listed m i
+  log : s.log.log ≡ log_at listed m
+
+above : (c : goal.After-index-servers-m) → Above c.args.from.now.servers c.index-inits-no.result c.in-Some.m.0 (get_or c.args.servers.now c.in-Some.m.0 c.index-servers-m.result)
+above c =
+    let o = c.args.from.now in
+    let at = listed-at c.servers-inits.result.now o.servers c.args.no.0 c.index-inits-no.result c.servers-inits.ensures.value c.requires.there c.index-inits-no.is in
+    let u = (sound_checked o c.servers-inits.ensures.checked).under c.args.no.0 c.index-inits-no.result c.in-Some.m at c.in-Some.is in
+    let within = slice_get_within o.servers c.in-Some.m.0 u.source u.there in
+    let count = c.requires.logs.count in
+    let here = slice_get-index c.args.servers.now c.in-Some.m.0 c.index-servers-m.result (omega arith) c.index-servers-m.is in
+    record {
+      under = u;
+      log = ap (λ (s : Server). s.log.log) (sym c.index-servers-m.is) ∙ c.requires.logs.each c.in-Some.m.0 u.source c.index-servers-m.result u.there here;
+    }
+
+pub standing_in-requires : goal.standing_in-requires
+standing_in-requires c =
+    let a = above c in
+    subst (λ (l : Log). IsPlacedIn l c.index-inits-no.result) (sym a.log)
+    (placed-under c.args.from.now.servers c.index-inits-no.result c.in-Some.m c.in-Some.is a.under)
+
+pub returns-in-None-clause-read : goal.returns-in-None-clause-read
+returns-in-None-clause-read c =
+    let o = c.args.from.now in
+    let at = listed-at c.servers-inits.result.now o.servers c.args.no.0 c.index-inits-no.result c.servers-inits.ensures.value c.requires.there c.index-inits-no.is in
+    ap (option_map (λ (i : ServerInit). read_of o.servers i)) at
+    ∙ ap Some (read_of-root o.servers c.index-inits-no.result c.in-None.is ((c.servers-inits.ensures.checked.listed.each c.args.no.0 c.index-inits-no.result at).alone c.in-None.is))
+
+pub returns-in-Some-clause-exec : goal.returns-in-Some-clause-exec
+returns-in-Some-clause-exec c =
+    let o = c.args.from.now in
+    let at = listed-at c.servers-inits.result.now o.servers c.args.no.0 c.index-inits-no.result c.servers-inits.ensures.value c.requires.there c.index-inits-no.is in
+    let a = above c.before in
+    ap (option_map (λ (i : ServerInit). exec_of o.servers i)) at
+    ∙ ap Some (exec_of-under o.servers c.index-inits-no.result c.in-Some.m c.in-Some.is ∙ ap (λ (l : Log). exec_in l c.index-inits-no.result) (sym a.log) ∙ sym c.standing_in.ensures.exec)
+
+pub returns-in-Some-clause-read : goal.returns-in-Some-clause-read
+returns-in-Some-clause-read c =
+    let o = c.args.from.now in
+    let at = listed-at c.servers-inits.result.now o.servers c.args.no.0 c.index-inits-no.result c.servers-inits.ensures.value c.requires.there c.index-inits-no.is in
+    let a = above c.before in
+    ap (option_map (λ (i : ServerInit). read_of o.servers i)) at
+    ∙ ap Some (read_of-under o.servers c.index-inits-no.result c.in-Some.m c.in-Some.is ∙ ap (λ (l : Log). read_in l c.index-inits-no.result) (sym a.log) ∙ sym c.standing_in.ensures.read)

@@ -1,0 +1,7 @@
+//! The world that an opening opens.
+#![tactic(auto)]
+
+mod making;
+mod world;
+
+pub use world::OpenedWorld;
