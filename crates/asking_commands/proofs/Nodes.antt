@@ -1,16 +1,12 @@
 -- The lines of nodes.
-use Rattle.std.proofs.Common.{◌≡◌, ℕ, ◌+◌, ◌-◌, ◌<◌, ◌≤◌, Bool, true, false, cond, ltb, List, [], ◌∷◌, ◌++◌, length, get_or, map, take, drop, Bor, Option, None, Some, not, refl, sym, ap, ◌∙◌, subst, append_assoc, append-nil, suc, zero, arith}
-use Rattle.std.specs.Prelude.{filter, filter_map, slice_get, option_map, option_and_then}
+use Rattle.std.proofs.Common.{◌≡◌, ℕ, ◌+◌, ◌-◌, ◌<◌, ◌≤◌, Bool, true, false, cond, List, [], ◌∷◌, ◌++◌, length, get_or, map, take, drop, Bor, Option, None, Some, not, refl, sym, ap, ◌∙◌, append_assoc, append-nil, suc, zero, arith}
+use Rattle.std.specs.Prelude.{filter, filter_map}
 use Rattle.std.specs.List.{cons_option, flat_map, range_with_len}
-use Rattle.std.specs.Option.{option_copied, option_to_list}
+use Rattle.std.specs.Option.{option_to_list}
 use Rattle.std.proofs.lemmas.List.{take_more, take_all, drop_all, length-drop}
 use Rattle.std.proofs.lemmas.List.Elements.{filter-append, filter_map-append}
 use Rattle.std.proofs.lemmas.Grind.{flat_map-append}
 use Rattle.std.proofs.Math.Seq.{drop-cons}
-use Rattle.std.proofs.lemmas.Bool.{ltb-true}
-use Rattle.std.proofs.lemmas.Option.{slice_get-get_or}
-use Rattle.std.specs.Option.{is_some, IfSome}
-use Rattle.orch_base.specs.declared.server.ServerNo.{ServerNo}
 use Rattle.commands.specs.declared.line.Line.{Line}
 use Rattle.commands.specs.declared.line.Line.TheVariants as line
 use Rattle.asking_commands.specs.Labels.{each_once, is_again}

@@ -1,5 +1,5 @@
 -- What a command that only asks the book answers.
-use Rattle.std.specs.Prelude.{Bool, true, false, ◌&&◌, not, List, [], Option, Some, None, Result, Ok, Err, if◌then◌else◌}
+use Rattle.std.specs.Prelude.{Bool, true, false, List, [], Option, Some, None, Result, Ok, Err}
 use Rattle.orch_base.specs.declared.server.ServerNo.{ServerNo}
 use Rattle.instance_keeper.specs.Book.{Known}
 use Rattle.commands.specs.declared.line.Line.{Line}
@@ -10,11 +10,10 @@ use Rattle.commands.specs.declared.route.Route.{Route}
 use Rattle.commands.specs.declared.route.Route.TheVariants.{Discovers, Forgets, Asks, Unbuilt}
 use Rattle.commands.specs.Routes.{route_of}
 use Rattle.commands.specs.declared.refusal.Refusal.{Refusal}
-use Rattle.commands.specs.declared.refusal.Refusal.TheVariants.{UnknownInstance}
 use Rattle.commands.specs.declared.turn.Command.{Command}
 use Rattle.commands.specs.declared.turn.CommandTurn.{CommandTurn}
 use Rattle.commands.specs.declared.turn.Found.{Found}
-use Rattle.commands.specs.Names.{needs_of}
+use Rattle.commands.specs.Unknown.{unknown_of}
 use Rattle.asking_commands.specs.declared.answers.AnswerFault.{AnswerFault}
 use Rattle.asking_commands.specs.declared.answers.AnswerFault.TheVariants as fault
 use Rattle.book_views.specs.Sources.{is_instance}
@@ -37,9 +36,17 @@ abbrev pub is_known : Known → Option ServerNo → Bool
 is_known b None = false
 is_known b (Some i) = is_instance b i
 
--- an instance that the command uses is one of the book
+-- the refusal of a command that uses an instance or a destination which isn't one of the book's
+abbrev pub unknown_in : Known → Command → Option Refusal
+unknown_in b c = unknown_of c (is_known b c.i) (is_known b c.d)
+
+abbrev pub allowed : Option Refusal → Result Unit Refusal
+allowed None = Ok tt
+allowed (Some refusal) = Err refusal
+
+-- each instance that the command uses is one of the book
 abbrev pub permitted : Known → Command → Result Unit Refusal
-permitted b c = if (needs_of c.name).i && not (is_known b c.i) then Err UnknownInstance else Ok tt
+permitted b c = allowed (unknown_in b c)
 
 abbrev pub answers_of : Option Found → List Bool
 answers_of None = []

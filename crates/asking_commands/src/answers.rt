@@ -12,7 +12,9 @@ use crate::listing::{
 };
 use crate::trees::topology;
 use book_views::is_instance;
-use commands::{Command, CommandName, CommandTurn, Found, Lines, Question, Refusal, Route};
+use commands::{
+    Command, CommandName, CommandTurn, Found, Lines, Question, Refusal, Route, unknown_instance,
+};
 use instance_keeper::Book;
 use orch_base::ServerNo;
 use std::alloc::Global;
@@ -46,25 +48,31 @@ pub fn asks(name: CommandName) -> bool
     }
 }
 
-fn is_known(book: &Book, i: Option<ServerNo>) -> bool
-    requires { IsTrue (is_within (length book.now.names) i) }
-    ensures { result ≡ is_known book.now i }
+fn is_known(book: &Book, given: Option<ServerNo>) -> bool
+    requires { IsTrue (is_within (length book.now.names) given) }
+    ensures { result ≡ is_known book.now given }
 {
-    match i {
-        Some(i) => is_instance(book, i),
+    match given {
+        Some(no) => is_instance(book, no),
         None => false,
     }
 }
 
-/// Refuses a command that uses an instance which isn't one of the book's; an instance that it doesn't use isn't tested.
+/// Refuses a command that uses an instance or a destination which isn't one of the book's, by
+/// `commands::unknown_instance`; what it doesn't use isn't tested.
 pub fn permit(book: &Book, command: Command) -> Result<(), Refusal>
-    requires { IsTrue (is_within (length book.now.names) command.i) }
+    requires i { IsTrue (is_within (length book.now.names) command.i) }
+    requires d { IsTrue (is_within (length book.now.names) command.d) }
     ensures { result ≡ permitted book.now command }
 {
-    if command.name.needs().i && !is_known(book, command.i) {
-        return Err(Refusal::UnknownInstance);
+    match unknown_instance(
+        command,
+        is_known(book, command.i),
+        is_known(book, command.d),
+    ) {
+        Some(refusal) => Err(refusal),
+        None => Ok(()),
     }
-    Ok(())
 }
 
 fn answers_of(pattern: &Option<Found>) -> &[bool]
@@ -115,10 +123,12 @@ fn lines_of(alloc: Global, book: &Book, turn: &CommandTurn) -> Result<Lines, Mem
     }
 }
 
-/// The lines of a command that only asks the book, or `UnknownInstance` exactly where it uses an instance that the book hasn't. Any other command has no lines here.
+/// The lines of a command that only asks the book, or `UnknownInstance` exactly where it uses an instance or a
+/// destination that the book hasn't. Any other command has no lines here.
 #[tactic(auto, unfolding(crate::specs::Answers::answer_of))]
 pub fn answer(alloc: Global, book: &Book, turn: &CommandTurn) -> Result<Lines, AnswerFault>
-    requires { IsTrue (is_within (length book.now.names) turn.now.command.i) }
+    requires i { IsTrue (is_within (length book.now.names) turn.now.command.i) }
+    requires d { IsTrue (is_within (length book.now.names) turn.now.command.d) }
     ensures { Gives (λ lines. lines) answer_fault result (answer_of book.now turn.now) }
 {
     match permit(book, turn.command) {

@@ -4,6 +4,7 @@
 mod answers;
 mod labels;
 mod listing;
+mod threads;
 mod trees;
 
 pub use answers::{AnswerFault, answer, asks, permit};

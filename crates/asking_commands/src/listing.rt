@@ -40,7 +40,8 @@ fn is_found(book: &Book, answers: &[bool], no: ServerNo) -> bool
     is_instance(book, no) && answers.get(no.0 as usize).copied().unwrap_or(false)
 }
 
-/// The instances whose answer is true, in name order. The answers stand by the servers' numbers; a server without one has false.
+/// The instances whose answer is true, in name order. The answers stand by the servers' numbers; a server without one
+/// has false.
 pub fn find(alloc: Global, book: &Book, answers: &[bool]) -> Result<Lines, Memory>
     ensures { IfOk result (λ lines. lines ≡ found book.now answers.now) }
 {

@@ -96,7 +96,8 @@ fn is_root_of(book: &Book, forest: &Forest, label: &Label, node: u32, no: Server
     forest.parent(node).is_none() && is_of_cluster(book, label, no)
 }
 
-/// All trees of the instance's cluster: the roots of its label in name order, each with all below it, children in name order and one deeper.
+/// All trees of the instance's cluster: the roots of its label in name order, each with all below it, children in name
+/// order and one deeper.
 pub fn topology(alloc: Global, book: &Book, i: ServerNo) -> Result<Lines, Memory>
     requires { i.0 < length book.now.names }
     ensures { IfOk result (λ lines. lines ≡ topology_of book.now i) }

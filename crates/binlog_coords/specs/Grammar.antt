@@ -1,4 +1,5 @@
--- The grammar of a coordinate (MySQL 8.0 Reference Manual, "The Binary Log"): `mysql-bin.`, the file's number, `:` and a position in it.
+-- The grammar of a coordinate (MySQL 8.0 Reference Manual, "The Binary Log"): `mysql-bin.`, the file's number, `:` and
+-- a position in it.
 use Rattle.std.specs.Prelude.{ℕ, ◌^◌, ◌<◌, ◌≤◌, ◌==◌, ◌&&◌, ◌||◌, Bool, List, length, drop, codes, slice_index, nat_eq, nat_lt, nat_le, if◌then◌else◌, option_and_then, Option, Some, None, Result, Ok, Err}
 use Rattle.std.specs.List.{list_all, list_any, starts_with, before_last, after_last}
 use Rattle.std.specs.Char.{is_ascii_digit}

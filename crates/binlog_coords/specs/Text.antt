@@ -1,4 +1,5 @@
--- Coordinates as text: the name of a binary log's file and a position in it (MySQL 8.0 Reference Manual, "The Binary Log").
+-- Coordinates as text: the name of a binary log's file and a position in it (MySQL 8.0 Reference Manual, "The Binary
+-- Log").
 use Rattle.std.specs.Prelude.{ℕ, List, ◌++◌, length, drop, codes, decimal}
 use Rattle.binlog_coords.specs.declared.Coord.{Coord}
 

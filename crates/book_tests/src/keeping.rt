@@ -137,6 +137,46 @@ fn known(book: &Book, no: u32) -> Option<(u64, bool, u32)>
     Some((instance.read, instance.valid, file))
 }
 
+// Takes in an observation of known servers.
+fn discover(book: &mut Book, o: Observation) -> bool
+    ensures { book.new.names ≡ book.old.names }
+{
+    let fits = o.are_servers_known(book.servers());
+    if fits {
+        book.discover(o);
+    }
+    fits
+}
+
+// Adds an instance of known servers.
+fn add(book: &mut Book, instance: Instance) -> bool
+    ensures { book.new.names ≡ book.old.names }
+{
+    let row = Row::Instance(instance);
+    if !row.are_servers_known(book.servers()) {
+        return false;
+    }
+    match row {
+        Row::Instance(instance) => {
+            book.add(instance);
+            true
+        }
+        Row::Downtime(_downtime) => false,
+        Row::Candidate(_candidate) => false,
+        Row::Recovery(_recovery) => false,
+        Row::Switch(_enabled) => false,
+    }
+}
+
+// The file of the own end in server 1's latest bridge under server 0.
+fn bridge(book: &Book) -> Option<u32>
+    requires { 1 < length book.now.names }
+{
+    let exec = Coord { file: 1, pos: 4 };
+    let bridge = book.bridge_by_exec(ServerNo(1), ServerNo(0), exec)?;
+    Some(bridge.own.file)
+}
+
 // Rows in no order, two of one key, a recovery, and rows of servers that there aren't.
 fn rows(alloc: Global) -> Result<Vec<Row>, Fail> {
     let mut rows = Vec::new(alloc);
@@ -241,6 +281,63 @@ fn later_readings_stand(rt: HostRuntime) -> Result<(), Fail> {
             assert_eq!(rt; known(&book, 1), Some(after), "at {read}");
         }
     }
+    Ok(())
+}
+
+#[test]
+fn bridges_come_with_what_is_seen(rt: HostRuntime) -> Result<(), Fail> {
+    let alloc = rt.alloc();
+    let mut book = book(alloc, &rows(alloc)?)?;
+    let key = Key::Server(ServerNo(1));
+    assert_eq!(rt; bridge(&book), None, "a kept row brings none");
+    assert_eq!(rt;
+        store(&mut book, observation(alloc, 1, 5, Some(3))?),
+        Some(StoreAnswer::Stored)
+    );
+    assert_eq!(rt; bridge(&book), Some(3));
+    // An earlier reading is passed over, as at a store; a later one stands.
+    assert!(rt; discover(&mut book, observation(alloc, 1, 4, Some(7))?));
+    assert_eq!(rt;
+        (bridge(&book), known(&book, 1)),
+        (Some(3), Some((5, true, 3)))
+    );
+    assert!(rt; discover(&mut book, observation(alloc, 1, 6, Some(9))?));
+    assert_eq!(rt;
+        (bridge(&book), known(&book, 1)),
+        (Some(9), Some((6, true, 9)))
+    );
+    // An instance that was forgotten has no bridge, and is added again where its server is reached.
+    assert!(rt; set(&mut book, Change::Remove(Table::Instance, key)));
+    assert_eq!(rt; bridge(&book), None);
+    assert!(rt; discover(&mut book, observation(alloc, 1, 7, None)?));
+    assert_eq!(rt; known(&book, 1), None);
+    assert!(rt; discover(&mut book, observation(alloc, 1, 8, Some(4))?));
+    assert_eq!(rt;
+        (bridge(&book), known(&book, 1)),
+        (Some(4), Some((8, true, 4)))
+    );
+    // One that isn't valid shows no bridge.
+    let source = SourceState::Detached(ServerNo(0));
+    let mut unreached = instance(alloc, 1, source, 9)?;
+    unreached.valid = false;
+    unreached.seen.own_end = Some(Coord { file: 6, pos: 4 });
+    assert!(rt; add(&mut book, unreached));
+    assert_eq!(rt;
+        (bridge(&book), known(&book, 1)),
+        (Some(4), Some((9, false, 6)))
+    );
+    assert!(rt; add(&mut book, instance(alloc, 1, source, 9)?));
+    assert_eq!(rt;
+        (bridge(&book), known(&book, 1)),
+        (Some(2), Some((9, true, 2)))
+    );
+    // Loaded anew, the book is as it was made, without a bridge.
+    book.reload(rows(alloc)?);
+    assert_eq!(rt;
+        (bridge(&book), known(&book, 1)),
+        (None, Some((3, true, 2)))
+    );
+    assert_eq!(rt; (known(&book, 0), book.enabled()), (None, false));
     Ok(())
 }
 

@@ -47,8 +47,8 @@ fn source_nodes(alloc: Global, book: &Book) -> Result<Vec<Option<u32>>, Memory>
 }
 
 /// The forest of the book: a node for each server, by its rank in name order, whose parent is its seen source, attached
-/// or detached, where that is an instance of the book and the node doesn't come back to itself by following such sources.
-/// `Err` is want of memory.
+/// or detached, where that is an instance of the book and the node doesn't come back to itself by following such
+/// sources. `Err` is want of memory.
 pub fn book_forest(alloc: Global, book: &Book) -> Result<Forest, Memory>
     ensures forest { IfOk result (λ f. f ≡ book_forest book.now) }
     ensures edges { IfOk result (λ f. IsForestOf (source_nodes book.now) f) }

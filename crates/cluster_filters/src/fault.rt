@@ -4,6 +4,7 @@ ghost use Rattle.std.specs.Prelude.{◌≡◌};
 ghost use Rattle.cluster_filters.specs.declared.fault.FilterFault.TheVariants.{Memory};
 
 use std::alloc::{AllocError, AllocFailed};
+use std::fmt;
 
 /// Why a list of filters, or a pattern, was not read.
 #[derive(Clone, Copy, Debug, PartialEq, Eq)]
@@ -28,5 +29,14 @@ impl<T: Drop> From<AllocFailed<T>> for FilterFault {
 
     fn from(_failed: AllocFailed<T>) -> FilterFault {
         FilterFault::Memory
+    }
+}
+
+impl fmt::Display for FilterFault {
+    fn fmt<W: fmt::Write>(&self, f: &mut fmt::Formatter<W>) -> fmt::Result {
+        match self {
+            FilterFault::BadPattern(index) => write!(f, "text {index} is no regular expression"),
+            FilterFault::Memory => write!(f, "out of memory"),
+        }
     }
 }

@@ -44,8 +44,8 @@ impl Filters {
         Ok(Filters { filters })
     }
 
-    /// Whether a list may have this form: nothing, or `BadPattern(0)` where its regular expression is none, or nests past
-    /// the limit of `regex`.
+    /// Whether a list may have this form: nothing, or `BadPattern(0)` where its regular expression is none, or nests
+    /// past the limit of `regex`.
     pub fn test(alloc: Global, form: &str) -> Result<(), FilterFault>
         ensures taken { OnOk result (has_pattern (form_of form.now) ≡ true) }
         ensures refused { IfErr result (λ fault. IfSome (bad_place fault)

@@ -1,80 +1,175 @@
--- The commands that words may name are those with a route.
-use Rattle.std.proofs.Common.{◌≡◌, ℕ, Bool, true, false, List, [], ◌∷◌, Option, Some, None, refl, sym, subst, cond}
-use Rattle.std.specs.Prelude.{codes, find, is_some, option_map}
-use Rattle.std.specs.List.{AllByRecursion}
-use Rattle.std.specs.Str.{bytes_eq}
-use Rattle.std.proofs.lemmas.Slice.Eq.{bytes_eq-Decides}
-use Rattle.clap.specs.Walk.{Text}
-use Rattle.commands.specs.declared.name.CommandName.{CommandName}
-use Rattle.commands.specs.declared.name.CommandName.TheVariants as name
-use Rattle.commands.specs.Names.{name_of, word_of}
+-- What words that are taken have.
+use Rattle.std.proofs.Common.{◌≡◌, ℕ, ◌≤◌, Bool, true, false, List, length, Option, Some, None, Result, Ok, Err, refl, sym, ap, subst, cond}
+use Rattle.std.specs.Prelude.{◌&&◌, ◌||◌, codes, is_some, nat_le, not, IfSome, option_map, ◌*◌}
+use Rattle.std.proofs.lemmas.Bool.{leb-true}
+use Rattle.clap.specs.Walk.{Row, Text, first_of}
+use Rattle.cluster_filters.specs.Patterns.{is_pattern}
 use Rattle.commands.specs.Routes.{is_built_command}
-use Rattle.command_line.specs.Commands.{built, keys_needed, keys_where_built, needs_of}
+use Rattle.commands.specs.Values.{number_and_unit, number_at, seconds_at, within}
+use Rattle.orch_base.specs.Gives.{◌>>=◌}
+use Rattle.command_line.specs.declared.parts.Instances.{Instances}
+use Rattle.command_line.specs.declared.parts.Places.{Places}
+use Rattle.command_line.specs.declared.parts.Texts.{Texts}
+use Rattle.command_line.specs.declared.usage.Usage.{Usage}
+use Rattle.command_line.specs.declared.usage.Usage.TheVariants.{BadWords}
+use Rattle.command_line.specs.Commands.{command_in, has_needed, is_given, needs_at}
+use Rattle.command_line.specs.Options.{rows_of_texts, texts_of}
+use Rattle.command_line.specs.Places.{counts_in, instances_in, places_in, places_of, texts_in}
+use Rattle.command_line.specs.Taken.{AreTaken}
+use Rattle.command_line.specs.Usages.{or_bad}
+use Rattle.command_line.specs.Values.{duration_in, maybe, name_in, or_bad as or_bad_value, pattern_in, rule_in, text_in, text_within}
 
-pub run_is_named : is_some (needs_of (codes "run")) ≡ true
-unfolding needs_of
-run_is_named = refl
+abbrev Same : {A : Type 0} → Result A Usage → Result A Usage → Type 0
+Same r s = r ≡ s
 
-pub needs_agree : (n : CommandName) → option_map keys_needed (needs_of (word_of n)) ≡ keys_where_built n
-unfolding needs_of
-needs_agree name.MoveUp = refl
-needs_agree name.MoveUpReplicas = refl
-needs_agree name.MoveBelow = refl
-needs_agree name.Repoint = refl
-needs_agree name.TakeSiblings = refl
-needs_agree name.TakeMaster = refl
-needs_agree name.MoveGtid = refl
-needs_agree name.MoveReplicasGtid = refl
-needs_agree name.EnableGtid = refl
-needs_agree name.DisableGtid = refl
-needs_agree name.Relocate = refl
-needs_agree name.RelocateReplicas = refl
-needs_agree name.RegroupReplicas = refl
-needs_agree name.DetachReplica = refl
-needs_agree name.ReattachReplica = refl
-needs_agree name.ResetReplica = refl
-needs_agree name.StartReplica = refl
-needs_agree name.StopReplica = refl
-needs_agree name.RestartReplica = refl
-needs_agree name.SetReadOnly = refl
-needs_agree name.SetWriteable = refl
-needs_agree name.Discover = refl
-needs_agree name.Forget = refl
-needs_agree name.BeginDowntime = refl
-needs_agree name.EndDowntime = refl
-needs_agree name.RegisterCandidate = refl
-needs_agree name.Recover = refl
-needs_agree name.GracefulMasterTakeover = refl
-needs_agree name.AckClusterRecoveries = refl
-needs_agree name.Topology = refl
-needs_agree name.WhichMaster = refl
-needs_agree name.WhichReplicas = refl
-needs_agree name.WhichCluster = refl
-needs_agree name.WhichClusterInstances = refl
-needs_agree name.Clusters = refl
-needs_agree name.AllInstances = refl
-needs_agree name.Find = refl
-needs_agree name.ReplicationAnalysis = refl
-needs_agree name.AuditRecoveries = refl
-needs_agree name.DisableGlobalRecoveries = refl
-needs_agree name.EnableGlobalRecoveries = refl
-needs_agree name.CheckGlobalRecoveries = refl
+same_ok : {A : Type 0} (x y : A) → Same (Ok x) (Ok y) → x ≡ y
+same_ok x y e = cc
 
-all_built : AllByRecursion (λ b. is_built_command b.0 ≡ true) built
-unfolding name_of
-all_built = (refl, (refl, (refl, (refl, (refl, (refl, (refl, (refl, (refl, (refl, (refl, tt)))))))))))
+bind_ok : {A B : Type 0} (r : Result A Usage) (f : A → Result B Usage) (y : B) → Same (r >>= f) (Ok y) → (x : A) × (r ≡ Ok x) × (f x ≡ Ok y)
+bind_ok (Ok x) f y e = (x, refl, e)
+bind_ok (Err u) f y e = cc
 
--- what is found by its text is one of them
-found_built : {N : Type 0} (text : Text) (bs : List (Text × N)) → AllByRecursion (λ b. is_built_command b.0 ≡ true) bs
-    → is_some (option_map (λ (b : Text × N). b.1) (find (λ b. bytes_eq text b.0) bs)) ≡ true → is_built_command text ≡ true
-found_built text [] all e = cc
-found_built {N} text (b ∷ bs) all e = go (bytes_eq text b.0) refl (found_built text bs all.1) e
+both_true : (a b : Bool) → (a && b) ≡ true → (a ≡ true) × (b ≡ true)
+both_true true b e = (refl, e)
+both_true false b e = absurd cc
+
+-- ---- one option
+
+-- what is read where it is given has what each that is read has
+has_read : {A : Type 0} (P : A → Type 0) (read : List ℕ → Result A Usage) (o : Option Text) (x : Option A) → ((text : Text) (y : A) → read text ≡ Ok y → P y) → maybe read o ≡ Ok x → IfSome x P
+has_read P read None x has e = subst (λ o. IfSome o P) (same_ok None x e) tt
+has_read P read (Some text) x has e =
+    let y = bind_ok (read text) _ x e in
+    subst (λ o. IfSome o P) (same_ok (Some y.0) x y.2) (has text y.0 y.1)
+
+-- it is there where it is given
+read_there : {A : Type 0} (read : List ℕ → Result A Usage) (o : Option Text) (x : Option A) → maybe read o ≡ Ok x → is_some x ≡ is_some o
+read_there read None x e = ap is_some (sym (same_ok None x e))
+read_there read (Some text) x e =
+    let y = bind_ok (read text) _ x e in
+    ap is_some (sym (same_ok (Some y.0) x y.2))
+
+in_range : (low high n : ℕ) (o : Option ℕ) → within low high o ≡ Some n → (low ≤ n) × (n ≤ high)
+in_range low high n None e = cc
+in_range low high n (Some m) e = go (nat_le low m && nat_le m high) refl e
   where
-    go : (same : Bool) → bytes_eq text b.0 ≡ same → (is_some (option_map (λ (b : Text × N). b.1) (find (λ b. bytes_eq text b.0) bs)) ≡ true → is_built_command text ≡ true)
-        → is_some (option_map (λ (b : Text × N). b.1) (cond same (Some b) (find (λ b. bytes_eq text b.0) bs))) ≡ true → is_built_command text ≡ true
-    go true is later e = subst (λ (t : Text). is_built_command t ≡ true) (sym ((bytes_eq-Decides text b.0).0 is)) all.0
-    go false is later e = later e
+    go : (b : Bool) → (nat_le low m && nat_le m high) ≡ b → cond b (Some m) None ≡ Some n → (low ≤ n) × (n ≤ high)
+    go true is e =
+        let parts = both_true (nat_le low m) (nat_le m high) is in
+        let same : m ≡ n = cc in
+        subst (λ (k : ℕ). (low ≤ k) × (k ≤ high)) same (leb-true low m parts.0, leb-true m high parts.1)
+    go false is e = cc
 
-pub named_is_built : (text : List ℕ) → is_some (needs_of text) ≡ true → is_built_command text ≡ true
-unfolding needs_of
-named_is_built text named = found_built text built all_built named
+read_some : {A : Type 0} (o : Option A) (x : A) → or_bad_value o ≡ Ok x → o ≡ Some x
+read_some None x e = cc
+read_some (Some y) x e = ap Some (same_ok y x e)
+
+duration_has : (text : Text) (n : ℕ) → duration_in text ≡ Ok n → (1 ≤ n) × (n ≤ 31536000)
+duration_has text n e =
+    let parts = number_and_unit text in
+    in_range 1 31536000 n (option_map (λ (k : ℕ). k * parts.1) (number_at parts.0)) (read_some (seconds_at text) n e)
+
+within_has : (most : ℕ) (text t : Text) → text_within most text ≡ Ok t → length t ≤ most
+within_has most text t e = go (nat_le (length text) most) refl e
+  where
+    go : (b : Bool) → nat_le (length text) most ≡ b → cond {A = Result Text Usage} b (Ok text) (Err BadWords) ≡ Ok t → length t ≤ most
+    go true is e = subst (λ (u : Text). length u ≤ most) (same_ok text t e) (leb-true (length text) most is)
+    go false is e = cc
+
+pattern_has : (text t : Text) → pattern_in text ≡ Ok t → is_pattern t ≡ true
+pattern_has text t e = go (is_pattern text) refl e
+  where
+    go : (b : Bool) → is_pattern text ≡ b → cond {A = Result Text Usage} b (Ok text) (Err BadWords) ≡ Ok t → is_pattern t ≡ true
+    go true is e = subst (λ (u : Text). is_pattern u ≡ true) (same_ok text t e) is
+    go false is e = cc
+
+-- ---- the command
+
+-- the command is built, and has what it needs
+record IsGiven (rows : List Row) (command : Text) : Type 0 where
+  built : is_built_command command ≡ true
+  there : has_needed (needs_at command) rows ≡ true
+
+given : (rows : List Row) (command : Text) → command_in rows ≡ Ok command → IsGiven rows command
+unfolding command_in
+given rows command e =
+    let text = bind_ok (or_bad (first_of (codes "c") rows)) _ command e in
+    go text.0 (is_built_command text.0 && has_needed (needs_at text.0) rows) refl text.2
+  where
+    go : (text : Text) (b : Bool) → (is_built_command text && has_needed (needs_at text) rows) ≡ b → cond {A = Result Text Usage} b (Ok text) (Err BadWords) ≡ Ok command → IsGiven rows command
+    go text true is e =
+        let parts = both_true (is_built_command text) (has_needed (needs_at text) rows) is in
+        subst (IsGiven rows) (same_ok text command e) (record { built = parts.0; there = parts.1 })
+    go text false is e = cc
+
+-- ---- all options
+
+-- which of them are there
+record AreRead (rows : List Row) (t : Instances) : Type 0 where
+  i : is_some t.i ≡ is_given (codes "i") rows
+  d : is_some t.d ≡ is_given (codes "d") rows
+  rule : is_some t.rule ≡ is_given (codes "promotion-rule") rows
+  duration : IfSome t.duration (λ n. (1 ≤ n) × (n ≤ 31536000))
+
+instances_have : (rows : List Row) (t : Instances) → instances_in rows ≡ Ok t → AreRead rows t
+unfolding instances_in
+instances_have rows t e =
+    let i = bind_ok (maybe name_in (first_of (codes "i") rows)) _ t e in
+    let d = bind_ok (maybe name_in (first_of (codes "d") rows)) _ t i.2 in
+    let rule = bind_ok (maybe rule_in (first_of (codes "promotion-rule") rows)) _ t d.2 in
+    let duration = bind_ok (maybe duration_in (first_of (codes "duration") rows)) _ t rule.2 in
+    subst (AreRead rows) (same_ok (record { i = i.0; d = d.0; rule = rule.0; duration = duration.0 }) t duration.2) (record {
+      i = read_there name_in (first_of (codes "i") rows) i.0 i.1;
+      d = read_there name_in (first_of (codes "d") rows) d.0 d.1;
+      rule = read_there rule_in (first_of (codes "promotion-rule") rows) rule.0 rule.1;
+      duration = has_read (λ n. (1 ≤ n) × (n ≤ 31536000)) duration_in (first_of (codes "duration") rows) duration.0 duration_has duration.1;
+    })
+
+record AreTexts (rows : List Row) (t : Texts) : Type 0 where
+  reason : IfSome t.reason (λ text. length text ≤ 255)
+  owner : IfSome t.owner (λ text. length text ≤ 255)
+  pattern : IfSome t.pattern (λ text. is_pattern text ≡ true)
+  there : is_some t.pattern ≡ is_given (codes "pattern") rows
+
+texts_have : (rows : List Row) (t : Texts) → texts_in rows ≡ Ok t → AreTexts rows t
+unfolding texts_in
+texts_have rows t e =
+    let scenario = bind_ok (maybe text_in (first_of (codes "scenario") rows)) _ t e in
+    let reason = bind_ok (maybe (text_within 255) (first_of (codes "reason") rows)) _ t scenario.2 in
+    let owner = bind_ok (maybe (text_within 255) (first_of (codes "owner") rows)) _ t reason.2 in
+    let pattern = bind_ok (maybe pattern_in (first_of (codes "pattern") rows)) _ t owner.2 in
+    subst (AreTexts rows) (same_ok (record { scenario = scenario.0; reason = reason.0; owner = owner.0; pattern = pattern.0 }) t pattern.2) (record {
+      reason = has_read (λ text. length text ≤ 255) (text_within 255) (first_of (codes "reason") rows) reason.0 (within_has 255) reason.1;
+      owner = has_read (λ text. length text ≤ 255) (text_within 255) (first_of (codes "owner") rows) owner.0 (within_has 255) owner.1;
+      pattern = has_read (λ text. is_pattern text ≡ true) pattern_in (first_of (codes "pattern") rows) pattern.0 pattern_has pattern.1;
+      there = read_there pattern_in (first_of (codes "pattern") rows) pattern.0 pattern.1;
+    })
+
+places_have : (rows : List Row) (p : Places) → places_in rows ≡ Ok p → AreTaken p
+unfolding places_in
+places_have rows p e =
+    let command = bind_ok (command_in rows) _ p e in
+    let instances = bind_ok (instances_in rows) _ p command.2 in
+    let texts = bind_ok (texts_in rows) _ p instances.2 in
+    let counts = bind_ok (counts_in rows) _ p texts.2 in
+    let named = given rows command.0 command.1 in
+    let read = instances_have rows instances.0 instances.1 in
+    let told = texts_have rows texts.0 texts.1 in
+    let needs = needs_at command.0 in
+    let there : ((is_some instances.0.i || not needs.i) && (is_some instances.0.d || not needs.d) && (is_some instances.0.rule || not needs.rule) && (is_some texts.0.pattern || not needs.pattern)) ≡ true =
+    rw (read.i, read.d, read.rule, told.there) named.there in
+    subst AreTaken (same_ok _ p counts.2) (record {
+      built = named.built;
+      needs = there;
+      duration = read.duration;
+      reason = told.reason;
+      owner = told.owner;
+      pattern = told.pattern;
+    })
+
+pub taken_have : (words : List (List ℕ)) (p : Places) → places_of words ≡ Ok p → AreTaken p
+unfolding places_of
+taken_have words p e =
+    let texts = bind_ok (texts_of words) _ p e in
+    let rows = bind_ok (rows_of_texts texts.0) _ p texts.2 in
+    places_have rows.0 p rows.2

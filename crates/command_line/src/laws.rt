@@ -1,14 +1,12 @@
-//! Laws of the commands that words may name, over their definitions alone.
+//! Laws of the words that are taken, over their definitions alone.
 
-ghost use Rattle.std.specs.Prelude.{◌≡◌, ℕ, List, codes, is_some, option_map, true};
-ghost use Rattle.commands.specs.declared.name.CommandName.{CommandName};
-ghost use Rattle.commands.specs.Names.{word_of};
-ghost use Rattle.commands.specs.Routes.{is_built_command};
-ghost use Rattle.command_line.specs.Commands.{keys_needed, keys_where_built, needs_of};
+ghost use Rattle.std.specs.Prelude.{◌≡◌, ℕ, List, Ok};
+ghost use Rattle.command_line.specs.declared.parts.Places.{Places};
+ghost use Rattle.command_line.specs.Places.{places_of};
+ghost use Rattle.command_line.specs.Taken.{AreTaken};
 
-/// Words may name `run` and just the commands whose route is built, and each needs in words what it needs in a turn.
-pub fn named_commands_are_built()
-    ensures run { is_some (needs_of (codes "run")) ≡ true }
-    ensures needs { (name : CommandName) → option_map keys_needed (needs_of (word_of name)) ≡ keys_where_built name }
-    ensures only { (text : List ℕ) → is_some (needs_of text) ≡ true → is_built_command text ≡ true }
+/// Words that are taken name `run` or a command whose route is built; each option that the command needs is there, and
+/// each number, text and pattern is in its range.
+pub fn taken_words_are_sound()
+    ensures { (words : List (List ℕ)) (p : Places) → places_of words ≡ Ok p → AreTaken p }
 {}

@@ -9,8 +9,8 @@ mod usage;
 mod value;
 mod words;
 
+pub use laws::taken_words_are_sound;
 /// Want of memory.
-pub use laws::named_commands_are_built;
 pub use orch_base::Memory;
 pub use parts::Places;
 pub use usage::Usage;

@@ -5,6 +5,7 @@ ghost use Rattle.command_line.specs.declared.usage.Usage.TheVariants.{Memory as 
 
 use crate::Memory;
 use std::alloc::AllocFailed;
+use std::fmt;
 
 /// Why the words of a command line give nothing.
 #[derive(Clone, Copy, Debug, PartialEq, Eq)]
@@ -28,5 +29,14 @@ impl<T: Drop> From<AllocFailed<T>> for Usage {
 
     fn from(_failed: AllocFailed<T>) -> Usage {
         Usage::Memory
+    }
+}
+
+impl fmt::Display for Usage {
+    fn fmt<W: fmt::Write>(&self, f: &mut fmt::Formatter<W>) -> fmt::Result {
+        match self {
+            Usage::BadWords => write!(f, "usage"),
+            Usage::Memory => write!(f, "out of memory"),
+        }
     }
 }

@@ -1,5 +1,5 @@
 -- What is needed is used, and the words of what is built.
-use Rattle.std.proofs.Common.{◌≡◌, ℕ, List, cond, subst, Some, None, Option, Bool, true, false, refl, sym, ap, inl, inr}
+use Rattle.std.proofs.Common.{◌≡◌, ℕ, List, cond, Some, None, Option, Bool, true, false, refl, sym, ap, inl, inr}
 use Rattle.std.specs.Prelude.{codes}
 use Rattle.std.specs.Str.{bytes_eq}
 use Rattle.std.specs.Cmp.Lexicographic.{same_text}

@@ -10,6 +10,7 @@ mod name;
 mod needs;
 mod refusal;
 mod route;
+mod same;
 mod threads;
 mod turn;
 mod unknown;

@@ -219,7 +219,8 @@ inserted-past (t ∷ xs) (suc i) s is one le past =
     ∙ ap (λ b. cond b (s ∷ t ∷ xs) (t ∷ inserted s xs)) tests.1
     ∙ ap (λ ys. t ∷ ys) (inserted-past xs i s (set_rest t xs is) one (omega arith) (λ k d l r. past (suc k) d (omega arith) (omega arith)))
 
--- an interval that touches the first is merged with it, and one that touches none and comes after none of the others stands first
+-- an interval that touches the first is merged with it, and one that touches none and comes after none of the others
+-- stands first
 pub inserted-touching : (s t : Interval) (xs : List Interval) → touches s t ≡ true → inserted s (t ∷ xs) ≡ inserted (merged s t) xs
 inserted-touching s t xs e = ap (λ b. cond b (inserted (merged s t) xs) (cond (is_before s t) (s ∷ t ∷ xs) (t ∷ inserted s xs))) e
 

@@ -49,10 +49,15 @@ impl GtidSet {
     /// and `n` or `n-m`. Blanks may stand round commas and at the ends, and the text without a part is the
     /// empty set. The fault is the first in the text (MySQL 8.0 Reference Manual, "GTID Format and Storage").
     pub fn read(alloc: Global, text: &str) -> Result<GtidSet, GtidFault>
-        ensures { Reads result (text_at text.now) }
+        ensures reads { Reads result (text_at text.now) }
+        ensures set { IfOk result IsSet }
     {
         match read_text(alloc, text.as_bytes()) {
-            Ok(found) => Ok(gathered(alloc, &found)?),
+            Ok(found) => {
+                let set = gathered(alloc, &found)?;
+                set.show_order();
+                Ok(set)
+            }
             Err(fault) => Err(fault),
         }
     }
@@ -147,37 +152,41 @@ impl GtidSet {
     /// Both sets as one. It takes time in the number of their intervals.
     #[tactic(auto, using(crate::proofs::Places::union_holds))]
     pub fn union(&self, other: &GtidSet) -> Result<GtidSet, Memory>
-        ensures { IfOk result (λ both. (uuid n : ℕ) → holds both uuid n ≡ (holds self.now uuid n || holds other.now uuid n)) }
+        ensures has { IfOk result (λ both. (uuid n : ℕ) → holds both uuid n ≡ (holds self.now uuid n || holds other.now uuid n)) }
+        ensures set { IfOk result IsSet }
     {
-        united(
-            *self.intervals.allocator(),
-            &self.intervals,
-            &other.intervals,
-        )
+        let alloc = *self.intervals.allocator();
+        let both = united(alloc, &self.intervals, &other.intervals)?;
+        both.show_order();
+        Ok(both)
     }
 
     /// The GTIDs that are in this set and not in the other. It takes time in the number of their intervals.
     #[tactic(auto, using(crate::proofs::Sweep::minus_holds))]
     pub fn minus(&self, other: &GtidSet) -> Result<GtidSet, Memory>
-        ensures { IfOk result (λ rest. (uuid n : ℕ) → holds rest uuid n ≡ (holds self.now uuid n && not (holds other.now uuid n))) }
+        ensures has { IfOk result (λ rest. (uuid n : ℕ) → holds rest uuid n ≡ (holds self.now uuid n && not (holds other.now uuid n))) }
+        ensures set { IfOk result IsSet }
     {
-        difference(
-            *self.intervals.allocator(),
-            &self.intervals,
-            &other.intervals,
-        )
+        let alloc = *self.intervals.allocator();
+        let rest = difference(alloc, &self.intervals, &other.intervals)?;
+        rest.show_order();
+        Ok(rest)
     }
 
     /// The GTIDs of one UUID. It takes time in the number of intervals.
     pub fn of_uuid(&self, uuid: u128) -> Result<GtidSet, Memory>
         ensures part { IfOk result (λ part. part ≡ filter (λ s. s.uuid == uuid) self.now) }
         ensures has { IfOk result (λ part. (u n : ℕ) → holds part u n ≡ ((u == uuid) && holds self.now u n)) }
+        ensures set { IfOk result IsSet }
     {
         let intervals = part_of(*self.intervals.allocator(), &self.intervals, uuid)?;
-        Ok(GtidSet { intervals })
+        let part = GtidSet { intervals };
+        part.show_order();
+        Ok(part)
     }
 
-    /// Shows to proofs that a set's intervals stand in order, and that no two of them overlap or touch. It takes no memory.
+    /// Shows to proofs that a set's intervals stand in order, and that no two of them overlap or touch. It takes no
+    /// memory.
     pub fn show_order(&self)
         ensures { IsSet self.now }
     {

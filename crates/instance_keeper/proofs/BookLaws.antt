@@ -54,13 +54,13 @@ module _ (b : Known) (is : IsBook b) where
   abbrev first : List Row
   first = filter_map (option_map row.Instance) b.instances
 
-  abbrev second : List Row
+  abbrev pub second : List Row
   second = filter_map (option_map row.Downtime) b.downtimes
 
-  abbrev third : List Row
+  abbrev pub third : List Row
   third = filter_map (option_map row.Candidate) b.candidates
 
-  abbrev last : List Row
+  abbrev pub last : List Row
   last = option_to_list (option_map row.Switch b.switch)
 
   first_low : Low (1 * 2 ^ 65) first
@@ -116,7 +116,7 @@ module _ (b : Known) (is : IsBook b) where
   }
 
   module _ (n : ℕ) (known : n < length b.names) where
-    in_first : n < length b.instances
+    pub in_first : n < length b.instances
     in_first = let e = is.instances in omega (arith, e, known)
 
     in_second : n < length b.downtimes
@@ -128,7 +128,7 @@ module _ (b : Known) (is : IsBook b) where
     small : n < 2 ^ 32
     small = let e = is.small in omega (arith, e, known)
 
-    behind_first : All (λ r. 1 * 2 ^ 65 + n < place_of r) (second ++ (third ++ last))
+    pub behind_first : All (λ r. 1 * 2 ^ 65 + n < place_of r) (second ++ (third ++ last))
     behind_first = above (2 * 2 ^ 65) (1 * 2 ^ 65 + n) (second ++ (third ++ last)) (let e = small in omega (arith, e)) after_first
 
     before_second : High (2 * 2 ^ 65 + n) first

@@ -10,3 +10,5 @@ pub mod SameRows
 pub mod Ranked
 pub mod Leasing
 pub mod Ringed
+pub mod Cleared
+pub mod InstanceRows

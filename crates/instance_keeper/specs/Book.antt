@@ -33,8 +33,8 @@ use Rattle.instance_keeper.specs.Bridges.{bridge_in, ringed}
 use Rattle.instance_keeper.specs.Rows.{table_of}
 use Rattle.instance_keeper.specs.Same.{same_instance}
 
--- each list has a place for each server, by its number; the settings and names never change; the switch is none without a
--- row
+-- each list has a place for each server, by its number; the settings and names never change; the switch is none without
+-- a row
 pub record Known : Type 0 where
   pub settings : List Settings
   pub names : List HostPort
@@ -160,6 +160,30 @@ stored_over b o (Some kept) = if nat_lt o.read kept.read then b else renewed_boo
 abbrev pub after_store : Known → Observation → Known
 after_store b o = stored_over b o (instance_at b o.no)
 
+-- an instance as it is seen for the first time
+abbrev pub first_seen : Observation → Seen → Instance
+first_seen o seen = record { no = o.no; read = o.read; moment = o.moment; valid = true; seen = seen }
+
+-- the bridge that an instance shows where it is valid
+abbrev pub shown_by : Instance → Option Bridge
+shown_by i = if i.valid then bridge_in i.no (Some i.seen) else None
+
+-- with an instance in its place, and the bridge that it shows in its ring
+abbrev pub after_addition : Known → Instance → Known
+after_addition b i = record b { instances = slice_set b.instances i.no.0 (Some i); rings = ringed b.rings i.no (shown_by i) }
+
+abbrev pub added_over : Known → Observation → Option Seen → Known
+added_over b o None = b
+added_over b o (Some seen) = after_addition b (first_seen o seen)
+
+-- an instance that the book lacks is added where its server was reached; one that it has is stored as any reading is
+abbrev pub discovered_over : Known → Observation → Option Instance → Known
+discovered_over b o None = added_over b o o.seen
+discovered_over b o (Some kept) = stored_over b o (Some kept)
+
+abbrev pub after_discovery : Known → Observation → Known
+after_discovery b o = discovered_over b o (instance_at b o.no)
+
 -- the change of the kept rows: none where the instance stays equal
 abbrev pub renewal : Instance → Instance → Option Change
 renewal kept now = if same_instance kept now then None else Some (change.Put (row.Instance now))
@@ -167,6 +191,11 @@ renewal kept now = if same_instance kept now then None else Some (change.Put (ro
 abbrev pub store_change : Option Instance → Observation → Option Change
 store_change None o = None
 store_change (Some kept) o = if nat_lt o.read kept.read then None else renewal kept (renewed kept o)
+
+-- an instance that the book lacks is put; for one that it has the rule of stored readings holds
+abbrev pub discovery_change : Option Instance → Observation → Seen → Option Change
+discovery_change None o seen = Some (change.Put (row.Instance (first_seen o seen)))
+discovery_change (Some kept) o seen = store_change (Some kept) o
 
 -- with one more bridge
 abbrev pub after_bridge : Known → Bridge → Known

@@ -7,7 +7,7 @@ ghost use Rattle.name_order.specs.NameOrder.{by_name, rank_of, IsOrder};
 ghost use Rattle.instance_keeper.specs.Bridges.{bridge_in, has_exec, has_own, latest_that, ring_at, ringed};
 ghost use Rattle.instance_keeper.specs.Leases.{first_busy, given_back, taken};
 ghost use Rattle.instance_keeper.specs.Spots.{CountsUp};
-ghost use Rattle.instance_keeper.specs.Book.{are_known, source_servers, observed_servers, ending_servers, servers_of, key_servers, row_fits, fits, empty_book, after_put, after_bridge, after_removal, after_change, lease_at, lease_result, after_row, book_made, instance_at, renewed, store_answer, after_store, renewal, store_change, downtime_at, rule_at, IsBook};
+ghost use Rattle.instance_keeper.specs.Book.{are_known, source_servers, observed_servers, ending_servers, servers_of, key_servers, row_fits, fits, empty_book, after_put, after_bridge, after_removal, after_change, lease_at, lease_result, after_row, book_made, instance_at, renewed, store_answer, after_store, shown_by, after_addition, after_discovery, renewal, store_change, downtime_at, rule_at, IsBook};
 
 use crate::bridge::{Bridge, Ring, bridge_in};
 use crate::lease::{LeaseFault, first_busy, give_back, take};
@@ -44,6 +44,19 @@ fn empty_instances(alloc: Global, count: u32) -> Result<Instances, Memory>
         instances.insert(no, None)?;
     }
     Ok(instances)
+}
+
+// Empties all places. It takes no memory.
+#[tactic(auto, using(crate::proofs::Cleared::cleared_next, crate::proofs::Cleared::cleared_all))]
+fn clear_instances(instances: &mut Instances, count: u32)
+    requires keys { CountsUp 0 instances.old.entries }
+    requires count { count ≡ length (values instances.old) }
+    ensures keys { CountsUp 0 instances.new.entries }
+    ensures values { values instances.new ≡ replicate count None }
+{
+    for no in 0..count {
+        put_at(instances, no, None);
+    }
 }
 
 // Sets a server's place and gives what stood there. It takes no memory.
@@ -241,6 +254,26 @@ fn empty_places<T: Drop>(alloc: Global, count: u32) -> Result<Vec<Option<T>>, Me
     Ok(places)
 }
 
+// Empties all places.
+#[tactic(auto, using(crate::proofs::Cleared::cleared_next, crate::proofs::Cleared::cleared_all))]
+fn clear_places<T: Drop>(places: &mut Vec<Option<T>>)
+    ensures { places.new.items ≡ replicate (length places.old.items) None }
+{
+    for place in places.iter_mut() {
+        *place = None;
+    }
+}
+
+// Empties all rings.
+#[tactic(auto, using(crate::proofs::Cleared::cleared_next, crate::proofs::Cleared::cleared_all))]
+fn clear_rings(rings: &mut Vec<Ring>)
+    ensures { rings.new.items ≡ replicate (length rings.old.items) [] }
+{
+    for ring in rings.iter_mut() {
+        ring.clear();
+    }
+}
+
 // A ring for each server, all of them empty.
 fn empty_rings(alloc: Global, count: u32) -> Result<Vec<Ring>, Memory>
     ensures { IfOk result (λ rings. rings.items ≡ replicate count []) }
@@ -259,6 +292,17 @@ fn bridge_shown(o: &Observation) -> Option<Bridge>
     match &o.seen {
         Some(seen) => bridge_in(o.no, seen),
         None => None,
+    }
+}
+
+// The bridge that an instance shows: none where it isn't valid.
+fn bridge_of(instance: &Instance) -> Option<Bridge>
+    ensures { result ≡ shown_by instance.now }
+{
+    if instance.valid {
+        bridge_in(instance.no, &instance.seen)
+    } else {
+        None
     }
 }
 
@@ -378,7 +422,8 @@ impl Book {
 }
 
 impl Book {
-    /// The book of these servers and rows: of two rows with one table and key the later stands. A row of the recovery table, and one that names an unknown server, are passed over.
+    /// The book of these servers and rows: of two rows with one table and key the later stands. A row of the recovery
+    /// table, and one that names an unknown server, are passed over.
     pub fn make(alloc: Global, settings: &[Settings], rows: &[Row]) -> Result<Book, Memory>
         requires { length settings.now < 2 ^ 32 }
         ensures made { IfOk result (λ b. b ≡ book_made settings.now rows.now) }
@@ -388,21 +433,48 @@ impl Book {
     {
         let mut book = Book::empty(alloc, settings)?;
         'rows: for row in rows {
-            book.take(alloc, row)?;
+            book.take(row.copy(alloc)?);
         }
         Ok(book)
     }
 
+    /// Forgets all but the servers, and takes these rows as `make` does: of two with one table and key the later
+    /// stands; a row of the recovery table, and one that names an unknown server, are passed over. Bridges and leases
+    /// are dropped. It takes no memory.
+    pub fn reload(&mut self, rows: Vec<Row>)
+        ensures made { self.new ≡ book_made self.old.settings rows.items }
+        ensures settings { self.new.settings ≡ self.old.settings }
+        ensures names { self.new.names ≡ self.old.names }
+    {
+        self.clear();
+        'rows: for row in rows {
+            self.take(row);
+        }
+    }
+
+    // Forgets all but the servers.
+    fn clear(&mut self)
+        ensures after { self.new ≡ empty_book self.old.settings }
+        ensures settings { self.new.settings ≡ self.old.settings }
+        ensures names { self.new.names ≡ self.old.names }
+    {
+        clear_instances(&mut self.instances, self.servers.count());
+        clear_places(&mut self.downtimes);
+        clear_places(&mut self.candidates);
+        self.switch = None;
+        clear_rings(&mut self.rings);
+        clear_places(&mut self.leases);
+    }
+
     // Puts a row, where a book takes it.
-    fn take(&mut self, alloc: Global, row: &Row) -> Result<(), Memory>
-        ensures after { OnOk result (self.new ≡ after_row self.old row.now) }
+    fn take(&mut self, row: Row)
+        ensures after { self.new ≡ after_row self.old row }
         ensures settings { self.new.settings ≡ self.old.settings }
         ensures names { self.new.names ≡ self.old.names }
     {
         if row.fits(self.servers()) {
-            self.put(row.copy(alloc)?);
+            self.put(row);
         }
-        Ok(())
     }
 
     /// Makes a change: a server's row, or the switch, is put or removed, and all else stays. It takes no memory.
@@ -488,7 +560,9 @@ impl Book {
         }
     }
 
-    /// Stores a reading, unless the kept one of that instance is later. One that reached its server replaces the instance; one that didn't keeps what was seen earlier, which is no longer valid. It takes no memory.
+    /// Stores a reading, unless the kept one of that instance is later. One that reached its server replaces the
+    /// instance; one that didn't keeps what was seen earlier, which is no longer valid. The bridge that it shows goes
+    /// into the server's ring. It takes no memory.
     pub fn store_observation(&mut self, o: Observation) -> StoreAnswer
         requires { IsTrue (are_known (length self.old.names) (observed_servers o)) }
         ensures answer { result ≡ store_answer (instance_at self.old o.no) o }
@@ -519,8 +593,50 @@ impl Book {
         }
     }
 
-    /// Adds a bridge to its server's ring, unless it is equal to the latest there. A ring of 16 drops its oldest. It takes
-    /// no memory.
+    /// Adds an instance in its server's place, and the bridge that it shows where it is valid. It takes no memory.
+    pub fn add(&mut self, instance: Instance)
+        requires { IsTrue (are_known (length self.old.names) (servers_of (Row.Instance instance))) }
+        ensures after { self.new ≡ after_addition self.old instance }
+        ensures settings { self.new.settings ≡ self.old.settings }
+        ensures names { self.new.names ≡ self.old.names }
+    {
+        let no = instance.no;
+        let shown = bridge_of(&instance);
+        self.put(Row::Instance(instance));
+        self.add_shown(no, shown);
+    }
+
+    /// Takes in what a server showed when it was read to be known: an instance that the book lacks is added where the
+    /// server was reached, and one that it has is stored as any reading is. It takes no memory.
+    pub fn discover(&mut self, o: Observation)
+        requires { IsTrue (are_known (length self.old.names) (observed_servers o)) }
+        ensures after { self.new ≡ after_discovery self.old o }
+        ensures settings { self.new.settings ≡ self.old.settings }
+        ensures names { self.new.names ≡ self.old.names }
+    {
+        if self.instance(o.no).is_some() {
+            self.store_observation(o);
+            return;
+        }
+        let Observation {
+            no,
+            read,
+            moment,
+            seen,
+        } = o;
+        if let Some(seen) = seen {
+            self.add(Instance {
+                no,
+                read,
+                moment,
+                valid: true,
+                seen,
+            });
+        }
+    }
+
+    /// Adds a bridge to its server's ring, unless it is equal to the latest there. A ring of 16 drops its oldest. It
+    /// takes no memory.
     pub fn add_bridge(&mut self, bridge: Bridge)
         requires { bridge.no.0 < length self.old.names }
         ensures { self.new ≡ after_bridge self.old bridge }
@@ -552,8 +668,8 @@ impl Book {
         self.leases[no.0 as usize]
     }
 
-    /// Gives a job the leases of all these servers, or, where one of them has a lease, of none: Busy names the first that
-    /// has one. It takes no memory.
+    /// Gives a job the leases of all these servers, or, where one of them has a lease, of none: Busy names the first
+    /// that has one. It takes no memory.
     pub fn take_leases(&mut self, list: &[ServerNo], job: u64) -> Result<(), LeaseFault>
         requires { All (λ k. k.0 < length self.old.names) list.now }
         ensures result { result ≡ lease_result (first_busy self.old.leases list.now) }

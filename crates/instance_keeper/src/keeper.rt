@@ -3,6 +3,7 @@
 ghost use Rattle.std.specs.Prelude.{◌≡◌, ℕ, List, Option, IfSome, IfOk};
 ghost use Rattle.instance_keeper.specs.declared.row.Row.{Row};
 ghost use Rattle.instance_keeper.specs.Keeping.{KeepsAll, HasKeeperCause};
+ghost use Rattle.instance_keeper.specs.Rows.{IsRising};
 
 use crate::Memory;
 use crate::row::{Change, Row};
@@ -35,14 +36,17 @@ pub trait Keeper {
 
     ghost faults: { Self → ℕ };
 
-    /// Makes all the changes, one after another, or, at a fault, none. The names are those of the servers by number. `Failed` comes only where the count of faults rose.
+    /// Makes all the changes, one after another, or, at a fault, none. The names are those of the servers by number.
+    /// `Failed` comes only where the count of faults rose.
     fn keep(&mut self, alloc: Global, names: &[Name], changes: &[Change]) -> Result<(), KeeperFault>
         ensures kept { KeepsAll (kept self.old) (kept self.new) changes.now result }
         ensures cause { HasKeeperCause (faults self.old) (faults self.new) result };
 
-    /// Gives all rows by table, then key, and changes none. The names are those of the servers by number. `Failed` comes only where the count of faults rose.
+    /// Gives all rows, in rising order by table, then key, one of each, and changes none. The names are those of the
+    /// servers by number. `Failed` comes only where the count of faults rose.
     fn rows(&mut self, alloc: Global, names: &[Name]) -> Result<Vec<Row>, KeeperFault>
         ensures told { IfSome (kept self.old) (λ rows. IfOk result (λ given. given.items ≡ rows)) }
+        ensures rising { IfOk result (λ given. IsRising given.items) }
         ensures same { kept self.new ≡ kept self.old }
         ensures cause { HasKeeperCause (faults self.old) (faults self.new) result };
 }

@@ -166,7 +166,8 @@ pub fn row_map(alloc: Global, rows: Vec<Row>) -> Result<Vec<Row>, Memory>
 }
 
 impl MemKeeper {
-    /// A keeper of these rows: of two with one table and key the last is kept. The calls of `keep` and `rows` whose numbers, from 1, are listed fail, and no other.
+    /// A keeper of these rows: of two with one table and key the last is kept. The calls of `keep` and `rows` whose
+    /// numbers, from 1, are listed fail, and no other.
     pub fn new(alloc: Global, rows: Vec<Row>, fail_at: Vec<u64>) -> Result<MemKeeper, Memory>
         ensures { IfOk result (λ k. k ≡ record { rows = map_of rows.items; calls = 0; fail_at = fail_at.items; faults = 0 }) }
     {
@@ -232,6 +233,7 @@ impl Keeper for MemKeeper {
     /// Gives copies of all rows, by table, then key.
     fn rows(&mut self, alloc: Global, _names: &[Name]) -> Result<Vec<Row>, KeeperFault>
         ensures told { IfSome (Some self.old.rows) (λ rows. IfOk result (λ given. given.items ≡ rows)) }
+        ensures rising { IfOk result (λ given. IsRising given.items) }
         ensures same { Some self.new.rows ≡ Some self.old.rows }
         ensures cause { HasKeeperCause self.old.faults self.new.faults result }
         ensures failed { (result ≡ Err KeeperFault.Failed) ↔ (fails_next self.old.fail_at self.old.calls ≡ true) }

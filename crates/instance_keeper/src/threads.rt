@@ -7,7 +7,7 @@ use crate::lease::LeaseFault;
 use crate::memory::MemKeeper;
 use crate::observation::{Instance, Observation};
 use crate::recovery::Recovery;
-use crate::row::{Change, Row};
+use crate::row::{Candidate, Change, Downtime, Key, Row, Table};
 
 fn crosses_threads<T: Send + Sync>() {}
 
@@ -22,5 +22,9 @@ fn all_cross_threads() {
     crosses_threads::<Observation>();
     crosses_threads::<Recovery>();
     crosses_threads::<Row>();
+    crosses_threads::<Downtime>();
+    crosses_threads::<Candidate>();
+    crosses_threads::<Table>();
+    crosses_threads::<Key>();
     crosses_threads::<Change>();
 }

@@ -37,7 +37,9 @@ fn numbers_of(alloc: Global, servers: &[(u32, &Name)]) -> Result<Vec<ServerNo>, 
     Ok(numbers)
 }
 
-/// The servers' numbers in the order of their names: by the host's bytes, then by the port; of equal names the lower number comes first. The names stand by the servers' numbers, of which there are at most 2^32 - 1. The time is that of std's sort.
+/// The servers' numbers in the order of their names: by the host's bytes, then by the port; of equal names the lower
+/// number comes first. The names stand by the servers' numbers, of which there are at most 2^32 - 1. The time is that
+/// of std's sort.
 pub fn in_name_order(alloc: Global, names: &[Name]) -> Result<Vec<ServerNo>, Memory>
     requires { length names.now < 2 ^ 32 }
     ensures order { IfOk result (λ order. order.items ≡ by_name names.now) }

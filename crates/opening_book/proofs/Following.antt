@@ -1,32 +1,33 @@
 -- Kept rows follow a book from its loading on, through each change.
 use Rattle.std.proofs.Common.{◌≡◌, ◌∙◌, ℕ, ◌+◌, ◌<◌, ◌^◌, Bool, true, false, List, [], ◌∷◌, length, refl, sym, ap, subst, Option, Some, None, zero, suc, arith}
 use Rattle.std.specs.Prelude.{All, IfSome, is_none, slice_index_or, ◌&&◌, ◌==◌, filter, filter_map, fold, option_map, replicate, if◌then◌else◌}
-use Rattle.std.proofs.lemmas.Bool.{false≢true}
 use Rattle.std.proofs.lemmas.List.Elements.{All-nil, All-cons, All-head, All-tail}
 use Rattle.std.specs.List.{cons_option}
 use Rattle.orch_base.specs.declared.server.Moment.{Moment}
 use Rattle.orch_base.specs.declared.server.Settings.{Settings}
-use Rattle.std.proofs.lemmas.List.{length-map}
+use Rattle.std.proofs.lemmas.List.{length-map, length-set}
 use Rattle.server_model.specs.declared.server.Server.{Server}
 use Rattle.server_model.specs.Worlds.{World, server_at}
-use Rattle.opening_book.specs.Opening.{changed_book, missing, missing_from, put_instance}
+use Rattle.opening_book.specs.Opening.{after_opening, opened_book, missing, missing_from, put_instance}
+use Rattle.orch_base.specs.declared.server.ServerNo.{ServerNo}
+use Rattle.instance_keeper.specs.declared.observation.Instance.{Instance}
+use Rattle.instance_keeper.specs.declared.bridge.Bridge.{Bridge}
+use Rattle.instance_keeper.specs.Bridges.{ring_at, ringed, with_bridge}
 use Rattle.orch_base.specs.Names.{HostPort}
 use Rattle.instance_keeper.specs.declared.row.Row.{Row}
 use Rattle.instance_keeper.specs.declared.row.Row.TheVariants as row
 use Rattle.instance_keeper.specs.declared.row.Change.{Change}
 use Rattle.instance_keeper.specs.declared.row.Change.TheVariants as change
-use Rattle.instance_keeper.specs.declared.row.Table.{Table}
 use Rattle.instance_keeper.specs.declared.row.Table.TheVariants as table
-use Rattle.instance_keeper.specs.declared.row.Key.{Key}
 use Rattle.instance_keeper.specs.declared.row.Key.TheVariants as key
-use Rattle.instance_keeper.specs.Book.{Known, IsBook, row_fits, fits, is_of_book, are_known, servers_of, after_put, after_row, after_change, book_made, book_rows, empty_book}
+use Rattle.instance_keeper.specs.Book.{Known, IsBook, row_fits, fits, is_of_book, are_known, servers_of, after_addition, after_put, after_row, after_change, shown_by, book_rows, empty_book}
 use Rattle.instance_keeper.specs.Ranges.{IsInRange}
-use Rattle.instance_keeper.specs.Rows.{place, place_of, table_of, row_in, row_after, last_at, map_of, put, changed, changed_by, IsRising}
+use Rattle.instance_keeper.specs.Rows.{place, place_of, table_of, row_in, row_after, map_of, changed, changed_by, IsRising}
 use Rattle.instance_keeper.proofs.BookLaws.{book_change, book_put}
 use Rattle.instance_keeper.proofs.Books.{change_is, empty_is}
 use Rattle.instance_keeper.proofs.Lists.{pairs_head, pairs_tail}
 use Rattle.instance_keeper.proofs.LookUps.{row_in-put, row_in-changed_by, row_in-map_of, map_of_rising, changed_by_rising}
-use Rattle.opening_book.specs.Counting.{counts, counted, is_in_range, loaded}
+use Rattle.opening_book.specs.Counting.{counts, is_in_range, loaded}
 use Rattle.opening_book.specs.Following.{is_for_book, IsKeptFor, Follow}
 
 -- the row of a place that passes a test
@@ -231,16 +232,64 @@ names-change b (change.Remove table.Switch key.Global) = refl
 pub Follow-change : (rows : List Row) (b : Known) (c : Change) → Follow rows b → fits (length b.names) c ≡ true → IsInRange c → Follow (changed_by rows c) (after_change b c)
 Follow-change rows b c follow fit range = Follow-changed rows b c follow fit range (names-change b c)
 
+-- bridges are no rows
+pub Follow-rings : (rows : List Row) (b : Known) (rings : List (List Bridge)) → length rings ≡ length b.names → Follow rows b → Follow rows (record b { rings = rings })
+Follow-rings rows b rings long follow =
+    let is = follow.book in
+    record {
+      rising = follow.rising;
+      book = record {
+        small = is.small;
+        named = is.named;
+        instances = is.instances;
+        downtimes = is.downtimes;
+        candidates = is.candidates;
+        rings = long;
+        leases = is.leases;
+        instance_numbers = is.instance_numbers;
+        downtime_numbers = is.downtime_numbers;
+        candidate_numbers = is.candidate_numbers;
+        sources = is.sources;
+      };
+      each = follow.each;
+    }
+
+pub length-ringed : (rings : List (List Bridge)) (n : ServerNo) (shown : Option Bridge) → length (ringed rings n shown) ≡ length rings
+length-ringed rings n None = refl
+length-ringed rings n (Some x) = length-set rings n.0 (with_bridge (ring_at rings n) x)
+
+pub Follow-addition : (rows : List Row) (b : Known) (i : Instance) → Follow rows b → fits (length b.names) (change.Put (row.Instance i)) ≡ true → Follow (changed_by rows (change.Put (row.Instance i))) (after_addition b i)
+Follow-addition rows b i follow fit =
+    Follow-rings (changed_by rows (change.Put (row.Instance i))) (after_put b (row.Instance i)) (ringed b.rings i.no (shown_by i)) (length-ringed b.rings i.no (shown_by i) ∙ follow.book.rings)
+    (Follow-change rows b (change.Put (row.Instance i)) follow fit tt)
+
+-- and so they do after a change of the opening
+pub Follow-opening : (rows : List Row) (b : Known) (c : Change) → Follow rows b → fits (length b.names) c ≡ true → IsInRange c → Follow (changed_by rows c) (after_opening b c)
+Follow-opening rows b (change.Remove t k) follow fit range = Follow-change rows b (change.Remove t k) follow fit range
+Follow-opening rows b (change.Put (row.Instance i)) follow fit range = Follow-addition rows b i follow fit
+Follow-opening rows b (change.Put (row.Downtime d)) follow fit range = Follow-change rows b (change.Put (row.Downtime d)) follow fit range
+Follow-opening rows b (change.Put (row.Candidate c)) follow fit range = Follow-change rows b (change.Put (row.Candidate c)) follow fit range
+Follow-opening rows b (change.Put (row.Recovery r)) follow fit range = Follow-change rows b (change.Put (row.Recovery r)) follow fit range
+Follow-opening rows b (change.Put (row.Switch enabled)) follow fit range = Follow-change rows b (change.Put (row.Switch enabled)) follow fit range
+
+pub names-opening : (b : Known) (c : Change) → (after_opening b c).names ≡ b.names
+names-opening b (change.Remove t k) = names-change b (change.Remove t k)
+names-opening b (change.Put (row.Instance i)) = refl
+names-opening b (change.Put (row.Downtime d)) = refl
+names-opening b (change.Put (row.Candidate c)) = refl
+names-opening b (change.Put (row.Recovery r)) = refl
+names-opening b (change.Put (row.Switch enabled)) = refl
+
 -- changes that a book takes
 abbrev pub Takes : ℕ → Change → Type 0
 Takes count c = (fits count c ≡ true) × IsInRange c
 
-pub Follow-all : (rows : List Row) (b : Known) (cs : List Change) → Follow rows b → All (Takes (length b.names)) cs → Follow (changed rows cs) (changed_book b cs)
-Follow-all rows b [] follow all = follow
-Follow-all rows b (c ∷ cs) follow all =
+pub Follow-opened : (rows : List Row) (b : Known) (cs : List Change) → Follow rows b → All (Takes (length b.names)) cs → Follow (changed rows cs) (opened_book b cs)
+Follow-opened rows b [] follow all = follow
+Follow-opened rows b (c ∷ cs) follow all =
     let here = All-head (Takes (length b.names)) c cs all in
-    Follow-all (changed_by rows c) (after_change b c) cs (Follow-change rows b c follow here.0 here.1)
-    (subst (λ ns. All (Takes (length ns)) cs) (sym (names-change b c)) (All-tail (Takes (length b.names)) c cs all))
+    Follow-opened (changed_by rows c) (after_opening b c) cs (Follow-opening rows b c follow here.0 here.1)
+    (subst (λ ns. All (Takes (length ns)) cs) (sym (names-opening b c)) (All-tail (Takes (length b.names)) c cs all))
 
 option-range : (o : Option Change) (cs : List Change) → IfSome o IsInRange → All IsInRange cs → All IsInRange (cons_option o cs)
 option-range None cs here rest = rest

@@ -1,12 +1,13 @@
 -- The book at an opening: that of the rows that count, and an instance of each known server that it lacks.
-use Rattle.std.specs.Prelude.{ℕ, ◌+◌, ◌&&◌, Bool, if◌then◌else◌, List, [], ◌∷◌, fold, length, Option, None, Some, is_none, slice_index_or}
+use Rattle.std.specs.Prelude.{ℕ, ◌+◌, ◌&&◌, Bool, if◌then◌else◌, List, [], ◌∷◌, fold, Option, None, Some, is_none, slice_index_or}
 use Rattle.std.specs.List.{cons_option}
 use Rattle.orch_base.specs.declared.server.Moment.{Moment}
 use Rattle.instance_keeper.specs.declared.observation.Instance.{Instance}
+use Rattle.instance_keeper.specs.declared.row.Row.{Row}
 use Rattle.instance_keeper.specs.declared.row.Row.TheVariants as row
 use Rattle.instance_keeper.specs.declared.row.Change.{Change}
 use Rattle.instance_keeper.specs.declared.row.Change.TheVariants as change
-use Rattle.instance_keeper.specs.Book.{Known, after_change}
+use Rattle.instance_keeper.specs.Book.{Known, after_addition, after_put, after_removal}
 use Rattle.server_model.specs.declared.server.Server.{Server}
 use Rattle.server_model.specs.Worlds.{World, server_at}
 use Rattle.opening_book.specs.Seeing.{would_show}
@@ -31,6 +32,18 @@ missing_from w at b n (known ∷ rest) = cons_option (missing w at b n known) (m
 abbrev pub opening_changes : World → Moment → Known → List Bool → List Change
 opening_changes w at b known = missing_from w at b 0 known
 
--- the book after these changes
-abbrev pub changed_book : Known → List Change → Known
-changed_book b changes = fold after_change b changes
+-- a row that is put at the opening: an instance is added with the bridge that it shows where it is valid
+abbrev pub after_first : Known → Row → Known
+after_first b (row.Instance i) = after_addition b i
+after_first b (row.Downtime d) = after_put b (row.Downtime d)
+after_first b (row.Candidate c) = after_put b (row.Candidate c)
+after_first b (row.Recovery r) = after_put b (row.Recovery r)
+after_first b (row.Switch enabled) = after_put b (row.Switch enabled)
+
+abbrev pub after_opening : Known → Change → Known
+after_opening b (change.Put r) = after_first b r
+after_opening b (change.Remove t k) = after_removal b t k
+
+-- the book after the changes of an opening
+abbrev pub opened_book : Known → List Change → Known
+opened_book b changes = fold after_opening b changes

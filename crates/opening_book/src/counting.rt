@@ -46,7 +46,9 @@ fn counts(row: &Row, servers: u32) -> bool
     row.are_servers_known(servers) && is_in_range(row)
 }
 
-/// The rows that count, by table, then key: of two with one table and key the last is looked at. A row counts where each server that it names is one of so many, its read number and moments are at most 2^63, and, for a recovery, its id is 1 to 2^62.
+/// The rows that count, by table, then key: of two with one table and key the last is looked at. A row counts where
+/// each server that it names is one of so many, its read number and moments are at most 2^63, and, for a recovery, its
+/// id is 1 to 2^62.
 pub fn counted(alloc: Global, servers: u32, rows: Vec<Row>) -> Result<Vec<Row>, Memory>
     ensures { IfOk result (λ counting. counting.items ≡ counted servers rows.items) }
 {
@@ -73,7 +75,7 @@ fn raised(now: Moment, row: &Row) -> Moment
                 None => begun,
             }
         }
-        _ => now,
+        Row::Instance(_) | Row::Candidate(_) | Row::Switch(_) => now,
     }
 }
 
@@ -93,7 +95,7 @@ fn later_read(read: u64, row: &Row) -> u64
 {
     match row {
         Row::Instance(instance) => read.max(instance.read),
-        _ => read,
+        Row::Downtime(_) | Row::Candidate(_) | Row::Recovery(_) | Row::Switch(_) => read,
     }
 }
 

@@ -7,6 +7,6 @@ mod opening;
 
 pub use counting::{counted, last_read, latest_moment, loaded_book};
 pub use laws::kept_rows_follow_the_book;
-pub use opening::{change_book, opening_changes};
+pub use opening::{open_book, opening_changes};
 /// Want of memory.
 pub use orch_base::Memory;

@@ -4,7 +4,7 @@ ghost use Rattle.std.specs.Prelude.{◌≡◌, ◌<◌, ◌++◌, IfOk, IfSome, 
 ghost use Rattle.std.specs.Option.{option_to_list};
 ghost use Rattle.instance_keeper.specs.Book.{fits};
 ghost use Rattle.server_model.specs.Worlds.{server_at};
-ghost use Rattle.opening_book.specs.Opening.{changed_book, missing, opening_changes, opening_instance};
+ghost use Rattle.opening_book.specs.Opening.{after_opening, opened_book, missing, opening_changes, opening_instance};
 
 use crate::Memory;
 use instance_keeper::{Book, Change, Instance, Row};
@@ -79,12 +79,30 @@ pub fn opening_changes(
     Ok(changes)
 }
 
-/// Makes these changes, one after another. It takes no memory.
-pub fn change_book(book: &mut Book, changes: Vec<Change>)
+// Makes a change of an opening.
+fn open(book: &mut Book, change: Change)
+    requires { IsTrue (fits (length book.old.names) change) }
+    ensures after { book.new ≡ after_opening book.old change }
+    ensures names { book.new.names ≡ book.old.names }
+{
+    match change {
+        Change::Put(Row::Instance(instance)) => book.add(instance),
+        Change::Put(Row::Downtime(downtime)) => book.set(Change::Put(Row::Downtime(downtime))),
+        Change::Put(Row::Candidate(candidate)) => book.set(Change::Put(Row::Candidate(candidate))),
+        Change::Put(Row::Recovery(recovery)) => book.set(Change::Put(Row::Recovery(recovery))),
+        Change::Put(Row::Switch(enabled)) => book.set(Change::Put(Row::Switch(enabled))),
+        Change::Remove(table, key) => book.set(Change::Remove(table, key)),
+    }
+}
+
+/// Makes these changes of an opening, one after another: the bridge that a valid instance shows goes into its ring. It
+/// takes no memory.
+pub fn open_book(book: &mut Book, changes: Vec<Change>)
     requires { All (λ c. IsTrue (fits (length book.old.names) c)) changes.items }
-    ensures { book.new ≡ changed_book book.old changes.items }
+    ensures book { book.new ≡ opened_book book.old changes.items }
+    ensures names { book.new.names ≡ book.old.names }
 {
     'changes: for change in changes {
-        book.set(change);
+        open(book, change);
     }
 }

@@ -26,7 +26,8 @@ abbrev pub opening_or : Opened → Option Found → Result Opened Found
 opening_or o None = Ok o
 opening_or o (Some f) = Err f
 
--- the opening of these servers, or the first flaw that they have, with the first server that has it and the value to blame
+-- the opening of these servers, or the first flaw that they have, with the first server that has it and the value to
+-- blame
 abbrev pub checked : List ServerInit → Bool → Result Opened Found
 checked servers gtid = opening_or (opening servers gtid) (found_of servers (flaw_in servers))
 

@@ -1,4 +1,5 @@
--- A table of what listed histories say of each transaction: for each origin a row of links, by the transactions' numbers.
+-- A table of what listed histories say of each transaction: for each origin a row of links, by the transactions'
+-- numbers.
 use Rattle.std.specs.Prelude.{◌≡◌, ℕ, ◌+◌, ◌-◌, ◌<◌, ◌≤◌, ◌==◌, ◌&&◌, Bool, true, nat_le, if◌then◌else◌, List, [], ◌∷◌, ◌++◌, length, Option, Some, None, slice_get, slice_set, slice_index, unwrap_or, zero, suc}
 use Rattle.std.specs.List.{list_all}
 use Rattle.orch_base.specs.declared.server.Txn.{Txn}

@@ -10,6 +10,7 @@ use Rattle.openings.specs.declared.opening.Flaw.TheVariants as flaw
 use Rattle.openings.specs.Listed.{listed_history}
 use Rattle.openings.specs.Servers.{number_of, sources, parts_of, count_of, log_at, exec_of, read_of}
 use Rattle.openings.specs.Kin.{is_kin}
+pub use Rattle.orch_base.specs.Chains.{is_reached, is_reached_on}
 
 -- a test of the server that stands at a number
 abbrev pub at_server : (ServerInit → Bool) → Option ServerInit → Bool
@@ -30,15 +31,7 @@ both_given i = is_some i.history && is_some i.source
 abbrev pub source_not_logging : List ServerInit → ServerInit → Bool
 source_not_logging servers i = of_source servers (λ m s. not s.settings.logs) i
 
--- n is reached from a server by following at least one source, and at most so many
-abbrev pub is_reached_on : (ℕ → Bool) → Option ℕ → Bool
-is_reached_on go None = false
-is_reached_on go (Some m) = go m
-
-abbrev pub is_reached : (ℕ → Option ℕ) → ℕ → ℕ → ℕ → Bool
-is_reached up zero n from = false
-is_reached up (suc steps) n from = is_reached_on (λ m. m == n || is_reached up steps n m) (up from)
-
+-- a server that comes back to itself by following sources; that takes no more steps than there are servers
 abbrev pub below_itself : List ServerInit → ℕ → Bool
 below_itself servers n = is_reached (sources servers) (length servers) n n
 

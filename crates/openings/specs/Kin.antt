@@ -1,5 +1,5 @@
--- When listed histories are kin: in all of them a transaction follows the same transaction, or stands first, and has the
--- same size; and its origin's history has it.
+-- When listed histories are kin: in all of them a transaction follows the same transaction, or stands first, and has
+-- the same size; and its origin's history has it.
 use Rattle.std.specs.Prelude.{ℕ, ◌==◌, ◌&&◌, ◌||◌, not, Bool, true, false, List, [], ◌∷◌, Option, Some, None, is_some, slice_get, zero, suc}
 use Rattle.std.specs.List.{list_all}
 use Rattle.orch_base.specs.declared.server.Txn.{Txn}

@@ -43,7 +43,8 @@ pub record IsServer (servers : ℕ) (gtid : Bool) (i : ServerInit) : Type 0 wher
   pub alone : i.source ≡ None → IsAlone i
   pub auto : i.auto ≡ true → gtid ≡ true
 
--- 1 to 1,000 servers of different names and UUIDs, with at most 4,000,000 for their number times the listed transactions
+-- 1 to 1,000 servers of different names and UUIDs, with at most 4,000,000 for their number times the listed
+-- transactions
 pub record IsListed (o : Opened) : Type 0 where
   pub some : 0 < length o.servers
   pub few : length o.servers ≤ 1000

@@ -10,7 +10,8 @@ use Rattle.openings.specs.Servers.{sources, parts_of, count_of, history_at, log_
 use Rattle.openings.specs.Kin.{histories_agree, is_home}
 use Rattle.openings.specs.Flaws.{bad_flushes}
 
--- a server's source is there, logs, and has executed what the server has; the server's coordinates have their places in its log
+-- a server's source is there, logs, and has executed what the server has; the server's coordinates have their places in
+-- its log
 pub record IsUnder (servers : List ServerInit) (m : ℕ) (i : ServerInit) : Type 0 where
   pub source : ServerInit
   pub there : slice_get servers m ≡ Some source
@@ -21,8 +22,8 @@ pub record IsUnder (servers : List ServerInit) (m : ℕ) (i : ServerInit) : Type
   pub order : is_at_or_before (exec_of servers i) (read_of servers i) ≡ true
 
 -- Each server with a source stands under it, and no chain of sources comes back. What a server executed is the history
--- that is listed of it, or the first of its source's transactions, as many as it counts. Listed histories agree with one
--- another and with the origins of their transactions.
+-- that is listed of it, or the first of its source's transactions, as many as it counts. Listed histories agree with
+-- one another and with the origins of their transactions.
 pub record IsSound (servers : List ServerInit) : Type 0 where
   pub alone : (n : ℕ) (i : ServerInit) (m : ServerNo) → slice_get servers n ≡ Some i → i.source ≡ Some m → i.history ≡ None
   pub under : (n : ℕ) (i : ServerInit) (m : ServerNo) → slice_get servers n ≡ Some i → i.source ≡ Some m → IsUnder servers m.0 i

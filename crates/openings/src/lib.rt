@@ -7,6 +7,7 @@ mod laws;
 mod logs;
 mod opening;
 mod part;
+mod threads;
 
 pub use histories::{count_of, executed_by, history_at, listed_history, parts_of, source_no};
 pub use init::ServerInit;

@@ -13,7 +13,8 @@ use binlog_coords::LogIndex;
 use orch_base::{Memory, Txn};
 use std::alloc::Global;
 
-// Flushes the log once for each flush point at this count, from the one at `next` on. The answer is the first behind them.
+// Flushes the log once for each flush point at this count, from the one at `next` on. The answer is the first behind
+// them.
 fn flush_at(log: &mut LogIndex, flushes: &[u64], next: usize, count: u64) -> usize
     requires next { next ≤ length flushes.now }
     requires left { length flushes.now ≤ log.old.flushes + next }
@@ -52,8 +53,8 @@ fn lay(log: &mut LogIndex, flushes: &[u64], history: &[Txn])
     flush_at(log, flushes, next, history.len() as u64);
 }
 
-/// The log of a server that has executed these transactions, as `log_of` makes it, where a flush point behind them all is
-/// none. `Err` is want of memory.
+/// The log of a server that has executed these transactions, as `log_of` makes it, where a flush point behind them all
+/// is none. `Err` is want of memory.
 pub fn laid_log(
     alloc: Global,
     init: &ServerInit,
@@ -81,9 +82,9 @@ pub fn laid_log(
     Ok(log)
 }
 
-/// The log of a server that has executed this history, with room for `room` transactions, and for `flushes` flushes with
-/// those that the opening lists: at most 4,000,000 each. The time is that of the history and the flushes. `Err` is want of
-/// memory.
+/// The log of a server that has executed this history, with room for `room` transactions, and for `flushes` flushes
+/// with those that the opening lists: at most 4,000,000 each. The time is that of the history and the flushes. `Err` is
+/// want of memory.
 pub fn log_of(
     alloc: Global,
     init: &ServerInit,

@@ -7,8 +7,8 @@ use orch_base::Memory;
 use std::alloc::Global;
 use std::marker::Model;
 
-/// What is wrong with the servers of a scenario, in the order in which it is looked for: each flaw at all servers before
-/// the next one.
+/// What is wrong with the servers of a scenario, in the order in which it is looked for: each flaw at all servers
+/// before the next one.
 #[derive(Clone, Copy, Debug, PartialEq, Eq)]
 pub enum Flaw {
     /// A server has both a history and a source.

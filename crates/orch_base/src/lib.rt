@@ -1,6 +1,7 @@
 //! What every layer stands on: servers by name and number, and sources and sinks that count their faults.
 #![tactic(auto)]
 
+mod chain_laws;
 mod code;
 mod failed;
 mod label;
@@ -13,6 +14,7 @@ mod sink;
 mod source;
 mod threads;
 
+pub use chain_laws::chains_come_to_what_is_found;
 pub use code::Code;
 pub use failed::{Failed, NotRead};
 pub use label::Label;

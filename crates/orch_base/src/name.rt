@@ -118,7 +118,8 @@ fn port_number(digits: &str) -> Option<u16>
 }
 
 impl Name {
-    /// Reads HOST or HOST:PORT, which the first `:` divides; without a `:` the port is 3306. The fault is the first that the text has, in the order of `NameFault`.
+    /// Reads HOST or HOST:PORT, which the first `:` divides; without a `:` the port is 3306. The fault is the first
+    /// that the text has, in the order of `NameFault`.
     #[tactic(auto, using(crate::proofs::ReadNames::read_is_name), unfolding(crate::specs::Names::name_at))]
     pub fn read(alloc: Global, text: &str) -> Result<Name, NameFault>
         ensures gives { Gives (λ n. n) fault_of result (name_at text.now) }

@@ -46,7 +46,23 @@ pub enum SourceState {
     Detached(ServerNo),
 }
 
-/// What a replica says of its receiver (MySQL 8.0 Reference Manual, "SHOW REPLICA STATUS Statement", Replica_IO_Running).
+impl SourceState {
+    ghost use Rattle.std.specs.Prelude.{◌≡◌};
+    ghost use Rattle.orch_base.specs.Sources.{source_no};
+
+    /// The source's number, attached or detached: none where the server has no source.
+    pub fn number(self) -> Option<u32>
+        ensures { result ≡ source_no self }
+    {
+        match self {
+            SourceState::Without => None,
+            SourceState::Attached(source) | SourceState::Detached(source) => Some(source.0),
+        }
+    }
+}
+
+/// What a replica says of its receiver (MySQL 8.0 Reference Manual, "SHOW REPLICA STATUS Statement",
+/// Replica_IO_Running).
 #[derive(Clone, Copy, Debug, PartialEq, Eq)]
 pub enum IoState {
     /// The receiver is on and connected to the source.

@@ -1,19 +1,24 @@
 //! The types of this crate can be moved between threads, and shared by them.
 
 use crate::code::Code;
-use crate::failed::NotRead;
+use crate::failed::{Failed, NotRead};
+use crate::label::Label;
 use crate::memory::{MemSink, MemSource};
 use crate::name::{Name, NameFault};
 use crate::recovery::{CauseName, Ending, Kind};
 use crate::rule::Rule;
-use crate::server::{IoState, Moment, Settings, SourceState, Txn};
+use crate::server::{IoState, Moment, ServerNo, Settings, SourceState, Txn, Version};
 
 fn crosses_threads<T: Send + Sync>() {}
 
 fn all_cross_threads() {
     crosses_threads::<Name>();
     crosses_threads::<NameFault>();
+    crosses_threads::<Failed>();
     crosses_threads::<NotRead>();
+    crosses_threads::<Label>();
+    crosses_threads::<ServerNo>();
+    crosses_threads::<Version>();
     crosses_threads::<Moment>();
     crosses_threads::<Txn>();
     crosses_threads::<SourceState>();

@@ -1,4 +1,5 @@
-pub mod Faults
-pub mod Report
-pub mod Stops
 pub mod Ends
+pub mod Faults
+pub mod Reads
+pub mod Report
+pub mod Runs

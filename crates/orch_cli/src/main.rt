@@ -3,20 +3,22 @@
 
 mod edge;
 mod fault;
-mod report;
+mod reading;
 #[cfg(test)]
 mod tests;
 mod top;
+mod way;
 
 use command_line::{Usage, places};
 use edge::{FileSource, Input, StreamSink};
 use instance_keeper::MemKeeper;
-use orch_base::Label;
+use orch_base::{Label, Sink};
 use std::alloc::Global;
 use std::fs::File;
 use std::process::ExitCode;
 use std::{env, io};
 use top::{close, orch};
+use way::Way;
 
 fn words_of(rt: &HostRuntime, alloc: Global) -> io::Result<Vec<Vec<u8>>> {
     let mut words = Vec::new(alloc);
@@ -37,6 +39,11 @@ fn input(rt: &HostRuntime, path: Option<Label>) -> Input {
     }
 }
 
+fn no_memory<E: Sink>(err: &mut E) -> ExitCode {
+    close(err, b"out of memory\n");
+    ExitCode::from(Way::Memory.status())
+}
+
 fn main(rt: HostRuntime) -> ExitCode {
     let alloc = rt.alloc();
     let mut err = StreamSink::new(rt.stderr());
@@ -44,18 +51,18 @@ fn main(rt: HostRuntime) -> ExitCode {
         Ok(words) => words,
         // A word that is no text: the words aren't taken.
         Err(fault) if fault.kind() == io::ErrorKind::InvalidData => Vec::new(alloc),
-        Err(_) => return ExitCode::from(close(&mut err, b"out of memory\n", 6)),
+        Err(_) => return no_memory(&mut err),
     };
     let path = match places(alloc, &words) {
         Ok(places) => places.scenario,
         Err(Usage::BadWords) => None,
-        Err(Usage::Memory) => return ExitCode::from(close(&mut err, b"out of memory\n", 6)),
+        Err(Usage::Memory) => return no_memory(&mut err),
     };
     let mut source = FileSource::new(input(&rt, path));
     let mut out = StreamSink::new(rt.stdout());
     let mut keeper = match MemKeeper::new(alloc, Vec::new(alloc), Vec::new(alloc)) {
         Ok(keeper) => keeper,
-        Err(_) => return ExitCode::from(close(&mut err, b"out of memory\n", 6)),
+        Err(_) => return no_memory(&mut err),
     };
     ExitCode::from(orch(alloc, &words, &mut source, &mut out, &mut err, &mut keeper))
 }

@@ -486,6 +486,38 @@ fn failed_writes(rt: HostRuntime) -> Result<(), Fail> {
 }
 
 #[test]
+fn out_fails_in_the_midst(rt: HostRuntime) -> Result<(), Fail> {
+    let alloc = rt.alloc();
+    // More than a piece of lines, and then a poll that changes the kept row.
+    let mut text = String::from_str(
+        alloc,
+        "{\"version\":1,\"servers\":[{\"name\":\"m\"}],\"turns\":[",
+    )?;
+    for _ in 0..4000 {
+        text.push_str("[\"tick\",1],")?;
+    }
+    text.push_str("[\"polls\"]]}")?;
+    let text = Vec::from_slice(alloc, text.as_bytes())?;
+    let mut source = MemSource::new(text, Vec::new(alloc));
+    let mut out = MemSink::new(alloc, 100, Vec::new(alloc))?;
+    let mut err = MemSink::new(alloc, 100, Vec::new(alloc))?;
+    let words = words_of(alloc, RUN)?;
+    let mut keeper = keeper_failing(alloc, 0)?;
+    let result = orch(alloc, &words, &mut source, &mut out, &mut err, &mut keeper);
+    assert_eq!(rt; result, 4);
+    assert_eq!(rt; str::from_utf8(err.written()).ok(), Some("write fault\n"));
+    assert_eq!(rt; out.written().len(), 100);
+    assert!(rt;
+        out.written()
+            .starts_with(b"1 tick 1: now 1\n2 tick 1: now 2\n")
+    );
+    let kept = keeper.rows(alloc, &[])?;
+    assert_eq!(rt; kept.len(), 1);
+    assert!(rt; matches!(&kept[0], Row::Instance(instance) if instance.read == 1));
+    Ok(())
+}
+
+#[test]
 fn one_byte_too_many(rt: HostRuntime) -> Result<(), Fail> {
     let alloc = rt.alloc();
     let text = vec![in alloc; b' '; MAX_SCENARIO_LEN + 1]?;

@@ -1,65 +1,118 @@
 //! The top call.
 
-ghost use Rattle.std.specs.Prelude.{◌≡◌, ◌≤◌, ◌⊎◌, ◌++◌, ℕ, codes, map, take, IfSome};
-ghost use Rattle.std.specs.Io.KnownBytes.{Appends, Consumes};
+ghost use Rattle.std.specs.Prelude.{◌≡◌, ◌≤◌, ◌⊎◌, ℕ, List, Ok, codes, map, IfSome};
+ghost use Rattle.std.specs.Io.KnownBytes.{Consumes};
 ghost use Rattle.orch_base.specs.Causes.{Rose};
-ghost use Rattle.orch_base.specs.Ends.{AppendsFront};
+ghost use Rattle.scenarios.specs.Scenarios.{IsScenario, names_of};
+ghost use Rattle.scenario_reader.specs.Scenarios.{scenario_in};
 ghost use Rattle.command_line.specs.Places.{places_of};
-ghost use Rattle.orch_cli.specs.Ends.{CutBy, EndsAs, EndsBy, FaultsAs, FaultsBy, IsSafeRun, IsUsage, IsWhole, KeepsBy, NoneRose, ObeysTable, Took, TookErr, WritesOut, cut_line};
-ghost use Rattle.command_tasks.specs.Own.{IsTaken};
-ghost use Rattle.task_reports.specs.Report.{status_of};
-ghost use Rattle.task_reports.specs.Tellings.{view};
-ghost use Rattle.orch_cli.specs.Report.{report};
+ghost use Rattle.tasks.specs.Asked.{IsTaken, task_of};
+ghost use Rattle.tasks.specs.Endings.{HasKeepersCause, Tells};
+ghost use Rattle.tasks.specs.Sinks.{TakesLine, between, taken};
+ghost use Rattle.orch_cli.specs.Ends.{Ends, EndsBy, FaultsAs, IsComplete, IsGood, IsReported, IsUsage, NoneRose, call};
+ghost use Rattle.orch_cli.specs.Faults.{fault_text};
+ghost use Rattle.orch_cli.specs.Report.{EndsAs, KeepsRows, WritesErr, WritesOut, report};
+ghost use Rattle.orch_cli.specs.Runs.{IsSafeRun, ObeysTable};
 
 use crate::fault::fault_line;
-use crate::report::{Stop, report_from};
+use crate::reading::{Stop, scenario_from};
+use crate::way::Way;
 use command_line::{Places, Usage, places};
 use instance_keeper::Keeper;
 use orch_base::{Sink, Source, write_all};
+use scenario_reader::Fault;
+use scenarios::Scenario;
 use std::alloc::Global;
-use task_reports::Report;
+use tasks::{Ending, names_of, task_of, task_report};
 
-/// Writes the line of a call that ends with this status, as far as the sink takes it.
-pub(crate) fn close<E: Sink>(err: &mut E, line: &[u8], status: u8) -> u8
-    ensures status { result ≡ status }
-    ensures took { Took (E.written err.old) (E.written err.new) (E.faults err.old) (E.faults err.new) line.now }
+/// Writes a line, as far as the sink takes it.
+pub(crate) fn close<E: Sink>(err: &mut E, line: &[u8])
+    ensures took { TakesLine (between (taken (E.written err.old) (E.faults err.old)) (taken (E.written err.new) (E.faults err.new))) line.now }
     ensures later { E.faults err.old ≤ E.faults err.new }
 {
     match write_all(err, line) {
-        Ok(()) => status,
-        Err(_) => status,
+        Ok(()) => {}
+        Err(_) => {}
     }
 }
 
-// Writes the replies before the turn that met a keeper's fault, and the line of the fault.
-fn close_cut<O: Sink, E: Sink>(out: &mut O, err: &mut E, replies: &[u8]) -> u8
-    ensures status { (result ≡ 5) ⊎ (result ≡ 4) }
-    ensures sink { result ≡ 4 → Rose (O.faults out.old) (O.faults out.new) }
-    ensures whole { result ≡ 5 → Appends (O.written out.old) (O.written out.new) replies.now }
-    ensures front { AppendsFront (O.written out.old) (O.written out.new) replies.now }
-    ensures err { Took (E.written err.old) (E.written err.new) (E.faults err.old) (E.faults err.new) (cut_line result) }
+// Does what the words ask with the scenario, and writes the report.
+fn told<O: Sink, E: Sink, K: Keeper>(
+    alloc: Global,
+    places: &Places,
+    scenario: &Scenario,
+    out: &mut O,
+    err: &mut E,
+    keeper: &mut K,
+) -> Ending
+    requires words { IsTaken places.now }
+    requires scenario { IsScenario scenario.now }
+    ensures tells { Tells (record { task = task_of places.now (names_of scenario.now); scenario = scenario.now; old = K.kept keeper.old; new = K.kept keeper.new })
+        (between (taken (O.written out.old) (O.faults out.old)) (taken (O.written out.new) (O.faults out.new)))
+        (between (taken (E.written err.old) (E.faults err.old)) (taken (E.written err.new) (E.faults err.new))) result }
+    ensures cause { HasKeepersCause (K.faults keeper.old) (K.faults keeper.new) result }
+    ensures later { E.faults err.old ≤ E.faults err.new }
 {
-    match write_all(out, replies) {
-        Ok(()) => close(err, b"keeper fault\n", 5),
-        Err(_) => close(err, b"write fault\n", 4),
+    let Ok(names) = names_of(alloc, scenario) else {
+        return Ending::Memory;
+    };
+    let Ok(task) = task_of(alloc, places, &names) else {
+        return Ending::Memory;
+    };
+    task_report(alloc, &task, &names, scenario, out, err, keeper)
+}
+
+// Does what the words ask with the scenario.
+fn report<O: Sink, E: Sink, K: Keeper>(
+    alloc: Global,
+    places: &Places,
+    scenario: &Scenario,
+    out: &mut O,
+    err: &mut E,
+    keeper: &mut K,
+) -> Way
+    requires words { IsTaken places.now }
+    requires scenario { IsScenario scenario.now }
+    ensures ends { (words : List (List ℕ)) (bytes : List ℕ) → places_of words ≡ Ok places.now → scenario_in bytes ≡ Ok scenario.now
+        → Ends (call words bytes (K.kept keeper.old) (K.kept keeper.new)
+        (between (taken (O.written out.old) (O.faults out.old)) (taken (O.written out.new) (O.faults out.new)))
+        (between (taken (E.written err.old) (E.faults err.old)) (taken (E.written err.new) (E.faults err.new)))) result }
+    ensures sink { result ≡ Way.Sink → Rose (O.faults out.old) (O.faults out.new) ⊎ Rose (E.faults err.old) (E.faults err.new) }
+    ensures keeper { result ≡ Way.Keeper → Rose (K.faults keeper.old) (K.faults keeper.new) }
+    ensures not_source { result ≡ Way.Source → ⊥ }
+    ensures not_usage { result ≡ Way.Usage → ⊥ }
+{
+    match told(alloc, places, scenario, out, err, keeper) {
+        Ending::Written(refused) => Way::Reported(refused),
+        Ending::Unwritten => {
+            close(err, b"write fault\n");
+            Way::Sink
+        }
+        Ending::Keeper => {
+            close(err, b"keeper fault\n");
+            Way::Keeper
+        }
+        Ending::Memory => {
+            close(err, b"out of memory\n");
+            Way::Memory
+        }
     }
 }
 
-// Writes a report: what err is to take, then what out is.
-fn write_report<O: Sink, E: Sink>(out: &mut O, err: &mut E, report: &Report) -> u8
-    ensures status { (result ≡ status_of report.now.is_refused) ⊎ (result ≡ 4) }
-    ensures sink { result ≡ 4 → Rose (O.faults out.old) (O.faults out.new) ⊎ Rose (E.faults err.old) (E.faults err.new) }
-    ensures whole { (result ≡ 4 → ⊥) → Appends (O.written out.old) (O.written out.new) report.now.out.items }
-    ensures front { AppendsFront (O.written out.old) (O.written out.new) report.now.out.items }
-    ensures told { (result ≡ 4 → ⊥) → Appends (E.written err.old) (E.written err.new) report.now.err.items }
-    ensures err { result ≡ 4 → (n : ℕ) × Took (E.written err.old) (E.written err.new) (E.faults err.old) (E.faults err.new) (take n report.now.err.items ++ codes "write fault\n") }
+// Writes the line of a scenario's fault.
+fn close_fault<E: Sink>(alloc: Global, err: &mut E, fault: &Fault) -> Way
+    ensures { ((result ≡ Way.Fault) × TakesLine (between (taken (E.written err.old) (E.faults err.old)) (taken (E.written err.new) (E.faults err.new))) (fault_text fault.now))
+        ⊎ ((result ≡ Way.Memory) × TakesLine (between (taken (E.written err.old) (E.faults err.old)) (taken (E.written err.new) (E.faults err.new))) (codes "out of memory\n")) }
 {
-    match write_all(err, &report.err) {
-        Err(_) => close(err, b"write fault\n", 4),
-        Ok(()) => match write_all(out, &report.out) {
-            Ok(()) => { if report.is_refused { 7 } else { 0 } }
-            Err(_) => close(err, b"write fault\n", 4),
-        },
+    match fault_line(alloc, fault) {
+        Ok(line) => {
+            close(err, &line);
+            Way::Fault
+        }
+        Err(_) => {
+            close(err, b"out of memory\n");
+            Way::Memory
+        }
     }
 }
 
@@ -67,30 +120,33 @@ fn write_report<O: Sink, E: Sink>(out: &mut O, err: &mut E, report: &Report) -> 
 fn answer<S: Source, O: Sink, E: Sink, K: Keeper>(
     alloc: Global,
     places: &Places,
-    scenario: &mut S,
+    source: &mut S,
     out: &mut O,
     err: &mut E,
     keeper: &mut K,
-) -> u8
+) -> Way
     requires { IsTaken places.now }
-    ensures taken { result ≡ 1 → ⊥ }
-    ensures fault { IfSome (S.left scenario.old) (λ bytes. FaultsBy bytes result) }
-    ensures source { result ≡ 3 → Rose (S.faults scenario.old) (S.faults scenario.new) }
-    ensures sink { result ≡ 4 → Rose (O.faults out.old) (O.faults out.new) ⊎ Rose (E.faults err.old) (E.faults err.new) }
-    ensures keeper { result ≡ 5 → Rose (K.faults keeper.old) (K.faults keeper.new) }
-    ensures read { IfSome (S.left scenario.old) (λ bytes. (result ≡ 0) ⊎ (result ≡ 7) → Consumes (S.left scenario.old) (S.left scenario.new) bytes) }
-    ensures ends { IfSome (S.left scenario.old) (λ bytes. IfSome (K.kept keeper.old) (λ rows.
-        EndsBy places.now bytes rows (K.kept keeper.new) result (O.written out.old) (O.written out.new) (E.written err.old) (E.written err.new) (E.faults err.old) (E.faults err.new))) }
+    ensures ends { (words : List (List ℕ)) → places_of words ≡ Ok places.now → IfSome (S.left source.old) (λ bytes.
+        Ends (call words bytes (K.kept keeper.old) (K.kept keeper.new)
+        (between (taken (O.written out.old) (O.faults out.old)) (taken (O.written out.new) (O.faults out.new)))
+        (between (taken (E.written err.old) (E.faults err.old)) (taken (E.written err.new) (E.faults err.new)))) result) }
+    ensures not_usage { result ≡ Way.Usage → ⊥ }
+    ensures source { result ≡ Way.Source → Rose (S.faults source.old) (S.faults source.new) }
+    ensures sink { result ≡ Way.Sink → Rose (O.faults out.old) (O.faults out.new) ⊎ Rose (E.faults err.old) (E.faults err.new) }
+    ensures keeper { result ≡ Way.Keeper → Rose (K.faults keeper.old) (K.faults keeper.new) }
+    ensures read { IsReported result → IfSome (S.left source.old) (λ bytes. Consumes (S.left source.old) (S.left source.new) bytes) }
 {
-    match report_from(alloc, places, scenario, keeper) {
-        Err(Stop::Memory) => close(err, b"out of memory\n", 6),
-        Err(Stop::Source) => close(err, b"read fault\n", 3),
-        Err(Stop::Keeper(replies)) => close_cut(out, err, &replies),
-        Err(Stop::Fault(fault)) => match fault_line(alloc, &fault) {
-            Ok(line) => close(err, &line, 2),
-            Err(_) => close(err, b"out of memory\n", 6),
-        },
-        Ok(report) => write_report(out, err, &report),
+    match scenario_from(alloc, source) {
+        Ok(scenario) => report(alloc, places, &scenario, out, err, keeper),
+        Err(Stop::Memory) => {
+            close(err, b"out of memory\n");
+            Way::Memory
+        }
+        Err(Stop::Source) => {
+            close(err, b"read fault\n");
+            Way::Source
+        }
+        Err(Stop::Fault(fault)) => close_fault(alloc, err, &fault),
     }
 }
 
@@ -102,12 +158,13 @@ fn answer<S: Source, O: Sink, E: Sink, K: Keeper>(
 /// - 1: the words aren't taken; `usage` on err.
 /// - 2: the scenario has a fault; `scenario fault CODE NAME PATH` on err.
 /// - 3: the source failed; `read fault` on err.
-/// - 4: a sink failed that was to take the report; out took a front of its part; `write fault` on err.
+/// - 4: a sink failed that was to take the report, err before out; all turns were taken, or the keeper failed, too; `write fault`
+///   on err.
 /// - 5: the keeper failed; out took the replies of a run before that turn, which changed nothing; `keeper fault` on err.
-/// - 6: want of memory; `out of memory` on err.
+/// - 6: want of memory; out took a front of a run's replies; `out of memory` on err.
 /// - 7: the report is written, and a reply in it is refused or failed; of a single command that reply is on err.
 ///
-/// Elsewhere, where err fails it has a front of its line, and the status is the same.
+/// Elsewhere than at 4, where err fails it has a front of its line, and the status is the same.
 pub fn orch<S: Source, O: Sink, E: Sink, K: Keeper>(
     alloc: Global,
     words: &[Vec<u8>],
@@ -127,37 +184,47 @@ pub fn orch<S: Source, O: Sink, E: Sink, K: Keeper>(
     ensures read { IfSome (S.left scenario.old) (λ bytes.
         (result ≡ 0) ⊎ (result ≡ 7) → Consumes (S.left scenario.old) (S.left scenario.new) bytes) }
 
-    // The status, and what out and err took, against the report of the words, the bytes and the kept rows.
+    // What out and err took and what the keeper has, by the status: exactly, whether the keeper tells its rows or not.
+    ensures ends { IfSome (S.left scenario.old) (λ bytes.
+        EndsBy (call (map (λ w. w.items) words.now) bytes (K.kept keeper.old) (K.kept keeper.new)
+        (between (taken (O.written out.old) (O.faults out.old)) (taken (O.written out.new) (O.faults out.new)))
+        (between (taken (E.written err.old) (E.faults err.old)) (taken (E.written err.new) (E.faults err.new)))) result) }
+
+    // Where the keeper tells its rows, all of it against the report, which is a function of the words, the bytes and the rows: the
+    // status, what out and err took, and the rows that are kept.
     ensures status { IfSome (S.left scenario.old) (λ bytes. IfSome (K.kept keeper.old) (λ rows.
         EndsAs (report (map (λ w. w.items) words.now) bytes rows) result)) }
     ensures out { IfSome (S.left scenario.old) (λ bytes. IfSome (K.kept keeper.old) (λ rows.
-        WritesOut (report (map (λ w. w.items) words.now) bytes rows) result (O.written out.old) (O.written out.new))) }
+        WritesOut (report (map (λ w. w.items) words.now) bytes rows) result
+        (between (taken (O.written out.old) (O.faults out.old)) (taken (O.written out.new) (O.faults out.new))))) }
     ensures err { IfSome (S.left scenario.old) (λ bytes. IfSome (K.kept keeper.old) (λ rows.
-        TookErr (report (map (λ w. w.items) words.now) bytes rows) result
-        (E.written err.old) (E.written err.new) (E.faults err.old) (E.faults err.new))) }
-
-    // After a keeper's fault out took exactly the replies of a run before that turn.
-    ensures cut { IfSome (S.left scenario.old) (λ bytes. IfSome (K.kept keeper.old) (λ rows.
-        result ≡ 5 → CutBy (places_of (map (λ w. w.items) words.now)) bytes rows (K.kept keeper.new) (O.written out.old) (O.written out.new))) }
-
-    // The keeper has the rows of the last state.
+        WritesErr (report (map (λ w. w.items) words.now) bytes rows) result
+        (between (taken (E.written err.old) (E.faults err.old)) (taken (E.written err.new) (E.faults err.new))))) }
     ensures kept { IfSome (S.left scenario.old) (λ bytes. IfSome (K.kept keeper.old) (λ rows.
-        KeepsBy (places_of (map (λ w. w.items) words.now)) bytes rows (K.kept keeper.new) result)) }
+        KeepsRows (report (map (λ w. w.items) words.now) bytes rows) result rows (K.kept keeper.new))) }
 
-    // Where no count rose, the whole report is written, or memory ran out.
-    ensures complete { IfSome (S.left scenario.old) (λ bytes. IfSome (K.kept keeper.old) (λ rows.
-        NoneRose (S.faults scenario.old) (S.faults scenario.new) (K.faults keeper.old) (K.faults keeper.new)
-        (O.faults out.old) (O.faults out.new) (E.faults err.old) (E.faults err.new)
-        → IsWhole (report (map (λ w. w.items) words.now) bytes rows) result (O.written out.old) (O.written out.new))) }
+    // Where no count rose, the whole report of good words and bytes is written, or memory ran out.
+    ensures complete { IfSome (S.left scenario.old) (λ bytes.
+        IsGood (map (λ w. w.items) words.now) bytes
+        → NoneRose (S.faults scenario.old) (S.faults scenario.new) (K.faults keeper.old) (K.faults keeper.new)
+        (between (taken (O.written out.old) (O.faults out.old)) (taken (O.written out.new) (O.faults out.new)))
+        (between (taken (E.written err.old) (E.faults err.old)) (taken (E.written err.new) (E.faults err.new)))
+        → IsComplete result) }
 
-    // Every quiet state of every run of these turns is safe, and every state is placed, whatever rows the keeper hands back;
-    // and every command turn of such a run answers by the permission table, a refused one changing nothing.
+    // Every quiet state of each run of these turns, of the report's too, is safe, and every state is placed, whatever rows the keeper
+    // hands back; and every command turn of such a run answers by the permission table, a refused one changing nothing.
     ensures safe { IfSome (S.left scenario.old) (λ bytes. IsSafeRun (map (λ w. w.items) words.now) bytes) }
     ensures commands { IfSome (S.left scenario.old) (λ bytes. ObeysTable (map (λ w. w.items) words.now) bytes) }
 {
     match places(alloc, words) {
-        Ok(places) => answer(alloc, &places, scenario, out, err, keeper),
-        Err(Usage::BadWords) => close(err, b"usage\n", 1),
-        Err(Usage::Memory) => close(err, b"out of memory\n", 6),
+        Ok(places) => answer(alloc, &places, scenario, out, err, keeper).status(),
+        Err(Usage::BadWords) => {
+            close(err, b"usage\n");
+            Way::Usage.status()
+        }
+        Err(Usage::Memory) => {
+            close(err, b"out of memory\n");
+            Way::Memory.status()
+        }
     }
 }

@@ -11,7 +11,7 @@ use Rattle.orch_core.specs.declared.fault.TurnFault.{TurnFault}
 use Rattle.orch_core.specs.declared.fault.TurnFault.TheVariants as fault
 use Rattle.orch_core.specs.Keeping.{Calls, StepsTo, Ran, WasCutOff, kept_by}
 use Rattle.orch_core.specs.Replies.{reply_of}
-use Rattle.orch_core.specs.Runs.{Held, Machine, Recorded, engine, held_run, held_step, record_turn, recorder, run_turns, step, turns_of}
+use Rattle.orch_core.specs.Runs.{Held, Machine, engine, held_run, held_step, recorder, run_turns, step, turns_of}
 use Rattle.orch_core.specs.States.{State}
 
 -- one more turn

@@ -1,5 +1,5 @@
 -- No exchange leaves a server under a source that isn't one of the servers.
-use Rattle.std.proofs.Common.{◌≡◌, ℕ, ◌<◌, Bool, true, List, [], ◌∷◌, length, refl, sym, ap, subst, Option, Some, None, arith}
+use Rattle.std.proofs.Common.{◌≡◌, ℕ, ◌<◌, Bool, true, List, [], ◌∷◌, length, refl, sym, subst, Option, Some, None, arith}
 use Rattle.std.specs.Prelude.{All, Result, Ok, Err, ◌||◌, false, slice_get, slice_set, nat_lt, if◌then◌else◌}
 use Rattle.std.proofs.lemmas.List.{length-set}
 use Rattle.std.proofs.lemmas.List.Elements.{All-set}
@@ -28,11 +28,11 @@ use Rattle.server_words.specs.declared.changes.Link.TheVariants as link
 use Rattle.server_words.specs.declared.changes.Threads.TheVariants as threads
 use Rattle.server_model.specs.declared.server.Server.{Server}
 use Rattle.server_model.specs.Exchanges.{is_attached, took, own_txn, write_answer, after_write, fetch_step, after_fetch, apply_step, after_apply}
-use Rattle.server_model.specs.Attach.{IsTarget, attach_answer, attached_to, after_attach}
-use Rattle.server_model.specs.Desk.{asked, attached_source, befallen, desk_answer, detached, detached_source, healed, is_detached, reattached, rotate_answer, rotated, started, stopped, without_source, after_change, after_desk, after_rotate}
-use Rattle.server_model.specs.Gtids.{IsAutoTarget, attach_auto_answer, after_attach_auto, attached_auto, auto_coord, uuids}
+use Rattle.server_model.specs.Attach.{attach_answer, attached_to, after_attach}
+use Rattle.server_model.specs.Desk.{asked, attached_source, befallen, desk_answer, detached, detached_source, healed, is_detached, reattached, rotate_answer, rotated, started, after_change, after_desk, after_rotate}
+use Rattle.server_model.specs.Gtids.{attach_auto_answer, after_attach_auto, attached_auto, auto_coord, uuids}
 use Rattle.server_model.specs.Run.{Exchange, Write, Fetch, Apply, Request, Befall, Rotate, Attach, AttachAuto, after, Allowed, AllAllowed, run}
-use Rattle.server_model.specs.Worlds.{World, server_at, with_server}
+use Rattle.server_model.specs.Worlds.{World, server_at}
 use Rattle.orch_core.specs.States.{HasKnownSource}
 
 -- each server's source is one of the servers

@@ -20,7 +20,7 @@ use Rattle.opening_book.specs.Counting.{counted, counts, end_or, greatest, great
 use Rattle.instance_keeper.specs.Rows.{changed, map_of}
 use Rattle.instance_keeper.specs.declared.row.Row.TheVariants as row
 use Rattle.orch_base.specs.declared.server.Settings.{Settings}
-use Rattle.opening_book.specs.Opening.{changed_book, missing, missing_from, opening_changes, put_instance}
+use Rattle.opening_book.specs.Opening.{after_opening, opened_book, missing, missing_from, opening_changes, put_instance}
 use Rattle.server_model.specs.declared.server.Server.{Server}
 use Rattle.openings.specs.Listed.{transactions}
 use Rattle.openings.specs.Servers.{parts_of}
@@ -34,13 +34,14 @@ use Rattle.orch_core.specs.Polls.{empty_slots}
 use Rattle.orch_core.specs.Keeping.{kept_if}
 use Rattle.scenarios.specs.Scenarios.{IsScenario, room_of, flushes_of, settings_of}
 use Rattle.scenarios.specs.Turns.{pollers}
-use Rattle.scenarios.proofs.Rooms.{longest-at, room_of-few}
+use Rattle.scenarios.proofs.Rooms.{longest-at}
 use Rattle.orch_core.specs.declared.configuration.Configuration.{Configuration}
 use Rattle.orch_core.specs.Scenarios.{configuration_of, start_world, start_rows, start_moment, start_changes, start, StartsBy, kept_at_start}
 use Rattle.orch_core.specs.States.{HasKnownSource, IsSlot, IsState, State}
 use Rattle.orch_core.proofs.Servers.{servers-start}
 use Rattle.orch_core.proofs.Sources.{KnowsSources, source-at}
-use Rattle.orch_core.proofs.States.{names-made, settings-made, both_known, names-put, settings-put}
+use Rattle.opening_book.proofs.Following.{names-opening}
+use Rattle.orch_core.proofs.States.{names-made, settings-made, both_known, settings-put}
 
 -- ---- the servers
 
@@ -143,29 +144,9 @@ pub fits-opening : (w : World) (at : Moment) (b : Known) (known : List Bool) →
 unfolding FitsBook
 fits-opening w at b known sources names = subst (λ count. All (λ c. IsTrue (fits count c)) (opening_changes w at b known)) (sym names) (fits-from w at b 0 known sources)
 
-names-change : (b : Known) (c : Change) → (after_change b c).names ≡ b.names
-names-change b (change.Put r) = names-put b r
-names-change b (change.Remove table.Instance (key.Server n)) = refl
-names-change b (change.Remove table.Downtime (key.Server n)) = refl
-names-change b (change.Remove table.Candidate (key.Server n)) = refl
-names-change b (change.Remove table.Recovery (key.Server n)) = refl
-names-change b (change.Remove table.Switch (key.Server n)) = refl
-names-change b (change.Remove table.Instance (key.Id id)) = refl
-names-change b (change.Remove table.Downtime (key.Id id)) = refl
-names-change b (change.Remove table.Candidate (key.Id id)) = refl
-names-change b (change.Remove table.Recovery (key.Id id)) = refl
-names-change b (change.Remove table.Switch (key.Id id)) = refl
-names-change b (change.Remove table.Instance key.Global) = refl
-names-change b (change.Remove table.Downtime key.Global) = refl
-names-change b (change.Remove table.Candidate key.Global) = refl
-names-change b (change.Remove table.Recovery key.Global) = refl
-names-change b (change.Remove table.Switch key.Global) = refl
+-- ---- no change of a book changes its names or settings
 
-pub names-changed : (b : Known) (cs : List Change) → (changed_book b cs).names ≡ b.names
-names-changed b [] = refl
-names-changed b (c ∷ cs) = names-changed (after_change b c) cs ∙ names-change b c
-
-settings-change : (b : Known) (c : Change) → (after_change b c).settings ≡ b.settings
+pub settings-change : (b : Known) (c : Change) → (after_change b c).settings ≡ b.settings
 settings-change b (change.Put r) = settings-put b r
 settings-change b (change.Remove table.Instance (key.Server n)) = refl
 settings-change b (change.Remove table.Downtime (key.Server n)) = refl
@@ -183,9 +164,21 @@ settings-change b (change.Remove table.Candidate key.Global) = refl
 settings-change b (change.Remove table.Recovery key.Global) = refl
 settings-change b (change.Remove table.Switch key.Global) = refl
 
-pub settings-changed : (b : Known) (cs : List Change) → (changed_book b cs).settings ≡ b.settings
-settings-changed b [] = refl
-settings-changed b (c ∷ cs) = settings-changed (after_change b c) cs ∙ settings-change b c
+settings-opening : (b : Known) (c : Change) → (after_opening b c).settings ≡ b.settings
+settings-opening b (change.Remove t k) = settings-change b (change.Remove t k)
+settings-opening b (change.Put (row.Instance i)) = refl
+settings-opening b (change.Put (row.Downtime d)) = refl
+settings-opening b (change.Put (row.Candidate c)) = refl
+settings-opening b (change.Put (row.Recovery r)) = refl
+settings-opening b (change.Put (row.Switch enabled)) = refl
+
+names-opened : (b : Known) (cs : List Change) → (opened_book b cs).names ≡ b.names
+names-opened b [] = refl
+names-opened b (c ∷ cs) = names-opened (after_opening b c) cs ∙ names-opening b c
+
+settings-opened : (b : Known) (cs : List Change) → (opened_book b cs).settings ≡ b.settings
+settings-opened b [] = refl
+settings-opened b (c ∷ cs) = settings-opened (after_opening b c) cs ∙ settings-opening b c
 
 pub book-settings : (s : Scenario) (w : World) (settings : List Settings) (items : List Row) (b : Known) → w ≡ start_world s → settings ≡ settings_of s → b ≡ book_made settings items → length b.settings ≡ length w.servers
 book-settings s w settings items b world settings_are loads =
@@ -208,7 +201,7 @@ pub record IsOpening (s : Scenario) (w : World) (settings : List Settings) (item
   pub settings_made : settings ≡ settings_of s
   pub moment_made : moment.0 ≡ latest s.moment.0 items
   pub loads : b ≡ book_made settings items
-  pub completes : b' ≡ changed_book b (opening_changes w moment b s.known)
+  pub completes : b' ≡ opened_book b (opening_changes w moment b s.known)
   pub empty : slots ≡ empty_slots
   pub read : reads ≡ last_read items
   pub configured : configuration ≡ configuration_of wait s
@@ -226,8 +219,8 @@ module _ (s : Scenario) (w : World) (settings : List Settings) (items : List Row
 
   pub IsState-made : IsScenario s → IsState made
   IsState-made scenario = record {
-    names = ap (λ (x : Known). length x.names) is.completes ∙ (ap length (names-changed b (opening_changes w moment b s.known)) ∙ book-names s w settings items b is.world is.settings_made is.loads);
-    settings = ap (λ (x : Known). length x.settings) is.completes ∙ (ap length (settings-changed b (opening_changes w moment b s.known)) ∙ book-settings s w settings items b is.world is.settings_made is.loads);
+    names = ap (λ (x : Known). length x.names) is.completes ∙ (ap length (names-opened b (opening_changes w moment b s.known)) ∙ book-names s w settings items b is.world is.settings_made is.loads);
+    settings = ap (λ (x : Known). length x.settings) is.completes ∙ (ap length (settings-opened b (opening_changes w moment b s.known)) ∙ book-settings s w settings items b is.world is.settings_made is.loads);
     slots = ap length is.empty ∙ length-replicate {A = Option Observation} pollers None;
     observed = subst (All (IsSlot (length w.servers))) (sym is.empty) (All-replicate (IsSlot (length w.servers)) pollers None tt);
     sources = subst (λ (x : World). KnowsSources x.servers) (sym is.world) (sources-start s scenario);
@@ -252,7 +245,7 @@ module _ (s : Scenario) (w : World) (settings : List Settings) (items : List Row
 
     pub state_is : made ≡ start s wait rows
     state_is =
-        let book = is.completes ∙ ap (changed_book b) changes_are ∙ ap (λ (x : Known). changed_book x (start_changes s rows)) book_is in
+        let book = is.completes ∙ ap (opened_book b) changes_are ∙ ap (λ (x : Known). opened_book x (start_changes s rows)) book_is in
         let read = is.read ∙ ap last_read items_made in
         let begins : State = start s wait rows in
         ap (λ (x : World). record made { world = x }) is.world

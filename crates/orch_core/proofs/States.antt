@@ -4,7 +4,6 @@ use Rattle.std.specs.Prelude.{All, min, IfSome, ◌&&◌, nat_lt, slice_set, fol
 use Rattle.std.proofs.lemmas.Bool.{false≢true}
 use Rattle.std.proofs.lemmas.List.{length-set, length-replicate, length-map}
 use Rattle.std.proofs.lemmas.List.Elements.{All-set, All-replicate}
-use Rattle.std.proofs.lemmas.Option.{slice_get_within}
 use Rattle.orch_base.specs.declared.server.Settings.{Settings}
 use Rattle.orch_base.specs.declared.server.ServerNo.{ServerNo}
 use Rattle.instance_keeper.specs.declared.observation.Observation.{Observation}
@@ -106,7 +105,7 @@ names-made settings rows = names-rows (empty_book settings) rows
 pub names-loaded : (settings : List Settings) (rows : List Row) → (loaded settings rows).names ≡ map (λ x. x.name) settings
 names-loaded settings rows = names-made settings (counted (length settings) rows)
 
-names-over : (b : Known) (o : Observation) (kept : Option Instance) → (stored_over b o kept).names ≡ b.names
+pub names-over : (b : Known) (o : Observation) (kept : Option Instance) → (stored_over b o kept).names ≡ b.names
 names-over b o None = refl
 names-over b o (Some kept) = go (nat_lt o.read kept.read)
   where
@@ -144,7 +143,7 @@ settings-made settings rows = settings-rows (empty_book settings) rows
 pub settings-loaded : (settings : List Settings) (rows : List Row) → (loaded settings rows).settings ≡ settings
 settings-loaded settings rows = settings-made settings (counted (length settings) rows)
 
-settings-over : (b : Known) (o : Observation) (kept : Option Instance) → (stored_over b o kept).settings ≡ b.settings
+pub settings-over : (b : Known) (o : Observation) (kept : Option Instance) → (stored_over b o kept).settings ≡ b.settings
 settings-over b o None = refl
 settings-over b o (Some kept) = go (nat_lt o.read kept.read)
   where
@@ -219,6 +218,22 @@ IsState-restart s b slots is loads empty = record {
   sources = is.sources;
   moment = is.moment;
 }
+
+-- a book that takes the rows which count of those that the keeper gave
+
+module _ (s : State) (servers : ℕ) (items : List Row) (b : Known) (is : IsState s) (count : servers ≡ length s.book.names) (made : b ≡ book_made s.book.settings items) where
+  loads : (rows : List Row) → items ≡ counted servers rows → b ≡ loaded s.book.settings rows
+  loads rows e =
+      let each : servers ≡ length s.book.settings = count ∙ is.names ∙ sym is.settings in
+      made ∙ ap (book_made s.book.settings) (e ∙ ap (λ (n : ℕ). counted n rows) each)
+
+  pub loads-counted : (rows : List Row) × (items ≡ counted servers rows) → (rows : List Row) × (b ≡ loaded s.book.settings rows)
+  loads-counted some = (some.0, loads some.0 some.1)
+
+pub told-counted : (kept : Option (List Row)) (s : State) (servers : ℕ) (items : List Row) (b : Known) → IsState s → servers ≡ length s.book.names → b ≡ book_made s.book.settings items
+    → IfSome kept (λ rows. items ≡ counted servers rows) → IfSome kept (λ rows. b ≡ loaded s.book.settings rows)
+told-counted None s servers items b is count made told = tt
+told-counted (Some rows) s servers items b is count made told = loads s servers items b is count made rows told
 
 -- a restart by the rows that the keeper gave
 

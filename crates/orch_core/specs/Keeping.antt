@@ -11,7 +11,8 @@ use Rattle.turns.specs.declared.turn.Turn.{Turn}
 use Rattle.turns.specs.declared.turn.Turn.TheVariants as turn
 use Rattle.orch_core.specs.Runs.{Machine, LeadsTo, kept_after}
 
--- a turn leads from one state to another: by the kept rows, where the keeper tells them, and by some rows where it doesn't
+-- a turn leads from one state to another: by the kept rows, where the keeper tells them, and by some rows where it
+-- doesn't
 abbrev pub StepsTo : {A : Type 0} → Machine A → Option (List Row) → A → Turn → A → Type 0
 StepsTo m None s t now = (rows : List Row) × (now ≡ m.next rows s t)
 StepsTo m (Some rows) s t now = now ≡ m.next rows s t

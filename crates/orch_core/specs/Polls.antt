@@ -8,9 +8,8 @@ use Rattle.instance_keeper.specs.declared.row.Row.{Row}
 use Rattle.instance_keeper.specs.declared.row.Change.{Change}
 use Rattle.instance_keeper.specs.Book.{Known, instance_at, after_store, store_change}
 use Rattle.opening_book.specs.Counting.{loaded}
-use Rattle.opening_book.specs.Opening.{changed_book}
 use Rattle.commands.specs.declared.turn.CommandTurn.{CommandTurn}
-use Rattle.orch_core.specs.Commands.{Outcome, outcome_of}
+use Rattle.orch_core.specs.Commands.{Outcome, outcome_of, updated}
 use Rattle.orch_core.specs.Readings.{reading_by}
 use Rattle.turns.specs.declared.turn.Turn.{Turn}
 use Rattle.turns.specs.declared.turn.Turn.TheVariants as turn
@@ -74,7 +73,7 @@ stored b (Some o) = after_store b o
 -- the slot's reading is stored, a command's changes are made, and a restart loads the rows that count
 abbrev pub book_after : List Row → State → Turn → Known
 book_after rows s (turn.PollStore p) = stored s.book (slot_at s p)
-book_after rows s (turn.Command c) = changed_book s.book (command_outcome s c).book
+book_after rows s (turn.Command c) = updated s.book (command_outcome s c).book
 book_after rows s turn.Restart = loaded s.book.settings rows
 book_after rows s (turn.Write n size) = s.book
 book_after rows s (turn.Fetch n) = s.book

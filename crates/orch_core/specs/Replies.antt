@@ -1,5 +1,5 @@
 -- What each turn answers.
-use Rattle.std.specs.Prelude.{◌≡◌, ℕ, Option, Some, None, is_some, if◌then◌else◌}
+use Rattle.std.specs.Prelude.{◌≡◌, ℕ, Bool, Option, Some, None, is_some, if◌then◌else◌}
 use Rattle.instance_keeper.specs.declared.book.StoreAnswer.{StoreAnswer}
 use Rattle.instance_keeper.specs.declared.book.StoreAnswer.TheVariants as store
 use Rattle.instance_keeper.specs.declared.observation.Observation.{Observation}
@@ -16,10 +16,10 @@ use Rattle.orch_core.specs.States.{State}
 use Rattle.orch_core.specs.Polls.{command_outcome, reading, slot_at}
 use Rattle.orch_core.specs.Turns.{later}
 
--- both are this reply
-pub record AreReply (r : Reply) (both : Replies) : Type 0 where
+-- this reply, and once more for the journal where it is written
+pub record AreReply (written : Bool) (r : Reply) (both : Replies) : Type 0 where
   pub told : both.told ≡ r
-  pub written : both.written ≡ r
+  pub written_too : both.written ≡ (if written then Some r else None)
 
 -- the number of a reading, and whether it reached the server
 abbrev pub read_reply : Observation → Reply

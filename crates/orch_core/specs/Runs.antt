@@ -12,8 +12,8 @@ use Rattle.orch_core.specs.States.{State}
 use Rattle.orch_core.specs.Polls.{book_after, slots_after, reads_after, changes_of}
 use Rattle.orch_core.specs.Replies.{reply_of}
 
--- the state after a turn: its exchanges are made, and the moment, the book, the slots and the read numbers change with it; a
--- restart has these rows from the keeper
+-- the state after a turn: its exchanges are made, and the moment, the book, the slots and the read numbers change with
+-- it; a restart has these rows from the keeper
 abbrev pub step : List Row → State → Turn → State
 step rows s t = record s {
   world = run s.world (exchanges_at s t);
@@ -36,7 +36,8 @@ pub record Recorded : Type 0 where
 abbrev pub record_turn : List Row → Recorded → Turn → Recorded
 record_turn rows r t = record { state = step rows r.state t; journal = r.journal ++ (t, reply_of r.state t) ∷ [] }
 
--- what a turn makes of one kind of state, and the changes of the kept rows that it makes, by the rows that the keeper has
+-- what a turn makes of one kind of state, and the changes of the kept rows that it makes, by the rows that the keeper
+-- has
 pub record Machine (A : Type 0) : Type 0 where
   pub next : List Row → A → Turn → A
   pub changes : List Row → A → Turn → List Change
@@ -70,8 +71,8 @@ held_step m h t = record { rows = changed h.rows (m.changes h.rows h.state t); s
 abbrev pub held_run : {A : Type 0} → Machine A → Held A → List Turn → Held A
 held_run m h ts = fold (held_step m) h ts
 
--- the turns lead from one state to another: by the kept rows, where the keeper tells them, and by some rows at each turn
--- where it doesn't
+-- the turns lead from one state to another: by the kept rows, where the keeper tells them, and by some rows at each
+-- turn where it doesn't
 abbrev pub LeadsTo : {A : Type 0} → Machine A → Option (List Row) → A → List Turn → A → Type 0
 LeadsTo m None s ts now = (xs : List (List Row × Turn)) × (turns_of xs ≡ ts) × (now ≡ run_turns m s xs)
 LeadsTo m (Some rows) s ts now = now ≡ (held_run m (record { rows = rows; state = s }) ts).state

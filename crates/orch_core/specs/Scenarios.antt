@@ -5,7 +5,7 @@ use Rattle.instance_keeper.specs.declared.row.Change.{Change}
 use Rattle.instance_keeper.specs.declared.row.Row.{Row}
 use Rattle.instance_keeper.specs.Rows.{changed}
 use Rattle.opening_book.specs.Counting.{counted, last_read, latest, loaded}
-use Rattle.opening_book.specs.Opening.{changed_book, opening_changes}
+use Rattle.opening_book.specs.Opening.{opened_book, opening_changes}
 use Rattle.orch_base.specs.declared.server.Moment.{Moment}
 use Rattle.world_openings.specs.Opening.{opened_world}
 use Rattle.server_model.specs.Worlds.{World}
@@ -32,17 +32,18 @@ start_moment s rows = record { 0 = latest s.moment.0 (start_rows s rows) }
 abbrev pub start_changes : Scenario → List Row → List Change
 start_changes s rows = opening_changes (start_world s) (start_moment s rows) (loaded (settings_of s) rows) s.known
 
--- what holds throughout the run: a job is to wait at most so many times, the block period is an hour, and whose recoveries may
--- begin by themselves
+-- what holds throughout the run: a job is to wait at most so many times, the block period is an hour, and whose
+-- recoveries may begin by themselves
 abbrev pub configuration_of : ℕ → Scenario → Configuration
 configuration_of wait s = record { wait = wait; block = 3600; master = s.filters.master.passes; intermediate = s.filters.intermediate.passes }
 
--- the state with which the scenario's run begins, by the rows of its keeper
+-- the state with which the scenario's run begins, by the rows of its keeper: an instance that the opening puts brings
+-- the bridge that it shows where it is valid, and a kept row brings none
 abbrev pub start : Scenario → ℕ → List Row → State
 start s wait rows = record {
   world = start_world s;
   moment = (start_moment s rows).0;
-  book = changed_book (loaded (settings_of s) rows) (start_changes s rows);
+  book = opened_book (loaded (settings_of s) rows) (start_changes s rows);
   slots = empty_slots;
   reads = last_read (start_rows s rows);
   last_job = 0;

@@ -7,8 +7,8 @@ use Rattle.server_model.specs.declared.server.Server.{Server}
 use Rattle.server_model.specs.Worlds.{World}
 use Rattle.scenarios.specs.Turns.{pollers}
 
--- the servers, the moment, what orchestrator knows, the pollers' slots, the greatest read number so far, the number of the last
--- job, and what holds throughout the run
+-- the servers, the moment, what orchestrator knows, the pollers' slots, the greatest read number so far, the number of
+-- the last job, and what holds throughout the run
 pub record State : Type 0 where
   pub world : World
   pub moment : ℕ
@@ -26,8 +26,8 @@ HasKnownSource count s = are_known count (source_servers s.source) ≡ true
 abbrev pub IsSlot : ℕ → Option Observation → Type 0
 IsSlot count slot = IfSome slot (λ o. are_known count (observed_servers o) ≡ true)
 
--- every server is in the book's lists, every poller has its slot, each reading and each source is of the servers, and time stands
--- still at 2^63
+-- every server is in the book's lists, every poller has its slot, each reading and each source is of the servers, and
+-- time stands still at 2^63
 pub record IsState (s : State) : Type 0 where
   pub names : length s.book.names ≡ length s.world.servers
   pub settings : length s.book.settings ≡ length s.world.servers

@@ -2,31 +2,54 @@
 
 ghost use Rattle.std.specs.Prelude.{◌≡◌, ◌<◌, ◌∷◌, [], IfOk, IsTrue, length};
 ghost use Rattle.std.specs.Option.{option_to_list};
-ghost use Rattle.instance_keeper.specs.Book.{instance_at};
+ghost use Rattle.instance_keeper.specs.Book.{discovery_change, instance_at};
 ghost use Rattle.orch_base.specs.Memory.{next_count};
 ghost use Rattle.commands.specs.Turns.{is_within};
 ghost use Rattle.asking_commands.specs.Answers.{lines_of, permitted};
-ghost use Rattle.orch_core.specs.Commands.{asked, discovered, discovery, forgotten, outcome_of, reads_server, refusal, removes, told_with};
+ghost use Rattle.orch_core.specs.Commands.{asked, discovered, forgotten, outcome_of, reads_server, refusal, removal, removes, told_with, updated, IsUpdate};
 ghost use Rattle.orch_core.specs.CommandsBy.{outcome};
 ghost use Rattle.orch_core.specs.Readings.{reading_by};
 
 use crate::Reply;
 use crate::engine::read_server;
-use asking_commands::{AnswerFault, answer};
-use commands::{CommandName, CommandTurn, Line, Lines, Refusal, Route};
+use asking_commands::{AnswerFault, answer, permit};
+use commands::{Command, CommandName, CommandTurn, Line, Lines, Refusal, Route};
 use instance_keeper::{Book, Change, Instance, Key, Observation, Row, Seen, Table};
 use orch_base::{Memory, Moment, ServerNo};
 use server_model::World;
 use std::alloc::Global;
 
-/// What a command answers, what it changes of the book, what it changes of the kept rows, and the greatest read number after
+/// What a command makes of the book.
+#[derive(Drop)]
+pub(crate) enum Update {
+    /// Nothing.
+    Stays,
+    /// This change.
+    Change(Change),
+    /// It takes in what was read of a server.
+    Discovery(Observation),
+}
+
+/// What a command answers, what it makes of the book, how it changes the kept rows, and the greatest read number after
 /// it.
 #[derive(Drop)]
 pub(crate) struct Outcome {
     pub(crate) reply: Reply,
-    pub(crate) book: Vec<Change>,
+    pub(crate) book: Update,
     pub(crate) rows: Vec<Change>,
     pub(crate) reads: u64,
+}
+
+/// Makes of the book what a command makes of it. It takes no memory.
+pub(crate) fn update_book(book: &mut Book, update: Update)
+    requires { IsUpdate (length book.old.names) update }
+    ensures { book.new ≡ updated book.old update }
+{
+    match update {
+        Update::Stays => {}
+        Update::Change(change) => book.set(change),
+        Update::Discovery(o) => book.discover(o),
+    }
 }
 
 fn reads_server(name: CommandName) -> bool
@@ -52,7 +75,7 @@ fn refused(alloc: Global, reads: u64, why: Refusal) -> Outcome
 {
     Outcome {
         reply: Reply::Refused(why),
-        book: Vec::new(alloc),
+        book: Update::Stays,
         rows: Vec::new(alloc),
         reads,
     }
@@ -68,37 +91,39 @@ fn named(alloc: Global, no: ServerNo) -> Result<Reply, Memory>
 }
 
 // A list of the change, where there is one.
-fn listed(alloc: Global, change: &Option<Change>) -> Result<Vec<Change>, Memory>
-    ensures { IfOk result (λ v. v.items ≡ option_to_list change.now) }
+fn listed(alloc: Global, change: Option<Change>) -> Result<Vec<Change>, Memory>
+    ensures { IfOk result (λ v. v.items ≡ option_to_list change) }
 {
     let mut changes = Vec::new(alloc);
     if let Some(change) = change {
-        changes.push(change.copy(alloc)?)?;
+        changes.push(change)?;
     }
     Ok(changes)
 }
 
-// The instance's name, and this change of the book and of the kept rows alike.
+// The instance's name, what becomes of the book, and the changes of the kept rows.
 fn told_with(
     alloc: Global,
     reads: u64,
     no: ServerNo,
-    change: Option<Change>,
+    book: Update,
+    rows: Vec<Change>,
 ) -> Result<Outcome, Memory>
-    ensures { IfOk result (λ out. outcome out ≡ told_with reads (Line.Server no) (option_to_list change)) }
+    ensures { IfOk result (λ out. outcome out ≡ told_with reads (Line.Server no) book rows.items) }
 {
     Ok(Outcome {
         reply: named(alloc, no)?,
-        book: listed(alloc, &change)?,
-        rows: listed(alloc, &change)?,
+        book,
+        rows,
         reads,
     })
 }
 
-// An instance that the book lacks is put there; one that it has is stored as any reading is.
-fn discovery(book: &Book, o: &Observation, seen: &Seen) -> Result<Option<Change>, Memory>
+// How the kept rows change: an instance that the book lacks is put; for one that it has the rule of stored readings
+// holds.
+fn discovery_change(book: &Book, o: &Observation, seen: &Seen) -> Result<Option<Change>, Memory>
     requires { o.now.no.0 < length book.now.names }
-    ensures { IfOk result (λ c. c ≡ discovery (instance_at book.now o.now.no) o.now seen.now) }
+    ensures { IfOk result (λ c. c ≡ discovery_change (instance_at book.now o.now.no) o.now seen.now) }
 {
     if book.instance(o.no).is_some() {
         return book.change_by(o);
@@ -112,15 +137,15 @@ fn discovery(book: &Book, o: &Observation, seen: &Seen) -> Result<Option<Change>
     }))))
 }
 
-fn discovered(alloc: Global, book: &Book, reads: u64, o: &Observation) -> Result<Outcome, Memory>
-    requires { o.now.no.0 < length book.now.names }
-    ensures { IfOk result (λ out. outcome out ≡ discovered book.now reads o.now o.now.seen) }
+fn discovered(alloc: Global, book: &Book, reads: u64, o: Observation) -> Result<Outcome, Memory>
+    requires { o.no.0 < length book.now.names }
+    ensures { IfOk result (λ out. outcome out ≡ discovered book.now reads o o.seen) }
 {
     let Some(seen) = &o.seen else {
         return Ok(refused(alloc, reads, Refusal::Unreachable(o.no)));
     };
-    let change = discovery(book, o, seen)?;
-    told_with(alloc, o.read, o.no, change)
+    let rows = listed(alloc, discovery_change(book, &o, seen)?)?;
+    told_with(alloc, o.read, o.no, Update::Discovery(o), rows)
 }
 
 // Reads the server itself.
@@ -137,31 +162,45 @@ fn discover(
     ensures { IfOk result (λ out. outcome out ≡ discovered book.now reads (reading_by world.now no (next_count reads) moment.0) (reading_by world.now no (next_count reads) moment.0).seen) }
 {
     let o = read_server(alloc, world, no, reads.saturating_add(1), moment)?;
-    discovered(alloc, book, reads, &o)
+    discovered(alloc, book, reads, o)
+}
+
+fn removal(no: ServerNo) -> Change
+    ensures { result ≡ removal no }
+{
+    Change::Remove(Table::Instance, Key::Server(no))
 }
 
 // Removes the instance.
-fn forget(alloc: Global, book: &Book, no: ServerNo, reads: u64) -> Result<Outcome, Memory>
-    requires { no.0 < length book.now.names }
-    ensures { IfOk result (λ out. outcome out ≡ forgotten book.now reads no) }
+fn forget(
+    alloc: Global,
+    book: &Book,
+    command: Command,
+    no: ServerNo,
+    reads: u64,
+) -> Result<Outcome, Memory>
+    requires i { IsTrue (is_within (length book.now.names) command.i) }
+    requires d { IsTrue (is_within (length book.now.names) command.d) }
+    ensures { IfOk result (λ out. outcome out ≡ forgotten reads (permitted book.now command) no) }
 {
-    if book.instance(no).is_none() {
-        return Ok(refused(alloc, reads, Refusal::UnknownInstance));
+    if let Err(refusal) = permit(book, command) {
+        return Ok(refused(alloc, reads, refusal));
     }
-    let removal = Change::Remove(Table::Instance, Key::Server(no));
-    told_with(alloc, reads, no, Some(removal))
+    let rows = listed(alloc, Some(removal(no)))?;
+    told_with(alloc, reads, no, Update::Change(removal(no)), rows)
 }
 
 // Asks the book.
 #[tactic(auto, unfolding(asking_commands::specs::Answers::answer_of), using(crate::proofs::Outcomes::asked_told, crate::proofs::Outcomes::asked_refused))]
 fn ask(alloc: Global, book: &Book, reads: u64, t: &CommandTurn) -> Result<Outcome, Memory>
-    requires { IsTrue (is_within (length book.now.names) t.now.command.i) }
+    requires i { IsTrue (is_within (length book.now.names) t.now.command.i) }
+    requires d { IsTrue (is_within (length book.now.names) t.now.command.d) }
     ensures { IfOk result (λ out. outcome out ≡ asked reads (permitted book.now t.now.command) (lines_of book.now t.now t.now.command.name)) }
 {
     match answer(alloc, book, t) {
         Ok(lines) => Ok(Outcome {
             reply: Reply::Told(lines),
-            book: Vec::new(alloc),
+            book: Update::Stays,
             rows: Vec::new(alloc),
             reads,
         }),
@@ -182,13 +221,14 @@ pub(crate) fn outcome_of(
 ) -> Result<Outcome, Memory>
     requires servers { length book.now.names ≡ length world.now.servers }
     requires i { IsTrue (is_within (length book.now.names) t.now.command.i) }
+    requires d { IsTrue (is_within (length book.now.names) t.now.command.d) }
     ensures { IfOk result (λ out. outcome out ≡ outcome_of world.now book.now reads moment.0 t.now) }
 {
     match t.command.i {
         Some(no) if reads_server(t.command.name) => {
             discover(alloc, world, book, no, reads, moment)
         }
-        Some(no) if removes(t.command.name) => forget(alloc, book, no, reads),
+        Some(no) if removes(t.command.name) => forget(alloc, book, t.command, no, reads),
         Some(_) | None => ask(alloc, book, reads, t),
     }
 }

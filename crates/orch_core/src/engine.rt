@@ -1,10 +1,11 @@
-//! The machine of a run: the servers, the moment, and what orchestrator knows, one turn after another. It writes no journal.
+//! The machine of a run: the servers, the moment, and what orchestrator knows, one turn after another. It writes no
+//! journal.
 
-ghost use Rattle.std.specs.Prelude.{◌≡◌, ◌≢◌, ◌<◌, ◌≤◌, ◌^◌, ℕ, List, [], All, IfOk, IfSome, IfErr, OnOk, OnErr, Err, true, false, is_ok, length, map};
+ghost use Rattle.std.specs.Prelude.{◌≡◌, ◌≢◌, ◌<◌, ◌≤◌, ◌^◌, ℕ, List, [], All, Some, None, IfOk, IfSome, IfErr, OnOk, OnErr, Err, true, false, if◌then◌else◌, is_ok, length, map};
 ghost use Rattle.instance_keeper.specs.declared.row.Row.{Row as ARow};
 ghost use Rattle.instance_keeper.specs.Book.{are_known, observed_servers};
 ghost use Rattle.opening_book.specs.Counting.{counted, loaded};
-ghost use Rattle.opening_book.specs.Opening.{changed_book, opening_changes};
+ghost use Rattle.opening_book.specs.Opening.{opened_book, opening_changes};
 ghost use Rattle.server_model.specs.Run.{run};
 ghost use Rattle.scenarios.specs.Turns.{pollers, IsCommand, IsTurn};
 ghost use Rattle.turns.specs.Plain.{is_plain};
@@ -17,10 +18,10 @@ ghost use Rattle.orch_core.specs.Keeping.{StepsTo, kept_by, kept_if, asks, Calls
 ghost use Rattle.orch_core.specs.Scenarios.{configuration_of};
 ghost use Rattle.orch_core.specs.States.{HasKnownSource};
 
-use crate::command::outcome_of;
+use crate::command::{outcome_of, update_book};
 use crate::{Configuration, HeldCommand, Reply, Scenario, Turn, TurnFault};
 use instance_keeper::{Book, Change, Keeper, Observation, Row, StoreAnswer};
-use opening_book::{change_book, counted, last_read, latest_moment, loaded_book, opening_changes};
+use opening_book::{counted, last_read, latest_moment, loaded_book, open_book, opening_changes};
 use openings::ServerInit;
 use orch_base::{Memory, Moment, Name, ServerNo, Settings};
 use server_model::{StatusFault, World};
@@ -61,20 +62,32 @@ impl Model for Engine {
     ghost invariant = { IsStateInside };
 }
 
-/// What a turn answers, twice: to be told, and to be written into a journal.
+/// What a turn answers: to be told, and once more for a journal, where it is written.
 #[derive(Drop)]
 pub(crate) struct Replies {
     pub(crate) told: Reply,
-    pub(crate) written: Reply,
+    pub(crate) written: Option<Reply>,
 }
 
-fn twice(reply: Reply) -> Replies
+fn plain(reply: Reply, written: bool) -> Replies
     requires { is_plain reply ≡ true }
-    ensures { AreReply reply result }
+    ensures { AreReply written reply result }
 {
+    let again = if written { Some(reply.again()) } else { None };
     Replies {
-        told: reply.again(),
-        written: reply,
+        told: reply,
+        written: again,
+    }
+}
+
+// The reply, and its copy for a journal, where it is written.
+fn copied(alloc: Global, reply: &Reply, written: bool) -> Result<Option<Reply>, Memory>
+    ensures { IfOk result (λ r. r ≡ (if written then Some reply.now else None)) }
+{
+    if written {
+        Ok(Some(reply.copy(alloc)?))
+    } else {
+        Ok(None)
     }
 }
 
@@ -261,29 +274,16 @@ fn keep_some<K: Keeper>(
 fn counted_rows<K: Keeper>(
     alloc: Global,
     keeper: &mut K,
-    settings: &[Settings],
+    names: &[Name],
+    servers: u32,
 ) -> Result<Vec<Row>, TurnFault>
-    requires { length settings.now < 2 ^ 32 }
-    ensures told { IfSome (K.kept keeper.old) (λ rows. IfOk result (λ r. r.items ≡ counted (length settings.now) rows)) }
-    ensures some { IfOk result (λ r. (rows : List ARow) × (r.items ≡ counted (length settings.now) rows)) }
+    ensures told { IfSome (K.kept keeper.old) (λ rows. IfOk result (λ r. r.items ≡ counted servers rows)) }
+    ensures some { IfOk result (λ r. (rows : List ARow) × (r.items ≡ counted servers rows)) }
     ensures kept { K.kept keeper.new ≡ K.kept keeper.old }
     ensures cause { HasTurnCause (K.faults keeper.old) (K.faults keeper.new) result }
 {
-    let names = copy_names(alloc, settings)?;
-    let rows = keeper.rows(alloc, &names)?;
-    Ok(counted(alloc, settings.len() as u32, rows)?)
-}
-
-// The book of the rows that count, by the keeper.
-fn reload<K: Keeper>(alloc: Global, keeper: &mut K, book: &Book) -> Result<Book, TurnFault>
-    ensures told { IfSome (K.kept keeper.old) (λ rows. IfOk result (λ b. b ≡ loaded book.now.settings rows)) }
-    ensures some { IfOk result (λ b. (rows : List ARow) × (b ≡ loaded book.now.settings rows)) }
-    ensures kept { K.kept keeper.new ≡ K.kept keeper.old }
-    ensures cause { HasTurnCause (K.faults keeper.old) (K.faults keeper.new) result }
-{
-    let rows = keeper.rows(alloc, book.names())?;
-    let rows = counted(alloc, book.servers(), rows)?;
-    Ok(loaded_book(alloc, book.all_settings(), &rows)?)
+    let rows = keeper.rows(alloc, names)?;
+    Ok(counted(alloc, servers, rows)?)
 }
 
 // The book with the instances of the known servers that it lacks, which are kept first.
@@ -298,14 +298,14 @@ fn complete<K: Keeper>(
     requires known { length known.now ≡ length world.now.servers }
     requires names { length book.names ≡ length world.now.servers }
     requires sources { All (HasKnownSource (length world.now.servers)) world.now.servers }
-    ensures book { IfOk result (λ b. b ≡ changed_book book (opening_changes world.now moment book known.now)) }
+    ensures book { IfOk result (λ b. b ≡ opened_book book (opening_changes world.now moment book known.now)) }
     ensures kept { K.kept keeper.new ≡ kept_if (is_ok result) (K.kept keeper.old) (opening_changes world.now moment book known.now) }
     ensures cause { HasTurnCause (K.faults keeper.old) (K.faults keeper.new) result }
     ensures idle { opening_changes world.now moment book known.now ≡ [] → keeper.new ≡ keeper.old }
 {
     let changes = opening_changes(alloc, world, moment, &book, known)?;
     keep_some(alloc, keeper, book.names(), &changes)?;
-    change_book(&mut book, changes);
+    open_book(&mut book, changes);
     Ok(book)
 }
 
@@ -317,6 +317,16 @@ fn make_slots(alloc: Global) -> Result<Vec<Option<Observation>>, Memory>
         slots.push(None)?;
     }
     Ok(slots)
+}
+
+// Empties all slots.
+fn empty_slots(slots: &mut Vec<Option<Observation>>)
+    requires { length slots.old.items ≡ pollers }
+    ensures { slots.new.items ≡ empty_slots }
+{
+    for poller in 0..POLLERS {
+        slots[poller as usize] = None;
+    }
 }
 
 fn copy_settings(alloc: Global, servers: &[ServerInit]) -> Result<Vec<Settings>, Memory>
@@ -415,10 +425,9 @@ impl Engine {
         ensures cause { HasTurnCause (K.faults keeper.old) (K.faults keeper.new) result }
         ensures servers { length self.new.world.servers ≡ length self.old.world.servers }
     {
-        let slots = make_slots(alloc)?;
-        let book = reload(alloc, keeper, &self.book)?;
-        self.slots = slots;
-        self.book = book;
+        let rows = counted_rows(alloc, keeper, self.book.names(), self.book.servers())?;
+        self.book.reload(rows);
+        empty_slots(&mut self.slots);
         Ok(Reply::Done)
     }
 
@@ -428,9 +437,10 @@ impl Engine {
         alloc: Global,
         keeper: &mut K,
         t: &HeldCommand,
+        written: bool,
     ) -> Result<Replies, TurnFault>
         requires { IsCommand (length self.old.world.servers) t.now }
-        ensures reply { IfOk result (λ r. AreReply (reply_of self.old (Turn.Command t.now)) r) }
+        ensures reply { IfOk result (λ r. AreReply written (reply_of self.old (Turn.Command t.now)) r) }
         ensures ok { OnOk result (self.new ≡ step [] self.old (Turn.Command t.now)) }
         ensures err { OnErr result (self.new ≡ self.old) }
         ensures kept { K.kept keeper.new ≡ kept_if (is_ok result) (K.kept keeper.old) (changes_of [] self.old (Turn.Command t.now)) }
@@ -446,13 +456,13 @@ impl Engine {
             self.moment,
             t.as_turn(),
         )?;
-        let told = outcome.reply.copy(alloc)?;
+        let written = copied(alloc, &outcome.reply, written)?;
         keep_some(alloc, keeper, self.book.names(), &outcome.rows)?;
-        change_book(&mut self.book, outcome.book);
+        update_book(&mut self.book, outcome.book);
         self.reads = outcome.reads;
         Ok(Replies {
-            told,
-            written: outcome.reply,
+            told: outcome.reply,
+            written,
         })
     }
 }
@@ -462,7 +472,13 @@ impl Engine {
     ghost use Rattle.scenarios.specs.Scenarios.{IsScenario};
     ghost use Rattle.orch_core.specs.Scenarios.{StartsBy, kept_at_start};
 
-    /// The opening state of a scenario, by the rows that the keeper hands back: its servers as they begin, and the book of the rows that count and of the known servers that none of these is of. A job is to wait at most `wait` times. Each server gets room for all transactions of the listed histories and one more for each write turn, and for the longest list of flush points and one more new file for each rotate turn. What the book has beyond the rows is kept first. Keeper comes only where the keeper's count of faults rose; after it, and after Memory, the kept rows are as before.
+    /// The opening state of a scenario, by the rows that the keeper hands back: its servers as they begin, and the book
+    /// of the rows that count and of the known servers that none of these is of, with the bridges that these servers
+    /// show. A job is to wait at most `wait` times. Each server gets room for all transactions of the listed histories
+    /// and one more for each write turn, and for the longest list of flush points and one more new file for each rotate
+    /// turn. What the book has beyond the rows is kept first; where it has nothing beyond them, only the rows are asked
+    /// for. Keeper comes only where the keeper's count of faults rose; after it, and after Memory, the kept rows are as
+    /// before.
     pub fn make<K: Keeper>(
         alloc: Global,
         s: &Scenario,
@@ -479,7 +495,8 @@ impl Engine {
         let settings = copy_settings(alloc, s.opening.servers())?;
         let slots = make_slots(alloc)?;
         let configuration = configure(alloc, s, wait)?;
-        let rows = counted_rows(alloc, keeper, &settings)?;
+        let names = copy_names(alloc, &settings)?;
+        let rows = counted_rows(alloc, keeper, &names, settings.len() as u32)?;
         let moment = latest_moment(s.moment, &rows);
         let book = loaded_book(alloc, &settings, &rows)?;
         let book = complete(alloc, keeper, &world, moment, book, s.known.as_slice())?;
@@ -494,15 +511,16 @@ impl Engine {
         })
     }
 
-    /// One turn, with its reply twice.
+    /// One turn, with its reply once more where it is written.
     pub(crate) fn replies<K: Keeper>(
         &mut self,
         alloc: Global,
         keeper: &mut K,
         t: &Turn,
+        written: bool,
     ) -> Result<Replies, TurnFault>
         requires { IsTurn (length self.old.world.servers) t.now }
-        ensures reply { IfOk result (λ r. AreReply (reply_of self.old t.now) r) }
+        ensures reply { IfOk result (λ r. AreReply written (reply_of self.old t.now) r) }
         ensures ok { OnOk result (StepsTo engine (K.kept keeper.old) self.old t.now self.new) }
         ensures err { OnErr result (self.new ≡ self.old) }
         ensures kept { K.kept keeper.new ≡ kept_by engine (is_ok result) (K.kept keeper.old) self.old t.now }
@@ -512,10 +530,10 @@ impl Engine {
         ensures servers { length self.new.world.servers ≡ length self.old.world.servers }
     {
         match t {
-            Turn::PollRead(poller, no) => Ok(twice(self.poll_read(alloc, *poller, *no)?)),
-            Turn::PollStore(poller) => Ok(twice(self.poll_store(alloc, keeper, *poller)?)),
-            Turn::Command(t) => self.command(alloc, keeper, t),
-            Turn::Restart => Ok(twice(self.restart(alloc, keeper)?)),
+            Turn::PollRead(poller, no) => Ok(plain(self.poll_read(alloc, *poller, *no)?, written)),
+            Turn::PollStore(poller) => Ok(plain(self.poll_store(alloc, keeper, *poller)?, written)),
+            Turn::Command(t) => self.command(alloc, keeper, t, written),
+            Turn::Restart => Ok(plain(self.restart(alloc, keeper)?, written)),
             Turn::Write(_, _)
             | Turn::Fetch(_)
             | Turn::Apply(_)
@@ -526,11 +544,13 @@ impl Engine {
             | Turn::Rotate(_)
             | Turn::Tick(_)
             | Turn::Job(_)
-            | Turn::Scan => Ok(twice(self.exchange_turn(t))),
+            | Turn::Scan => Ok(plain(self.exchange_turn(t), written)),
         }
     }
 
-    /// One turn. What it changes of the kept rows is kept first, and a refused command changes nothing. Keeper comes only where the keeper's count of faults rose, at a turn that calls the keeper; after it, and after Memory, nothing has changed. The keeper is called only at a restart and where a kept row changes.
+    /// One turn. What it changes of the kept rows is kept first, and a refused command changes nothing. Keeper comes
+    /// only where the keeper's count of faults rose, at a turn that calls the keeper; after it, and after Memory,
+    /// nothing has changed. The keeper is called only at a restart and where a kept row changes.
     pub fn turn<K: Keeper>(
         &mut self,
         alloc: Global,
@@ -547,11 +567,13 @@ impl Engine {
         ensures calls { result ≡ Err TurnFault.Keeper → Calls engine self.old t.now }
         ensures servers { length self.new.world.servers ≡ length self.old.world.servers }
     {
-        let replies = self.replies(alloc, keeper, t)?;
+        let replies = self.replies(alloc, keeper, t, false)?;
         Ok(replies.told)
     }
 
-    /// All of the turns, in order, to the first fault: after it the turns before the one that gave up are done, and nothing of that one or of those after it. No turn takes memory that outlives it, but for what the servers and the book hold.
+    /// All of the turns, in order, to the first fault: after it the turns before the one that gave up are done, and
+    /// nothing of that one or of those after it. No turn takes memory that outlives it, but for what the servers and
+    /// the book hold.
     pub fn run<K: Keeper>(
         &mut self,
         alloc: Global,

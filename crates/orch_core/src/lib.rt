@@ -1,4 +1,5 @@
-//! A run over the servers, turn by turn: the world that the turns made, what orchestrator knows, and what each turn answered.
+//! A run over the servers, turn by turn: the world that the turns made, what orchestrator knows, and what each turn
+//! answered.
 #![tactic(auto)]
 
 mod command;
@@ -6,6 +7,7 @@ mod configuration;
 mod engine;
 mod fault;
 mod orch;
+mod threads;
 
 pub use commands::{
     Answers, Command, CommandName, CommandTurn, Found, Keys, Line, Lines, Refusal, StateWord,

@@ -16,8 +16,8 @@ use server_model::World;
 use std::alloc::Global;
 use std::marker::Model;
 
-/// The servers of a scenario after some turns, the moment, what orchestrator knows, and the journal: each turn so far with
-/// its reply, in order.
+/// The servers of a scenario after some turns, the moment, what orchestrator knows, and the journal: each turn so far
+/// with its reply, in order.
 #[derive(Drop)]
 pub struct Orch {
     engine: Engine,
@@ -35,7 +35,9 @@ impl Model for Orch {
 }
 
 impl Orch {
-    /// The opening state of a scenario, by the rows that the keeper hands back, as `Engine::make`'s, and an empty journal. Keeper comes only where the keeper's count of faults rose; after it, and after Memory, the kept rows are as before.
+    /// The opening state of a scenario, by the rows that the keeper hands back, as `Engine::make`'s, and an empty
+    /// journal. Keeper comes only where the keeper's count of faults rose; after it, and after Memory, the kept rows
+    /// are as before.
     pub fn make<K: Keeper>(
         alloc: Global,
         s: &Scenario,
@@ -56,7 +58,10 @@ impl Orch {
         })
     }
 
-    /// One turn, which joins the journal with its reply. What it changes of the kept rows is kept first, and a refused command changes nothing. Keeper comes only where the keeper's count of faults rose, at a turn that calls the keeper; after it, and after Memory, nothing has changed. The keeper is called only at a restart and where a kept row changes.
+    /// One turn, which joins the journal with its reply. What it changes of the kept rows is kept first, and a refused
+    /// command changes nothing. Keeper comes only where the keeper's count of faults rose, at a turn that calls the
+    /// keeper; after it, and after Memory, nothing has changed. The keeper is called only at a restart and where a kept
+    /// row changes.
     pub fn turn<K: Keeper>(
         &mut self,
         alloc: Global,
@@ -74,12 +79,14 @@ impl Orch {
         ensures servers { length self.new.state.world.servers ≡ length self.old.state.world.servers }
     {
         self.journal.reserve(1)?;
-        let replies = self.engine.replies(alloc, keeper, &t)?;
-        self.journal.push_reserved((t, replies.written));
+        let replies = self.engine.replies(alloc, keeper, &t, true)?;
+        let written = replies.written.unwrap();
+        self.journal.push_reserved((t, written));
         Ok(replies.told)
     }
 
-    /// All of the turns, in order, to the first fault: after it the turns before the one that gave up are done, and nothing of that one or of those after it.
+    /// All of the turns, in order, to the first fault: after it the turns before the one that gave up are done, and
+    /// nothing of that one or of those after it.
     pub fn run<K: Keeper>(
         &mut self,
         alloc: Global,

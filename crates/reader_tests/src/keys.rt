@@ -2,8 +2,8 @@
 
 use commands::{CommandName, CommandTurn, is_built_command};
 use orch_base::{Label, Name, Rule, ServerNo};
-use scenario_commands::{command_in, found, printed_names};
 use scenario_servers::Names;
+use scenario_turns::{Patterns, command_in, found, printed_names};
 use scenario_values::ReadFault;
 use serde_json::Value;
 use std::alloc::Global;
@@ -46,7 +46,12 @@ fn fault_of<T: Drop>(alloc: Global, read: Result<T, ReadFault>) -> Result<String
 fn read(alloc: Global, text: &str) -> Result<Result<CommandTurn, ReadFault>, Fail> {
     let value = Value::from_str(alloc, text)?;
     match value.as_array() {
-        Some(rest) => Ok(command_in(alloc, &names_of(alloc)?, &printed_of(alloc)?, rest)),
+        Some(rest) => Ok(command_in(
+            alloc,
+            &names_of(alloc)?,
+            &Patterns::new(alloc, printed_of(alloc)?),
+            rest,
+        )),
         None => Err(Fail::from("no list")),
     }
 }

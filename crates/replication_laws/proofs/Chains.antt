@@ -99,7 +99,8 @@ walk-finds up x n (Under x' m e g) (suc k) le h =
       | inr more ↦ Up x m e (walk-finds up m n g k (omega arith) (sym (ap (chain_on (λ y. chain_meets up k y n)) e) ∙ more))
     ]
 
--- where every server of a chain has a number below k, a walk of k steps meets a server exactly where the chain comes to it
+-- where every server of a chain has a number below k, a walk of k steps meets a server exactly where the chain comes to
+-- it
 pub walk-true : (up : ℕ → Option ℕ) (x n k : ℕ) → Grounded up x → ((q : ℕ) → Reaches up q x → q < k) → chain_meets up k x n ≡ true → Reaches up n x
 walk-true up x n k g below h =
     walk-finds up x n g k (length-le_from_distinct_below (chain up x g) k (chain-distinct up x g) (λ q on. below q (chain-reaches up x q g on))) h

@@ -69,7 +69,8 @@ module _ (h h' : ℕ → List Txn) (n : ℕ) (t : Txn) (ext : Extends h h' n t) 
   take_to : (a i : ℕ) (x : Txn) → slice_get (h a) i ≡ Some x → take (i + 1) (h' a) ≡ take (i + 1) (h a)
   take_to a i x g = let within : i < length (h a) = slice_get_within (h a) i x g in take_old a (i + 1) (omega arith)
 
-  -- the histories stay kin where the new transaction is nowhere else but after the same beginning, has its number, and is at home
+  -- the histories stay kin where the new transaction is nowhere else but after the same beginning, has its number, and
+  -- is at home
   pub IsKin-extended : IsKin h
       → ((b j : ℕ) (y : Txn) → slice_get (h b) j ≡ Some y → same_txn t y ≡ true → take (j + 1) (h b) ≡ h n ++ t ∷ [])
       → t.seq ≡ count_own t.origin.0 (h n) + 1

@@ -303,8 +303,8 @@ Linked-moves R standing w n s s' linked here moves =
       grounded = moves.grounded;
     })
 
--- A change of the world that writes nothing: every history and the count of errant writes stay, and every server goes on,
--- without a new one.
+-- A change of the world that writes nothing: every history and the count of errant writes stay, and every server goes
+-- on, without a new one.
 pub record Idle (w w' : World) : Type 0 where
   pub kept : histories w' ≡ histories w
   pub grows : Grows w w'

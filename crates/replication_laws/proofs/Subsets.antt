@@ -126,7 +126,8 @@ module _ (w : World) (safe : Safe w) where
     at_to : histories w to ≡ s.history.txns
     at_to = ap history_of there
 
-    -- a server whose set is within an observed one that is within the source's has executed a beginning of what the source has
+    -- a server whose set is within an observed one that is within the source's has executed a beginning of what the
+    -- source has
     pub prefix-observed : (observed : List Interval) → IsObserved w observed to → errant_set (uuids w) observed r.history.txns ≡ [] → take (length r.history.txns) s.history.txns ≡ r.history.txns
     prefix-observed observed within none =
         let inside : IsWithin (histories w n) (histories w to) = λ i x at.

@@ -1,14 +1,11 @@
 -- Who is below whom, by attached and detached sources, and when an attachment comes to ask that.
-use Rattle.std.specs.Prelude.{◌≡◌, ℕ, true, false, ◌&&◌, ◌||◌, Option, Some}
+use Rattle.std.specs.Prelude.{◌≡◌, ℕ, true, false, ◌&&◌, ◌||◌, Some}
 use Rattle.server_words.specs.declared.attach.Spot.{Spot}
 use Rattle.server_model.specs.declared.server.Server.{Server}
 use Rattle.server_model.specs.Attach.{same_spot, live_spot}
 use Rattle.server_model.specs.Worlds.{World, server_at}
-
--- the chain of sources from a server comes to n: it is n, or below it
-pub data Reaches (up : ℕ → Option ℕ) (n : ℕ) : ℕ → Type 0 where
-  Here : Reaches up n n
-  Up : (x m : ℕ) → up x ≡ Some m → Reaches up n m → Reaches up n x
+-- the chain of sources from a server comes to another: it is that one, or below it
+pub use Rattle.orch_base.specs.Chains.{Reaches, Here, Up}
 
 -- the server is there, within orchestrator's reach, with its threads off, and stands where it is expected: of all that
 -- an attachment asks only a loop is left

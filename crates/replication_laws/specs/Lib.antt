@@ -1,7 +1,7 @@
 pub mod Below
-pub mod Bridges
 pub mod Faults
 pub mod Growth
-pub mod Observed
 pub mod Room
-pub mod Showing
+pub use Rattle.server_model.specs.Bridges
+pub use Rattle.server_model.specs.Observed
+pub use Rattle.server_model.specs.Showing

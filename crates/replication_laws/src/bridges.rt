@@ -25,8 +25,8 @@ pub fn bridges_stand()
 
 /// With a bridge that stands these attachments join well in a safe world: of a replica that stands at the bridge's
 /// executed coordinate of the source, to the own coordinate of the bridge's replica; of one that stands at that own
-/// coordinate, to the executed one; of the source itself where its log ends at the executed coordinate, and of the replica
-/// itself where its log ends at its own coordinate.
+/// coordinate, to the executed one; of the source itself where its log ends at the executed coordinate, and of the
+/// replica itself where its log ends at its own coordinate.
 pub fn crossings_join_well()
     ensures down { (w : World) (n : ℕ) (x s : ServerNo) (own exec : At) → Safe w → Stands w x.0 s.0 own exec → JoinsWell w (Attach n (spot.At s exec) x own) }
     ensures up { (w : World) (n : ℕ) (x s : ServerNo) (own exec : At) → Safe w → Stands w x.0 s.0 own exec → JoinsWell w (Attach n (spot.At x own) s exec) }

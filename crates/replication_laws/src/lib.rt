@@ -68,10 +68,10 @@ pub fn each_change_keeps_safe()
 /// An attachment to a coordinate with a place in its target's log keeps a safe world safe, quiet or not, where it leads
 /// a server that stands where it is expected to where its history ends: what the server executed is a beginning of what
 /// the target executed, and the coordinate is where that beginning ends. So it does where a replica is attached anew to
-/// its own source, at the coordinate at which it is expected there. An attachment by an observed set that is within what
-/// the new source has executed by now keeps it safe too: it comes only where the server has executed none but those, of kin
-/// histories a subset is a beginning, and the server goes on where that ends. An attachment writes nothing: in any world
-/// every server goes on, and no errant write is counted.
+/// its own source, at the coordinate at which it is expected there. An attachment by an observed set that is within
+/// what the new source has executed by now keeps it safe too: it comes only where the server has executed none but
+/// those, of kin histories a subset is a beginning, and the server goes on where that ends. An attachment writes
+/// nothing: in any world every server goes on, and no errant write is counted.
 pub fn attachments_keep_safe()
     ensures safe { (w : World) (n : ℕ) (expect : ASpot) (to : ServerNo) (at : At) → Safe w → IsTarget w to.0 at → JoinsWell w (Attach n expect to at) → Safe (attach_at w n expect to at).1 }
     ensures same { (w : World) (n : ℕ) (m : ServerNo) (at : At) → Safe w → JoinsWell w (Attach n (spot.At m at) m at) }

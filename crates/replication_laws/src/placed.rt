@@ -36,9 +36,9 @@ pub fn no_server_is_below_itself()
     ensures { (w : World) (n m : ℕ) → Placed w → sources w n ≡ Some m → Reaches (sources w) n m → ⊥ }
 {}
 
-/// In a placed world of some servers a walk up the sources, of as many steps as there are servers, meets a server exactly
-/// where it begins there or below it. So an attachment by a coordinate or by GTIDs answers Loop exactly where the new
-/// source is the server itself or below it, and no earlier fault comes.
+/// In a placed world of some servers a walk up the sources, of as many steps as there are servers, meets a server
+/// exactly where it begins there or below it. So an attachment by a coordinate or by GTIDs answers Loop exactly where
+/// the new source is the server itself or below it, and no earlier fault comes.
 pub fn loops_are_found()
     ensures met { (w : World) (n to : ℕ) → Placed w → 0 < length w.servers → chain_meets (sources w) (length w.servers) to n ≡ true → Reaches (sources w) n to }
     ensures missed { (w : World) (n to : ℕ) → Reaches (sources w) n to → chain_meets (sources w) (length w.servers) to n ≡ true }

@@ -1,8 +1,7 @@
 -- Runs of turns, state by state: what each turn's exchanges keep.
-use Rattle.std.proofs.Common.{◌≡◌, ℕ, ◌+◌, ◌-◌, ◌≤◌, ◌<◌, Bool, cond, List, [], ◌∷◌, ◌++◌, length, take, refl, sym, ◌∙◌, ap, subst, Option, Some, None, arith, zero, suc}
+use Rattle.std.proofs.Common.{◌≡◌, ℕ, ◌+◌, ◌-◌, ◌≤◌, Bool, cond, List, [], ◌∷◌, ◌++◌, length, take, refl, sym, ◌∙◌, ap, subst, Some, arith, zero, suc}
 use Rattle.std.specs.Prelude.{All, slice_get, count_by}
 use Rattle.std.proofs.Math.Seq.{take-append-add}
-use Rattle.std.proofs.lemmas.List.{append-nil}
 use Rattle.std.proofs.lemmas.List.Sums.{sum_by-append, sum_by-cons}
 use Rattle.std.proofs.lemmas.List.Elements.{All-head, All-tail, All-take}
 use Rattle.std.proofs.lemmas.Option.{get_or_from_slice_get, same_Some, slice_get_within}
@@ -15,7 +14,7 @@ use Rattle.server_model.specs.Desk.{rotate, rotate_answer}
 use Rattle.server_model.specs.declared.server.Server.{Server}
 use Rattle.world_openings.proofs.Opened.{given-opened}
 use Rattle.server_model.specs.Exchanges.{apply}
-use Rattle.server_model.specs.Run.{Exchange, Rotate, is_rotate as opens_file, is_write as adds, after, run, AllAllowed, AllJoinWell}
+use Rattle.server_model.specs.Run.{Exchange, is_rotate as opens_file, is_write as adds, after, run, AllAllowed, AllJoinWell}
 use Rattle.server_model.specs.Safe.{Safe, Placed, IsQuiet}
 use Rattle.server_model.specs.Worlds.{World, server_at}
 use Rattle.replication_laws.specs.Room.{HasFiles, IsNotFull}
@@ -29,7 +28,7 @@ use Rattle.replication_laws.proofs.Runs as exchanges
 use Rattle.turns.specs.declared.turn.Turn.{Turn}
 use Rattle.turns.specs.declared.turn.Turn.TheVariants as turn
 use Rattle.scenarios.specs.declared.scenario.Scenario.{Scenario}
-use Rattle.scenarios.specs.Scenarios.{IsScenario, flushes_of, listed_in, room_of}
+use Rattle.scenarios.specs.Scenarios.{IsScenario, flushes_of, room_of}
 use Rattle.scenarios.specs.Turns.{IsTurn, is_rotate, is_write}
 use Rattle.scenarios.proofs.Rooms.{longest-at}
 use Rattle.orch_core.specs.Runs.{engine, run_turns, step, turns_of}
@@ -37,7 +36,7 @@ use Rattle.orch_core.specs.Scenarios.{start, start_world}
 use Rattle.orch_core.specs.States.{State}
 use Rattle.orch_core.specs.Turns.{exchanges_at, exchanges_of}
 use Rattle.orch_core.proofs.States.{Allowed-turn}
-use Rattle.run_laws.specs.Runs.{ComesBy, ComesTo}
+use Rattle.run_laws.specs.Runs.{ComesBy, ComesTo, ComesWithin}
 
 -- ---- what holds of each state
 
@@ -177,6 +176,21 @@ opens-rotates = record { each = each }
     each (turn.Command c) = refl
     each turn.Restart = refl
 
+-- the scenario's first turns and the next one are no more than all of a kind
+module _ (is : Turn → Bool) where
+  count-next : (ts : List Turn) (k : ℕ) (t : Turn) → slice_get ts k ≡ Some t → count_by is (take k ts) + tick (is t) ≤ count_by is ts
+  count-next [] k t at = cc
+  count-next (x ∷ ts) zero t at =
+      let same : tick (is x) ≡ tick (is t) = ap (λ y. tick (is y)) (same_Some x t at) in
+      omega (arith, same, sum_by-cons (λ y. tick (is y)) x ts)
+  count-next (x ∷ ts) (suc k) t at =
+      omega (arith, count-next ts k t at, sum_by-cons (λ y. tick (is y)) x ts, sum_by-cons (λ y. tick (is y)) x (take k ts))
+
+  own-few : (us ts : List Turn) (k : ℕ) (t : Turn) → us ≡ take k ts → slice_get ts k ≡ Some t → count_by is (us ++ t ∷ []) ≤ count_by is ts
+  own-few us ts k t own at =
+      let before : count_by is us ≡ count_by is (take k ts) = ap (count_by is) own in
+      omega (arith, before, count-next ts k t at, sum_by-append (λ y. tick (is y)) us (t ∷ []), sum_by-cons (λ y. tick (is y)) t [])
+
 module _ (test : Exchange → Bool) (is : Turn → Bool) (tells : Tells test is) where
   count-along : (s : State) (xs : List (List Row × Turn)) → count_by test (along s xs) ≡ count_by is (turns_of xs)
   unfolding along
@@ -188,23 +202,14 @@ module _ (test : Exchange → Bool) (is : Turn → Bool) (tells : Tells test is)
       ∙ (ap (λ (n : ℕ). n + count_by test (along (step x.0 s x.1) xs)) here ∙ ap (λ (n : ℕ). tick (is x.1) + n) rest)
       ∙ sym (sum_by-cons (λ t. tick (is t)) x.1 (turns_of xs))
 
-  count-next : (ts : List Turn) (k : ℕ) (t : Turn) → slice_get ts k ≡ Some t → count_by is (take k ts) + tick (is t) ≤ count_by is ts
-  count-next [] k t at = cc
-  count-next (x ∷ ts) zero t at =
-      let same : tick (is x) ≡ tick (is t) = ap (λ y. tick (is y)) (same_Some x t at) in
-      omega (arith, same, sum_by-cons (λ y. tick (is y)) x ts)
-  count-next (x ∷ ts) (suc k) t at =
-      omega (arith, count-next ts k t at, sum_by-cons (λ y. tick (is y)) x ts, sum_by-cons (λ y. tick (is y)) x (take k ts))
-
-  -- those of the first turns and of the next one are no more than the scenario's turns of that kind
-  count-own : (s : State) (xs : List (List Row × Turn)) (ts : List Turn) (k : ℕ) (t : Turn) → turns_of xs ≡ take k ts → slice_get ts k ≡ Some t
-      → count_by test (along s xs ++ exchanges_of t) ≤ count_by is ts
-  count-own s xs ts k t own at =
+  -- the exchanges of the turns and of the next one
+  count-made : (s : State) (xs : List (List Row × Turn)) (t : Turn) → count_by test (along s xs ++ exchanges_of t) ≡ count_by is (turns_of xs ++ t ∷ [])
+  count-made s xs t =
       let here : count_by test (exchanges_of t) ≡ tick (is t) = tells.each t in
-      let before : count_by test (along s xs) ≡ count_by is (take k ts) = count-along s xs ∙ ap (count_by is) own in
-      omega (arith, here, before, count-next ts k t at, sum_by-append (λ e. tick (test e)) (along s xs) (exchanges_of t))
+      let before : count_by test (along s xs) ≡ count_by is (turns_of xs) = count-along s xs in
+      omega (arith, here, before, sum_by-append (λ e. tick (test e)) (along s xs) (exchanges_of t), sum_by-append (λ y. tick (is y)) (turns_of xs) (t ∷ []), sum_by-cons (λ y. tick (is y)) t [])
 
--- ---- no exchange of the scenario's own turns finds a history or a log full
+-- ---- no exchange of such a run finds a history or a log full
 
 get-append : (es fs : List Exchange) (j : ℕ) → slice_get (es ++ fs) (length es + j) ≡ slice_get fs j
 get-append [] fs j = let same : 0 + j ≡ j = omega arith in ap (slice_get fs) same
@@ -212,7 +217,7 @@ get-append (e ∷ es) fs j =
     let same : length (e ∷ es) + j ≡ suc (length es + j) = omega arith in
     ap (slice_get (e ∷ (es ++ fs))) same ∙ get-append es fs j
 
-module _ (s : Scenario) (xs : List (List Row × Turn)) (k : ℕ) (now : State) (by : ComesBy s xs k now) (t : Turn) (at : slice_get s.turns k ≡ Some t) where
+module _ (is : Turn → Bool) (s : Scenario) (xs : List (List Row × Turn)) (t : Turn) (now : State) (by : ComesWithin is s xs t now) where
   abbrev first : State
   first = start s by.comes.wait by.comes.rows
 
@@ -222,13 +227,10 @@ module _ (s : Scenario) (xs : List (List Row × Turn)) (k : ℕ) (now : State) (
   now-world : now.world ≡ run (start_world s) (along first xs)
   now-world = ap (λ (x : State). x.world) by.comes.state ∙ world-along first xs
 
-  t-is : IsTurn (length s.opening.servers) t
-  t-is = subst (IsTurn (length s.opening.servers)) (get_or_from_slice_get s.turns k t t at) (by.comes.scenario.turns k t (slice_get_within s.turns k t at))
-
   fit : Fit (start_world s) made
   fit =
       Fit-append (start_world s) (along first xs) (exchanges_of t) (Fit-along (length s.opening.servers) first xs by.comes.turns)
-      (subst (λ (w : World). Fit w (exchanges_of t)) now-world (Fit-turn (length s.opening.servers) now t t-is))
+      (subst (λ (w : World). Fit w (exchanges_of t)) now-world (Fit-turn (length s.opening.servers) now t by.next))
 
   -- the world after some of the turn's exchanges
   run-made : (j : ℕ) → run (start_world s) (take (length (along first xs) + j) made) ≡ run now.world (take j (exchanges_at now t))
@@ -237,27 +239,43 @@ module _ (s : Scenario) (xs : List (List Row × Turn)) (k : ℕ) (now : State) (
       ∙ run-append (start_world s) (along first xs) (take j (exchanges_of t))
       ∙ ap (λ (w : World). run w (take j (exchanges_of t))) (sym now-world)
 
-  pub not_full : (j : ℕ) (e : Exchange) → slice_get (exchanges_at now t) j ≡ Some e → IsQuiet (run now.world (take j (exchanges_at now t))) → IsNotFull (run now.world (take j (exchanges_at now t))) e
-  not_full j e makes q =
-      let few = count-own adds is_write adds-writes first xs s.turns k t by.own at in
-      let room : room_for s.opening made ≤ room_of s = omega (arith, few) in
-      subst (λ w. IsNotFull w e) (run-made j)
-      (not_full-opened s.opening (room_of s) (flushes_of s) made (length (along first xs) + j) e by.comes.scenario.checked fit.allowed fit.join room
-      (get-append (along first xs) (exchanges_of t) j ∙ makes)
-      (subst IsQuiet (sym (run-made j)) q))
+  -- they are no more than the scenario's turns of that kind
+  few-made : (test : Exchange → Bool) → Tells test is → count_by test made ≤ count_by is s.turns
+  few-made test tells = let all = count-made test is tells first xs t in let few = by.few in omega (arith, all, few)
 
-  HasFiles-start : HasFiles (count_by opens_file made) (start_world s)
-  HasFiles-start n x there =
+  room-left : Tells adds is → count_by is s.turns ≡ count_by is_write s.turns → room_for s.opening made ≤ room_of s
+  room-left tells same = let few = few-made adds tells in omega (arith, few, same)
+
+  HasFiles-start : Tells opens_file is → count_by is s.turns ≡ count_by is_rotate s.turns → HasFiles (count_by opens_file made) (start_world s)
+  HasFiles-start tells same n x there =
       let g = given-opened s.opening (room_of s) (flushes_of s) n x there in
       let points = longest-at s.opening.servers n g.init g.place in
       let left : x.log.flushes ≡ flushes_of s - length g.init.flushes = ap (λ (y : Server). y.log.flushes) g.is_opened in
-      let few = count-own opens_file is_rotate opens-rotates first xs s.turns k t by.own at in
-      omega (arith, points, left, few)
+      let few = few-made opens_file tells in
+      omega (arith, points, left, few, same)
 
-pub files_left : (s : Scenario) (xs : List (List Row × Turn)) (k : ℕ) (now : State) (n : ServerNo) → ComesBy s xs k now → slice_get s.turns k ≡ Some (turn.Rotate n) → (rotate now.world n.0).0 ≡ rotating.Full → ⊥
-files_left s xs k now n by at full =
-    let first = start s by.comes.wait by.comes.rows in
-    let es = along first xs in
-    not_full-files (made s xs k now by (turn.Rotate n) at) (length es + 0) n.0 (start_world s) (HasFiles-start s xs k now by (turn.Rotate n) at)
+pub not_full : (s : Scenario) (xs : List (List Row × Turn)) (t : Turn) (now : State) (j : ℕ) (e : Exchange) → ComesWithin is_write s xs t now → slice_get (exchanges_at now t) j ≡ Some e
+    → IsQuiet (run now.world (take j (exchanges_at now t))) → IsNotFull (run now.world (take j (exchanges_at now t))) e
+not_full s xs t now j e by makes q =
+    let es = along (first is_write s xs t now by) xs in
+    let all = fit is_write s xs t now by in
+    subst (λ w. IsNotFull w e) (run-made is_write s xs t now by j)
+    (not_full-opened s.opening (room_of s) (flushes_of s) (made is_write s xs t now by) (length es + j) e by.comes.scenario.checked all.allowed all.join (room-left is_write s xs t now by adds-writes refl)
+    (get-append es (exchanges_of t) j ∙ makes)
+    (subst IsQuiet (sym (run-made is_write s xs t now by j)) q))
+
+pub files_left : (s : Scenario) (xs : List (List Row × Turn)) (now : State) (n : ServerNo) → ComesWithin is_rotate s xs (turn.Rotate n) now → (rotate now.world n.0).0 ≡ rotating.Full → ⊥
+files_left s xs now n by full =
+    let t = turn.Rotate n in
+    let es = along (first is_rotate s xs (turn.Rotate n) now by) xs in
+    not_full-files (made is_rotate s xs (turn.Rotate n) now by) (length es + 0) n.0 (start_world s) (HasFiles-start is_rotate s xs (turn.Rotate n) now by opens-rotates refl)
     (get-append es (exchanges_of (turn.Rotate n)) 0)
-    (ap (λ (w : World). rotate_answer (server_at w n.0)) (run-made s xs k now by (turn.Rotate n) at 0) ∙ full)
+    (ap (λ (w : World). rotate_answer (server_at w n.0)) (run-made is_rotate s xs (turn.Rotate n) now by 0) ∙ full)
+
+-- the scenario's own turns are such a run
+pub own_within : (is : Turn → Bool) (s : Scenario) (xs : List (List Row × Turn)) (k : ℕ) (t : Turn) (now : State) → ComesBy s xs k now → slice_get s.turns k ≡ Some t → ComesWithin is s xs t now
+own_within is s xs k t now by at = record {
+  comes = by.comes;
+  next = subst (IsTurn (length s.opening.servers)) (get_or_from_slice_get s.turns k t t at) (by.comes.scenario.turns k t (slice_get_within s.turns k t at));
+  few = own-few is (turns_of xs) s.turns k t by.own at;
+}

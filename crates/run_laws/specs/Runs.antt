@@ -1,5 +1,5 @@
 -- Runs from a scenario's opening state, whatever rows the keeper hands back at the opening and at each turn.
-use Rattle.std.specs.Prelude.{◌≡◌, ℕ, List, All, length, take}
+use Rattle.std.specs.Prelude.{◌≡◌, ◌≤◌, ℕ, Bool, List, [], ◌∷◌, ◌++◌, All, count_by, length, take}
 use Rattle.instance_keeper.specs.declared.row.Row.{Row}
 use Rattle.turns.specs.declared.turn.Turn.{Turn}
 use Rattle.scenarios.specs.declared.scenario.Scenario.{Scenario}
@@ -21,3 +21,9 @@ pub record ComesTo (s : Scenario) (xs : List (List Row × Turn)) (now : State) :
 pub record ComesBy (s : Scenario) (xs : List (List Row × Turn)) (k : ℕ) (now : State) : Type 0 where
   pub comes : ComesTo s xs now
   pub own : turns_of xs ≡ take k s.turns
+
+-- and one more turn can be taken, with which there are no more turns of a kind than the scenario has
+pub record ComesWithin (is : Turn → Bool) (s : Scenario) (xs : List (List Row × Turn)) (t : Turn) (now : State) : Type 0 where
+  pub comes : ComesTo s xs now
+  pub next : IsTurn (length s.opening.servers) t
+  pub few : count_by is (turns_of xs ++ t ∷ []) ≤ count_by is s.turns

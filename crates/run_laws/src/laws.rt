@@ -1,6 +1,6 @@
 //! Laws of runs.
 
-ghost use Rattle.std.specs.Prelude.{◌≡◌, ◌≢◌, ℕ, List, [], Some, All, length, slice_get, take};
+ghost use Rattle.std.specs.Prelude.{◌≡◌, ◌≢◌, ℕ, Bool, List, [], Some, All, length, slice_get, take};
 ghost use Rattle.binlog_coords.specs.declared.Coord.{Coord as At};
 ghost use Rattle.instance_keeper.specs.declared.row.Row.{Row as ARow};
 ghost use Rattle.server_words.specs.declared.answers.ApplyAnswer.TheVariants as answers;
@@ -15,7 +15,7 @@ ghost use Rattle.turns.specs.declared.turn.Turn.TheVariants as turns;
 ghost use Rattle.scenarios.specs.declared.scenario.Scenario.{Scenario as AScenario};
 ghost use Rattle.orch_base.specs.declared.server.ServerNo.{ServerNo as Number};
 ghost use Rattle.scenarios.specs.Scenarios.{IsScenario};
-ghost use Rattle.scenarios.specs.Turns.{IsTurn};
+ghost use Rattle.scenarios.specs.Turns.{IsTurn, is_rotate, is_write};
 ghost use Rattle.instance_keeper.specs.Rows.{changed, IsRising};
 ghost use Rattle.opening_book.specs.Following.{Follow};
 ghost use Rattle.commands.specs.declared.refusal.Refusal.{Refusal as ARefusal};
@@ -28,10 +28,10 @@ ghost use Rattle.orch_core.specs.Runs.{engine, held_run, run_turns, step, turns_
 ghost use Rattle.orch_core.specs.Scenarios.{start, start_changes};
 ghost use Rattle.orch_core.specs.States.{State, IsState};
 ghost use Rattle.orch_core.specs.Turns.{exchanges_at};
-ghost use Rattle.run_laws.specs.Runs.{ComesBy, ComesTo};
+ghost use Rattle.run_laws.specs.Runs.{ComesBy, ComesTo, ComesWithin};
 
-/// From the opening state of a scenario on, each quiet state of each run over its servers is safe: of the scenario's own
-/// run and of any other, whatever rows the keeper hands back at the opening and at each turn.
+/// From the opening state of a scenario on, each quiet state of each run over its servers is safe: of the scenario's
+/// own run and of any other, whatever rows the keeper hands back at the opening and at each turn.
 pub fn every_quiet_state_is_safe()
     ensures { (s : AScenario) (xs : List (List ARow × ATurn)) (now : State) → ComesTo s xs now → IsQuiet now.world → Safe now.world }
 {}
@@ -47,9 +47,9 @@ pub fn own_turns_are_turns()
     ensures { (s : AScenario) (wait : ℕ) (rows : List ARow) (xs : List (List ARow × ATurn)) (k : ℕ) → IsScenario s → turns_of xs ≡ take k s.turns → ComesBy s xs k (run_turns engine (start s wait rows) xs) }
 {}
 
-/// The kept rows follow what orchestrator knows, where nobody else changes them: under each table and key for which the book
-/// has a row that row is kept, and under any other of its tables only rows that don't count. So it is at the opening, each turn
-/// with its changes keeps it so, and so it is after every run.
+/// The kept rows follow what orchestrator knows, where nobody else changes them: under each table and key for which the
+/// book has a row that row is kept, and under any other of its tables only rows that don't count. So it is at the
+/// opening, each turn with its changes keeps it so, and so it is after every run.
 pub fn kept_rows_follow()
     ensures opening { (s : AScenario) (wait : ℕ) (rows : List ARow) → IsScenario s → IsRising rows → Follow (changed rows (start_changes s rows)) (start s wait rows).book }
     ensures turn { (rows : List ARow) (s : State) (t : ATurn) → IsState s → IsTurn (length s.world.servers) t → Follow rows s.book → Follow (changed rows (changes_of rows s t)) (step rows s t).book }
@@ -66,15 +66,17 @@ pub fn skipped_never_comes()
     ensures { (s : AScenario) (xs : List (List ARow × ATurn)) (now : State) (n : ℕ) (to : At) → ComesTo s xs now → IsQuiet now.world → (apply now.world n).0 ≢ answers.Skipped to }
 {}
 
-/// No exchange of a turn of a scenario's own run finds a history full where the world before it is quiet, and no rotate turn finds
-/// a log without room for a new file.
+/// Of every run with at most the scenario's write turns no exchange finds a history full where the world before it is
+/// quiet, and of every run with at most its rotate turns no rotate turn finds a log without room for a new file. The
+/// scenario's own turns are such a run.
 pub fn full_never_comes()
-    ensures histories { (s : AScenario) (xs : List (List ARow × ATurn)) (k : ℕ) (now : State) (t : ATurn) (j : ℕ) (e : Exchange) → ComesBy s xs k now → slice_get s.turns k ≡ Some t → slice_get (exchanges_at now t) j ≡ Some e → IsQuiet (run now.world (take j (exchanges_at now t))) → IsNotFull (run now.world (take j (exchanges_at now t))) e }
-    ensures files { (s : AScenario) (xs : List (List ARow × ATurn)) (k : ℕ) (now : State) (n : Number) → ComesBy s xs k now → slice_get s.turns k ≡ Some (turns.Rotate n) → (rotate now.world n.0).0 ≢ rotating.Full }
+    ensures histories { (s : AScenario) (xs : List (List ARow × ATurn)) (t : ATurn) (now : State) (j : ℕ) (e : Exchange) → ComesWithin is_write s xs t now → slice_get (exchanges_at now t) j ≡ Some e → IsQuiet (run now.world (take j (exchanges_at now t))) → IsNotFull (run now.world (take j (exchanges_at now t))) e }
+    ensures files { (s : AScenario) (xs : List (List ARow × ATurn)) (now : State) (n : Number) → ComesWithin is_rotate s xs (turns.Rotate n) now → (rotate now.world n.0).0 ≢ rotating.Full }
+    ensures own { (is : ATurn → Bool) (s : AScenario) (xs : List (List ARow × ATurn)) (k : ℕ) (t : ATurn) (now : State) → ComesBy s xs k now → slice_get s.turns k ≡ Some t → ComesWithin is s xs t now }
 {}
 
-/// A command turn is refused exactly with the refusal of the permission table, and otherwise done. A refused one changes
-/// nothing: no kept row, and nothing of the state.
+/// A command turn is refused exactly with the refusal of the permission table, and otherwise done. A refused one
+/// changes nothing: no kept row, and nothing of the state.
 pub fn commands_answer_by_the_table()
     ensures answer { (s : State) (c : ACommandTurn) → IsAnswer (refusal_for s.world s.book c.command) (reply_of s (turns.Command c)) }
     ensures refused { (rows : List ARow) (s : State) (c : ACommandTurn) (r : ARefusal) → reply_of s (turns.Command c) ≡ replies.Refused r → (changes_of rows s (turns.Command c) ≡ []) × (step rows s (turns.Command c) ≡ s) }

@@ -1,2 +1,3 @@
 pub mod AliasLemmas
+pub mod AliasTables
 pub mod PatternLemmas

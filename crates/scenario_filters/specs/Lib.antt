@@ -1,2 +1,3 @@
 pub mod Aliases
+pub mod AliasTable
 pub mod Filters

@@ -1,16 +1,18 @@
 //! The clusters' aliases.
 
-ghost use Rattle.std.specs.Prelude.{◌≡◌};
+ghost use Rattle.std.specs.Prelude.{◌≡◌, IfOk};
 ghost use Rattle.orch_base.specs.Gives.{Gives};
 ghost use Rattle.serde_json.specs.View.{view, members_view};
 ghost use Rattle.scenario_values.specs.Faults.{fault_of, under};
-ghost use Rattle.scenario_filters.specs.Aliases.{alias_in, aliases_from, aliases_in, alias_of};
+ghost use Rattle.scenario_filters.specs.Aliases.{alias_in, aliases_from, aliases_in};
+ghost use Rattle.scenario_filters.specs.AliasTable.{alias_at, IsAliasTable};
 
-use orch_base::Label;
+use orch_base::Memory;
 use scenario_values::{ReadFault, label_or_fails, members_in, text_in, text_within, under};
 use scenarios::{Alias, Aliases};
 use serde_json::{Map, Value};
 use std::alloc::Global;
+use std::collections::HashMap;
 
 #[tactic(auto, unfolding(crate::specs::Aliases::alias_in))]
 fn alias_in(alloc: Global, label: &str, value: &Value) -> Result<Alias, ReadFault>
@@ -39,8 +41,8 @@ fn aliases_from(alloc: Global, members: &Map<String, Value>) -> Result<Vec<Alias
     Ok(aliases)
 }
 
-/// The aliases of an object from clusters' labels to texts. A label of 0 or more than 261 bytes, or an alias of more than
-/// 255, is `BadNumber` at the label's key.
+/// The aliases of an object from clusters' labels to texts. A label of 0 or more than 261 bytes, or an alias of more
+/// than 255, is `BadNumber` at the label's key.
 #[tactic(auto, unfolding(crate::specs::Aliases::aliases_in))]
 pub fn aliases_in(alloc: Global, value: &Value) -> Result<Aliases, ReadFault>
     ensures { Gives (λ a. a) fault_of result (aliases_in (view value.now)) }
@@ -50,14 +52,21 @@ pub fn aliases_in(alloc: Global, value: &Value) -> Result<Aliases, ReadFault>
     Ok(Aliases::new(aliases))
 }
 
-/// The alias of a cluster: empty where it has none.
-pub(crate) fn alias_of<'a>(aliases: &'a [Alias], cluster: &Label) -> &'a str
-    ensures { result.now ≡ alias_of aliases.now cluster.now }
+/// The aliases by their clusters' labels; of several with one label the first. The time is that of the aliases.
+pub(crate) fn table_of(alloc: Global, aliases: &[Alias]) -> Result<HashMap<&str, &str>, Memory>
+    ensures { IfOk result (λ t. IsAliasTable t aliases.now) }
 {
-    for alias in aliases {
-        if alias.cluster.is_same(cluster) {
-            return alias.alias.as_str();
-        }
+    let mut table = HashMap::new(alloc);
+    for n in (0..aliases.len()).rev() {
+        let alias = &aliases[n];
+        table.insert(alias.cluster.as_str(), alias.alias.as_str())?;
     }
-    ""
+    Ok(table)
+}
+
+/// The alias of a cluster: empty where it has none.
+pub(crate) fn alias_of<'a>(table: &HashMap<&str, &'a str>, cluster: &str) -> &'a str
+    ensures { result.now ≡ alias_at table.now cluster.now }
+{
+    table.get(cluster).copied().unwrap_or("")
 }

@@ -1,17 +1,18 @@
 //! Which servers' clusters pass the filters.
 
-ghost use Rattle.std.specs.Prelude.{◌≡◌, map, IfOk};
+ghost use Rattle.std.specs.Prelude.{◌≡◌, map, IfOk, OnOk};
 ghost use Rattle.cluster_filters.specs.Forms.{forms_of, some_matches};
-ghost use Rattle.scenario_filters.specs.Aliases.{alias_of};
-ghost use Rattle.scenario_filters.specs.Filters.{HavePatterns, AreRead, answered_list, answered};
+ghost use Rattle.scenario_filters.specs.AliasTable.{alias_at, answered_by, passes_by, AreKnown};
+ghost use Rattle.scenario_filters.specs.Filters.{HavePatterns, AreRead, answered};
 
-use crate::aliases::alias_of;
+use crate::aliases::{alias_of, table_of};
 use crate::filters::FilterTexts;
 use cluster_filters::{FilterFault, Filters};
 use openings::ServerInit;
 use orch_base::Memory;
-use scenarios::{Alias, Aliases, Answers, ClusterFilters, FilterList, Texts};
+use scenarios::{Aliases, Answers, ClusterFilters, FilterList, Texts};
 use std::alloc::Global;
+use std::collections::HashMap;
 
 // The filters of texts that have patterns.
 fn filters_of(alloc: Global, texts: &Texts) -> Result<Filters, Memory>
@@ -25,31 +26,39 @@ fn filters_of(alloc: Global, texts: &Texts) -> Result<Filters, Memory>
     }
 }
 
-fn passes(
+// Whether a cluster passes the filters, which are answered once for each label.
+fn passes<'a>(
     alloc: Global,
     filters: &Filters,
-    aliases: &[Alias],
-    server: &ServerInit,
+    aliases: &HashMap<&str, &str>,
+    known: &mut HashMap<&'a str, bool>,
+    cluster: &'a str,
 ) -> Result<bool, Memory>
-    ensures { let cluster = server.now.settings.cluster in
-        IfOk result (λ b. b ≡ some_matches cluster (alias_of aliases.now cluster) filters.now) }
+    requires { AreKnown known.old (alias_at aliases.now) filters.now }
+    ensures exact { IfOk result (λ b. b ≡ some_matches cluster.now (alias_at aliases.now cluster.now) filters.now) }
+    ensures known { OnOk result (AreKnown known.new (alias_at aliases.now) filters.now) }
 {
-    let cluster = &server.settings.cluster;
-    filters.matches(alloc, cluster.as_str(), alias_of(aliases, cluster))
+    if let Some(passes) = known.get(cluster).copied() {
+        return Ok(passes);
+    }
+    let passes = filters.matches(alloc, cluster, alias_of(aliases, cluster))?;
+    known.insert(cluster, passes)?;
+    Ok(passes)
 }
 
 fn answers(
     alloc: Global,
     filters: &Filters,
-    aliases: &[Alias],
+    aliases: &HashMap<&str, &str>,
     servers: &[ServerInit],
 ) -> Result<Answers, Memory>
-    ensures { IfOk result (λ a. a ≡ map
-        (λ i. some_matches i.settings.cluster (alias_of aliases.now i.settings.cluster) filters.now) servers.now) }
+    ensures { IfOk result (λ a. a ≡ map (passes_by (alias_at aliases.now) filters.now) servers.now) }
 {
+    let mut known = HashMap::new(alloc);
     let mut answers = Vec::with_capacity(alloc, servers.len())?;
     for server in servers {
-        answers.push(passes(alloc, filters, aliases, server)?)?;
+        let cluster = server.settings.cluster.as_str();
+        answers.push(passes(alloc, filters, aliases, &mut known, cluster)?)?;
     }
     Ok(Answers::new(answers))
 }
@@ -58,11 +67,11 @@ fn answers(
 fn answered_list(
     alloc: Global,
     texts: Texts,
-    aliases: &[Alias],
+    aliases: &HashMap<&str, &str>,
     servers: &[ServerInit],
 ) -> Result<FilterList, Memory>
     requires { HavePatterns texts }
-    ensures { IfOk result (λ l. l ≡ answered_list texts aliases.now servers.now) }
+    ensures { IfOk result (λ l. l ≡ answered_by (alias_at aliases.now) texts servers.now) }
 {
     let filters = filters_of(alloc, &texts)?;
     let passes = answers(alloc, &filters, aliases, servers)?;
@@ -70,7 +79,8 @@ fn answered_list(
 }
 
 /// The lists of filters with, for each server, whether its cluster passes them. Want of memory also answers a regular
-/// expression past the room that `regex` grants one.
+/// expression past the room that `regex` grants one. The time is that of the aliases, the servers, and the filters for
+/// each cluster.
 pub fn answered(
     alloc: Global,
     texts: FilterTexts,
@@ -80,9 +90,9 @@ pub fn answered(
     requires { AreRead texts }
     ensures { IfOk result (λ f. f ≡ answered texts aliases.now servers.now) }
 {
-    let aliases = aliases.as_slice();
-    let master = answered_list(alloc, texts.master, aliases, servers)?;
-    let intermediate = answered_list(alloc, texts.intermediate, aliases, servers)?;
+    let aliases = table_of(alloc, aliases.as_slice())?;
+    let master = answered_list(alloc, texts.master, &aliases, servers)?;
+    let intermediate = answered_list(alloc, texts.intermediate, &aliases, servers)?;
     Ok(ClusterFilters {
         master,
         intermediate,

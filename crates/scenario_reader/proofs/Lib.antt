@@ -1,3 +1,2 @@
-pub mod Expansions
-pub mod Order
 pub mod Sound
+pub mod BuiltKeys

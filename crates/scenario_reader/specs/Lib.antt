@@ -1,4 +1,1 @@
-pub mod Words
-pub mod Expansion
-pub mod Turns
 pub mod Scenarios

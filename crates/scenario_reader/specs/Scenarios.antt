@@ -1,5 +1,5 @@
 -- The scenario that bytes are, or the first fault of the walk over them.
-use Rattle.std.specs.Prelude.{ℕ, ◌+◌, ◌∷◌, ◌&&◌, List, [], Bool, true, false, length, count_by, nat_le, nat_eq, is_some, if◌then◌else◌, codes, Option, Some, None, Result, Ok}
+use Rattle.std.specs.Prelude.{ℕ, ◌+◌, ◌∷◌, ◌&&◌, List, [], Bool, false, length, count_by, nat_le, nat_eq, is_some, if◌then◌else◌, codes, Option, Some, None, Result, Ok}
 use Rattle.std.specs.Str.{is_utf8}
 use Rattle.serde_json.specs.Data.{Data, Items, no_items}
 use Rattle.serde_json.specs.Find.{as_number, as_u64, get}
@@ -22,8 +22,8 @@ use Rattle.scenario_openings.specs.Openings.{listed_count, is_small, opening_in}
 use Rattle.scenario_filters.specs.Aliases.{aliases_in}
 use Rattle.scenario_filters.specs.Filters.{filters_in, no_filters, answered}
 use Rattle.scenario_reader.specs.declared.head.Head.{Head}
-use Rattle.scenario_reader.specs.Expansion.{in_order, expanded, printed_of}
-use Rattle.scenario_reader.specs.Turns.{turn_in}
+use Rattle.scenario_turns.specs.Expansion.{in_order, expanded, printed_of}
+use Rattle.scenario_turns.specs.Turns.{turn_in}
 
 -- ---- the text
 

@@ -16,7 +16,8 @@ use scenarios::Aliases;
 use serde_json::Value;
 use std::alloc::Global;
 
-/// What stands before the servers: when the scenario begins, whether it uses GTIDs, and the clusters' aliases and filters.
+/// What stands before the servers: when the scenario begins, whether it uses GTIDs, and the clusters' aliases and
+/// filters.
 #[derive(Drop)]
 pub struct Head {
     /// At most 1,000,000,000,000,000 seconds.

@@ -14,18 +14,17 @@ ghost use Rattle.scenario_servers.specs.Openings.{inits_of, IsGiven};
 ghost use Rattle.scenario_openings.specs.Openings.{is_small, listed_count};
 ghost use Rattle.scenario_servers.specs.Servers.{servers_in};
 ghost use Rattle.scenario_filters.specs.Filters.{AreRead};
-ghost use Rattle.scenario_reader.specs.Expansion.{expanded};
-ghost use Rattle.scenario_reader.specs.Turns.{turn_in};
+ghost use Rattle.scenario_turns.specs.Expansion.{expanded};
+ghost use Rattle.scenario_turns.specs.Turns.{turn_in};
 ghost use Rattle.scenario_reader.specs.Scenarios.{json_in, bounded, turns_in, scenario_with, scenario_from, scenario_in};
 
-use crate::expansion::{ListedTurn, are_few, expanded, in_order, printed_of};
 use crate::head::{Head, head_in, keys_in};
-use crate::turn_forms::each_turn;
 use openings::ServerInit;
-use orch_base::{Label, MAX_SCENARIO_LEN, Moment, ServerNo};
+use orch_base::{MAX_SCENARIO_LEN, Moment, ServerNo};
 use scenario_filters::answered;
 use scenario_openings::{listed_count, opening_in};
 use scenario_servers::{Listed, Names, inits_of, known_of, servers_in};
+use scenario_turns::{ListedTurn, Patterns, are_few, each_turn, expanded, in_order, printed_of};
 use scenario_values::{FaultCode, ReadFault, fails, holds, items_in, under};
 use scenarios::{Answers, Scenario, Turn, Turns};
 use serde_json::Value;
@@ -66,13 +65,13 @@ fn is_small(servers: &[ServerInit], turns: &[Turn]) -> bool
 fn turns_at(
     alloc: Global,
     names: &Names,
-    printed: &[Label],
+    patterns: &Patterns,
     items: &[Value],
 ) -> Result<Vec<ListedTurn>, ReadFault>
     ensures { Gives (λ v. v.items) fault_of result
-        (place_under (codes "turns") (each (turn_in names.now printed.now) (items_view items.now))) }
+        (place_under (codes "turns") (each (turn_in names.now patterns.now) (items_view items.now))) }
 {
-    under(alloc, b"turns", each_turn(alloc, names, printed, items))
+    under(alloc, b"turns", each_turn(alloc, names, patterns, items))
 }
 
 // The turns that the listed ones stand for, where they are not too many.
@@ -103,8 +102,8 @@ fn turns_in(
     requires { length servers.now ≤ 1000 }
     ensures { Gives (λ t. t) fault_of result (turns_in names.now servers.now (items_view items.now)) }
 {
-    let printed = printed_of(alloc, servers)?;
-    let listed = turns_at(alloc, names, &printed, items)?;
+    let patterns = Patterns::of_turns(alloc, printed_of(alloc, servers)?, items)?;
+    let listed = turns_at(alloc, names, &patterns, items)?;
     let ordered = in_order(alloc, servers)?;
     let turns = bounded(alloc, servers, &ordered, listed)?;
     Ok(Turns::new(turns))
@@ -207,7 +206,8 @@ fn scenario_in(alloc: Global, bytes: &[u8]) -> Result<Scenario, ReadFault>
 
 /// Reads a scenario: the one that these bytes are, or the first fault of the walk over them, with its place. Want of
 /// memory also answers a filter's regular expression past the room that `regex` grants one. The time is that of the
-/// bytes, of at most 1,000,000 turns, of the aliases and the filters for each server, and of `Opening::check`.
+/// bytes, of at most 1,000,000 turns, of the aliases, of the filters for each cluster, of each pattern
+/// for each server, and of `Opening::check`.
 pub fn read(alloc: Global, bytes: &[u8]) -> Result<Scenario, ReadFault>
     ensures exact { Gives (λ s. s) fault_of result (scenario_in bytes.now) }
     ensures sound { IfOk result IsScenario }

@@ -6,3 +6,4 @@ pub mod ServerSteps
 pub mod Steps
 pub mod UuidLists
 pub mod Zipped
+pub mod TextTables

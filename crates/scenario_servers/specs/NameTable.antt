@@ -1,10 +1,16 @@
 -- A table of the first server of each name, beside the list of all names.
-use Rattle.std.specs.Prelude.{◌≡◌, ℕ, List, if◌then◌else◌, Option, Some, None}
+use Rattle.std.specs.Prelude.{◌≡◌, ℕ, List, if◌then◌else◌, Option, Some, None, Result, Ok, String}
 use Rattle.std.specs.BTreeMap.{BTreeMap, get}
+use Rattle.std.specs.HashMap.{HashMap, get_by_text}
 use Rattle.std.specs.Option.{option_or}
-use Rattle.orch_base.specs.Names.{HostPort, name_cmp}
+use Rattle.std.specs.declared.alloc.Global.{Global}
+use Rattle.orch_base.specs.declared.server.ServerNo.{ServerNo}
+use Rattle.orch_base.specs.Gives.{◌>>=◌}
+use Rattle.orch_base.specs.Names.{HostPort, name_at, name_cmp}
+use Rattle.scenario_values.specs.declared.fault.Fault.{Fault}
+use Rattle.scenario_values.specs.Values.{name_or_fails}
 use Rattle.scenario_servers.specs.declared.names.NameKey.{NameKey}
-use Rattle.scenario_servers.specs.Names.{is_named, first_named}
+use Rattle.scenario_servers.specs.Names.{is_named, first_named, number_or_fails}
 
 -- the number that a table has at a name
 abbrev pub number_at : BTreeMap NameKey ℕ → HostPort → Option ℕ
@@ -16,3 +22,11 @@ IsTableOf table listed = (name : HostPort) → number_at table name ≡ first_na
 -- the number stands at the name, unless another did, and nothing else changed
 pub record AddsName (old new : BTreeMap NameKey ℕ) (added : Option HostPort) (number : ℕ) : Type 0 where
   pub found : (name : HostPort) → number_at new name ≡ option_or (number_at old name) (if is_named name added then Some number else None)
+
+-- the server that a text names
+abbrev pub text_named : List (Option HostPort) → List ℕ → Result ServerNo Fault
+text_named names text = name_or_fails (name_at text) >>= (λ name. number_or_fails (first_named name 0 names))
+
+-- each text names the server of its number
+abbrev pub AreTexts : {S : Type 0} → HashMap (String Global) ℕ S → List (Option HostPort) → Type 0
+AreTexts texts listed = (text : List ℕ) (n : ℕ) → get_by_text texts text ≡ Some n → text_named listed text ≡ Ok (record { 0 = n })

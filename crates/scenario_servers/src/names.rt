@@ -1,23 +1,23 @@
 //! The names of a scenario's servers, and the servers that texts name.
 
-ghost use Rattle.std.specs.Prelude.{◌≡◌, ◌≤◌, ◌==◌, Some, IfOk, OnOk, length, option_map};
+ghost use Rattle.std.specs.Prelude.{◌≡◌, ◌==◌, Some, IfOk, OnOk, option_map};
 ghost use Rattle.std.proofs.Common.{rules};
 ghost use Rattle.std.specs.Cmp.{partial_order_from_own_ties};
 ghost use Rattle.std.specs.Cmp.Lexicographic.{slice_cmp, pointwise};
 ghost use Rattle.std.specs.Cmp.Rules.{comparing};
 ghost use Rattle.std.specs.Ordering.{nat_cmp, on, then_cmp, eq_of_both, as_partial_cmp};
 ghost use Rattle.orch_base.specs.Gives.{Gives};
-ghost use Rattle.serde_json.specs.View.{view, items_view};
+ghost use Rattle.serde_json.specs.View.{view};
 ghost use Rattle.scenario_values.specs.Faults.{fault_of};
-ghost use Rattle.scenario_servers.specs.Names.{listed_name, listed_names, first_named, server_named, own_name};
+ghost use Rattle.scenario_servers.specs.Names.{listed_name, server_named, own_name};
 ghost use Rattle.scenario_servers.specs.NameTable.{AddsName};
 
 use orch_base::{Memory, Name, NameFault, ServerNo};
-use scenario_values::{FaultCode, ReadFault, fails, name_in};
+use scenario_values::{FaultCode, ReadFault, fails, name_in, text_in};
 use serde_json::Value;
 use std::alloc::Global;
 use std::cmp::Ordering;
-use std::collections::BTreeMap;
+use std::collections::{BTreeMap, HashMap};
 use std::marker::Model;
 
 // A name, in the order of names.
@@ -62,23 +62,26 @@ impl Ord for NameKey {
     }
 }
 
-/// The names that a scenario's servers are listed with, each if it reads. It is searched by halves.
+/// The names that a scenario's servers are listed with, each if it reads. They are searched by halves; a text with
+/// which a server is listed is found without a name being made of it.
 #[derive(Drop)]
 pub struct Names {
     listed: Vec<Option<Name>>,
     numbers: BTreeMap<NameKey, u32>,
+    // The servers that texts name.
+    texts: HashMap<String, u32>,
 }
 
 impl Model for Names {
     ghost use Rattle.std.specs.Prelude.{List, Option};
     ghost use Rattle.orch_base.specs.Names.{HostPort};
-    ghost use Rattle.scenario_servers.specs.NameTable.{IsTableOf};
+    ghost use Rattle.scenario_servers.specs.NameTable.{AreTexts, IsTableOf};
 
     ghost Value = { List (Option HostPort) };
 
     ghost view = { λ n. n.listed.items };
 
-    ghost invariant = { λ n. IsTableOf n.numbers n.listed.items };
+    ghost invariant = { λ n. (IsTableOf n.numbers n.listed.items) × (AreTexts n.texts n.listed.items) };
 }
 
 // The name that a server is listed with, if it reads.
@@ -117,9 +120,21 @@ fn add_name(
     Ok(())
 }
 
+// The text with which a server is listed.
+fn listed_text(value: &Value) -> Option<&str> {
+    value.get("name")?.as_str()
+}
+
 impl Names {
-    /// The names of the servers that are listed, of which there are at most 1,000.
-    pub fn of(alloc: Global, items: &[Value]) -> Result<Names, Memory>
+    ghost use Rattle.std.specs.Prelude.{◌≡◌, ◌≤◌, IfOk, length};
+    ghost use Rattle.orch_base.specs.Gives.{Gives};
+    ghost use Rattle.serde_json.specs.View.{items_view};
+    ghost use Rattle.scenario_values.specs.Faults.{fault_of};
+    ghost use Rattle.scenario_servers.specs.Names.{first_named, listed_names};
+    ghost use Rattle.scenario_servers.specs.NameTable.{text_named};
+
+    // The names, without a text.
+    fn listed(alloc: Global, items: &[Value]) -> Result<Names, Memory>
         requires { length items.now ≤ 1000 }
         ensures { IfOk result (λ n. n ≡ listed_names (items_view items.now)) }
     {
@@ -130,7 +145,61 @@ impl Names {
             add_name(alloc, &mut numbers, name.as_ref(), listed.len() as u32)?;
             listed.push(name)?;
         }
-        Ok(Names { listed, numbers })
+        Ok(Names {
+            listed,
+            numbers,
+            texts: HashMap::new(alloc),
+        })
+    }
+
+    // The server that a text names.
+    fn server_at(&self, alloc: Global, text: &str) -> Result<ServerNo, ReadFault>
+        ensures { Gives (λ n. n) fault_of result (text_named self.now text.now) }
+    {
+        let name = match Name::read(alloc, text) {
+            Ok(name) => name,
+            Err(NameFault::Memory) => return Err(ReadFault::Memory),
+            Err(_) => return Err(fails(alloc, FaultCode::BadName)),
+        };
+        match self.first_named(&NameKey(name)) {
+            Some(number) => Ok(ServerNo(number)),
+            None => Err(fails(alloc, FaultCode::UnknownName)),
+        }
+    }
+
+    // Keeps a text that names a server.
+    fn keep_text(&mut self, alloc: Global, text: &str) -> Result<(), Memory>
+        ensures { self.new ≡ self.old }
+    {
+        if let Ok(number) = self.server_at(alloc, text) {
+            let key = String::from_str(alloc, text)?;
+            self.texts.insert(key, number.0)?;
+        }
+        Ok(())
+    }
+
+    /// The names of the servers that are listed, of which there are at most 1,000.
+    pub fn of(alloc: Global, items: &[Value]) -> Result<Names, Memory>
+        requires { length items.now ≤ 1000 }
+        ensures { IfOk result (λ n. n ≡ listed_names (items_view items.now)) }
+    {
+        let mut names = Names::listed(alloc, items)?;
+        for value in items {
+            if let Some(text) = listed_text(value) {
+                names.keep_text(alloc, text)?;
+            }
+        }
+        Ok(names)
+    }
+
+    // The server of a text, as `server_at` tells it.
+    fn server_of(&self, alloc: Global, text: &str) -> Result<ServerNo, ReadFault>
+        ensures { Gives (λ n. n) fault_of result (text_named self.now text.now) }
+    {
+        match self.texts.get(text).copied() {
+            Some(number) => Ok(ServerNo(number)),
+            None => self.server_at(alloc, text),
+        }
     }
 
     // The first server with this name.
@@ -142,15 +211,12 @@ impl Names {
 }
 
 /// The server that a text names. No text is `BadType`, no name `BadName`, and that of no server `UnknownName`.
-#[tactic(auto, unfolding(crate::specs::Names::server_named))]
+#[tactic(auto, unfolding(crate::specs::Names::server_named, scenario_values::specs::Values::name_in))]
 pub fn server_named(alloc: Global, names: &Names, value: &Value) -> Result<ServerNo, ReadFault>
     ensures { Gives (λ n. n) fault_of result (server_named names.now (view value.now)) }
 {
-    let key = NameKey(name_in(alloc, value)?);
-    match names.first_named(&key) {
-        Some(number) => Ok(ServerNo(number)),
-        None => Err(fails(alloc, FaultCode::UnknownName)),
-    }
+    let text = text_in(alloc, value)?;
+    names.server_of(alloc, text)
 }
 
 /// The name of the server of this number, which no earlier one has.

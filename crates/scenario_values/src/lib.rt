@@ -1,6 +1,7 @@
 //! Single values of a scenario's JSON text, and the faults of reading them with their places.
 #![tactic(auto)]
 
+mod display;
 mod fault;
 mod field;
 mod key;

@@ -1,11 +1,10 @@
 -- Turns that can be taken, and what each may add.
 use Rattle.std.specs.Prelude.{◌≡◌, ℕ, ◌<◌, ◌≤◌, Bool, false, true, length, IfSome}
 use Rattle.commands.specs.declared.turn.CommandTurn.{CommandTurn}
-use Rattle.commands.specs.Names.{word_of}
+use Rattle.commands.specs.Routes.{is_built, route_of}
 use Rattle.commands.specs.Turns.{fits}
 use Rattle.turns.specs.declared.turn.Turn.{Turn}
 use Rattle.turns.specs.declared.turn.Turn.TheVariants as turn
-use Rattle.scenarios.specs.Built.{is_built}
 
 -- so many pollers
 abbrev pub pollers : ℕ
@@ -15,7 +14,7 @@ pollers = 64
 -- an answer for each server.
 pub record IsCommand (count : ℕ) (t : CommandTurn) : Type 0 where
   pub fits : fits count t ≡ true
-  pub built : is_built (word_of t.command.name) ≡ true
+  pub built : is_built (route_of t.command.name) ≡ true
   pub duration : IfSome t.keys.duration (λ n. (1 ≤ n) × (n ≤ 31536000))
   pub reason : IfSome t.keys.reason (λ text. length text ≤ 255)
   pub owner : IfSome t.keys.owner (λ text. length text ≤ 255)

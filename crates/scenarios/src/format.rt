@@ -1,19 +1,27 @@
 //! What is built of the scenario's format.
 
 ghost use Rattle.std.specs.Prelude.{◌≡◌};
-ghost use Rattle.scenarios.specs.Built.{is_built};
+ghost use Rattle.scenarios.specs.Built.{built_names, is_built, is_listed};
 
-/// Whether the key, turn or command of this name is built: exactly those that are listed. It takes no memory.
+use commands::is_built_command;
+
 #[rattlefmt::skip]
+fn is_listed(what: &str) -> bool
+    ensures { result ≡ is_listed built_names what.now }
+{
+    [
+        "version", "now", "gtid", "aliases", "filters", "servers", "turns", "name", "uuid", "server_id", "version", "cluster",
+        "logs", "read_only", "limit", "up", "desk", "feed", "known", "history", "source", "executed", "at", "read", "io", "sql", "auto",
+        "detached", "until", "flushes", "write", "fetch", "apply", "fail", "heal", "cut", "join", "rotate", "tick",
+        "poll-read", "poll-store", "polls", "round", "command", "restart",
+    ]
+    .contains(&what)
+}
+
+/// Whether the key, turn or command of this name is built: of the keys and turns those that are listed here, and of the
+/// commands `run` and those whose route isn't `Unbuilt`. It takes no memory.
 pub fn built(what: &str) -> bool
     ensures { result ≡ is_built what.now }
 {
-    [
-        "version", "now", "gtid", "aliases", "filters", "servers", "turns", "name", "uuid", "server_id", "cluster", "logs",
-        "read_only", "limit", "up", "desk", "feed", "known", "history", "source", "executed", "at", "read", "io", "sql", "auto",
-        "detached", "until", "flushes", "write", "fetch", "apply", "fail", "heal", "cut", "join", "rotate", "tick",
-        "poll-read", "poll-store", "polls", "round", "command", "restart", "run", "discover", "forget", "topology", "clusters", "all-instances",
-        "find", "which-master", "which-replicas", "which-cluster", "which-cluster-instances",
-    ]
-    .contains(&what)
+    is_listed(what) || is_built_command(what)
 }

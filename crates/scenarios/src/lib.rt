@@ -1,10 +1,13 @@
-//! Scenarios: the servers as they begin and the turns that follow, which of them can be run, and how much room a run takes.
+//! Scenarios: the servers as they begin and the turns that follow, which of them can be run, and how much room a run
+//! takes.
 #![tactic(auto)]
 
 mod filters;
 mod format;
 mod room;
+mod same;
 mod scenario;
+mod threads;
 
 pub use commands::Answers;
 pub use filters::{Alias, Aliases, ClusterFilters, FilterList, Texts};

@@ -64,8 +64,8 @@ fn copy_turns(alloc: Global, turns: &[Turn]) -> Result<Vec<Turn>, Memory>
     Ok(copy)
 }
 
-/// The servers as they begin, the moment, the clusters' aliases, whose recoveries may begin by themselves, what is known at
-/// the opening, and the turns that follow.
+/// The servers as they begin, the moment, the clusters' aliases, whose recoveries may begin by themselves, what is
+/// known at the opening, and the turns that follow.
 #[derive(Drop)]
 pub struct Scenario {
     pub opening: Opening,

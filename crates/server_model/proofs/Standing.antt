@@ -1,17 +1,16 @@
 -- What is kept beside servers that stand is right.
-use Rattle.std.proofs.Common.{◌≡◌, ℕ, ◌+◌, ◌-◌, ◌<◌, ◌≤◌, Bool, true, false, cond, List, [], ◌∷◌, ◌++◌, length, length-append, refl, sym, ◌∙◌, ap, subst, inl, inr, Option, Some, None, arith, zero, suc, get_or}
+use Rattle.std.proofs.Common.{◌≡◌, ℕ, ◌+◌, ◌-◌, ◌<◌, ◌≤◌, Bool, true, false, cond, List, [], ◌∷◌, ◌++◌, length, length-append, refl, sym, ◌∙◌, ap, subst, inl, inr, Option, Some, None, arith, zero, suc}
 use Rattle.std.specs.Prelude.{slice_get, All, map, option_and_then}
 use Rattle.std.proofs.lemmas.Bool.{cases_eq}
 use Rattle.std.proofs.lemmas.Option.{same_Some, slice_get_within, get_or_from_slice_get}
 use Rattle.binlog_coords.specs.Log.{place}
 use Rattle.binlog_coords.proofs.Places.{place-monotone}
 use Rattle.gtid_sets.specs.Reserved.{Reserved}
-use Rattle.orch_base.specs.Histories.{count_own}
 use Rattle.server_model.specs.Gtids.{uuids_in, set_of, reserved_set, IsSetOf, AreGtids}
 use Rattle.server_model.specs.Ledgers.{above_in, entries_between, entries_from, relayed_in, relayed_under, ledger_of, AreBeside}
 use Rattle.server_model.specs.Links.{IsLinked, IsRoomy, IsKept}
 use Rattle.server_model.specs.Safe.{StandsIn}
-use Rattle.server_model.specs.Standing.{CanStand, IsSourceOf, StandsUnder}
+use Rattle.server_model.specs.Standing.{CanStand, StandsUnder}
 use Rattle.server_model.specs.Worlds.{source_no}
 use Rattle.server_model.specs.declared.ledger.Ledger.{Ledger}
 use Rattle.server_model.specs.declared.server.Server.{Server}

@@ -1,5 +1,5 @@
--- What servers tell by GTIDs (MySQL 8.0 Reference Manual, "GTID Format and Storage", "GTID Auto-Positioning"): the set of
--- what a server has executed, what orchestrator sees of a server in one exchange, and a change of source by a set.
+-- What servers tell by GTIDs (MySQL 8.0 Reference Manual, "GTID Format and Storage", "GTID Auto-Positioning"): the set
+-- of what a server has executed, what orchestrator sees of a server in one exchange, and a change of source by a set.
 use Rattle.std.specs.Prelude.{◌≡◌, ℕ, ◌<◌, ◌≤◌, Bool, true, false, ◌&&◌, ◌||◌, not, if◌then◌else◌, List, [], ◌∷◌, length, Option, Some, None, Result, Ok, Err, option_and_then, option_map, slice_get}
 use Rattle.std.specs.List.{filter, fold, prefix_len, All}
 use Rattle.binlog_coords.specs.declared.Coord.{Coord}
@@ -139,7 +139,8 @@ attach_auto_answer w n observed to (Some s) =
 abbrev pub held_len : (ℕ → ℕ) → List Interval → List Txn → ℕ
 held_len uuid set txns = prefix_len (λ t. has_gtid uuid set t) txns
 
--- where a server goes on under a source that logs: the end of the longest prefix of the source's log that the server's set holds
+-- where a server goes on under a source that logs: the end of the longest prefix of the source's log that the server's
+-- set holds
 abbrev pub auto_coord : (ℕ → ℕ) → Server → Option Server → Coord
 auto_coord uuid r None = file_start 1
 auto_coord uuid r (Some s) = coord_after s.log.log (held_len uuid (set_of uuid r.history.txns) s.history.txns)

@@ -13,3 +13,6 @@ pub mod Links
 pub mod Standing
 pub mod Ledgers
 pub mod WorldsBy
+pub mod Bridges
+pub mod Observed
+pub mod Showing

@@ -28,7 +28,8 @@ entries_of (next.Entry index to ∷ xs) = (index, to) ∷ entries_of xs
 entries_of (next.Rotate to ∷ xs) = entries_of xs
 entries_of (next.End ∷ xs) = entries_of xs
 
--- what follows c where this transaction is the next to be executed: it, if it stands in the same file, else the next file
+-- what follows c where this transaction is the next to be executed: it, if it stands in the same file, else the next
+-- file
 abbrev pub step_to : Coord → Option (ℕ × Coord) → Next
 step_to c None = next.Rotate (file_start (c.file + 1))
 step_to c (Some x) = if x.1.file == c.file then next.Entry x.0 x.1 else next.Rotate (file_start (c.file + 1))
@@ -54,7 +55,8 @@ pub record IsFit (s : Server) : Type 0 where
 pub record IsRoomy (l : Ledger) (s : Server) : Type 0 where
   pub enough : s.log.room ≤ l.relay.room
 
--- the relay log of r has the transactions of the part of its source s's log from the executed to the read coordinate, which both have places
+-- the relay log of r has the transactions of the part of its source s's log from the executed to the read coordinate,
+-- which both have places
 pub record IsLinked (r s : Server) (l : Ledger) : Type 0 where
   pub steps : List Next
   pub relay : IsRelay s.log.log r.exec steps r.read

@@ -80,8 +80,8 @@ pub record IsJunction (r s : Server) (at : Coord) : Type 0 where
 abbrev pub IsObserved : World → List Interval → ℕ → Type 0
 IsObserved w observed to = (t : Server) → server_at w to ≡ Some t → (uuid n : ℕ) → holds observed uuid n ≡ true → holds (executed_set w t) uuid n ≡ true
 
--- an attachment of a server that is where it is expected leads to where its history ends, and one by a set goes by a set
--- that is within the new source's
+-- an attachment of a server that is where it is expected leads to where its history ends, and one by a set goes by a
+-- set that is within the new source's
 abbrev pub JoinsWell : World → Exchange → Type 0
 JoinsWell w (Attach n expect to at) =
     (r s : Server) → server_at w n ≡ Some r → server_at w to.0 ≡ Some s → same_spot expect (live_spot r expect) ≡ true → IsJunction r s at

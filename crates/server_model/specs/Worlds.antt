@@ -4,18 +4,13 @@ use Rattle.orch_base.specs.declared.server.Txn.{Txn}
 use Rattle.orch_base.specs.declared.server.SourceState.{SourceState}
 use Rattle.orch_base.specs.declared.server.SourceState.TheVariants.{Without, Attached, Detached}
 use Rattle.server_model.specs.declared.server.Server.{Server}
+pub use Rattle.orch_base.specs.Sources.{source_no}
 
 -- the servers by their numbers, whether they use GTIDs, and how many writes a server with a source accepted
 pub record World : Type 0 where
   pub servers : List Server
   pub gtid : Bool
   pub errant : ℕ
-
--- the server that a server is attached to or detached from
-abbrev pub source_no : SourceState → Option ℕ
-source_no Without = None
-source_no (Attached m) = Some m.0
-source_no (Detached m) = Some m.0
 
 abbrev pub has_source : SourceState → Bool
 has_source Without = false

@@ -77,10 +77,7 @@ fn source_no(servers: &[Server], n: u32) -> Option<u32>
 {
     match servers.get(n as usize) {
         None => None,
-        Some(s) => match s.source {
-            SourceState::Without => None,
-            SourceState::Attached(m) | SourceState::Detached(m) => Some(m.0),
-        },
+        Some(s) => s.source.number(),
     }
 }
 

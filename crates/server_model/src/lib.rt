@@ -11,6 +11,7 @@ mod relay;
 mod server;
 mod status;
 mod steps;
+mod threads;
 mod world;
 
 pub(crate) use decisions::{ApplyStep, FetchStep};

@@ -8,9 +8,9 @@ use std::alloc::Global;
 use std::collections::VecDeque;
 use std::marker::Model;
 
-/// The relay log of a replica: the transactions that its receiver has read and its applier hasn't executed, in order, each
-/// by its index in the source's log and where it ends there, in room that was reserved (MySQL 8.0 Reference Manual, "The
-/// Relay Log"). The rotations between them show in their files.
+/// The relay log of a replica: the transactions that its receiver has read and its applier hasn't executed, in order,
+/// each by its index in the source's log and where it ends there, in room that was reserved (MySQL 8.0 Reference
+/// Manual, "The Relay Log"). The rotations between them show in their files.
 #[derive(Drop)]
 pub struct Relay {
     entries: VecDeque<(u64, Coord)>,

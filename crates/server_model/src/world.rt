@@ -538,8 +538,8 @@ impl World {
         Ok(status_of(s, above(&self.servers, s.source), set))
     }
 
-    /// What orchestrator sees of a server in one exchange: Unreachable exactly where the server is down or its desk link
-    /// cut. It takes time in the size of the server's executed set.
+    /// What orchestrator sees of a server in one exchange: Unreachable exactly where the server is down or its desk
+    /// link cut. It takes time in the size of the server's executed set.
     pub fn status(&self, alloc: Global, no: ServerNo) -> Result<Status, StatusFault>
         requires { no.0 < length self.now.servers }
         ensures { Gives (λ s. s) status_fault result (status_of_server self.now no.0) }
@@ -550,9 +550,9 @@ impl World {
         Ok(self.shows(alloc, no)?)
     }
 
-    /// Attaches a server to `to`, a server that logs, by the GTIDs that were observed of it, where GTIDs are used: Errant
-    /// with what the server has executed and isn't among them. It goes on at the end of the longest prefix of the source's
-    /// log that it has executed, with its threads off. Nothing changes where it answers a fault.
+    /// Attaches a server to `to`, a server that logs, by the GTIDs that were observed of it, where GTIDs are used:
+    /// Errant with what the server has executed and isn't among them. It goes on at the end of the longest prefix of
+    /// the source's log that it has executed, with its threads off. Nothing changes where it answers a fault.
     pub fn attach_auto(
         &mut self,
         alloc: Global,

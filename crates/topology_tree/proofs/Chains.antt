@@ -2,7 +2,7 @@
 use Rattle.std.proofs.Common.{◌≡◌, ℕ, ◌<◌, ◌≤◌, List, [], ◌∷◌, length, refl, sym, ◌∙◌, subst, inl, inr, ◌⊎◌, Option, Some, None, arith, zero, suc, get_or}
 use Rattle.std.proofs.lemmas.Option.{same_Some}
 use Rattle.topology_tree.specs.Forests.{above}
-use Rattle.topology_tree.specs.Following.{Follows, Direct, Further, ComesBack, Ends, Root, Under}
+use Rattle.topology_tree.specs.Following.{Follows, Direct, Further, ComesBack, Grounded, Root, Under}
 use Rattle.topology_tree.specs.Marks.{Settles, Ending, Looping, Following, LeadsTo}
 
 pub same_step : (up : ℕ → Option ℕ) (a m k : ℕ) → up a ≡ Some m → up a ≡ Some k → m ≡ k
@@ -16,15 +16,15 @@ pub Follows-trans : (up : ℕ → Option ℕ) (b c a : ℕ) → Follows up b a �
 Follows-trans up b c a (Direct a' e) s = Further a b e s
 Follows-trans up b c a (Further a' k e r) s = Further a k e (Follows-trans up b c k r s)
 
-pub Ends-before : (up : ℕ → Option ℕ) (x a : ℕ) → Follows up x a → Ends up x → Ends up a
-Ends-before up x a (Direct a' e) g = Under a x e g
-Ends-before up x a (Further a' k e r) g = Under a k e (Ends-before up x k r g)
+pub Grounded-before : (up : ℕ → Option ℕ) (x a : ℕ) → Follows up x a → Grounded up x → Grounded up a
+Grounded-before up x a (Direct a' e) g = Under a x e g
+Grounded-before up x a (Further a' k e r) g = Under a k e (Grounded-before up x k r g)
 
 pub Settles-before : (up : ℕ → Option ℕ) (x a : ℕ) → Follows up x a → Settles up x → Settles up a
 Settles-before up x a (Direct a' e) g = Following a x e g
 Settles-before up x a (Further a' k e r) g = Following a k e (Settles-before up x k r g)
 
-pub Settles-from_Ends : (up : ℕ → Option ℕ) (a : ℕ) → Ends up a → Settles up a
+pub Settles-from_Ends : (up : ℕ → Option ℕ) (a : ℕ) → Grounded up a → Settles up a
 Settles-from_Ends up a (Root a' none) = Ending a none
 Settles-from_Ends up a (Under a' m e g) = Following a m e (Settles-from_Ends up m g)
 
@@ -40,10 +40,10 @@ next_comes_back up k m h r =
       | inr back ↦ Follows-further up k m m back h
     ]
 
-pub Ends-no_return : (up : ℕ → Option ℕ) (k : ℕ) → Ends up k → ComesBack up k → ⊥
-Ends-no_return up k (Root k' none) (Direct k'' e) = cc
-Ends-no_return up k (Root k' none) (Further k'' m e r) = cc
-Ends-no_return up k (Under k' m e g) r = Ends-no_return up m g (next_comes_back up k m e r)
+pub Grounded-no_return : (up : ℕ → Option ℕ) (k : ℕ) → Grounded up k → ComesBack up k → ⊥
+Grounded-no_return up k (Root k' none) (Direct k'' e) = cc
+Grounded-no_return up k (Root k' none) (Further k'' m e r) = cc
+Grounded-no_return up k (Under k' m e g) r = Grounded-no_return up m g (next_comes_back up k m e r)
 
 -- all that a node comes to leads back to it where it comes back
 pub Follows-back : (up : ℕ → Option ℕ) (x k : ℕ) → Follows up x k → ComesBack up k → Follows up k x
@@ -69,17 +69,17 @@ LeadsTo-first up n None e = Root n e
 LeadsTo-first up n (Some m) e = Direct n e
 
 pub LeadsTo-step : (up : ℕ → Option ℕ) (x n : ℕ) (o : Option ℕ) → up x ≡ o → Follows up x n → LeadsTo up o n
-LeadsTo-step up x n None e r = Ends-before up x n r (Root x e)
+LeadsTo-step up x n None e r = Grounded-before up x n r (Root x e)
 LeadsTo-step up x n (Some m) e r = Follows-further up x m n r e
 
 -- cut at the nodes that come back, following ends
-pub Ends-from_Settles : (up par : ℕ → Option ℕ) (n : ℕ) → ((k : ℕ) → (ComesBack up k × (par k ≡ None)) ⊎ ((ComesBack up k → ⊥) × (par k ≡ up k))) → Settles up n → Ends par n
-Ends-from_Settles up par n is (Ending n' none) =
+pub Grounded-from_Settles : (up par : ℕ → Option ℕ) (n : ℕ) → ((k : ℕ) → (ComesBack up k × (par k ≡ None)) ⊎ ((ComesBack up k → ⊥) × (par k ≡ up k))) → Settles up n → Grounded par n
+Grounded-from_Settles up par n is (Ending n' none) =
     elim (is n) [ inl back ↦ Root n back.1 | inr kept ↦ Root n (kept.1 ∙ none) ]
-Ends-from_Settles up par n is (Looping n' back) =
+Grounded-from_Settles up par n is (Looping n' back) =
     elim (is n) [ inl cut ↦ Root n cut.1 | inr kept ↦ absurd (kept.0 back) ]
-Ends-from_Settles up par n is (Following n' m e s) =
-    elim (is n) [ inl cut ↦ Root n cut.1 | inr kept ↦ Under n m (kept.1 ∙ e) (Ends-from_Settles up par m is s) ]
+Grounded-from_Settles up par n is (Following n' m e s) =
+    elim (is n) [ inl cut ↦ Root n cut.1 | inr kept ↦ Under n m (kept.1 ∙ e) (Grounded-from_Settles up par m is s) ]
 
 -- what a node comes to, it comes to through what it follows, or follows itself
 pub next_follows : (up : ℕ → Option ℕ) (b a m : ℕ) → up a ≡ Some m → Follows up b a → (m ≡ b) ⊎ Follows up b m

@@ -1,14 +1,30 @@
 -- The computed forest is the forest.
 use Rattle.std.proofs.Common.{◌≡◌, ℕ, ◌<◌, ◌≤◌, Bool, true, false, cond, eqb, List, length, refl, sym, ◌∙◌, ap, subst, inl, inr, ◌⊎◌, ◌||◌, Option, Some, None, arith, zero, suc}
+use Rattle.std.specs.Prelude.{◌==◌}
 use Rattle.std.proofs.lemmas.Bool.{eq-eqb, eqb-true, or_cases, or_right, false≢true}
 use Rattle.std.proofs.lemmas.List.FromFn.{length-map-range_with_len, get_or-map-range_with_len}
 use Rattle.std.proofs.lemmas.Map.Steps.{length-le_from_distinct_below}
-use Rattle.topology_tree.specs.Following.{Follows, ComesBack, Direct, Further, Ends, Root, Under}
+use Rattle.topology_tree.specs.Following.{Follows, ComesBack, Direct, Further, Grounded, Root, Under}
 use Rattle.topology_tree.specs.Forests.{above, IsClosed, IsParent, IsForestOf}
-use Rattle.topology_tree.specs.Making.{comes_to, comes_back, parent_of, forest_of}
+use Rattle.topology_tree.specs.Making.{comes_back, parent_of, forest_of}
+use Rattle.orch_base.specs.Chains.{is_reached, is_reached_on}
 use Rattle.topology_tree.proofs.Chains.{next_leads, next_follows}
 use Rattle.topology_tree.proofs.Levels.{chain, chain-follows, chain-distinct}
 use Rattle.topology_tree.proofs.Walking.{one-forest}
+
+-- it is the node, or comes to it by following, in so many steps
+abbrev comes_to : (ℕ → Option ℕ) → ℕ → ℕ → Option ℕ → Bool
+comes_to up node zero next = false
+comes_to up node (suc steps) None = false
+comes_to up node (suc steps) (Some next) = next == node || comes_to up node steps (up next)
+
+comes_to-is : (up : ℕ → Option ℕ) (node steps from : ℕ) → comes_to up node steps (up from) ≡ is_reached up steps node from
+comes_to-is up node zero from = refl
+comes_to-is up node (suc k) from = go (up from) (λ m. comes_to-is up node k m)
+  where
+    go : (o : Option ℕ) → ((m : ℕ) → comes_to up node k (up m) ≡ is_reached up k node m) → comes_to up node (suc k) o ≡ is_reached_on (λ m. m == node || is_reached up k node m) o
+    go None more = refl
+    go (Some m) more = ap (λ b. m == node || b) (more m)
 
 nowhere : (up : ℕ → Option ℕ) (n k : ℕ) → comes_to up n k None ≡ true → ⊥
 nowhere up n zero h = false≢true h
@@ -43,17 +59,17 @@ cut-other n up x true e m h = cc
 cut-other n up x false e m h = h
 
 -- a way to a node ends there
-ends-there : (up : ℕ → Option ℕ) (n x : ℕ) → (x ≡ n) ⊎ Follows up n x → Ends (as_far_as n up) x
+ends-there : (up : ℕ → Option ℕ) (n x : ℕ) → (x ≡ n) ⊎ Follows up n x → Grounded (as_far_as n up) x
 ends-there up n x (inl same) = Root x (subst (λ (y : ℕ). as_far_as n up y ≡ None) (sym same) (cut-at n up))
 ends-there up n x (inr way) = by_test x way (eqb x n) refl
   where
-    by_test : (x : ℕ) → Follows up n x → (b : Bool) → eqb x n ≡ b → Ends (as_far_as n up) x
+    by_test : (x : ℕ) → Follows up n x → (b : Bool) → eqb x n ≡ b → Grounded (as_far_as n up) x
     by_test x way true e = Root x (ap (λ b. cond b None (up x)) e)
     by_test x (Direct x' e) false t = Under x n (ap (λ b. cond b None (up x)) t ∙ e) (Root n (cut-at n up))
     by_test x (Further x' m e rest) false t = Under x m (ap (λ b. cond b None (up x)) t ∙ e) (by_test m rest (eqb m n) refl)
 
 -- a way that has so many nodes comes there in as many steps
-short-way : (up : ℕ → Option ℕ) (n x k : ℕ) (g : Ends (as_far_as n up) x) → length (chain (as_far_as n up) x g) ≤ k → (x ≡ n) ⊎ Follows up n x → comes_to up n k (Some x) ≡ true
+short-way : (up : ℕ → Option ℕ) (n x k : ℕ) (g : Grounded (as_far_as n up) x) → length (chain (as_far_as n up) x g) ≤ k → (x ≡ n) ⊎ Follows up n x → comes_to up n k (Some x) ≡ true
 unfolding chain
 short-way up n x zero (Root x' none) le way = absurd (omega (arith, le))
 short-way up n x zero (Under x' m e g) le way = absurd (omega (arith, le))
@@ -94,7 +110,7 @@ returns-soon ups n m closed e back =
     way = next_leads (above ups) n m e back
 
 comes_back-true : (ups : List (Option ℕ)) (n : ℕ) → comes_back ups n ≡ true → ComesBack (above ups) n
-comes_back-true ups n h = at (above ups n) refl (length ups) h
+comes_back-true ups n h = at (above ups n) refl (length ups) (comes_to-is (above ups) n (length ups) n ∙ h)
   where
     at : (o : Option ℕ) → above ups n ≡ o → (k : ℕ) → comes_to (above ups) n k o ≡ true → ComesBack (above ups) n
     at None e zero h = absurd (false≢true h)
@@ -102,7 +118,7 @@ comes_back-true ups n h = at (above ups n) refl (length ups) h
     at (Some m) e k h = elim (comes_to-follows (above ups) n m k h) [ inl same ↦ Direct n (e ∙ ap Some same) | inr rest ↦ Further n m e rest ]
 
 comes-back_true : (ups : List (Option ℕ)) (n : ℕ) → IsClosed ups → ComesBack (above ups) n → comes_back ups n ≡ true
-comes-back_true ups n closed back = at (above ups n) refl
+comes-back_true ups n closed back = sym (comes_to-is (above ups) n (length ups) n) ∙ at (above ups n) refl
   where
     starts : (o : Option ℕ) → above ups n ≡ o → Follows (above ups) n n → (m : ℕ) × (o ≡ Some m)
     starts o e (Direct n' step) = (n, sym e ∙ step)

@@ -3,17 +3,17 @@ use Rattle.std.proofs.Common.{◌≡◌, ℕ, ◌+◌, ◌<◌, ◌≤◌, true,
 use Rattle.std.specs.List.{IsDistinct, list_any, AllByRecursion}
 use Rattle.std.proofs.lemmas.Bool.{eq-eqb, ne_eqb, eqb-true, or_cases, or_right}
 use Rattle.std.proofs.lemmas.Map.Steps.{length-le_from_distinct_below}
-use Rattle.topology_tree.specs.Following.{Follows, Direct, Further, Ends, Root, Under}
+use Rattle.topology_tree.specs.Following.{Follows, Direct, Further, Grounded, Root, Under}
 use Rattle.topology_tree.specs.Forests.{above, IsClosed}
-use Rattle.topology_tree.proofs.Chains.{Ends-no_return}
+use Rattle.topology_tree.proofs.Chains.{Grounded-no_return}
 
 -- the nodes from one to its root
-unfoldable pub chain : (up : ℕ → Option ℕ) (x : ℕ) → Ends up x → List ℕ
+unfoldable pub chain : (up : ℕ → Option ℕ) (x : ℕ) → Grounded up x → List ℕ
 chain up x (Root x' none) = x ∷ []
 chain up x (Under x' m e g) = x ∷ chain up m g
 
 -- a node of the chain is the first or is reached from it
-pub chain-follows : (up : ℕ → Option ℕ) (x q : ℕ) (g : Ends up x) → list_any (eqb q) (chain up x g) ≡ true → (q ≡ x) ⊎ Follows up q x
+pub chain-follows : (up : ℕ → Option ℕ) (x q : ℕ) (g : Grounded up x) → list_any (eqb q) (chain up x g) ≡ true → (q ≡ x) ⊎ Follows up q x
 unfolding chain
 chain-follows up x q (Root x' none) h =
     elim (or_cases (eqb q x) false h) [ inl same ↦ inl (eqb-true q x same) | inr no_more ↦ cc ]
@@ -31,12 +31,12 @@ all-apart x [] apart = tt
 all-apart x (y ∷ ys) apart =
     (apart y (ap (λ b. b || list_any (eqb y) ys) (eq-eqb y y refl)), all-apart x ys (λ q h. apart q (or_right (eqb q y) (list_any (eqb q) ys) h)))
 
-pub chain-distinct : (up : ℕ → Option ℕ) (x : ℕ) (g : Ends up x) → IsDistinct eqb (chain up x g)
+pub chain-distinct : (up : ℕ → Option ℕ) (x : ℕ) (g : Grounded up x) → IsDistinct eqb (chain up x g)
 unfolding chain IsDistinct
 chain-distinct up x (Root x' none) = (tt, tt)
 chain-distinct up x (Under x' m e g) = (
   all-apart x (chain up m g) (λ q h. ne_eqb x q (λ same.
-      Ends-no_return up x (Under x m e g)
+      Grounded-no_return up x (Under x m e g)
       (elim (chain-follows up m q g h) [
         | inl here ↦ Direct x (e ∙ ap Some (sym here ∙ sym same))
         | inr further ↦ Further x m e (subst (λ (y : ℕ). Follows up y m) (sym same) further)
@@ -49,7 +49,7 @@ pub Follows-below : (ups : List (Option ℕ)) (q x : ℕ) → IsClosed ups → F
 Follows-below ups q x closed (Direct x' e) = closed x q e
 Follows-below ups q x closed (Further x' m e r) = Follows-below ups q m closed r
 
-chain-length : (ups : List (Option ℕ)) (x : ℕ) (g : Ends (above ups) x) → IsClosed ups → x < length ups → length (chain (above ups) x g) ≤ length ups
+chain-length : (ups : List (Option ℕ)) (x : ℕ) (g : Grounded (above ups) x) → IsClosed ups → x < length ups → length (chain (above ups) x g) ≤ length ups
 chain-length ups x g closed lt =
     length-le_from_distinct_below (chain (above ups) x g) (length ups) (chain-distinct (above ups) x g)
     (λ q h. elim (chain-follows (above ups) x q g h) [
@@ -70,23 +70,23 @@ steps_up up (suc most) x = one_more (steps_up up most) (up x)
 unfoldable pub level : List (Option ℕ) → ℕ → ℕ
 level ups x = steps_up (above ups) (length ups) x
 
-steps-chain : (up : ℕ → Option ℕ) (x : ℕ) (g : Ends up x) (most : ℕ) → length (chain up x g) ≤ most + 1 → steps_up up most x + 1 ≡ length (chain up x g)
+steps-chain : (up : ℕ → Option ℕ) (x : ℕ) (g : Grounded up x) (most : ℕ) → length (chain up x g) ≤ most + 1 → steps_up up most x + 1 ≡ length (chain up x g)
 unfolding chain
 steps-chain up x (Root x' none) zero le = refl
 steps-chain up x (Root x' none) (suc most) le = ap (λ o. one_more (steps_up up most) o + 1) none
 steps-chain up x (Under x' m e g) zero le = absurd (no_room g (omega (arith, le)))
   where
-    no_room : (g : Ends up m) → length (chain up m g) ≤ 0 → ⊥
+    no_room : (g : Grounded up m) → length (chain up m g) ≤ 0 → ⊥
     no_room (Root m' none) h = omega (arith, h)
     no_room (Under m' k e g) h = omega (arith, h)
 steps-chain up x (Under x' m e g) (suc most) le =
     let more : steps_up up most m + 1 ≡ length (chain up m g) = steps-chain up m g most (omega (arith, le)) in
     ap (λ o. one_more (steps_up up most) o + 1) e ∙ ap (λ (k : ℕ). k + 1) more ∙ omega arith
 
-pub level-above : (ups : List (Option ℕ)) (x m : ℕ) → ((n : ℕ) → Ends (above ups) n) → IsClosed ups → x < length ups → above ups x ≡ Some m → level ups x ≡ level ups m + 1
+pub level-above : (ups : List (Option ℕ)) (x m : ℕ) → ((n : ℕ) → Grounded (above ups) n) → IsClosed ups → x < length ups → above ups x ≡ Some m → level ups x ≡ level ups m + 1
 unfolding level chain
 level-above ups x m ends closed lt e =
-    let g : Ends (above ups) m = ends m in
+    let g : Grounded (above ups) m = ends m in
     let here : steps_up (above ups) (length ups) x + 1 ≡ suc (length (chain (above ups) m g)) =
     steps-chain (above ups) x (Under x m e g) (length ups) (omega (arith, chain-length ups x (Under x m e g) closed lt))
     in
@@ -95,7 +95,7 @@ level-above ups x m ends closed lt e =
     in
     omega (arith, here, there)
 
-pub level-below : (ups : List (Option ℕ)) (x : ℕ) → ((n : ℕ) → Ends (above ups) n) → IsClosed ups → x < length ups → level ups x < length ups
+pub level-below : (ups : List (Option ℕ)) (x : ℕ) → ((n : ℕ) → Grounded (above ups) n) → IsClosed ups → x < length ups → level ups x < length ups
 unfolding level chain
 level-below ups x ends closed lt =
     let here : steps_up (above ups) (length ups) x + 1 ≡ length (chain (above ups) x (ends x)) =

@@ -7,7 +7,7 @@ use Rattle.std.specs.Vec.{with_items}
 use Rattle.topology_tree.specs.Following.{Follows, ComesBack}
 use Rattle.topology_tree.specs.Forests.{above, IsClosed}
 use Rattle.topology_tree.specs.Marks.{IsMarked, Settles, Looping, MarksLoops, LeadsTo, IsBefore, Walked, Finished}
-use Rattle.topology_tree.proofs.Chains.{LeadsTo-first, LeadsTo-step, Settles-before, Settles-from_Ends, Ends-no_return, Follows-back, holds_along}
+use Rattle.topology_tree.proofs.Chains.{LeadsTo-first, LeadsTo-step, Settles-before, Settles-from_Ends, Grounded-no_return, Follows-back, holds_along}
 
 -- so far marked from node on: the last that was met is at
 pub record Marking (up : ℕ → Option ℕ) (before looped : List Bool) (node at : ℕ) : Type 0 where
@@ -179,7 +179,7 @@ Finished-next sources before after start looped marked stop lt closed walked old
     settles-led n (Some x) e led = Settles-before (above sources) x n (subst (λ o. LeadsTo (above sources) o n) e led) (settles-stop x e)
 
     known-led : (n : ℕ) → n < length sources → get_or after n 0 ≡ start → ComesBack (above sources) n → (o : Option ℕ) → stop ≡ o → LeadsTo (above sources) stop n → IsMarked marked n
-    known-led n h now back None e led = absurd (Ends-no_return (above sources) n (subst (λ o. LeadsTo (above sources) o n) e led) back)
+    known-led n h now back None e led = absurd (Grounded-no_return (above sources) n (subst (λ o. LeadsTo (above sources) o n) e led) back)
     known-led n h now back (Some x) e led =
         let there : Follows (above sources) x n = subst (λ o. LeadsTo (above sources) o n) e led in
         let again : Follows (above sources) n x = Follows-back (above sources) x n there back in

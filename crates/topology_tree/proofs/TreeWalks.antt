@@ -10,7 +10,7 @@ use Rattle.topology_tree.specs.Following.{Follows, Direct, Further}
 use Rattle.topology_tree.specs.Forests.{above, children_of, walk_at, walk_of, is_child, nodes_below}
 use Rattle.topology_tree.specs.Links.{IsForest}
 use Rattle.topology_tree.specs.Trees.{node_of, HasParentIn, ListsTree}
-use Rattle.topology_tree.proofs.Chains.{above-within, next_follows, Follows-further, Ends-no_return}
+use Rattle.topology_tree.proofs.Chains.{above-within, next_follows, Follows-further, Grounded-no_return}
 use Rattle.topology_tree.proofs.Children.{is_child-true, child-is_child, one_more_item}
 use Rattle.topology_tree.proofs.Levels.{level, level-above, level-below}
 use Rattle.topology_tree.proofs.Members.{Mem, In, Differ, Apart, Mem-filter, filter-Mem, Differ-filter, below-nodes, Differ-nodes, In-flat_map, flat_map-In, Apart-append, Contains-In, In-Contains, Apart-distinct}
@@ -75,8 +75,8 @@ walk-complete forest is root n lt (Further n' m e r) =
 not-under : (forest : List (Option ℕ)) → IsForest forest → (k c d : ℕ) → above forest c ≡ Some k → above forest d ≡ Some k → Follows (above forest) d c → ⊥
 not-under forest is k c d up_c up_d r =
     elim (next_follows (above forest) d c k up_c r) [
-      | inl same ↦ Ends-no_return (above forest) d (is.ends d) (Direct d (up_d ∙ ap Some same))
-      | inr further ↦ Ends-no_return (above forest) d (is.ends d) (Further d k up_d further)
+      | inl same ↦ Grounded-no_return (above forest) d (is.ends d) (Direct d (up_d ∙ ap Some same))
+      | inr further ↦ Grounded-no_return (above forest) d (is.ends d) (Further d k up_d further)
     ]
 
 -- of two nodes that one comes to, one comes to the other
@@ -124,8 +124,8 @@ walk-apart forest is (suc levels) depth k = (
       in
       let up : above forest found.0 ≡ Some k = child-above forest k found.0 found.1 in
       elim (walk-sound forest levels (depth + 1) found.0 k found.2) [
-        | inl same ↦ Ends-no_return (above forest) k (is.ends k) (Direct k (ap (above forest) same ∙ up))
-        | inr further ↦ Ends-no_return (above forest) k (is.ends k) (Follows-further (above forest) found.0 k k further up)
+        | inl same ↦ Grounded-no_return (above forest) k (is.ends k) (Direct k (ap (above forest) same ∙ up))
+        | inr further ↦ Grounded-no_return (above forest) k (is.ends k) (Follows-further (above forest) found.0 k k further up)
       ],
   apart-walks forest is levels (depth + 1) k (λ c. walk-apart forest is levels (depth + 1) c) (children_of forest k) (children-differ forest k)
       (λ c m. child-above forest k c m),

@@ -10,7 +10,7 @@ use Rattle.topology_tree.specs.Links.{IsForest, IsLinked}
 use Rattle.topology_tree.specs.Marks.{Settles, Ending}
 use Rattle.std.proofs.lemmas.Bool.{cases_lt}
 use Rattle.std.specs.Vec.{with_items}
-use Rattle.topology_tree.proofs.Chains.{above-within, above-past, Ends-from_Settles}
+use Rattle.topology_tree.proofs.Chains.{above-within, above-past, Grounded-from_Settles}
 use Rattle.topology_tree.proofs.Children.{is_child-true}
 use Rattle.topology_tree.proofs.Levels.{level, level-above, level-below}
 
@@ -86,7 +86,7 @@ pub IsForest-made : (sources parents : List (Option ℕ)) → length sources < 2
 IsForest-made sources parents few closed of settles = record {
   few = omega (arith, few, of.nodes);
   closed = λ n m e. in_list n m e (of.parent n (omega (arith, of.nodes, above-within parents n m e)));
-  ends = λ n. Ends-from_Settles (above sources) (above parents) n is_parent (settles_all n);
+  ends = λ n. Grounded-from_Settles (above sources) (above parents) n is_parent (settles_all n);
 }
   where
     in_list : (n m : ℕ) → above parents n ≡ Some m → IsParent sources n (above parents n) → m < length parents

@@ -15,7 +15,8 @@ abbrev pub IsParent : List (Option ℕ) → ℕ → Option ℕ → Type 0
 IsParent sources node parent =
     (ComesBack (above sources) node × (parent ≡ None)) ⊎ ((ComesBack (above sources) node → ⊥) × (parent ≡ above sources node))
 
--- a forest, as the parents of the nodes from 0 on, is that of these sources: no node is dropped, and each has its parent
+-- a forest, as the parents of the nodes from 0 on, is that of these sources: no node is dropped, and each has its
+-- parent
 pub record IsForestOf (sources parents : List (Option ℕ)) : Type 0 where
   pub nodes : length parents ≡ length sources
   pub parent : (node : ℕ) → node < length sources → IsParent sources node (above parents node)

@@ -1,5 +1,5 @@
 use Rattle.std.specs.Prelude.{◌≡◌, ℕ, ◌<◌, ◌^◌, List, length, Option, Some, None, zero, suc, if◌then◌else◌}
-use Rattle.topology_tree.specs.Following.{Ends}
+use Rattle.topology_tree.specs.Following.{Grounded}
 use Rattle.topology_tree.specs.Forests.{above, is_child, IsClosed}
 
 -- the last child of p among so many first nodes
@@ -18,4 +18,4 @@ pub record IsLinked (forest last earlier : List (Option ℕ)) : Type 0 where
 pub record IsForest (forest : List (Option ℕ)) : Type 0 where
   pub few : length forest < 2 ^ 32
   pub closed : IsClosed forest
-  pub ends : (n : ℕ) → Ends (above forest) n
+  pub ends : (n : ℕ) → Grounded (above forest) n

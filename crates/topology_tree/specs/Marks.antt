@@ -1,5 +1,5 @@
 use Rattle.std.specs.Prelude.{◌≡◌, ℕ, ◌<◌, Bool, true, false, ◌⊎◌, List, length, Option, Some, None, slice_index, slice_index_or}
-use Rattle.topology_tree.specs.Following.{Follows, ComesBack, Ends}
+use Rattle.topology_tree.specs.Following.{Follows, ComesBack, Grounded}
 use Rattle.topology_tree.specs.Forests.{above}
 
 abbrev pub IsMarked : List Bool → ℕ → Type 0
@@ -18,14 +18,15 @@ pub record MarksLoops (up : ℕ → Option ℕ) (looped : List Bool) : Type 0 wh
 
 -- where following from a node has come to so far: nowhere to go, or this one
 abbrev pub LeadsTo : (ℕ → Option ℕ) → Option ℕ → ℕ → Type 0
-LeadsTo up None n = Ends up n
+LeadsTo up None n = Grounded up n
 LeadsTo up (Some x) n = Follows up x n
 
 -- each node carries the number of an earlier walk or the mark of those that no walk has met
 abbrev pub IsBefore : List (Option ℕ) → List ℕ → ℕ → Type 0
 IsBefore sources walks start = (n : ℕ) → n < length sources → (slice_index walks n < start) ⊎ (slice_index walks n ≡ length sources)
 
--- a walk from start: earlier marks stay, each node that it met leads to where it stopped, and what a met node follows was met
+-- a walk from start: earlier marks stay, each node that it met leads to where it stopped, and what a met node follows
+-- was met
 pub record Walked (sources : List (Option ℕ)) (before after : List ℕ) (start : ℕ) (stop : Option ℕ) : Type 0 where
   pub kept : (n : ℕ) → n < length sources → slice_index before n < start → slice_index after n < start
   pub earlier : (n : ℕ) → n < length sources → slice_index after n < start → slice_index before n < start

@@ -1,6 +1,7 @@
 //! What happens in a run, turn by turn, and what each turn answers: plain types.
 #![tactic(auto)]
 
+mod same;
 mod threads;
 mod turn;
 

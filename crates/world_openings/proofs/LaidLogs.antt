@@ -65,7 +65,8 @@ Grown-laid_after flushes count log (t ∷ ts) sized g =
     Grown-laid_after flushes (count + 1) (push (flushed_at flushes count log) t.size) ts (All-tail HasSize t ts sized)
     (grown.Pushed (flushed_at flushes count log) t.size size.0 (Grown-flushed_times (count_by (λ k. k == count) flushes) log g))
 
--- the log of a server is as long as its history, or empty, and its files are at most its transactions, its flushes and one
+-- the log of a server is as long as its history, or empty, and its files are at most its transactions, its flushes and
+-- one
 pub record IsLaid (log : Log) (history : List Txn) (flushes : ℕ) : Type 0 where
   pub entries : length log.entries ≤ length history
   pub files : log.files ≤ 1 + length log.entries + flushes

@@ -1,4 +1,4 @@
-use Rattle.std.proofs.Common.{◌++◌, ◌∙◌, ap, sym, length, take, false, List, Option, arith}
+use Rattle.std.proofs.Common.{◌++◌, ◌∙◌, ap, sym, take, false, List, Option, arith}
 use Rattle.std.specs.Option.{option_to_list}
 use Rattle.instance_keeper.specs.declared.row.Change.{Change}
 use Rattle.opening_book.specs.Opening.{missing_from}

@@ -1,11 +1,14 @@
-use Rattle.std.proofs.Common.{◌∙◌}
-use Rattle.cluster_filters.specs.Forms.{some_matches}
-use Rattle.scenario_filters.specs.Aliases.{alias_of}
+use Rattle.std.proofs.Common.{◌≡◌, ◌∙◌}
+use Rattle.scenario_filters.specs.AliasTable.{alias_at, passes_by}
 use Rattle.scenario_filters.proofs.PatternLemmas.{mapped_more}
 use Rattle.scenario_filters.proofs.answers.answers.Goals as goal
 
 pub loop-server-preserved : goal.loop-server-preserved
 loop-server-preserved c =
-    c.in_ok-push.ensures.items
-    ∙ mapped_more (λ i. some_matches i.settings.cluster (alias_of c.args.aliases.now i.settings.cluster) c.args.filters.now) c.args.servers.now c.loop-server.server-index
-    c.server-item.result c.loop-server.answers.items c.in_ok-passes.field-0 c.loop-server-test.true c.server-item.is c.in_ok-passes.ensures c.loop-server.invariant
+    let told : c.in_ok-passes.field-0 ≡ passes_by (alias_at c.args.aliases.now) c.args.filters.now c.server-item.result = rw (← c.as_str-cluster.ensures) c.in_ok-passes.ensures.exact in
+    record {
+      told = c.in_ok-push.ensures.items
+          ∙ mapped_more (passes_by (alias_at c.args.aliases.now) c.args.filters.now) c.args.servers.now c.loop-server.server-index
+          c.server-item.result c.loop-server.answers.items c.in_ok-passes.field-0 c.loop-server-test.true c.server-item.is told c.loop-server.invariant.told;
+      known = c.in_ok-passes.ensures.known;
+    }

@@ -1,6 +1,5 @@
-use Rattle.std.proofs.Common.{◌≡◌, ℕ, List, length, Option, Some, ap, subst, sym, ◌∙◌, arith}
+use Rattle.std.proofs.Common.{◌≡◌, ℕ, List, length, Option, ap, subst, sym, ◌∙◌, arith}
 use Rattle.std.specs.Option.{option_copied}
-use Rattle.std.specs.Prelude.{slice_get}
 use Rattle.binlog_coords.specs.declared.Coord.{Coord}
 use Rattle.orch_base.specs.Histories.{count_own}
 use Rattle.server_model.specs.Kept.{Relayed}

@@ -4,8 +4,8 @@ use Rattle.gtid_sets.specs.Sets.{holds, IsSet}
 use Rattle.gtid_sets.proofs.Parts.{part_is_set, part_holds}
 use Rattle.gtid_sets.proofs.set.GtidSet.of_uuid.Goals as goal
 
-pub invariant_of-result : goal.invariant_of-result
-invariant_of-result c =
+pub invariant_of-part : goal.invariant_of-part
+invariant_of-part c =
     let part : c.in_ok-intervals.intervals.items ≡ filter (λ s. s.uuid == c.args.uuid) c.self.inside.intervals.items = cc c.in_ok-intervals.ensures in
     subst IsSet (sym part) (part_is_set c.args.uuid c.self.inside.intervals.items c.self.invariant)
 

@@ -5,10 +5,10 @@ use Rattle.gtid_sets.specs.Sets.{on_line, IsSet}
 use Rattle.gtid_sets.proofs.Places.{gathered_holds}
 use Rattle.gtid_sets.proofs.set.GtidSet.read.Goals as goal
 
-pub returns-in_ok-gathered-in-Ok : goal.returns-in_ok-gathered-in-Ok
-returns-in_ok-gathered-in-Ok c =
-    let set = c.in_ok-gathered-in-Ok.field-0 in
+pub returns-in_ok-set-in-Ok-clause-reads : goal.returns-in_ok-set-in-Ok-clause-reads
+returns-in_ok-set-in-Ok-clause-reads c =
+    let set = c.in_ok-set-in-Ok.set in
     let found = c.in-Ok.found.items in
     let is : IsSet set = search rules in
     let read : text_at c.args.text.now ≡ Ok found = ap text_at (sym c.as_bytes.ensures.value) ∙ c.in-Ok.ensures.is in
-    subst (HasThose set) (sym read) (gathered_holds found set c.in-Ok.ensures.each is (λ x. c.in_ok-gathered-in-Ok.ensures x ∙ ap (λ (ys : List Interval). on_line ys x) c.deref.ensures.value))
+    subst (HasThose set) (sym read) (gathered_holds found set c.in-Ok.ensures.each is (λ x. c.in_ok-set-in-Ok.ensures x ∙ ap (λ (ys : List Interval). on_line ys x) c.deref.ensures.value))

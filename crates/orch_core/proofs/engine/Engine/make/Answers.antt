@@ -1,9 +1,8 @@
-use Rattle.std.proofs.Common.{◌≡◌, List, length, ap, subst, sym, ◌∙◌, rules}
-use Rattle.std.specs.Prelude.{All, IfSome, map}
+use Rattle.std.proofs.Common.{◌≡◌, ℕ, List, length, ap, subst, sym, ◌∙◌, arith, rules}
+use Rattle.std.specs.Prelude.{IfSome, map}
 use Rattle.instance_keeper.specs.declared.row.Row.{Row}
 use Rattle.opening_book.specs.Counting.{counted}
 use Rattle.openings.specs.declared.init.ServerInit.{ServerInit}
-use Rattle.orch_base.specs.declared.server.Settings.{Settings}
 use Rattle.server_model.specs.Worlds.{World}
 use Rattle.orch_core.proofs.Sources.{KnowsSources}
 use Rattle.orch_core.proofs.Starts.{Fits-start, IsOpening, sources-start, book-names, world_made, IsState-made, StartsBy-made, kept_made}
@@ -26,6 +25,7 @@ complete-requires-clause-sources g c =
 pub invariant_of-result : goal.invariant_of-result
 invariant_of-result g c =
     let world = world_made c.args.s.now c.in_ok-world.world c.room.result c.flushes.result c.in_ok-world.ensures.world c.room.ensures.room c.flushes.ensures.flushes in
+    let servers : c.len.result ≡ length c.in_ok-settings.settings.items = let h = c.len.ensures in omega (arith, h, c.in_ok-settings.settings.ok) in
     let opening : IsOpening c.args.s.now c.in_ok-world.world c.in_ok-settings.settings.items c.in_ok-rows.rows.items c.latest_moment-moment.result c.in_ok-book.book c.in_ok-book-2.book c.in_ok-slots.slots.items c.last_read.result c.args.wait c.in_ok-configuration.configuration = record {
       world = world;
       settings_made = c.in_ok-settings.ensures ∙ ap (λ (is : List ServerInit). map (λ i. i.settings) is) c.servers.ensures.value;
@@ -35,13 +35,14 @@ invariant_of-result g c =
       empty = c.in_ok-slots.ensures;
       read = search rules;
       configured = c.in_ok-configuration.ensures;
-      some = subst (λ (ns : List Settings). (rows : List Row) × (c.in_ok-rows.rows.items ≡ counted (length ns) rows)) c.deref.ensures.value c.in_ok-rows.ensures.some;
+      some = subst (λ (n : ℕ). (rows : List Row) × (c.in_ok-rows.rows.items ≡ counted n rows)) servers c.in_ok-rows.ensures.some;
     } in
     IsState-made _ _ _ _ _ _ _ _ _ _ _ opening c.requires
 
 pub returns-clause-ok : goal.returns-clause-ok
 returns-clause-ok g c =
     let world = world_made c.args.s.now c.in_ok-world.world c.room.result c.flushes.result c.in_ok-world.ensures.world c.room.ensures.room c.flushes.ensures.flushes in
+    let servers : c.len.result ≡ length c.in_ok-settings.settings.items = let h = c.len.ensures in omega (arith, h, c.in_ok-settings.settings.ok) in
     let opening : IsOpening c.args.s.now c.in_ok-world.world c.in_ok-settings.settings.items c.in_ok-rows.rows.items c.latest_moment-moment.result c.in_ok-book.book c.in_ok-book-2.book c.in_ok-slots.slots.items c.last_read.result c.args.wait c.in_ok-configuration.configuration = record {
       world = world;
       settings_made = c.in_ok-settings.ensures ∙ ap (λ (is : List ServerInit). map (λ i. i.settings) is) c.servers.ensures.value;
@@ -51,14 +52,15 @@ returns-clause-ok g c =
       empty = c.in_ok-slots.ensures;
       read = search rules;
       configured = c.in_ok-configuration.ensures;
-      some = subst (λ (ns : List Settings). (rows : List Row) × (c.in_ok-rows.rows.items ≡ counted (length ns) rows)) c.deref.ensures.value c.in_ok-rows.ensures.some;
+      some = subst (λ (n : ℕ). (rows : List Row) × (c.in_ok-rows.rows.items ≡ counted n rows)) servers c.in_ok-rows.ensures.some;
     } in
     StartsBy-made _ _ _ _ _ _ _ _ _ _ _ opening (g.K.Keeper.kept c.args.keeper.now)
-    (subst (λ (ns : List Settings). IfSome (g.K.Keeper.kept c.args.keeper.now) (λ rows. c.in_ok-rows.rows.items ≡ counted (length ns) rows)) c.deref.ensures.value c.in_ok-rows.ensures.told)
+    (subst (λ (n : ℕ). IfSome (g.K.Keeper.kept c.args.keeper.now) (λ rows. c.in_ok-rows.rows.items ≡ counted n rows)) servers c.in_ok-rows.ensures.told)
 
 pub returns-clause-kept : goal.returns-clause-kept
 returns-clause-kept g c =
     let world = world_made c.args.s.now c.in_ok-world.world c.room.result c.flushes.result c.in_ok-world.ensures.world c.room.ensures.room c.flushes.ensures.flushes in
+    let servers : c.len.result ≡ length c.in_ok-settings.settings.items = let h = c.len.ensures in omega (arith, h, c.in_ok-settings.settings.ok) in
     let opening : IsOpening c.args.s.now c.in_ok-world.world c.in_ok-settings.settings.items c.in_ok-rows.rows.items c.latest_moment-moment.result c.in_ok-book.book c.in_ok-book-2.book c.in_ok-slots.slots.items c.last_read.result c.args.wait c.in_ok-configuration.configuration = record {
       world = world;
       settings_made = c.in_ok-settings.ensures ∙ ap (λ (is : List ServerInit). map (λ i. i.settings) is) c.servers.ensures.value;
@@ -68,7 +70,7 @@ returns-clause-kept g c =
       empty = c.in_ok-slots.ensures;
       read = search rules;
       configured = c.in_ok-configuration.ensures;
-      some = subst (λ (ns : List Settings). (rows : List Row) × (c.in_ok-rows.rows.items ≡ counted (length ns) rows)) c.deref.ensures.value c.in_ok-rows.ensures.some;
+      some = subst (λ (n : ℕ). (rows : List Row) × (c.in_ok-rows.rows.items ≡ counted n rows)) servers c.in_ok-rows.ensures.some;
     } in
     search rules ∙ kept_made _ _ _ _ _ _ _ _ _ _ _ opening (g.K.Keeper.kept c.args.keeper.now)
-    (subst (λ (ns : List Settings). IfSome (g.K.Keeper.kept c.args.keeper.now) (λ rows. c.in_ok-rows.rows.items ≡ counted (length ns) rows)) c.deref.ensures.value c.in_ok-rows.ensures.told)
+    (subst (λ (n : ℕ). IfSome (g.K.Keeper.kept c.args.keeper.now) (λ rows. c.in_ok-rows.rows.items ≡ counted n rows)) servers c.in_ok-rows.ensures.told)

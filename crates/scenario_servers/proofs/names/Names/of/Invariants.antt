@@ -1,5 +1,7 @@
-use Rattle.scenario_servers.proofs.NameTables.{IsListedTo}
+use Rattle.std.proofs.Common.{◌≡◌}
+use Rattle.serde_json.specs.View.{items_view}
+use Rattle.scenario_servers.specs.Names.{listed_names}
 use Rattle.scenario_servers.proofs.names.Names.of.Given as goal
 
 abbrev pub invariant-loop-value : goal.invariant-loop-value
-invariant-loop-value l = IsListedTo l.items l.value-index l.listed.items l.numbers
+invariant-loop-value l = l.names ≡ listed_names (items_view l.items)

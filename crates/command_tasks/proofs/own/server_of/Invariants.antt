@@ -1,6 +1,0 @@
-use Rattle.std.proofs.Common.{◌≡◌, drop}
-use Rattle.command_tasks.specs.Own.{server_from, server_of}
-use Rattle.command_tasks.proofs.own.server_of.Given as goal
-
-abbrev pub invariant-loop-no : goal.invariant-loop-no
-invariant-loop-no l = server_of l.names l.name ≡ server_from l.name l.no (drop l.no l.names)

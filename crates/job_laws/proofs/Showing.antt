@@ -1,0 +1,72 @@
+-- What a status shows, and that it goes on being shown.
+use Rattle.std.proofs.Common.{◌≡◌, ℕ, true, List, refl, ◌∙◌, ap, Option, Some, None, Ok, Err, Result, count_by}
+use Rattle.std.proofs.lemmas.Bool.{false≢true}
+use Rattle.std.proofs.lemmas.Option.{same_Some}
+use Rattle.binlog_coords.specs.declared.Coord.{Coord}
+use Rattle.binlog_coords.specs.Log.{ends_by}
+use Rattle.binlog_coords.proofs.Places.{place-parts, place-from}
+use Rattle.orch_base.specs.declared.server.Settings.{Settings}
+use Rattle.instance_keeper.specs.declared.bridge.Bridge.{Bridge}
+use Rattle.server_words.specs.declared.status.Status.{Status}
+use Rattle.server_words.specs.declared.status.StatusFault.{StatusFault}
+use Rattle.opening_book.specs.Seeing.{seen_in}
+use Rattle.server_model.specs.declared.server.Server.{Server}
+use Rattle.server_model.specs.Attach.{IsTarget}
+use Rattle.server_model.specs.Gtids.{status}
+use Rattle.server_model.specs.Run.{Exchange, run, AllAllowed}
+use Rattle.server_model.specs.Safe.{Safe, Placed}
+use Rattle.server_model.specs.Showing.{Shows}
+use Rattle.server_model.specs.Worlds.{World, server_at}
+use Rattle.replication_laws.specs.Growth.{Grows}
+use Rattle.replication_laws.proofs.BridgeLaws.{Stands-seen, Stands-grows}
+use Rattle.replication_laws.proofs.Runs.{Grows-run}
+use Rattle.replication_laws.proofs.ShownCoords.{Shows-seen as Shows-answered}
+use Rattle.operations.specs.Targets.{logs_by}
+use Rattle.job_laws.specs.Footing.{logs_at}
+use Rattle.job_laws.specs.Held.{Spans}
+use Rattle.job_laws.specs.Sound.{IsBridged}
+
+-- ---- what stays
+
+-- a coordinate that has a place in a log has one as the log grows
+Target-run : (w : World) (es : List Exchange) (n : ℕ) (c : Coord) → Placed w → AllAllowed w es → IsTarget w n c → IsTarget (run w es) n c
+Target-run w es n c placed allowed t =
+    let on = Grows-run w es placed allowed n t.target t.there in
+    let count = count_by (ends_by c) t.target.log.log.entries in
+    let kept = on.2.places c count (place-from t.target.log.log c count t.place refl) in
+    record {
+      target = on.0;
+      there = on.1;
+      logs = ap (λ (x : Settings). x.logs) on.2.settings ∙ t.logs;
+      place = (place-parts on.0.log.log c count kept).0;
+    }
+
+pub Spans-run : (w : World) (es : List Exchange) (b : Bridge) → Placed w → AllAllowed w es → Spans w b → Spans (run w es) b
+Spans-run w es b placed allowed s =
+    record { own = Target-run w es b.no.0 b.own placed allowed s.own; exec = Target-run w es b.source.0 b.exec placed allowed s.exec }
+
+pub logs-on : (w w' : World) (n : ℕ) → Grows w w' → logs_at w n ≡ true → logs_at w' n ≡ true
+logs-on w w' n grows h = go (server_at w n) refl h
+  where
+    go : (o : Option Server) → server_at w n ≡ o → logs_by o ≡ true → logs_at w' n ≡ true
+    go None at h = absurd (false≢true h)
+    go (Some s) at h = let on = grows n s at in ap logs_by on.1 ∙ ap (λ (x : Settings). x.logs) on.2.settings ∙ h
+
+pub Bridged-run : (w : World) (es : List Exchange) (n : ℕ) (seen : Status) → Placed w → AllAllowed w es → IsBridged w n seen → IsBridged (run w es) n seen
+Bridged-run w es n seen placed allowed b = λ m own from end. Stands-grows w (run w es) n m own seen.exec (Grows-run w es placed allowed) (b m own from end)
+
+-- ---- what a status shows
+
+-- a status that was answered
+answered : (w : World) (n : ℕ) (seen : Status) → seen_in (status w n) ≡ Some seen → status w n ≡ Ok seen
+answered w n seen h = go (status w n) h
+  where
+    go : (r : Result Status StatusFault) → seen_in r ≡ Some seen → r ≡ Ok seen
+    go (Ok st) e = ap Ok (same_Some st seen e)
+    go (Err f) e = cc
+
+pub Shows-seen : (w : World) (n : ℕ) (seen : Status) → Placed w → seen_in (status w n) ≡ Some seen → Shows w n seen
+Shows-seen w n seen placed h = Shows-answered w n seen placed (answered w n seen h)
+
+pub Bridged-seen : (w : World) (n : ℕ) (seen : Status) → Safe w → seen_in (status w n) ≡ Some seen → IsBridged w n seen
+Bridged-seen w n seen safe h m own from end = Stands-seen w n m seen own safe (answered w n seen h) from end

@@ -1,0 +1,311 @@
+-- A turn of a job: its exchanges are allowed and join well, and it leaves the job held, whatever operations are left.
+use Rattle.std.proofs.Common.{◌≡◌, ℕ, ◌+◌, Bool, true, false, cond, not, List, [], ◌∷◌, refl, sym, ◌∙◌, ap, subst, Option, Some, None, Ok, Err, Result}
+use Rattle.std.specs.Prelude.{◌==◌, nat_lt}
+use Rattle.std.proofs.lemmas.Bool.{and_parts, eqb-true}
+use Rattle.std.proofs.lemmas.Option.{same_Some}
+use Rattle.binlog_coords.specs.declared.Coord.{Coord}
+use Rattle.orch_base.specs.declared.server.Moment.{Moment}
+use Rattle.orch_base.specs.declared.server.ServerNo.{ServerNo}
+use Rattle.orch_base.specs.declared.server.SourceState.{SourceState}
+use Rattle.orch_base.specs.declared.server.SourceState.TheVariants.{Without, Attached, Detached}
+use Rattle.instance_keeper.specs.declared.observation.Observation.{Observation}
+use Rattle.server_words.specs.declared.status.Status.{Status}
+use Rattle.opening_book.specs.Seeing.{seen_in}
+use Rattle.server_words.specs.declared.answers.Unreachable.{Unreachable}
+use Rattle.server_words.specs.declared.attach.AttachFault.{AttachFault}
+use Rattle.server_words.specs.declared.changes.Ask.{Ask}
+use Rattle.server_words.specs.declared.changes.Ask.TheVariants as asking
+use Rattle.server_model.specs.Attach.{IsTarget}
+use Rattle.server_model.specs.Desk.{desk_answer}
+use Rattle.server_model.specs.Gtids.{status}
+use Rattle.server_model.specs.Run.{Exchange, Request, after, run, Allowed, AllAllowed, JoinsWell, AllJoinWell}
+use Rattle.server_model.specs.Safe.{Safe, Placed}
+use Rattle.server_model.specs.Worlds.{World, server_at, source_no}
+use Rattle.replication_laws.proofs.Runs.{Grows-run}
+use Rattle.commands.specs.declared.cause.Cause.{Cause}
+use Rattle.commands.specs.declared.cause.Cause.TheVariants as cause
+use Rattle.operations.specs.declared.op.Op.{Op}
+use Rattle.operations.specs.declared.sight.Sight.{Sight}
+use Rattle.operations.specs.Deeds as deed
+use Rattle.operations.specs.Deeds.{Deed, deed_of}
+use Rattle.operations.specs.Jobs.{Job, seen_of, with_seen}
+use Rattle.instance_keeper.specs.Bridges.{bridge_in}
+use Rattle.operations.specs.Turns.{Goes, Stops, settled, next, saw, going, restarts, failed, observed, is_moved, after_status, after_look, hands_after, after_ask, aim_of, is_reached, until_by, after_until, after_wait_by, after_wait, holds_seen, settles, read_by, crossed, same_again, by_set, attach_answer_of, after_answer, after_attach, by_deed, by_ops, turned, Attempt}
+use Rattle.operations.specs.Targets.{logs_by, can_attach}
+use Rattle.job_laws.specs.Footing.{Within, finds, reading, looking, learn, are_held, logs_at, footing}
+use Rattle.job_laws.specs.Held.{AllShow, HeldJob, KeepsHeld, IsDue}
+use Rattle.server_model.specs.Showing.{Shows}
+use Rattle.job_laws.specs.Sound.{IsBridged, AllBridged, KeepsSound}
+use Rattle.operations.proofs.Tests.{both}
+use Rattle.job_laws.proofs.Sights.{seen-at}
+use Rattle.job_laws.proofs.Footings.{aim-by, held-mono, Within-saw, Within-logging, Within-again, read-still}
+use Rattle.job_laws.proofs.Showing.{logs-on, Bridged-run, Shows-seen, Bridged-seen}
+use Rattle.replication_laws.proofs.ShownCoords.{Shows-run}
+use Rattle.job_laws.proofs.Modes.{gtid-run}
+use Rattle.operations.proofs.Targets.{can-allowed}
+use Rattle.operations.proofs.Allowing.{restarts-allowed}
+use Rattle.job_laws.proofs.Bridging.{crossing-joins, same-joins, auto-joins}
+
+-- ---- what was seen, and one more reading
+
+-- a fact of each reading, with one more reading
+pub with-one : (P : ℕ → Status → Type 0) (xs : List Sight) (n : ServerNo) (s : Status) → ((k : ℕ) (t : Status) → seen_of xs k ≡ Some t → P k t) → P n.0 s
+    → (k : ℕ) (t : Status) → seen_of (with_seen xs n s) k ≡ Some t → P k t
+with-one P xs n s all one k t h = go (n.0 == k) refl (sym (seen-at xs n s k) ∙ h)
+  where
+    go : (b : Bool) → (n.0 == k) ≡ b → cond b (Some s) (seen_of xs k) ≡ Some t → P k t
+    go true e h = subst (λ (m : ℕ). P m t) (eqb-true n.0 k e) (subst (λ (x : Status). P n.0 x) (same_Some s t h) one)
+    go false e h = all k t h
+
+pub Within-run : (w : World) (es : List Exchange) (xs : List Sight) → Placed w → AllAllowed w es → Within (footing w xs) (footing (run w es) xs)
+Within-run w es xs placed allowed = record {
+  gtid = λ h. gtid-run w es ∙ h;
+  logs = λ n h. logs-on w (run w es) n (Grows-run w es placed allowed) h;
+  read = λ n h. h;
+  under = λ n m h. h;
+}
+
+-- a job that others' exchanges pass by stays held
+pub Held-run : (w : World) (es : List Exchange) (j : Job) → Placed w → AllAllowed w es → HeldJob w j → HeldJob (run w es) j
+Held-run w es j placed allowed held = record {
+  left = held-mono (footing w j.seen) (footing (run w es) j.seen) (Within-run w es j.seen placed allowed) j.ops held.left;
+  shown = λ n s h. Shows-run w es n s placed allowed (held.shown n s h);
+}
+
+pub AllBridged-run : (w : World) (es : List Exchange) (xs : List Sight) → Placed w → AllAllowed w es → AllBridged w xs → AllBridged (run w es) xs
+AllBridged-run w es xs placed allowed all n s h = Bridged-run w es n s placed allowed (all n s h)
+
+-- ---- how a turn ends
+
+pub restarts-join : (w : World) (hands : List ServerNo) → AllJoinWell w (restarts hands)
+restarts-join w [] = tt
+restarts-join w (n ∷ ns) = (tt, restarts-join (after w (Request n.0 asking.Start)) ns)
+
+failed-kept : (w : World) (j : Job) (c : Cause) (o : Option Observation) → Placed w → AllShow w j.seen → KeepsHeld w (failed j c o)
+failed-kept w j c o placed shown = record {
+  allowed = restarts-allowed w j.hands;
+  held = record { left = refl; shown = λ n s h. Shows-run w (restarts j.hands) n s placed (restarts-allowed w j.hands) (shown n s h) };
+}
+
+going-kept : (w : World) (o : Option Observation) (es : List Exchange) (j : Job) → Placed w → AllAllowed w es → HeldJob w j → KeepsHeld w (going o es j)
+going-kept w o es j placed allowed held = record { allowed = allowed; held = Held-run w es j placed allowed held }
+
+failed-sound : (w : World) (j : Job) (c : Cause) (o : Option Observation) → Placed w → AllBridged w j.seen → KeepsSound w (failed j c o)
+failed-sound w j c o placed all = record {
+  joins = restarts-join w j.hands;
+  bridged = AllBridged-run w (restarts j.hands) j.seen placed (restarts-allowed w j.hands) all;
+}
+
+going-sound : (w : World) (o : Option Observation) (es : List Exchange) (j : Job) → Placed w → AllAllowed w es → AllJoinWell w es → AllBridged w j.seen → KeepsSound w (going o es j)
+going-sound w o es j placed allowed joins all = record { joins = joins; bridged = AllBridged-run w es j.seen placed allowed all }
+
+-- ---- each kind of operation
+
+-- an attached source that isn't another than the one that is named is that one
+not-moved : (m : ServerNo) (x : SourceState) → is_moved (Some m) x ≡ false → source_no x ≡ Some m.0
+not-moved m Without h = cc
+not-moved m (Attached k) h = go (k.0 == m.0) refl h
+  where
+    go : (b : Bool) → (k.0 == m.0) ≡ b → not b ≡ false → Some k.0 ≡ Some m.0
+    go true e h = ap Some (eqb-true k.0 m.0 e)
+    go false e h = cc
+not-moved m (Detached k) h = cc
+
+target-logs : (w : World) (m : ℕ) (c : Coord) → IsTarget w m c → logs_at w m ≡ true
+target-logs w m c t = ap logs_by t.there ∙ t.logs
+
+module _ (w : World) (j : Job) (rest : List Op) (placed : Placed w) (shown : AllShow w j.seen) where
+  -- what one more reading shows
+  saw-shown : (n : ServerNo) (s : Status) → seen_in (status w n.0) ≡ Some s → AllShow w (with_seen j.seen n s)
+  saw-shown n s is = with-one (Shows w) j.seen n s shown (Shows-seen w n.0 s placed is)
+
+  look-kept : (n : ServerNo) (from : Option ServerNo) (o : Observation) (r : Option Status) → seen_in (status w n.0) ≡ r → are_held (looking (footing w j.seen) n from) rest ≡ true
+      → KeepsHeld w (settled j (after_look j rest n from o r))
+  look-kept n from o None is left = failed-kept w j _ (Some o) placed shown
+  look-kept n from o (Some s) is left = go (is_moved from s.source) refl
+    where
+      shows : Shows w n.0 s
+      shows = Shows-seen w n.0 s placed is
+
+      counts : (f : Option ServerNo) → is_moved f s.source ≡ false → Within (looking (footing w j.seen) n f) (footing w (with_seen j.seen n s))
+      counts None e = Within-saw w j.seen n s None (λ m h. cc)
+      counts (Some m) e =
+          let under : source_no s.source ≡ Some m.0 = not-moved m s.source e in
+          Within-logging (reading (footing w j.seen) n (Some m.0)) (footing w (with_seen j.seen n s)) m.0
+          (Within-saw w j.seen n s (Some m.0) (λ k h. under ∙ h))
+          (target-logs w m.0 s.exec (shows.under m.0 under))
+
+      go : (b : Bool) → is_moved from s.source ≡ b → KeepsHeld w (settled j (after_status j rest n from o s b))
+      go true e = failed-kept w j _ (Some o) placed shown
+      go false e =
+          going-kept w (Some o) [] (next (saw j n s) rest) placed tt
+          (record { left = held-mono (looking (footing w j.seen) n from) (footing w (with_seen j.seen n s)) (counts from e) rest left; shown = saw-shown n s is })
+
+  ask-kept : (n : ServerNo) (a : Ask) (r : Result (Unit {0}) Unreachable) → are_held (footing w j.seen) rest ≡ true → KeepsHeld w (settled j (after_ask j rest n a r))
+  ask-kept n a (Ok t) left =
+      going-kept w None (Request n.0 a ∷ []) (record (next j rest) { hands = hands_after j.hands n a }) placed (tt, tt) (record { left = left; shown = shown })
+  ask-kept n a (Err e) left = failed-kept w j _ None placed shown
+
+  passed-kept : are_held (footing w j.seen) rest ≡ true → KeepsHeld w (going None [] (next j rest))
+  passed-kept left = going-kept w None [] (next j rest) placed tt (record { left = left; shown = shown })
+
+  until-kept : (n : ServerNo) (o : Option Coord) → are_held (footing w j.seen) rest ≡ true → KeepsHeld w (settled j (after_until w j rest n o))
+  until-kept n None left = passed-kept left
+  until-kept n (Some to) left = ask-kept n (asking.StartUntil to) (desk_answer (server_at w n.0)) left
+
+  -- a wait is done, or the same operation is due again, by what was read in place of what was seen before
+  wait-kept : (n : ServerNo) (reached : Status → Bool) (r : Option Status) → seen_in (status w n.0) ≡ r → are_held (reading (footing w j.seen) n None) rest ≡ true
+      → ((s : Status) → are_held (footing w (with_seen j.seen n s)) j.ops ≡ true) → KeepsHeld w (settled j (after_wait j rest n reached r))
+  wait-kept n reached None is left again = failed-kept w j _ None placed shown
+  wait-kept n reached (Some s) is left again = go (reached s)
+    where
+      more : (b : Bool) → KeepsHeld w (settled j (cond b (Goes None [] (record (saw j n s) { waited = j.waited + 1 })) (Stops (cause.WaitSpent n) None)))
+      more true = going-kept w None [] (record (saw j n s) { waited = j.waited + 1 }) placed tt (record { left = again s; shown = saw-shown n s is })
+      more false = failed-kept w j _ None placed shown
+
+      go : (b : Bool) → KeepsHeld w (settled j (after_wait_by j rest n s b))
+      go true =
+          going-kept w None [] (next (saw j n s) rest) placed tt
+          (record {
+            left = held-mono (reading (footing w j.seen) n None) (footing w (with_seen j.seen n s)) (Within-saw w j.seen n s None (λ m h. cc)) rest left;
+            shown = saw-shown n s is;
+          })
+      go false = more (nat_lt (j.waited + 1) j.wait)
+
+  attach-kept : (n : ServerNo) (o : Option Exchange) → are_held (footing w j.seen) rest ≡ true → KeepsHeld w (settled j (after_attach w j rest n o))
+  attach-kept n None left = passed-kept left
+  attach-kept n (Some e) left = by (can_attach w e) refl
+    where
+      go : Allowed w e → (r : Result (Unit {0}) AttachFault) → KeepsHeld w (settled j (after_answer j rest n e r))
+      go allowed (Ok t) = going-kept w None (e ∷ []) (next j rest) placed (allowed, tt) (record { left = left; shown = shown })
+      go allowed (Err f) = failed-kept w j _ None placed shown
+
+      by : (b : Bool) → can_attach w e ≡ b → KeepsHeld w (settled j (cond b (after_answer j rest n e (attach_answer_of w e)) (Goes None [] (next j rest))))
+      by true can = go (can-allowed w e can) (attach_answer_of w e)
+      by false can = passed-kept left
+
+-- ---- any operation
+
+pub deed-kept : (w : World) (read : ℕ) (now : Moment) (j : Job) (rest : List Op) (d : Deed) → Placed w → AllShow w j.seen → IsDue w j rest d → KeepsHeld w (settled j (by_deed w read now j rest d))
+deed-kept w read now j rest (deed.Look n from) placed shown due = look-kept w j rest placed shown n from (observed w read now n) (seen_in (status w n.0)) refl due.left
+deed-kept w read now j rest (deed.Request n a) placed shown due = ask-kept w j rest placed shown n a (desk_answer (server_at w n.0)) due.left
+deed-kept w read now j rest (deed.Until n to) placed shown due = until-kept w j rest placed shown n (until_by (seen_of j.seen n.0) (aim_of j.seen to)) due.left
+deed-kept w read now j rest (deed.Await n to) placed shown due =
+    wait-kept w j rest placed shown n (λ s. is_reached (aim_of j.seen to) s.exec) (seen_in (status w n.0)) refl due.left
+    (λ s. due.again (footing w (with_seen j.seen n s))
+    (aim-by (footing w j.seen) (footing w (with_seen j.seen n s)) (λ k h. h) (read-still w j.seen n s) to due.found)
+    (held-mono (reading (footing w j.seen) n None) (reading (footing w (with_seen j.seen n s)) n None) (Within-again w j.seen n s) rest due.left))
+deed-kept w read now j rest (deed.AwaitSet n m) placed shown due =
+    wait-kept w j rest placed shown n (holds_seen (seen_of j.seen m.0)) (seen_in (status w n.0)) refl due.left
+    (λ s. due.again (footing w (with_seen j.seen n s))
+    (read-still w j.seen n s m.0 due.found)
+    (held-mono (reading (footing w j.seen) n None) (reading (footing w (with_seen j.seen n s)) n None) (Within-again w j.seen n s) rest due.left))
+deed-kept w read now j rest (deed.Settle n) placed shown due =
+    wait-kept w j rest placed shown n (settles j) (seen_in (status w n.0)) refl due.left
+    (λ s. due.again (footing w (with_seen j.seen n s)) refl
+    (held-mono (reading (footing w j.seen) n None) (reading (footing w (with_seen j.seen n s)) n None) (Within-again w j.seen n s) rest due.left))
+deed-kept w read now j rest (deed.Cross c a b) placed shown due =
+    attach-kept w j rest placed shown a (crossed c a (bridge_in (read_by c a b) (seen_of j.seen (read_by c a b).0))) due.left
+deed-kept w read now j rest (deed.Same n) placed shown due =
+    attach-kept w j rest placed shown n (same_again n (seen_of j.seen n.0)) due.left
+deed-kept w read now j rest (deed.Auto n m) placed shown due =
+    attach-kept w j rest placed shown n (by_set n m (seen_of j.seen m.0)) due.left
+deed-kept w read now j rest (deed.Finish lines) placed shown due = record { allowed = tt; held = record { left = refl; shown = shown } }
+
+pub due-of : (w : World) (j : Job) (op : Op) (rest : List Op) → j.ops ≡ op ∷ rest → are_held (footing w j.seen) j.ops ≡ true → IsDue w j rest (deed_of op)
+due-of w j op rest is held =
+    let parts = and_parts (finds (footing w j.seen) (deed_of op)) (are_held (learn (footing w j.seen) (deed_of op)) rest) (sym (ap (are_held (footing w j.seen)) is) ∙ held) in
+    record {
+      found = parts.0;
+      left = parts.1;
+      again = λ g found left. ap (are_held g) is ∙ both (finds g (deed_of op)) (are_held (learn g (deed_of op)) rest) found left;
+    }
+
+-- a turn of a held job
+pub turn-kept : (w : World) (read : ℕ) (now : Moment) (j : Job) → Placed w → HeldJob w j → KeepsHeld w (turned w read now j)
+turn-kept w read now j placed held = go j.ops refl
+  where
+    go : (ops : List Op) → j.ops ≡ ops → KeepsHeld w (settled j (by_ops w read now j ops))
+    go [] is = record { allowed = tt; held = record { left = refl; shown = held.shown } }
+    go (op ∷ rest) is = deed-kept w read now j rest (deed_of op) placed held.shown (due-of w j op rest is held.left)
+
+-- ---- the same in a safe world
+
+module _ (w : World) (j : Job) (rest : List Op) (safe : Safe w) (placed : Placed w) (shown : AllShow w j.seen) (all : AllBridged w j.seen) where
+  saw-bridged : (n : ServerNo) (s : Status) → seen_in (status w n.0) ≡ Some s → AllBridged w (with_seen j.seen n s)
+  saw-bridged n s is = with-one (IsBridged w) j.seen n s all (Bridged-seen w n.0 s safe is)
+
+  look-sound : (n : ServerNo) (from : Option ServerNo) (o : Observation) (r : Option Status) → seen_in (status w n.0) ≡ r → KeepsSound w (settled j (after_look j rest n from o r))
+  look-sound n from o None is = failed-sound w j _ (Some o) placed all
+  look-sound n from o (Some s) is = go (is_moved from s.source)
+    where
+      go : (b : Bool) → KeepsSound w (settled j (after_status j rest n from o s b))
+      go true = failed-sound w j _ (Some o) placed all
+      go false = going-sound w (Some o) [] (next (saw j n s) rest) placed tt tt (saw-bridged n s is)
+
+  ask-sound : (n : ServerNo) (a : Ask) (r : Result (Unit {0}) Unreachable) → KeepsSound w (settled j (after_ask j rest n a r))
+  ask-sound n a (Ok t) = going-sound w None (Request n.0 a ∷ []) (record (next j rest) { hands = hands_after j.hands n a }) placed (tt, tt) (tt, tt) all
+  ask-sound n a (Err e) = failed-sound w j _ None placed all
+
+  until-sound : (n : ServerNo) (o : Option Coord) → KeepsSound w (settled j (after_until w j rest n o))
+  until-sound n None = going-sound w None [] (next j rest) placed tt tt all
+  until-sound n (Some to) = ask-sound n (asking.StartUntil to) (desk_answer (server_at w n.0))
+
+  wait-sound : (n : ServerNo) (reached : Status → Bool) (r : Option Status) → seen_in (status w n.0) ≡ r → KeepsSound w (settled j (after_wait j rest n reached r))
+  wait-sound n reached None is = failed-sound w j _ None placed all
+  wait-sound n reached (Some s) is = go (reached s)
+    where
+      more : (b : Bool) → KeepsSound w (settled j (cond b (Goes None [] (record (saw j n s) { waited = j.waited + 1 })) (Stops (cause.WaitSpent n) None)))
+      more true = going-sound w None [] (record (saw j n s) { waited = j.waited + 1 }) placed tt tt (saw-bridged n s is)
+      more false = failed-sound w j _ None placed all
+
+      go : (b : Bool) → KeepsSound w (settled j (after_wait_by j rest n s b))
+      go true = going-sound w None [] (next (saw j n s) rest) placed tt tt (saw-bridged n s is)
+      go false = more (nat_lt (j.waited + 1) j.wait)
+
+  attach-sound : (n : ServerNo) (o : Option Exchange) → ((e : Exchange) → o ≡ Some e → JoinsWell w e) → KeepsSound w (settled j (after_attach w j rest n o))
+  attach-sound n None joins = going-sound w None [] (next j rest) placed tt tt all
+  attach-sound n (Some e) joins = by (can_attach w e) refl
+    where
+      go : Allowed w e → (r : Result (Unit {0}) AttachFault) → KeepsSound w (settled j (after_answer j rest n e r))
+      go allowed (Ok t) = going-sound w None (e ∷ []) (next j rest) placed (allowed, tt) (joins e refl, tt) all
+      go allowed (Err f) = failed-sound w j _ None placed all
+
+      by : (b : Bool) → can_attach w e ≡ b → KeepsSound w (settled j (cond b (after_answer j rest n e (attach_answer_of w e)) (Goes None [] (next j rest))))
+      by true can = go (can-allowed w e can) (attach_answer_of w e)
+      by false can = going-sound w None [] (next j rest) placed tt tt all
+
+pub deed-sound : (w : World) (read : ℕ) (now : Moment) (j : Job) (rest : List Op) (d : Deed) → Safe w → Placed w → AllShow w j.seen → AllBridged w j.seen → IsDue w j rest d
+    → KeepsSound w (settled j (by_deed w read now j rest d))
+deed-sound w read now j rest (deed.Look n from) safe placed shown all due = look-sound w j rest safe placed shown all n from (observed w read now n) (seen_in (status w n.0)) refl
+deed-sound w read now j rest (deed.Request n a) safe placed shown all due = ask-sound w j rest safe placed shown all n a (desk_answer (server_at w n.0))
+deed-sound w read now j rest (deed.Until n to) safe placed shown all due = until-sound w j rest safe placed shown all n (until_by (seen_of j.seen n.0) (aim_of j.seen to))
+deed-sound w read now j rest (deed.Await n to) safe placed shown all due =
+    wait-sound w j rest safe placed shown all n (λ s. is_reached (aim_of j.seen to) s.exec) (seen_in (status w n.0)) refl
+deed-sound w read now j rest (deed.AwaitSet n m) safe placed shown all due = wait-sound w j rest safe placed shown all n (holds_seen (seen_of j.seen m.0)) (seen_in (status w n.0)) refl
+deed-sound w read now j rest (deed.Settle n) safe placed shown all due = wait-sound w j rest safe placed shown all n (settles j) (seen_in (status w n.0)) refl
+deed-sound w read now j rest (deed.Cross c a b) safe placed shown all due =
+    attach-sound w j rest safe placed shown all a (crossed c a (bridge_in (read_by c a b) (seen_of j.seen (read_by c a b).0)))
+    (λ e h. crossing-joins w j.seen safe all c a b e due.found h)
+deed-sound w read now j rest (deed.Same n) safe placed shown all due =
+    attach-sound w j rest safe placed shown all n (same_again n (seen_of j.seen n.0)) (same-joins w j.seen safe n)
+deed-sound w read now j rest (deed.Auto n m) safe placed shown all due =
+    attach-sound w j rest safe placed shown all n (by_set n m (seen_of j.seen m.0)) (auto-joins w j.seen shown n m)
+deed-sound w read now j rest (deed.Finish lines) safe placed shown all due = record { joins = tt; bridged = all }
+
+pub turn-sound : (w : World) (read : ℕ) (now : Moment) (j : Job) → Safe w → Placed w → HeldJob w j → AllBridged w j.seen → KeepsSound w (turned w read now j)
+turn-sound w read now j safe placed held all = go j.ops refl
+  where
+    go : (ops : List Op) → j.ops ≡ ops → KeepsSound w (settled j (by_ops w read now j ops))
+    go [] is = record { joins = tt; bridged = all }
+    go (op ∷ rest) is = deed-sound w read now j rest (deed_of op) safe placed held.shown all (due-of w j op rest is held.left)
+
+-- ---- an attempt after which the job goes on, whatever its owner makes of the others
+
+pub goes-kept : (w : World) (read : ℕ) (now : Moment) (j k : Job) (rest : List Op) (d : Deed) (o : Option Observation) (es : List Exchange) → Placed w → AllShow w j.seen → IsDue w j rest d
+    → by_deed w read now j rest d ≡ Goes o es k → KeepsHeld w (going o es k)
+goes-kept w read now j k rest d o es placed shown due e = subst (λ (a : Attempt). KeepsHeld w (settled j a)) e (deed-kept w read now j rest d placed shown due)
+
+pub goes-sound : (w : World) (read : ℕ) (now : Moment) (j k : Job) (rest : List Op) (d : Deed) (o : Option Observation) (es : List Exchange) → Safe w → Placed w → AllShow w j.seen
+    → AllBridged w j.seen → IsDue w j rest d → by_deed w read now j rest d ≡ Goes o es k → KeepsSound w (going o es k)
+goes-sound w read now j k rest d o es safe placed shown all due e = subst (λ (a : Attempt). KeepsSound w (settled j a)) e (deed-sound w read now j rest d safe placed shown all due)

@@ -1,0 +1,58 @@
+-- What holds of jobs and readings in every world, quiet or not.
+use Rattle.std.specs.Prelude.{◌≡◌, ℕ, true, List, Option, Some}
+use Rattle.orch_base.specs.declared.server.ServerNo.{ServerNo}
+use Rattle.server_words.specs.declared.status.Status.{Status}
+use Rattle.server_model.specs.Attach.{IsTarget}
+use Rattle.server_model.specs.Safe.{Placed}
+use Rattle.server_model.specs.Worlds.{World}
+use Rattle.server_model.specs.Showing.{Shows}
+use Rattle.instance_keeper.specs.declared.bridge.Bridge.{Bridge}
+use Rattle.operations.specs.declared.sight.Sight.{Sight}
+use Rattle.operations.specs.Jobs.{Job, seen_of}
+use Rattle.operations.specs.Targets.{can_attach}
+use Rattle.operations.specs.Turns.{Attempt, Turned, after_answer, attach_answer_of}
+use Rattle.server_model.specs.Run.{Exchange, run, AllAllowed}
+use Rattle.operations.specs.declared.op.Op.{Op}
+use Rattle.operations.specs.Deeds.{Deed}
+use Rattle.job_laws.specs.Footing.{Footing, footing, finds, learn, are_held}
+
+-- what was seen of each server is shown
+abbrev pub AllShow : World → List Sight → Type 0
+AllShow w xs = (n : ℕ) (seen : Status) → seen_of xs n ≡ Some seen → Shows w n seen
+
+-- A job in flight: each operation that is left finds what it uses, and what it saw is shown.
+pub record HeldJob (w : World) (j : Job) : Type 0 where
+  pub left : are_held (footing w j.seen) j.ops ≡ true
+  pub shown : AllShow w j.seen
+
+-- both ends of a bridge have places in the logs of servers that log
+pub record Spans (w : World) (b : Bridge) : Type 0 where
+  pub own : IsTarget w b.no.0 b.own
+  pub exec : IsTarget w b.source.0 b.exec
+
+-- a turn of a job makes exchanges that are allowed, each in the world to which those before it led, and leaves the job
+-- held
+pub record KeepsHeld (w : World) (t : Turned) : Type 0 where
+  pub allowed : AllAllowed w t.exchanges
+  pub held : HeldJob (run w t.exchanges) t.job
+
+-- what is due: the operation finds what it uses, and those behind it once it is done; where it is due again, and finds
+-- what it uses, so it is with all that is left
+pub record IsDue (w : World) (j : Job) (rest : List Op) (d : Deed) : Type 0 where
+  pub found : finds (footing w j.seen) d ≡ true
+  pub left : are_held (learn (footing w j.seen) d) rest ≡ true
+  pub again : (g : Footing) → finds g d ≡ true → are_held (learn g d) rest ≡ true → are_held g j.ops ≡ true
+
+-- a job may take a turn by this operation, before those: its world is placed, and what it saw is shown
+pub record IsNext (w : World) (j : Job) (rest : List Op) (d : Deed) : Type 0 where
+  pub placed : Placed w
+  pub shown : AllShow w j.seen
+  pub due : IsDue w j rest d
+
+-- a change of source was found by what was seen; it's made, or stops its job by what it is answered: it isn't passed
+-- over
+pub record IsTried (w : World) (j : Job) (rest : List Op) (n : ServerNo) (o : Option Exchange) (a : Attempt) : Type 0 where
+  pub exchange : Exchange
+  pub found : o ≡ Some exchange
+  pub can : can_attach w exchange ≡ true
+  pub attempt : a ≡ after_answer j rest n exchange (attach_answer_of w exchange)

@@ -1,0 +1,6 @@
+pub mod Footing
+pub mod Held
+pub mod Sound
+pub mod Leases
+pub mod Flights
+pub mod Passages

@@ -1,0 +1,65 @@
+-- Runs of turns over servers with jobs in flight.
+use Rattle.std.specs.Prelude.{ℕ, Bool, if◌then◌else◌, List, [], ◌∷◌, slice_index_or, Option, Some, None}
+use Rattle.orch_base.specs.declared.server.Moment.{Moment}
+use Rattle.orch_base.specs.declared.server.ServerNo.{ServerNo}
+use Rattle.instance_keeper.specs.declared.observation.Observation.{Observation}
+use Rattle.server_model.specs.Run.{Exchange, Allowed, JoinsWell}
+use Rattle.operations.specs.Jobs.{Job}
+use Rattle.operations.specs.Turns.{observed, turned}
+use Rattle.job_laws.specs.Leases.{Begins, job_at}
+use Rattle.job_laws.specs.Flights.{Flight, exchanged, slotted, stored, forgotten, restarted, begun, after_turn}
+
+-- What a turn does: an exchange that is no job's; a poll that reads a server into its slot; a slot's reading that is
+-- stored or passed over; a server that is read and stored at once; an instance that is forgotten; a restart; a job
+-- that begins; and a job's turn, whose reading is stored or passed over.
+pub data Passage : Type 0 where
+  Exchanging : (e : Exchange) → Passage
+  Polling : (p : ℕ) (n : ServerNo) (read : ℕ) (now : Moment) → Passage
+  Storing : (p : ℕ) (keeps : Bool) → Passage
+  Discovering : (n : ServerNo) (read : ℕ) (now : Moment) → Passage
+  Forgetting : (n : ServerNo) → Passage
+  Restarting : Passage
+  Beginning : (list : List ServerNo) (j : Job) → Passage
+  Turning : (id read : ℕ) (now : Moment) (keeps : Bool) → Passage
+
+-- a reading is stored, where there is one and the book takes it
+abbrev pub stored_if : Bool → Flight → Option Observation → Flight
+stored_if keeps f None = f
+stored_if keeps f (Some o) = if keeps then stored f o else f
+
+abbrev pub slot_of : Flight → ℕ → Option Observation
+slot_of f p = slice_index_or f.slots p None
+
+abbrev pub turned_by : Flight → ℕ → ℕ → Moment → Bool → Option Job → Flight
+turned_by f id read now keeps None = f
+turned_by f id read now keeps (Some j) = stored_if keeps (after_turn f id (turned f.world read now j)) (turned f.world read now j).observation
+
+abbrev pub passed : Flight → Passage → Flight
+passed f (Exchanging e) = exchanged f e
+passed f (Polling p n read now) = slotted f p (Some (observed f.world read now n))
+passed f (Storing p keeps) = slotted (stored_if keeps f (slot_of f p)) p None
+passed f (Discovering n read now) = stored f (observed f.world read now n)
+passed f (Forgetting n) = forgotten f n
+passed f Restarting = restarted f
+passed f (Beginning list j) = begun f list j
+passed f (Turning id read now keeps) = turned_by f id read now keeps (job_at f.jobs id)
+
+-- an exchange that is no job's is allowed and joins well, and a job begins with held operations over servers that are
+-- free
+abbrev pub MayPass : Flight → Passage → Type 0
+MayPass f (Exchanging e) = Allowed f.world e × JoinsWell f.world e
+MayPass f (Beginning list j) = Begins f.world f.jobs f.leases list j
+MayPass f (Polling p n read now) = Unit {0}
+MayPass f (Storing p keeps) = Unit {0}
+MayPass f (Discovering n read now) = Unit {0}
+MayPass f (Forgetting n) = Unit {0}
+MayPass f Restarting = Unit {0}
+MayPass f (Turning id read now keeps) = Unit {0}
+
+abbrev pub passing : Flight → List Passage → Flight
+passing f [] = f
+passing f (p ∷ ps) = passing (passed f p) ps
+
+abbrev pub AllMayPass : Flight → List Passage → Type 0
+AllMayPass f [] = Unit {0}
+AllMayPass f (p ∷ ps) = MayPass f p × AllMayPass (passed f p) ps

@@ -1,0 +1,81 @@
+//! Changes of source by what was seen.
+
+ghost use Rattle.std.specs.Prelude.{◌≡◌, ℕ, List, Some, true, is_some};
+ghost use Rattle.orch_base.specs.declared.server.Moment.{Moment as AMoment};
+ghost use Rattle.orch_base.specs.declared.server.ServerNo.{ServerNo as Number};
+ghost use Rattle.instance_keeper.specs.declared.bridge.Bridge.{Bridge as ABridge};
+ghost use Rattle.server_model.specs.Run.{Exchange, Allowed, JoinsWell};
+ghost use Rattle.server_model.specs.Safe.{Safe};
+ghost use Rattle.server_model.specs.Worlds.{World};
+ghost use Rattle.operations.specs.declared.op.Crossing.{Crossing as ACrossing};
+ghost use Rattle.operations.specs.declared.sight.Sight.{Sight as ASight};
+ghost use Rattle.operations.specs.declared.op.Op.{Op as AnOp};
+ghost use Rattle.operations.specs.Deeds.{Auto, Cross, Same};
+ghost use Rattle.operations.specs.Jobs.{Job, seen_of};
+ghost use Rattle.operations.specs.Targets.{can_attach};
+ghost use Rattle.instance_keeper.specs.Bridges.{bridge_in};
+ghost use Rattle.operations.specs.Turns.{by_deed, crossing_of, same_again, by_set};
+ghost use Rattle.job_laws.specs.Footing.{finds, finds_crossing, footing};
+ghost use Rattle.job_laws.specs.Held.{AllShow, IsTried, Spans};
+ghost use Rattle.job_laws.specs.Sound.{AllBridged};
+
+/// A crossing that finds what it uses makes an attachment, which is allowed, and joins well in a safe world where
+/// what was seen is bridged; so do an attachment anew to a server's own source, and one by a set that was seen.
+pub fn crossings_are_well()
+    ensures crossing_found { (w : World) (xs : List ASight) (c : ACrossing) (a b : Number) →
+        AllShow w xs → finds_crossing (footing w xs) c a b ≡ true →
+        is_some (crossing_of xs c a b) ≡ true }
+    ensures crossing_allowed { (w : World) (xs : List ASight) (c : ACrossing) (a b : Number)
+        (e : Exchange) →
+        AllShow w xs → crossing_of xs c a b ≡ Some e → Allowed w e }
+    ensures crossing_joins { (w : World) (xs : List ASight) (c : ACrossing) (a b : Number)
+        (e : Exchange) →
+        Safe w → AllBridged w xs → finds_crossing (footing w xs) c a b ≡ true →
+        crossing_of xs c a b ≡ Some e → JoinsWell w e }
+    ensures same_allowed { (w : World) (xs : List ASight) (n : Number) (e : Exchange) →
+        AllShow w xs → same_again n (seen_of xs n.0) ≡ Some e → Allowed w e }
+    ensures same_joins { (w : World) (xs : List ASight) (n : Number) (e : Exchange) → Safe w →
+        same_again n (seen_of xs n.0) ≡ Some e → JoinsWell w e }
+    ensures auto_allowed { (w : World) (xs : List ASight) (n m : Number) (e : Exchange) →
+        finds (footing w xs) (Auto n m) ≡ true → by_set n m (seen_of xs m.0) ≡ Some e →
+        Allowed w e }
+    ensures auto_joins { (w : World) (xs : List ASight) (n m : Number) (e : Exchange) →
+        AllShow w xs → by_set n m (seen_of xs m.0) ≡ Some e → JoinsWell w e }
+{}
+
+/// Each change of source that is found by what was seen can be made: the coordinate has its place in the log of the new
+/// source, and by a set GTIDs are used and the new source logs.
+pub fn found_attachments_can_be_made()
+    ensures crossing { (w : World) (xs : List ASight) (c : ACrossing) (a b : Number) (e : Exchange) →
+        AllShow w xs → crossing_of xs c a b ≡ Some e → can_attach w e ≡ true }
+    ensures same { (w : World) (xs : List ASight) (n : Number) (e : Exchange) →
+        AllShow w xs → same_again n (seen_of xs n.0) ≡ Some e → can_attach w e ≡ true }
+    ensures auto { (w : World) (xs : List ASight) (n m : Number) (e : Exchange) →
+        finds (footing w xs) (Auto n m) ≡ true → by_set n m (seen_of xs m.0) ≡ Some e →
+        can_attach w e ≡ true }
+{}
+
+/// A job that finds what it uses passes over no change of source: each is made, or stops the job by what it is
+/// answered.
+pub fn held_attachments_are_tried()
+    ensures crossing { (w : World) (read : ℕ) (now : AMoment) (j : Job) (rest : List AnOp)
+        (c : ACrossing) (a b : Number) →
+        AllShow w j.seen → finds (footing w j.seen) (Cross c a b) ≡ true →
+        IsTried w j rest a (crossing_of j.seen c a b) (by_deed w read now j rest (Cross c a b)) }
+    ensures same { (w : World) (read : ℕ) (now : AMoment) (j : Job) (rest : List AnOp)
+        (n : Number) →
+        AllShow w j.seen → finds (footing w j.seen) (Same n) ≡ true →
+        IsTried w j rest n (same_again n (seen_of j.seen n.0))
+        (by_deed w read now j rest (Same n)) }
+    ensures auto { (w : World) (read : ℕ) (now : AMoment) (j : Job) (rest : List AnOp)
+        (n m : Number) →
+        finds (footing w j.seen) (Auto n m) ≡ true →
+        IsTried w j rest n (by_set n m (seen_of j.seen m.0))
+        (by_deed w read now j rest (Auto n m)) }
+{}
+
+/// Both ends of a bridge that a job saw have places in the logs of servers that log.
+pub fn seen_bridges_have_places()
+    ensures { (w : World) (xs : List ASight) (n : Number) (b : ABridge) → AllShow w xs →
+        bridge_in n (seen_of xs n.0) ≡ Some b → Spans w b }
+{}

@@ -1,0 +1,72 @@
+//! Operations, each in a turn of its job.
+
+ghost use Rattle.std.specs.Prelude.{◌≡◌, ℕ, ◌+◌, ◌<◌, ◌≤◌, List, [], Option, Some, None, true, false};
+ghost use Rattle.orch_base.specs.declared.server.ServerNo.{ServerNo as Number};
+ghost use Rattle.server_words.specs.declared.status.Status.{Status as Showed};
+ghost use Rattle.commands.specs.declared.cause.Cause.TheVariants as cause;
+ghost use Rattle.opening_book.specs.Seeing.{seen_in};
+ghost use Rattle.server_model.specs.Gtids.{status};
+ghost use Rattle.orch_base.specs.declared.server.Moment.{Moment as AMoment};
+ghost use Rattle.instance_keeper.specs.declared.observation.Observation.{Observation as Reading};
+ghost use Rattle.server_model.specs.Run.{Exchange, run, AllAllowed};
+ghost use Rattle.server_model.specs.Safe.{Safe, Placed};
+ghost use Rattle.server_model.specs.Worlds.{World};
+ghost use Rattle.operations.specs.declared.op.Op.{Op as AnOp};
+ghost use Rattle.operations.specs.Deeds.{Deed, Settle};
+ghost use Rattle.operations.specs.Jobs.{Job};
+ghost use Rattle.operations.specs.Turns.{Goes, Stops, going, next, saw, turned, settled, by_deed, is_settled};
+ghost use Rattle.job_laws.specs.Held.{HeldJob, KeepsHeld, IsNext};
+ghost use Rattle.job_laws.specs.Sound.{AllBridged, KeepsSound, IsNextSafely};
+ghost use Rattle.job_laws.specs.Leases.{Leases, HasLeases, KeepsLeases};
+
+/// A turn of a held job makes allowed exchanges and leaves it held, quiet or not, by whatever operation is due and
+/// whatever held operations are left behind it. It changes only servers that are leased to the job. What others do
+/// meanwhile leaves it held. The exchanges are allowed for any job, held or not.
+pub fn each_operation_keeps_held()
+    ensures allowed { (w : World) (read : ℕ) (now : AMoment) (j : Job) →
+        AllAllowed w (turned w read now j).exchanges }
+    ensures turn { (w : World) (read : ℕ) (now : AMoment) (j : Job) → Placed w → HeldJob w j →
+        KeepsHeld w (turned w read now j) }
+    ensures deed { (w : World) (read : ℕ) (now : AMoment) (j : Job) (rest : List AnOp) (d : Deed) →
+        IsNext w j rest d → KeepsHeld w (settled j (by_deed w read now j rest d)) }
+    ensures goes { (w : World) (read : ℕ) (now : AMoment) (j k : Job) (rest : List AnOp) (d : Deed)
+        (o : Option Reading) (es : List Exchange) →
+        IsNext w j rest d → by_deed w read now j rest d ≡ Goes o es k → KeepsHeld w (going o es k) }
+    ensures leases { (l : Leases) (w : World) (read : ℕ) (now : AMoment) (j : Job) → HasLeases l j →
+        KeepsLeases l j.id (turned w read now j) }
+    ensures others { (w : World) (es : List Exchange) (j : Job) → Placed w → AllAllowed w es →
+        HeldJob w j → HeldJob (run w es) j }
+{}
+
+/// In a safe world each attachment that a turn makes joins well, and every bridge that the job saw stands afterwards.
+pub fn each_operation_keeps_sound()
+    ensures turn { (w : World) (read : ℕ) (now : AMoment) (j : Job) → Safe w → Placed w →
+        HeldJob w j → AllBridged w j.seen → KeepsSound w (turned w read now j) }
+    ensures deed { (w : World) (read : ℕ) (now : AMoment) (j : Job) (rest : List AnOp) (d : Deed) →
+        IsNextSafely w j rest d → KeepsSound w (settled j (by_deed w read now j rest d)) }
+    ensures goes { (w : World) (read : ℕ) (now : AMoment) (j k : Job) (rest : List AnOp) (d : Deed)
+        (o : Option Reading) (es : List Exchange) →
+        IsNextSafely w j rest d → by_deed w read now j rest d ≡ Goes o es k →
+        KeepsSound w (going o es k) }
+{}
+
+/// The wait for a server that has a settled applier ends where the applier is off or has executed all that was read,
+/// and by its last wait in any case; it fails only where the server isn't reached.
+pub fn settling_ends()
+    ensures unreached { (w : World) (read : ℕ) (now : AMoment) (j : Job) (rest : List AnOp)
+        (n : Number) →
+        seen_in (status w n.0) ≡ None →
+        by_deed w read now j rest (Settle n) ≡ Stops (cause.Unreachable n) None }
+    ensures settled { (w : World) (read : ℕ) (now : AMoment) (j : Job) (rest : List AnOp)
+        (n : Number) (s : Showed) →
+        seen_in (status w n.0) ≡ Some s → is_settled s ≡ true →
+        by_deed w read now j rest (Settle n) ≡ Goes None [] (next (saw j n s) rest) }
+    ensures last { (w : World) (read : ℕ) (now : AMoment) (j : Job) (rest : List AnOp) (n : Number)
+        (s : Showed) →
+        seen_in (status w n.0) ≡ Some s → j.wait ≤ j.waited + 1 →
+        by_deed w read now j rest (Settle n) ≡ Goes None [] (next (saw j n s) rest) }
+    ensures waits { (w : World) (read : ℕ) (now : AMoment) (j : Job) (rest : List AnOp) (n : Number)
+        (s : Showed) →
+        seen_in (status w n.0) ≡ Some s → is_settled s ≡ false → j.waited + 1 < j.wait →
+        by_deed w read now j rest (Settle n) ≡ Goes None [] (record (saw j n s) { waited = j.waited + 1 }) }
+{}

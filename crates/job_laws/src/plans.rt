@@ -1,0 +1,35 @@
+//! Plans leave operations that are held.
+
+ghost use Rattle.std.specs.Prelude.{◌≡◌, ◌==◌, ◌++◌, List, true, false};
+ghost use Rattle.orch_base.specs.declared.server.ServerNo.{ServerNo as Number};
+ghost use Rattle.commands.specs.declared.line.Line.{Line as ALine};
+ghost use Rattle.operations.specs.declared.op.Op.{Op as AnOp};
+ghost use Rattle.operations.specs.Deeds.{deed_of};
+ghost use Rattle.operations.specs.Plans.{up, under, again, auto, swap, asking, finished};
+ghost use Rattle.job_laws.specs.Footing.{Footing, SameBase, finds, are_held};
+
+/// The plans' operations are held whatever was read before: a move up of a server that isn't its own source, a move
+/// below a server that logs, an attachment anew, one by GTIDs to a server that logs, and a swap of a server that logs
+/// and its source.
+pub fn plans_are_held()
+    ensures up { (f : Footing) (i x g : Number) → (i.0 == x.0) ≡ false →
+        are_held f (up i x g) ≡ true }
+    ensures up_of_itself { (f : Footing) (i g : Number) → are_held f (up i i g) ≡ false }
+    ensures under { (f : Footing) (i d s : Number) → f.logs d.0 ≡ true →
+        are_held f (under i d s) ≡ true }
+    ensures again { (f : Footing) (i x : Number) → are_held f (again i x) ≡ true }
+    ensures auto { (f : Footing) (r d : Number) → f.gtid ≡ true → f.logs d.0 ≡ true →
+        are_held f (auto r d) ≡ true }
+    ensures swap { (f : Footing) (i x g : Number) → (i.0 == x.0) ≡ false → f.logs i.0 ≡ true →
+        are_held f (swap i x g) ≡ true }
+    ensures asking { (f : Footing) (op : AnOp) (i : Number) → finds f (deed_of op) ≡ true →
+        are_held f (asking op i) ≡ true }
+{}
+
+/// Plans one after another are held where each is held whatever was read, and so they are with the lines behind them.
+pub fn plans_join()
+    ensures append { (f : Footing) (ps qs : List AnOp) → are_held f ps ≡ true →
+        ((g : Footing) → SameBase f g → are_held g qs ≡ true) → are_held f (ps ++ qs) ≡ true }
+    ensures finished { (f : Footing) (ops : List AnOp) (lines : List ALine) →
+        are_held f ops ≡ true → are_held f (finished ops lines) ≡ true }
+{}

@@ -1,0 +1,38 @@
+//! What a turn is to do.
+
+use binlog_coords::Coord;
+use instance_keeper::Observation;
+use operations::{JobStep, Sight};
+use orch_base::ServerNo;
+use server_words::{Ask, Spot};
+
+/// What a turn does to servers and to its job.
+#[derive(Drop)]
+pub(crate) enum Act {
+    /// The job ends, and each server in its hands is started.
+    Fail,
+    /// The job ends.
+    End,
+    /// The operation is done, and nothing changes.
+    Pass,
+    /// The operation is done: this was seen.
+    Keep(Sight),
+    /// This was seen, and the operation is due again.
+    Wait(Sight),
+    /// The operation is done: this is asked of a server.
+    Ask(ServerNo, Ask),
+    /// The first server, which stands at the spot, goes below the second, at the coordinate.
+    Attach(ServerNo, Spot, ServerNo, Coord),
+    /// The first server goes below the second, by the GTIDs that were seen of it.
+    Auto(ServerNo, ServerNo),
+}
+
+/// What the next turn of a job comes to. Only `Job::look` makes one.
+#[derive(Drop)]
+pub struct Look {
+    /// Whether the job goes on, is done or failed.
+    pub step: JobStep,
+    /// What the turn observes for the book, if it reads a status.
+    pub observation: Option<Observation>,
+    pub(crate) act: Act,
+}

@@ -1,0 +1,15 @@
+//! Jobs: a plan's operations, done one a turn, each turn looked up before it is taken.
+#![tactic(auto)]
+
+mod act;
+mod job;
+mod looks;
+mod threads;
+mod turns;
+
+pub use act::Look;
+pub use commands::{Cause, Command, CommandName, Refusal};
+pub use job::Job;
+pub use operations::{Aim, Crossing, JobStep, Op, Sight};
+/// Want of memory.
+pub use orch_base::Memory;

@@ -1,0 +1,4 @@
+pub mod Firsts
+pub mod Begun
+pub mod Numbered
+pub mod PlansOf

@@ -1,0 +1,78 @@
+-- The plans of permitted commands.
+use Rattle.std.proofs.Common.{◌≡◌, ℕ, Bool, true, false, not, [], ◌∷◌, sym, ◌∙◌, ap, Option, Some, None}
+use Rattle.std.specs.Prelude.{map}
+use Rattle.std.specs.Option.{option_and_then}
+use Rattle.std.proofs.lemmas.Bool.{false≢true, eqb-true}
+use Rattle.orch_base.specs.declared.server.ServerNo.{ServerNo}
+use Rattle.commands.specs.declared.line.Line.TheVariants.{Follows}
+use Rattle.commands.specs.declared.name.CommandName.TheVariants as name
+use Rattle.commands.specs.declared.refusal.Refusal.TheVariants as refusal
+use Rattle.instance_keeper.specs.Book.{Known}
+use Rattle.operations.specs.Plans.{again, auto, finished, under, up}
+use Rattle.permission.specs.Checks.{are_one, first_refusal, is_given, refusal_by, unknown_in}
+use Rattle.permission.specs.Views.{attached_of, source_above, source_of}
+use Rattle.server_model.specs.Worlds.{World}
+use Rattle.moves_coords.specs.Permits.{by_gtids, case_of, refusal_about, refusal_of, row_of}
+use Rattle.moves_coords.specs.Plans.{moved_below, moved_up, plan_of, repointed, repointed_by}
+use Rattle.moves_coords.specs.declared.command.CoordsCommand.TheVariants as command
+use Rattle.move_laws.specs.Given.{given}
+use Rattle.move_laws.proofs.Begun.{above-by}
+use Rattle.move_laws.proofs.Firsts.{each-none, given-by, neither, not-false, test-false}
+
+-- servers with one number are one
+same-server : (a c : ServerNo) → a.0 ≡ c.0 → a ≡ c
+same-server a c e = ap (λ (n : ℕ). let s : ServerNo = record { 0 = n } in s) e
+
+given-is : (a : ServerNo) (o : Option ServerNo) → is_given a o ≡ true → o ≡ Some a
+given-is a None h = absurd (false≢true h)
+given-is a (Some c) h = ap Some (same-server c a (eqb-true c.0 a.0 h))
+
+are-one : (x : ServerNo) (o p : Option ServerNo) → o ≡ Some x → are_one o p ≡ true → p ≡ Some x
+are-one x o p e h = given-is x p (sym (ap (λ q. are_one q p) e) ∙ h)
+
+pub plan-up : (w : World) (b : Known) (i : ServerNo) → refusal_of w b (given name.MoveUp i None) ≡ None
+    → (x : ServerNo) × (g : ServerNo) × (source_of b i ≡ Some x) × (attached_of b x ≡ Some g)
+    × (plan_of w b (given name.MoveUp i None) ≡ finished (up i x g) (Follows i g ∷ []))
+plan-up w b i h =
+    let row = (neither (unknown_in b (given name.MoveUp i None)) (refusal_about w b command.MoveUp (Some i) None) h).1 in
+    let t = each-none (map (refusal_by w b (case_of b command.MoveUp i None)) (row_of (by_gtids w b i) command.MoveUp)) row in
+    let x = given-by (source_of b i) refusal.NoSource t.1.1.0 in
+    let g = given-by (option_and_then (attached_of b) (source_of b i)) refusal.SourceHasNoSource t.1.1.1.1.0 in
+    let here : attached_of b x.0 ≡ Some g.0 = sym (ap (option_and_then (attached_of b)) x.1) ∙ g.1 in
+    let plan : moved_up i (source_of b i) (source_above b i) ≡ finished (up i x.0 g.0) (Follows i g.0 ∷ []) =
+    ap (λ o. moved_up i o (source_above b i)) x.1 ∙ ap (moved_up i (Some x.0)) (above-by b i x.0 g.0 x.1 g.1)
+    in
+    (x.0, g.0, x.1, here, plan)
+
+pub plan-under : (w : World) (b : Known) (i d : ServerNo) → refusal_of w b (given name.MoveBelow i (Some d)) ≡ None
+    → (x : ServerNo) × (source_of b i ≡ Some x) × (attached_of b d ≡ Some x) × (plan_of w b (given name.MoveBelow i (Some d)) ≡ finished (under i d x) (Follows i d ∷ []))
+plan-under w b i d h =
+    let row = (neither (unknown_in b (given name.MoveBelow i (Some d))) (refusal_about w b command.MoveBelow (Some i) (Some d)) h).1 in
+    let t = each-none (map (refusal_by w b (case_of b command.MoveBelow i (Some d))) (row_of (by_gtids w b i) command.MoveBelow)) row in
+    let x = given-by (source_of b i) refusal.NoSource t.1.1.1.0 in
+    let one = not-false (are_one (source_of b i) (attached_of b d)) (test-false (not (are_one (source_of b i) (attached_of b d))) refusal.NotSibling t.1.1.1.1.1.1.1.0) in
+    let plan : moved_below i (Some d) (source_of b i) ≡ finished (under i d x.0) (Follows i d ∷ []) = ap (moved_below i (Some d)) x.1 in
+    (x.0, x.1, are-one x.0 (source_of b i) (attached_of b d) x.1 one, plan)
+
+repoint-row : (w : World) (b : Known) (i d : ServerNo) (way : Bool) → by_gtids w b i ≡ way → refusal_of w b (given name.Repoint i (Some d)) ≡ None
+    → first_refusal w b (case_of b command.Repoint i (Some d)) (row_of way command.Repoint) ≡ None
+repoint-row w b i d way e h =
+    ap (λ g. first_refusal w b (case_of b command.Repoint i (Some d)) (row_of g command.Repoint)) (sym e)
+    ∙ (neither (unknown_in b (given name.Repoint i (Some d))) (refusal_about w b command.Repoint (Some i) (Some d)) h).1
+
+pub plan-again : (w : World) (b : Known) (i d : ServerNo) → by_gtids w b i ≡ false → refusal_of w b (given name.Repoint i (Some d)) ≡ None
+    → (source_of b i ≡ Some d) × (plan_of w b (given name.Repoint i (Some d)) ≡ finished (again i d) (Follows i d ∷ []))
+plan-again w b i d e h =
+    let t = each-none (map (refusal_by w b (case_of b command.Repoint i (Some d))) (row_of false command.Repoint)) (repoint-row w b i d false e h) in
+    let x = given-by (source_of b i) refusal.NoSource t.1.1.1.0 in
+    let one = not-false (are_one (source_of b i) (Some d)) (test-false (not (are_one (source_of b i) (Some d))) refusal.NotSameLog t.1.1.1.1.1.0) in
+    let is : Some d ≡ Some x.0 = are-one x.0 (source_of b i) (Some d) x.1 one in
+    let at : source_of b i ≡ Some d = x.1 ∙ sym is in
+    let plan : repointed_by (by_gtids w b i) i (Some d) (source_of b i) ≡ finished (again i d) (Follows i d ∷ []) =
+    ap (λ g. repointed_by g i (Some d) (source_of b i)) e ∙ ap (repointed i) at
+    in
+    (at, plan)
+
+pub plan-auto : (w : World) (b : Known) (i d : ServerNo) → by_gtids w b i ≡ true → refusal_of w b (given name.Repoint i (Some d)) ≡ None
+    → plan_of w b (given name.Repoint i (Some d)) ≡ finished (auto i d) (Follows i d ∷ [])
+plan-auto w b i d e h = ap (λ g. repointed_by g i (Some d) (source_of b i)) e

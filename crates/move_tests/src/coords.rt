@@ -1,0 +1,401 @@
+//! The commands that move or change one server by coordinates.
+
+use crate::made::{
+    Server, auto, book_of, detached, leased, master, old, replica, unreached, with_set,
+    without_log, world_of,
+};
+use crate::told::{print_op, print_refusal};
+use book_views::book_forest;
+use commands::{Command, CommandName};
+use instance_keeper::Book;
+use moves_coords::{PermitFault, coords_command, leases, permit, plan};
+use operations::Op;
+use orch_base::{Moment, ServerNo};
+use server_model::World;
+use std::alloc::Global;
+use std::process::Abort;
+use std::test::*;
+
+// The servers' names, by number.
+const NAMES: [&str; 24] = [
+    "m", "s", "r", "t", "x", "z", "u", "v", "l", "k", "w", "a", "b", "c", "y", "q", "h", "n", "e",
+    "o", "g", "j", "p", "f",
+];
+
+fn number_of(name: &str) -> Option<ServerNo> {
+    for (number, other) in NAMES.iter().enumerate() {
+        if *other == name {
+            return Some(ServerNo(number as u32));
+        }
+    }
+    None
+}
+
+const GTIDS_OF_MASTER: &str = "00000000-0000-0000-0000-000000000015:1-3";
+
+const GTIDS_OF_G: &str =
+    "00000000-0000-0000-0000-000000000001:1-9,00000000-0000-0000-0000-000000000015:1-5";
+
+const GTIDS_OF_F: &str = "00000000-0000-0000-0000-000000000001:1-9";
+
+// x is detached from m; z is of another cluster; u is no instance.
+fn with_first(mut servers: Vec<Server<'static>>) -> Result<Vec<Server<'static>>, Fail> {
+    servers.push(with_set(master("m", 1), GTIDS_OF_MASTER))?;
+    servers.push(replica("s", 2, 0))?;
+    servers.push(replica("r", 3, 1))?;
+    servers.push(replica("t", 4, 0))?;
+    servers.push(detached(master("x", 5), 0))?;
+    servers.push(Server {
+        cluster: "other",
+        ..replica("z", 6, 0)
+    })?;
+    servers.push(Server {
+        known: false,
+        ..master("u", 7)
+    })?;
+    Ok(servers)
+}
+
+// Some under m.
+fn with_second(mut servers: Vec<Server<'static>>) -> Result<Vec<Server<'static>>, Fail> {
+    servers.push(unreached(replica("v", 8, 0)))?;
+    servers.push(without_log(replica("l", 9, 0)))?;
+    servers.push(replica("k", 2, 0))?;
+    servers.push(old(replica("w", 11, 0)))?;
+    Ok(servers)
+}
+
+// a is its own source, b and c are each other's; y is under u, q under x.
+fn with_third(mut servers: Vec<Server<'static>>) -> Result<Vec<Server<'static>>, Fail> {
+    servers.push(replica("a", 12, 11))?;
+    servers.push(replica("b", 13, 13))?;
+    servers.push(replica("c", 14, 12))?;
+    servers.push(replica("y", 15, 6))?;
+    servers.push(replica("q", 16, 4))?;
+    Ok(servers)
+}
+
+// n is under h, e and o are under s.
+fn with_fourth(mut servers: Vec<Server<'static>>) -> Result<Vec<Server<'static>>, Fail> {
+    servers.push(leased(replica("h", 17, 0), 7))?;
+    servers.push(replica("n", 18, 16))?;
+    servers.push(replica("e", 1, 1))?;
+    servers.push(old(replica("o", 20, 1)))?;
+    Ok(servers)
+}
+
+// Those that find their place by GTIDs, and j under g.
+fn with_fifth(mut servers: Vec<Server<'static>>) -> Result<Vec<Server<'static>>, Fail> {
+    servers.push(auto(with_set(replica("g", 21, 0), GTIDS_OF_G)))?;
+    servers.push(replica("j", 22, 20))?;
+    servers.push(auto(old(replica("p", 23, 0))))?;
+    servers.push(auto(with_set(replica("f", 2, 0), GTIDS_OF_F)))?;
+    Ok(servers)
+}
+
+fn servers(alloc: Global) -> Result<Vec<Server<'static>>, Fail> {
+    let servers = with_first(Vec::new(alloc))?;
+    let servers = with_second(servers)?;
+    let servers = with_third(servers)?;
+    let servers = with_fourth(servers)?;
+    with_fifth(servers)
+}
+
+// A command, its instance and its destination, whether GTIDs are used, and what is wanted: the refusal, or the leases
+// and the operations.
+type Case = (&'static str, &'static str, &'static str, bool, &'static str);
+
+fn print_plan(out: &mut Vec<u8>, list: &[ServerNo], ops: &[Op]) -> Result<(), Fail> {
+    for no in list {
+        out.extend_from_slice(NAMES.get(no.0 as usize).copied().unwrap_or("?").as_bytes())?;
+    }
+    out.push(b':')?;
+    out.push(b' ')?;
+    'ops: for op in ops {
+        print_op(out, &NAMES, op)?;
+    }
+    Ok(())
+}
+
+// What a command is refused with, or its leases and its operations.
+fn told(
+    rt: &impl Abort,
+    alloc: Global,
+    book: &Book,
+    world: &World,
+    command: Command,
+) -> Result<Vec<u8>, Fail> {
+    let forest = book_forest(alloc, book)?;
+    assert!(rt; coords_command(command.name).is_some());
+    let mut out = Vec::new(alloc);
+    match permit(alloc, book, &forest, world, command, Moment(0)) {
+        Ok(()) => {
+            let list = leases(alloc, book, command)?;
+            let ops = plan(alloc, book, &forest, world, command)?;
+            print_plan(&mut out, &list, &ops)?;
+        }
+        Err(PermitFault::Refused(refusal)) => print_refusal(alloc, &mut out, &NAMES, &refusal)?,
+        Err(PermitFault::Memory) => out.extend_from_slice("memory".as_bytes())?,
+    }
+    Ok(out)
+}
+
+fn assert_case(rt: &impl Abort, alloc: Global, case: Case) -> Result<(), Fail> {
+    let (word, i, d, gtid, want) = case;
+    let servers = servers(alloc)?;
+    let book = book_of(rt, alloc, &servers)?;
+    let world = world_of(rt, alloc, &servers, gtid)?;
+    let Some(name) = CommandName::read(word) else {
+        assert!(rt; false, "no command {word}");
+        return Ok(());
+    };
+    let command = Command {
+        name,
+        i: number_of(i),
+        d: number_of(d),
+    };
+    let out = told(rt, alloc, &book, &world, command)?;
+    assert_eq!(rt; str::from_utf8(&out).ok(), Some(want), "{word} {i} {d}");
+    Ok(())
+}
+
+fn assert_cases(rt: &impl Abort, alloc: Global, cases: &[Case]) -> Result<(), Fail> {
+    for case in cases {
+        assert_case(rt, alloc, *case)?;
+    }
+    Ok(())
+}
+
+const MOVE_UP: [Case; 15] = [
+    ("move-up", "u", "", false, "2"),
+    ("move-up", "", "", false, "2"),
+    ("move-up", "h", "", false, "4 h 7"),
+    ("move-up", "n", "", false, "4 h 7"),
+    ("move-up", "v", "", false, "5 v"),
+    ("move-up", "y", "", false, "5 u"),
+    ("move-up", "m", "", false, "6"),
+    ("move-up", "x", "", false, "8"),
+    ("move-up", "s", "", false, "11"),
+    ("move-up", "q", "", false, "11"),
+    ("move-up", "a", "", false, "15 a"),
+    ("move-up", "b", "", false, "15 b"),
+    ("move-up", "e", "", false, "15 e"),
+    ("move-up", "o", "", false, "16 o"),
+    (
+        "move-up",
+        "r",
+        "u",
+        true,
+        "rs: stop r;stop s;status s m;status r s;until r end of s;await r end of s;stop r;up r s;start r;start s;status r;finish r < m;",
+    ),
+];
+
+#[test]
+fn move_up(rt: HostRuntime) -> Result<(), Fail> {
+    assert_cases(&rt, rt.alloc(), &MOVE_UP)
+}
+
+const MOVE_BELOW: [Case; 19] = [
+    ("move-below", "s", "u", false, "2"),
+    ("move-below", "s", "", false, "2"),
+    ("move-below", "h", "h", false, "3"),
+    ("move-below", "m", "m", false, "3"),
+    ("move-below", "s", "h", false, "4 h 7"),
+    ("move-below", "v", "h", false, "4 h 7"),
+    ("move-below", "s", "v", false, "5 v"),
+    ("move-below", "m", "s", false, "6"),
+    ("move-below", "x", "z", false, "8"),
+    ("move-below", "s", "z", false, "9"),
+    ("move-below", "s", "r", false, "10"),
+    ("move-below", "g", "j", false, "10"),
+    ("move-below", "b", "c", false, "12"),
+    ("move-below", "r", "t", false, "12"),
+    ("move-below", "s", "x", false, "12"),
+    ("move-below", "s", "l", false, "14"),
+    ("move-below", "s", "k", false, "15 s"),
+    ("move-below", "w", "s", false, "16 w"),
+    (
+        "move-below",
+        "s",
+        "t",
+        false,
+        "st: stop s;stop t;status s m;status t m;until s exec of t;await s exec of t;until t exec of s;await t exec of s;stop s;stop t;status t m;down s t;start t;start s;status s;finish s < t;",
+    ),
+];
+
+#[test]
+fn move_below(rt: HostRuntime) -> Result<(), Fail> {
+    assert_cases(&rt, rt.alloc(), &MOVE_BELOW)
+}
+
+const REPOINT: [Case; 23] = [
+    ("repoint", "u", "", false, "2"),
+    ("repoint", "s", "u", false, "2"),
+    ("repoint", "s", "s", false, "3"),
+    ("repoint", "a", "", false, "3"),
+    ("repoint", "h", "", false, "4 h 7"),
+    ("repoint", "v", "", false, "5 v"),
+    ("repoint", "m", "", false, "6"),
+    ("repoint", "x", "", true, "8"),
+    ("repoint", "r", "t", false, "13"),
+    ("repoint", "f", "t", false, "13"),
+    ("repoint", "r", "t", true, "13"),
+    (
+        "repoint",
+        "y",
+        "",
+        false,
+        "y: stop y;status y u;same y;start y;status y;finish y < u;",
+    ),
+    (
+        "repoint",
+        "r",
+        "",
+        true,
+        "r: stop r;status r s;same r;start r;status r;finish r < s;",
+    ),
+    (
+        "repoint",
+        "r",
+        "s",
+        false,
+        "r: stop r;status r s;same r;start r;status r;finish r < s;",
+    ),
+    ("repoint", "f", "z", true, "9"),
+    ("repoint", "g", "j", true, "10"),
+    ("repoint", "f", "l", true, "14"),
+    ("repoint", "f", "k", true, "15 f"),
+    ("repoint", "p", "t", true, "16 p"),
+    (
+        "repoint",
+        "g",
+        "t",
+        true,
+        "18 00000000-0000-0000-0000-000000000015:1-5",
+    ),
+    (
+        "repoint",
+        "g",
+        "",
+        true,
+        "18 00000000-0000-0000-0000-000000000015:4-5",
+    ),
+    (
+        "repoint",
+        "f",
+        "t",
+        true,
+        "f: stop f;status f;await-set t f;status t;auto f t;start f;status f;finish f < t;",
+    ),
+    (
+        "repoint",
+        "f",
+        "",
+        true,
+        "f: stop f;status f;await-set m f;status m;auto f m;start f;status f;finish f < m;",
+    ),
+];
+
+#[test]
+fn repoint(rt: HostRuntime) -> Result<(), Fail> {
+    assert_cases(&rt, rt.alloc(), &REPOINT)
+}
+
+const SINGLE_SERVERS: [Case; 43] = [
+    ("detach-replica", "u", "", false, "2"),
+    ("detach-replica", "h", "", false, "4 h 7"),
+    ("detach-replica", "v", "", false, "5 v"),
+    ("detach-replica", "m", "", false, "6"),
+    ("detach-replica", "x", "", false, "8"),
+    (
+        "detach-replica",
+        "r",
+        "",
+        false,
+        "r: detach r;status r;finish r;",
+    ),
+    ("reattach-replica", "u", "", false, "2"),
+    ("reattach-replica", "h", "", false, "4 h 7"),
+    ("reattach-replica", "v", "", false, "5 v"),
+    ("reattach-replica", "m", "", false, "6"),
+    ("reattach-replica", "r", "", false, "7"),
+    (
+        "reattach-replica",
+        "x",
+        "",
+        false,
+        "x: reattach x;start x;status x;finish x;",
+    ),
+    ("reset-replica", "u", "", false, "2"),
+    ("reset-replica", "h", "", false, "4 h 7"),
+    ("reset-replica", "v", "", false, "5 v"),
+    ("reset-replica", "m", "", false, "6"),
+    (
+        "reset-replica",
+        "x",
+        "",
+        false,
+        "x: reset x;status x;finish x;",
+    ),
+    ("start-replica", "u", "", false, "2"),
+    ("start-replica", "h", "", false, "4 h 7"),
+    ("start-replica", "v", "", false, "5 v"),
+    ("start-replica", "m", "", false, "6"),
+    ("start-replica", "x", "", false, "8"),
+    (
+        "start-replica",
+        "r",
+        "",
+        false,
+        "r: start r;status r;finish r;",
+    ),
+    ("stop-replica", "u", "", false, "2"),
+    ("stop-replica", "h", "", false, "4 h 7"),
+    ("stop-replica", "v", "", false, "5 v"),
+    ("stop-replica", "m", "", false, "6"),
+    ("stop-replica", "x", "", false, "8"),
+    (
+        "stop-replica",
+        "r",
+        "",
+        false,
+        "r: stop r;status r;finish r;",
+    ),
+    ("restart-replica", "u", "", false, "2"),
+    ("restart-replica", "h", "", false, "4 h 7"),
+    ("restart-replica", "v", "", false, "5 v"),
+    ("restart-replica", "m", "", false, "6"),
+    ("restart-replica", "x", "", false, "8"),
+    (
+        "restart-replica",
+        "r",
+        "",
+        false,
+        "r: stop r;start r;status r;finish r;",
+    ),
+    ("set-read-only", "u", "", false, "2"),
+    ("set-read-only", "h", "", false, "4 h 7"),
+    ("set-read-only", "v", "", false, "5 v"),
+    (
+        "set-read-only",
+        "m",
+        "",
+        false,
+        "m: read-only m;status m;finish m;",
+    ),
+    ("set-writeable", "u", "", false, "2"),
+    ("set-writeable", "h", "", false, "4 h 7"),
+    ("set-writeable", "v", "", false, "5 v"),
+    (
+        "set-writeable",
+        "x",
+        "",
+        false,
+        "x: writeable x;status x;finish x;",
+    ),
+];
+
+#[test]
+fn single_servers(rt: HostRuntime) -> Result<(), Fail> {
+    assert_cases(&rt, rt.alloc(), &SINGLE_SERVERS)
+}

@@ -1,0 +1,9 @@
+//! Tests of the commands that move servers: what refuses each, and the operations of its plan.
+#![tactic(auto)]
+
+#[cfg(test)]
+mod coords;
+#[cfg(test)]
+mod made;
+#[cfg(test)]
+mod told;

@@ -1,0 +1,76 @@
+-- The plans of these commands.
+use Rattle.std.specs.Prelude.{Bool, true, false, List, [], ◌∷◌, Option, Some, None}
+use Rattle.std.specs.Option.{option_or}
+use Rattle.orch_base.specs.declared.server.ServerNo.{ServerNo}
+use Rattle.commands.specs.declared.line.Line.TheVariants.{Follows, Server}
+use Rattle.commands.specs.declared.turn.Command.{Command}
+use Rattle.instance_keeper.specs.Book.{Known}
+use Rattle.operations.specs.declared.op.Op.{Op}
+use Rattle.operations.specs.declared.op.Op.TheVariants as op
+use Rattle.operations.specs.Plans.{again, asking, auto, finished, under, up}
+use Rattle.server_model.specs.Worlds.{World}
+use Rattle.permission.specs.Views.{source_above, source_of}
+use Rattle.moves_coords.specs.declared.command.CoordsCommand.{CoordsCommand}
+use Rattle.moves_coords.specs.declared.command.CoordsCommand.TheVariants as command
+use Rattle.moves_coords.specs.Commands.{coords_command}
+use Rattle.moves_coords.specs.Permits.{by_gtids}
+
+-- i, which is below x, goes to x's source g
+abbrev pub moved_up : ServerNo → Option ServerNo → Option ServerNo → List Op
+moved_up i None g = []
+moved_up i (Some x) None = []
+moved_up i (Some x) (Some g) = finished (up i x g) (Follows i g ∷ [])
+
+-- i, which is below x, goes below d
+abbrev pub moved_below : ServerNo → Option ServerNo → Option ServerNo → List Op
+moved_below i None x = []
+moved_below i (Some d) None = []
+moved_below i (Some d) (Some x) = finished (under i d x) (Follows i d ∷ [])
+
+-- i, which is below x, goes on there by coordinates
+abbrev pub repointed : ServerNo → Option ServerNo → List Op
+repointed i None = []
+repointed i (Some x) = finished (again i x) (Follows i x ∷ [])
+
+-- i goes below d by GTIDs
+abbrev pub repointed_auto : ServerNo → Option ServerNo → List Op
+repointed_auto i None = []
+repointed_auto i (Some d) = finished (auto i d) (Follows i d ∷ [])
+
+abbrev pub repointed_by : Bool → ServerNo → Option ServerNo → Option ServerNo → List Op
+repointed_by true i d x = repointed_auto i (option_or d x)
+repointed_by false i d x = repointed i x
+
+-- one operation of i, and its name at the end
+abbrev pub asked : Op → ServerNo → List Op
+asked one i = finished (asking one i) (Server i ∷ [])
+
+-- one operation of i before it is started
+abbrev pub asked_started : Op → ServerNo → List Op
+asked_started first i = finished (first ∷ asking (op.Start i) i) (Server i ∷ [])
+
+-- a command's operations, by the instance and the destination that is given
+abbrev pub ops_of : World → Known → CoordsCommand → ServerNo → Option ServerNo → List Op
+ops_of w b command.MoveUp i d = moved_up i (source_of b i) (source_above b i)
+ops_of w b command.MoveBelow i d = moved_below i d (source_of b i)
+ops_of w b command.Repoint i d = repointed_by (by_gtids w b i) i d (source_of b i)
+ops_of w b command.DetachReplica i d = asked (op.Detach i) i
+ops_of w b command.ReattachReplica i d = asked_started (op.Reattach i) i
+ops_of w b command.ResetReplica i d = asked (op.Reset i) i
+ops_of w b command.StartReplica i d = asked (op.Start i) i
+ops_of w b command.StopReplica i d = asked (op.Stop i) i
+ops_of w b command.RestartReplica i d = asked_started (op.Stop i) i
+ops_of w b command.SetReadOnly i d = asked (op.ReadOnly i true) i
+ops_of w b command.SetWriteable i d = asked (op.ReadOnly i false) i
+
+abbrev pub plan_about : World → Known → CoordsCommand → Option ServerNo → Option ServerNo → List Op
+plan_about w b c None d = []
+plan_about w b c (Some i) d = ops_of w b c i d
+
+abbrev pub plan_in : World → Known → Command → Option CoordsCommand → List Op
+plan_in w b given None = []
+plan_in w b given (Some c) = plan_about w b c given.i given.d
+
+-- the operations of one of these commands, where nothing refuses it
+abbrev pub plan_of : World → Known → Command → List Op
+plan_of w b given = plan_in w b given (coords_command given.name)

@@ -1,0 +1,13 @@
+//! The commands that move or change one server by coordinates: what refuses each, and its plan.
+#![tactic(auto)]
+
+mod command;
+mod permits;
+mod plans;
+
+pub use command::{CoordsCommand, coords_command};
+/// Want of memory.
+pub use orch_base::Memory;
+pub use permission::PermitFault;
+pub use permits::{leases, permit};
+pub use plans::plan;

@@ -1,0 +1,164 @@
+//! The plans of the commands.
+
+ghost use Rattle.std.specs.Prelude.{◌≡◌, ◌∷◌, [], IfOk, IsSome, IsTrue, length, true};
+ghost use Rattle.book_views.specs.Forests.{book_forest};
+ghost use Rattle.commands.specs.Turns.{is_within};
+ghost use Rattle.operations.specs.Named.{are_named};
+ghost use Rattle.operations.specs.Plans.{asking, finished};
+ghost use Rattle.moves_coords.specs.Commands.{coords_command};
+ghost use Rattle.moves_coords.specs.Plans.{asked, asked_started, moved_below, moved_up, ops_of, plan_of, repointed, repointed_auto};
+
+use crate::Memory;
+use crate::command::{CoordsCommand, coords_command};
+use crate::permits::by_gtids;
+use commands::{Command, Line, Lines};
+use instance_keeper::Book;
+use operations::Op;
+use orch_base::ServerNo;
+use permission::{source, source_above};
+use plan_parts::{again, asking, auto, finished, restarted, under, up};
+use server_model::World;
+use std::alloc::Global;
+use topology_tree::Forest;
+
+fn one_line(alloc: Global, line: Line) -> Result<Lines, Memory>
+    ensures { IfOk result (λ lines. lines ≡ line ∷ []) }
+{
+    let mut lines = Vec::with_capacity(alloc, 1)?;
+    lines.push(line)?;
+    Ok(Lines::new(lines))
+}
+
+// The operations of a move, and its line at the end.
+fn moved(alloc: Global, ops: Vec<Op>, i: ServerNo, source: ServerNo) -> Result<Vec<Op>, Memory>
+    ensures { IfOk result (λ all. all.items ≡ finished ops.items (Line.Follows i source ∷ [])) }
+{
+    finished(ops, one_line(alloc, Line::Follows(i, source))?)
+}
+
+// To the source of its source.
+fn moved_up(
+    alloc: Global,
+    i: ServerNo,
+    x: Option<ServerNo>,
+    g: Option<ServerNo>,
+) -> Result<Vec<Op>, Memory>
+    ensures { IfOk result (λ ops. ops.items ≡ moved_up i x g) }
+{
+    match (x, g) {
+        (Some(x), Some(g)) => moved(alloc, up(alloc, i, x, g)?, i, g),
+        (Some(_), None) | (None, _) => Ok(Vec::new(alloc)),
+    }
+}
+
+// Below its sibling.
+fn moved_below(
+    alloc: Global,
+    i: ServerNo,
+    d: Option<ServerNo>,
+    x: Option<ServerNo>,
+) -> Result<Vec<Op>, Memory>
+    ensures { IfOk result (λ ops. ops.items ≡ moved_below i d x) }
+{
+    match (d, x) {
+        (Some(d), Some(x)) => moved(alloc, under(alloc, i, d, x)?, i, d),
+        (Some(_), None) | (None, _) => Ok(Vec::new(alloc)),
+    }
+}
+
+// Under its source anew, by coordinates.
+fn repointed(alloc: Global, i: ServerNo, x: Option<ServerNo>) -> Result<Vec<Op>, Memory>
+    ensures { IfOk result (λ ops. ops.items ≡ repointed i x) }
+{
+    match x {
+        Some(x) => moved(alloc, again(alloc, i, x)?, i, x),
+        None => Ok(Vec::new(alloc)),
+    }
+}
+
+// Below any server, by GTIDs.
+fn repointed_auto(alloc: Global, i: ServerNo, d: Option<ServerNo>) -> Result<Vec<Op>, Memory>
+    ensures { IfOk result (λ ops. ops.items ≡ repointed_auto i d) }
+{
+    match d {
+        Some(d) => moved(alloc, auto(alloc, i, d)?, i, d),
+        None => Ok(Vec::new(alloc)),
+    }
+}
+
+// One operation, and the instance's name at the end.
+fn asked(alloc: Global, op: Op, i: ServerNo) -> Result<Vec<Op>, Memory>
+    ensures { IfOk result (λ ops. ops.items ≡ asked op i) }
+{
+    finished(asking(alloc, op, i)?, one_line(alloc, Line::Server(i))?)
+}
+
+// One operation before the instance is started.
+fn asked_started(alloc: Global, op: Op, i: ServerNo) -> Result<Vec<Op>, Memory>
+    ensures { IfOk result (λ ops. ops.items ≡ asked_started op i) }
+{
+    finished(restarted(alloc, op, i)?, one_line(alloc, Line::Server(i))?)
+}
+
+fn ops_of(
+    alloc: Global,
+    book: &Book,
+    world: &World,
+    command: CoordsCommand,
+    i: ServerNo,
+    d: Option<ServerNo>,
+) -> Result<Vec<Op>, Memory>
+    ensures { IfOk result (λ ops. ops.items ≡ ops_of world.now book.now command i d) }
+{
+    let x = source(book, i);
+    match command {
+        CoordsCommand::MoveUp => moved_up(alloc, i, x, source_above(book, i)),
+        CoordsCommand::MoveBelow => moved_below(alloc, i, d, x),
+        CoordsCommand::Repoint => {
+            if by_gtids(book, world, i) {
+                repointed_auto(alloc, i, d.or(x))
+            } else {
+                repointed(alloc, i, x)
+            }
+        }
+        CoordsCommand::DetachReplica => asked(alloc, Op::Detach(i), i),
+        CoordsCommand::ReattachReplica => asked_started(alloc, Op::Reattach(i), i),
+        CoordsCommand::ResetReplica => asked(alloc, Op::Reset(i), i),
+        CoordsCommand::StartReplica => asked(alloc, Op::Start(i), i),
+        CoordsCommand::StopReplica => asked(alloc, Op::Stop(i), i),
+        CoordsCommand::RestartReplica => asked_started(alloc, Op::Stop(i), i),
+        CoordsCommand::SetReadOnly => asked(alloc, Op::ReadOnly(i, true), i),
+        CoordsCommand::SetWriteable => asked(alloc, Op::ReadOnly(i, false), i),
+    }
+}
+
+fn plan_of(alloc: Global, book: &Book, world: &World, command: Command) -> Result<Vec<Op>, Memory>
+    ensures { IfOk result (λ ops. ops.items ≡ plan_of world.now book.now command) }
+{
+    match (coords_command(command.name), command.i) {
+        (Some(kind), Some(i)) => ops_of(alloc, book, world, kind, i, command.d),
+        (Some(_), None) | (None, _) => Ok(Vec::new(alloc)),
+    }
+}
+
+/// The operations of one of these commands, ended by its lines: `r<s` of a move, else the instance's name. Of a command
+/// that is refused for want of a source there are none. Where its instances are servers of the book, so are all servers
+/// of the operations. `Err` is want of memory.
+pub fn plan(
+    alloc: Global,
+    book: &Book,
+    _forest: &Forest,
+    world: &World,
+    command: Command,
+) -> Result<Vec<Op>, Memory>
+    requires forest { _forest.now ≡ book_forest book.now }
+    requires here { IsSome (coords_command command.name) }
+    ensures plan { IfOk result (λ ops. ops.items ≡ plan_of world.now book.now command) }
+    ensures named { IsTrue (is_within (length book.now.names) command.i) →
+        IsTrue (is_within (length book.now.names) command.d) →
+        IfOk result (λ ops. are_named (length book.now.names) ops.items ≡ true) }
+{
+    // shows the proof that sources are known
+    let _ = book.servers();
+    plan_of(alloc, book, world, command)
+}

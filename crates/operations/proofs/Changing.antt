@@ -1,0 +1,170 @@
+-- A turn changes only servers that the job's operations may change or that are in its hands, and leaves no others.
+use Rattle.std.proofs.Common.{◌≡◌, ℕ, ◌+◌, Bool, true, false, cond, List, [], ◌∷◌, refl, sym, ap, subst, Option, Some, None, Ok, Err, Result, IfSome}
+use Rattle.std.specs.Prelude.{nat_lt, ◌==◌, not}
+use Rattle.std.specs.List.{All}
+use Rattle.std.proofs.lemmas.List.Elements.{All-nil, All-cons, All-head, All-tail, All-filter, All-map, All-push}
+use Rattle.binlog_coords.specs.declared.Coord.{Coord}
+use Rattle.orch_base.specs.declared.server.Moment.{Moment}
+use Rattle.orch_base.specs.declared.server.ServerNo.{ServerNo}
+use Rattle.instance_keeper.specs.declared.observation.Observation.{Observation}
+use Rattle.server_words.specs.declared.status.Status.{Status}
+use Rattle.opening_book.specs.Seeing.{seen_in}
+use Rattle.server_words.specs.declared.answers.Unreachable.{Unreachable}
+use Rattle.server_words.specs.declared.attach.AttachFault.{AttachFault}
+use Rattle.server_words.specs.declared.attach.Spot.TheVariants as spot
+use Rattle.server_words.specs.declared.changes.Ask.{Ask}
+use Rattle.server_words.specs.declared.changes.Ask.TheVariants as asking
+use Rattle.server_model.specs.Desk.{desk_answer}
+use Rattle.server_model.specs.Gtids.{status}
+use Rattle.server_model.specs.Run.{Exchange, Request, Attach, AttachAuto}
+use Rattle.server_model.specs.Worlds.{World, server_at}
+use Rattle.commands.specs.declared.cause.Cause.{Cause}
+use Rattle.commands.specs.declared.cause.Cause.TheVariants as cause
+use Rattle.operations.specs.declared.op.Crossing.{Crossing}
+use Rattle.operations.specs.declared.op.Crossing.TheVariants as cross
+use Rattle.operations.specs.declared.op.Op.{Op}
+use Rattle.instance_keeper.specs.declared.bridge.Bridge.{Bridge}
+use Rattle.operations.specs.Deeds as deed
+use Rattle.operations.specs.Deeds.{Deed, deed_of}
+use Rattle.orch_base.specs.declared.server.SourceState.{SourceState}
+use Rattle.orch_base.specs.declared.server.SourceState.TheVariants.{Without, Attached, Detached}
+use Rattle.instance_keeper.specs.Bridges.{bridge_in}
+use Rattle.operations.specs.Jobs.{Job, seen_of, without}
+use Rattle.operations.specs.Turns.{Turned, Goes, Stops, settled, next, saw, going, restarts, failed, observed, is_moved, after_status, after_look, hands_after, after_ask, aim_of, is_reached, until_by, after_until, after_wait_by, after_wait, holds_seen, settles, read_by, crossed, attached_anew, same_again, by_set, attach_answer_of, after_answer, after_attach, by_deed, by_ops, turned}
+use Rattle.operations.specs.Targets.{can_attach}
+use Rattle.operations.specs.Changes.{change_of, server_of}
+use Rattle.std.proofs.lemmas.Option.{same_Some}
+
+-- the server that an operation may change, if there is one, is of this kind
+abbrev pub ChangesOf : (ℕ → Type 0) → Op → Type 0
+ChangesOf P op = IfSome (change_of (deed_of op)) (λ n. P n.0)
+
+-- so is each that a turn leaves to its job, and each with which it has an exchange; and the job keeps its number
+pub record StaysOf (P : ℕ → Type 0) (number : ℕ) (t : Turned) : Type 0 where
+  pub id : t.job.id ≡ number
+  pub ops : All (ChangesOf P) t.job.ops
+  pub hands : All (λ n. P n.0) t.job.hands
+  pub exchanges : All (λ e. P (server_of e)) t.exchanges
+
+module _ (P : ℕ → Type 0) (j : Job) (rest : List Op) (ops : All (ChangesOf P) rest) (hands : All (λ n. P n.0) j.hands) where
+  abbrev IsOf : ServerNo → Type 0
+  IsOf n = P n.0
+
+  abbrev IsWith : Exchange → Type 0
+  IsWith e = P (server_of e)
+
+  restarts-stays : All IsWith (restarts j.hands)
+  restarts-stays = All-map IsWith (λ n. Request n.0 asking.Start) j.hands hands
+
+  failed-stays : (k : Job) → k.id ≡ j.id → k.hands ≡ j.hands → (c : Cause) (o : Option Observation) → StaysOf P j.id (failed k c o)
+  failed-stays k id same c o = record {
+    id = id;
+    ops = All-nil (ChangesOf P);
+    hands = All-nil IsOf;
+    exchanges = subst (λ (hs : List ServerNo). All IsWith (restarts hs)) (sym same) restarts-stays;
+  }
+
+  going-stays : (o : Option Observation) (k : Job) → k.id ≡ j.id → k.hands ≡ j.hands → All (ChangesOf P) k.ops → StaysOf P j.id (going o [] k)
+  going-stays o k id same left =
+      record { id = id; ops = left; hands = subst (λ (hs : List ServerNo). All IsOf hs) (sym same) hands; exchanges = All-nil IsWith }
+
+  one-stays : (e : Exchange) (hs : List ServerNo) → P (server_of e) → All IsOf hs → StaysOf P j.id (going None (e ∷ []) (record (next j rest) { hands = hs }))
+  one-stays e hs here all = record { id = refl; ops = ops; hands = all; exchanges = All-cons IsWith e [] here (All-nil IsWith) }
+
+  look-stays : (n : ServerNo) (from : Option ServerNo) (o : Observation) (r : Option Status) → StaysOf P j.id (settled j (after_look j rest n from o r))
+  look-stays n from o None = failed-stays j refl refl _ (Some o)
+  look-stays n from o (Some s) = go (is_moved from s.source)
+    where
+      go : (b : Bool) → StaysOf P j.id (settled j (after_status j rest n from o s b))
+      go true = failed-stays j refl refl _ (Some o)
+      go false = going-stays (Some o) (next (saw j n s) rest) refl refl ops
+
+  hands-stays : (n : ServerNo) (a : Ask) → IsOf n → All IsOf (hands_after j.hands n a)
+  hands-stays n (asking.Stop which) here = All-push IsOf (without j.hands n) n (All-filter (λ k. not (k.0 == n.0)) IsOf j.hands hands) here
+  hands-stays n asking.Start here = All-filter (λ k. not (k.0 == n.0)) IsOf j.hands hands
+  hands-stays n (asking.StartUntil to) here = hands
+  hands-stays n asking.Detach here = hands
+  hands-stays n asking.Reattach here = hands
+  hands-stays n asking.Reset here = hands
+  hands-stays n (asking.SetReadOnly on) here = hands
+
+  ask-stays : (n : ServerNo) (a : Ask) → IsOf n → (r : Result (Unit {0}) Unreachable) → StaysOf P j.id (settled j (after_ask j rest n a r))
+  ask-stays n a here (Ok t) = one-stays (Request n.0 a) (hands_after j.hands n a) here (hands-stays n a here)
+  ask-stays n a here (Err e) = failed-stays j refl refl _ None
+
+  until-stays : (w : World) (n : ServerNo) → IsOf n → (o : Option Coord) → StaysOf P j.id (settled j (after_until w j rest n o))
+  until-stays w n here None = going-stays None (next j rest) refl refl ops
+  until-stays w n here (Some to) = ask-stays n (asking.StartUntil to) here (desk_answer (server_at w n.0))
+
+  wait-stays : (n : ServerNo) (reached : Status → Bool) (r : Option Status) → All (ChangesOf P) j.ops → StaysOf P j.id (settled j (after_wait j rest n reached r))
+  wait-stays n reached None all = failed-stays j refl refl _ None
+  wait-stays n reached (Some s) all = go (reached s)
+    where
+      more : (b : Bool) → StaysOf P j.id (settled j (cond b (Goes None [] (record (saw j n s) { waited = j.waited + 1 })) (Stops (cause.WaitSpent n) None)))
+      more true = going-stays None (record (saw j n s) { waited = j.waited + 1 }) refl refl all
+      more false = failed-stays j refl refl _ None
+
+      go : (b : Bool) → StaysOf P j.id (settled j (after_wait_by j rest n s b))
+      go true = going-stays None (next (saw j n s) rest) refl refl ops
+      go false = more (nat_lt (j.waited + 1) j.wait)
+
+  attach-stays : (w : World) (n : ServerNo) (o : Option Exchange) → ((e : Exchange) → o ≡ Some e → server_of e ≡ n.0) → IsOf n → StaysOf P j.id (settled j (after_attach w j rest n o))
+  attach-stays w n None at here = going-stays None (next j rest) refl refl ops
+  attach-stays w n (Some e) at here = by (can_attach w e)
+    where
+      go : (r : Result (Unit {0}) AttachFault) → StaysOf P j.id (settled j (after_answer j rest n e r))
+      go (Ok t) = one-stays e j.hands (subst P (sym (at e refl)) here) hands
+      go (Err f) = failed-stays j refl refl _ None
+
+      by : (b : Bool) → StaysOf P j.id (settled j (cond b (after_answer j rest n e (attach_answer_of w e)) (Goes None [] (next j rest))))
+      by true = go (attach_answer_of w e)
+      by false = going-stays None (next j rest) refl refl ops
+
+-- a change of source is of the server that is named
+crossed-server : (c : Crossing) (a : ServerNo) (o : Option Bridge) (e : Exchange) → crossed c a o ≡ Some e → server_of e ≡ a.0
+crossed-server c a None e h = cc
+crossed-server cross.Up a (Some x) e h = sym (ap server_of (same_Some (Attach a.0 (spot.At x.no x.own) x.source x.exec) e h))
+crossed-server cross.Down a (Some x) e h = sym (ap server_of (same_Some (Attach a.0 (spot.At x.source x.exec) x.no x.own) e h))
+crossed-server cross.About a (Some x) e h = sym (ap server_of (same_Some (Attach a.0 (spot.OwnEnd x.exec) x.no x.own) e h))
+crossed-server cross.Back a (Some x) e h = sym (ap server_of (same_Some (Attach a.0 (spot.OwnEnd x.own) x.source x.exec) e h))
+
+anew-server : (n : ServerNo) (c : Coord) (from : SourceState) (e : Exchange) → attached_anew n c from ≡ Some e → server_of e ≡ n.0
+anew-server n c Without e h = cc
+anew-server n c (Attached m) e h = sym (ap server_of (same_Some (Attach n.0 (spot.At m c) m c) e h))
+anew-server n c (Detached m) e h = sym (ap server_of (same_Some (Attach n.0 (spot.At m c) m c) e h))
+
+same-server : (n : ServerNo) (o : Option Status) (e : Exchange) → same_again n o ≡ Some e → server_of e ≡ n.0
+same-server n None e h = cc
+same-server n (Some s) e h = anew-server n s.exec s.source e h
+
+set-server : (n m : ServerNo) (o : Option Status) (e : Exchange) → by_set n m o ≡ Some e → server_of e ≡ n.0
+set-server n m None e h = cc
+set-server n m (Some s) e h = sym (ap server_of (same_Some (AttachAuto n.0 s.set m) e h))
+
+pub deed-stays : (P : ℕ → Type 0) (w : World) (read : ℕ) (now : Moment) (j : Job) (rest : List Op) (d : Deed)
+    → IfSome (change_of d) (λ n. P n.0) → All (ChangesOf P) rest → All (ChangesOf P) j.ops → All (λ n. P n.0) j.hands
+    → StaysOf P j.id (settled j (by_deed w read now j rest d))
+deed-stays P w read now j rest (deed.Look n from) here ops all hands = look-stays P j rest ops hands n from (observed w read now n) (seen_in (status w n.0))
+deed-stays P w read now j rest (deed.Request n a) here ops all hands = ask-stays P j rest ops hands n a here (desk_answer (server_at w n.0))
+deed-stays P w read now j rest (deed.Until n to) here ops all hands = until-stays P j rest ops hands w n here (until_by (seen_of j.seen n.0) (aim_of j.seen to))
+deed-stays P w read now j rest (deed.Await n to) here ops all hands = wait-stays P j rest ops hands n (λ s. is_reached (aim_of j.seen to) s.exec) (seen_in (status w n.0)) all
+deed-stays P w read now j rest (deed.AwaitSet n m) here ops all hands = wait-stays P j rest ops hands n (holds_seen (seen_of j.seen m.0)) (seen_in (status w n.0)) all
+deed-stays P w read now j rest (deed.Settle n) here ops all hands = wait-stays P j rest ops hands n (settles j) (seen_in (status w n.0)) all
+deed-stays P w read now j rest (deed.Cross c a b) here ops all hands =
+    attach-stays P j rest ops hands w a (crossed c a (bridge_in (read_by c a b) (seen_of j.seen (read_by c a b).0)))
+    (crossed-server c a (bridge_in (read_by c a b) (seen_of j.seen (read_by c a b).0))) here
+deed-stays P w read now j rest (deed.Same n) here ops all hands =
+    attach-stays P j rest ops hands w n (same_again n (seen_of j.seen n.0)) (same-server n (seen_of j.seen n.0)) here
+deed-stays P w read now j rest (deed.Auto n m) here ops all hands =
+    attach-stays P j rest ops hands w n (by_set n m (seen_of j.seen m.0)) (set-server n m (seen_of j.seen m.0)) here
+deed-stays P w read now j rest (deed.Finish lines) here ops all hands =
+    record { id = refl; ops = All-nil (ChangesOf P); hands = All-nil (λ n. P n.0); exchanges = All-nil (λ e. P (server_of e)) }
+
+pub turn-stays : (P : ℕ → Type 0) (w : World) (read : ℕ) (now : Moment) (j : Job) → All (ChangesOf P) j.ops → All (λ n. P n.0) j.hands → StaysOf P j.id (turned w read now j)
+turn-stays P w read now j all hands = go j.ops refl
+  where
+    go : (ops : List Op) → j.ops ≡ ops → StaysOf P j.id (settled j (by_ops w read now j ops))
+    go [] is = record { id = refl; ops = All-nil (ChangesOf P); hands = All-nil (λ n. P n.0); exchanges = All-nil (λ e. P (server_of e)) }
+    go (op ∷ rest) is =
+        let here = subst (λ (xs : List Op). All (ChangesOf P) xs) is all in
+        deed-stays P w read now j rest (deed_of op) (All-head (ChangesOf P) op rest here) (All-tail (ChangesOf P) op rest here) all hands

@@ -1,0 +1,7 @@
+pub mod Tests
+pub mod Targets
+pub mod Allowing
+pub mod Changing
+pub mod Left
+pub mod Named
+pub mod Ending

@@ -1,0 +1,40 @@
+-- Jobs in flight, and what they saw.
+use Rattle.std.specs.Prelude.{ℕ, ◌==◌, not, if◌then◌else◌, List, [], ◌∷◌, ◌++◌, filter, Option, Some, None}
+use Rattle.orch_base.specs.declared.server.ServerNo.{ServerNo}
+use Rattle.server_words.specs.declared.status.Status.{Status}
+use Rattle.operations.specs.declared.op.Op.{Op}
+use Rattle.operations.specs.declared.sight.Sight.{Sight}
+
+-- A job: its number, how many waits one operation has, the operations that are left, the latest that it saw of each
+-- server that it read, the waits of the present operation so far, and the servers that it stopped and hasn't started.
+pub record Job : Type 0 where
+  pub id : ℕ
+  pub wait : ℕ
+  pub ops : List Op
+  pub seen : List Sight
+  pub waited : ℕ
+  pub hands : List ServerNo
+
+-- what was seen of a server
+abbrev pub seen_of : List Sight → ℕ → Option Status
+seen_of [] n = None
+seen_of (x ∷ xs) n = if x.no.0 == n then Some x.seen else seen_of xs n
+
+abbrev pub others : List Sight → ServerNo → List Sight
+others xs n = filter (λ x. not (x.no.0 == n.0)) xs
+
+-- this is the latest that was seen of a server
+abbrev pub with_seen : List Sight → ServerNo → Status → List Sight
+with_seen xs n seen = others xs n ++ record { no = n; seen = seen } ∷ []
+
+-- the hands without a server
+abbrev pub without : List ServerNo → ServerNo → List ServerNo
+without hands n = filter (λ k. not (k.0 == n.0)) hands
+
+-- and with it, as the last
+abbrev pub with_hand : List ServerNo → ServerNo → List ServerNo
+with_hand hands n = without hands n ++ n ∷ []
+
+-- a job of these operations that begins
+abbrev pub job_with : ℕ → ℕ → List Op → Job
+job_with id wait ops = record { id = id; wait = wait; ops = ops; seen = []; waited = 0; hands = [] }

@@ -1,0 +1,26 @@
+use Rattle.std.proofs.Common.{◌∙◌, ℕ, List, Option, None, add-one, ap, replicate, sym, arith}
+use Rattle.std.specs.Prelude.{slice_set}
+use Rattle.std.proofs.lemmas.List.{length-set}
+use Rattle.instance_keeper.specs.declared.observation.Observation.{Observation}
+use Rattle.instance_keeper.proofs.Cleared.{cleared, cleared_all, cleared_next}
+use Rattle.orch_core.proofs.engine.empty_slots.Goals as goal
+
+pub loop-poller-preserved : goal.loop-poller-preserved
+loop-poller-preserved c =
+    let first = c.args.slots.now.items in
+    let before = c.loop-poller.slots.items in
+    let k = c.loop-poller.poller in
+    let here = c.loop-poller-test.true in
+    let all = c.requires in
+    record {
+      len = length-set before k None ∙ c.loop-poller.invariant.len;
+      slots = ap (λ (xs : List (Option Observation)). slice_set xs k None) c.loop-poller.invariant.slots
+          ∙ (cleared_next None k first (omega (arith, here, all)) ∙ ap (λ (n : ℕ). cleared None n first) (sym (add-one k)));
+    }
+
+pub returns : goal.returns
+returns c =
+    let first = c.args.slots.now.items in
+    let past = c.loop-poller-test.false in
+    let all = c.requires in
+    c.loop-poller.invariant.slots ∙ (cleared_all None c.loop-poller.poller first (omega (arith, past, all)) ∙ ap (λ (n : ℕ). replicate n None) all)

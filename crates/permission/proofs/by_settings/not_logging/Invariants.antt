@@ -1,0 +1,7 @@
+use Rattle.std.proofs.Common.{◌≡◌, drop}
+use Rattle.permission.specs.Checks.{without_log}
+use Rattle.permission.specs.Lists.{first_about}
+use Rattle.permission.proofs.by_settings.not_logging.Given as goal
+
+abbrev pub invariant-loop-no : goal.invariant-loop-no
+invariant-loop-no l = first_about (without_log l.world) (drop l.no-index l.sources) ≡ first_about (without_log l.world) l.sources

@@ -1,0 +1,7 @@
+use Rattle.std.proofs.Common.{◌≡◌, drop}
+use Rattle.permission.specs.Checks.{of_same_id}
+use Rattle.permission.specs.Lists.{first_about}
+use Rattle.permission.proofs.by_settings.same_id.Given as goal
+
+abbrev pub invariant-loop-one : goal.invariant-loop-one
+invariant-loop-one l = first_about (of_same_id l.world) (drop l.one-index l.moves) ≡ first_about (of_same_id l.world) l.moves

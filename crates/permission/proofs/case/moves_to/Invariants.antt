@@ -1,0 +1,6 @@
+use Rattle.std.proofs.Common.{◌≡◌, take, Some}
+use Rattle.permission.specs.Lists.{moves_to}
+use Rattle.permission.proofs.case.moves_to.Given as goal
+
+abbrev pub invariant-loop-no : goal.invariant-loop-no
+invariant-loop-no l = l.moves.items ≡ moves_to (take l.no-index l.servers) (Some l.source)

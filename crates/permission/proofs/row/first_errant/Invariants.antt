@@ -1,0 +1,7 @@
+use Rattle.std.proofs.Common.{◌≡◌, drop}
+use Rattle.permission.specs.Checks.{errant}
+use Rattle.permission.specs.Lists.{first_about}
+use Rattle.permission.proofs.row.first_errant.Given as goal
+
+abbrev pub invariant-loop-one : goal.invariant-loop-one
+invariant-loop-one l = first_about (errant l.world l.book) (drop l.one-index l.moves) ≡ first_about (errant l.world l.book) l.moves

@@ -1,0 +1,182 @@
+//! What the book tells of a server, and the checks that go by it alone. A number that no server has is no instance.
+
+ghost use Rattle.std.specs.Prelude.{◌≡◌, ◌↔◌, ◌<◌, [], IsTrue, length};
+ghost use Rattle.std.specs.Option.{option_copied};
+ghost use Rattle.instance_keeper.specs.Book.{instance_at, lease_at};
+ghost use Rattle.book_views.specs.Forests.{book_forest, IsBelow};
+ghost use Rattle.book_views.specs.Sources.{is_instance, seen_source};
+ghost use Rattle.permission.specs.Checks.{busy, of_below, unreached};
+ghost use Rattle.permission.specs.Lists.{first_about};
+ghost use Rattle.permission.specs.Views.{attached_in, attached_of, is_attached_in, is_auto, is_below, is_detached_in, is_valid, set_seen, source_above, source_of};
+
+use crate::case::Move;
+use commands::Refusal;
+use gtid_sets::GtidSet;
+use instance_keeper::{Book, Instance};
+use orch_base::{ServerNo, SourceState};
+use topology_tree::Forest;
+
+fn instance(book: &Book, no: ServerNo) -> Option<&Instance>
+    ensures { option_copied result ≡ instance_at book.now no }
+{
+    if no.0 < book.servers() {
+        book.instance(no)
+    } else {
+        None
+    }
+}
+
+/// Whether a server is an instance of the book.
+pub(crate) fn is_instance(book: &Book, no: ServerNo) -> bool
+    ensures { result ≡ is_instance book.now no }
+{
+    instance(book, no).is_some()
+}
+
+/// Whether a server is an instance that is attached to its source.
+pub(crate) fn is_attached(book: &Book, no: ServerNo) -> bool
+    ensures { result ≡ is_attached_in (seen_source (instance_at book.now no)) }
+{
+    match seen_source(book, no) {
+        SourceState::Attached(_) => true,
+        SourceState::Detached(_) | SourceState::Without => false,
+    }
+}
+
+/// Whether a server is an instance that is detached from its source.
+pub(crate) fn is_detached(book: &Book, no: ServerNo) -> bool
+    ensures { result ≡ is_detached_in (seen_source (instance_at book.now no)) }
+{
+    match seen_source(book, no) {
+        SourceState::Detached(_) => true,
+        SourceState::Attached(_) | SourceState::Without => false,
+    }
+}
+
+fn seen_source(book: &Book, no: ServerNo) -> SourceState
+    ensures { result ≡ seen_source (instance_at book.now no) }
+{
+    match instance(book, no) {
+        Some(instance) => instance.seen.source,
+        None => SourceState::Without,
+    }
+}
+
+/// A server's source by the book, attached or detached.
+pub fn source(book: &Book, no: ServerNo) -> Option<ServerNo>
+    ensures { result ≡ source_of book.now no }
+{
+    match seen_source(book, no) {
+        SourceState::Attached(source) | SourceState::Detached(source) => Some(source),
+        SourceState::Without => None,
+    }
+}
+
+/// The source that a server is attached to by the book.
+pub fn attached_to(book: &Book, no: ServerNo) -> Option<ServerNo>
+    ensures { result ≡ attached_of book.now no }
+{
+    match seen_source(book, no) {
+        SourceState::Attached(source) => Some(source),
+        SourceState::Detached(_) | SourceState::Without => None,
+    }
+}
+
+/// The source of a server's source by the book, each attached or detached.
+pub fn source_above(book: &Book, no: ServerNo) -> Option<ServerNo>
+    ensures { result ≡ source_above book.now no }
+{
+    match source(book, no) {
+        Some(above) => source(book, above),
+        None => None,
+    }
+}
+
+fn is_valid(book: &Book, no: ServerNo) -> bool
+    ensures { result ≡ is_valid book.now no }
+{
+    match instance(book, no) {
+        Some(instance) => instance.valid,
+        None => false,
+    }
+}
+
+/// Whether a server was seen to find its place by GTIDs.
+pub fn is_auto(book: &Book, no: ServerNo) -> bool
+    ensures { result ≡ is_auto book.now no }
+{
+    match instance(book, no) {
+        Some(instance) => instance.seen.auto,
+        None => false,
+    }
+}
+
+/// The set that was seen of a server; `none`, the empty set, of one that is no instance.
+pub(crate) fn set_seen<'a>(book: &'a Book, no: ServerNo, none: &'a GtidSet) -> &'a GtidSet
+    requires { none.now ≡ [] }
+    ensures { result.now ≡ set_seen book.now no }
+{
+    match instance(book, no) {
+        Some(instance) => &instance.seen.set,
+        None => none,
+    }
+}
+
+fn lease(book: &Book, no: ServerNo) -> Option<u64>
+    ensures { result ≡ lease_at book.now no }
+{
+    if no.0 < book.servers() {
+        book.lease(no)
+    } else {
+        None
+    }
+}
+
+/// Whether a server comes to another by following parents in the book's forest, at least one step.
+pub fn is_below(book: &Book, forest: &Forest, no: ServerNo, other: ServerNo) -> bool
+    requires { forest.now ≡ book_forest book.now }
+    ensures is { result ≡ is_below book.now no other }
+    ensures means { no.0 < length book.now.names → other.0 < length book.now.names →
+        IsTrue result ↔ IsBelow book.now no other }
+{
+    forest.edges_have_no_loop();
+    let count = book.servers();
+    no.0 < count && other.0 < count && book_views::is_below(book, forest, no, other)
+}
+
+/// The first of the servers of which a job has the lease, with that job.
+pub(crate) fn busy(book: &Book, servers: &[ServerNo]) -> Option<Refusal>
+    ensures { result ≡ first_about (busy book.now) servers.now }
+{
+    for no in servers {
+        if let Some(job) = lease(book, *no) {
+            return Some(Refusal::Busy(*no, job));
+        }
+    }
+    None
+}
+
+/// The first of the servers that isn't a valid instance.
+pub(crate) fn unreached(book: &Book, servers: &[ServerNo]) -> Option<Refusal>
+    ensures { result ≡ first_about (unreached book.now) servers.now }
+{
+    for no in servers {
+        if !is_valid(book, *no) {
+            return Some(Refusal::Unreachable(*no));
+        }
+    }
+    None
+}
+
+/// Whether a new source is below the server that moves.
+pub(crate) fn below(book: &Book, forest: &Forest, moves: &[Move]) -> Option<Refusal>
+    requires { forest.now ≡ book_forest book.now }
+    ensures { result ≡ first_about (of_below book.now) moves.now }
+{
+    for one in moves {
+        if is_below(book, forest, one.source, one.no) {
+            return Some(Refusal::Below);
+        }
+    }
+    None
+}

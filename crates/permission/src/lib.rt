@@ -1,0 +1,14 @@
+//! Whether a command that moves or changes servers may begin: the checks of the permission table, each by the book and
+//! the servers' settings.
+#![tactic(auto)]
+
+mod by_book;
+mod by_settings;
+mod case;
+mod row;
+
+pub use by_book::{attached_to, is_auto, is_below, source, source_above};
+pub use case::{Case, Check, Move, moves_to};
+/// Want of memory.
+pub use orch_base::Memory;
+pub use row::{PermitFault, answered, first_refusal, unknown_in};

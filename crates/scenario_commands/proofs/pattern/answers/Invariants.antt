@@ -1,6 +1,0 @@
-use Rattle.std.proofs.Common.{◌≡◌, map, take}
-use Rattle.cluster_filters.specs.Patterns.{is_found}
-use Rattle.scenario_commands.proofs.pattern.answers.Given as goal
-
-abbrev pub invariant-loop-name : goal.invariant-loop-name
-invariant-loop-name l = l.answers.items ≡ map (is_found l.pattern) (take l.name-index l.printed)

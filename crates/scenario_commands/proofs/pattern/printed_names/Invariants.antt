@@ -1,6 +1,0 @@
-use Rattle.std.proofs.Common.{◌≡◌, map, take}
-use Rattle.orch_base.specs.Names.{printed}
-use Rattle.scenario_commands.proofs.pattern.printed_names.Given as goal
-
-abbrev pub invariant-loop-name : goal.invariant-loop-name
-invariant-loop-name l = l.texts.items ≡ map printed (take l.name-index l.names)

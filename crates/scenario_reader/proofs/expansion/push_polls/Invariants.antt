@@ -1,6 +1,0 @@
-use Rattle.std.proofs.Common.{◌≡◌, ◌++◌, take}
-use Rattle.scenario_reader.specs.Expansion.{polls_of}
-use Rattle.scenario_reader.proofs.expansion.push_polls.Given as goal
-
-abbrev pub invariant-loop-no : goal.invariant-loop-no
-invariant-loop-no l = l.turns.items ≡ l.fn.turns.items ++ polls_of (take l.no-index l.ordered)

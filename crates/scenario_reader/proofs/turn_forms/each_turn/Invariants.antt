@@ -1,6 +1,0 @@
-use Rattle.scenario_values.proofs.Each.{IsReadTo}
-use Rattle.scenario_reader.specs.Turns.{turn_in}
-use Rattle.scenario_reader.proofs.turn_forms.each_turn.Given as goal
-
-abbrev pub invariant-loop-number : goal.invariant-loop-number
-invariant-loop-number l = IsReadTo (λ n d. turn_in l.names l.printed d) l.items l.number l.turns.items

@@ -1,0 +1,16 @@
+use Rattle.std.proofs.Common.{◌≡◌, List, [], ◌∷◌, length, refl}
+use Rattle.serde_json.specs.declared.value.Value.{Value}
+use Rattle.serde_json.specs.View.{items_view}
+use Rattle.scenario_values.specs.declared.fault.FaultCode.TheVariants.{BadTurn}
+use Rattle.scenario_values.specs.Faults.{fails}
+use Rattle.scenario_turns.specs.Turns.{one_of}
+use Rattle.scenario_turns.proofs.turn_forms.one_of.Goals as goal
+
+-- a list of another length
+other : (vs : List Value) → (length vs ≡ 1 → ⊥) → one_of (items_view vs) ≡ fails BadTurn
+other [] h = refl
+other (a ∷ []) h = absurd (h refl)
+other (a ∷ b ∷ vs) h = refl
+
+pub returns-then-rest-ne1 : goal.returns-then-rest-ne1
+returns-then-rest-ne1 c = rw c.fails.ensures (other c.args.rest.now c.if-rest-ne1.true)

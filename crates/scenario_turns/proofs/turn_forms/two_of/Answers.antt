@@ -1,0 +1,17 @@
+use Rattle.std.proofs.Common.{◌≡◌, List, [], ◌∷◌, length, refl}
+use Rattle.serde_json.specs.declared.value.Value.{Value}
+use Rattle.serde_json.specs.View.{items_view}
+use Rattle.scenario_values.specs.declared.fault.FaultCode.TheVariants.{BadTurn}
+use Rattle.scenario_values.specs.Faults.{fails}
+use Rattle.scenario_turns.specs.Turns.{two_of}
+use Rattle.scenario_turns.proofs.turn_forms.two_of.Goals as goal
+
+-- a list of another length
+other : (vs : List Value) → (length vs ≡ 2 → ⊥) → two_of (items_view vs) ≡ fails BadTurn
+other [] h = refl
+other (a ∷ []) h = refl
+other (a ∷ b ∷ []) h = absurd (h refl)
+other (a ∷ b ∷ c ∷ vs) h = refl
+
+pub returns-then-rest-ne2 : goal.returns-then-rest-ne2
+returns-then-rest-ne2 c = rw c.fails.ensures (other c.args.rest.now c.if-rest-ne2.true)

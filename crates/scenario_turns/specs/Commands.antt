@@ -1,0 +1,100 @@
+-- The command turns: the word is followed by a command's name and by what it is given.
+use Rattle.std.specs.Prelude.{ℕ, ◌∷◌, List, [], codes, Option, Result, Ok}
+use Rattle.serde_json.specs.Data.{Data, Items, no_items, item}
+use Rattle.commands.specs.Names.{name_of, needs_of}
+use Rattle.commands.specs.Routes.{is_built, route_of}
+use Rattle.commands.specs.Turns.{is_there}
+use Rattle.commands.specs.declared.name.CommandName.{CommandName}
+use Rattle.commands.specs.declared.turn.Command.{Command}
+use Rattle.commands.specs.declared.turn.CommandTurn.{CommandTurn}
+use Rattle.commands.specs.declared.turn.Found.{Found}
+use Rattle.commands.specs.declared.turn.Keys.{Keys}
+use Rattle.orch_base.specs.declared.rule.Rule.{Rule}
+use Rattle.commands.specs.Values.{rule_at, seconds_at}
+use Rattle.orch_base.specs.Gives.{◌>>=◌}
+use Rattle.orch_base.specs.Names.{HostPort}
+use Rattle.scenario_turns.specs.Found.{found_in}
+use Rattle.scenario_servers.specs.Names.{server_named}
+use Rattle.scenario_values.specs.declared.fault.Fault.{Fault}
+use Rattle.scenario_values.specs.declared.fault.FaultCode.TheVariants.{BadCommand, BadNumber, BadTurn, NotBuilt}
+use Rattle.scenario_values.specs.Faults.{fails, or_fails, holds, under_item, maybe, only_keys}
+use Rattle.scenario_values.specs.Values.{members_in, text_in, text_within}
+
+-- a command that is built
+unfoldable pub name_in : Data → Result CommandName Fault
+name_in d = do
+  text ← text_in d
+  name ← or_fails BadCommand (name_of text)
+  built ← holds NotBuilt (is_built (route_of name))
+  Ok name
+
+-- ---- the keys
+
+unfoldable pub rule_in : Data → Result Rule Fault
+rule_in d = do
+  text ← text_in d
+  or_fails BadNumber (rule_at text)
+
+-- a duration in seconds
+unfoldable pub duration_in : Data → Result ℕ Fault
+duration_in d = do
+  text ← text_in d
+  or_fails BadNumber (seconds_at text)
+
+-- a reason or an owner: at most 255 bytes
+unfoldable pub short_in : Data → Result (List ℕ) Fault
+short_in d = do
+  text ← text_in d
+  text_within 0 255 text
+
+unfoldable pub pattern_in : List (List ℕ) → Data → Result Found Fault
+pattern_in printed d = do
+  text ← text_in d
+  found_in printed text
+
+abbrev pub command_keys : List (List ℕ)
+command_keys = codes "i" ∷ codes "d" ∷ codes "rule" ∷ codes "duration" ∷ codes "reason" ∷ codes "owner" ∷ codes "pattern" ∷ []
+
+-- the instance and the destination, each where it is given; one that is needed is given
+unfoldable pub instances_in : List (Option HostPort) → CommandName → Data → Result Command Fault
+instances_in names name given = do
+  i ← maybe (codes "i") (server_named names) given
+  has_i ← holds BadCommand (is_there (needs_of name).i i)
+  d ← maybe (codes "d") (server_named names) given
+  has_d ← holds BadCommand (is_there (needs_of name).d d)
+  Ok (record { name = name; i = i; d = d })
+
+-- the other keys, each where it is given; one that is needed is given
+unfoldable pub keys_in : List (List ℕ) → CommandName → Data → Result Keys Fault
+keys_in printed name given = do
+  rule ← maybe (codes "rule") rule_in given
+  has_rule ← holds BadCommand (is_there (needs_of name).rule rule)
+  duration ← maybe (codes "duration") duration_in given
+  reason ← maybe (codes "reason") short_in given
+  owner ← maybe (codes "owner") short_in given
+  pattern ← maybe (codes "pattern") (pattern_in printed) given
+  has_pattern ← holds BadCommand (is_there (needs_of name).pattern pattern)
+  Ok (record { rule = rule; duration = duration; reason = reason; owner = owner; pattern = pattern })
+
+-- what a command is given
+unfoldable pub given_in : List (Option HostPort) → List (List ℕ) → CommandName → Data → Result CommandTurn Fault
+given_in names printed name given = do
+  members ← members_in given
+  known ← only_keys command_keys members
+  command ← instances_in names name given
+  keys ← keys_in printed name given
+  Ok (record { command = command; keys = keys })
+
+-- ---- the turn
+
+-- what follows the word: two parts
+abbrev pub parts_of : Items → Result (Data × Data) Fault
+parts_of (item a (item b no_items)) = Ok (a, b)
+parts_of _ = fails BadTurn
+
+-- a command turn, by what follows its word, over the servers' names as they are listed and as they are printed
+unfoldable pub command_in : List (Option HostPort) → List (List ℕ) → Items → Result CommandTurn Fault
+command_in names printed rest = do
+  parts ← parts_of rest
+  name ← under_item 1 (name_in parts.0)
+  under_item 2 (given_in names printed name parts.1)

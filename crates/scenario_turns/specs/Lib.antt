@@ -1,0 +1,6 @@
+pub mod Found
+pub mod KnownPatterns
+pub mod Commands
+pub mod Words
+pub mod Expansion
+pub mod Turns

@@ -1,0 +1,131 @@
+//! What listed turns stand for.
+
+ghost use Rattle.std.specs.Prelude.{◌≡◌, ◌++◌, ◌≤◌, IfOk, OnOk, length, nat_le};
+ghost use Rattle.scenario_turns.specs.Expansion.{printed_of, server_names, in_order, polls_of, steps_of, expansion_of, expanded};
+
+use crate::pattern::printed_names;
+use name_order::in_name_order;
+use openings::ServerInit;
+use orch_base::{Label, Memory, Name, ServerNo};
+use scenarios::Turn;
+use std::alloc::Global;
+
+/// A turn as a scenario lists it.
+#[derive(Drop)]
+pub enum ListedTurn {
+    /// One turn.
+    One(Turn),
+    /// Poller 0 reads each server and stores what it read, in the order of the servers' names.
+    Polls,
+    /// A fetch and an apply at each server in the order of the servers' names, and then the polls.
+    Round,
+}
+
+const MOST_TURNS: usize = 1_000_000;
+
+fn server_names(alloc: Global, servers: &[ServerInit]) -> Result<Vec<Name>, Memory>
+    ensures { IfOk result (λ names. names.items ≡ server_names servers.now) }
+{
+    let mut names = Vec::with_capacity(alloc, servers.len())?;
+    for server in servers {
+        names.push(server.settings.name.copy(alloc)?)?;
+    }
+    Ok(names)
+}
+
+/// The servers' names as they are printed.
+pub fn printed_of(alloc: Global, servers: &[ServerInit]) -> Result<Vec<Label>, Memory>
+    ensures { IfOk result (λ printed. printed.items ≡ printed_of servers.now) }
+{
+    let names = server_names(alloc, servers)?;
+    printed_names(alloc, &names)
+}
+
+/// The servers' numbers in the order of their names.
+pub fn in_order(alloc: Global, servers: &[ServerInit]) -> Result<Vec<ServerNo>, Memory>
+    requires { length servers.now ≤ 1000 }
+    ensures order { IfOk result (λ ordered. ordered.items ≡ in_order servers.now) }
+    ensures few { IfOk result (λ ordered. length ordered.items ≤ 1000) }
+{
+    let names = server_names(alloc, servers)?;
+    in_name_order(alloc, &names)
+}
+
+// How many turns a listed one stands for.
+fn length_of(ordered: &[ServerNo], listed: &ListedTurn) -> usize
+    requires { length ordered.now ≤ 1000 }
+    ensures exact { result ≡ length (expansion_of ordered.now listed.now) }
+    ensures few { result ≤ 4000 }
+{
+    match listed {
+        ListedTurn::One(_) => 1,
+        ListedTurn::Polls => 2 * ordered.len(),
+        ListedTurn::Round => 4 * ordered.len(),
+    }
+}
+
+/// Whether the listed turns stand for at most 1,000,000.
+pub fn are_few(ordered: &[ServerNo], listed: &[ListedTurn]) -> bool
+    requires { length ordered.now ≤ 1000 }
+    ensures { result ≡ nat_le (length (expanded ordered.now listed.now)) 1000000 }
+{
+    let mut count = 0;
+    for one in listed {
+        count += length_of(ordered, one);
+        if count > MOST_TURNS {
+            return false;
+        }
+    }
+    true
+}
+
+fn push_polls(ordered: &[ServerNo], turns: &mut Vec<Turn>) -> Result<(), Memory>
+    ensures { OnOk result (turns.new.items ≡ turns.old.items ++ polls_of ordered.now) }
+{
+    for no in ordered {
+        turns.push(Turn::PollRead(0, *no))?;
+        turns.push(Turn::PollStore(0))?;
+    }
+    Ok(())
+}
+
+fn push_steps(ordered: &[ServerNo], turns: &mut Vec<Turn>) -> Result<(), Memory>
+    ensures { OnOk result (turns.new.items ≡ turns.old.items ++ steps_of ordered.now) }
+{
+    for no in ordered {
+        turns.push(Turn::Fetch(*no))?;
+        turns.push(Turn::Apply(*no))?;
+    }
+    Ok(())
+}
+
+fn push_turns(ordered: &[ServerNo], listed: ListedTurn, turns: &mut Vec<Turn>) -> Result<(), Memory>
+    ensures { OnOk result (turns.new.items ≡ turns.old.items ++ expansion_of ordered.now listed) }
+{
+    match listed {
+        ListedTurn::One(turn) => {
+            turns.push(turn)?;
+            Ok(())
+        }
+        ListedTurn::Polls => push_polls(ordered, turns),
+        ListedTurn::Round => {
+            push_steps(ordered, turns)?;
+            push_polls(ordered, turns)
+        }
+    }
+}
+
+/// The turns that the listed ones stand for. The time is that of these turns.
+pub fn expanded(
+    alloc: Global,
+    ordered: &[ServerNo],
+    listed: Vec<ListedTurn>,
+) -> Result<Vec<Turn>, Memory>
+    ensures { IfOk result (λ turns. turns.items ≡ expanded ordered.now listed.items) }
+{
+    let mut turns = Vec::with_capacity(alloc, listed.len())?;
+    for one in listed {
+        push_turns(ordered, one, &mut turns)?;
+    }
+    Ok(turns)
+}

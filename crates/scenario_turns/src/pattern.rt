@@ -1,0 +1,54 @@
+//! Patterns, and in which servers' names they are found.
+
+ghost use Rattle.std.specs.Prelude.{◌≡◌, IfOk, map};
+ghost use Rattle.cluster_filters.specs.Patterns.{is_found};
+ghost use Rattle.orch_base.specs.Gives.{Gives};
+ghost use Rattle.orch_base.specs.Names.{printed};
+ghost use Rattle.scenario_turns.specs.Found.{found_in};
+ghost use Rattle.scenario_values.specs.Faults.{fault_of};
+
+use cluster_filters::{FilterFault, Pattern};
+use commands::{Answers, Found};
+use orch_base::{Label, Memory, Name};
+use scenario_servers::printed_name;
+use scenario_values::{FaultCode, ReadFault, fails};
+use std::alloc::Global;
+
+/// Each server's name as it is printed, `host:port`.
+pub fn printed_names(alloc: Global, names: &[Name]) -> Result<Vec<Label>, Memory>
+    ensures { IfOk result (λ p. p.items ≡ map printed names.now) }
+{
+    let mut texts = Vec::with_capacity(alloc, names.len())?;
+    for name in names {
+        texts.push(printed_name(alloc, name)?)?;
+    }
+    Ok(texts)
+}
+
+fn answers(alloc: Global, pattern: &Pattern, printed: &[Label]) -> Result<Answers, Memory>
+    ensures { IfOk result (λ a. a ≡ map (is_found pattern.now) printed.now) }
+{
+    let mut answers = Vec::with_capacity(alloc, printed.len())?;
+    for name in printed {
+        answers.push(pattern.found(alloc, name.as_str())?)?;
+    }
+    Ok(Answers::new(answers))
+}
+
+/// A pattern with an answer for each server: whether it is found in the server's printed name, `host:port`. A text that
+/// is no regular expression, or nests past the limit of `regex`, is `BadPattern`. Want of memory also answers a pattern
+/// past the room that `regex` grants one.
+#[tactic(auto, unfolding(crate::specs::Found::found_in))]
+pub fn found(alloc: Global, text: &str, printed: &[Label]) -> Result<Found, ReadFault>
+    ensures { Gives (λ f. f) fault_of result (found_in printed.now text.now) }
+{
+    match Pattern::read(alloc, text) {
+        Ok(pattern) => {
+            let answers = answers(alloc, &pattern, printed)?;
+            let text = Label::new(String::from_str(alloc, text)?);
+            Ok(Found { text, answers })
+        }
+        Err(FilterFault::BadPattern(_)) => Err(fails(alloc, FaultCode::BadPattern)),
+        Err(FilterFault::Memory) => Err(ReadFault::Memory),
+    }
+}

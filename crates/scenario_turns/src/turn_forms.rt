@@ -1,0 +1,308 @@
+//! The turns.
+
+ghost use Rattle.std.specs.Prelude.{◌≡◌};
+ghost use Rattle.orch_base.specs.Gives.{Gives};
+ghost use Rattle.serde_json.specs.View.{view, items_view};
+ghost use Rattle.scenario_values.specs.Faults.{fault_of, under_item, each};
+ghost use Rattle.scenario_values.specs.Values.{text_in, number_in};
+ghost use Rattle.scenario_servers.specs.Names.{server_named};
+ghost use Rattle.turns.specs.declared.turn.Turn.TheVariants.{Write, Cut, Join, PollRead, Command};
+ghost use Rattle.scenario_turns.specs.Commands.{command_in};
+ghost use Rattle.scenario_turns.specs.Turns.{link_in, poller_in, one_of, two_of, server_of, size_of, link_of, seconds_of, poll_of, poller_of, turn_by, alone, turn_of, turn_with, turn_from, turn_in};
+
+use crate::command::command_in;
+use crate::expansion::ListedTurn;
+use crate::patterns::Patterns;
+use crate::word::{Word, is_word, word_at};
+use orch_base::ServerNo;
+use scenario_servers::{Names, server_named};
+use scenario_values::{FaultCode, ReadFault, fails, items_in, number_in, text_in, under_item};
+use scenarios::{HeldCommand, Turn};
+use serde_json::Value;
+use server_words::Link;
+use std::alloc::Global;
+
+#[tactic(auto, unfolding(crate::specs::Turns::link_in))]
+fn link_in(alloc: Global, value: &Value) -> Result<Link, ReadFault>
+    ensures { Gives (λ l. l) fault_of result (link_in (view value.now)) }
+{
+    let text = text_in(alloc, value)?;
+    if is_word("desk", text) {
+        return Ok(Link::Desk);
+    }
+    if is_word("feed", text) {
+        return Ok(Link::Feed);
+    }
+    Err(fails(alloc, FaultCode::BadNumber))
+}
+
+fn one_of(alloc: Global, rest: &[Value]) -> Result<&Value, ReadFault>
+    ensures { Gives (λ v. view v.now) fault_of result (one_of (items_view rest.now)) }
+{
+    if rest.len() != 1 {
+        return Err(fails(alloc, FaultCode::BadTurn));
+    }
+    Ok(&rest[0])
+}
+
+fn two_of(alloc: Global, rest: &[Value]) -> Result<(&Value, &Value), ReadFault>
+    ensures { Gives (λ p. (view p.0.now, view p.1.now)) fault_of result (two_of (items_view rest.now)) }
+{
+    if rest.len() != 2 {
+        return Err(fails(alloc, FaultCode::BadTurn));
+    }
+    Ok((&rest[0], &rest[1]))
+}
+
+#[tactic(auto, using(scenario_values::proofs::Unders::gives_under))]
+fn server_at(
+    alloc: Global,
+    names: &Names,
+    part: usize,
+    value: &Value,
+) -> Result<ServerNo, ReadFault>
+    ensures { Gives (λ n. n) fault_of result (under_item part (server_named names.now (view value.now))) }
+{
+    under_item(alloc, part, server_named(alloc, names, value))
+}
+
+#[tactic(auto, using(scenario_values::proofs::Unders::gives_under))]
+fn number_at(
+    alloc: Global,
+    part: usize,
+    low: u64,
+    high: u64,
+    value: &Value,
+) -> Result<u64, ReadFault>
+    ensures { Gives (λ n. n) fault_of result (under_item part (number_in low high (view value.now))) }
+{
+    under_item(alloc, part, number_in(alloc, low, high, value))
+}
+
+#[tactic(auto, using(scenario_values::proofs::Unders::gives_under))]
+fn link_at(alloc: Global, value: &Value) -> Result<Link, ReadFault>
+    ensures { Gives (λ l. l) fault_of result (under_item 2 (link_in (view value.now))) }
+{
+    under_item(alloc, 2, link_in(alloc, value))
+}
+
+#[tactic(auto, using(scenario_values::proofs::Unders::gives_under))]
+fn text_at(alloc: Global, value: &Value) -> Result<&str, ReadFault>
+    ensures { Gives (λ s. s.now) fault_of result (under_item 0 (text_in (view value.now))) }
+{
+    under_item(alloc, 0, text_in(alloc, value))
+}
+
+#[tactic(auto, unfolding(crate::specs::Turns::server_of))]
+fn server_of(alloc: Global, names: &Names, rest: &[Value]) -> Result<ServerNo, ReadFault>
+    ensures { Gives (λ n. n) fault_of result (server_of names.now (items_view rest.now)) }
+{
+    let server = one_of(alloc, rest)?;
+    server_at(alloc, names, 1, server)
+}
+
+#[tactic(auto, unfolding(crate::specs::Turns::size_of))]
+fn size_of(alloc: Global, names: &Names, rest: &[Value]) -> Result<(ServerNo, u32), ReadFault>
+    ensures { Gives (λ p. p) fault_of result (size_of names.now (items_view rest.now)) }
+{
+    let (server, size) = two_of(alloc, rest)?;
+    let server = server_at(alloc, names, 1, server)?;
+    let size = number_at(alloc, 2, 1, 1_000_000, size)?;
+    Ok((server, size as u32))
+}
+
+#[tactic(auto, unfolding(crate::specs::Turns::link_of))]
+fn link_of(alloc: Global, names: &Names, rest: &[Value]) -> Result<(ServerNo, Link), ReadFault>
+    ensures { Gives (λ p. p) fault_of result (link_of names.now (items_view rest.now)) }
+{
+    let (server, link) = two_of(alloc, rest)?;
+    let server = server_at(alloc, names, 1, server)?;
+    let link = link_at(alloc, link)?;
+    Ok((server, link))
+}
+
+#[tactic(auto, unfolding(crate::specs::Turns::seconds_of))]
+fn seconds_of(alloc: Global, rest: &[Value]) -> Result<u64, ReadFault>
+    ensures { Gives (λ n. n) fault_of result (seconds_of (items_view rest.now)) }
+{
+    let number = one_of(alloc, rest)?;
+    number_at(alloc, 1, 0, 1_000_000_000, number)
+}
+
+fn poller_in(alloc: Global, value: &Value) -> Result<u32, ReadFault>
+    ensures { Gives (λ p. p) fault_of result (poller_in (view value.now)) }
+{
+    let poller = number_in(alloc, 0, 63, value)?;
+    Ok(poller as u32)
+}
+
+#[tactic(auto, using(scenario_values::proofs::Unders::gives_under))]
+fn poller_at(alloc: Global, value: &Value) -> Result<u32, ReadFault>
+    ensures { Gives (λ p. p) fault_of result (under_item 1 (poller_in (view value.now))) }
+{
+    under_item(alloc, 1, poller_in(alloc, value))
+}
+
+#[tactic(auto, unfolding(crate::specs::Turns::poll_of))]
+fn poll_of(alloc: Global, names: &Names, rest: &[Value]) -> Result<(u32, ServerNo), ReadFault>
+    ensures { Gives (λ p. p) fault_of result (poll_of names.now (items_view rest.now)) }
+{
+    let (poller, server) = two_of(alloc, rest)?;
+    let poller = poller_at(alloc, poller)?;
+    let server = server_at(alloc, names, 2, server)?;
+    Ok((poller, server))
+}
+
+#[tactic(auto, unfolding(crate::specs::Turns::poller_of))]
+fn poller_of(alloc: Global, rest: &[Value]) -> Result<u32, ReadFault>
+    ensures { Gives (λ p. p) fault_of result (poller_of (items_view rest.now)) }
+{
+    let poller = one_of(alloc, rest)?;
+    poller_at(alloc, poller)
+}
+
+fn write_of(alloc: Global, names: &Names, rest: &[Value]) -> Result<ListedTurn, ReadFault>
+    ensures { Gives (λ t. t) fault_of result (turn_by (λ p. Write p.0 p.1) (size_of names.now (items_view rest.now))) }
+{
+    let (server, size) = size_of(alloc, names, rest)?;
+    Ok(ListedTurn::One(Turn::Write(server, size)))
+}
+
+fn cut_of(alloc: Global, names: &Names, rest: &[Value]) -> Result<ListedTurn, ReadFault>
+    ensures { Gives (λ t. t) fault_of result (turn_by (λ p. Cut p.0 p.1) (link_of names.now (items_view rest.now))) }
+{
+    let (server, link) = link_of(alloc, names, rest)?;
+    Ok(ListedTurn::One(Turn::Cut(server, link)))
+}
+
+fn join_of(alloc: Global, names: &Names, rest: &[Value]) -> Result<ListedTurn, ReadFault>
+    ensures { Gives (λ t. t) fault_of result (turn_by (λ p. Join p.0 p.1) (link_of names.now (items_view rest.now))) }
+{
+    let (server, link) = link_of(alloc, names, rest)?;
+    Ok(ListedTurn::One(Turn::Join(server, link)))
+}
+
+fn poll_read_of(alloc: Global, names: &Names, rest: &[Value]) -> Result<ListedTurn, ReadFault>
+    ensures { Gives (λ t. t) fault_of result (turn_by (λ p. PollRead p.0 p.1) (poll_of names.now (items_view rest.now))) }
+{
+    let (poller, server) = poll_of(alloc, names, rest)?;
+    Ok(ListedTurn::One(Turn::PollRead(poller, server)))
+}
+
+// A word that nothing follows.
+fn alone(alloc: Global, turn: ListedTurn, rest: &[Value]) -> Result<ListedTurn, ReadFault>
+    ensures { Gives (λ t. t) fault_of result (alone turn (items_view rest.now)) }
+{
+    if rest.is_empty() {
+        Ok(turn)
+    } else {
+        Err(fails(alloc, FaultCode::BadTurn))
+    }
+}
+
+fn command_of(
+    alloc: Global,
+    names: &Names,
+    patterns: &Patterns,
+    rest: &[Value],
+) -> Result<ListedTurn, ReadFault>
+    ensures { Gives (λ t. t) fault_of result (turn_by Command (command_in names.now patterns.now (items_view rest.now))) }
+{
+    let command = command_in(alloc, names, patterns, rest)?;
+    Ok(ListedTurn::One(Turn::Command(HeldCommand::new(alloc, command)?)))
+}
+
+#[rattlefmt::skip]
+fn turn_of(alloc: Global, names: &Names, patterns: &Patterns, word: Word, rest: &[Value]) -> Result<ListedTurn, ReadFault>
+    ensures { Gives (λ t. t) fault_of result (turn_of names.now patterns.now word (items_view rest.now)) }
+{
+    match word {
+        Word::Write => write_of(alloc, names, rest),
+        Word::Fetch => Ok(ListedTurn::One(Turn::Fetch(server_of(alloc, names, rest)?))),
+        Word::Apply => Ok(ListedTurn::One(Turn::Apply(server_of(alloc, names, rest)?))),
+        Word::Fail => Ok(ListedTurn::One(Turn::Fail(server_of(alloc, names, rest)?))),
+        Word::Heal => Ok(ListedTurn::One(Turn::Heal(server_of(alloc, names, rest)?))),
+        Word::Rotate => Ok(ListedTurn::One(Turn::Rotate(server_of(alloc, names, rest)?))),
+        Word::Cut => cut_of(alloc, names, rest),
+        Word::Join => join_of(alloc, names, rest),
+        Word::Tick => Ok(ListedTurn::One(Turn::Tick(seconds_of(alloc, rest)?))),
+        Word::PollRead => poll_read_of(alloc, names, rest),
+        Word::PollStore => Ok(ListedTurn::One(Turn::PollStore(poller_of(alloc, rest)?))),
+        Word::Polls => alone(alloc, ListedTurn::Polls, rest),
+        Word::Round => alone(alloc, ListedTurn::Round, rest),
+        Word::Command => command_of(alloc, names, patterns, rest),
+        Word::Restart => alone(alloc, ListedTurn::One(Turn::Restart), rest),
+    }
+}
+
+#[tactic(auto, unfolding(crate::specs::Turns::turn_with))]
+fn turn_with(
+    alloc: Global,
+    names: &Names,
+    patterns: &Patterns,
+    first: &Value,
+    rest: &[Value],
+) -> Result<ListedTurn, ReadFault>
+    ensures { Gives (λ t. t) fault_of result (turn_with names.now patterns.now (view first.now) (items_view rest.now)) }
+{
+    let text = text_at(alloc, first)?;
+    let word = word_at(alloc, text)?;
+    turn_of(alloc, names, patterns, word, rest)
+}
+
+fn turn_from(
+    alloc: Global,
+    names: &Names,
+    patterns: &Patterns,
+    items: &[Value],
+) -> Result<ListedTurn, ReadFault>
+    ensures { Gives (λ t. t) fault_of result (turn_from names.now patterns.now (items_view items.now)) }
+{
+    match items.split_first() {
+        Some((first, rest)) => turn_with(alloc, names, patterns, first, rest),
+        None => Err(fails(alloc, FaultCode::BadTurn)),
+    }
+}
+
+#[tactic(auto, unfolding(crate::specs::Turns::turn_in))]
+fn turn_in(
+    alloc: Global,
+    names: &Names,
+    patterns: &Patterns,
+    value: &Value,
+) -> Result<ListedTurn, ReadFault>
+    ensures { Gives (λ t. t) fault_of result (turn_in names.now patterns.now (view value.now)) }
+{
+    let items = items_in(alloc, value)?;
+    turn_from(alloc, names, patterns, items)
+}
+
+#[tactic(auto, using(scenario_values::proofs::Unders::gives_under))]
+fn turn_at(
+    alloc: Global,
+    names: &Names,
+    patterns: &Patterns,
+    number: usize,
+    value: &Value,
+) -> Result<ListedTurn, ReadFault>
+    ensures { Gives (λ t. t) fault_of result (under_item number (turn_in names.now patterns.now (view value.now))) }
+{
+    under_item(alloc, number, turn_in(alloc, names, patterns, value))
+}
+
+/// Each turn in order. A turn that isn't known or has another number of parts is `BadTurn` at the turn, one that isn't
+/// built `NotBuilt`, and a part has its own faults at its place. The time is that of the items.
+pub fn each_turn(
+    alloc: Global,
+    names: &Names,
+    patterns: &Patterns,
+    items: &[Value],
+) -> Result<Vec<ListedTurn>, ReadFault>
+    ensures { Gives (λ v. v.items) fault_of result (each (turn_in names.now patterns.now) (items_view items.now)) }
+{
+    let mut turns = Vec::new(alloc);
+    for (number, value) in items.iter().enumerate() {
+        turns.push(turn_at(alloc, names, patterns, number, value)?)?;
+    }
+    Ok(turns)
+}

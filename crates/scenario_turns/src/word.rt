@@ -1,0 +1,76 @@
+//! The words with which turns begin.
+
+ghost use Rattle.std.specs.Prelude.{◌≡◌};
+ghost use Rattle.orch_base.specs.Gives.{Gives};
+ghost use Rattle.scenario_values.specs.Faults.{fault_of, is_key};
+ghost use Rattle.scenario_turns.specs.Words.{is_word, built_word, unbuilt_words, word_at};
+
+use scenario_values::{FaultCode, ReadFault, fails};
+use std::alloc::Global;
+
+/// What a turn does.
+#[derive(Clone, Copy, Debug, PartialEq, Eq)]
+pub enum Word {
+    Write,
+    Fetch,
+    Apply,
+    Fail,
+    Heal,
+    Cut,
+    Join,
+    Rotate,
+    Tick,
+    PollRead,
+    PollStore,
+    Polls,
+    Round,
+    Command,
+    Restart,
+}
+
+pub(crate) fn is_word(word: &str, text: &str) -> bool
+    ensures { result ≡ is_word word.now text.now }
+{
+    word == text
+}
+
+#[tactic(auto, unfolding(crate::specs::Words::built_word))]
+fn built_word(text: &str) -> Option<Word>
+    ensures { result ≡ built_word text.now }
+{
+    match text {
+        "write" => Some(Word::Write),
+        "fetch" => Some(Word::Fetch),
+        "apply" => Some(Word::Apply),
+        "fail" => Some(Word::Fail),
+        "heal" => Some(Word::Heal),
+        "cut" => Some(Word::Cut),
+        "join" => Some(Word::Join),
+        "rotate" => Some(Word::Rotate),
+        "tick" => Some(Word::Tick),
+        "poll-read" => Some(Word::PollRead),
+        "poll-store" => Some(Word::PollStore),
+        "polls" => Some(Word::Polls),
+        "round" => Some(Word::Round),
+        "command" => Some(Word::Command),
+        "restart" => Some(Word::Restart),
+        _ => None,
+    }
+}
+
+fn is_unbuilt(text: &str) -> bool
+    ensures { result ≡ is_key unbuilt_words text.now }
+{
+    ["job", "scan"].contains(&text)
+}
+
+/// The word of a turn that is built. That of another turn of the format is `NotBuilt`, and any other text `BadTurn`.
+pub(crate) fn word_at(alloc: Global, text: &str) -> Result<Word, ReadFault>
+    ensures { Gives (λ w. w) fault_of result (word_at text.now) }
+{
+    match built_word(text) {
+        Some(word) => Ok(word),
+        None if is_unbuilt(text) => Err(fails(alloc, FaultCode::NotBuilt)),
+        None => Err(fails(alloc, FaultCode::BadTurn)),
+    }
+}

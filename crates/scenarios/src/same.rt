@@ -1,0 +1,118 @@
+//! Whether scenarios are equal.
+
+ghost use Rattle.std.specs.Prelude.{◌≡◌, ◌↔◌, IsTrue, map, string_bytes};
+
+use crate::{Alias, Aliases, ClusterFilters, FilterList, Scenario, Texts, Turn, Turns};
+
+fn same_aliases(aliases: &[Alias], others: &[Alias]) -> bool
+    ensures { IsTrue result ↔ (aliases.now ≡ others.now) }
+{
+    if aliases.len() != others.len() {
+        return false;
+    }
+    for (n, alias) in aliases.iter().enumerate() {
+        if !alias.is_same(&others[n]) {
+            return false;
+        }
+    }
+    true
+}
+
+fn same_text(text: &str, other: &str) -> bool
+    ensures { IsTrue result ↔ (text.now ≡ other.now) }
+{
+    text.as_bytes() == other.as_bytes()
+}
+
+fn same_texts(texts: &[String], others: &[String]) -> bool
+    ensures { IsTrue result ↔ (map string_bytes texts.now ≡ map string_bytes others.now) }
+{
+    if texts.len() != others.len() {
+        return false;
+    }
+    for (n, text) in texts.iter().enumerate() {
+        if !same_text(text.as_str(), others[n].as_str()) {
+            return false;
+        }
+    }
+    true
+}
+
+fn same_turns(turns: &[Turn], others: &[Turn]) -> bool
+    ensures { IsTrue result ↔ (turns.now ≡ others.now) }
+{
+    if turns.len() != others.len() {
+        return false;
+    }
+    for (n, turn) in turns.iter().enumerate() {
+        if !turn.is_same(&others[n]) {
+            return false;
+        }
+    }
+    true
+}
+
+impl Alias {
+    /// Whether the labels and the aliases are equal, byte for byte. It takes no memory.
+    pub fn is_same(&self, other: &Alias) -> bool
+        ensures { IsTrue result ↔ (self.now ≡ other.now) }
+    {
+        self.cluster.is_same(&other.cluster) && self.alias.is_same(&other.alias)
+    }
+}
+
+impl Aliases {
+    /// Whether the aliases are equal. It takes no memory.
+    pub fn is_same(&self, other: &Aliases) -> bool
+        ensures { IsTrue result ↔ (self.now ≡ other.now) }
+    {
+        same_aliases(self.as_slice(), other.as_slice())
+    }
+}
+
+impl Texts {
+    /// Whether the texts are equal, byte for byte. It takes no memory.
+    pub fn is_same(&self, other: &Texts) -> bool
+        ensures { IsTrue result ↔ (self.now ≡ other.now) }
+    {
+        same_texts(self.as_slice(), other.as_slice())
+    }
+}
+
+impl FilterList {
+    /// Whether the filters and their answers are equal. It takes no memory.
+    pub fn is_same(&self, other: &FilterList) -> bool
+        ensures { IsTrue result ↔ (self.now ≡ other.now) }
+    {
+        self.texts.is_same(&other.texts) && self.passes.is_same(&other.passes)
+    }
+}
+
+impl ClusterFilters {
+    /// Whether both lists are equal. It takes no memory.
+    pub fn is_same(&self, other: &ClusterFilters) -> bool
+        ensures { IsTrue result ↔ (self.now ≡ other.now) }
+    {
+        self.master.is_same(&other.master) && self.intermediate.is_same(&other.intermediate)
+    }
+}
+
+impl Turns {
+    /// Whether the turns are equal. It takes no memory.
+    pub fn is_same(&self, other: &Turns) -> bool
+        ensures { IsTrue result ↔ (self.now ≡ other.now) }
+    {
+        same_turns(self.as_slice(), other.as_slice())
+    }
+}
+
+impl Scenario {
+    /// Whether the scenarios are equal. It takes no memory, and time in their size.
+    pub fn same(&self, other: &Scenario) -> bool
+        ensures { IsTrue result ↔ (self.now ≡ other.now) }
+    {
+        (self.opening.same(&other.opening) && self.moment == other.moment)
+            && (self.aliases.is_same(&other.aliases) && self.filters.is_same(&other.filters))
+            && (self.known.is_same(&other.known) && self.turns.is_same(&other.turns))
+    }
+}

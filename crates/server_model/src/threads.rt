@@ -1,0 +1,11 @@
+//! The types of this crate can be moved between threads, and shared by them.
+
+use crate::{History, Server, World};
+
+fn crosses_threads<T: Send + Sync>() {}
+
+fn all_cross_threads() {
+    crosses_threads::<History>();
+    crosses_threads::<Server>();
+    crosses_threads::<World>();
+}

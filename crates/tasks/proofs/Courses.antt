@@ -1,0 +1,249 @@
+-- Runs with their journals, turn by turn, and the lines of their replies.
+use Rattle.std.proofs.Common.{◌≡◌, ◌∙◌, ℕ, ◌+◌, ◌<◌, List, [], ◌∷◌, ◌++◌, length, take, get_or, true, false, refl, sym, ap, subst, arith, append_assoc, Option, Some, None, Bool}
+use Rattle.std.specs.Prelude.{◌||◌, slice_get}
+use Rattle.std.proofs.lemmas.List.{append-nil, length-append, length-take-le, take_more, take-append-le}
+use Rattle.std.proofs.lemmas.List.Folds.{list_any-append}
+use Rattle.std.proofs.Math.ListN.{get_or-append}
+use Rattle.std.proofs.Math.Seq.{get_or-append_seam, take-length}
+use Rattle.std.proofs.lemmas.Option.{get_or_from_slice_get, slice_get-get_or}
+use Rattle.orch_base.specs.Names.{HostPort}
+use Rattle.instance_keeper.specs.declared.row.Row.{Row}
+use Rattle.commands.specs.declared.turn.CommandTurn.{CommandTurn}
+use Rattle.turns.specs.declared.turn.Turn.{Turn}
+use Rattle.turns.specs.declared.turn.Turn.TheVariants as turn
+use Rattle.turns.specs.declared.turn.Reply.{Reply}
+use Rattle.orch_core.specs.declared.fault.TurnFault.{TurnFault}
+use Rattle.orch_core.specs.declared.fault.TurnFault.TheVariants as fault
+use Rattle.orch_core.specs.Keeping.{Calls, Ran, StepsTo, WasCutOff, kept_by}
+use Rattle.orch_core.specs.Replies.{reply_of}
+use Rattle.orch_core.specs.Runs.{Held, Recorded, engine, held_run, held_step, record_turn, recorder, run_turns}
+use Rattle.orch_core.specs.Scenarios.{without_turns}
+use Rattle.orch_core.specs.States.{State}
+use Rattle.orch_core.proofs.Runs.{Ran-more, Ran-nil, StepsTo-recorded}
+use Rattle.report_text.specs.Lines.{line_text, lines_text}
+use Rattle.tasks.specs.declared.progress.Progress.{Progress}
+use Rattle.tasks.specs.Progress.{Adds, Follows, GivesUp, GaveUp, IsFresh, Leads, Point, Replies, StopsBefore, StopsBehind, point}
+use Rattle.tasks.specs.Report.{any_refused, is_refused, last_reply, or_reply, replies_text}
+use Rattle.tasks.specs.Sinks.{Carries, IsOnTheWay, Taken, TakesFront, between}
+use Rattle.tasks.proofs.Sends.{front_of_longer, front_taken, takes_nothing}
+
+-- ---- the lines of a journal
+
+pub lines-append : (names : List HostPort) (number : ℕ) (xs ys : List (Turn × Reply)) → lines_text names number (xs ++ ys) ≡ lines_text names number xs ++ lines_text names (number + length xs) ys
+lines-append names number [] ys =
+    let here : number ≡ number + 0 = omega arith in
+    ap (λ n. lines_text names n ys) here
+lines-append names number (x ∷ xs) ys =
+    let first = line_text names number x.0 x.1 in
+    let rest : lines_text names (number + 1) (xs ++ ys) ≡ lines_text names (number + 1) xs ++ lines_text names (number + 1 + length xs) ys = lines-append names (number + 1) xs ys in
+    let here : number + 1 + length xs ≡ number + length (x ∷ xs) = omega arith in
+    ap (λ (bytes : List ℕ). first ++ bytes) (rest ∙ ap (λ n. lines_text names (number + 1) xs ++ lines_text names n ys) here)
+    ∙ sym (append_assoc first (lines_text names (number + 1) xs) (lines_text names (number + length (x ∷ xs)) ys))
+
+-- one more line
+line_joins : (names : List HostPort) (journal : List (Turn × Reply)) (number : ℕ) (t : Turn) (r : Reply) → number ≡ 1 + length journal → lines_text names 1 (journal ++ (t, r) ∷ []) ≡ lines_text names 1 journal ++ line_text names number t r
+line_joins names journal number t r is =
+    lines-append names 1 journal ((t, r) ∷ [])
+    ∙ ap (λ (bytes : List ℕ). lines_text names 1 journal ++ bytes) (append-nil (line_text names (1 + length journal) t r) ∙ ap (λ (n : ℕ). line_text names n t r) (sym is))
+
+-- whether one more reply is refused
+refused_joins : (run : Recorded) (state : State) (t : Turn) (r : Reply) → any_refused (record { state = state; journal = run.journal ++ (t, r) ∷ [] }) ≡ (any_refused run || is_refused r)
+unfolding any_refused
+refused_joins run state t r = list_any-append (λ e. is_refused e.1) run.journal ((t, r) ∷ []) ∙ ap (λ (b : Bool). any_refused run || b) (last (is_refused r))
+  where
+    last : (b : Bool) → (b || false) ≡ b
+    last true = refl
+    last false = refl
+
+-- the last reply of a command is that of its turn, where it comes last
+pub last_is : (journal : List (Turn × Reply)) (c : CommandTurn) (r : Reply) → last_reply (journal ++ (turn.Command c, r) ∷ []) ≡ Some r
+last_is [] c r = refl
+last_is (e ∷ es) c r = ap (λ (o : Option Reply). or_reply o e) (last_is es c r)
+
+-- ---- the same turns with a journal
+
+-- the run with its journal
+pub record Recording (kept : Option (List Row)) (s : State) (ts : List Turn) (kept' : Option (List Row)) (now : State) : Type 0 where
+  pub run : Recorded
+  pub ran : Ran recorder kept (without_turns s) ts kept' run
+  pub state : run.state ≡ now
+
+pub run_state : (r : Recorded) (xs : List (List Row × Turn)) → (run_turns recorder r xs).state ≡ run_turns engine r.state xs
+run_state r [] = refl
+run_state r (x ∷ xs) = run_state (record_turn x.0 r x.1) xs
+
+bare : Held Recorded → Held State
+bare h = record { rows = h.rows; state = h.state.state }
+
+held_bare : (h : Held Recorded) (ts : List Turn) → bare (held_run recorder h ts) ≡ held_run engine (bare h) ts
+unfolding bare
+held_bare h [] = refl
+held_bare h (t ∷ ts) = held_bare (held_step recorder h t) ts
+
+pub recorded : (kept kept' : Option (List Row)) (s now : State) (ts : List Turn) → Ran engine kept s ts kept' now → Recording kept s ts kept' now
+unfolding bare
+recorded None kept' s now ts ran = record {
+  run = run_turns recorder (without_turns s) ran.state.0;
+  ran = record { state = (ran.state.0, ran.state.1, refl); rows = ran.rows };
+  state = run_state (without_turns s) ran.state.0 ∙ sym ran.state.2;
+}
+recorded (Some rows) kept' s now ts ran =
+    let h : Held Recorded = record { rows = rows; state = without_turns s } in
+    let same : bare (held_run recorder h ts) ≡ held_run engine (bare h) ts = held_bare h ts in
+    record {
+      run = (held_run recorder h ts).state;
+      ran = record { state = refl; rows = ran.rows ∙ sym (ap (λ (x : Held State). Some x.rows) same) };
+      state = ap (λ (x : Held State). x.state) same ∙ sym ran.state;
+    }
+
+-- ---- turn by turn
+
+-- one more turn joins the run with its reply
+module _ (from mid to : Point) (ts : List Turn) (run : Recorded) (t : Turn) (r : Reply) (leads : Leads from mid.kept ts run) (at : run.state ≡ mid.state) (steps : StepsTo engine mid.kept mid.state t to.state) (keeps : to.kept ≡ kept_by engine true mid.kept mid.state t) (replied : r ≡ reply_of mid.state t) where
+  abbrev pub next : Recorded
+  next = record { state = to.state; journal = run.journal ++ (t, r) ∷ [] }
+
+  pub next_leads : Leads from to.kept (ts ++ t ∷ []) next
+  next_leads =
+      let here : StepsTo engine mid.kept run.state t to.state = subst (λ (v : State). StepsTo engine mid.kept v t to.state) (sym at) steps in
+      let joins : run.journal ++ (t, r) ∷ [] ≡ run.journal ++ (t, reply_of run.state t) ∷ [] = ap (λ (x : Reply). run.journal ++ (t, x) ∷ []) (replied ∙ ap (λ (v : State). reply_of v t) (sym at)) in
+      Ran-more recorder from.kept mid.kept to.kept (without_turns from.state) run next ts t leads (StepsTo-recorded mid.kept run.state to.state run.journal (run.journal ++ (t, r) ∷ []) t here joins)
+      (keeps ∙ ap (λ (v : State). kept_by engine true mid.kept v t) (sym at))
+
+-- nothing was taken yet
+pub Follows-nil : (names : List HostPort) (at : Point) (ts : List Turn) (o : Taken) (p : Progress) → IsFresh p → Follows names at (take 0 ts) at (between o o) p
+unfolding any_refused
+Follows-nil names at ts o p fresh = record {
+  run = without_turns at.state;
+  ran = Ran-nil recorder at.kept (without_turns at.state);
+  state = refl;
+  text = carries p.pieces.failed fresh.unfailed;
+  refused = fresh.unrefused;
+  count = refl;
+}
+  where
+    carries : (failed : Bool) → failed ≡ false → IsOnTheWay (between o o) p.pieces.held.items [] failed
+    carries true is = absurd cc
+    carries false is = record { front = []; took = takes_nothing o.bytes; is = sym fresh.held; later = omega arith }
+
+module _ (names : List HostPort) (from mid to : Point) (ts : List Turn) (i : ℕ) (d : Turn) (start old new : Taken) (p p' : Progress) (r : Reply) (number : ℕ) (within : i < length ts) (numbered : number ≡ i + 1) (follows : Follows names from (take i ts) mid (between start old) p)
+    (steps : StepsTo engine mid.kept mid.state (get_or ts i d) to.state) (keeps : to.kept ≡ kept_by engine true mid.kept mid.state (get_or ts i d)) (replied : r ≡ reply_of mid.state (get_or ts i d)) where
+  abbrev t : Turn
+  t = get_or ts i d
+
+  counted : number ≡ 1 + length follows.run.journal
+  counted = let few : length (take i ts) ≡ i = length-take-le i ts (omega (arith, within)) in omega (arith, numbered, few, follows.count)
+
+  abbrev after : Recorded
+  after = record { state = to.state; journal = follows.run.journal ++ (t, r) ∷ [] }
+
+  leads : Leads from to.kept (take (i + 1) ts) after
+  leads = subst (λ us. Leads from to.kept us after) (sym (take_more ts i d within)) (next_leads from mid to (take i ts) follows.run t r follows.ran follows.state steps keeps replied)
+
+  text_is : replies_text names after ≡ replies_text names follows.run ++ line_text names number t r
+  text_is = line_joins names follows.run.journal number t r counted
+
+  -- the line of one more turn joins the report
+  pub Follows-next : Adds names number t r p p' old new → Follows names from (take (i + 1) ts) to (between start new) p'
+  Follows-next adds = record {
+    run = after;
+    ran = leads;
+    state = refl;
+    text = subst (Carries (between start new) p'.pieces) (sym text_is) (adds.text start (replies_text names follows.run) follows.text);
+    refused = adds.is_refused ∙ (ap (λ (b : Bool). b || is_refused r) follows.refused ∙ sym (refused_joins follows.run to.state t r));
+    count =
+        let few : length (take (i + 1) ts) ≡ i + 1 = length-take-le (i + 1) ts (omega (arith, within)) in
+        omega (arith, few, counted, numbered, length-append follows.run.journal ((t, r) ∷ []));
+  }
+
+  -- memory ran out behind the turn, for its line
+  pub line_wanting : Carries (between start new) p'.pieces (replies_text names follows.run) → StopsBehind names from ts to (between start new)
+  line_wanting carries = record {
+    k = i + 1;
+    within = omega (arith, within);
+    run = after;
+    ran = leads;
+    front = subst (λ (v : List ℕ). TakesFront (between start new) v) (sym text_is)
+        (front_of_longer start.bytes new.bytes (replies_text names follows.run) (line_text names number t r) (front_taken (between start new) p'.pieces.held.items (replies_text names follows.run) p'.pieces.failed carries));
+  }
+
+-- a turn gave up, and nothing of it was done
+pub gave_up : (names : List HostPort) (from mid to : Point) (ts : List Turn) (i : ℕ) (d : Turn) (start old : Taken) (p : Progress) (why : TurnFault) → i < length ts → Follows names from (take i ts) mid (between start old) p → to ≡ mid
+    → (why ≡ fault.Keeper → Calls engine mid.state (get_or ts i d)) → GaveUp names from ts to (between start old) p why
+gave_up names from mid to ts i d start old p fault.Keeper within follows same calls = subst (λ (at : Point). StopsBefore names from ts at (between start old) p) (sym same) (record {
+  k = i;
+  within = within;
+  follows = follows;
+  calls = λ t at.
+      subst (λ (v : State). Calls engine v t) (sym follows.state) (subst (Calls engine mid.state) (get_or_from_slice_get ts i t d at) (calls refl));
+})
+gave_up names from mid to ts i d start old p fault.Memory within follows same calls = subst (λ (at : Point). StopsBehind names from ts at (between start old)) (sym same) (record {
+  k = i;
+  within = omega (arith, within);
+  run = follows.run;
+  ran = follows.ran;
+  front = front_taken (between start old) p.pieces.held.items (replies_text names follows.run) p.pieces.failed follows.text;
+})
+
+-- ---- a single command's turns
+
+-- the scenario's turns gave up
+pub first_gave_up : (from : Point) (kept : Option (List Row)) (now : State) (ts us : List Turn) (why : TurnFault) → WasCutOff engine from.kept from.state ts kept now why → GivesUp from (ts ++ us) kept why
+first_gave_up from kept now ts us why cut = at why cut.calls
+  where
+    run : Recording from.kept from.state (take cut.k ts) kept now
+    run = recorded from.kept kept from.state now (take cut.k ts) cut.ran
+
+    front : take cut.k (ts ++ us) ≡ take cut.k ts
+    front = take-append-le cut.k ts us (omega (arith, cut.within))
+
+    leads : Leads from kept (take cut.k (ts ++ us)) run.run
+    leads = subst (λ vs. Leads from kept vs run.run) (sym front) run.ran
+
+    within : cut.k < length (ts ++ us)
+    within = omega (arith, cut.within, length-append ts us)
+
+    here : (t : Turn) → slice_get (ts ++ us) cut.k ≡ Some t → slice_get ts cut.k ≡ Some t
+    here t at = slice_get-get_or ts cut.k t cut.within ∙ ap Some (sym (get_or-append ts us t cut.k cut.within) ∙ get_or_from_slice_get (ts ++ us) cut.k t t at)
+
+    at : (e : TurnFault) → (e ≡ fault.Keeper → (t : Turn) → slice_get ts cut.k ≡ Some t → Calls engine now t) → GivesUp from (ts ++ us) kept e
+    at fault.Keeper calls = (run.run, record { k = cut.k; within = within; comes = leads; calls = λ t is. subst (λ (v : State). Calls engine v t) (sym run.state) (calls refl t (here t is)) })
+    at fault.Memory calls = record { k = cut.k; within = omega (arith, within); run = run.run; ran = leads }
+
+-- the command's own turn did
+pub last_gave_up : (from : Point) (mid : Point) (kept : Option (List Row)) (ts : List Turn) (t : Turn) (why : TurnFault) → Ran engine from.kept from.state ts mid.kept mid.state → kept ≡ mid.kept → (why ≡ fault.Keeper → Calls engine mid.state t) → GivesUp from (ts ++ t ∷ []) kept why
+last_gave_up from mid kept ts t why ran same calls = at why calls
+  where
+    run : Recording from.kept from.state ts mid.kept mid.state
+    run = recorded from.kept mid.kept from.state mid.state ts ran
+
+    front : take (length ts) (ts ++ t ∷ []) ≡ ts
+    front = take-append-le (length ts) ts (t ∷ []) (omega arith) ∙ take-length ts
+
+    leads : Leads from kept (take (length ts) (ts ++ t ∷ [])) run.run
+    leads = subst (λ k. Leads from k (take (length ts) (ts ++ t ∷ [])) run.run) (sym same) (subst (λ vs. Leads from mid.kept vs run.run) (sym front) run.ran)
+
+    within : length ts < length (ts ++ t ∷ [])
+    within = omega (arith, length-append ts (t ∷ []))
+
+    own : (u : Turn) → slice_get (ts ++ t ∷ []) (length ts) ≡ Some u → t ≡ u
+    own u at = sym (get_or-append_seam ts t [] u) ∙ get_or_from_slice_get (ts ++ t ∷ []) (length ts) u u at
+
+    at : (e : TurnFault) → (e ≡ fault.Keeper → Calls engine mid.state t) → GivesUp from (ts ++ t ∷ []) kept e
+    at fault.Keeper calls = (run.run, record { k = length ts; within = within; comes = leads; calls = λ u is. subst (λ (v : State). Calls engine v u) (sym run.state) (subst (Calls engine mid.state) (own u is) (calls refl)) })
+    at fault.Memory calls = record { k = length ts; within = omega (arith, within); run = run.run; ran = leads }
+
+-- the command's own turn was taken
+pub own_replies : (from mid to : Point) (ts : List Turn) (c : CommandTurn) (r : Reply) → Ran engine from.kept from.state ts mid.kept mid.state → StepsTo engine mid.kept mid.state (turn.Command c) to.state
+    → to.kept ≡ kept_by engine true mid.kept mid.state (turn.Command c) → r ≡ reply_of mid.state (turn.Command c) → Replies from (ts ++ turn.Command c ∷ []) to r
+own_replies from mid to ts c r ran steps keeps replied =
+    let run = recorded from.kept mid.kept from.state mid.state ts ran in
+    record {
+      run = record { state = to.state; journal = run.run.journal ++ (turn.Command c, r) ∷ [] };
+      ran = next_leads from mid to ts run.run (turn.Command c) r run.ran run.state steps keeps replied;
+      state = refl;
+      last = last_is run.run.journal c r;
+    }
+
+pub same_point : (k k' : Option (List Row)) (s s' : State) → k ≡ k' → s ≡ s' → point k s ≡ point k' s'
+same_point k k' s s' kept state = cc

@@ -1,0 +1,5 @@
+pub mod Courses
+pub mod Known
+pub mod Sends
+pub mod Stands
+pub mod Words

@@ -1,0 +1,92 @@
+-- What words ask of a scenario's servers.
+use Rattle.std.specs.Prelude.{◌≡◌, ℕ, ◌+◌, ◌++◌, ◌∷◌, Bool, List, [], codes, map, if◌then◌else◌, Option, Some, None, option_map, Ok}
+use Rattle.std.specs.Str.{bytes_eq}
+use Rattle.orch_base.specs.Names.{HostPort, printed, same_name}
+use Rattle.orch_base.specs.declared.server.ServerNo.{ServerNo}
+use Rattle.commands.specs.declared.name.CommandName.{CommandName}
+use Rattle.commands.specs.declared.turn.CommandTurn.{CommandTurn}
+use Rattle.commands.specs.declared.turn.Found.{Found}
+use Rattle.commands.specs.Names.{name_of, uses_of}
+use Rattle.command_line.specs.declared.parts.Places.{Places}
+use Rattle.command_line.specs.Places.{places_of}
+use Rattle.scenarios.specs.Turns.{IsCommand}
+use Rattle.turns.specs.declared.turn.Turn.{Turn}
+use Rattle.turns.specs.declared.turn.Turn.TheVariants as turn
+use Rattle.scenario_turns.specs.Found.{found_of}
+use Rattle.tasks.specs.declared.asked.Asked.{Asked}
+use Rattle.tasks.specs.declared.asked.Asked.TheVariants as asked
+use Rattle.tasks.specs.declared.asked.Task.{Task}
+
+-- the first server of this name, from this number on
+abbrev pub server_from : HostPort → ℕ → List HostPort → Option ServerNo
+server_from name n [] = None
+server_from name n (other ∷ others) = if same_name other name then Some (record { 0 = n }) else server_from name (n + 1) others
+
+abbrev pub server_of : List HostPort → HostPort → Option ServerNo
+server_of names name = server_from name 0 names
+
+-- what is given, where the command uses it
+abbrev pub used : {A : Type 0} → Bool → Option A → Option A
+used uses given = if uses then given else None
+
+-- the server that is given, where one is; nothing where no server has that name
+abbrev pub server_given : List HostPort → Option HostPort → Option (Option ServerNo)
+server_given names None = Some None
+server_given names (Some name) = option_map (λ n. Some n) (server_of names name)
+
+-- a pattern, where one is given, with an answer for each server's printed name
+abbrev pub pattern_for : List HostPort → Option (List ℕ) → Option Found
+pattern_for names text = option_map (λ t. found_of t (map printed names)) text
+
+-- the command's own turn over these servers, with all of the words that the command uses
+abbrev pub turn_for : Places → List HostPort → CommandName → Option ServerNo → Option ServerNo → CommandTurn
+turn_for p names name i d = record {
+  command = record { name = name; i = i; d = d };
+  keys = record {
+    rule = used (uses_of name).rule p.rule;
+    duration = used (uses_of name).duration p.duration;
+    reason = used (uses_of name).reason p.reason;
+    owner = used (uses_of name).owner p.owner;
+    pattern = pattern_for names (used (uses_of name).pattern p.pattern);
+  };
+}
+
+-- about this instance and this destination, where servers have their names
+abbrev pub asked_about : Places → List HostPort → CommandName → Option (Option ServerNo) → Option (Option ServerNo) → Asked
+asked_about p names name None d = asked.Unknown
+asked_about p names name (Some i) None = asked.Unknown
+asked_about p names name (Some i) (Some d) = asked.Turn (turn_for p names name i d)
+
+abbrev pub asked_named : Places → List HostPort → Option CommandName → Asked
+asked_named p names None = asked.Nothing
+asked_named p names (Some name) = asked_about p names name (server_given names (used (uses_of name).i p.i)) (server_given names (used (uses_of name).d p.d))
+
+-- what words ask over servers of these names
+unfoldable pub asked_of : Places → List HostPort → Asked
+asked_of p names = if bytes_eq p.command (codes "run") then asked.Run else asked_named p names (name_of p.command)
+
+-- the turns that are taken for it behind the scenario's
+abbrev pub own_turns : Asked → List Turn
+own_turns asked.Run = []
+own_turns (asked.Turn t) = turn.Command t ∷ []
+own_turns asked.Unknown = []
+own_turns asked.Nothing = []
+
+-- the turns that are taken: the scenario's, and behind them the command's own
+abbrev pub turns_taken : Asked → List Turn → List Turn
+turns_taken a ts = ts ++ own_turns a
+
+-- it is something, and its turn is one over so many servers
+abbrev pub IsAsked : ℕ → Asked → Type 0
+IsAsked count asked.Run = Unit {0}
+IsAsked count (asked.Turn t) = IsCommand count t
+IsAsked count asked.Unknown = Unit {0}
+IsAsked count asked.Nothing = ⊥
+
+-- what the words ask of servers of these names
+abbrev pub task_of : Places → List HostPort → Task
+task_of p names = record { waits = p.wait; asked = asked_of p names; tables = p.tables }
+
+-- the words of a call that takes them
+abbrev pub IsTaken : Places → Type 0
+IsTaken p = (words : List (List ℕ)) × (places_of words ≡ Ok p)

@@ -1,0 +1,47 @@
+-- A task where the keeper tells its rows: what it answers is a function of the task, the scenario and the kept rows.
+use Rattle.std.specs.Prelude.{◌≡◌, ◌++◌, ℕ, List, Some, take}
+use Rattle.instance_keeper.specs.declared.row.Row.{Row}
+use Rattle.instance_keeper.specs.Rows.{changed}
+use Rattle.scenarios.specs.declared.scenario.Scenario.{Scenario}
+use Rattle.scenarios.specs.Scenarios.{names_of}
+use Rattle.turns.specs.declared.turn.Turn.{Turn}
+use Rattle.orch_core.specs.Runs.{Held, Recorded, held_run, recorder}
+use Rattle.orch_core.specs.Scenarios.{start, start_changes, without_turns}
+use Rattle.tasks.specs.declared.asked.Task.{Task}
+use Rattle.tasks.specs.Asked.{turns_taken}
+use Rattle.tasks.specs.Report.{Answer, answer_of, cut_text}
+use Rattle.tasks.specs.Works.{Work}
+
+-- the opening's state, and the kept rows with what it keeps
+abbrev pub opened : Task → Scenario → List Row → Held Recorded
+opened c s rows = record { rows = changed rows (start_changes s rows); state = without_turns (start s c.waits rows) }
+
+-- both after these turns
+abbrev pub held_from : Task → Scenario → List Row → List Turn → Held Recorded
+held_from c s rows ts = held_run recorder (opened c s rows) ts
+
+-- both after the first k of the task's turns
+abbrev pub held_after : Task → Scenario → List Row → ℕ → Held Recorded
+held_after c s rows k = held_from c s rows (take k (turns_taken c.asked s.turns))
+
+-- both after all of them
+abbrev pub last_held : Task → Scenario → List Row → Held Recorded
+last_held c s rows = held_from c s rows (turns_taken c.asked s.turns)
+
+-- what is answered
+abbrev pub task_answer : Task → Scenario → List Row → Answer
+task_answer c s rows = answer_of c (names_of s) (last_held c s rows).state
+
+-- what is left of it where its first k turns are taken
+abbrev pub cut_answer : Task → Scenario → List Row → ℕ → List ℕ
+cut_answer c s rows k = cut_text c.asked (names_of s) (held_after c s rows k).state
+
+-- these turns lead to one run, and to one list of kept rows
+pub record IsFixed (w : Work) (rows : List Row) (ts : List Turn) (run : Recorded) : Type 0 where
+  pub run_is : run ≡ (held_from w.task w.scenario rows ts).state
+  pub rows_are : w.new ≡ Some (held_from w.task w.scenario rows ts).rows
+
+-- one text begins another
+pub record Begins (front text : List ℕ) : Type 0 where
+  pub rest : List ℕ
+  pub is : text ≡ front ++ rest

@@ -1,0 +1,115 @@
+-- A run's report on its way, turn by turn.
+use Rattle.std.specs.Prelude.{◌≡◌, ℕ, ◌<◌, ◌≤◌, ◌||◌, List, [], false, length, take, slice_get, Option, Some}
+use Rattle.orch_base.specs.Names.{HostPort}
+use Rattle.instance_keeper.specs.declared.row.Row.{Row}
+use Rattle.turns.specs.declared.turn.Reply.{Reply}
+use Rattle.turns.specs.declared.turn.Turn.{Turn}
+use Rattle.orch_core.specs.declared.fault.TurnFault.{TurnFault}
+use Rattle.orch_core.specs.declared.fault.TurnFault.TheVariants as fault
+use Rattle.orch_core.specs.Keeping.{Calls, Ran}
+use Rattle.orch_core.specs.Runs.{Recorded, recorder}
+use Rattle.orch_core.specs.Scenarios.{without_turns}
+use Rattle.orch_core.specs.States.{State}
+use Rattle.tasks.specs.declared.asked.Task.{Task}
+use Rattle.tasks.specs.declared.progress.Progress.{Progress}
+use Rattle.server_model.specs.Worlds.{World}
+use Rattle.report_text.specs.Lines.{line_text}
+use Rattle.report_text.specs.Tables.{tables_text}
+use Rattle.tasks.specs.declared.ending.Ending.{Ending}
+use Rattle.tasks.specs.declared.ending.Ending.TheVariants as ends
+use Rattle.tasks.specs.Endings.{Course}
+use Rattle.tasks.specs.Report.{any_refused, is_refused, last_reply, replies_text}
+use Rattle.tasks.specs.Sinks.{Carries, End, FailsInRest, Joins, Taken, TakesFront, TakesRest}
+use Rattle.tasks.specs.Works.{IsCut}
+
+-- a state of a run, and the kept rows beside it, where the keeper tells them
+pub record Point : Type 0 where
+  pub kept : Option (List Row)
+  pub state : State
+
+abbrev pub point : Option (List Row) → State → Point
+point kept state = record { kept = kept; state = state }
+
+-- these turns lead from a point, with an empty journal, to this state, and to these kept rows
+abbrev pub Leads : Point → Option (List Row) → List Turn → Recorded → Type 0
+Leads from kept ts run = Ran recorder from.kept (without_turns from.state) ts kept run
+
+-- nothing is on its way yet
+pub record IsFresh (p : Progress) : Type 0 where
+  pub held : p.pieces.held.items ≡ []
+  pub unfailed : p.pieces.failed ≡ false
+  pub unrefused : p.is_refused ≡ false
+
+-- these turns led from one point to another, and the lines of their replies are on their way
+pub record Follows (names : List HostPort) (from : Point) (ts : List Turn) (to : Point) (e : End) (p : Progress) : Type 0 where
+  pub run : Recorded
+  pub ran : Leads from to.kept ts run
+  pub state : run.state ≡ to.state
+  pub text : Carries e p.pieces (replies_text names run)
+  pub refused : p.is_refused ≡ any_refused run
+  pub count : length run.journal ≡ length ts
+
+-- the turns before one of these were taken, and that one met a keeper's fault
+pub record StopsBefore (names : List HostPort) (from : Point) (ts : List Turn) (to : Point) (e : End) (p : Progress) : Type 0 where
+  pub k : ℕ
+  pub within : k < length ts
+  pub follows : Follows names from (take k ts) to e p
+  pub calls : (t : Turn) → slice_get ts k ≡ Some t → Calls recorder follows.run t
+
+-- memory ran out behind some of these turns
+pub record StopsBehind (names : List HostPort) (from : Point) (ts : List Turn) (to : Point) (e : End) : Type 0 where
+  pub k : ℕ
+  pub within : k ≤ length ts
+  pub run : Recorded
+  pub ran : Leads from to.kept (take k ts) run
+  pub front : TakesFront e (replies_text names run)
+
+-- why the turns weren't all taken
+abbrev pub GaveUp : List HostPort → Point → List Turn → Point → End → Progress → TurnFault → Type 0
+GaveUp names from ts to e p fault.Keeper = StopsBefore names from ts to e p
+GaveUp names from ts to e p fault.Memory = StopsBehind names from ts to e
+
+-- what a task's report is of, from a point on
+abbrev pub course_from : Task → List HostPort → List Turn → Point → Option (List Row) → Course
+course_from c names ts from kept = record { task = c; names = names; turns = ts; came = Leads from kept }
+
+-- ---- a single command
+
+-- these turns were taken, and the last reply of a command is this one
+pub record Replies (from : Point) (ts : List Turn) (to : Point) (reply : Reply) : Type 0 where
+  pub run : Recorded
+  pub ran : Leads from to.kept ts run
+  pub state : run.state ≡ to.state
+  pub last : last_reply run.journal ≡ Some reply
+
+-- the turns were taken up to one that gave up
+pub record Gives (from : Point) (ts : List Turn) (kept : Option (List Row)) : Type 0 where
+  pub k : ℕ
+  pub within : k ≤ length ts
+  pub run : Recorded
+  pub ran : Leads from kept (take k ts) run
+
+abbrev pub GivesUp : Point → List Turn → Option (List Row) → TurnFault → Type 0
+GivesUp from ts kept fault.Keeper = (run : Recorded) × IsCut (Leads from kept) ts run
+GivesUp from ts kept fault.Memory = Gives from ts kept
+
+-- ---- steps of a report on its way, between two moments of out
+
+-- the line of a turn with its reply joins the text
+pub record Adds (names : List HostPort) (number : ℕ) (t : Turn) (r : Reply) (p p' : Progress) (old new : Taken) : Type 0 where
+  pub text : Joins (line_text names number t r) p.pieces p'.pieces old new
+  pub is_refused : p'.is_refused ≡ (p.is_refused || is_refused r)
+
+-- how a report ends behind all turns: with the tables
+abbrev pub EndsWhole : World → Progress → Taken → Taken → Ending → Type 0
+EndsWhole w p old new (ends.Written refused) = TakesRest (tables_text w) p.pieces old new × (refused ≡ p.is_refused)
+EndsWhole w p old new ends.Unwritten = FailsInRest (tables_text w) p.pieces old new
+EndsWhole w p old new ends.Keeper = ⊥
+EndsWhole w p old new ends.Memory = new ≡ old
+
+-- how a report ends that a keeper's fault cut
+abbrev pub EndsCut : Progress → Taken → Taken → Ending → Type 0
+EndsCut p old new (ends.Written refused) = ⊥
+EndsCut p old new ends.Unwritten = FailsInRest [] p.pieces old new
+EndsCut p old new ends.Keeper = TakesRest [] p.pieces old new
+EndsCut p old new ends.Memory = ⊥

@@ -1,0 +1,36 @@
+-- Runs of tasks over scenarios, by what the keeper hands back.
+use Rattle.std.specs.Prelude.{◌≡◌, ℕ, ◌<◌, true, List, length, take, slice_get, Option, Some}
+use Rattle.instance_keeper.specs.declared.row.Row.{Row}
+use Rattle.scenarios.specs.declared.scenario.Scenario.{Scenario}
+use Rattle.turns.specs.declared.turn.Turn.{Turn}
+use Rattle.orch_core.specs.Keeping.{Calls, Ran}
+use Rattle.orch_core.specs.Runs.{Recorded, recorder}
+use Rattle.orch_core.specs.Scenarios.{StartsBy, kept_at_start, without_turns}
+use Rattle.orch_core.specs.States.{State}
+use Rattle.tasks.specs.declared.asked.Task.{Task}
+use Rattle.tasks.specs.Asked.{turns_taken}
+
+-- a task over a scenario, and the kept rows before and after it, where the keeper tells them
+pub record Work : Type 0 where
+  pub task : Task
+  pub scenario : Scenario
+  pub old : Option (List Row)
+  pub new : Option (List Row)
+
+-- all turns that are taken
+abbrev pub turns_in : Work → List Turn
+turns_in w = turns_taken w.task.asked w.scenario.turns
+
+-- The opening and then these turns lead to this state, and to the kept rows after: by the kept rows, where the keeper tells
+-- them, and by some rows at the opening and at each turn where it doesn't.
+pub record Comes (w : Work) (ts : List Turn) (run : Recorded) : Type 0 where
+  pub begun : State
+  pub opens : StartsBy w.old w.scenario w.task.waits begun
+  pub ran : Ran recorder (kept_at_start true w.old w.scenario) (without_turns begun) ts w.new run
+
+-- A run stands before one of these turns, which met a keeper's fault: a turn that calls the keeper.
+pub record IsCut (came : List Turn → Recorded → Type 0) (ts : List Turn) (run : Recorded) : Type 0 where
+  pub k : ℕ
+  pub within : k < length ts
+  pub comes : came (take k ts) run
+  pub calls : (t : Turn) → slice_get ts k ≡ Some t → Calls recorder run t

@@ -1,0 +1,194 @@
+//! What words ask of a scenario's servers.
+
+ghost use Rattle.std.specs.Prelude.{◌≡◌, ◌≤◌, true, IfOk, IfSome, length};
+ghost use Rattle.cluster_filters.specs.Patterns.{is_pattern};
+ghost use Rattle.tasks.specs.Asked.{IsTaken, asked_about, asked_named, asked_of, pattern_for, server_given, server_of, task_of, turn_for, used};
+
+use command_line::Places;
+use commands::{Command, CommandName, CommandTurn, Found, Keys};
+use orch_base::{Label, Memory, Name, ServerNo};
+use scenario_turns::{found, printed_names};
+use scenario_values::ReadFault;
+use std::alloc::Global;
+use turns::HeldCommand;
+
+/// What words ask for.
+#[derive(Drop)]
+pub enum Asked {
+    /// `run`: the scenario's own turns.
+    Run,
+    /// A command: this turn behind the scenario's.
+    Turn(HeldCommand),
+    /// A command that uses an instance or a destination that no server is: it takes no turn of its own.
+    Unknown,
+    /// Neither `run` nor a command: words that are taken never ask this.
+    Nothing,
+}
+
+/// What words ask of a scenario.
+#[derive(Drop)]
+pub struct Task {
+    /// How many waits a job has: 1 to 10,000.
+    pub waits: u32,
+    pub asked: Asked,
+    /// Whether a single command's report ends with the tables.
+    pub tables: bool,
+}
+
+// The first server of this name.
+fn server_of(names: &[Name], name: &Name) -> Option<ServerNo>
+    requires { length names.now ≤ 1000 }
+    ensures { result ≡ server_of names.now name.now }
+{
+    for (no, other) in names.iter().enumerate() {
+        if other.is_same(name) {
+            return Some(ServerNo(no as u32));
+        }
+    }
+    None
+}
+
+// The server that is given, where one is and the command uses it; nothing where no server has that name.
+fn server_given(names: &[Name], uses: bool, given: &Option<Name>) -> Option<Option<ServerNo>>
+    requires { length names.now ≤ 1000 }
+    ensures { result ≡ server_given names.now (used uses given.now) }
+{
+    match given {
+        Some(name) if uses => match server_of(names, name) {
+            Some(no) => Some(Some(no)),
+            None => None,
+        },
+        _ => Some(None),
+    }
+}
+
+// What is given, where the command uses it.
+fn used<T: Copy>(uses: bool, given: Option<T>) -> Option<T>
+    ensures { result ≡ used uses given }
+{
+    if uses { given } else { None }
+}
+
+// A text, where it is given and the command uses it.
+fn text_used(alloc: Global, uses: bool, given: &Option<Label>) -> Result<Option<Label>, Memory>
+    ensures { IfOk result (λ text. text ≡ used uses given.now) }
+{
+    match given {
+        Some(text) if uses => Ok(Some(text.copy(alloc)?)),
+        _ => Ok(None),
+    }
+}
+
+// A pattern, where it is given and the command uses it, with an answer for each server's printed name.
+fn pattern_for(
+    alloc: Global,
+    names: &[Name],
+    uses: bool,
+    given: &Option<Label>,
+) -> Result<Option<Found>, Memory>
+    requires { IfSome given.now (λ text. is_pattern text ≡ true) }
+    ensures { IfOk result (λ p. p ≡ pattern_for names.now (used uses given.now)) }
+{
+    match given {
+        Some(text) if uses => {
+            let printed = printed_names(alloc, names)?;
+            match found(alloc, text.as_str(), &printed) {
+                Ok(found) => Ok(Some(found)),
+                Err(ReadFault::Memory) => Err(Memory),
+                Err(ReadFault::Fault(_)) => unreachable!(),
+            }
+        }
+        _ => Ok(None),
+    }
+}
+
+fn turn_for(
+    alloc: Global,
+    places: &Places,
+    names: &[Name],
+    name: CommandName,
+    i: Option<ServerNo>,
+    d: Option<ServerNo>,
+) -> Result<CommandTurn, Memory>
+    requires { IfSome places.now.pattern (λ text. is_pattern text ≡ true) }
+    ensures { IfOk result (λ t. t ≡ turn_for places.now names.now name i d) }
+{
+    let uses = name.uses();
+    Ok(CommandTurn {
+        command: Command { name, i, d },
+        keys: Keys {
+            rule: used(uses.rule, places.rule),
+            duration: used(uses.duration, places.duration),
+            reason: text_used(alloc, uses.reason, &places.reason)?,
+            owner: text_used(alloc, uses.owner, &places.owner)?,
+            pattern: pattern_for(alloc, names, uses.pattern, &places.pattern)?,
+        },
+    })
+}
+
+fn asked_about(
+    alloc: Global,
+    places: &Places,
+    names: &[Name],
+    name: CommandName,
+    i: Option<Option<ServerNo>>,
+    d: Option<Option<ServerNo>>,
+) -> Result<Asked, Memory>
+    requires { IfSome places.now.pattern (λ text. is_pattern text ≡ true) }
+    ensures { IfOk result (λ a. a ≡ asked_about places.now names.now name i d) }
+{
+    match (i, d) {
+        (Some(i), Some(d)) => {
+            let turn = turn_for(alloc, places, names, name, i, d)?;
+            Ok(Asked::Turn(HeldCommand::new(alloc, turn)?))
+        }
+        (None, _) | (Some(_), None) => Ok(Asked::Unknown),
+    }
+}
+
+fn asked_named(
+    alloc: Global,
+    places: &Places,
+    names: &[Name],
+    name: Option<CommandName>,
+) -> Result<Asked, Memory>
+    requires names { length names.now ≤ 1000 }
+    requires pattern { IfSome places.now.pattern (λ text. is_pattern text ≡ true) }
+    ensures { IfOk result (λ a. a ≡ asked_named places.now names.now name) }
+{
+    let Some(name) = name else {
+        return Ok(Asked::Nothing);
+    };
+    let uses = name.uses();
+    let i = server_given(names, uses.i, &places.i);
+    let d = server_given(names, uses.d, &places.d);
+    asked_about(alloc, places, names, name, i, d)
+}
+
+#[tactic(auto, unfolding(crate::specs::Asked::asked_of))]
+fn asked_of(alloc: Global, places: &Places, names: &[Name]) -> Result<Asked, Memory>
+    requires names { length names.now ≤ 1000 }
+    requires pattern { IfSome places.now.pattern (λ text. is_pattern text ≡ true) }
+    ensures { IfOk result (λ a. a ≡ asked_of places.now names.now) }
+{
+    let word = places.command.as_str();
+    if word == "run" {
+        return Ok(Asked::Run);
+    }
+    asked_named(alloc, places, names, CommandName::read(word))
+}
+
+/// What these words, which are taken, ask of servers of these names, of which there are at most 1,000: `run`, a command's turn
+/// with all options that the command uses, or a command whose instance or destination no server is. `Memory` comes only for
+/// want of memory.
+pub fn task_of(alloc: Global, places: &Places, names: &[Name]) -> Result<Task, Memory>
+    requires words { IsTaken places.now }
+    requires names { length names.now ≤ 1000 }
+    ensures { IfOk result (λ t. t ≡ task_of places.now names.now) }
+{
+    Ok(Task {
+        waits: places.wait,
+        asked: asked_of(alloc, places, names)?,
+        tables: places.tables,
+    })
+}

@@ -1,0 +1,133 @@
+//! A run's report, written as the turns are taken.
+
+ghost use Rattle.std.specs.Prelude.{◌≡◌, All, IfErr, OnErr, OnOk, length};
+ghost use Rattle.scenarios.specs.Turns.{IsTurn};
+ghost use Rattle.orch_core.specs.Keeping.{HasTurnCause};
+ghost use Rattle.tasks.specs.declared.asked.Asked.TheVariants as asks;
+ghost use Rattle.tasks.specs.declared.asked.Task.{Task as ATask};
+ghost use Rattle.tasks.specs.Endings.{HasKeepersCause, Stands};
+ghost use Rattle.tasks.specs.Progress.{Adds, EndsCut, EndsWhole, Follows, GaveUp, IsFresh, course_from, point};
+ghost use Rattle.tasks.specs.Sinks.{Stays, Taken, between, taken};
+
+use crate::Ending;
+use crate::pieces::Pieces;
+use crate::refused::is_refused;
+use instance_keeper::Keeper;
+use orch_base::{Memory, Name, Sink};
+use orch_core::{Engine, TurnFault};
+use server_model::World;
+use std::alloc::Global;
+use turns::{Reply, Turn};
+
+/// A run's report on its way to out, and whether a reply so far is refused or failed.
+#[derive(Drop)]
+pub(crate) struct Progress {
+    pieces: Pieces,
+    is_refused: bool,
+}
+
+impl Progress {
+    fn new(alloc: Global) -> Progress
+        ensures { IsFresh result }
+    {
+        Progress {
+            pieces: Pieces::new(alloc),
+            is_refused: false,
+        }
+    }
+
+    // Adds the line of a turn with its reply, by its number in the run.
+    fn add<O: Sink>(
+        &mut self,
+        number: u64,
+        t: &Turn,
+        r: &Reply,
+        names: &[Name],
+        out: &mut O,
+    ) -> Result<(), Memory>
+        ensures ok { OnOk result (Adds names.now number t.now r.now self.old self.new
+            (taken (O.written out.old) (O.faults out.old)) (taken (O.written out.new) (O.faults out.new))) }
+        ensures err { OnErr result (Stays self.old.pieces self.new.pieces
+            (taken (O.written out.old) (O.faults out.old)) (taken (O.written out.new) (O.faults out.new))) }
+    {
+        self.pieces.add_reply(number, t, r, names, out)?;
+        self.is_refused = self.is_refused || is_refused(r);
+        Ok(())
+    }
+
+    // The ending behind all turns: the tables are written, and what is left of the report.
+    fn end<O: Sink>(mut self, world: &World, out: &mut O) -> Ending
+        ensures { EndsWhole world.now self (taken (O.written out.old) (O.faults out.old)) (taken (O.written out.new) (O.faults out.new)) result }
+    {
+        let Ok(()) = self.pieces.add_tables(world) else {
+            return Ending::Memory;
+        };
+        self.pieces.hand_over(out);
+        if self.pieces.has_failed() {
+            Ending::Unwritten
+        } else {
+            Ending::Written(self.is_refused)
+        }
+    }
+
+    // The ending after a keeper's fault: what is left of the replies is written.
+    fn cut<O: Sink>(mut self, out: &mut O) -> Ending
+        ensures { EndsCut self (taken (O.written out.old) (O.faults out.old)) (taken (O.written out.new) (O.faults out.new)) result }
+    {
+        self.pieces.hand_over(out);
+        if self.pieces.has_failed() {
+            Ending::Unwritten
+        } else {
+            Ending::Keeper
+        }
+    }
+}
+
+// Takes the turns, each with the line of its reply, to the first fault. Where out fails the turns are taken all the same.
+fn take_turns<O: Sink, K: Keeper>(
+    alloc: Global,
+    keeper: &mut K,
+    engine: &mut Engine,
+    turns: &[Turn],
+    names: &[Name],
+    out: &mut O,
+    progress: &mut Progress,
+) -> Result<(), TurnFault>
+    requires turns { All (IsTurn (length engine.old.world.servers)) turns.now }
+    requires fresh { IsFresh progress.old }
+    ensures ok { OnOk result (Follows names.now (point (K.kept keeper.old) engine.old) turns.now (point (K.kept keeper.new) engine.new)
+        (between (taken (O.written out.old) (O.faults out.old)) (taken (O.written out.new) (O.faults out.new))) progress.new) }
+    ensures err { IfErr result (GaveUp names.now (point (K.kept keeper.old) engine.old) turns.now (point (K.kept keeper.new) engine.new)
+        (between (taken (O.written out.old) (O.faults out.old)) (taken (O.written out.new) (O.faults out.new))) progress.new) }
+    ensures cause { HasTurnCause (K.faults keeper.old) (K.faults keeper.new) result }
+{
+    for (i, t) in turns.iter().enumerate() {
+        let reply = engine.turn(alloc, keeper, t)?;
+        progress.add(i as u64 + 1, t, &reply, names, out)?;
+    }
+    Ok(())
+}
+
+/// Takes the turns and writes each reply's line on out as it comes, in pieces, and behind the last one the tables. Where out fails
+/// in the midst the turns that are left are taken all the same. After a keeper's fault the replies before that turn are written.
+pub(crate) fn run_report<O: Sink, K: Keeper>(
+    alloc: Global,
+    keeper: &mut K,
+    engine: &mut Engine,
+    turns: &[Turn],
+    names: &[Name],
+    out: &mut O,
+) -> Ending
+    requires { All (IsTurn (length engine.old.world.servers)) turns.now }
+    ensures stands { (task : ATask) (err : Taken) → task.asked ≡ asks.Run
+        → Stands (course_from task names.now turns.now (point (K.kept keeper.old) engine.old) (K.kept keeper.new))
+        (between (taken (O.written out.old) (O.faults out.old)) (taken (O.written out.new) (O.faults out.new))) (between err err) result }
+    ensures cause { HasKeepersCause (K.faults keeper.old) (K.faults keeper.new) result }
+{
+    let mut progress = Progress::new(alloc);
+    match take_turns(alloc, keeper, engine, turns, names, out, &mut progress) {
+        Ok(()) => progress.end(engine.world(), out),
+        Err(TurnFault::Keeper) => progress.cut(out),
+        Err(TurnFault::Memory) => Ending::Memory,
+    }
+}

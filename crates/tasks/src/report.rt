@@ -1,0 +1,90 @@
+//! The report of a task over a scenario.
+
+ghost use Rattle.std.specs.Prelude.{◌≡◌, ◌≤◌, All, length};
+ghost use Rattle.scenarios.specs.Scenarios.{IsScenario, names_of};
+ghost use Rattle.scenarios.specs.Turns.{IsTurn};
+ghost use Rattle.tasks.specs.Asked.{IsAsked, turns_taken};
+ghost use Rattle.tasks.specs.Endings.{HasKeepersCause, Stands, Tells};
+ghost use Rattle.tasks.specs.Progress.{course_from, point};
+ghost use Rattle.tasks.specs.Sinks.{between, taken};
+
+use crate::progress::run_report;
+use crate::single::{command_report, unknown_report};
+use crate::{Asked, Ending, Task};
+use instance_keeper::Keeper;
+use orch_base::{Name, Sink};
+use orch_core::{Engine, TurnFault};
+use scenarios::Scenario;
+use std::alloc::Global;
+use turns::Turn;
+
+// Takes the scenario's turns and the task's own, and writes the report.
+fn asked_report<O: Sink, E: Sink, K: Keeper>(
+    alloc: Global,
+    task: &Task,
+    names: &[Name],
+    turns: &[Turn],
+    engine: &mut Engine,
+    out: &mut O,
+    err: &mut E,
+    keeper: &mut K,
+) -> Ending
+    requires turns { All (IsTurn (length engine.old.world.servers)) turns.now }
+    requires asked { IsAsked (length engine.old.world.servers) task.now.asked }
+    ensures stands { Stands (course_from task.now names.now (turns_taken task.now.asked turns.now) (point (K.kept keeper.old) engine.old) (K.kept keeper.new))
+        (between (taken (O.written out.old) (O.faults out.old)) (taken (O.written out.new) (O.faults out.new)))
+        (between (taken (E.written err.old) (E.faults err.old)) (taken (E.written err.new) (E.faults err.new))) result }
+    ensures cause { HasKeepersCause (K.faults keeper.old) (K.faults keeper.new) result }
+    ensures later { E.faults err.old ≤ E.faults err.new }
+{
+    match &task.asked {
+        Asked::Run => run_report(alloc, keeper, engine, turns, names, out),
+        Asked::Turn(own) => command_report(
+            alloc,
+            keeper,
+            engine,
+            turns,
+            own,
+            task.tables,
+            names,
+            out,
+            err,
+        ),
+        Asked::Unknown => unknown_report(alloc, keeper, engine, turns, names, out, err),
+        Asked::Nothing => unreachable!(),
+    }
+}
+
+/// Opens a scenario, takes its turns and the task's own, and writes the report: of a run each reply's line on out as it comes, in
+/// pieces of 64 KiB and a line, and then the tables; of a single command its lines on out, or its refusal on err, and the tables
+/// where they are asked for. `names` are the servers' names.
+///
+/// Err is written before out. Where a sink fails all turns are taken all the same. A run that a keeper's fault cuts has written
+/// the replies before that turn, a single command nothing. `Keeper` comes only where the keeper's count of faults rose; err's never
+/// falls.
+pub fn task_report<O: Sink, E: Sink, K: Keeper>(
+    alloc: Global,
+    task: &Task,
+    names: &[Name],
+    scenario: &Scenario,
+    out: &mut O,
+    err: &mut E,
+    keeper: &mut K,
+) -> Ending
+    requires scenario { IsScenario scenario.now }
+    requires names { names.now ≡ names_of scenario.now }
+    requires asked { IsAsked (length scenario.now.opening.servers) task.now.asked }
+    ensures tells { Tells (record { task = task.now; scenario = scenario.now; old = K.kept keeper.old; new = K.kept keeper.new })
+        (between (taken (O.written out.old) (O.faults out.old)) (taken (O.written out.new) (O.faults out.new)))
+        (between (taken (E.written err.old) (E.faults err.old)) (taken (E.written err.new) (E.faults err.new))) result }
+    ensures cause { HasKeepersCause (K.faults keeper.old) (K.faults keeper.new) result }
+    ensures later { E.faults err.old ≤ E.faults err.new }
+{
+    let mut engine = match Engine::make(alloc, scenario, keeper, task.waits) {
+        Ok(engine) => engine,
+        Err(TurnFault::Keeper) => return Ending::Keeper,
+        Err(TurnFault::Memory) => return Ending::Memory,
+    };
+    let turns = scenario.turns.as_slice();
+    asked_report(alloc, task, names, turns, &mut engine, out, err, keeper)
+}

@@ -1,0 +1,182 @@
+//! A single command's report, written at its end.
+
+ghost use Rattle.std.specs.Prelude.{◌≡◌, ◌≤◌, ◌++◌, ◌∷◌, [], All, IfOk, IfErr, OnOk, length, if◌then◌else◌};
+ghost use Rattle.scenarios.specs.Turns.{IsCommand, IsTurn};
+ghost use Rattle.orch_core.specs.Keeping.{HasTurnCause};
+ghost use Rattle.report_text.specs.Tables.{tables_text};
+ghost use Rattle.tasks.specs.Endings.{HasKeepersCause, Stands};
+ghost use Rattle.tasks.specs.Progress.{GivesUp, Replies, course_from, point};
+ghost use Rattle.tasks.specs.Report.{told_answer};
+ghost use Rattle.tasks.specs.Singles.{Writes, view};
+ghost use Rattle.tasks.specs.Sinks.{Taken, between, taken};
+ghost use Rattle.tasks.specs.declared.asked.Task.{Task as ATask};
+ghost use Rattle.tasks.specs.declared.asked.Asked.TheVariants as asks;
+ghost use Rattle.turns.specs.declared.turn.Turn.TheVariants as turning;
+
+use crate::Ending;
+use crate::refused::is_refused;
+use commands::Refusal;
+use instance_keeper::Keeper;
+use orch_base::{Memory, Name, Sink, write_all};
+use orch_core::{Engine, TurnFault};
+use report_text::{plain_text, tables};
+use server_model::World;
+use std::alloc::Global;
+use turns::{HeldCommand, Reply, Turn};
+
+// What out and err are to take, and whether the reply is refused or failed.
+#[derive(Drop)]
+struct Report {
+    out: Vec<u8>,
+    err: Vec<u8>,
+    is_refused: bool,
+}
+
+// The tables, where they are asked for.
+fn some_tables(alloc: Global, asked: bool, world: &World) -> Result<Vec<u8>, Memory>
+    ensures { IfOk result (λ v. v.items ≡ (if asked then tables_text world.now else [])) }
+{
+    let mut text = Vec::new(alloc);
+    if asked {
+        tables(world, &mut text)?;
+    }
+    Ok(text)
+}
+
+// The lines of a reply, or its refusal for err; and the tables where they are asked for.
+fn told_report(
+    alloc: Global,
+    asked: bool,
+    names: &[Name],
+    world: &World,
+    reply: &Reply,
+) -> Result<Report, Memory>
+    ensures { IfOk result (λ r. view r ≡ told_answer asked names.now world.now reply.now) }
+{
+    let mut told = Vec::new(alloc);
+    plain_text(reply, names, &mut told)?;
+    let mut tables = some_tables(alloc, asked, world)?;
+    if is_refused(reply) {
+        return Ok(Report {
+            out: tables,
+            err: told,
+            is_refused: true,
+        });
+    }
+    told.append(&mut tables)?;
+    Ok(Report {
+        out: told,
+        err: Vec::new(alloc),
+        is_refused: false,
+    })
+}
+
+// Writes a report: what err is to take, then what out is.
+fn write_report<O: Sink, E: Sink>(out: &mut O, err: &mut E, report: &Report) -> Ending
+    ensures writes { Writes (view report.now) (between (taken (O.written out.old) (O.faults out.old)) (taken (O.written out.new) (O.faults out.new)))
+        (between (taken (E.written err.old) (E.faults err.old)) (taken (E.written err.new) (E.faults err.new))) result }
+    ensures later { E.faults err.old ≤ E.faults err.new }
+{
+    if write_all(err, &report.err).is_err() || write_all(out, &report.out).is_err() {
+        return Ending::Unwritten;
+    }
+    Ending::Written(report.is_refused)
+}
+
+// Writes what is answered to a single command by its reply.
+fn write_told<O: Sink, E: Sink>(
+    alloc: Global,
+    asked: bool,
+    names: &[Name],
+    world: &World,
+    reply: &Reply,
+    out: &mut O,
+    err: &mut E,
+) -> Ending
+    ensures writes { Writes (told_answer asked names.now world.now reply.now)
+        (between (taken (O.written out.old) (O.faults out.old)) (taken (O.written out.new) (O.faults out.new)))
+        (between (taken (E.written err.old) (E.faults err.old)) (taken (E.written err.new) (E.faults err.new))) result }
+    ensures later { E.faults err.old ≤ E.faults err.new }
+{
+    match told_report(alloc, asked, names, world, reply) {
+        Ok(report) => write_report(out, err, &report),
+        Err(_) => Ending::Memory,
+    }
+}
+
+// Takes the scenario's turns and then the command's own, and answers its reply.
+fn own_reply<K: Keeper>(
+    alloc: Global,
+    keeper: &mut K,
+    engine: &mut Engine,
+    turns: &[Turn],
+    own: &HeldCommand,
+) -> Result<Reply, TurnFault>
+    requires turns { All (IsTurn (length engine.old.world.servers)) turns.now }
+    requires own { IsCommand (length engine.old.world.servers) own.now }
+    ensures ok { IfOk result (Replies (point (K.kept keeper.old) engine.old) (turns.now ++ turning.Command own.now ∷ []) (point (K.kept keeper.new) engine.new)) }
+    ensures err { IfErr result (GivesUp (point (K.kept keeper.old) engine.old) (turns.now ++ turning.Command own.now ∷ []) (K.kept keeper.new)) }
+    ensures cause { HasTurnCause (K.faults keeper.old) (K.faults keeper.new) result }
+{
+    engine.run(alloc, keeper, turns)?;
+    let own = Turn::Command(own.copy(alloc)?);
+    let reply = engine.turn(alloc, keeper, &own)?;
+    Ok(reply)
+}
+
+/// Takes the scenario's turns and then the command's own, and writes what its reply says: its lines on out, or its refusal on err,
+/// and the tables where they are asked for. After a keeper's fault nothing is written.
+pub(crate) fn command_report<O: Sink, E: Sink, K: Keeper>(
+    alloc: Global,
+    keeper: &mut K,
+    engine: &mut Engine,
+    turns: &[Turn],
+    own: &HeldCommand,
+    tables: bool,
+    names: &[Name],
+    out: &mut O,
+    err: &mut E,
+) -> Ending
+    requires turns { All (IsTurn (length engine.old.world.servers)) turns.now }
+    requires own { IsCommand (length engine.old.world.servers) own.now }
+    ensures stands { (task : ATask) → task.asked ≡ asks.Turn own.now → task.tables ≡ tables
+        → Stands (course_from task names.now (turns.now ++ turning.Command own.now ∷ []) (point (K.kept keeper.old) engine.old) (K.kept keeper.new))
+        (between (taken (O.written out.old) (O.faults out.old)) (taken (O.written out.new) (O.faults out.new)))
+        (between (taken (E.written err.old) (E.faults err.old)) (taken (E.written err.new) (E.faults err.new))) result }
+    ensures cause { HasKeepersCause (K.faults keeper.old) (K.faults keeper.new) result }
+    ensures later { E.faults err.old ≤ E.faults err.new }
+{
+    match own_reply(alloc, keeper, engine, turns, own) {
+        Ok(reply) => write_told(alloc, tables, names, engine.world(), &reply, out, err),
+        Err(TurnFault::Keeper) => Ending::Keeper,
+        Err(TurnFault::Memory) => Ending::Memory,
+    }
+}
+
+/// Takes the scenario's turns, and writes the refusal of an instance that no server is on err.
+pub(crate) fn unknown_report<O: Sink, E: Sink, K: Keeper>(
+    alloc: Global,
+    keeper: &mut K,
+    engine: &mut Engine,
+    turns: &[Turn],
+    names: &[Name],
+    out: &mut O,
+    err: &mut E,
+) -> Ending
+    requires { All (IsTurn (length engine.old.world.servers)) turns.now }
+    ensures stands { (task : ATask) → task.asked ≡ asks.Unknown
+        → Stands (course_from task names.now turns.now (point (K.kept keeper.old) engine.old) (K.kept keeper.new))
+        (between (taken (O.written out.old) (O.faults out.old)) (taken (O.written out.new) (O.faults out.new)))
+        (between (taken (E.written err.old) (E.faults err.old)) (taken (E.written err.new) (E.faults err.new))) result }
+    ensures cause { HasKeepersCause (K.faults keeper.old) (K.faults keeper.new) result }
+    ensures later { E.faults err.old ≤ E.faults err.new }
+{
+    match engine.run(alloc, keeper, turns) {
+        Ok(()) => {
+            let reply = Reply::Refused(Refusal::UnknownInstance);
+            write_told(alloc, false, names, engine.world(), &reply, out, err)
+        }
+        Err(TurnFault::Keeper) => Ending::Keeper,
+        Err(TurnFault::Memory) => Ending::Memory,
+    }
+}
