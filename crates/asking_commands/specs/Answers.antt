@@ -1,14 +1,14 @@
 -- What a command that only asks the book answers.
 use Rattle.std.specs.Prelude.{Bool, true, false, List, [], Option, Some, None, Result, Ok, Err}
 use Rattle.orch_base.specs.declared.server.ServerNo.{ServerNo}
-use Rattle.instance_keeper.specs.Book.{Known}
+use Rattle.instance_keeper.specs.Book.{BookState}
 use Rattle.commands.specs.declared.line.Line.{Line}
 use Rattle.commands.specs.declared.name.CommandName.{CommandName}
-use Rattle.commands.specs.declared.route.Question.{Question}
-use Rattle.commands.specs.declared.route.Question.TheVariants.{AllInstances, Clusters, Find, Topology, WhichCluster, WhichClusterInstances, WhichMaster, WhichReplicas}
-use Rattle.commands.specs.declared.route.Route.{Route}
-use Rattle.commands.specs.declared.route.Route.TheVariants.{Discovers, Forgets, Asks, Unbuilt}
-use Rattle.commands.specs.Routes.{route_of}
+use Rattle.command_routes.specs.declared.route.Question.{Question}
+use Rattle.command_routes.specs.declared.route.Question.TheVariants.{AllInstances, Clusters, Find, Topology, WhichCluster, WhichClusterInstances, WhichMaster, WhichReplicas}
+use Rattle.command_routes.specs.declared.route.Route.{Route}
+use Rattle.command_routes.specs.declared.route.Route.TheVariants.{Discovers, Forgets, Asks, Begins, Unbuilt}
+use Rattle.command_routes.specs.Routes.{route_of}
 use Rattle.commands.specs.declared.refusal.Refusal.{Refusal}
 use Rattle.commands.specs.declared.turn.Command.{Command}
 use Rattle.commands.specs.declared.turn.CommandTurn.{CommandTurn}
@@ -25,6 +25,7 @@ abbrev pub is_question : Route → Bool
 is_question Discovers = false
 is_question Forgets = false
 is_question (Asks question) = true
+is_question (Begins planner) = false
 is_question Unbuilt = false
 
 -- a command that only asks the book
@@ -32,12 +33,12 @@ abbrev pub asks : CommandName → Bool
 asks name = is_question (route_of name)
 
 -- an instance of the book is given
-abbrev pub is_known : Known → Option ServerNo → Bool
+abbrev pub is_known : BookState → Option ServerNo → Bool
 is_known b None = false
 is_known b (Some i) = is_instance b i
 
 -- the refusal of a command that uses an instance or a destination which isn't one of the book's
-abbrev pub unknown_in : Known → Command → Option Refusal
+abbrev pub unknown_in : BookState → Command → Option Refusal
 unknown_in b c = unknown_of c (is_known b c.i) (is_known b c.d)
 
 abbrev pub allowed : Option Refusal → Result Unit Refusal
@@ -45,7 +46,7 @@ allowed None = Ok tt
 allowed (Some refusal) = Err refusal
 
 -- each instance that the command uses is one of the book
-abbrev pub permitted : Known → Command → Result Unit Refusal
+abbrev pub permitted : BookState → Command → Result Unit Refusal
 permitted b c = allowed (unknown_in b c)
 
 abbrev pub answers_of : Option Found → List Bool
@@ -57,7 +58,7 @@ abbrev pub about : (ServerNo → List Line) → Option ServerNo → List Line
 about lines None = []
 about lines (Some i) = lines i
 
-abbrev pub answer_to : Known → CommandTurn → Question → List Line
+abbrev pub answer_to : BookState → CommandTurn → Question → List Line
 answer_to b t Topology = about (topology_of b) t.command.i
 answer_to b t WhichMaster = about (master_of b) t.command.i
 answer_to b t WhichReplicas = about (replica_lines b) t.command.i
@@ -68,20 +69,21 @@ answer_to b t AllInstances = all_instances b
 answer_to b t Find = found b (answers_of t.keys.pattern)
 
 -- a question is answered; what does anything else has no lines here
-abbrev pub lines_by : Known → CommandTurn → Route → List Line
+abbrev pub lines_by : BookState → CommandTurn → Route → List Line
 lines_by b t (Asks question) = answer_to b t question
 lines_by b t Discovers = []
 lines_by b t Forgets = []
+lines_by b t (Begins planner) = []
 lines_by b t Unbuilt = []
 
-abbrev pub lines_of : Known → CommandTurn → CommandName → List Line
+abbrev pub lines_of : BookState → CommandTurn → CommandName → List Line
 lines_of b t name = lines_by b t (route_of name)
 
 abbrev pub unless_refused : Result Unit Refusal → List Line → Result (List Line) AnswerFault
 unless_refused (Err refusal) lines = Err (fault.Refused refusal)
 unless_refused (Ok permit) lines = Ok lines
 
-unfoldable pub answer_of : Known → CommandTurn → Result (List Line) AnswerFault
+unfoldable pub answer_of : BookState → CommandTurn → Result (List Line) AnswerFault
 answer_of b t = unless_refused (permitted b t.command) (lines_of b t t.command.name)
 
 -- the fault of an answer, and nothing at want of memory

@@ -5,21 +5,21 @@ use Rattle.orch_base.specs.declared.server.ServerNo.{ServerNo}
 use Rattle.orch_base.specs.declared.server.Settings.{Settings}
 use Rattle.orch_base.specs.declared.server.SourceState.{SourceState}
 use Rattle.orch_base.specs.declared.server.SourceState.TheVariants.{Without, Attached, Detached}
-use Rattle.instance_keeper.specs.Book.{Known, instance_at}
+use Rattle.instance_keeper.specs.Book.{BookState, instance_at}
 use Rattle.name_order.specs.NameOrder.{by_name}
 use Rattle.book_views.specs.Sources.{is_instance, replicas_of, seen_source}
 use Rattle.commands.specs.declared.line.Line.{Line}
 use Rattle.commands.specs.declared.line.Line.TheVariants as line
 
 -- the servers that pass, in name order, each on a line
-abbrev pub listed : Known → (ServerNo → Bool) → List Line
+abbrev pub listed : BookState → (ServerNo → Bool) → List Line
 listed b passes = map line.Server (filter passes (by_name b.names))
 
-abbrev pub all_instances : Known → List Line
+abbrev pub all_instances : BookState → List Line
 all_instances b = listed b (is_instance b)
 
 -- the instances for which the answer is true
-abbrev pub found : Known → List Bool → List Line
+abbrev pub found : BookState → List Bool → List Line
 found b answers = listed b (λ server. is_instance b server && slice_index_or answers server.0 false)
 
 -- ---- sources
@@ -30,11 +30,11 @@ source_line (Attached source) = line.Server source
 source_line (Detached source) = line.Server source
 
 -- the source, attached or detached
-abbrev pub master_of : Known → ServerNo → List Line
+abbrev pub master_of : BookState → ServerNo → List Line
 master_of b i = source_line (seen_source (instance_at b i)) ∷ []
 
 -- the instances that are attached to it
-abbrev pub replica_lines : Known → ServerNo → List Line
+abbrev pub replica_lines : BookState → ServerNo → List Line
 replica_lines b i = map line.Server (replicas_of b i)
 
 -- ---- clusters
@@ -43,15 +43,15 @@ abbrev pub label_of : Option Settings → List ℕ
 label_of None = []
 label_of (Some s) = s.cluster
 
-abbrev pub label_at : Known → ServerNo → List ℕ
+abbrev pub label_at : BookState → ServerNo → List ℕ
 label_at b server = label_of (slice_get b.settings server.0)
 
 -- an instance whose cluster has this label
-abbrev pub is_of_cluster : Known → List ℕ → ServerNo → Bool
+abbrev pub is_of_cluster : BookState → List ℕ → ServerNo → Bool
 is_of_cluster b label server = is_instance b server && pointwise nat_eq (label_at b server) label
 
-abbrev pub cluster_of : Known → ServerNo → List Line
+abbrev pub cluster_of : BookState → ServerNo → List Line
 cluster_of b i = line.Cluster (label_at b i) ∷ []
 
-abbrev pub cluster_instances : Known → ServerNo → List Line
+abbrev pub cluster_instances : BookState → ServerNo → List Line
 cluster_instances b i = listed b (is_of_cluster b (label_at b i))

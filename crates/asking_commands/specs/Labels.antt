@@ -2,7 +2,7 @@
 use Rattle.std.specs.Prelude.{ℕ, Bool, false, List, [], ◌∷◌, map, filter, nat_eq, if◌then◌else◌}
 use Rattle.std.specs.Cmp.Lexicographic.{pointwise, slice_cmp}
 use Rattle.std.specs.Ordering.{nat_cmp}
-use Rattle.instance_keeper.specs.Book.{Known}
+use Rattle.instance_keeper.specs.Book.{BookState}
 use Rattle.name_order.specs.NameOrder.{by_name}
 use Rattle.name_order.specs.Sorts.{sort_by}
 use Rattle.commands.specs.declared.line.Line.{Line}
@@ -21,9 +21,9 @@ each_once [] = []
 each_once (one ∷ rest) = if is_again one rest then each_once rest else one ∷ each_once rest
 
 -- the labels of the book's instances
-abbrev pub labels_of : Known → List (List ℕ)
+abbrev pub labels_of : BookState → List (List ℕ)
 labels_of b = map (label_at b) (filter (is_instance b) (by_name b.names))
 
 -- each of them once, by their bytes
-unfoldable pub clusters_of : Known → List Line
+unfoldable pub clusters_of : BookState → List Line
 clusters_of b = map line.Cluster (each_once (sort_by (slice_cmp nat_cmp) (labels_of b)))

@@ -12,9 +12,8 @@ use crate::listing::{
 };
 use crate::trees::topology;
 use book_views::is_instance;
-use commands::{
-    Command, CommandName, CommandTurn, Found, Lines, Question, Refusal, Route, unknown_instance,
-};
+use command_routes::{Question, Route};
+use commands::{Command, CommandName, CommandTurn, Found, Lines, Refusal, unknown_instance};
 use instance_keeper::Book;
 use orch_base::ServerNo;
 use std::alloc::Global;
@@ -42,9 +41,9 @@ impl From<Memory> for AnswerFault {
 pub fn asks(name: CommandName) -> bool
     ensures { result ≡ asks name }
 {
-    match name.route() {
+    match Route::of(name) {
         Route::Asks(_) => true,
-        Route::Discovers | Route::Forgets | Route::Unbuilt => false,
+        Route::Discovers | Route::Forgets | Route::Begins(_) | Route::Unbuilt => false,
     }
 }
 
@@ -117,9 +116,11 @@ fn lines_of(alloc: Global, book: &Book, turn: &CommandTurn) -> Result<Lines, Mem
     requires { IsTrue (is_within (length book.now.names) turn.now.command.i) }
     ensures { IfOk result (λ lines. lines ≡ lines_of book.now turn.now turn.now.command.name) }
 {
-    match turn.command.name.route() {
+    match Route::of(turn.command.name) {
         Route::Asks(question) => answer_to(alloc, book, turn, question),
-        Route::Discovers | Route::Forgets | Route::Unbuilt => Ok(Lines::new(Vec::new(alloc))),
+        Route::Discovers | Route::Forgets | Route::Begins(_) | Route::Unbuilt => {
+            Ok(Lines::new(Vec::new(alloc)))
+        }
     }
 }
 

@@ -11,11 +11,11 @@ use crate::listing::label_at;
 use book_views::is_instance;
 use commands::{Line, Lines};
 use instance_keeper::Book;
-use orch_base::Label;
+use orch_base::OwnedText;
 use std::alloc::Global;
 
 // The labels of the book's instances.
-fn labels_of<'a>(alloc: Global, book: &'a Book) -> Result<Vec<&'a Label>, Memory>
+fn labels_of<'a>(alloc: Global, book: &'a Book) -> Result<Vec<&'a OwnedText>, Memory>
     ensures { IfOk result (λ labels. map (λ l. l.now) labels.items ≡ labels_of book.now) }
 {
     let mut labels = Vec::new(alloc);
@@ -29,7 +29,7 @@ fn labels_of<'a>(alloc: Global, book: &'a Book) -> Result<Vec<&'a Label>, Memory
 }
 
 // The labels in order.
-fn sorted_labels<'a>(alloc: Global, book: &'a Book) -> Result<Vec<&'a Label>, Memory>
+fn sorted_labels<'a>(alloc: Global, book: &'a Book) -> Result<Vec<&'a OwnedText>, Memory>
     ensures { IfOk result (λ labels. map (λ l. l.now) labels.items ≡ sort_by (slice_cmp nat_cmp) (labels_of book.now)) }
 {
     let mut labels = labels_of(alloc, book)?;
@@ -41,7 +41,7 @@ fn sorted_labels<'a>(alloc: Global, book: &'a Book) -> Result<Vec<&'a Label>, Me
 }
 
 // Whether no label behind it is the same, where they are in order.
-fn is_last(label: &Label, rest: &[&Label]) -> bool
+fn is_last(label: &OwnedText, rest: &[&OwnedText]) -> bool
     ensures { result ≡ not (is_again label.now (map (λ l. l.now) rest.now)) }
 {
     match rest.first() {

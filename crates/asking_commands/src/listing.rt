@@ -8,11 +8,11 @@ use crate::Memory;
 use book_views::{is_instance, replicas, seen_source};
 use commands::{Line, Lines};
 use instance_keeper::Book;
-use orch_base::{Label, ServerNo, SourceState};
+use orch_base::{OwnedText, ServerNo, SourceState};
 use std::alloc::Global;
 
 /// The label of a server's cluster.
-pub(crate) fn label_at(book: &Book, no: ServerNo) -> &Label
+pub(crate) fn label_at(book: &Book, no: ServerNo) -> &OwnedText
     requires { no.0 < length book.now.names }
     ensures { result.now ≡ label_at book.now no }
 {
@@ -97,7 +97,7 @@ pub fn which_cluster(alloc: Global, book: &Book, i: ServerNo) -> Result<Lines, M
 }
 
 /// Whether a server is an instance whose cluster has this label.
-pub(crate) fn is_of_cluster(book: &Book, label: &Label, no: ServerNo) -> bool
+pub(crate) fn is_of_cluster(book: &Book, label: &OwnedText, no: ServerNo) -> bool
     requires { no.0 < length book.now.names }
     ensures { result ≡ is_of_cluster book.now label.now no }
 {

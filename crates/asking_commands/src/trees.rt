@@ -11,7 +11,7 @@ use crate::listing::{is_of_cluster, label_at};
 use book_views::{book_forest, server_at};
 use commands::{Line, Lines, StateWord};
 use instance_keeper::{Book, Instance};
-use orch_base::{IoState, Label, ServerNo, SourceState};
+use orch_base::{IoState, OwnedText, ServerNo, SourceState};
 use std::alloc::Global;
 use topology_tree::Forest;
 
@@ -87,7 +87,7 @@ fn push_nodes(book: &Book, nodes: &[(u32, u32)], lines: &mut Vec<Line>) -> Resul
     Ok(())
 }
 
-fn is_root_of(book: &Book, forest: &Forest, label: &Label, node: u32, no: ServerNo) -> bool
+fn is_root_of(book: &Book, forest: &Forest, label: &OwnedText, node: u32, no: ServerNo) -> bool
     requires node { node < length forest.now }
     requires within { no.0 < length book.now.names }
     requires no { server_at book.now node ≡ Some no }

@@ -12,7 +12,7 @@ fn settings_are_copied(rt: HostRuntime) -> Result<(), Fail> {
             minor: 0,
             patch: 36,
         },
-        cluster: Label::new(String::from_str(rt.alloc(), "main")?),
+        cluster: OwnedText::new(String::from_str(rt.alloc(), "main")?),
         logs: true,
         limit: 4096,
     };

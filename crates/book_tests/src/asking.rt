@@ -7,7 +7,7 @@ use commands::{
 };
 use gtid_sets::GtidSet;
 use instance_keeper::{Book, Instance, Row, Seen};
-use orch_base::{IoState, Label, Moment, Name, ServerNo, Settings, SourceState, Version};
+use orch_base::{IoState, Moment, Name, OwnedText, ServerNo, Settings, SourceState, Version};
 use std::alloc::Global;
 use std::process::Abort;
 use std::test::*;
@@ -54,7 +54,7 @@ fn settings(alloc: Global, server: &Server<'_>, no: u32) -> Result<Settings, Fai
             minor: 0,
             patch: 36,
         },
-        cluster: Label::new(String::from_str(alloc, server.cluster)?),
+        cluster: OwnedText::new(String::from_str(alloc, server.cluster)?),
         logs: true,
         limit: 1073741824,
     })
@@ -158,7 +158,7 @@ fn turn(
         answers.push(no % 3 == 0)?;
     }
     let pattern = Found {
-        text: Label::new(String::new(alloc)),
+        text: OwnedText::new(String::new(alloc)),
         answers: Answers::new(answers),
     };
     Ok(CommandTurn {

@@ -4,7 +4,7 @@ use binlog_coords::Coord;
 use gtid_sets::GtidSet;
 use instance_keeper::{Candidate, Downtime, Ending, Instance, Kind, Recovery, Row, Rule, Seen};
 use opening_book::{counted, last_read, latest_moment, loaded_book};
-use orch_base::{IoState, Label, Moment, Name, ServerNo, Settings, SourceState, Version};
+use orch_base::{IoState, Moment, Name, OwnedText, ServerNo, Settings, SourceState, Version};
 use std::alloc::Global;
 use std::test::Fail;
 
@@ -40,8 +40,8 @@ fn downtime(alloc: Global, no: u32, begun: u64, until: u64) -> Result<Row, Fail>
         no: ServerNo(no),
         begun: Moment(begun),
         until: Moment(until),
-        owner: Label::new(String::from_str(alloc, "amy")?),
-        reason: Label::new(String::from_str(alloc, "disk")?),
+        owner: OwnedText::new(String::from_str(alloc, "amy")?),
+        reason: OwnedText::new(String::from_str(alloc, "disk")?),
     }))
 }
 
@@ -62,7 +62,7 @@ fn recovery(
 ) -> Result<Row, Fail> {
     Ok(Row::Recovery(Recovery {
         id,
-        cluster: Label::new(String::from_str(alloc, "m:3306")?),
+        cluster: OwnedText::new(String::from_str(alloc, "m:3306")?),
         kind: Kind::Master,
         failed: ServerNo(0),
         begun: Moment(begun),
@@ -165,7 +165,7 @@ fn settings(alloc: Global, name: &str) -> Result<Settings, Fail> {
             minor: 0,
             patch: 36,
         },
-        cluster: Label::new(String::from_str(alloc, "m:3306")?),
+        cluster: OwnedText::new(String::from_str(alloc, "m:3306")?),
         logs: true,
         limit: 4096,
     })

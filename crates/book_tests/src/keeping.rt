@@ -8,12 +8,12 @@ use instance_keeper::{
     Book, Candidate, CauseName, Change, Code, Downtime, Ending, Instance, Keeper, KeeperFault, Key,
     Kind, MemKeeper, Observation, Recovery, Row, Rule, Seen, StoreAnswer, Table,
 };
-use orch_base::{IoState, Label, Moment, Name, ServerNo, Settings, SourceState, Version};
+use orch_base::{IoState, Moment, Name, OwnedText, ServerNo, Settings, SourceState, Version};
 use std::alloc::Global;
 use std::test::Fail;
 
-fn label(alloc: Global, text: &str) -> Result<Label, Fail> {
-    Ok(Label::new(String::from_str(alloc, text)?))
+fn label(alloc: Global, text: &str) -> Result<OwnedText, Fail> {
+    Ok(OwnedText::new(String::from_str(alloc, text)?))
 }
 
 fn seen(alloc: Global, source: SourceState, file: u32) -> Result<Seen, Fail> {

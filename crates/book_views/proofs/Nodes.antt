@@ -8,7 +8,7 @@ use Rattle.std.proofs.lemmas.Option.{same_Some}
 use Rattle.orch_base.specs.declared.server.ServerNo.{ServerNo}
 use Rattle.orch_base.specs.declared.server.SourceState.{SourceState}
 use Rattle.orch_base.specs.declared.server.SourceState.TheVariants.{Without, Attached, Detached}
-use Rattle.instance_keeper.specs.Book.{Known, IsBook, are_known, instance_at, source_servers}
+use Rattle.instance_keeper.specs.Book.{BookState, IsBook, are_known, instance_at, source_servers}
 use Rattle.topology_tree.specs.Forests.{IsClosed}
 use Rattle.topology_tree.specs.Making.{forest_of}
 use Rattle.topology_tree.specs.Making as making
@@ -20,11 +20,11 @@ use Rattle.book_views.specs.Sources.{is_instance, seen_source, source_in}
 use Rattle.book_views.specs.Forests.{book_forest, node_at, node_of, source_node, source_nodes}
 use Rattle.book_views.proofs.Reading.{known-below, source-known}
 
-pub length-nodes : (b : Known) → length (source_nodes b) ≡ length b.names
+pub length-nodes : (b : BookState) → length (source_nodes b) ≡ length b.names
 unfolding source_nodes
 length-nodes b = length-map (by_name b.names) (source_node b) ∙ length-by_name b.names
 
-pub rank-below : (b : Known) (s : ServerNo) → s.0 < length b.names → node_at b s < length b.names
+pub rank-below : (b : BookState) (s : ServerNo) → s.0 < length b.names → node_at b s < length b.names
 rank-below b s below =
     let order = by_name b.names in
     let at = place-of_number order (IsOrder-by_name b.names) s.0 (omega (arith, below, length-by_name b.names)) in
@@ -33,19 +33,19 @@ rank-below b s below =
     let rank : rank_of order s.0 ≡ at.0 = ap (rank_of order) (sym same) ∙ rank-of_place order (IsOrder-by_name b.names) at.0 d at.1 in
     omega (arith, rank, at.1, length-by_name b.names)
 
-placed-below : (b : Known) (s : ServerNo) (m : ℕ) → s.0 < length b.names → node_of b s ≡ Some m → m < length b.names
+placed-below : (b : BookState) (s : ServerNo) (m : ℕ) → s.0 < length b.names → node_of b s ≡ Some m → m < length b.names
 placed-below b s m below is = by_test (is_instance b s) is
   where
     by_test : (known : Bool) → cond known (Some (node_at b s)) None ≡ Some m → m < length b.names
     by_test true e = subst (λ (k : ℕ). k < length b.names) (same_Some (node_at b s) m e) (rank-below b s below)
     by_test false e = cc
 
-by_source : (b : Known) (source : SourceState) (m : ℕ) → are_known (length b.names) (source_servers source) ≡ true → option_and_then (node_of b) (source_in source) ≡ Some m → m < length b.names
+by_source : (b : BookState) (source : SourceState) (m : ℕ) → are_known (length b.names) (source_servers source) ≡ true → option_and_then (node_of b) (source_in source) ≡ Some m → m < length b.names
 by_source b Without m known e = cc
 by_source b (Attached s) m known e = placed-below b s m (known-below (length b.names) s.0 known) e
 by_source b (Detached s) m known e = placed-below b s m (known-below (length b.names) s.0 known) e
 
-pub nodes-closed : (b : Known) → IsBook b → IsClosed (source_nodes b)
+pub nodes-closed : (b : BookState) → IsBook b → IsClosed (source_nodes b)
 unfolding source_nodes
 nodes-closed b is n m at = elim (cases_lt n (length (by_name b.names))) [
   | inl within ↦
@@ -58,6 +58,6 @@ nodes-closed b is n m at = elim (cases_lt n (length (by_name b.names))) [
       (let none : None ≡ Some m = sym (get_or_past (map (source_node b) (by_name b.names)) n None (omega (arith, past, length-map (by_name b.names) (source_node b)))) ∙ at in cc)
 ]
 
-pub length-forest : (b : Known) → length (book_forest b) ≡ length b.names
+pub length-forest : (b : BookState) → length (book_forest b) ≡ length b.names
 unfolding book_forest forest_of
 length-forest b = length-map-range_with_len (making.parent_of (source_nodes b)) 0 (length (source_nodes b)) ∙ length-nodes b

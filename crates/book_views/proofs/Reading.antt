@@ -7,7 +7,7 @@ use Rattle.std.proofs.lemmas.List.Elements.{All-get_or}
 use Rattle.std.proofs.lemmas.Option.{slice_get_within, get_or_from_slice_get}
 use Rattle.orch_base.specs.Names.{HostPort}
 use Rattle.orch_base.specs.declared.server.ServerNo.{ServerNo}
-use Rattle.instance_keeper.specs.Book.{Known, IsBook, HasKnownSource, are_known, instance_at, source_servers}
+use Rattle.instance_keeper.specs.Book.{BookState, IsBook, HasKnownSource, are_known, instance_at, source_servers}
 use Rattle.instance_keeper.specs.declared.observation.Instance.{Instance}
 use Rattle.name_order.specs.NameOrder.{by_name}
 use Rattle.name_order.proofs.Arranged.{by_name-within}
@@ -18,7 +18,7 @@ known-seen n None known = refl
 known-seen n (Some i) known = known
 
 -- the seen source of each server is one of the book's servers
-pub source-known : (b : Known) (server : ServerNo) → IsBook b → server.0 < length b.names → are_known (length b.names) (source_servers (seen_source (instance_at b server))) ≡ true
+pub source-known : (b : BookState) (server : ServerNo) → IsBook b → server.0 < length b.names → are_known (length b.names) (source_servers (seen_source (instance_at b server))) ≡ true
 source-known b server is below =
     known-seen (length b.names) (instance_at b server)
     (All-get_or (HasKnownSource (length b.names)) b.instances server.0 None (omega (arith, below, is.instances)) is.sources)

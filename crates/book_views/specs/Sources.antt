@@ -3,12 +3,12 @@ use Rattle.std.specs.Prelude.{Bool, false, ◌==◌, List, filter, Option, Some,
 use Rattle.orch_base.specs.declared.server.ServerNo.{ServerNo}
 use Rattle.orch_base.specs.declared.server.SourceState.{SourceState}
 use Rattle.orch_base.specs.declared.server.SourceState.TheVariants.{Without, Attached, Detached}
-use Rattle.instance_keeper.specs.Book.{Known, instance_at}
+use Rattle.instance_keeper.specs.Book.{BookState, instance_at}
 use Rattle.instance_keeper.specs.declared.observation.Instance.{Instance}
 use Rattle.name_order.specs.NameOrder.{by_name}
 
 -- the server is an instance of the book
-abbrev pub is_instance : Known → ServerNo → Bool
+abbrev pub is_instance : BookState → ServerNo → Bool
 is_instance b server = is_some (instance_at b server)
 
 -- the source that was seen: none of a server that is no instance
@@ -28,9 +28,9 @@ is_attached_to i (Attached source) = source.0 == i.0
 is_attached_to i (Detached source) = false
 
 -- the server is an instance that is attached to it
-abbrev pub is_replica_of : Known → ServerNo → ServerNo → Bool
+abbrev pub is_replica_of : BookState → ServerNo → ServerNo → Bool
 is_replica_of b i server = is_attached_to i (seen_source (instance_at b server))
 
 -- the instances that are attached to it, in name order
-abbrev pub replicas_of : Known → ServerNo → List ServerNo
+abbrev pub replicas_of : BookState → ServerNo → List ServerNo
 replicas_of b i = filter (is_replica_of b i) (by_name b.names)

@@ -4,7 +4,7 @@ use Rattle.std.specs.Prelude.{◌&&◌, ◌||◌, codes, is_some, nat_le, not, I
 use Rattle.std.proofs.lemmas.Bool.{leb-true}
 use Rattle.clap.specs.Walk.{Row, Text, first_of}
 use Rattle.cluster_filters.specs.Patterns.{is_pattern}
-use Rattle.commands.specs.Routes.{is_built_command}
+use Rattle.command_routes.specs.Routes.{is_built_command}
 use Rattle.commands.specs.Values.{number_and_unit, number_at, seconds_at, within}
 use Rattle.orch_base.specs.Gives.{◌>>=◌}
 use Rattle.command_line.specs.declared.parts.Instances.{Instances}

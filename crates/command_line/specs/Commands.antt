@@ -5,7 +5,7 @@ use Rattle.clap.specs.Walk.{Row, Text, first_of}
 use Rattle.orch_base.specs.Gives.{◌>>=◌}
 use Rattle.commands.specs.declared.needs.Needs.{Needs}
 use Rattle.commands.specs.Names.{name_of, needs_of, nothing}
-use Rattle.commands.specs.Routes.{is_built_command}
+use Rattle.command_routes.specs.Routes.{is_built_command}
 use Rattle.command_line.specs.declared.usage.Usage.{Usage}
 use Rattle.command_line.specs.declared.usage.Usage.TheVariants.{BadWords}
 use Rattle.command_line.specs.Usages.{or_bad}

@@ -2,7 +2,7 @@
 use Rattle.std.specs.Prelude.{◌≡◌, ◌≤◌, Bool, true, ◌&&◌, ◌||◌, not, is_some, length, IfSome}
 use Rattle.cluster_filters.specs.Patterns.{is_pattern}
 use Rattle.commands.specs.declared.needs.Needs.{Needs}
-use Rattle.commands.specs.Routes.{is_built_command}
+use Rattle.command_routes.specs.Routes.{is_built_command}
 use Rattle.command_line.specs.declared.parts.Places.{Places}
 use Rattle.command_line.specs.Commands.{needs_at}
 

@@ -9,8 +9,9 @@ ghost use Rattle.command_line.specs.Usages.{usage_fault};
 use crate::options::text_of;
 use crate::usage::Usage;
 use clap::ArgMatches;
-use commands::{CommandName, Needs, is_built_command};
-use orch_base::Label;
+use command_routes::is_built_command;
+use commands::{CommandName, Needs};
+use orch_base::OwnedText;
 use std::alloc::Global;
 
 // What the command of this word needs; a run needs nothing.
@@ -42,7 +43,7 @@ fn has_needed(needs: Needs, matches: &ArgMatches<'_>) -> bool
 /// The text of `-c`. What is neither `run` nor the word of a command that is built, and one without an option that it
 /// needs, are `BadWords`.
 #[tactic(auto, unfolding(crate::specs::Commands::command_in))]
-pub(crate) fn command_in(alloc: Global, matches: &ArgMatches<'_>) -> Result<Label, Usage>
+pub(crate) fn command_in(alloc: Global, matches: &ArgMatches<'_>) -> Result<OwnedText, Usage>
     ensures { Gives (λ l. l) usage_fault result (command_in (rows_in matches.now)) }
 {
     let Some(command) = text_of(matches, "c") else {
@@ -51,5 +52,5 @@ pub(crate) fn command_in(alloc: Global, matches: &ArgMatches<'_>) -> Result<Labe
     if !is_built_command(command) || !has_needed(needs_at(command), matches) {
         return Err(Usage::BadWords);
     }
-    Ok(Label::new(String::from_str(alloc, command)?))
+    Ok(OwnedText::new(String::from_str(alloc, command)?))
 }

@@ -14,30 +14,30 @@ use crate::value::{
     number_or,
 };
 use clap::ArgMatches;
-use orch_base::{Label, Name, Rule};
+use orch_base::{Name, OwnedText, Rule};
 use std::alloc::Global;
 
 /// The values of a command line's options. One that isn't given is None, or has its default.
 #[derive(Drop)]
 pub struct Places {
     /// `-c`: the command's name.
-    pub command: Label,
+    pub command: OwnedText,
     /// `-i`: the instance.
     pub i: Option<Name>,
     /// `-d`: the destination.
     pub d: Option<Name>,
     /// `--scenario`: the path of the scenario's file. Without one it is read from standard input.
-    pub scenario: Option<Label>,
+    pub scenario: Option<OwnedText>,
     /// `--promotion-rule`: prefer, neutral, prefer_not or must_not.
     pub rule: Option<Rule>,
     /// `--duration`: 1 to 31,536,000 seconds, given as digits and at most one letter of s, m, h, d and w.
     pub duration: Option<u64>,
     /// `--reason`: at most 255 bytes.
-    pub reason: Option<Label>,
+    pub reason: Option<OwnedText>,
     /// `--owner`: at most 255 bytes.
-    pub owner: Option<Label>,
+    pub owner: Option<OwnedText>,
     /// `--pattern`: a regular expression in the syntax of Rust's `regex`.
-    pub pattern: Option<Label>,
+    pub pattern: Option<OwnedText>,
     /// `--pollers`: 1 to 16, and 2 by default.
     pub pollers: u32,
     /// `--workers`: 1 to 16, and 2 by default.
@@ -65,10 +65,10 @@ struct Instances {
 
 #[derive(Drop)]
 struct Texts {
-    scenario: Option<Label>,
-    reason: Option<Label>,
-    owner: Option<Label>,
-    pattern: Option<Label>,
+    scenario: Option<OwnedText>,
+    reason: Option<OwnedText>,
+    owner: Option<OwnedText>,
+    pattern: Option<OwnedText>,
 }
 
 #[derive(Clone, Copy)]

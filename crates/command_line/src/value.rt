@@ -8,7 +8,7 @@ ghost use Rattle.command_line.specs.Values.{duration_in, maybe, name_in, number_
 use crate::usage::Usage;
 use cluster_filters::{FilterFault, Pattern};
 use commands::{number_within, rule_at, seconds_at};
-use orch_base::{Label, Name, NameFault, Rule};
+use orch_base::{Name, NameFault, OwnedText, Rule};
 use std::alloc::Global;
 
 fn name_in(alloc: Global, text: &str) -> Result<Name, Usage>
@@ -51,12 +51,12 @@ pub(crate) fn maybe_rule(text: Option<&str>) -> Result<Option<Rule>, Usage>
 }
 
 /// A text, where one is given.
-pub(crate) fn maybe_text(alloc: Global, text: Option<&str>) -> Result<Option<Label>, Usage>
+pub(crate) fn maybe_text(alloc: Global, text: Option<&str>) -> Result<Option<OwnedText>, Usage>
     ensures { Gives (λ l. l) usage_fault result (maybe text_in (option_map (λ s. s.now) text.entry)) }
 {
     match text {
         None => Ok(None),
-        Some(text) => Ok(Some(Label::new(String::from_str(alloc, text)?))),
+        Some(text) => Ok(Some(OwnedText::new(String::from_str(alloc, text)?))),
     }
 }
 
@@ -65,28 +65,30 @@ pub(crate) fn maybe_text_within(
     alloc: Global,
     most: usize,
     text: Option<&str>,
-) -> Result<Option<Label>, Usage>
+) -> Result<Option<OwnedText>, Usage>
     ensures { Gives (λ l. l) usage_fault result (maybe (text_within most) (option_map (λ s. s.now) text.entry)) }
 {
     match text {
         None => Ok(None),
-        Some(text) if text.len() <= most => Ok(Some(Label::new(String::from_str(alloc, text)?))),
+        Some(text) if text.len() <= most => Ok(Some(OwnedText::new(String::from_str(
+            alloc, text,
+        )?))),
         Some(_) => Err(Usage::BadWords),
     }
 }
 
-fn pattern_in(alloc: Global, text: &str) -> Result<Label, Usage>
+fn pattern_in(alloc: Global, text: &str) -> Result<OwnedText, Usage>
     ensures { Gives (λ l. l) usage_fault result (pattern_in text.now) }
 {
     match Pattern::read(alloc, text) {
-        Ok(_) => Ok(Label::new(String::from_str(alloc, text)?)),
+        Ok(_) => Ok(OwnedText::new(String::from_str(alloc, text)?)),
         Err(FilterFault::BadPattern(_)) => Err(Usage::BadWords),
         Err(FilterFault::Memory) => Err(Usage::Memory),
     }
 }
 
 /// A regular expression as its text, where one is given.
-pub(crate) fn maybe_pattern(alloc: Global, text: Option<&str>) -> Result<Option<Label>, Usage>
+pub(crate) fn maybe_pattern(alloc: Global, text: Option<&str>) -> Result<Option<OwnedText>, Usage>
     ensures { Gives (λ l. l) usage_fault result (maybe pattern_in (option_map (λ s. s.now) text.entry)) }
 {
     match text {

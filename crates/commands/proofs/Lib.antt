@@ -1,3 +1,3 @@
 pub mod Numbers
-pub mod Routes
+pub mod Needed
 pub mod Words

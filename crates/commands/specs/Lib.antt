@@ -1,7 +1,6 @@
 pub mod Causes
 pub mod Names
 pub mod Refusals
-pub mod Routes
 pub mod Turns
 pub mod Unknown
 pub mod Values

@@ -3,7 +3,7 @@
 ghost use Rattle.std.specs.Prelude.{◌≡◌, IfOk};
 ghost use Rattle.commands.specs.Causes.{cause_name};
 
-use crate::{HeldSet, Memory};
+use crate::{BoxedSet, Memory};
 use orch_base::{CauseName, ServerNo, SourceState};
 use server_words::Spot;
 use std::alloc::Global;
@@ -26,7 +26,7 @@ pub enum Cause {
     /// This server would be below itself.
     Loop(ServerNo),
     /// This server has executed these, which its new source lacks.
-    Errant(ServerNo, HeldSet),
+    Errant(ServerNo, BoxedSet),
     /// This server has another source than the one that it was seen to have: this one.
     Moved(ServerNo, SourceState),
     /// This server, which had failed, was reached.

@@ -4,7 +4,7 @@ ghost use Rattle.std.specs.Prelude.{◌≡◌, ◌↔◌, IfOk, IsTrue};
 
 use crate::{Memory, Refusal};
 use binlog_coords::Coord;
-use orch_base::{Code, Ending, Kind, Label, Moment, Rule, ServerNo, Version};
+use orch_base::{Code, Ending, Kind, Moment, OwnedText, Rule, ServerNo, Version};
 use server_words::Spot;
 use std::alloc::Global;
 use std::marker::Model;
@@ -45,7 +45,7 @@ pub struct RecoveryLine {
     /// Its number, counted from 1.
     pub id: u64,
     /// The label of the cluster.
-    pub cluster: Label,
+    pub cluster: OwnedText,
     pub kind: Kind,
     /// The server that failed, or is replaced.
     pub failed: ServerNo,
@@ -83,7 +83,7 @@ pub enum Line {
     /// `none`: there is no source.
     NoMaster,
     /// A cluster's label.
-    Cluster(Label),
+    Cluster(OwnedText),
     /// An instance in its tree.
     Instance {
         /// How far it stands below the tree's root.

@@ -3,7 +3,7 @@
 ghost use Rattle.std.specs.Prelude.{◌≡◌, IfOk};
 ghost use Rattle.commands.specs.Refusals.{number_of};
 
-use crate::{HeldSet, Memory};
+use crate::{BoxedSet, Memory};
 use orch_base::{Code, Moment, ServerNo};
 use std::alloc::Global;
 
@@ -43,7 +43,7 @@ pub enum Refusal {
     /// 17: GTID mode is off.
     GtidOff,
     /// 18: a server that moves has executed these of its own, which the new source lacks.
-    Errant(HeldSet),
+    Errant(BoxedSet),
     /// 19: by coordinates no way leads below the destination.
     NoPath,
     /// 20: this analysis of the instance begins no recovery.

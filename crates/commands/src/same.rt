@@ -3,9 +3,9 @@
 ghost use Rattle.std.specs.Prelude.{◌≡◌, ◌↔◌, IsTrue};
 
 use crate::{Answers, Command, CommandName, CommandTurn, Found, Keys};
-use orch_base::Label;
+use orch_base::OwnedText;
 
-fn same_label(label: &Option<Label>, other: &Option<Label>) -> bool
+fn same_label(label: &Option<OwnedText>, other: &Option<OwnedText>) -> bool
     ensures { IsTrue result ↔ (label.now ≡ other.now) }
 {
     match (label, other) {

@@ -1,6 +1,6 @@
 //! The types of this crate can be moved between threads, and shared by them.
 
-use crate::{Cause, Command, CommandTurn, HeldSet, Keys, Line, Lines, Needs, Refusal, Route, Uses};
+use crate::{BoxedSet, Cause, Command, CommandTurn, Keys, Line, Lines, Needs, Refusal, Uses};
 
 fn crosses_threads<T: Send + Sync>() {}
 
@@ -10,8 +10,7 @@ fn all_cross_threads() {
     crosses_threads::<Keys>();
     crosses_threads::<Needs>();
     crosses_threads::<Uses>();
-    crosses_threads::<Route>();
-    crosses_threads::<HeldSet>();
+    crosses_threads::<BoxedSet>();
     crosses_threads::<Cause>();
     crosses_threads::<Refusal>();
     crosses_threads::<Line>();

@@ -4,7 +4,7 @@ ghost use Rattle.std.specs.Prelude.{◌≡◌, IfOk};
 ghost use Rattle.commands.specs.Turns.{fits, has_needed, is_within};
 
 use crate::{CommandName, Memory};
-use orch_base::{Label, Rule, ServerNo};
+use orch_base::{OwnedText, Rule, ServerNo};
 use std::alloc::Global;
 use std::marker::Model;
 
@@ -67,7 +67,7 @@ impl Answers {
 #[derive(Drop)]
 pub struct Found {
     /// The pattern: a regular expression in the syntax of Rust's `regex`.
-    pub text: Label,
+    pub text: OwnedText,
     /// Whether it is found, by the servers' numbers.
     pub answers: Answers,
 }
@@ -92,13 +92,13 @@ pub struct Keys {
     /// 1 to 31,536,000 seconds.
     pub duration: Option<u64>,
     /// At most 255 bytes.
-    pub reason: Option<Label>,
+    pub reason: Option<OwnedText>,
     /// At most 255 bytes.
-    pub owner: Option<Label>,
+    pub owner: Option<OwnedText>,
     pub pattern: Option<Found>,
 }
 
-fn copy_label(alloc: Global, label: &Option<Label>) -> Result<Option<Label>, Memory>
+fn copy_label(alloc: Global, label: &Option<OwnedText>) -> Result<Option<OwnedText>, Memory>
     ensures { IfOk result (λ l. l ≡ label.now) }
 {
     match label {

@@ -3,15 +3,55 @@
 ghost use Rattle.std.specs.Prelude.{◌≡◌};
 ghost use Rattle.commands.specs.Unknown.{is_missing, is_unknown, takes_any, unknown_of};
 
-use crate::{Command, Refusal, Route};
+use crate::{Command, CommandName, Refusal};
 use orch_base::ServerNo;
 
-fn takes_any(route: Route) -> bool
-    ensures { result ≡ takes_any route }
+fn takes_any(name: CommandName) -> bool
+    ensures { result ≡ takes_any name }
 {
-    match route {
-        Route::Discovers => true,
-        Route::Forgets | Route::Asks(_) | Route::Unbuilt => false,
+    match name {
+        CommandName::Discover => true,
+        CommandName::MoveUp
+        | CommandName::MoveUpReplicas
+        | CommandName::MoveBelow
+        | CommandName::Repoint
+        | CommandName::TakeSiblings
+        | CommandName::TakeMaster
+        | CommandName::MoveGtid
+        | CommandName::MoveReplicasGtid
+        | CommandName::EnableGtid
+        | CommandName::DisableGtid
+        | CommandName::Relocate
+        | CommandName::RelocateReplicas
+        | CommandName::RegroupReplicas
+        | CommandName::DetachReplica
+        | CommandName::ReattachReplica
+        | CommandName::ResetReplica
+        | CommandName::StartReplica
+        | CommandName::StopReplica
+        | CommandName::RestartReplica
+        | CommandName::SetReadOnly
+        | CommandName::SetWriteable
+        | CommandName::Forget
+        | CommandName::BeginDowntime
+        | CommandName::EndDowntime
+        | CommandName::RegisterCandidate
+        | CommandName::Recover
+        | CommandName::GracefulMasterTakeover
+        | CommandName::AckClusterRecoveries
+        | CommandName::Topology
+        | CommandName::WhichMaster
+        | CommandName::WhichReplicas
+        | CommandName::WhichCluster
+        | CommandName::WhichClusterInstances
+        | CommandName::Clusters
+        | CommandName::AllInstances
+        | CommandName::Find
+        | CommandName::ReplicationAnalysis
+        | CommandName::AuditRecoveries
+        | CommandName::DisableGlobalRecoveries
+        | CommandName::EnableGlobalRecoveries
+        | CommandName::CheckGlobalRecoveries => false,
     }
 }
 
@@ -29,7 +69,7 @@ fn is_unknown(command: Command, i_known: bool, d_known: bool) -> bool
 {
     let needs = command.name.needs();
     let uses = command.name.uses();
-    let i_tested = uses.i && !takes_any(command.name.route());
+    let i_tested = uses.i && !takes_any(command.name);
     is_missing(needs.i, i_tested, command.i, i_known)
         || is_missing(needs.d, uses.d, command.d, d_known)
 }

@@ -8,20 +8,20 @@ use Rattle.std.proofs.lemmas.List.Folds.{list_any-append}
 use Rattle.std.proofs.lemmas.List.FromFn.{length-range_with_len}
 use Rattle.std.proofs.lemmas.List.Kept.{AllPairs-cons}
 use Rattle.std.proofs.lemmas.List.Sums.{sum_by-cons}
-use Rattle.gtid_sets.specs.Sets.{place, low, high, on_line, holds, size, IsInterval, IsSet}
+use Rattle.gtid_sets.specs.Sets.{point, low, high, on_line, holds, size, IsInterval, IsSet}
 use Rattle.gtid_sets.specs.Pairs.{pairs}
-use Rattle.gtid_sets.proofs.Line.{place_behind}
-use Rattle.gtid_sets.proofs.Places.{holds_line}
+use Rattle.gtid_sets.proofs.Line.{point_behind}
+use Rattle.gtid_sets.proofs.Points.{holds_line}
 use Rattle.gtid_sets.specs.declared.interval.Interval.{Interval}
 
--- consecutive numbers have consecutive places
-places_run : (u a n : ℕ) → map (place u) (range_with_len a n) ≡ range_with_len (place u a) n
-places_run u a zero = refl
-places_run u a (suc n) =
-    ap (λ (ps : List ℕ). place u a ∷ ps) (places_run u (a + 1) n ∙ ap (λ (p : ℕ). range_with_len p n) (place_behind u a))
+-- consecutive numbers have consecutive points
+points_run : (u a n : ℕ) → map (point u) (range_with_len a n) ≡ range_with_len (point u a) n
+points_run u a zero = refl
+points_run u a (suc n) =
+    ap (λ (ps : List ℕ). point u a ∷ ps) (points_run u (a + 1) n ∙ ap (λ (p : ℕ). range_with_len p n) (point_behind u a))
 
 pairs_cons : (s : Interval) (xs : List Interval) → pairs (s ∷ xs) ≡ range_with_len (low s) (s.last + 1 - s.first) ++ pairs xs
-pairs_cons s xs = ap (λ (ps : List ℕ). ps ++ pairs xs) (places_run s.uuid s.first (s.last + 1 - s.first))
+pairs_cons s xs = ap (λ (ps : List ℕ). ps ++ pairs xs) (points_run s.uuid s.first (s.last + 1 - s.first))
 
 pub pairs_length : (xs : List Interval) → length (pairs xs) ≡ size xs
 pairs_length [] = refl
@@ -61,7 +61,7 @@ pairs_above (s ∷ xs) m all =
     (All-append (λ (p : ℕ). m ≤ p) (range_with_len (low s) (s.last + 1 - s.first)) (pairs xs) (λ k d within. (run k d within).0) (pairs_above xs m (All-tail (λ t. m ≤ low t) s xs all)))
 
 run_end : (s : Interval) → IsInterval s → low s + (s.last + 1 - s.first) ≡ high s + 1
-unfolding place
+unfolding point
 run_end s is = let a = is.rises in omega arith
 
 set_tail : (s : Interval) (xs : List Interval) → IsSet (s ∷ xs) → IsSet xs
@@ -101,5 +101,5 @@ pairs_line (s ∷ xs) at all =
     ap (list_any (λ p. p == at)) (pairs_cons s xs) ∙ list_any-append (λ p. p == at) (range_with_len (low s) (s.last + 1 - s.first)) (pairs xs)
     ∙ rw (run_has (low s) (s.last + 1 - s.first) at (high s + 1) (run_end s is), up_to (low s) at (high s), pairs_line xs at (All-tail IsInterval s xs all)) refl
 
-pub pairs_held : (xs : List Interval) (u n : ℕ) → IsSet xs → n < 2 ^ 64 → list_any (λ p. p == place u n) (pairs xs) ≡ holds xs u n
-pairs_held xs u n set fits = pairs_line xs (place u n) set.each ∙ sym (holds_line xs u n set.each fits)
+pub pairs_held : (xs : List Interval) (u n : ℕ) → IsSet xs → n < 2 ^ 64 → list_any (λ p. p == point u n) (pairs xs) ≡ holds xs u n
+pairs_held xs u n set fits = pairs_line xs (point u n) set.each ∙ sym (holds_line xs u n set.each fits)

@@ -8,7 +8,7 @@ use Rattle.std.proofs.lemmas.List.{get_or-drop, length-drop}
 use Rattle.std.proofs.lemmas.List.Edits.{length-remove, get_or-remove_below, get_or-remove_above}
 use Rattle.std.proofs.lemmas.Bool.Decides.{nat_tests}
 use Rattle.std.proofs.lemmas.List.Elements.{All-head, All-tail}
-use Rattle.gtid_sets.specs.Sets.{place, low, high, spans, holds, largest, IsInterval, IsSet}
+use Rattle.gtid_sets.specs.Sets.{point, low, high, spans, holds, largest, IsInterval, IsSet}
 use Rattle.gtid_sets.specs.Adding.{single, touches, merged, is_before, inserted, touches_first, with_pair}
 use Rattle.gtid_sets.specs.declared.interval.Interval.{Interval}
 use Rattle.gtid_sets.proofs.Line.{low_high}
@@ -129,11 +129,11 @@ pub IsInterval-single : (uuid n : ℕ) → uuid < 2 ^ 128 → 1 ≤ n → n ≤ 
 IsInterval-single uuid n fits some few = record { uuid_fits = fits; above_zero = some; rises = omega arith; in_range = few }
 
 pub low-merged : (s t : Interval) → s.uuid ≡ t.uuid → low (merged s t) ≡ min (low s) (low t)
-unfolding place
+unfolding point
 low-merged s t e = omega arith
 
 pub high-merged : (s t : Interval) → s.uuid ≡ t.uuid → high (merged s t) ≡ max (high s) (high t)
-unfolding place
+unfolding point
 high-merged s t e = omega arith
 
 All-cons : (P : Interval → Type 0) (x : Interval) (ys : List Interval) → P x → All P ys → All P (x ∷ ys)
@@ -173,12 +173,12 @@ set_above : (s : Interval) (xs : List Interval) → IsSet (s ∷ xs) → All (λ
 set_above s xs is = λ k d h. is.apart 0 (suc k) d (omega arith) (omega (arith, h))
 
 before-gap : (s t : Interval) → IsInterval s → IsInterval t → touches s t ≡ false → is_before s t ≡ true → high s + 1 < low t
-unfolding place
+unfolding point
 before-gap s t a b e f =
     let ar = a.rises in let ai = a.in_range in let br = b.rises in let bi = b.in_range in let bz = b.above_zero in grind (arith, nat_tests)
 
 behind-gap : (s t : Interval) → IsInterval s → IsInterval t → touches s t ≡ false → is_before s t ≡ false → high t + 1 < low s
-unfolding place
+unfolding point
 behind-gap s t a b e f =
     let ar = a.rises in let ai = a.in_range in let br = b.rises in let bi = b.in_range in let az = a.above_zero in grind (arith, nat_tests)
 
@@ -205,7 +205,7 @@ Rises-set xs is = λ k d h. (is.each k d h).rises
 -- what the code finds
 
 past-tests : (s t : Interval) → IsInterval s → IsInterval t → high t + 1 < low s → (touches s t ≡ false) × (is_before s t ≡ false)
-unfolding place
+unfolding point
 past-tests s t a b gap =
     let ar = a.rises in let ai = a.in_range in let br = b.rises in let bi = b.in_range in (grind (arith, nat_tests), grind (arith, nat_tests))
 
@@ -237,7 +237,7 @@ inserted-alone s (t ∷ xs) one each reach e =
         let r : low s ≤ high t + 1 = All-head (λ t. low s ≤ high t + 1) t xs reach in
         absurd (omega arith)
 
--- where an interval touches the one at a place, that place is there
+-- where an interval touches the one at a point, that point is there
 pub touches-there : (xs : List Interval) (i : ℕ) (s : Interval) → touches_first s (drop i xs) ≡ true → i < length xs
 touches-there [] zero s e = absurd (false≢true e)
 touches-there [] (suc i) s e = absurd (false≢true e)
@@ -263,7 +263,7 @@ touches_first-get (x ∷ xs) zero s None e = cc
 touches_first-get (x ∷ xs) zero s (Some t) e = ap (touches s) (same_Some x t e)
 touches_first-get (x ∷ xs) (suc i) s o e = touches_first-get xs i s o e
 
--- what stands from a place on, once the interval there is taken out
+-- what stands from a point on, once the interval there is taken out
 pub drop-remove : (xs : List Interval) (i : ℕ) → i < length xs → drop i (remove xs i) ≡ drop (i + 1) xs
 drop-remove [] i h = absurd (omega arith)
 drop-remove (x ∷ xs) zero h = refl
@@ -291,9 +291,9 @@ pub record IsOnTheWay (uuid n at : ℕ) (old xs : List Interval) (whole : Interv
   pub reach : AllWithin (λ t. low whole ≤ high t + 1) xs at (length xs)
   pub long : length xs ≤ length old
 
-pub IsOnTheWay-first : (uuid n at : ℕ) (xs : List Interval) → IsSet xs → IsInterval (single uuid n) → at ≤ length xs → AllWithin (λ s. high s < place uuid (n - 1)) xs 0 at
-    → AllWithin (λ s. place uuid (n - 1) ≤ high s) xs at (length xs) → IsOnTheWay uuid n at xs xs (single uuid n)
-unfolding place
+pub IsOnTheWay-first : (uuid n at : ℕ) (xs : List Interval) → IsSet xs → IsInterval (single uuid n) → at ≤ length xs → AllWithin (λ s. high s < point uuid (n - 1)) xs 0 at
+    → AllWithin (λ s. point uuid (n - 1) ≤ high s) xs at (length xs) → IsOnTheWay uuid n at xs xs (single uuid n)
+unfolding point
 IsOnTheWay-first uuid n at xs is one le below above =
     let some = one.above_zero in record {
       within = le;

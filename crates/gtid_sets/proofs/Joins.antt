@@ -6,7 +6,7 @@ use Rattle.std.specs.List.{All, AllPairs}
 use Rattle.std.proofs.lemmas.List.Elements.{All-push}
 use Rattle.std.proofs.lemmas.List.Quantifiers.{all_pairs_push}
 use Rattle.gtid_sets.specs.Sets.{low, high, IsInterval, IsSet}
-use Rattle.gtid_sets.proofs.Line.{place_rises}
+use Rattle.gtid_sets.proofs.Line.{point_rises}
 use Rattle.gtid_sets.specs.declared.interval.Interval.{Interval}
 
 pub record Front (ys : List Interval) (l : Interval) : Type 0 where
@@ -53,7 +53,7 @@ pub apart_set : (xs ys ws zs : List Interval) (l t : Interval) → IsSet xs → 
     → ws ≡ ys ++ l ∷ [] → zs ≡ ws ++ t ∷ [] → IsSet zs
 apart_set xs ys ws zs l t is e it gap w z =
     let f = front_of ys l (subst IsSet e is) in
-    let rises : low l ≤ high l = place_rises l.uuid l.first l.last f.last.rises in
+    let rises : low l ≤ high l = point_rises l.uuid l.first l.last f.last.rises in
     let whole : IsSet ws = subst IsSet (sym w) (subst IsSet e is) in
     let below : All (λ s. high s + 1 < low t) (ys ++ l ∷ []) = All-push (λ s. high s + 1 < low t) ys l (λ k d h. let b = f.below k d h in omega arith) gap in
     subst IsSet (sym z) (set_push ws t whole it (subst (All (λ s. high s + 1 < low t)) (sym w) below))

@@ -1,6 +1,6 @@
 pub mod Line
 pub mod Joins
-pub mod Places
+pub mod Points
 pub mod Search
 pub mod Sweep
 pub mod Texts

@@ -20,13 +20,13 @@ first_or_more : (b : Bool) (m n : ℕ) → m ≤ n → cond b (1 + m) 0 ≤ suc 
 first_or_more true m n h = omega arith
 first_or_more false m n h = omega arith
 
-pub place_within : (p : ℕ → Bool) (xs : List ℕ) → position_or_len p xs ≤ length xs
-place_within p [] = omega arith
-place_within p (x ∷ xs) = first_or_more (not (p x)) _ _ (place_within p xs)
+pub length_within : (p : ℕ → Bool) (xs : List ℕ) → position_or_len p xs ≤ length xs
+length_within p [] = omega arith
+length_within p (x ∷ xs) = first_or_more (not (p x)) _ _ (length_within p xs)
 
-pub place_or_len : (p : ℕ → Bool) (xs : List ℕ) → unwrap_or (position p xs) (length xs) ≡ position_or_len p xs
-place_or_len p xs =
-    let within = place_within p xs in
+pub position_is : (p : ℕ → Bool) (xs : List ℕ) → unwrap_or (position p xs) (length xs) ≡ position_or_len p xs
+position_is p xs =
+    let within = length_within p xs in
     elim (cases_lt (position_or_len p xs) (length xs)) [
       | inl less ↦ rw (lt-ltb _ _ less) refl
       | inr more ↦ rw (le-ltb _ _ more) (omega arith)
@@ -45,7 +45,7 @@ digits_failed ds i d h bad =
     let all : list_all is_ascii_digit ds ≡ false = list_all_at is_ascii_digit ds i d h bad in
     rw all (none_and (ltb 0 (length ds)) (value_of ds))
 
--- a text up to the first place that divides it, and the rest
+-- a text up to the first offset that divides it, and the rest
 piece_end : (p : ℕ → Bool) (x : ℕ) (xs : List ℕ) (b : Bool) → p x ≡ b → cond (not b) (1 + position_or_len p xs) 0 ≡ suc (length xs) → (position_or_len p xs ≡ length xs → pieces p xs ≡ xs ∷ [])
     → cond b ([] ∷ pieces p xs) (onto_first x (pieces p xs)) ≡ (x ∷ xs) ∷ []
 piece_end p x xs true e h more = absurd (omega arith)
@@ -73,13 +73,13 @@ pieces_more p (x ∷ xs) h = piece_more p x xs (p x) refl h (pieces_more p xs)
 at_36 : (s : List ℕ) → length s ≡ 36 → parsed s ≡ parsed_hyphenated s
 at_36 s len = rw len refl
 
-no_uuid : (place : ℕ) (r : Option (List ℕ)) → ((u : List ℕ) → r ≡ Some u → ⊥) → Err (BadUuid place) ≡ uuid_or place r
-no_uuid place None h = refl
-no_uuid place (Some u) h = absurd (h u refl)
+no_uuid : (offset : ℕ) (r : Option (List ℕ)) → ((u : List ℕ) → r ≡ Some u → ⊥) → Err (BadUuid offset) ≡ uuid_or offset r
+no_uuid offset None h = refl
+no_uuid offset (Some u) h = absurd (h u refl)
 
 -- a UUID that does not parse
-pub uuid_none : (s : List ℕ) (place : ℕ) → length s ≡ 36 → ((u : List ℕ) → parsed s ≡ Some u → ⊥) → Err (BadUuid place) ≡ uuid_or place (parsed_hyphenated s)
-uuid_none s place len none = no_uuid place (parsed_hyphenated s) (λ u e. none u (at_36 s len ∙ e))
+pub uuid_none : (s : List ℕ) (offset : ℕ) → length s ≡ 36 → ((u : List ℕ) → parsed s ≡ Some u → ⊥) → Err (BadUuid offset) ≡ uuid_or offset (parsed_hyphenated s)
+uuid_none s offset len none = no_uuid offset (parsed_hyphenated s) (λ u e. none u (at_36 s len ∙ e))
 
 abbrev last_test : ℕ → ℕ → ℕ → ℕ → Result Interval GtidFault
 last_test u p a b = cond (ltb b a) (Err (BadInterval p)) (Ok (record { uuid = u; first = a; last = b }))
@@ -251,36 +251,36 @@ part_fails p rest len found fault at within read =
           rw e (part_fault found (part_at p rest) (Ok []) fault (ap (λ (t : List ℕ). behind found (part_at p t)) (sym (text_ends rest len end)) ∙ read))
     ]
 
-filled_fault : (found : List Interval) (place : ℕ) (uuid : Option (List ℕ)) (e : GtidFault) (next : ℕ → Result (List Interval) GtidFault) → Err e ≡ uuid_or place uuid → behind found (uuid_or place uuid >>= next) ≡ Err e
-filled_fault found place None e next h = let g : BadUuid place ≡ e = cc in ap Err g
-filled_fault found place (Some bytes) e next h = absurd (cc)
+filled_fault : (found : List Interval) (offset : ℕ) (uuid : Option (List ℕ)) (e : GtidFault) (next : ℕ → Result (List Interval) GtidFault) → Err e ≡ uuid_or offset uuid → behind found (uuid_or offset uuid >>= next) ≡ Err e
+filled_fault found offset None e next h = let g : BadUuid offset ≡ e = cc in ap Err g
+filled_fault found offset (Some bytes) e next h = absurd (cc)
 
 -- a text whose UUID does not read
-pub filled_fails : (found : List Interval) (place : ℕ) (text : List ℕ) (colon : ℕ) (e : GtidFault) → colon ≡ position_or_len is_colon text → Err e ≡ uuid_or place (parsed_hyphenated (take colon text)) → behind found (filled_at place text) ≡ Err e
+pub filled_fails : (found : List Interval) (offset : ℕ) (text : List ℕ) (colon : ℕ) (e : GtidFault) → colon ≡ position_or_len is_colon text → Err e ≡ uuid_or offset (parsed_hyphenated (take colon text)) → behind found (filled_at offset text) ≡ Err e
 unfolding filled_at
-filled_fails found place text colon e at h = filled_fault found place (parsed_hyphenated (take (position_or_len is_colon text) text)) e (λ uuid. listed_at uuid place text) (subst (λ (n : ℕ). Err e ≡ uuid_or place (parsed_hyphenated (take n text))) at h)
+filled_fails found offset text colon e at h = filled_fault found offset (parsed_hyphenated (take (position_or_len is_colon text) text)) e (λ uuid. listed_at uuid offset text) (subst (λ (n : ℕ). Err e ≡ uuid_or offset (parsed_hyphenated (take n text))) at h)
 
 -- a text whose UUID reads
-pub filled_goes : (found : List Interval) (place : ℕ) (text : List ℕ) (colon uuid : ℕ) → colon ≡ position_or_len is_colon text → Ok uuid ≡ uuid_or place (parsed_hyphenated (take colon text)) → behind found (filled_at place text) ≡ behind found (listed_at uuid place text)
+pub filled_goes : (found : List Interval) (offset : ℕ) (text : List ℕ) (colon uuid : ℕ) → colon ≡ position_or_len is_colon text → Ok uuid ≡ uuid_or offset (parsed_hyphenated (take colon text)) → behind found (filled_at offset text) ≡ behind found (listed_at uuid offset text)
 unfolding filled_at
-filled_goes found place text colon uuid at h =
-    let e : uuid_or place (parsed_hyphenated (take (position_or_len is_colon text) text)) ≡ Ok uuid = sym (subst (λ (n : ℕ). Ok uuid ≡ uuid_or place (parsed_hyphenated (take n text))) at h) in
+filled_goes found offset text colon uuid at h =
+    let e : uuid_or offset (parsed_hyphenated (take (position_or_len is_colon text) text)) ≡ Ok uuid = sym (subst (λ (n : ℕ). Ok uuid ≡ uuid_or offset (parsed_hyphenated (take n text))) at h) in
     rw e refl
 
-pub listed_none : (found : List Interval) (place : ℕ) (text : List ℕ) (colon uuid : ℕ) → colon ≡ position_or_len is_colon text → colon ≡ length text → behind found (listed_at uuid place text) ≡ Err (BadInterval (place + colon))
-listed_none found place text colon uuid at end = rw (le-ltb (position_or_len is_colon text) (length text) (omega arith), end) refl
+pub listed_none : (found : List Interval) (offset : ℕ) (text : List ℕ) (colon uuid : ℕ) → colon ≡ position_or_len is_colon text → colon ≡ length text → behind found (listed_at uuid offset text) ≡ Err (BadInterval (offset + colon))
+listed_none found offset text colon uuid at end = rw (le-ltb (position_or_len is_colon text) (length text) (omega arith), end) refl
 
-pub listed_some : (found : List Interval) (place : ℕ) (text : List ℕ) (colon uuid : ℕ) → colon ≡ position_or_len is_colon text → colon < length text
-    → behind found (listed_at uuid place text) ≡ behind found (intervals_at uuid (place + colon + 1) (pieces is_colon (drop (colon + 1) text)))
-listed_some found place text colon uuid at less = rw (lt-ltb (position_or_len is_colon text) (length text) (omega arith), at) refl
+pub listed_some : (found : List Interval) (offset : ℕ) (text : List ℕ) (colon uuid : ℕ) → colon ≡ position_or_len is_colon text → colon < length text
+    → behind found (listed_at uuid offset text) ≡ behind found (intervals_at uuid (offset + colon + 1) (pieces is_colon (drop (colon + 1) text)))
+listed_some found offset text colon uuid at less = rw (lt-ltb (position_or_len is_colon text) (length text) (omega arith), at) refl
 
-pub part_blank : (found : List Interval) (place : ℕ) (text : List ℕ) → length text ≤ leading text → behind found (part_at place text) ≡ Err (BadUuid (place + length text))
+pub part_blank : (found : List Interval) (offset : ℕ) (text : List ℕ) → length text ≤ leading text → behind found (part_at offset text) ≡ Err (BadUuid (offset + length text))
 unfolding part_at
-part_blank found place text h = rw (le-ltb (leading text) (length text) h) refl
+part_blank found offset text h = rw (le-ltb (leading text) (length text) h) refl
 
-pub part_filled : (found : List Interval) (place : ℕ) (text : List ℕ) → leading text < length text → behind found (part_at place text) ≡ behind found (filled_at (place + leading text) (inner text))
+pub part_filled : (found : List Interval) (offset : ℕ) (text : List ℕ) → leading text < length text → behind found (part_at offset text) ≡ behind found (filled_at (offset + leading text) (inner text))
 unfolding part_at
-part_filled found place text h = rw (lt-ltb (leading text) (length text) h) refl
+part_filled found offset text h = rw (lt-ltb (leading text) (length text) h) refl
 
 pub text_blank : (text : List ℕ) → length text ≤ leading text → text_at text ≡ Ok []
 unfolding text_at
@@ -295,10 +295,10 @@ unfolding text_at
 text_filled text h = rw (lt-ltb (leading text) (length text) h) (sym (nothing_behind (parts_at 0 (pieces is_comma text))))
 
 -- one more step of the loops
-pub intervals_step : (u place from len : ℕ) (text : List ℕ) (found : List Interval) → behind found (intervals_at u (place + from + len + 1) (pieces is_colon (drop (len + 1) (drop from text))))
-    ≡ behind found (intervals_at u (place + (from + (len + 1))) (pieces is_colon (drop (from + (len + 1)) text)))
-intervals_step u place from len text found =
-    let a : place + from + len + 1 ≡ place + (from + (len + 1)) = omega arith in
+pub intervals_step : (u offset from len : ℕ) (text : List ℕ) (found : List Interval) → behind found (intervals_at u (offset + from + len + 1) (pieces is_colon (drop (len + 1) (drop from text))))
+    ≡ behind found (intervals_at u (offset + (from + (len + 1))) (pieces is_colon (drop (from + (len + 1)) text)))
+intervals_step u offset from len text found =
+    let a : offset + from + len + 1 ≡ offset + (from + (len + 1)) = omega arith in
     rw (a, drop_more text from (len + 1)) refl
 
 pub parts_step : (from len : ℕ) (text : List ℕ) (found : List Interval) → behind found (parts_at (from + len + 1) (pieces is_comma (drop (len + 1) (drop from text))))

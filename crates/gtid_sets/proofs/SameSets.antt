@@ -5,9 +5,9 @@ use Rattle.std.specs.List.{All}
 use Rattle.std.proofs.lemmas.Bool.{false≢true, cases_lt}
 use Rattle.std.proofs.lemmas.Bool.Decides.{nat_tests}
 use Rattle.gtid_sets.specs.declared.interval.Interval.{Interval}
-use Rattle.gtid_sets.specs.Sets.{place, low, high, between, on_line, holds, IsInterval, IsSet}
+use Rattle.gtid_sets.specs.Sets.{point, low, high, between, on_line, holds, IsInterval, IsSet}
 use Rattle.gtid_sets.proofs.Line.{low_high}
-use Rattle.gtid_sets.proofs.Places.{holds_line}
+use Rattle.gtid_sets.proofs.Points.{holds_line}
 
 set_head : (s : Interval) (xs : List Interval) → IsSet (s ∷ xs) → IsInterval s
 set_head s xs is = is.each 0 s (omega arith)
@@ -34,7 +34,7 @@ or_first : (a b : Bool) → a ≡ true → (a || b) ≡ true
 or_first true b e = refl
 or_first false b e = absurd (false≢true e)
 
--- no place before the first of the intervals is on one
+-- no point before the first of the intervals is on one
 below_none : (m x : ℕ) (xs : List Interval) → All (λ t. m < low t) xs → x ≤ m → on_line xs x ≡ false
 below_none m x [] above h = refl
 below_none m x (t ∷ xs) above h =
@@ -85,14 +85,14 @@ fields_same u f l v g m a b c = rw (a, b, c) refl
 fits : (s : Interval) → IsInterval s → (s.first < 2 ^ 64) × (s.last < 2 ^ 64)
 fits s is = let a = is.rises in let b = is.in_range in (omega (arith, a, b), omega (arith, b))
 
-place_same : (u n v m : ℕ) → n < 2 ^ 64 → m < 2 ^ 64 → place u n ≡ place v m → (u ≡ v) × (n ≡ m)
-unfolding place
-place_same u n v m a b e = (omega (arith, a, b, e), omega (arith, a, b, e))
+point_same : (u n v m : ℕ) → n < 2 ^ 64 → m < 2 ^ 64 → point u n ≡ point v m → (u ≡ v) × (n ≡ m)
+unfolding point
+point_same u n v m a b e = (omega (arith, a, b, e), omega (arith, a, b, e))
 
 ends_same : (s t : Interval) → IsInterval s → IsInterval t → low s ≡ low t → high s ≡ high t → s ≡ t
 ends_same s t is it a b =
-    let first = place_same s.uuid s.first t.uuid t.first (fits s is).0 (fits t it).0 a in
-    let last = place_same s.uuid s.last t.uuid t.last (fits s is).1 (fits t it).1 b in
+    let first = point_same s.uuid s.first t.uuid t.first (fits s is).0 (fits t it).0 a in
+    let last = point_same s.uuid s.last t.uuid t.last (fits s is).1 (fits t it).1 b in
     fields_same s.uuid s.first s.last t.uuid t.first t.last first.0 first.1 last.1
 
 rest_same : (s : Interval) (xs ys : List Interval) → IsSet (s ∷ xs) → IsSet (s ∷ ys) → ((x : ℕ) → on_line (s ∷ xs) x ≡ on_line (s ∷ ys) x) → (x : ℕ) → on_line xs x ≡ on_line ys x
@@ -122,9 +122,9 @@ line_same (s ∷ xs) (t ∷ ys) is it same =
     let same_too : (x : ℕ) → on_line (s ∷ xs) x ≡ on_line (s ∷ ys) x = subst (λ (r : Interval). (x : ℕ) → on_line (s ∷ xs) x ≡ on_line (r ∷ ys) x) (sym one) same in
     ap (λ (zs : List Interval). s ∷ zs) (line_same xs ys (set_rest s xs is) (set_rest t ys it) (rest_same s xs ys is it_too same_too)) ∙ ap (λ (r : Interval). r ∷ ys) one
 
-place_split : (x : ℕ) → place (x / 2 ^ 64) (x % 2 ^ 64) ≡ x
-unfolding place
-place_split x = omega arith
+point_split : (x : ℕ) → point (x / 2 ^ 64) (x % 2 ^ 64) ≡ x
+unfolding point
+point_split x = omega arith
 
 split_small : (x : ℕ) → x % 2 ^ 64 < 2 ^ 64
 split_small x = omega arith
@@ -133,5 +133,5 @@ pub same_sets_lem : (xs ys : List Interval) → IsSet xs → IsSet ys → ((uuid
 same_sets_lem xs ys is it same = line_same xs ys is it (λ x.
     let u = x / 2 ^ 64 in
     let n = x % 2 ^ 64 in
-    let at : on_line xs (place u n) ≡ on_line ys (place u n) = sym (holds_line xs u n is.each (split_small x)) ∙ (same u n ∙ holds_line ys u n it.each (split_small x)) in
-    subst (λ (y : ℕ). on_line xs y ≡ on_line ys y) (place_split x) at)
+    let at : on_line xs (point u n) ≡ on_line ys (point u n) = sym (holds_line xs u n is.each (split_small x)) ∙ (same u n ∙ holds_line ys u n it.each (split_small x)) in
+    subst (λ (y : ℕ). on_line xs y ≡ on_line ys y) (point_split x) at)

@@ -7,9 +7,9 @@ use Rattle.std.proofs.lemmas.Bool.Decides.{nat_tests}
 use Rattle.std.proofs.lemmas.Bool.{cases_lt, false≢true, eqb-true}
 use Rattle.std.proofs.lemmas.List.{get_or_default, take_all}
 use Rattle.std.proofs.lemmas.List.Folds.{list_any_none, list_any_at, list_any_more}
-use Rattle.gtid_sets.specs.Sets.{place, low, high, between, on_line, spans, holds, IsInterval, IsSet, Misses}
-use Rattle.gtid_sets.proofs.Line.{low_high, place_rises, place_within, place_behind}
-use Rattle.gtid_sets.proofs.Places.{holds_line, holds_past, rises, rise_highs}
+use Rattle.gtid_sets.specs.Sets.{point, low, high, between, on_line, spans, holds, IsInterval, IsSet, Misses}
+use Rattle.gtid_sets.proofs.Line.{low_high, point_rises, point_within, point_behind}
+use Rattle.gtid_sets.proofs.Points.{holds_line, holds_past, rises, rise_highs}
 use Rattle.gtid_sets.specs.declared.interval.Interval.{Interval}
 
 inside : (a b x : ℕ) → a ≤ x → x ≤ b → (leb a x && leb x b) ≡ true
@@ -104,14 +104,14 @@ misses_last xs i d s is it h l r less =
     let t = get_or xs i d in
     let ti = is.each i d h in
     let a = it.rises in let b = it.in_range in let e = ti.rises in let f = ti.in_range in
-    let w = place_within t.uuid t.first s.uuid s.first t.last (omega arith) (omega arith) (omega arith) l r in
+    let w = point_within t.uuid t.first s.uuid s.first t.last (omega arith) (omega arith) (omega arith) l r in
     let same : t.uuid ≡ s.uuid = w.0 in
-    let at : place s.uuid (t.last + 1) ≡ high t + 1 = place_behind s.uuid t.last ∙ subst (λ (u : ℕ). place s.uuid t.last + 1 ≡ place u t.last + 1) (sym same) refl in
+    let at : point s.uuid (t.last + 1) ≡ high t + 1 = point_behind s.uuid t.last ∙ subst (λ (u : ℕ). point s.uuid t.last + 1 ≡ point u t.last + 1) (sym same) refl in
     let end : t.last < s.last = elim (cases_lt t.last s.last) as (λ v. t.last < s.last) [
       | inl less2 ↦ less2
-      | inr past ↦ let up = place_rises s.uuid s.last t.last past in let k : place t.uuid t.last ≡ place s.uuid t.last = subst (λ (u : ℕ). place t.uuid t.last ≡ place u t.last) same refl in absurd (omega arith)
+      | inr past ↦ let up = point_rises s.uuid s.last t.last past in let k : point t.uuid t.last ≡ point s.uuid t.last = subst (λ (u : ℕ). point t.uuid t.last ≡ point u t.last) same refl in absurd (omega arith)
     ] in
-    (t.last + 1, middle_in s (t.last + 1) (omega arith) (omega arith), holds_line xs s.uuid (t.last + 1) is.each (omega arith) ∙ behind_none xs i d (place s.uuid (t.last + 1)) is h at)
+    (t.last + 1, middle_in s (t.last + 1) (omega arith) (omega arith), holds_line xs s.uuid (t.last + 1) is.each (omega arith) ∙ behind_none xs i d (point s.uuid (t.last + 1)) is h at)
 
 pub on_false_not : {P : Type 0} (r b : Bool) → r ≡ b → (b ≡ true → P) → OnFalse (not r) P
 on_false_not true b e f = f (sym e)
@@ -132,7 +132,7 @@ pub parts_held : (ps xs : List Interval) → IsSet ps → IsSet xs → ((x : ℕ
     → (u n : ℕ) → holds ps u n ≡ true → holds xs u n ≡ true
 parts_held ps xs ip ix all u n on =
     elim (cases_lt n (2 ^ 64)) [
-      | inl fits ↦ holds_line xs u n ix.each fits ∙ all (place u n) (sym (holds_line ps u n ip.each fits) ∙ on)
+      | inl fits ↦ holds_line xs u n ix.each fits ∙ all (point u n) (sym (holds_line ps u n ip.each fits) ∙ on)
       | inr past ↦ absurd (false≢true (sym (holds_past ps u n ip.each past) ∙ on))
     ]
 
@@ -148,17 +148,17 @@ none_held (s ∷ xs) is none =
     let it = is.each 0 s (omega arith) in
     absurd (false≢true (sym (none s.uuid s.first) ∙ list_any_at (spans s.uuid s.first) (s ∷ xs) 0 s (omega arith) (first_in s it)))
 
-pub same_place : {u v n m : ℕ} → u ≡ v → n ≡ m → place u n ≡ place v m
-same_place {u} {v} {n} {m} e f = subst (λ (w : ℕ). place u n ≡ place w m) e (subst (λ (k : ℕ). place u n ≡ place u k) f refl)
+pub same_point : {u v n m : ℕ} → u ≡ v → n ≡ m → point u n ≡ point v m
+same_point {u} {v} {n} {m} e f = subst (λ (w : ℕ). point u n ≡ point w m) e (subst (λ (k : ℕ). point u n ≡ point u k) f refl)
 
 -- where the search finds no interval
-pub found_not : (xs : List Interval) (i u n : ℕ) → IsSet xs → n < 2 ^ 64 → length xs ≤ i → AllWithin (λ s. high s < place u n) xs 0 i → holds xs u n ≡ false
-found_not xs i u n is fits out past = holds_line xs u n is.each fits ∙ line_past xs (place u n) (λ k d l r. past k d l (omega arith))
+pub found_not : (xs : List Interval) (i u n : ℕ) → IsSet xs → n < 2 ^ 64 → length xs ≤ i → AllWithin (λ s. high s < point u n) xs 0 i → holds xs u n ≡ false
+found_not xs i u n is fits out past = holds_line xs u n is.each fits ∙ line_past xs (point u n) (λ k d l r. past k d l (omega arith))
 
-pub found_at : (xs : List Interval) (i : ℕ) (d : Interval) (u n : ℕ) → IsSet xs → n < 2 ^ 64 → i < length xs → AllWithin (λ s. high s < place u n) xs 0 i
-    → AllWithin (λ s. place u n ≤ high s) xs i (length xs) → not (ltb (place u n) (low (get_or xs i d))) ≡ holds xs u n
+pub found_at : (xs : List Interval) (i : ℕ) (d : Interval) (u n : ℕ) → IsSet xs → n < 2 ^ 64 → i < length xs → AllWithin (λ s. high s < point u n) xs 0 i
+    → AllWithin (λ s. point u n ≤ high s) xs i (length xs) → not (ltb (point u n) (low (get_or xs i d))) ≡ holds xs u n
 found_at xs i d u n is fits h past up =
-    holds_at (holds_line xs u n is.each fits) (not_less _ _ ∙ sym (line_at xs i d (place u n) is h past (up i d (omega arith) h)))
+    holds_at (holds_line xs u n is.each fits) (not_less _ _ ∙ sym (line_at xs i d (point u n) is h past (up i d (omega arith) h)))
 
 pub parts_all : (ps xs : List Interval) (i : ℕ) → length ps ≤ i → ((x : ℕ) → on_line (take i ps) x ≡ true → on_line xs x ≡ true) → (x : ℕ) → on_line ps x ≡ true → on_line xs x ≡ true
 parts_all ps xs i h all x = subst (λ (qs : List Interval). on_line qs x ≡ true → on_line xs x ≡ true) (take_all i ps h) (all x)

@@ -5,9 +5,9 @@ use Rattle.std.specs.List.{AllWithin}
 use Rattle.std.proofs.lemmas.Bool.Decides.{nat_tests}
 use Rattle.std.proofs.lemmas.Bool.{cases_lt, lt-ltb, le-ltb}
 use Rattle.std.proofs.lemmas.List.Folds.{list_any_none}
-use Rattle.gtid_sets.specs.Sets.{place, low, high, between, on_line, holds, IsInterval, IsSet}
-use Rattle.gtid_sets.proofs.Line.{low_high, place_within, place_behind, place_rises}
-use Rattle.gtid_sets.proofs.Places.{holds_line, holds_past, rises}
+use Rattle.gtid_sets.specs.Sets.{point, low, high, between, on_line, holds, IsInterval, IsSet}
+use Rattle.gtid_sets.proofs.Line.{low_high, point_within, point_behind, point_rises}
+use Rattle.gtid_sets.proofs.Points.{holds_line, holds_past, rises}
 use Rattle.gtid_sets.proofs.Search.{line_at, line_past, above, below}
 use Rattle.gtid_sets.specs.declared.interval.Interval.{Interval}
 
@@ -15,7 +15,7 @@ pub minus_holds : (xs ys zs : List Interval) → IsSet xs → IsSet ys → IsSet
     → (u n : ℕ) → holds zs u n ≡ (holds xs u n && not (holds ys u n))
 minus_holds xs ys zs ix iy iz same u n =
     elim (cases_lt n (2 ^ 64)) [
-      | inl fits ↦ rw (holds_line zs u n iz.each fits, holds_line xs u n ix.each fits, holds_line ys u n iy.each fits) (same (place u n))
+      | inl fits ↦ rw (holds_line zs u n iz.each fits, holds_line xs u n ix.each fits, holds_line ys u n iy.each fits) (same (point u n))
       | inr past ↦ rw (holds_past zs u n iz.each past, holds_past xs u n ix.each past) refl
     ]
 
@@ -120,38 +120,38 @@ settled xs ys zs i f h past has x =
     ]
 
 -- the part of an interval from a pair on
-pub part_is : (s : Interval) (u n : ℕ) → IsInterval s → n < 2 ^ 64 → low s ≤ place u n → place u n ≤ high s → IsInterval (record { uuid = s.uuid; first = n; last = s.last })
+pub part_is : (s : Interval) (u n : ℕ) → IsInterval s → n < 2 ^ 64 → low s ≤ point u n → point u n ≤ high s → IsInterval (record { uuid = s.uuid; first = n; last = s.last })
 part_is s u n is fits l h =
     let a = is.rises in let b = is.in_range in
-    let w = place_within s.uuid s.first u n s.last (omega arith) fits (omega arith) l h in
+    let w = point_within s.uuid s.first u n s.last (omega arith) fits (omega arith) l h in
     let c = is.above_zero in
     record { uuid_fits = is.uuid_fits; above_zero = omega arith; rises = w.2; in_range = is.in_range }
 
-pub part_low : (s : Interval) (u n : ℕ) → IsInterval s → n < 2 ^ 64 → low s ≤ place u n → place u n ≤ high s → place s.uuid n ≡ place u n
+pub part_low : (s : Interval) (u n : ℕ) → IsInterval s → n < 2 ^ 64 → low s ≤ point u n → point u n ≤ high s → point s.uuid n ≡ point u n
 part_low s u n is fits l h =
     let a = is.rises in let b = is.in_range in
-    let w = place_within s.uuid s.first u n s.last (omega arith) fits (omega arith) l h in
-    subst (λ (v : ℕ). place s.uuid n ≡ place v n) w.0 refl
+    let w = point_within s.uuid s.first u n s.last (omega arith) fits (omega arith) l h in
+    subst (λ (v : ℕ). point s.uuid n ≡ point v n) w.0 refl
 
 -- the part of an interval from a pair on and before another interval
 pub record IsGap (s t : Interval) (from n : ℕ) : Type 0 where
   pub is : IsInterval (record { uuid = s.uuid; first = n; last = t.first - 1 })
-  pub begins : place s.uuid n ≡ from
-  pub ends : place s.uuid (t.first - 1) + 1 ≡ low t
+  pub begins : point s.uuid n ≡ from
+  pub ends : point s.uuid (t.first - 1) + 1 ≡ low t
 
-pub gap_is : (s t : Interval) (u n : ℕ) → IsInterval s → IsInterval t → n < 2 ^ 64 → low s ≤ place u n → place u n < low t → low t ≤ high s → IsGap s t (place u n) n
+pub gap_is : (s t : Interval) (u n : ℕ) → IsInterval s → IsInterval t → n < 2 ^ 64 → low s ≤ point u n → point u n < low t → low t ≤ high s → IsGap s t (point u n) n
 gap_is s t u n is it fits l r m =
     let a = is.rises in let b = is.in_range in let c = it.rises in let e = it.in_range in let z = it.above_zero in let y = is.above_zero in
-    let w = place_within s.uuid s.first u n s.last (omega arith) fits (omega arith) l (omega arith) in
-    let v = place_within s.uuid s.first t.uuid t.first s.last (omega arith) (omega arith) (omega arith) (omega arith) m in
-    let begins : place s.uuid n ≡ place u n = subst (λ (p : ℕ). place s.uuid n ≡ place p n) w.0 refl in
-    let at : place s.uuid t.first ≡ low t = subst (λ (p : ℕ). place s.uuid t.first ≡ place p t.first) v.0 refl in
-    let up : place s.uuid (t.first - 1 + 1) ≡ place s.uuid (t.first - 1) + 1 = place_behind s.uuid (t.first - 1) in
+    let w = point_within s.uuid s.first u n s.last (omega arith) fits (omega arith) l (omega arith) in
+    let v = point_within s.uuid s.first t.uuid t.first s.last (omega arith) (omega arith) (omega arith) (omega arith) m in
+    let begins : point s.uuid n ≡ point u n = subst (λ (p : ℕ). point s.uuid n ≡ point p n) w.0 refl in
+    let at : point s.uuid t.first ≡ low t = subst (λ (p : ℕ). point s.uuid t.first ≡ point p t.first) v.0 refl in
+    let up : point s.uuid (t.first - 1 + 1) ≡ point s.uuid (t.first - 1) + 1 = point_behind s.uuid (t.first - 1) in
     let same : t.first - 1 + 1 ≡ t.first = omega arith in
-    let ends : place s.uuid (t.first - 1) + 1 ≡ low t = sym up ∙ (ap (place s.uuid) same ∙ at) in
+    let ends : point s.uuid (t.first - 1) + 1 ≡ low t = sym up ∙ (ap (point s.uuid) same ∙ at) in
     let less : n < t.first = elim (cases_lt n t.first) [
       | inl h ↦ h
-      | inr h ↦ let k = place_rises s.uuid t.first n h in absurd (omega arith)
+      | inr h ↦ let k = point_rises s.uuid t.first n h in absurd (omega arith)
     ] in
     record {
       is = record { uuid_fits = is.uuid_fits; above_zero = omega arith; rises = omega arith; in_range = omega arith };
@@ -163,6 +163,6 @@ pub gap_test : (a b s t x : ℕ) → a ≡ s → b + 1 ≡ t → (leb a x && leb
 gap_test a b s t x e f = grind (arith, nat_tests)
 
 -- the empty set, as nothing is settled yet
-pub none_before : (zs : List Interval) (x : ℕ) (want : Bool) → zs ≡ [] → on_line zs x ≡ (ltb x (place 0 0) && want)
-unfolding place
+pub none_before : (zs : List Interval) (x : ℕ) (want : Bool) → zs ≡ [] → on_line zs x ≡ (ltb x (point 0 0) && want)
+unfolding point
 none_before zs x want e = subst (λ (ys : List Interval). on_line ys x ≡ (ltb x 0 && want)) (sym e) (rw (le-ltb x 0 (omega arith)) refl)

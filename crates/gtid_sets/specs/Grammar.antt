@@ -12,10 +12,10 @@ use Rattle.gtid_sets.specs.Sets.{largest, holds}
 
 -- the fault that a text has, and nothing at want of memory
 abbrev pub fault_of : GtidFault → Option GtidFault
-fault_of (BadUuid place) = Some (BadUuid place)
-fault_of (BadInterval place) = Some (BadInterval place)
-fault_of (Zero place) = Some (Zero place)
-fault_of (TooLarge place) = Some (TooLarge place)
+fault_of (BadUuid offset) = Some (BadUuid offset)
+fault_of (BadInterval offset) = Some (BadInterval offset)
+fault_of (Zero offset) = Some (Zero offset)
+fault_of (TooLarge offset) = Some (TooLarge offset)
 fault_of Memory = None
 
 -- a space, a tab, a line feed or a carriage return
@@ -61,15 +61,15 @@ abbrev pub number_at : List ℕ → Option ℕ
 number_at digits = if nat_lt 0 (length digits) && list_all is_ascii_digit digits then Some (value_of digits) else None
 
 abbrev pub number_or : ℕ → Option ℕ → Result ℕ GtidFault
-number_or place None = Err (BadInterval place)
-number_or place (Some n) = Ok n
+number_or offset None = Err (BadInterval offset)
+number_or offset (Some n) = Ok n
 
 -- what the two numbers give, in the order of the tests
 abbrev pub interval_of : ℕ → ℕ → ℕ → ℕ → Result Interval GtidFault
-interval_of uuid place first last =
-    if first == 0 || last == 0 then Err (Zero place)
-    else if nat_lt largest first || nat_lt largest last then Err (TooLarge place)
-    else if nat_lt last first then Err (BadInterval place)
+interval_of uuid offset first last =
+    if first == 0 || last == 0 then Err (Zero offset)
+    else if nat_lt largest first || nat_lt largest last then Err (TooLarge offset)
+    else if nat_lt last first then Err (BadInterval offset)
     else Ok (record { uuid = uuid; first = first; last = last })
 
 -- the first number of an interval's text, and the last, which is the same where there is no dash
@@ -79,46 +79,46 @@ begin_of text = before_first is_dash text
 abbrev pub end_of : List ℕ → List ℕ
 end_of text = if nat_lt (position_or_len is_dash text) (length text) then after_first is_dash text else text
 
--- an interval, whose first byte stands at this place
+-- an interval, whose first byte stands at this offset
 unfoldable pub interval_at : ℕ → ℕ → List ℕ → Result Interval GtidFault
-interval_at uuid place text = do
-  first ← number_or place (number_at (begin_of text))
-  last ← number_or place (number_at (end_of text))
-  interval_of uuid place first last
+interval_at uuid offset text = do
+  first ← number_or offset (number_at (begin_of text))
+  last ← number_or offset (number_at (end_of text))
+  interval_of uuid offset first last
 
 unfoldable pub intervals_at : ℕ → ℕ → List (List ℕ) → Result (List Interval) GtidFault
-intervals_at uuid place [] = Ok []
-intervals_at uuid place (text ∷ texts) = do
-  one ← interval_at uuid place text
-  more ← intervals_at uuid (place + length text + 1) texts
+intervals_at uuid offset [] = Ok []
+intervals_at uuid offset (text ∷ texts) = do
+  one ← interval_at uuid offset text
+  more ← intervals_at uuid (offset + length text + 1) texts
   Ok (one ∷ more)
 
 abbrev pub uuid_or : ℕ → Option (List ℕ) → Result ℕ GtidFault
-uuid_or place None = Err (BadUuid place)
-uuid_or place (Some bytes) = Ok (from_be_bytes w128 bytes)
+uuid_or offset None = Err (BadUuid offset)
+uuid_or offset (Some bytes) = Ok (from_be_bytes w128 bytes)
 
 -- the intervals behind the first colon
 abbrev pub listed_at : ℕ → ℕ → List ℕ → Result (List Interval) GtidFault
-listed_at uuid place text =
+listed_at uuid offset text =
     if nat_lt (position_or_len is_colon text) (length text)
-    then intervals_at uuid (place + position_or_len is_colon text + 1) (pieces is_colon (after_first is_colon text))
-    else Err (BadInterval (place + length text))
+    then intervals_at uuid (offset + position_or_len is_colon text + 1) (pieces is_colon (after_first is_colon text))
+    else Err (BadInterval (offset + length text))
 
 -- a UUID and its intervals
 unfoldable pub filled_at : ℕ → List ℕ → Result (List Interval) GtidFault
-filled_at place text = do
-  uuid ← uuid_or place (parsed_hyphenated (before_first is_colon text))
-  listed_at uuid place text
+filled_at offset text = do
+  uuid ← uuid_or offset (parsed_hyphenated (before_first is_colon text))
+  listed_at uuid offset text
 
 -- what stands between two commas
 unfoldable pub part_at : ℕ → List ℕ → Result (List Interval) GtidFault
-part_at place text = if nat_lt (leading text) (length text) then filled_at (place + leading text) (inner text) else Err (BadUuid (place + length text))
+part_at offset text = if nat_lt (leading text) (length text) then filled_at (offset + leading text) (inner text) else Err (BadUuid (offset + length text))
 
 unfoldable pub parts_at : ℕ → List (List ℕ) → Result (List Interval) GtidFault
-parts_at place [] = Ok []
-parts_at place (text ∷ texts) = do
-  these ← part_at place text
-  more ← parts_at (place + length text + 1) texts
+parts_at offset [] = Ok []
+parts_at offset (text ∷ texts) = do
+  these ← part_at offset text
+  more ← parts_at (offset + length text + 1) texts
   Ok (these ++ more)
 
 -- the intervals of a text, in its order, or its first fault

@@ -8,15 +8,15 @@ abbrev pub largest : ℕ
 largest = 9223372036854775806
 
 -- where a pair stands in the order of pairs: by the UUID, then by the number
-unfoldable pub place : ℕ → ℕ → ℕ
-place uuid n = uuid * 2 ^ 64 + n
+unfoldable pub point : ℕ → ℕ → ℕ
+point uuid n = uuid * 2 ^ 64 + n
 
--- the place of an interval's first pair, and of its last
+-- the point of an interval's first pair, and of its last
 abbrev pub low : Interval → ℕ
-low s = place s.uuid s.first
+low s = point s.uuid s.first
 
 abbrev pub high : Interval → ℕ
-high s = place s.uuid s.last
+high s = point s.uuid s.last
 
 pub record IsInterval (s : Interval) : Type 0 where
   pub uuid_fits : s.uuid < 2 ^ 128
@@ -41,7 +41,7 @@ holds xs uuid n = list_any (spans uuid n) xs
 abbrev pub size : List Interval → ℕ
 size xs = sum_by (λ s. s.last + 1 - s.first) xs
 
--- the same test by the place of the pair
+-- the same test by the point of the pair
 abbrev pub between : ℕ → Interval → Bool
 between at s = nat_le (low s) at && nat_le at (high s)
 

@@ -5,7 +5,7 @@ ghost use Rattle.gtid_sets.specs.declared.fault.GtidFault.TheVariants.{Memory};
 
 use crate::Memory;
 
-/// The first fault of a text that is no set of GTIDs, with the place of its byte.
+/// The first fault of a text that is no set of GTIDs, with the offset of its byte.
 #[derive(Clone, Copy, Debug, PartialEq, Eq)]
 pub enum GtidFault {
     /// No hyphenated UUID, placed at its first byte; an empty part beside a comma, placed at the comma

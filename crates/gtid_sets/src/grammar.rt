@@ -105,16 +105,16 @@ fn number(digits: &[u8]) -> Option<u64>
     Some(value)
 }
 
-fn interval_of(uuid: u128, place: usize, first: u64, last: u64) -> Result<Interval, GtidFault>
-    ensures is { result ≡ interval_of uuid place first last }
+fn interval_of(uuid: u128, offset: usize, first: u64, last: u64) -> Result<Interval, GtidFault>
+    ensures is { result ≡ interval_of uuid offset first last }
     ensures each { IfOk result IsInterval }
 {
     if first == 0 || last == 0 {
-        Err(GtidFault::Zero(place))
+        Err(GtidFault::Zero(offset))
     } else if first > LARGEST || last > LARGEST {
-        Err(GtidFault::TooLarge(place))
+        Err(GtidFault::TooLarge(offset))
     } else if last < first {
-        Err(GtidFault::BadInterval(place))
+        Err(GtidFault::BadInterval(offset))
     } else {
         Ok(Interval { uuid, first, last })
     }
@@ -133,29 +133,29 @@ fn ends(text: &[u8]) -> (&[u8], &[u8])
     }
 }
 
-fn read_interval(uuid: u128, place: usize, text: &[u8]) -> Result<Interval, GtidFault>
-    ensures is { result ≡ interval_at uuid place text.now }
+fn read_interval(uuid: u128, offset: usize, text: &[u8]) -> Result<Interval, GtidFault>
+    ensures is { result ≡ interval_at uuid offset text.now }
     ensures each { IfOk result IsInterval }
 {
     let (begin, end) = ends(text);
     match number(begin) {
-        None => Err(GtidFault::BadInterval(place)),
+        None => Err(GtidFault::BadInterval(offset)),
         Some(first) => match number(end) {
-            None => Err(GtidFault::BadInterval(place)),
-            Some(last) => interval_of(uuid, place, first, last),
+            None => Err(GtidFault::BadInterval(offset)),
+            Some(last) => interval_of(uuid, offset, first, last),
         },
     }
 }
 
-fn read_uuid(place: usize, text: &[u8]) -> Result<u128, GtidFault>
-    ensures { result ≡ uuid_or place (parsed_hyphenated text.now) }
+fn read_uuid(offset: usize, text: &[u8]) -> Result<u128, GtidFault>
+    ensures { result ≡ uuid_or offset (parsed_hyphenated text.now) }
 {
     if text.len() != 36 {
-        return Err(GtidFault::BadUuid(place));
+        return Err(GtidFault::BadUuid(offset));
     }
     match Uuid::try_parse_ascii(text) {
         Ok(uuid) => Ok(uuid.as_u128()),
-        Err(_) => Err(GtidFault::BadUuid(place)),
+        Err(_) => Err(GtidFault::BadUuid(offset)),
     }
 }
 
@@ -169,7 +169,7 @@ fn keep(found: &mut Vec<Interval>, interval: Interval) -> Result<(), Memory>
     Ok(())
 }
 
-// The text from a place on.
+// The text from a offset on.
 fn rest_of(text: &[u8], from: usize) -> &[u8]
     requires { from ≤ length text.now }
     ensures is { result.now ≡ drop from text.now }
@@ -182,19 +182,19 @@ fn rest_of(text: &[u8], from: usize) -> &[u8]
 fn read_intervals(
     found: &mut Vec<Interval>,
     uuid: u128,
-    place: usize,
+    offset: usize,
     text: &[u8],
 ) -> Result<(), GtidFault>
-    requires fits { place + length text.now < 2 ^ 64 }
+    requires fits { offset + length text.now < 2 ^ 64 }
     requires each { All IsInterval found.old.items }
-    ensures is { Gives (λ _. found.new.items) fault_of result (behind found.old.items (intervals_at uuid place (pieces is_colon text.now))) }
+    ensures is { Gives (λ _. found.new.items) fault_of result (behind found.old.items (intervals_at uuid offset (pieces is_colon text.now))) }
     ensures each { OnOk result (All IsInterval found.new.items) }
 {
     let mut from = 0;
     'intervals: loop {
         let rest = rest_of(text, from);
         let len = first_colon(rest);
-        match read_interval(uuid, place + from, &rest[..len]) {
+        match read_interval(uuid, offset + from, &rest[..len]) {
             Ok(interval) => keep(found, interval)?,
             Err(fault) => return Err(fault),
         }
@@ -215,37 +215,37 @@ fn inner(text: &[u8]) -> &[u8]
 }
 
 // A UUID and its intervals, behind those that are found.
-fn read_filled(found: &mut Vec<Interval>, place: usize, text: &[u8]) -> Result<(), GtidFault>
-    requires fits { place + length text.now < 2 ^ 64 }
+fn read_filled(found: &mut Vec<Interval>, offset: usize, text: &[u8]) -> Result<(), GtidFault>
+    requires fits { offset + length text.now < 2 ^ 64 }
     requires each { All IsInterval found.old.items }
-    ensures is { Gives (λ _. found.new.items) fault_of result (behind found.old.items (filled_at place text.now)) }
+    ensures is { Gives (λ _. found.new.items) fault_of result (behind found.old.items (filled_at offset text.now)) }
     ensures each { OnOk result (All IsInterval found.new.items) }
 {
     let colon = first_colon(text);
-    match read_uuid(place, &text[..colon]) {
+    match read_uuid(offset, &text[..colon]) {
         Err(fault) => Err(fault),
         Ok(uuid) => {
             if colon == text.len() {
-                return Err(GtidFault::BadInterval(place + colon));
+                return Err(GtidFault::BadInterval(offset + colon));
             }
             let rest = rest_of(text, colon + 1);
-            read_intervals(found, uuid, place + colon + 1, rest)
+            read_intervals(found, uuid, offset + colon + 1, rest)
         }
     }
 }
 
 // What stands between two commas, behind what is found.
-fn read_part(found: &mut Vec<Interval>, place: usize, text: &[u8]) -> Result<(), GtidFault>
-    requires fits { place + length text.now < 2 ^ 64 }
+fn read_part(found: &mut Vec<Interval>, offset: usize, text: &[u8]) -> Result<(), GtidFault>
+    requires fits { offset + length text.now < 2 ^ 64 }
     requires each { All IsInterval found.old.items }
-    ensures is { Gives (λ _. found.new.items) fault_of result (behind found.old.items (part_at place text.now)) }
+    ensures is { Gives (λ _. found.new.items) fault_of result (behind found.old.items (part_at offset text.now)) }
     ensures each { OnOk result (All IsInterval found.new.items) }
 {
     let blanks = leading(text);
     if blanks >= text.len() {
-        return Err(GtidFault::BadUuid(place + text.len()));
+        return Err(GtidFault::BadUuid(offset + text.len()));
     }
-    read_filled(found, place + blanks, inner(text))
+    read_filled(found, offset + blanks, inner(text))
 }
 
 fn read_parts(found: &mut Vec<Interval>, text: &[u8]) -> Result<(), GtidFault>

@@ -2,7 +2,7 @@
 
 ghost use Rattle.std.specs.Prelude.{max, ◌≡◌, ◌+◌, ◌^◌, ◌<◌, ◌≤◌, ◌&&◌, ◌||◌, ℕ, nat_lt, nat_le};
 ghost use Rattle.gtid_sets.specs.Adding.{touches, merged};
-ghost use Rattle.gtid_sets.specs.Sets.{place, low, high, between, IsInterval};
+ghost use Rattle.gtid_sets.specs.Sets.{point, low, high, between, IsInterval};
 
 /// The largest number of a GTID.
 pub const LARGEST: u64 = 9_223_372_036_854_775_806;
@@ -27,16 +27,16 @@ pub struct Gtid {
 
 impl Gtid {
     /// Whether it stands before the other: by the UUID, then by the number.
-    #[tactic(auto, using(crate::proofs::Line::place_lt))]
+    #[tactic(auto, using(crate::proofs::Line::point_lt))]
     pub fn is_before(self, other: Gtid) -> bool
-        ensures { result ≡ nat_lt (place self.uuid self.n) (place other.uuid other.n) }
+        ensures { result ≡ nat_lt (point self.uuid self.n) (point other.uuid other.n) }
     {
         self.uuid < other.uuid || (self.uuid == other.uuid && self.n < other.n)
     }
 
     /// The one that stands behind the other.
     pub fn later(self, other: Gtid) -> Gtid
-        ensures { place result.uuid result.n ≡ max (place self.uuid self.n) (place other.uuid other.n) }
+        ensures { point result.uuid result.n ≡ max (point self.uuid self.n) (point other.uuid other.n) }
     {
         if self.is_before(other) { other } else { self }
     }
@@ -65,14 +65,14 @@ impl Interval {
 
     /// The first GTID, or the given one where that is later.
     pub fn start_from(&self, front: Gtid) -> Gtid
-        ensures { place result.uuid result.n ≡ max (place front.uuid front.n) (low self.now) }
+        ensures { point result.uuid result.n ≡ max (point front.uuid front.n) (low self.now) }
     {
         front.later(self.start())
     }
 
     /// Whether the last GTID stands before this one.
     pub fn ends_before(&self, gtid: Gtid) -> bool
-        ensures { result ≡ nat_lt (high self.now) (place gtid.uuid gtid.n) }
+        ensures { result ≡ nat_lt (high self.now) (point gtid.uuid gtid.n) }
     {
         self.end().is_before(gtid)
     }
@@ -90,7 +90,7 @@ impl Interval {
     }
 
     /// Whether the next interval begins in this one or just behind it, or before it.
-    #[tactic(auto, using(crate::proofs::Line::place_behind))]
+    #[tactic(auto, using(crate::proofs::Line::point_behind))]
     pub fn reaches(&self, next: &Interval) -> bool
         requires this { IsInterval self.now }
         requires next { IsInterval next.now }

@@ -7,7 +7,7 @@ ghost use Rattle.std.specs.List.{All, AllPairs, AllWithin, list_any};
 ghost use Rattle.gtid_sets.specs.Grammar.{Reads, text_at};
 ghost use Rattle.gtid_sets.specs.Pairs.{pairs};
 ghost use Rattle.gtid_sets.specs.Printed.{printed};
-ghost use Rattle.gtid_sets.specs.Sets.{place, low, high, holds, spans, size, largest, on_line, between, IsInterval, IsSet, Misses};
+ghost use Rattle.gtid_sets.specs.Sets.{point, low, high, holds, spans, size, largest, on_line, between, IsInterval, IsSet, Misses};
 
 use crate::Memory;
 use crate::fault::GtidFault;
@@ -117,7 +117,7 @@ impl GtidSet {
 
     /// Adds a GTID, `n` from 1 to `LARGEST`, and says whether it was new. At want of memory the set stays
     /// as it was. It takes time in the number of intervals.
-    #[tactic(auto, using(crate::proofs::Places::add_holds))]
+    #[tactic(auto, using(crate::proofs::Points::add_holds))]
     pub fn add(&mut self, uuid: u128, n: u64) -> Result<bool, Memory>
         requires above_zero { 1 ≤ n }
         requires in_range { n ≤ largest }
@@ -150,7 +150,7 @@ impl GtidSet {
     }
 
     /// Both sets as one. It takes time in the number of their intervals.
-    #[tactic(auto, using(crate::proofs::Places::union_holds))]
+    #[tactic(auto, using(crate::proofs::Points::union_holds))]
     pub fn union(&self, other: &GtidSet) -> Result<GtidSet, Memory>
         ensures has { IfOk result (λ both. (uuid n : ℕ) → holds both uuid n ≡ (holds self.now uuid n || holds other.now uuid n)) }
         ensures set { IfOk result IsSet }
@@ -253,8 +253,8 @@ fn gathered(alloc: Global, found: &[Interval]) -> Result<GtidSet, Memory>
 pub(crate) fn first_reaching(intervals: &[Interval], gtid: Gtid) -> usize
     requires { IsSet intervals.now }
     ensures within { result ≤ length intervals.now }
-    ensures below { AllWithin (λ s. high s < place gtid.uuid gtid.n) intervals.now 0 result }
-    ensures above { AllWithin (λ s. place gtid.uuid gtid.n ≤ high s) intervals.now result (length intervals.now) }
+    ensures below { AllWithin (λ s. high s < point gtid.uuid gtid.n) intervals.now 0 result }
+    ensures above { AllWithin (λ s. point gtid.uuid gtid.n ≤ high s) intervals.now result (length intervals.now) }
 {
     let mut from = 0;
     let mut to = intervals.len();
@@ -363,12 +363,12 @@ fn append_gap(
 ) -> Result<(), Memory>
     requires this { IsInterval this.now }
     requires that { IsInterval that.now }
-    requires from { low this.now ≤ place start.uuid start.n }
-    requires inside { place start.uuid start.n ≤ high this.now }
+    requires from { low this.now ≤ point start.uuid start.n }
+    requires inside { point start.uuid start.n ≤ high this.now }
     requires meets { low that.now ≤ high this.now }
-    requires order { All (λ s. low s ≤ place start.uuid start.n) rest.old }
-    ensures has { OnOk result ((x : ℕ) → on_line rest.new x ≡ (on_line rest.old x || (nat_le (place start.uuid start.n) x && nat_lt x (low that.now)))) }
-    ensures order { OnOk result ((bound : ℕ) → place start.uuid start.n ≤ bound → All (λ s. low s ≤ bound) rest.new) }
+    requires order { All (λ s. low s ≤ point start.uuid start.n) rest.old }
+    ensures has { OnOk result ((x : ℕ) → on_line rest.new x ≡ (on_line rest.old x || (nat_le (point start.uuid start.n) x && nat_lt x (low that.now)))) }
+    ensures order { OnOk result ((bound : ℕ) → point start.uuid start.n ≤ bound → All (λ s. low s ≤ bound) rest.new) }
 {
     if start.is_before(that.start()) {
         rest.append(Interval {
@@ -432,5 +432,5 @@ pub fn same_sets()
 pub fn count_is_pairs()
     ensures count { (xs : List Interval) → IsSet xs → length (pairs xs) ≡ size xs }
     ensures rises { (xs : List Interval) → IsSet xs → AllPairs (λ (a b : ℕ). a < b) (pairs xs) }
-    ensures held { (xs : List Interval) (uuid n : ℕ) → IsSet xs → n < 2 ^ 64 → list_any (λ p. p == place uuid n) (pairs xs) ≡ holds xs uuid n }
+    ensures held { (xs : List Interval) (uuid n : ℕ) → IsSet xs → n < 2 ^ 64 → list_any (λ p. p == point uuid n) (pairs xs) ≡ holds xs uuid n }
 {}

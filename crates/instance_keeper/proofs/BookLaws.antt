@@ -13,44 +13,44 @@ use Rattle.instance_keeper.specs.declared.row.Key.{Key}
 use Rattle.instance_keeper.specs.declared.row.Key.TheVariants as key
 use Rattle.instance_keeper.specs.declared.row.Change.{Change}
 use Rattle.instance_keeper.specs.declared.row.Change.TheVariants as change
-use Rattle.instance_keeper.specs.Rows.{place, place_of, put, remove, changed_by, IsRising}
+use Rattle.instance_keeper.specs.Rows.{sort_key, sort_key_of, put, remove, changed_by, IsRising}
 use Rattle.instance_keeper.specs.Ranges.{IsKeyInRange, IsInRange}
-use Rattle.instance_keeper.specs.Book.{Known, IsBook, are_known, row_fits, fits, is_of_book, source_servers, key_servers, after_put, after_removal, after_change, book_rows}
+use Rattle.instance_keeper.specs.Book.{BookState, IsBook, are_known, row_fits, fits, is_of_book, source_servers, key_servers, after_put, after_removal, after_change, book_rows}
 use Rattle.instance_keeper.proofs.Lists.{pairs_append}
-use Rattle.instance_keeper.proofs.Places.{put_middle, remove_middle}
+use Rattle.instance_keeper.proofs.SortKeys.{put_middle, remove_middle}
 use Rattle.instance_keeper.proofs.Books.{both_true, head_known}
 use Rattle.instance_keeper.proofs.BookRows.{rows_low, rows_high, rows_rise, table_put, table_remove}
 
 abbrev Low : ℕ → List Row → Type 0
-Low p rows = All (λ r. p ≤ place_of r) rows
+Low p rows = All (λ r. p ≤ sort_key_of r) rows
 
 abbrev High : ℕ → List Row → Type 0
-High p rows = All (λ r. place_of r < p) rows
+High p rows = All (λ r. sort_key_of r < p) rows
 
 low_less : (p q : ℕ) (rows : List Row) → q ≤ p → Low p rows → Low q rows
-low_less p q rows e h = All-weaker (λ r. p ≤ place_of r) (λ r. q ≤ place_of r) (λ r g. omega (arith, e, g)) rows h
+low_less p q rows e h = All-weaker (λ r. p ≤ sort_key_of r) (λ r. q ≤ sort_key_of r) (λ r g. omega (arith, e, g)) rows h
 
 high_more : (p q : ℕ) (rows : List Row) → p ≤ q → High p rows → High q rows
-high_more p q rows e h = All-weaker (λ r. place_of r < p) (λ r. place_of r < q) (λ r g. omega (arith, e, g)) rows h
+high_more p q rows e h = All-weaker (λ r. sort_key_of r < p) (λ r. sort_key_of r < q) (λ r g. omega (arith, e, g)) rows h
 
-above : (p q : ℕ) (rows : List Row) → q < p → Low p rows → All (λ r. q < place_of r) rows
-above p q rows e h = All-weaker (λ r. p ≤ place_of r) (λ r. q < place_of r) (λ r g. omega (arith, e, g)) rows h
+above : (p q : ℕ) (rows : List Row) → q < p → Low p rows → All (λ r. q < sort_key_of r) rows
+above p q rows e h = All-weaker (λ r. p ≤ sort_key_of r) (λ r. q < sort_key_of r) (λ r g. omega (arith, e, g)) rows h
 
-across : (p q : ℕ) (xs ys : List Row) → p ≤ q → High p xs → Low q ys → All (λ x. All (λ y. place_of x < place_of y) ys) xs
+across : (p q : ℕ) (xs ys : List Row) → p ≤ q → High p xs → Low q ys → All (λ x. All (λ y. sort_key_of x < sort_key_of y) ys) xs
 across p q xs ys e high low =
-    All-weaker (λ x. place_of x < p) (λ x. All (λ y. place_of x < place_of y) ys)
-    (λ x g. All-weaker (λ y. q ≤ place_of y) (λ y. place_of x < place_of y) (λ y h. omega (arith, e, g, h)) ys low) xs high
+    All-weaker (λ x. sort_key_of x < p) (λ x. All (λ y. sort_key_of x < sort_key_of y) ys)
+    (λ x g. All-weaker (λ y. q ≤ sort_key_of y) (λ y. sort_key_of x < sort_key_of y) (λ y h. omega (arith, e, g, h)) ys low) xs high
 
 low_both : (p : ℕ) (xs ys : List Row) → Low p xs → Low p ys → Low p (xs ++ ys)
-low_both p xs ys a b = All-append (λ r. p ≤ place_of r) xs ys a b
+low_both p xs ys a b = All-append (λ r. p ≤ sort_key_of r) xs ys a b
 
 high_both : (p : ℕ) (xs ys : List Row) → High p xs → High p ys → High p (xs ++ ys)
-high_both p xs ys a b = All-append (λ r. place_of r < p) xs ys a b
+high_both p xs ys a b = All-append (λ r. sort_key_of r < p) xs ys a b
 
 abbrev Before : Row → Row → Type 0
-Before x y = place_of x < place_of y
+Before x y = sort_key_of x < sort_key_of y
 
-module _ (b : Known) (is : IsBook b) where
+module _ (b : BookState) (is : IsBook b) where
   abbrev first : List Row
   first = filter_map (option_map row.Instance) b.instances
 
@@ -81,12 +81,12 @@ module _ (b : Known) (is : IsBook b) where
   third_high : High (3 * 2 ^ 65 + 2 ^ 32) third
   third_high = let s = is.small in let n = is.candidates in high_more (3 * 2 ^ 65 + (0 + length b.candidates)) (3 * 2 ^ 65 + 2 ^ 32) third (omega (arith, s, n)) (rows_high row.Candidate (λ c. c.no) (3 * 2 ^ 65) (λ a. refl) 0 b.candidates is.candidate_numbers)
 
-  last_at : (x : Option Bool) → All (λ r. place_of r ≡ 5 * 2 ^ 65 + (2 ^ 32 + 2 ^ 64)) (option_to_list (option_map row.Switch x))
-  last_at None = All-nil (λ r. place_of r ≡ 5 * 2 ^ 65 + (2 ^ 32 + 2 ^ 64))
-  last_at (Some e) = All-cons (λ r. place_of r ≡ 5 * 2 ^ 65 + (2 ^ 32 + 2 ^ 64)) (row.Switch e) [] refl (All-nil (λ r. place_of r ≡ 5 * 2 ^ 65 + (2 ^ 32 + 2 ^ 64)))
+  last_at : (x : Option Bool) → All (λ r. sort_key_of r ≡ 5 * 2 ^ 65 + (2 ^ 32 + 2 ^ 64)) (option_to_list (option_map row.Switch x))
+  last_at None = All-nil (λ r. sort_key_of r ≡ 5 * 2 ^ 65 + (2 ^ 32 + 2 ^ 64))
+  last_at (Some e) = All-cons (λ r. sort_key_of r ≡ 5 * 2 ^ 65 + (2 ^ 32 + 2 ^ 64)) (row.Switch e) [] refl (All-nil (λ r. sort_key_of r ≡ 5 * 2 ^ 65 + (2 ^ 32 + 2 ^ 64)))
 
   last_low : (p : ℕ) → p ≤ 5 * 2 ^ 65 + (2 ^ 32 + 2 ^ 64) → Low p last
-  last_low p e = All-weaker (λ r. place_of r ≡ 5 * 2 ^ 65 + (2 ^ 32 + 2 ^ 64)) (λ r. p ≤ place_of r) (λ r g. omega (arith, e, g)) last (last_at b.switch)
+  last_low p e = All-weaker (λ r. sort_key_of r ≡ 5 * 2 ^ 65 + (2 ^ 32 + 2 ^ 64)) (λ r. p ≤ sort_key_of r) (λ r g. omega (arith, e, g)) last (last_at b.switch)
 
   after_second : Low (3 * 2 ^ 65) (third ++ last)
   after_second = low_both (3 * 2 ^ 65) third last third_low (last_low (3 * 2 ^ 65) (omega arith))
@@ -100,7 +100,7 @@ module _ (b : Known) (is : IsBook b) where
   to_third : High (3 * 2 ^ 65 + 2 ^ 32) ((first ++ second) ++ third)
   to_third = high_both (3 * 2 ^ 65 + 2 ^ 32) (first ++ second) third (high_more (2 * 2 ^ 65 + 2 ^ 32) (3 * 2 ^ 65 + 2 ^ 32) (first ++ second) (omega arith) to_second) third_high
 
-  last_rise : (x : Option Bool) → AllPairs (λ a b. place_of a < place_of b) (option_to_list (option_map row.Switch x))
+  last_rise : (x : Option Bool) → AllPairs (λ a b. sort_key_of a < sort_key_of b) (option_to_list (option_map row.Switch x))
   last_rise None = λ i j d less within. absurd (omega (arith, within))
   last_rise (Some e) = λ i j d less within. absurd (omega (arith, less, within))
 
@@ -128,19 +128,19 @@ module _ (b : Known) (is : IsBook b) where
     small : n < 2 ^ 32
     small = let e = is.small in omega (arith, e, known)
 
-    pub behind_first : All (λ r. 1 * 2 ^ 65 + n < place_of r) (second ++ (third ++ last))
+    pub behind_first : All (λ r. 1 * 2 ^ 65 + n < sort_key_of r) (second ++ (third ++ last))
     behind_first = above (2 * 2 ^ 65) (1 * 2 ^ 65 + n) (second ++ (third ++ last)) (let e = small in omega (arith, e)) after_first
 
     before_second : High (2 * 2 ^ 65 + n) first
     before_second = high_more (1 * 2 ^ 65 + 2 ^ 32) (2 * 2 ^ 65 + n) first (omega arith) first_high
 
-    behind_second : All (λ r. 2 * 2 ^ 65 + n < place_of r) (third ++ last)
+    behind_second : All (λ r. 2 * 2 ^ 65 + n < sort_key_of r) (third ++ last)
     behind_second = above (3 * 2 ^ 65) (2 * 2 ^ 65 + n) (third ++ last) (let e = small in omega (arith, e)) after_second
 
     before_third : High (3 * 2 ^ 65 + n) (first ++ second)
     before_third = high_more (2 * 2 ^ 65 + 2 ^ 32) (3 * 2 ^ 65 + n) (first ++ second) (omega arith) to_second
 
-    behind_third : All (λ r. 3 * 2 ^ 65 + n < place_of r) last
+    behind_third : All (λ r. 3 * 2 ^ 65 + n < sort_key_of r) last
     behind_third = above (4 * 2 ^ 65) (3 * 2 ^ 65 + n) last (let e = small in omega (arith, e)) (last_low (4 * 2 ^ 65) (omega arith))
 
   third_assoc : (x : List Row) → first ++ (second ++ (x ++ last)) ≡ (first ++ second) ++ (x ++ last)
@@ -155,7 +155,7 @@ module _ (b : Known) (is : IsBook b) where
   pub book_put : (r : Row) → row_fits (length b.names) r ≡ true → book_rows (after_put b r) ≡ put (book_rows b) r
   book_put (row.Instance i) h =
       let known = head_known (length b.names) i.no.0 (source_servers i.seen.source) h in
-      table_put row.Instance (λ i. i.no) (1 * 2 ^ 65) (λ a. refl) b.instances i.no.0 is.instance_numbers (in_first i.no.0 known) [] (second ++ (third ++ last)) (All-nil (λ r. place_of r < 1 * 2 ^ 65 + i.no.0)) (behind_first i.no.0 known) i refl
+      table_put row.Instance (λ i. i.no) (1 * 2 ^ 65) (λ a. refl) b.instances i.no.0 is.instance_numbers (in_first i.no.0 known) [] (second ++ (third ++ last)) (All-nil (λ r. sort_key_of r < 1 * 2 ^ 65 + i.no.0)) (behind_first i.no.0 known) i refl
   book_put (row.Downtime d) h =
       let known = head_known (length b.names) d.no.0 [] h in
       table_put row.Downtime (λ d. d.no) (2 * 2 ^ 65) (λ a. refl) b.downtimes d.no.0 is.downtime_numbers (in_second d.no.0 known) first (third ++ last) (before_second d.no.0 known) (behind_second d.no.0 known) d refl
@@ -168,35 +168,35 @@ module _ (b : Known) (is : IsBook b) where
   book_put (row.Switch e) h =
       last_assoc (row.Switch e ∷ [])
       ∙ sym (ap (λ l. put l (row.Switch e)) (last_assoc last ∙ ap (λ l. ((first ++ second) ++ third) ++ l) (sym (append-nil last)))
-      ∙ put_middle ((first ++ second) ++ third) last [] (5 * 2 ^ 65 + (2 ^ 32 + 2 ^ 64)) before_last (last_at b.switch) (All-nil (λ r. 5 * 2 ^ 65 + (2 ^ 32 + 2 ^ 64) < place_of r)) (row.Switch e) refl)
+      ∙ put_middle ((first ++ second) ++ third) last [] (5 * 2 ^ 65 + (2 ^ 32 + 2 ^ 64)) before_last (last_at b.switch) (All-nil (λ r. 5 * 2 ^ 65 + (2 ^ 32 + 2 ^ 64) < sort_key_of r)) (row.Switch e) refl)
 
   -- a key of another table has no row
-  first_none : (t : Table) (k : Key) (q : ℕ) → place t k ≡ 1 * 2 ^ 65 + q → 2 ^ 32 ≤ q → q < 2 ^ 65 → book_rows b ≡ remove (book_rows b) t k
+  first_none : (t : Table) (k : Key) (q : ℕ) → sort_key t k ≡ 1 * 2 ^ 65 + q → 2 ^ 32 ≤ q → q < 2 ^ 65 → book_rows b ≡ remove (book_rows b) t k
   first_none t k q at low high =
-      sym (remove_middle first [] (second ++ (third ++ last)) (place t k)
-      (high_more (1 * 2 ^ 65 + 2 ^ 32) (place t k) first (omega (arith, at, low)) first_high) (All-nil (λ r. place_of r ≡ place t k))
-      (above (2 * 2 ^ 65) (place t k) (second ++ (third ++ last)) (omega (arith, at, high)) after_first) t k refl)
+      sym (remove_middle first [] (second ++ (third ++ last)) (sort_key t k)
+      (high_more (1 * 2 ^ 65 + 2 ^ 32) (sort_key t k) first (omega (arith, at, low)) first_high) (All-nil (λ r. sort_key_of r ≡ sort_key t k))
+      (above (2 * 2 ^ 65) (sort_key t k) (second ++ (third ++ last)) (omega (arith, at, high)) after_first) t k refl)
 
-  second_none : (t : Table) (k : Key) (q : ℕ) → place t k ≡ 2 * 2 ^ 65 + q → 2 ^ 32 ≤ q → q < 2 ^ 65 → book_rows b ≡ remove (book_rows b) t k
+  second_none : (t : Table) (k : Key) (q : ℕ) → sort_key t k ≡ 2 * 2 ^ 65 + q → 2 ^ 32 ≤ q → q < 2 ^ 65 → book_rows b ≡ remove (book_rows b) t k
   second_none t k q at low high =
       sym (append_assoc first second (third ++ last))
       ∙ sym (ap (λ l. remove l t k) (sym (append_assoc first second (third ++ last)))
-      ∙ remove_middle (first ++ second) [] (third ++ last) (place t k)
-      (high_more (2 * 2 ^ 65 + 2 ^ 32) (place t k) (first ++ second) (omega (arith, at, low)) to_second) (All-nil (λ r. place_of r ≡ place t k))
-      (above (3 * 2 ^ 65) (place t k) (third ++ last) (omega (arith, at, high)) after_second) t k refl)
+      ∙ remove_middle (first ++ second) [] (third ++ last) (sort_key t k)
+      (high_more (2 * 2 ^ 65 + 2 ^ 32) (sort_key t k) (first ++ second) (omega (arith, at, low)) to_second) (All-nil (λ r. sort_key_of r ≡ sort_key t k))
+      (above (3 * 2 ^ 65) (sort_key t k) (third ++ last) (omega (arith, at, high)) after_second) t k refl)
 
-  third_none : (t : Table) (k : Key) → 3 * 2 ^ 65 + 2 ^ 32 ≤ place t k → place t k < 5 * 2 ^ 65 + (2 ^ 32 + 2 ^ 64) → book_rows b ≡ remove (book_rows b) t k
+  third_none : (t : Table) (k : Key) → 3 * 2 ^ 65 + 2 ^ 32 ≤ sort_key t k → sort_key t k < 5 * 2 ^ 65 + (2 ^ 32 + 2 ^ 64) → book_rows b ≡ remove (book_rows b) t k
   third_none t k low high =
       last_assoc last
       ∙ sym (ap (λ l. remove l t k) (last_assoc last)
-      ∙ remove_middle ((first ++ second) ++ third) [] last (place t k)
-      (high_more (3 * 2 ^ 65 + 2 ^ 32) (place t k) ((first ++ second) ++ third) low to_third) (All-nil (λ r. place_of r ≡ place t k))
-      (above (5 * 2 ^ 65 + (2 ^ 32 + 2 ^ 64)) (place t k) last high (last_low (5 * 2 ^ 65 + (2 ^ 32 + 2 ^ 64)) (omega arith))) t k refl)
+      ∙ remove_middle ((first ++ second) ++ third) [] last (sort_key t k)
+      (high_more (3 * 2 ^ 65 + 2 ^ 32) (sort_key t k) ((first ++ second) ++ third) low to_third) (All-nil (λ r. sort_key_of r ≡ sort_key t k))
+      (above (5 * 2 ^ 65 + (2 ^ 32 + 2 ^ 64)) (sort_key t k) last high (last_low (5 * 2 ^ 65 + (2 ^ 32 + 2 ^ 64)) (omega arith))) t k refl)
 
   pub book_remove : (t : Table) (k : Key) → is_of_book t ≡ true → are_known (length b.names) (key_servers k) ≡ true → IsKeyInRange k → book_rows (after_removal b t k) ≡ remove (book_rows b) t k
   book_remove table.Instance (key.Server n) o h r =
       let known = head_known (length b.names) n.0 [] h in
-      table_remove row.Instance (λ i. i.no) (1 * 2 ^ 65) (λ a. refl) b.instances n.0 is.instance_numbers (in_first n.0 known) [] (second ++ (third ++ last)) (All-nil (λ r. place_of r < 1 * 2 ^ 65 + n.0)) (behind_first n.0 known) table.Instance (key.Server n) refl
+      table_remove row.Instance (λ i. i.no) (1 * 2 ^ 65) (λ a. refl) b.instances n.0 is.instance_numbers (in_first n.0 known) [] (second ++ (third ++ last)) (All-nil (λ r. sort_key_of r < 1 * 2 ^ 65 + n.0)) (behind_first n.0 known) table.Instance (key.Server n) refl
   book_remove table.Instance (key.Id id) o h r = first_none table.Instance (key.Id id) (2 ^ 32 + id) refl (omega arith) (omega (arith, r))
   book_remove table.Instance key.Global o h r = first_none table.Instance key.Global (2 ^ 32 + 2 ^ 64) refl (omega arith) (omega arith)
   book_remove table.Downtime (key.Server n) o h r =
@@ -220,7 +220,7 @@ module _ (b : Known) (is : IsBook b) where
   book_remove table.Switch key.Global o h r =
       last_assoc []
       ∙ sym (ap (λ l. remove l table.Switch key.Global) (last_assoc last ∙ ap (λ l. ((first ++ second) ++ third) ++ l) (sym (append-nil last)))
-      ∙ remove_middle ((first ++ second) ++ third) last [] (5 * 2 ^ 65 + (2 ^ 32 + 2 ^ 64)) before_last (last_at b.switch) (All-nil (λ r. 5 * 2 ^ 65 + (2 ^ 32 + 2 ^ 64) < place_of r)) table.Switch key.Global refl)
+      ∙ remove_middle ((first ++ second) ++ third) last [] (5 * 2 ^ 65 + (2 ^ 32 + 2 ^ 64)) before_last (last_at b.switch) (All-nil (λ r. 5 * 2 ^ 65 + (2 ^ 32 + 2 ^ 64) < sort_key_of r)) table.Switch key.Global refl)
 
   pub book_change : (c : Change) → fits (length b.names) c ≡ true → IsInRange c → book_rows (after_change b c) ≡ changed_by (book_rows b) c
   book_change (change.Put r) h g = book_put r h

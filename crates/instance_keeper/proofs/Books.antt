@@ -20,7 +20,7 @@ use Rattle.instance_keeper.specs.declared.row.Table.{Table}
 use Rattle.instance_keeper.specs.declared.row.Table.TheVariants as table
 use Rattle.instance_keeper.specs.declared.row.Key.{Key}
 use Rattle.instance_keeper.specs.declared.row.Key.TheVariants as key
-use Rattle.instance_keeper.specs.Book.{Known, IsBook, IsNumbered, HasKnownSource, are_known, row_fits, source_servers, seen_servers, observed_servers, instance_at, renewed, names_of, empty_book, after_put, after_removal, after_change, fits}
+use Rattle.instance_keeper.specs.Book.{BookState, IsBook, IsNumbered, HasKnownSource, are_known, row_fits, source_servers, seen_servers, observed_servers, instance_at, renewed, names_of, empty_book, after_put, after_removal, after_change, fits}
 
 pub both_true : (a b : Bool) → (a && b) ≡ true → (a ≡ true) × (b ≡ true)
 both_true true true e = (refl, refl)
@@ -66,7 +66,7 @@ empty_is settings small =
     }
 
 -- a book in which a server's place takes a value of its own
-pub instance_set : (b : Known) (n : ℕ) (x : Option Instance) → IsBook b → IfSome x (λ i. i.no.0 ≡ n) → HasKnownSource (length b.names) x → IsBook (record b { instances = slice_set b.instances n x })
+pub instance_set : (b : BookState) (n : ℕ) (x : Option Instance) → IsBook b → IfSome x (λ i. i.no.0 ≡ n) → HasKnownSource (length b.names) x → IsBook (record b { instances = slice_set b.instances n x })
 instance_set b n x is own known = record {
   small = is.small;
   named = is.named;
@@ -99,7 +99,7 @@ pub empty_from_is : (count : ℕ) (settings wanted : List Settings) (instances :
 empty_from_is count settings wanted instances downtimes candidates rings leases n len small i d c r l =
     subst IsBook (sym (empty_from count settings wanted instances downtimes candidates rings leases n len i d c r l)) (empty_is wanted (omega (arith, len, small)))
 
-pub downtime_set : (b : Known) (n : ℕ) (x : Option Downtime) → IsBook b → IfSome x (λ d. d.no.0 ≡ n) → IsBook (record b { downtimes = slice_set b.downtimes n x })
+pub downtime_set : (b : BookState) (n : ℕ) (x : Option Downtime) → IsBook b → IfSome x (λ d. d.no.0 ≡ n) → IsBook (record b { downtimes = slice_set b.downtimes n x })
 downtime_set b n x is own = record {
   small = is.small;
   named = is.named;
@@ -114,7 +114,7 @@ downtime_set b n x is own = record {
   sources = is.sources;
 }
 
-pub candidate_set : (b : Known) (n : ℕ) (x : Option Candidate) → IsBook b → IfSome x (λ c. c.no.0 ≡ n) → IsBook (record b { candidates = slice_set b.candidates n x })
+pub candidate_set : (b : BookState) (n : ℕ) (x : Option Candidate) → IsBook b → IfSome x (λ c. c.no.0 ≡ n) → IsBook (record b { candidates = slice_set b.candidates n x })
 candidate_set b n x is own = record {
   small = is.small;
   named = is.named;
@@ -129,7 +129,7 @@ candidate_set b n x is own = record {
   sources = is.sources;
 }
 
-pub switch_set : (b : Known) (x : Option Bool) → IsBook b → IsBook (record b { switch = x })
+pub switch_set : (b : BookState) (x : Option Bool) → IsBook b → IsBook (record b { switch = x })
 switch_set b x is = record {
   small = is.small;
   named = is.named;
@@ -144,7 +144,7 @@ switch_set b x is = record {
   sources = is.sources;
 }
 
-pub rings_set : (b : Known) (n : ℕ) (x : List Bridge) → IsBook b → IsBook (record b { rings = slice_set b.rings n x })
+pub rings_set : (b : BookState) (n : ℕ) (x : List Bridge) → IsBook b → IsBook (record b { rings = slice_set b.rings n x })
 rings_set b n x is = record {
   small = is.small;
   named = is.named;
@@ -159,7 +159,7 @@ rings_set b n x is = record {
   sources = is.sources;
 }
 
-pub leases_set : (b : Known) (xs : List (Option ℕ)) → IsBook b → length xs ≡ length b.leases → IsBook (record b { leases = xs })
+pub leases_set : (b : BookState) (xs : List (Option ℕ)) → IsBook b → length xs ≡ length b.leases → IsBook (record b { leases = xs })
 leases_set b xs is same = record {
   small = is.small;
   named = is.named;
@@ -181,14 +181,14 @@ head_known count n ns h = ltb-true n count (both_true (nat_lt n count) (are_know
 pub rest_known : (count n : ℕ) (ns : List ℕ) → are_known count (n ∷ ns) ≡ true → are_known count ns ≡ true
 rest_known count n ns h = (both_true (nat_lt n count) (are_known count ns) h).1
 
-pub put_is : (b : Known) (r : Row) → IsBook b → row_fits (length b.names) r ≡ true → IsBook (after_put b r)
+pub put_is : (b : BookState) (r : Row) → IsBook b → row_fits (length b.names) r ≡ true → IsBook (after_put b r)
 put_is b (row.Instance i) is h = instance_set b i.no.0 (Some i) is refl (rest_known (length b.names) i.no.0 (source_servers i.seen.source) h)
 put_is b (row.Downtime d) is h = downtime_set b d.no.0 (Some d) is refl
 put_is b (row.Candidate c) is h = candidate_set b c.no.0 (Some c) is refl
 put_is b (row.Recovery r) is h = is
 put_is b (row.Switch enabled) is h = switch_set b (Some enabled) is
 
-pub removal_is : (b : Known) (t : Table) (k : Key) → IsBook b → IsBook (after_removal b t k)
+pub removal_is : (b : BookState) (t : Table) (k : Key) → IsBook b → IsBook (after_removal b t k)
 removal_is b table.Instance (key.Server n) is = rings_set (record b { instances = slice_set b.instances n.0 None }) n.0 [] (instance_set b n.0 None is tt tt)
 removal_is b table.Downtime (key.Server n) is = downtime_set b n.0 None is tt
 removal_is b table.Candidate (key.Server n) is = candidate_set b n.0 None is tt
@@ -204,15 +204,15 @@ removal_is b table.Switch (key.Server n) is = is
 removal_is b table.Switch (key.Id id) is = is
 
 -- the same from what the code has found
-pub put_kept : (b view : Known) (r : Row) (i : Instance) (now : List (Option Instance)) → b ≡ view → IsBook b → row_fits (length view.names) r ≡ true → r ≡ row.Instance i → now ≡ slice_set b.instances i.no.0 (Some i) → IsBook (record b { instances = now })
+pub put_kept : (b view : BookState) (r : Row) (i : Instance) (now : List (Option Instance)) → b ≡ view → IsBook b → row_fits (length view.names) r ≡ true → r ≡ row.Instance i → now ≡ slice_set b.instances i.no.0 (Some i) → IsBook (record b { instances = now })
 put_kept b view r i now same is h own e =
     let h2 : row_fits (length b.names) (row.Instance i) ≡ true = subst (λ v. row_fits (length v.names) (row.Instance i) ≡ true) (sym same) (subst (λ x. row_fits (length view.names) x ≡ true) own h) in
     subst (λ l. IsBook (record b { instances = l })) (sym e) (put_is b (row.Instance i) is h2)
 
-pub none_kept : (b : Known) (n : ℕ) (now : List (Option Instance)) → IsBook b → now ≡ slice_set b.instances n None → IsBook (record b { instances = now })
+pub none_kept : (b : BookState) (n : ℕ) (now : List (Option Instance)) → IsBook b → now ≡ slice_set b.instances n None → IsBook (record b { instances = now })
 none_kept b n now is e = subst (λ l. IsBook (record b { instances = l })) (sym e) (instance_set b n None is tt tt)
 
-pub none_ringed : (b : Known) (n : ℕ) (now : List (Option Instance)) (rings : List (List Bridge)) → IsBook b → now ≡ slice_set b.instances n None → rings ≡ slice_set b.rings n []
+pub none_ringed : (b : BookState) (n : ℕ) (now : List (Option Instance)) (rings : List (List Bridge)) → IsBook b → now ≡ slice_set b.instances n None → rings ≡ slice_set b.rings n []
     → IsBook (record b { instances = now; rings = rings })
 none_ringed b n now rings is e r = subst (λ l. IsBook (record b { instances = now; rings = l })) (sym r) (rings_set (record b { instances = now }) n [] (none_kept b n now is e))
 
@@ -228,7 +228,7 @@ renewed_own : (o : Observation) (x : Option Instance) → IfSome (option_map (λ
 renewed_own o None = tt
 renewed_own o (Some i) = refl
 
-pub known_at : (b : Known) (n : ℕ) → IsBook b → HasKnownSource (length b.names) (get_or b.instances n None)
+pub known_at : (b : BookState) (n : ℕ) → IsBook b → HasKnownSource (length b.names) (get_or b.instances n None)
 known_at b n is = known_in (length b.names) n b.instances is.sources
   where
     known_in : (count n : ℕ) (xs : List (Option Instance)) → All (HasKnownSource count) xs → HasKnownSource count (get_or xs n None)
@@ -241,10 +241,10 @@ set_twice [] n x y = refl
 set_twice (z ∷ zs) zero x y = refl
 set_twice (z ∷ zs) (suc n) x y = ap (λ l. z ∷ l) (set_twice zs n x y)
 
-abbrev pub renewed_at : Known → Observation → Option Instance
+abbrev pub renewed_at : BookState → Observation → Option Instance
 renewed_at b o = option_map (λ i. renewed i o) (instance_at b o.no)
 
-renewal_values : (b : Known) (o : Observation) (kept : Option Instance) (between now : List (Option Instance))
+renewal_values : (b : BookState) (o : Observation) (kept : Option Instance) (between now : List (Option Instance))
     → kept ≡ instance_at b o.no → between ≡ slice_set b.instances o.no.0 None → now ≡ slice_set between o.no.0 (option_map (λ i. renewed i o) kept)
     → now ≡ slice_set b.instances o.no.0 (renewed_at b o)
 renewal_values b o kept between now k e1 e2 =
@@ -252,7 +252,7 @@ renewal_values b o kept between now k e1 e2 =
     ∙ (set_twice b.instances o.no.0 None (option_map (λ i. renewed i o) kept)
     ∙ ap (λ q. slice_set b.instances o.no.0 (option_map (λ i. renewed i o) q)) k))
 
-pub renewal_kept : (b view : Known) (o : Observation) (kept next : Option Instance) (between now : List (Option Instance)) → b ≡ view → IsBook b → are_known (length view.names) (observed_servers o) ≡ true
+pub renewal_kept : (b view : BookState) (o : Observation) (kept next : Option Instance) (between now : List (Option Instance)) → b ≡ view → IsBook b → are_known (length view.names) (observed_servers o) ≡ true
     → kept ≡ instance_at b o.no → between ≡ slice_set b.instances o.no.0 None → next ≡ option_map (λ i. renewed i o) kept → now ≡ slice_set between o.no.0 next
     → IsBook (record b { instances = now })
 renewal_kept b view o kept next between now same is h k e1 n e2 =
@@ -262,13 +262,13 @@ renewal_kept b view o kept next between now same is h k e1 n e2 =
     subst (λ l. IsBook (record b { instances = l })) (sym e)
     (instance_set b o.no.0 (renewed_at b o) is (renewed_own o (instance_at b o.no)) (renewed_known (length b.names) o (instance_at b o.no) (known_at b o.no.0 is) g))
 
-pub renewal_gives : (b view : Known) (o : Observation) (kept next : Option Instance) (between now : List (Option Instance)) → b ≡ view
+pub renewal_gives : (b view : BookState) (o : Observation) (kept next : Option Instance) (between now : List (Option Instance)) → b ≡ view
     → kept ≡ instance_at b o.no → between ≡ slice_set b.instances o.no.0 None → next ≡ option_map (λ i. renewed i o) kept → now ≡ slice_set between o.no.0 next
     → record b { instances = now } ≡ record view { instances = slice_set view.instances o.no.0 (renewed_at view o) }
 renewal_gives b view o kept next between now same k e1 n e2 =
     let e : now ≡ slice_set b.instances o.no.0 (renewed_at b o) = renewal_values b o kept between now k e1 (e2 ∙ ap (slice_set between o.no.0) n) in
-    ap (λ (l : List (Option Instance)). record b { instances = l }) e ∙ ap (λ (v : Known). record v { instances = slice_set v.instances o.no.0 (renewed_at v o) }) same
+    ap (λ (l : List (Option Instance)). record b { instances = l }) e ∙ ap (λ (v : BookState). record v { instances = slice_set v.instances o.no.0 (renewed_at v o) }) same
 
-pub change_is : (b : Known) (c : Change) → IsBook b → fits (length b.names) c ≡ true → IsBook (after_change b c)
+pub change_is : (b : BookState) (c : Change) → IsBook b → fits (length b.names) c ≡ true → IsBook (after_change b c)
 change_is b (change.Put r) is h = put_is b r is h
 change_is b (change.Remove t k) is h = removal_is b t k is

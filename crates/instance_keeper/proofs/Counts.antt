@@ -8,7 +8,7 @@ use Rattle.std.specs.Result.{IsOk}
 use Rattle.std.specs.Prelude.{replicate, Result, Ok, Err, OnErr}
 use Rattle.std.proofs.lemmas.Bool.Decides.{nat_tests}
 use Rattle.indexmap.specs.IndexMap.{insert_entry}
-use Rattle.instance_keeper.specs.Spots.{CountsUp}
+use Rattle.instance_keeper.specs.SortKeys.{CountsUp}
 
 eq_true : (a b : ℕ) → a ≡ b → nat_eq a b ≡ true
 eq_true a b e = grind (arith, nat_tests)

@@ -1,5 +1,5 @@
 pub mod Lists
-pub mod Places
+pub mod SortKeys
 pub mod Counts
 pub mod Books
 pub mod Same

@@ -10,8 +10,8 @@ use Rattle.instance_keeper.specs.declared.row.Table.{Table}
 use Rattle.instance_keeper.specs.declared.row.Key.{Key}
 use Rattle.instance_keeper.specs.declared.row.Change.{Change}
 use Rattle.instance_keeper.specs.declared.row.Change.TheVariants as change
-use Rattle.instance_keeper.specs.Rows.{place, place_of, row_in, row_after, last_at, put, remove, changed_by, changed, map_of, rows_before, rows_behind, IsRising}
-use Rattle.instance_keeper.proofs.Places.{put_rising, remove_rising}
+use Rattle.instance_keeper.specs.Rows.{sort_key, sort_key_of, row_in, row_after, last_at, put, remove, changed_by, changed, map_of, rows_before, rows_behind, IsRising}
+use Rattle.instance_keeper.proofs.SortKeys.{put_rising, remove_rising}
 
 pub find_kept : {X : Type 0} (test keep : X → Bool) → ((x : X) → test x ≡ true → keep x ≡ true) → (xs : List X) → find test (filter keep xs) ≡ find test xs
 find_kept test keep h [] = refl
@@ -58,18 +58,18 @@ or_none (Some x) = refl
 
 module _ (rows : List Row) (q p : ℕ) where
   before_in : p < q → row_in (rows_before rows q) p ≡ row_in rows p
-  before_in h = find_kept (λ r. place_of r == p) (λ r. nat_lt (place_of r) q) (λ x e. less_is (place_of x) p q (is_eq (place_of x) p e) h) rows
+  before_in h = find_kept (λ r. sort_key_of r == p) (λ r. nat_lt (sort_key_of r) q) (λ x e. less_is (sort_key_of x) p q (is_eq (sort_key_of x) p e) h) rows
 
   before_not : q ≤ p → row_in (rows_before rows q) p ≡ None
-  before_not h = find_lost (λ r. place_of r == p) (λ r. nat_lt (place_of r) q) (λ x e. less_not (place_of x) p q (is_eq (place_of x) p e) h) rows
+  before_not h = find_lost (λ r. sort_key_of r == p) (λ r. nat_lt (sort_key_of r) q) (λ x e. less_not (sort_key_of x) p q (is_eq (sort_key_of x) p e) h) rows
 
   behind_in : q < p → row_in (rows_behind rows q) p ≡ row_in rows p
-  behind_in h = find_kept (λ r. place_of r == p) (λ r. nat_lt q (place_of r)) (λ x e. more_is (place_of x) p q (is_eq (place_of x) p e) h) rows
+  behind_in h = find_kept (λ r. sort_key_of r == p) (λ r. nat_lt q (sort_key_of r)) (λ x e. more_is (sort_key_of x) p q (is_eq (sort_key_of x) p e) h) rows
 
   behind_not : p ≤ q → row_in (rows_behind rows q) p ≡ None
-  behind_not h = find_lost (λ r. place_of r == p) (λ r. nat_lt q (place_of r)) (λ x e. more_not (place_of x) p q (is_eq (place_of x) p e) h) rows
+  behind_not h = find_lost (λ r. sort_key_of r == p) (λ r. nat_lt q (sort_key_of r)) (λ x e. more_not (sort_key_of x) p q (is_eq (sort_key_of x) p e) h) rows
 
-  -- what stands before and behind a place, with something at it
+  -- what stands before and behind a sort key, with something at it
   around : (middle : List Row) → row_in (rows_before rows q ++ (middle ++ rows_behind rows q)) p ≡ option_or (row_in (rows_before rows q) p) (option_or (row_in middle p) (row_in (rows_behind rows q) p))
   around middle = find-append _ (rows_before rows q) (middle ++ rows_behind rows q) ∙ ap (option_or (row_in (rows_before rows q) p)) (find-append _ middle (rows_behind rows q))
 
@@ -89,38 +89,38 @@ module _ (rows : List Row) (q p : ℕ) where
       around middle ∙ (ap (λ x. option_or x (option_or (row_in middle p) (row_in (rows_behind rows q) p))) (before_not (omega (arith, h)))
       ∙ (ap (λ x. option_or (row_in middle p) x) (behind_not (omega (arith, h))) ∙ or_none (row_in middle p)))
 
--- the new row stands at its place, and all others as before
+-- the new row stands at its sort key, and all others as before
 pub row_in-put : (rows : List Row) (r : Row) (p : ℕ) → row_in (put rows r) p ≡ row_after p (row_in rows p) (change.Put r)
 unfolding put
-row_in-put rows r p = elim (cases_lt p (place_of r)) [
+row_in-put rows r p = elim (cases_lt p (sort_key_of r)) [
   | inl less ↦
-      let miss = not_eq (place_of r) p (inr less) in
-      rw miss (around_less rows (place_of r) p (r ∷ []) less (ap (λ b. cond b (Some r) None) miss))
-  | inr more ↦ elim (cases_lt (place_of r) p) [
+      let miss = not_eq (sort_key_of r) p (inr less) in
+      rw miss (around_less rows (sort_key_of r) p (r ∷ []) less (ap (λ b. cond b (Some r) None) miss))
+  | inr more ↦ elim (cases_lt (sort_key_of r) p) [
     | inl less ↦
-        let miss = not_eq (place_of r) p (inl less) in
-        rw miss (around_more rows (place_of r) p (r ∷ []) less (ap (λ b. cond b (Some r) None) miss))
+        let miss = not_eq (sort_key_of r) p (inl less) in
+        rw miss (around_more rows (sort_key_of r) p (r ∷ []) less (ap (λ b. cond b (Some r) None) miss))
     | inr same ↦
-        let e : place_of r ≡ p = omega (arith, more, same) in
-        let hit = eq_is (place_of r) p e in
-        rw hit (around_at rows (place_of r) p (r ∷ []) e ∙ ap (λ b. cond b (Some r) None) hit)
+        let e : sort_key_of r ≡ p = omega (arith, more, same) in
+        let hit = eq_is (sort_key_of r) p e in
+        rw hit (around_at rows (sort_key_of r) p (r ∷ []) e ∙ ap (λ b. cond b (Some r) None) hit)
   ]
 ]
 
 pub row_in-remove : (rows : List Row) (t : Table) (k : Key) (p : ℕ) → row_in (remove rows t k) p ≡ row_after p (row_in rows p) (change.Remove t k)
 unfolding remove
-row_in-remove rows t k p = elim (cases_lt p (place t k)) [
+row_in-remove rows t k p = elim (cases_lt p (sort_key t k)) [
   | inl less ↦
-      let miss = not_eq (place t k) p (inr less) in
-      rw miss (around_less rows (place t k) p [] less refl)
-  | inr more ↦ elim (cases_lt (place t k) p) [
+      let miss = not_eq (sort_key t k) p (inr less) in
+      rw miss (around_less rows (sort_key t k) p [] less refl)
+  | inr more ↦ elim (cases_lt (sort_key t k) p) [
     | inl less ↦
-        let miss = not_eq (place t k) p (inl less) in
-        rw miss (around_more rows (place t k) p [] less refl)
+        let miss = not_eq (sort_key t k) p (inl less) in
+        rw miss (around_more rows (sort_key t k) p [] less refl)
     | inr same ↦
-        let e : place t k ≡ p = omega (arith, more, same) in
-        let hit = eq_is (place t k) p e in
-        rw hit (around_at rows (place t k) p [] e)
+        let e : sort_key t k ≡ p = omega (arith, more, same) in
+        let hit = eq_is (sort_key t k) p e in
+        rw hit (around_at rows (sort_key t k) p [] e)
   ]
 ]
 
@@ -132,9 +132,9 @@ pub row_in-changed : (rows : List Row) (changes : List Change) (p : ℕ) → row
 row_in-changed rows [] p = refl
 row_in-changed rows (c ∷ cs) p = row_in-changed (changed_by rows c) cs p ∙ ap (λ x. fold (row_after p) x cs) (row_in-changed_by rows c p)
 
-row_in-puts : (rows more : List Row) (p : ℕ) → row_in (fold put rows more) p ≡ fold (λ kept r. if place_of r == p then Some r else kept) (row_in rows p) more
+row_in-puts : (rows more : List Row) (p : ℕ) → row_in (fold put rows more) p ≡ fold (λ kept r. if sort_key_of r == p then Some r else kept) (row_in rows p) more
 row_in-puts rows [] p = refl
-row_in-puts rows (r ∷ rs) p = row_in-puts (put rows r) rs p ∙ ap (λ x. fold (λ kept r. if place_of r == p then Some r else kept) x rs) (row_in-put rows r p)
+row_in-puts rows (r ∷ rs) p = row_in-puts (put rows r) rs p ∙ ap (λ x. fold (λ kept r. if sort_key_of r == p then Some r else kept) x rs) (row_in-put rows r p)
 
 pub row_in-map_of : (rows : List Row) (p : ℕ) → row_in (map_of rows) p ≡ last_at p rows
 row_in-map_of rows p = row_in-puts [] rows p

@@ -1,4 +1,4 @@
--- Rising lists of rows with the same look-ups are equal, and places tell tables and keys apart.
+-- Rising lists of rows with the same look-ups are equal, and sort keys tell tables and keys apart.
 use Rattle.std.proofs.Common.{◌≡◌, ℕ, ◌^◌, ◌<◌, ◌≤◌, true, false, cond, List, [], ◌∷◌, None, Some, refl, sym, ap, ◌∙◌, inl, inr, All, arith}
 use Rattle.std.specs.Prelude.{◌==◌}
 use Rattle.std.specs.List.{AllPairs}
@@ -11,11 +11,11 @@ use Rattle.instance_keeper.specs.declared.row.Table.TheVariants as table
 use Rattle.instance_keeper.specs.declared.row.Key.{Key}
 use Rattle.instance_keeper.specs.declared.row.Key.TheVariants as key
 use Rattle.instance_keeper.specs.Ranges.{IsKeyInRange}
-use Rattle.instance_keeper.specs.Rows.{table_of, key_of, table_number, key_number, place, place_of, row_in, row_at}
+use Rattle.instance_keeper.specs.Rows.{table_of, key_of, table_number, key_number, sort_key, sort_key_of, row_in, row_at}
 use Rattle.instance_keeper.proofs.Lists.{pairs_head, pairs_tail}
 
 abbrev Before : Row → Row → Type 0
-Before a b = place_of a < place_of b
+Before a b = sort_key_of a < sort_key_of b
 
 hit : (a b : ℕ) → a ≡ b → (a == b) ≡ true
 hit a b e = grind (arith, nat_tests)
@@ -23,27 +23,27 @@ hit a b e = grind (arith, nat_tests)
 miss : (a b : ℕ) → b < a → (a == b) ≡ false
 miss a b h = grind (arith, nat_tests)
 
--- a place before all rows has none
-none_below : (rows : List Row) (p : ℕ) → All (λ r. p < place_of r) rows → row_in rows p ≡ None
+-- a sort key before all rows has none
+none_below : (rows : List Row) (p : ℕ) → All (λ r. p < sort_key_of r) rows → row_in rows p ≡ None
 none_below [] p h = refl
 none_below (r ∷ rs) p h =
-    let here = miss (place_of r) p (All-head (λ r. p < place_of r) r rs h) in
-    ap (λ b. cond b (Some r) (row_in rs p)) here ∙ none_below rs p (All-tail (λ r. p < place_of r) r rs h)
+    let here = miss (sort_key_of r) p (All-head (λ r. p < sort_key_of r) r rs h) in
+    ap (λ b. cond b (Some r) (row_in rs p)) here ∙ none_below rs p (All-tail (λ r. p < sort_key_of r) r rs h)
 
-head_row : (r : Row) (rs : List Row) → row_in (r ∷ rs) (place_of r) ≡ Some r
-head_row r rs = ap (λ b. cond b (Some r) (row_in rs (place_of r))) (hit (place_of r) (place_of r) refl)
+head_row : (r : Row) (rs : List Row) → row_in (r ∷ rs) (sort_key_of r) ≡ Some r
+head_row r rs = ap (λ b. cond b (Some r) (row_in rs (sort_key_of r))) (hit (sort_key_of r) (sort_key_of r) refl)
 
-all_above : (r : Row) (rs : List Row) (p : ℕ) → p < place_of r → AllPairs Before (r ∷ rs) → All (λ x. p < place_of x) (r ∷ rs)
+all_above : (r : Row) (rs : List Row) (p : ℕ) → p < sort_key_of r → AllPairs Before (r ∷ rs) → All (λ x. p < sort_key_of x) (r ∷ rs)
 all_above r rs p less h =
-    All-cons (λ x. p < place_of x) r rs less
-    (All-weaker (Before r) (λ x. p < place_of x) (λ x more. omega (arith, less, more)) rs (pairs_head Before r rs h))
+    All-cons (λ x. p < sort_key_of x) r rs less
+    (All-weaker (Before r) (λ x. p < sort_key_of x) (λ x more. omega (arith, less, more)) rs (pairs_head Before r rs h))
 
-rest_none : (r : Row) (rs : List Row) (p : ℕ) → p ≤ place_of r → AllPairs Before (r ∷ rs) → row_in rs p ≡ None
+rest_none : (r : Row) (rs : List Row) (p : ℕ) → p ≤ sort_key_of r → AllPairs Before (r ∷ rs) → row_in rs p ≡ None
 rest_none r rs p less h =
-    none_below rs p (All-weaker (Before r) (λ x. p < place_of x) (λ x more. omega (arith, less, more)) rs (pairs_head Before r rs h))
+    none_below rs p (All-weaker (Before r) (λ x. p < sort_key_of x) (λ x more. omega (arith, less, more)) rs (pairs_head Before r rs h))
 
-rest_in : (r : Row) (rs : List Row) (p : ℕ) → place_of r < p → row_in (r ∷ rs) p ≡ row_in rs p
-rest_in r rs p less = ap (λ b. cond b (Some r) (row_in rs p)) (passed (place_of r) p less)
+rest_in : (r : Row) (rs : List Row) (p : ℕ) → sort_key_of r < p → row_in (r ∷ rs) p ≡ row_in rs p
+rest_in r rs p less = ap (λ b. cond b (Some r) (row_in rs p)) (passed (sort_key_of r) p less)
   where
     passed : (a b : ℕ) → a < b → (a == b) ≡ false
     passed a b h = grind (arith, nat_tests)
@@ -54,11 +54,11 @@ some_same x y e = cc
 none_some : (y : Row) → None ≡ Some y → ⊥
 none_some y e = cc
 
-same_heads : (x y : Row) (xs ys : List Row) → AllPairs Before (x ∷ xs) → AllPairs Before (y ∷ ys) → row_in (x ∷ xs) (place_of x) ≡ row_in (y ∷ ys) (place_of x) → place_of x < place_of y → ⊥
-same_heads x y xs ys hx hy same less = none_some x (sym (sym (head_row x xs) ∙ (same ∙ none_below (y ∷ ys) (place_of x) (all_above y ys (place_of x) less hy))))
+same_heads : (x y : Row) (xs ys : List Row) → AllPairs Before (x ∷ xs) → AllPairs Before (y ∷ ys) → row_in (x ∷ xs) (sort_key_of x) ≡ row_in (y ∷ ys) (sort_key_of x) → sort_key_of x < sort_key_of y → ⊥
+same_heads x y xs ys hx hy same less = none_some x (sym (sym (head_row x xs) ∙ (same ∙ none_below (y ∷ ys) (sort_key_of x) (all_above y ys (sort_key_of x) less hy))))
 
-rest_same : (x y : Row) (xs ys : List Row) (p : ℕ) → AllPairs Before (x ∷ xs) → AllPairs Before (y ∷ ys) → place_of x ≡ place_of y → row_in (x ∷ xs) p ≡ row_in (y ∷ ys) p → row_in xs p ≡ row_in ys p
-rest_same x y xs ys p hx hy at same = elim (cases_lt (place_of x) p) [
+rest_same : (x y : Row) (xs ys : List Row) (p : ℕ) → AllPairs Before (x ∷ xs) → AllPairs Before (y ∷ ys) → sort_key_of x ≡ sort_key_of y → row_in (x ∷ xs) p ≡ row_in (y ∷ ys) p → row_in xs p ≡ row_in ys p
+rest_same x y xs ys p hx hy at same = elim (cases_lt (sort_key_of x) p) [
   | inl less ↦ sym (rest_in x xs p less) ∙ (same ∙ rest_in y ys p (omega (arith, less, at)))
   | inr more ↦ rest_none x xs p more hx ∙ sym (rest_none y ys p (omega (arith, more, at)) hy)
 ]
@@ -70,15 +70,15 @@ same_rows (x ∷ xs) [] hx hy same = absurd (none_some x (sym (same (table_of x)
 same_rows (x ∷ xs) (y ∷ ys) hx hy same =
     let first = same (table_of x) (key_of x) in
     let second = same (table_of y) (key_of y) in
-    let at : place_of x ≡ place_of y = elim (cases_lt (place_of x) (place_of y)) [
+    let at : sort_key_of x ≡ sort_key_of y = elim (cases_lt (sort_key_of x) (sort_key_of y)) [
       | inl less ↦ absurd (same_heads x y xs ys hx hy first less)
-      | inr more ↦ elim (cases_lt (place_of y) (place_of x)) [
+      | inr more ↦ elim (cases_lt (sort_key_of y) (sort_key_of x)) [
         | inl less ↦ absurd (same_heads y x ys xs hy hx (sym second) less)
         | inr less ↦ omega (arith, more, less)
       ]
     ] in
     let here : Some x ≡ Some y = sym (head_row x xs) ∙ (first ∙ (ap (row_in (y ∷ ys)) at ∙ head_row y ys)) in
-    let rest = same_rows xs ys (pairs_tail Before x xs hx) (pairs_tail Before y ys hy) (λ t k. rest_same x y xs ys (place t k) hx hy at (same t k)) in
+    let rest = same_rows xs ys (pairs_tail Before x xs hx) (pairs_tail Before y ys hy) (λ t k. rest_same x y xs ys (sort_key t k) hx hy at (same t k)) in
     ap (λ r. r ∷ xs) (some_same x y here) ∙ ap (λ l. y ∷ l) rest
 
 abbrev from_number : ℕ → Table
@@ -107,8 +107,8 @@ same_key key.Global (key.Server m) g h e = absurd (omega (arith, h, e))
 same_key key.Global (key.Id id) g h e = absurd (omega (arith, h, e))
 same_key key.Global key.Global g h e = refl
 
-pub same_place : (t u : Table) (k l : Key) → IsKeyInRange k → IsKeyInRange l → place t k ≡ place u l → (t ≡ u) × (k ≡ l)
-same_place t u k l g h e =
+pub same_sort_key : (t u : Table) (k l : Key) → IsKeyInRange k → IsKeyInRange l → sort_key t k ≡ sort_key u l → (t ≡ u) × (k ≡ l)
+same_sort_key t u k l g h e =
     let a = key_small k g in
     let b = key_small l h in
     let tables : table_number t ≡ table_number u = omega (arith, a, b, e) in

@@ -2,7 +2,7 @@ pub mod Rows
 pub mod Keeping
 pub mod Same
 pub mod Book
-pub mod Spots
+pub mod SortKeys
 pub mod Ranges
 pub mod ServerLists
 pub mod Bridges

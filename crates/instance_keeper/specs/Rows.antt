@@ -38,36 +38,36 @@ key_number (key.Id id) = 2 ^ 32 + id
 key_number key.Global = 2 ^ 32 + 2 ^ 64
 
 -- tables and keys in their order, by table, then key
-abbrev pub place : Table → Key → ℕ
-place t k = table_number t * 2 ^ 65 + key_number k
+abbrev pub sort_key : Table → Key → ℕ
+sort_key t k = table_number t * 2 ^ 65 + key_number k
 
-abbrev pub place_of : Row → ℕ
-place_of r = place (table_of r) (key_of r)
+abbrev pub sort_key_of : Row → ℕ
+sort_key_of r = sort_key (table_of r) (key_of r)
 
 -- each row stands before those that follow it
 pub record IsRising (rows : List Row) : Type 0 where
-  pub apart : AllPairs (λ a b. place_of a < place_of b) rows
+  pub apart : AllPairs (λ a b. sort_key_of a < sort_key_of b) rows
 
 abbrev pub row_in : List Row → ℕ → Option Row
-row_in rows p = find (λ r. place_of r == p) rows
+row_in rows p = find (λ r. sort_key_of r == p) rows
 
 -- the row of this table and key
 abbrev pub row_at : List Row → Table → Key → Option Row
-row_at rows t k = row_in rows (place t k)
+row_at rows t k = row_in rows (sort_key t k)
 
 abbrev pub rows_before : List Row → ℕ → List Row
-rows_before rows p = filter (λ r. nat_lt (place_of r) p) rows
+rows_before rows p = filter (λ r. nat_lt (sort_key_of r) p) rows
 
 abbrev pub rows_behind : List Row → ℕ → List Row
-rows_behind rows p = filter (λ r. nat_lt p (place_of r)) rows
+rows_behind rows p = filter (λ r. nat_lt p (sort_key_of r)) rows
 
 -- with this row in place of one with its table and key
 unfoldable pub put : List Row → Row → List Row
-put rows r = rows_before rows (place_of r) ++ r ∷ rows_behind rows (place_of r)
+put rows r = rows_before rows (sort_key_of r) ++ r ∷ rows_behind rows (sort_key_of r)
 
 -- without a row of this table and key
 unfoldable pub remove : List Row → Table → Key → List Row
-remove rows t k = rows_before rows (place t k) ++ rows_behind rows (place t k)
+remove rows t k = rows_before rows (sort_key t k) ++ rows_behind rows (sort_key t k)
 
 abbrev pub changed_by : List Row → Change → List Row
 changed_by rows (change.Put r) = put rows r
@@ -81,11 +81,11 @@ changed rows changes = fold changed_by rows changes
 abbrev pub map_of : List Row → List Row
 map_of rows = fold put [] rows
 
--- the row at a place after a change, by the one that was there
+-- the row at a sort key after a change, by the one that was there
 abbrev pub row_after : ℕ → Option Row → Change → Option Row
-row_after p kept (change.Put r) = if place_of r == p then Some r else kept
-row_after p kept (change.Remove t k) = if place t k == p then None else kept
+row_after p kept (change.Put r) = if sort_key_of r == p then Some r else kept
+row_after p kept (change.Remove t k) = if sort_key t k == p then None else kept
 
--- the last row of a list at a place
+-- the last row of a list at a sort key
 abbrev pub last_at : ℕ → List Row → Option Row
-last_at p rows = fold (λ kept r. if place_of r == p then Some r else kept) None rows
+last_at p rows = fold (λ kept r. if sort_key_of r == p then Some r else kept) None rows

@@ -6,7 +6,7 @@ ghost use Rattle.indexmap.specs.IndexMap.{values};
 ghost use Rattle.name_order.specs.NameOrder.{by_name, rank_of, IsOrder};
 ghost use Rattle.instance_keeper.specs.Bridges.{bridge_in, has_exec, has_own, latest_that, ring_at, ringed};
 ghost use Rattle.instance_keeper.specs.Leases.{first_busy, given_back, taken};
-ghost use Rattle.instance_keeper.specs.Spots.{CountsUp};
+ghost use Rattle.instance_keeper.specs.SortKeys.{CountsUp};
 ghost use Rattle.instance_keeper.specs.Book.{are_known, source_servers, observed_servers, ending_servers, servers_of, key_servers, row_fits, fits, empty_book, after_put, after_bridge, after_removal, after_change, lease_at, lease_result, after_row, book_made, instance_at, renewed, store_answer, after_store, shown_by, after_addition, after_discovery, renewal, store_change, downtime_at, rule_at, IsBook};
 
 use crate::bridge::{Bridge, Ring, bridge_in};
@@ -233,10 +233,10 @@ pub struct Book {
 impl Model for Book {
     ghost use Rattle.std.specs.Prelude.{map};
     ghost use Rattle.indexmap.specs.IndexMap.{values};
-    ghost use Rattle.instance_keeper.specs.Spots.{CountsUp};
-    ghost use Rattle.instance_keeper.specs.Book.{Known, IsBook};
+    ghost use Rattle.instance_keeper.specs.SortKeys.{CountsUp};
+    ghost use Rattle.instance_keeper.specs.Book.{BookState, IsBook};
 
-    ghost Value = { Known };
+    ghost Value = { BookState };
 
     ghost view = { λ b. record { settings = b.servers; names = map (λ s. s.name) b.servers; instances = values b.instances; downtimes = b.downtimes.items; candidates = b.candidates.items; switch = b.switch; rings = b.rings.items; leases = b.leases.items } };
 

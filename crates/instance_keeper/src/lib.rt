@@ -18,8 +18,8 @@ pub use book::{Book, StoreAnswer};
 pub use bridge::{Bridge, bridge_in};
 pub use keeper::{Keeper, KeeperFault};
 pub use laws::{
-    instances_are_rows, last_row_stands, places_differ, rows_are_a_map, rows_follow_the_book,
-    same_look_ups_same_rows,
+    instances_are_rows, last_row_stands, rows_are_a_map, rows_follow_the_book,
+    same_look_ups_same_rows, sort_keys_differ,
 };
 pub use lease::LeaseFault;
 pub use memory::{MemKeeper, row_map};

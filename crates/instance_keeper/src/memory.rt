@@ -5,12 +5,12 @@ ghost use Rattle.std.specs.Bool.{OnTrue, OnFalse};
 ghost use Rattle.std.specs.List.{HoldsAt};
 ghost use Rattle.orch_base.specs.Memory.{fails_next};
 ghost use Rattle.instance_keeper.specs.Keeping.{KeepsAll, HasKeeperCause, after_call};
-ghost use Rattle.instance_keeper.specs.Spots.{at, IsFirstFrom};
-ghost use Rattle.instance_keeper.specs.Rows.{changed, changed_by, map_of, place_of, put, remove, IsRising};
+ghost use Rattle.instance_keeper.specs.SortKeys.{at, IsFirstFrom};
+ghost use Rattle.instance_keeper.specs.Rows.{changed, changed_by, map_of, sort_key_of, put, remove, IsRising};
 
 use crate::Memory;
 use crate::keeper::{Keeper, KeeperFault};
-use crate::row::{Change, Place, Row};
+use crate::row::{Change, Row, SortKey};
 use orch_base::Name;
 use std::alloc::Global;
 use std::marker::Model;
@@ -35,16 +35,16 @@ impl Model for MemKeeper {
     ghost invariant = { λ k. IsRising k.rows.items };
 }
 
-// The first row that doesn't stand before this place.
-fn first_from(rows: &[Row], place: Place) -> usize
+// The first row that doesn't stand before this sort key.
+fn first_from(rows: &[Row], sort_key: SortKey) -> usize
     requires { IsRising rows.now }
-    ensures { IsFirstFrom rows.now (at place) result }
+    ensures { IsFirstFrom rows.now (at sort_key) result }
 {
     let mut from = 0;
     let mut to = rows.len();
     'halves: while from < to {
         let middle = from + (to - from) / 2;
-        if rows[middle].place().is_before(place) {
+        if rows[middle].sort_key().is_before(sort_key) {
             from = middle + 1;
         } else {
             to = middle;
@@ -53,14 +53,14 @@ fn first_from(rows: &[Row], place: Place) -> usize
     from
 }
 
-// Whether there is a row of this index that doesn't stand behind this place.
-fn is_there(rows: &[Row], index: usize, place: Place) -> bool
+// Whether there is a row of this index that doesn't stand behind this sort key.
+fn is_there(rows: &[Row], index: usize, sort_key: SortKey) -> bool
     ensures there { OnTrue result (index < length rows.now) }
-    ensures yes { OnTrue result (HoldsAt (λ r. place_of r ≤ at place) rows.now index) }
-    ensures no { OnFalse result (index < length rows.now → HoldsAt (λ r. at place < place_of r) rows.now index) }
+    ensures yes { OnTrue result (HoldsAt (λ r. sort_key_of r ≤ at sort_key) rows.now index) }
+    ensures no { OnFalse result (index < length rows.now → HoldsAt (λ r. at sort_key < sort_key_of r) rows.now index) }
 {
     match rows.get(index) {
-        Some(row) => !place.is_before(row.place()),
+        Some(row) => !sort_key.is_before(row.sort_key()),
         None => false,
     }
 }
@@ -74,25 +74,25 @@ fn put_row(rows: &mut Vec<Row>, row: Row)
     ensures len { vec_len rows.new ≤ vec_len rows.old + 1 }
     ensures capacity { vec_capacity rows.old ≤ vec_capacity rows.new }
 {
-    let place = row.place();
-    let index = first_from(rows, place);
-    if is_there(rows, index, place) {
+    let sort_key = row.sort_key();
+    let index = first_from(rows, sort_key);
+    if is_there(rows, index, sort_key) {
         rows[index] = row;
     } else {
         rows.insert(index, row).unwrap();
     }
 }
 
-// Removes the row of this place, where there is one.
-fn remove_row(rows: &mut Vec<Row>, place: Place)
+// Removes the row of this sort key, where there is one.
+fn remove_row(rows: &mut Vec<Row>, sort_key: SortKey)
     requires rising { IsRising rows.old.items }
-    ensures items { rows.new.items ≡ remove rows.old.items place.table place.key }
+    ensures items { rows.new.items ≡ remove rows.old.items sort_key.table sort_key.key }
     ensures rising { IsRising rows.new.items }
     ensures len { vec_len rows.new ≤ vec_len rows.old }
     ensures capacity { vec_capacity rows.old ≤ vec_capacity rows.new }
 {
-    let index = first_from(rows, place);
-    if is_there(rows, index, place) {
+    let index = first_from(rows, sort_key);
+    if is_there(rows, index, sort_key) {
         rows.remove(index);
     }
 }
@@ -108,7 +108,7 @@ fn change_row(rows: &mut Vec<Row>, change: Change)
 {
     match change {
         Change::Put(row) => put_row(rows, row),
-        Change::Remove(table, key) => remove_row(rows, Place { table, key }),
+        Change::Remove(table, key) => remove_row(rows, SortKey { table, key }),
     }
 }
 

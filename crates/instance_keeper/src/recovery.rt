@@ -1,7 +1,7 @@
 //! Recoveries.
 
 use crate::Memory;
-use orch_base::{Ending, Kind, Label, Moment, ServerNo};
+use orch_base::{Ending, Kind, Moment, OwnedText, ServerNo};
 use std::alloc::Global;
 
 /// A recovery, as the audit has it (orchestrator's documentation, "Topology recovery").
@@ -10,7 +10,7 @@ pub struct Recovery {
     /// Its number, counted from 1.
     pub id: u64,
     /// The label of the cluster that is recovered.
-    pub cluster: Label,
+    pub cluster: OwnedText,
     /// What is recovered.
     pub kind: Kind,
     /// The server that failed, or is replaced.

@@ -1,12 +1,12 @@
 //! The rows that are kept, and their keys.
 
 ghost use Rattle.std.specs.Prelude.{◌≡◌, nat_lt};
-ghost use Rattle.instance_keeper.specs.Rows.{key_number, place, table_number};
+ghost use Rattle.instance_keeper.specs.Rows.{key_number, sort_key, table_number};
 
 use crate::observation::Instance;
 use crate::recovery::Recovery;
 use crate::{Memory, Rule};
-use orch_base::{Label, Moment, ServerNo};
+use orch_base::{Moment, OwnedText, ServerNo};
 use std::alloc::Global;
 
 /// A time for which a server's analysis begins no recovery (orchestrator's documentation, "Downtime").
@@ -19,9 +19,9 @@ pub struct Downtime {
     /// The first moment that is no longer of it.
     pub until: Moment,
     /// Who asked for it: at most 255 bytes.
-    pub owner: Label,
+    pub owner: OwnedText,
     /// Why: at most 255 bytes.
-    pub reason: Label,
+    pub reason: OwnedText,
 }
 
 impl Downtime {
@@ -87,9 +87,9 @@ pub enum Key {
     Global,
 }
 
-/// The place of a row: by table, then key.
+/// The sort key of a row: by table, then key.
 #[derive(Clone, Copy)]
-pub(crate) struct Place {
+pub(crate) struct SortKey {
     pub(crate) table: Table,
     pub(crate) key: Key,
 }
@@ -122,10 +122,10 @@ impl Key {
     }
 }
 
-impl Place {
+impl SortKey {
     /// Whether it stands before the other.
-    pub(crate) fn is_before(self, other: Place) -> bool
-        ensures { result ≡ nat_lt (place self.table self.key) (place other.table other.key) }
+    pub(crate) fn is_before(self, other: SortKey) -> bool
+        ensures { result ≡ nat_lt (sort_key self.table self.key) (sort_key other.table other.key) }
     {
         let (this, that) = (number_of(self.table), number_of(other.table));
         if this == that {
@@ -182,10 +182,10 @@ impl Row {
     }
 
     /// The row's table and its key there.
-    pub(crate) fn place(&self) -> Place
+    pub(crate) fn sort_key(&self) -> SortKey
         ensures { result ≡ record { table = table_of self.now; key = key_of self.now } }
     {
-        Place {
+        SortKey {
             table: self.table(),
             key: self.key(),
         }

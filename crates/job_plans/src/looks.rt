@@ -17,7 +17,7 @@ ghost use Rattle.job_plans.specs.Acts.{rest_of, TellsAll};
 use crate::Look;
 use crate::act::Act;
 use binlog_coords::Coord;
-use commands::{Cause, HeldSet, Lines};
+use commands::{BoxedSet, Cause, Lines};
 use instance_keeper::{Bridge, Observation};
 use operations::{Crossing, JobStep, Sight};
 use orch_base::{Memory, Moment, ServerNo, SourceState};
@@ -274,6 +274,6 @@ pub(crate) fn cause_by(alloc: Global, no: ServerNo, fault: AttachFault) -> Resul
             found,
         },
         AttachFault::Loop => Cause::Loop(no),
-        AttachFault::Errant(set) => Cause::Errant(no, HeldSet::new(alloc, set)?),
+        AttachFault::Errant(set) => Cause::Errant(no, BoxedSet::new(alloc, set)?),
     })
 }

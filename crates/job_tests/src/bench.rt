@@ -14,7 +14,7 @@ use job_plans::{Job, JobStep, Op};
 use made_openings::are_listed;
 use opening_checks::CheckedOpening;
 use openings::{Counts, Opening, Part, Parts, ServerInit, parts_of};
-use orch_base::{Label, Moment, Name, ServerNo, Settings, Version};
+use orch_base::{Moment, Name, OwnedText, ServerNo, Settings, Version};
 use server_model::World;
 use std::alloc::Global;
 use std::process::Abort;
@@ -46,7 +46,7 @@ fn init(alloc: Global, given: &Given, n: u32) -> Result<ServerInit, Fail> {
             minor: 0,
             patch: 36,
         },
-        cluster: Label::new(String::from_str(alloc, "m:3306")?),
+        cluster: OwnedText::new(String::from_str(alloc, "m:3306")?),
         logs: true,
         limit: given.limit,
     };

@@ -4,7 +4,7 @@ use binlog_coords::{Coord, LogIndex};
 use made_openings::are_listed;
 use opening_checks::{CheckedOpening, OpeningFault};
 use openings::{Counts, Flaw, Opening, Part, Parts, ServerInit, count_of, history_at, log_of};
-use orch_base::{Label, Name, ServerNo, Settings, Txn, Version};
+use orch_base::{Name, OwnedText, ServerNo, Settings, Txn, Version};
 use std::alloc::Global;
 use std::process::Abort;
 use std::test::*;
@@ -86,7 +86,7 @@ fn settings(alloc: Global, n: u32, given: &Given) -> Result<Settings, Fail> {
             minor: 0,
             patch: 36,
         },
-        cluster: Label::new(String::from_str(alloc, cluster)?),
+        cluster: OwnedText::new(String::from_str(alloc, cluster)?),
         logs: given.logs,
         limit: given.limit,
     })

@@ -11,7 +11,7 @@ use gtid_sets::GtidSet;
 use made_openings::are_listed;
 use opening_checks::CheckedOpening;
 use openings::{Counts, Opening, Part, Parts, ServerInit, parts_of};
-use orch_base::{IoState, Label, Name, ServerNo, Settings, SourceState, Txn, Version};
+use orch_base::{IoState, Name, OwnedText, ServerNo, Settings, SourceState, Txn, Version};
 use server_model::{
     ApplyAnswer, Ask, AttachFault, FetchAnswer, Link, Plain, RotateAnswer, Spot, Status,
     StatusFault, Threads, Unreachable, World, WriteAnswer,
@@ -76,7 +76,7 @@ fn master(alloc: Global, limit: u64, count: u64) -> Result<ServerInit, Fail> {
             minor: 0,
             patch: 36,
         },
-        cluster: Label::new(String::from_str(alloc, "m:3306")?),
+        cluster: OwnedText::new(String::from_str(alloc, "m:3306")?),
         logs: true,
         limit,
     };

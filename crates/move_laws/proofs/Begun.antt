@@ -1,154 +1,98 @@
--- Permitted commands begin with operations that are held, over servers that are free.
-use Rattle.std.proofs.Common.{◌≡◌, ℕ, Bool, true, false, not, List, [], ◌∷◌, refl, sym, ◌∙◌, ap, Option, Some, None, ◌||◌}
-use Rattle.std.specs.Prelude.{◌==◌, map, slice_index_or}
+-- Permitted commands by coordinates begin with operations that are held, over servers that are free.
+use Rattle.std.proofs.Common.{◌≡◌, ℕ, Bool, true, false, List, [], ◌∷◌, refl, sym, ◌∙◌, ap, Option, Some, None}
+use Rattle.std.specs.Prelude.{◌==◌, map}
 use Rattle.std.specs.Option.{option_and_then, option_or, option_to_list}
-use Rattle.std.proofs.lemmas.Bool.{and_parts, false≢true, eqb-true, eq-eqb}
-use Rattle.std.proofs.lemmas.Option.{same_Some}
+use Rattle.std.proofs.lemmas.Bool.{and_parts, eq-eqb}
+use Rattle.std.proofs.lemmas.List.Elements.{filter_passes}
 use Rattle.orch_base.specs.declared.server.ServerNo.{ServerNo}
-use Rattle.orch_base.specs.declared.server.SourceState.{SourceState}
-use Rattle.orch_base.specs.declared.server.SourceState.TheVariants.{Without, Attached, Detached}
-use Rattle.commands.specs.declared.line.Line.{Line}
 use Rattle.commands.specs.declared.line.Line.TheVariants.{Follows}
 use Rattle.commands.specs.declared.refusal.Refusal.TheVariants as refusal
 use Rattle.commands.specs.declared.turn.Command.{Command}
-use Rattle.instance_keeper.specs.Book.{Known, instance_at}
-use Rattle.book_views.specs.Sources.{seen_source, source_in}
-use Rattle.server_model.specs.declared.server.Server.{Server as AServer}
-use Rattle.server_model.specs.Worlds.{World, server_at}
-use Rattle.operations.specs.Targets.{logs_by}
-use Rattle.job_laws.specs.Footing.{footing, are_held, logs_at}
+use Rattle.instance_keeper.specs.Book.{BookState}
+use Rattle.book_views.specs.Sources.{is_replica_of, replicas_of}
+use Rattle.server_model.specs.Worlds.{World}
 use Rattle.operations.specs.Jobs.{Job, job_with}
-use Rattle.job_laws.specs.Leases.{Begins, are_listed, leases_of}
-use Rattle.operations.specs.Plans.{again, auto, finished, under, up}
+use Rattle.operations.specs.Plans.{again, auto, finished, swap, under, up}
 use Rattle.operations.specs.declared.op.Op.{Op}
-use Rattle.job_laws.proofs.Planned.{up-held, under-held, again-held, auto-held, finished-held}
+use Rattle.job_laws.specs.Footing.{footing, are_held}
+use Rattle.job_laws.specs.Leases.{Begins, are_listed, leases_of}
+use Rattle.job_laws.proofs.Planned.{again-held, auto-held, finished-held, swap-held, under-held, up-held}
 use Rattle.permission.specs.Checks.{Case, busy, first_refusal, of_same_id, refusal_by, unknown_in, without_log}
-use Rattle.permission.specs.Lists.{first_of, first_about, moves_to}
-use Rattle.permission.specs.Views.{attached_in, attached_of, has_log, id_in, is_auto, logs_in, same_id, source_above, source_of}
+use Rattle.permission.specs.Lists.{first_about, first_of, moves_to}
+use Rattle.permission.specs.Replicas.{siblings_of}
+use Rattle.permission.specs.Views.{attached_of, is_auto, source_above, source_of}
 use Rattle.permission.specs.declared.case.Check.{Check}
 use Rattle.permission.specs.declared.case.Check.TheVariants as check
+use Rattle.permission.specs.declared.case.Move.{Move}
+use Rattle.plan_parts.specs.Parts.{following, unders, ups}
 use Rattle.moves_coords.specs.Commands.{coords_command}
-use Rattle.moves_coords.specs.Permits.{by_gtids, case_of, leased_about, leased_by, leased_in, list_of, refusal_about, refusal_in, refusal_of, row_of}
-use Rattle.moves_coords.specs.Plans.{moved_below, moved_up, ops_of, plan_about, plan_in, plan_of, repointed, repointed_auto, repointed_by}
+use Rattle.moves_coords.specs.Permits.{by_gtids, case_of, in_order, is_first, leased_about, leased_by, leased_in, list_of, refusal_about, refusal_in, refusal_of, row_of}
+use Rattle.moves_coords.specs.Plans.{master_taken, moved_below, moved_up, ops_of, plan_about, plan_in, plan_of, replicas_moved_up, repointed, repointed_auto, repointed_by, siblings_taken}
 use Rattle.moves_coords.specs.declared.command.CoordsCommand.{CoordsCommand}
 use Rattle.moves_coords.specs.declared.command.CoordsCommand.TheVariants as command
-use Rattle.move_laws.proofs.Firsts.{each-none, free-of, given-by, neither, not-false, test-false}
+use Rattle.move_laws.proofs.Beginning.{above-by, apart-by, begins-with, logging, replicas-apart, same-apart}
+use Rattle.move_laws.proofs.Firsts.{each-none, given-by, neither}
+use Rattle.move_laws.proofs.Lists.{again-listed, among-behind, among-first, among-more, auto-listed, finished-listed, first-append, swap-listed, under-listed, unders-held, unders-listed, up-listed, ups-held, ups-listed}
 
 self : (n : ℕ) → (n == n) ≡ true
 self n = eq-eqb n n refl
 
-any-true : (b : Bool) → (b || true) ≡ true
-any-true true = refl
-any-true false = refl
+module _ (w : World) (b : BookState) (jobs : List Job) (id wait : ℕ) (i : ServerNo) where
+  -- a command's job begins, where each check of its row passes
+  abbrev Permitted : CoordsCommand → Option ServerNo → Type 0
+  Permitted c d = first_refusal w b (case_of b c i d) (row_of (by_gtids w b i) c) ≡ None
 
--- ---- each server that a plan may change is in the list
-
-up-listed : (i x g : ServerNo) (lines : List Line) → are_listed (i ∷ x ∷ []) (finished (up i x g) lines) ≡ true
-up-listed i x g lines = simp (self, any-true) refl
-
-under-listed : (i d x : ServerNo) (lines : List Line) → are_listed (i ∷ d ∷ []) (finished (under i d x) lines) ≡ true
-under-listed i d x lines = simp (self, any-true) refl
-
-again-listed : (i x : ServerNo) (lines : List Line) → are_listed (i ∷ []) (finished (again i x) lines) ≡ true
-again-listed i x lines = simp (self) refl
-
-auto-listed : (i d : ServerNo) (lines : List Line) → are_listed (i ∷ []) (finished (auto i d) lines) ≡ true
-auto-listed i d lines = simp (self) refl
-
--- ---- what the book shows
-
--- an attached source is a source
-attached-source : (s : SourceState) (m : ServerNo) → attached_in s ≡ Some m → source_in s ≡ Some m
-attached-source Without m h = cc
-attached-source (Attached k) m h = h
-attached-source (Detached k) m h = cc
-
-pub known-source : (b : Known) (n m : ServerNo) → attached_of b n ≡ Some m → source_of b n ≡ Some m
-known-source b n m h = attached-source (seen_source (instance_at b n)) m h
-
--- the source of the source, where that one is attached
-pub above-by : (b : Known) (i x g : ServerNo) → source_of b i ≡ Some x → option_and_then (attached_of b) (source_of b i) ≡ Some g → source_above b i ≡ Some g
-above-by b i x g at_x at_g =
-    let here : attached_of b x ≡ Some g = sym (ap (option_and_then (attached_of b)) at_x) ∙ at_g in
-    ap (option_and_then (source_of b)) at_x ∙ known-source b x g here
-
--- ---- a job begins
-
--- with operations that are held and listed, over a list that is free
-pub begins-with : (w : World) (b : Known) (jobs : List Job) (list : List ServerNo) (id wait : ℕ) (ops : List Op)
-    → are_held (footing w []) ops ≡ true → are_listed list ops ≡ true → first_about (busy b) list ≡ None
-    → Begins w jobs (leases_of b.leases) list (job_with id wait ops)
-begins-with w b jobs list id wait ops held listed free = record {
-  seen = refl;
-  hands = refl;
-  left = held;
-  listed = listed;
-  free = λ n is. free-of b list free n is;
-}
-
-module _ (w : World) (b : Known) (jobs : List Job) (id wait : ℕ) (i : ServerNo) where
-  -- a server that is its own source has its own server_id
-  apart-by : (x g : ServerNo) → source_of b i ≡ Some x → source_above b i ≡ Some g → same_id w i g ≡ false → (i.0 == x.0) ≡ false
-  apart-by x g at_x at_g ids = go (i.0 == x.0) refl
-    where
-      go : (c : Bool) → (i.0 == x.0) ≡ c → c ≡ false
-      go false e = refl
-      go true e =
-          let same : i.0 ≡ x.0 = eqb-true i.0 x.0 e in
-          let own : source_of b x ≡ Some x = ap (λ n. source_in (seen_source (slice_index_or b.instances n None))) (sym same) ∙ at_x in
-          let x_is : Some x ≡ Some g = sym own ∙ sym (ap (option_and_then (source_of b)) at_x) ∙ at_g in
-          let g_is : i.0 ≡ g.0 = same ∙ ap (λ (n : ServerNo). n.0) (same_Some x g x_is) in
-          absurd (false≢true (sym ids ∙ eq-eqb (id_in (server_at w i.0)) (id_in (server_at w g.0)) (ap (λ n. id_in (server_at w n)) g_is)))
+  abbrev IsBegun : CoordsCommand → Option ServerNo → Type 0
+  IsBegun c d = Begins w jobs (leases_of b.leases) (list_of b c i d) (job_with id wait (ops_of w b c i d))
 
   up-begins : (x g : ServerNo) (list : List ServerNo) (ops : List Op) → list ≡ i ∷ x ∷ [] → ops ≡ finished (up i x g) (Follows i g ∷ []) → (i.0 == x.0) ≡ false
       → first_about (busy b) list ≡ None → Begins w jobs (leases_of b.leases) list (job_with id wait ops)
   up-begins x g list ops list_is ops_is apart free =
       begins-with w b jobs list id wait ops
       (ap (are_held (footing w [])) ops_is ∙ finished-held (footing w []) (up i x g) (Follows i g ∷ []) (up-held (footing w []) i x g apart))
-      (ap (λ l. are_listed l ops) list_is ∙ ap (are_listed (i ∷ x ∷ [])) ops_is ∙ up-listed i x g (Follows i g ∷ []))
+      (ap (λ l. are_listed l ops) list_is ∙ ap (are_listed (i ∷ x ∷ [])) ops_is
+      ∙ finished-listed (i ∷ x ∷ []) (up i x g) (Follows i g ∷ []) (up-listed (i ∷ x ∷ []) i x g (among-first i (x ∷ [])) (among-more i x (x ∷ []) (among-first x []))))
       free
 
-  same-apart : (o : Option ServerNo) (g : ServerNo) → o ≡ Some g → first_about (of_same_id w) (moves_to (i ∷ []) o) ≡ None → same_id w i g ≡ false
-  same-apart o g e h =
-      let at : first_about (of_same_id w) (moves_to (i ∷ []) (Some g)) ≡ None = ap (λ x. first_about (of_same_id w) (moves_to (i ∷ []) x)) (sym e) ∙ h in
-      test-false (same_id w i g) (refusal.SameServerId i) (neither (of_same_id w (record { no = i; source = g })) None at).0
-
-  logging : (d : ServerNo) → first_about (without_log w) (d ∷ []) ≡ None → logs_at w d.0 ≡ true
-  logging d h = by_test (has_log w d) (logs_at w d.0) (same-log (server_at w d.0)) (test-false (not (has_log w d)) refusal.DestNotLogging (neither (without_log w d) None h).0)
-    where
-      same-log : (s : Option AServer) → logs_in s ≡ logs_by s
-      same-log None = refl
-      same-log (Some s) = refl
-
-      by_test : (a c : Bool) → a ≡ c → not a ≡ false → c ≡ true
-      by_test a c e h = sym e ∙ not-false a h
-
-  moved-up : (d : Option ServerNo) → first_refusal w b (case_of b command.MoveUp i d) (row_of (by_gtids w b i) command.MoveUp) ≡ None
-      → Begins w jobs (leases_of b.leases) (list_of b command.MoveUp i d) (job_with id wait (ops_of w b command.MoveUp i d))
+  moved-up : (d : Option ServerNo) → Permitted command.MoveUp d → IsBegun command.MoveUp d
   moved-up d h =
       let t = each-none (map (refusal_by w b (case_of b command.MoveUp i d)) (row_of (by_gtids w b i) command.MoveUp)) h in
       let x = given-by (source_of b i) refusal.NoSource t.1.1.0 in
       let g = given-by (option_and_then (attached_of b) (source_of b i)) refusal.SourceHasNoSource t.1.1.1.1.0 in
       let above = above-by b i x.0 g.0 x.1 g.1 in
-      let ids = same-apart (source_above b i) g.0 above t.1.1.1.1.1.0 in
+      let ids = same-apart w b i (source_above b i) g.0 above t.1.1.1.1.1.0 in
       up-begins x.0 g.0 (list_of b command.MoveUp i d) (ops_of w b command.MoveUp i d)
       (ap (λ o. i ∷ option_to_list o) x.1)
       (ap (λ o. moved_up i o (source_above b i)) x.1 ∙ ap (moved_up i (Some x.0)) above)
-      (apart-by x.0 g.0 x.1 above ids) t.0
+      (apart-by w b i x.0 g.0 x.1 above ids) t.0
 
-  moved-below : (d : Option ServerNo) → first_refusal w b (case_of b command.MoveBelow i d) (row_of (by_gtids w b i) command.MoveBelow) ≡ None
-      → Begins w jobs (leases_of b.leases) (list_of b command.MoveBelow i d) (job_with id wait (ops_of w b command.MoveBelow i d))
+  replicas-up : (d : Option ServerNo) → Permitted command.MoveUpReplicas d → IsBegun command.MoveUpReplicas d
+  replicas-up d h =
+      let rs = replicas_of b i in
+      let t = each-none (map (refusal_by w b (case_of b command.MoveUpReplicas i d)) (row_of (by_gtids w b i) command.MoveUpReplicas)) h in
+      let x = given-by (source_of b i) refusal.NoSource t.1.1.0 in
+      let moves : first_about (of_same_id w) (moves_to rs (Some x.0)) ≡ None = ap (λ o. first_about (of_same_id w) (moves_to rs o)) (sym x.1) ∙ t.1.1.1.1.0 in
+      let apart = replicas-apart w b i x.0 rs x.1 (filter_passes (is_replica_of b i) _) moves in
+      let ops_is : replicas_moved_up rs i (source_of b i) ≡ finished (ups rs i x.0) (following rs x.0) = ap (replicas_moved_up rs i) x.1 in
+      begins-with w b jobs (i ∷ rs) id wait (replicas_moved_up rs i (source_of b i))
+      (ap (are_held (footing w [])) ops_is ∙ finished-held (footing w []) (ups rs i x.0) (following rs x.0) (ups-held (footing w []) rs i x.0 apart))
+      (ap (are_listed (i ∷ rs)) ops_is
+      ∙ finished-listed (i ∷ rs) (ups rs i x.0) (following rs x.0) (ups-listed (i ∷ rs) rs i x.0 (among-behind i rs) (among-first i rs)))
+      t.0
+
+  moved-below : (d : Option ServerNo) → Permitted command.MoveBelow d → IsBegun command.MoveBelow d
   moved-below None h =
       let t = each-none (map (refusal_by w b (case_of b command.MoveBelow i None)) (row_of (by_gtids w b i) command.MoveBelow)) h in
       begins-with w b jobs (i ∷ []) id wait [] refl refl t.1.0
   moved-below (Some d) h =
       let t = each-none (map (refusal_by w b (case_of b command.MoveBelow i (Some d))) (row_of (by_gtids w b i) command.MoveBelow)) h in
-      let logs = logging d t.1.1.1.1.1.1.1.1.0 in
+      let logs = logging w b d [] t.1.1.1.1.1.1.1.1.0 in
       let x = given-by (source_of b i) refusal.NoSource t.1.1.1.0 in
       let ops_is : moved_below i (Some d) (source_of b i) ≡ finished (under i d x.0) (Follows i d ∷ []) = ap (moved_below i (Some d)) x.1 in
       begins-with w b jobs (i ∷ d ∷ []) id wait (moved_below i (Some d) (source_of b i))
       (ap (are_held (footing w [])) ops_is ∙ finished-held (footing w []) (under i d x.0) (Follows i d ∷ []) (under-held (footing w []) i d x.0 logs))
-      (ap (are_listed (i ∷ d ∷ [])) ops_is ∙ under-listed i d x.0 (Follows i d ∷ []))
+      (ap (are_listed (i ∷ d ∷ [])) ops_is
+      ∙ finished-listed (i ∷ d ∷ []) (under i d x.0) (Follows i d ∷ []) (under-listed (i ∷ d ∷ []) i d x.0 (among-first i (d ∷ [])) (among-more i d (d ∷ []) (among-first d []))))
       t.1.0
 
   -- by coordinates
@@ -156,7 +100,8 @@ module _ (w : World) (b : Known) (jobs : List Job) (id wait : ℕ) (i : ServerNo
   again-begins None free = begins-with w b jobs (i ∷ []) id wait [] refl refl free
   again-begins (Some x) free =
       begins-with w b jobs (i ∷ []) id wait (finished (again i x) (Follows i x ∷ []))
-      (finished-held (footing w []) (again i x) (Follows i x ∷ []) (again-held (footing w []) i x)) (again-listed i x (Follows i x ∷ [])) free
+      (finished-held (footing w []) (again i x) (Follows i x ∷ []) (again-held (footing w []) i x))
+      (finished-listed (i ∷ []) (again i x) (Follows i x ∷ []) (again-listed (i ∷ []) i x (among-first i []))) free
 
   -- by GTIDs
   auto-begins : (d : Option ServerNo) → w.gtid ≡ true → first_about (without_log w) (option_to_list d) ≡ None → first_about (busy b) (i ∷ []) ≡ None
@@ -164,10 +109,10 @@ module _ (w : World) (b : Known) (jobs : List Job) (id wait : ℕ) (i : ServerNo
   auto-begins None gtid logs free = begins-with w b jobs (i ∷ []) id wait [] refl refl free
   auto-begins (Some d) gtid logs free =
       begins-with w b jobs (i ∷ []) id wait (finished (auto i d) (Follows i d ∷ []))
-      (finished-held (footing w []) (auto i d) (Follows i d ∷ []) (auto-held (footing w []) i d gtid (logging d logs))) (auto-listed i d (Follows i d ∷ [])) free
+      (finished-held (footing w []) (auto i d) (Follows i d ∷ []) (auto-held (footing w []) i d gtid (logging w b d [] logs)))
+      (finished-listed (i ∷ []) (auto i d) (Follows i d ∷ []) (auto-listed (i ∷ []) i d (among-first i []))) free
 
-  repoint-begins : (d : Option ServerNo) → first_refusal w b (case_of b command.Repoint i d) (row_of (by_gtids w b i) command.Repoint) ≡ None
-      → Begins w jobs (leases_of b.leases) (list_of b command.Repoint i d) (job_with id wait (ops_of w b command.Repoint i d))
+  repoint-begins : (d : Option ServerNo) → Permitted command.Repoint d → IsBegun command.Repoint d
   repoint-begins d h = go (by_gtids w b i) refl h
     where
       go : (way : Bool) → by_gtids w b i ≡ way → first_refusal w b (case_of b command.Repoint i d) (row_of way command.Repoint) ≡ None
@@ -179,6 +124,48 @@ module _ (w : World) (b : Known) (jobs : List Job) (id wait : ℕ) (i : ServerNo
           let t = each-none (map (refusal_by w b (case_of b command.Repoint i d)) (row_of false command.Repoint)) h in
           again-begins (source_of b i) t.1.0
 
+  siblings-begin : (d : Option ServerNo) → Permitted command.TakeSiblings d → IsBegun command.TakeSiblings d
+  siblings-begin d h =
+      let rs = siblings_of b i in
+      let t = each-none (map (refusal_by w b (case_of b command.TakeSiblings i d)) (row_of (by_gtids w b i) command.TakeSiblings)) h in
+      let logs = logging w b i [] t.1.1.1.1.0 in
+      let x = given-by (source_of b i) refusal.NoSource t.1.1.0 in
+      let ops_is : siblings_taken rs i (source_of b i) ≡ finished (unders rs i x.0) (following rs i) = ap (siblings_taken rs i) x.1 in
+      begins-with w b jobs (i ∷ rs) id wait (siblings_taken rs i (source_of b i))
+      (ap (are_held (footing w [])) ops_is ∙ finished-held (footing w []) (unders rs i x.0) (following rs i) (unders-held (footing w []) rs i x.0 logs))
+      (ap (are_listed (i ∷ rs)) ops_is
+      ∙ finished-listed (i ∷ rs) (unders rs i x.0) (following rs i) (unders-listed (i ∷ rs) rs i x.0 (among-behind i rs) (among-first i rs)))
+      t.0
+
+  -- the instance is one of two servers that move
+  ordered : (first : Bool) (ms ns : List Move) → first_about (of_same_id w) (in_order first ms ns) ≡ None → first_about (of_same_id w) ms ≡ None
+  ordered true ms ns h = (first-append (of_same_id w) ms ns h).0
+  ordered false ms ns h = (first-append (of_same_id w) ns ms h).1
+
+  swap-begins : (x g : ServerNo) (list : List ServerNo) (ops : List Op) → list ≡ i ∷ x ∷ [] → ops ≡ finished (swap i x g) (Follows i g ∷ Follows x i ∷ [])
+      → (i.0 == x.0) ≡ false → (footing w []).logs i.0 ≡ true → first_about (busy b) list ≡ None → Begins w jobs (leases_of b.leases) list (job_with id wait ops)
+  swap-begins x g list ops list_is ops_is apart logs free =
+      let lines = Follows i g ∷ Follows x i ∷ [] in
+      begins-with w b jobs list id wait ops
+      (ap (are_held (footing w [])) ops_is ∙ finished-held (footing w []) (swap i x g) lines (swap-held (footing w []) i x g apart logs))
+      (ap (λ l. are_listed l ops) list_is ∙ ap (are_listed (i ∷ x ∷ [])) ops_is
+      ∙ finished-listed (i ∷ x ∷ []) (swap i x g) lines (swap-listed (i ∷ x ∷ []) i x g (among-first i (x ∷ [])) (among-more i x (x ∷ []) (among-first x []))))
+      free
+
+  master-begins : (d : Option ServerNo) → Permitted command.TakeMaster d → IsBegun command.TakeMaster d
+  master-begins d h =
+      let t = each-none (map (refusal_by w b (case_of b command.TakeMaster i d)) (row_of (by_gtids w b i) command.TakeMaster)) h in
+      let x = given-by (source_of b i) refusal.NoSource t.1.1.0 in
+      let g = given-by (option_and_then (attached_of b) (source_of b i)) refusal.SourceHasNoSource t.1.1.1.1.0 in
+      let above = above-by b i x.0 g.0 x.1 g.1 in
+      let logs = logging w b i (option_to_list (source_above b i)) t.1.1.1.1.1.0 in
+      let moves = ordered (is_first b i (source_of b i)) (moves_to (i ∷ []) (source_above b i)) (moves_to (option_to_list (source_of b i)) (Some i)) t.1.1.1.1.1.1.0 in
+      let ids = same-apart w b i (source_above b i) g.0 above moves in
+      swap-begins x.0 g.0 (list_of b command.TakeMaster i d) (ops_of w b command.TakeMaster i d)
+      (ap (λ o. i ∷ option_to_list o) x.1)
+      (ap (λ o. master_taken i o (source_above b i)) x.1 ∙ ap (master_taken i (Some x.0)) above)
+      (apart-by w b i x.0 g.0 x.1 above ids) logs t.0
+
   -- an operation that asks one thing of the instance
   asked-begins : (ops : List Op) (row : List Check) (c : Case) → c.leased ≡ i ∷ [] → are_held (footing w []) ops ≡ true → are_listed (i ∷ []) ops ≡ true
       → first_refusal w b c (check.Busy ∷ row) ≡ None → Begins w jobs (leases_of b.leases) (i ∷ []) (job_with id wait ops)
@@ -186,12 +173,13 @@ module _ (w : World) (b : Known) (jobs : List Job) (id wait : ℕ) (i : ServerNo
       begins-with w b jobs (i ∷ []) id wait ops held listed
       (ap (first_about (busy b)) (sym list) ∙ (neither (refusal_by w b c check.Busy) (first_of (map (refusal_by w b c) row)) h).0)
 
-  -- a command's job, where each check of its row passes
-  about : (c : CoordsCommand) (d : Option ServerNo) → first_refusal w b (case_of b c i d) (row_of (by_gtids w b i) c) ≡ None
-      → Begins w jobs (leases_of b.leases) (list_of b c i d) (job_with id wait (ops_of w b c i d))
+  about : (c : CoordsCommand) (d : Option ServerNo) → Permitted c d → IsBegun c d
   about command.MoveUp d h = moved-up d h
+  about command.MoveUpReplicas d h = replicas-up d h
   about command.MoveBelow d h = moved-below d h
   about command.Repoint d h = repoint-begins d h
+  about command.TakeSiblings d h = siblings-begin d h
+  about command.TakeMaster d h = master-begins d h
   about command.DetachReplica d h =
       asked-begins (ops_of w b command.DetachReplica i d) (check.Unreachable ∷ check.NoSource ∷ check.AlreadyDetached ∷ []) (case_of b command.DetachReplica i d) refl refl (simp (self) refl) h
   about command.ReattachReplica d h =
@@ -209,7 +197,7 @@ module _ (w : World) (b : Known) (jobs : List Job) (id wait : ℕ) (i : ServerNo
   about command.SetWriteable d h =
       asked-begins (ops_of w b command.SetWriteable i d) (check.Unreachable ∷ []) (case_of b command.SetWriteable i d) refl refl (simp (self) refl) h
 
-pub permitted-begin : (w : World) (b : Known) (jobs : List Job) (given : Command) (id wait : ℕ) → refusal_of w b given ≡ None
+pub permitted-begin : (w : World) (b : BookState) (jobs : List Job) (given : Command) (id wait : ℕ) → refusal_of w b given ≡ None
     → Begins w jobs (leases_of b.leases) (leased_by b given) (job_with id wait (plan_of w b given))
 permitted-begin w b jobs given id wait h = go (coords_command given.name) h
   where

@@ -5,7 +5,7 @@ use Rattle.std.specs.List.{list_any}
 use Rattle.std.specs.Option.{option_or}
 use Rattle.std.proofs.lemmas.Bool.{false≢true, eqb-true}
 use Rattle.orch_base.specs.declared.server.ServerNo.{ServerNo}
-use Rattle.instance_keeper.specs.Book.{Known, lease_at}
+use Rattle.instance_keeper.specs.Book.{BookState, lease_at}
 use Rattle.permission.specs.Checks.{busy, busy_by}
 use Rattle.permission.specs.Lists.{first_of, first_about, only_if}
 
@@ -45,7 +45,7 @@ free-by k None h = refl
 free-by k (Some job) h = cc
 
 -- nobody has a lease of a server of a list that isn't busy
-pub free-of : (b : Known) (list : List ServerNo) → first_about (busy b) list ≡ None → (n : ℕ) → list_any (λ (k : ServerNo). k.0 == n) list ≡ true
+pub free-of : (b : BookState) (list : List ServerNo) → first_about (busy b) list ≡ None → (n : ℕ) → list_any (λ (k : ServerNo). k.0 == n) list ≡ true
     → slice_index_or b.leases n None ≡ None
 free-of b [] h n is = absurd (false≢true is)
 free-of b (k ∷ ks) h n is =

@@ -10,12 +10,15 @@ use Rattle.orch_base.specs.declared.server.ServerNo.{ServerNo}
 use Rattle.commands.specs.Refusals.{number_of}
 use Rattle.commands.specs.declared.refusal.Refusal.{Refusal}
 use Rattle.commands.specs.declared.refusal.Refusal.TheVariants as refusal
-use Rattle.instance_keeper.specs.Book.{Known, instance_at, lease_at}
+use Rattle.instance_keeper.specs.Book.{BookState, instance_at, lease_at}
 use Rattle.book_views.specs.Sources.{seen_source}
 use Rattle.move_laws.specs.Numbers.{check_number, rises_from}
 use Rattle.moves_coords.specs.Permits.{row_of}
 use Rattle.moves_coords.specs.declared.command.CoordsCommand.{CoordsCommand}
 use Rattle.moves_coords.specs.declared.command.CoordsCommand.TheVariants as command
+use Rattle.moves_gtid.specs.Permits.{row_of as gtid_row_of}
+use Rattle.moves_gtid.specs.declared.command.GtidCommand.{GtidCommand}
+use Rattle.moves_gtid.specs.declared.command.GtidCommand.TheVariants as gtid
 use Rattle.permission.specs.Checks.{Case, are_one, busy, busy_by, errant, errant_by, is_given, of_below, of_lower_version, of_other_cluster, of_same_id, refusal_by, unreached, without_log}
 use Rattle.permission.specs.Errants.{own_missing}
 use Rattle.permission.specs.Lists.{first_about, only_if}
@@ -50,7 +53,7 @@ of-errant : (xs : List Interval) (r : Refusal) → errant_by xs ≡ Some r → H
 of-errant [] r h = cc
 of-errant (x ∷ xs) r h = subst (Has 18) (same_Some (refusal.Errant (x ∷ xs)) r h) refl
 
-pub check-number : (w : World) (b : Known) (c : Case) (k : Check) (r : Refusal) → refusal_by w b c k ≡ Some r → Has (check_number k) r
+pub check-number : (w : World) (b : BookState) (c : Case) (k : Check) (r : Refusal) → refusal_by w b c k ≡ Some r → Has (check_number k) r
 check-number w b c check.SameInstance r h = of-test 3 (is_given c.i c.to) refusal.SameInstance r refl h
 check-number w b c check.Busy r h = of-list 4 (busy b) c.leased r (λ n s. of-busy n (lease_at b n) s) h
 check-number w b c check.Unreachable r h = of-list 5 (unreached b) c.reached r (λ n s. of-test 5 (not (is_valid b n)) (refusal.Unreachable n) s refl) h
@@ -71,7 +74,7 @@ check-number w b c check.Errant r h =
 
 -- ---- rows
 
-module _ (w : World) (b : Known) (c : Case) where
+module _ (w : World) (b : BookState) (c : Case) where
   at-first : (x k : Check) → Some x ≡ Some k → x ≡ k
   at-first x k h = same_Some x k h
 
@@ -125,9 +128,12 @@ module _ (w : World) (b : Known) (c : Case) where
 
 pub rows-rise : (gtids : Bool) (c : CoordsCommand) → rises_from 2 (row_of gtids c) ≡ true
 rows-rise gtids command.MoveUp = refl
+rows-rise gtids command.MoveUpReplicas = refl
 rows-rise gtids command.MoveBelow = refl
 rows-rise true command.Repoint = refl
 rows-rise false command.Repoint = refl
+rows-rise gtids command.TakeSiblings = refl
+rows-rise gtids command.TakeMaster = refl
 rows-rise gtids command.DetachReplica = refl
 rows-rise gtids command.ReattachReplica = refl
 rows-rise gtids command.ResetReplica = refl
@@ -136,3 +142,9 @@ rows-rise gtids command.StopReplica = refl
 rows-rise gtids command.RestartReplica = refl
 rows-rise gtids command.SetReadOnly = refl
 rows-rise gtids command.SetWriteable = refl
+
+pub gtid-rows-rise : (c : GtidCommand) → rises_from 2 (gtid_row_of c) ≡ true
+gtid-rows-rise gtid.MoveGtid = refl
+gtid-rows-rise gtid.MoveReplicasGtid = refl
+gtid-rows-rise gtid.EnableGtid = refl
+gtid-rows-rise gtid.DisableGtid = refl

@@ -7,16 +7,19 @@ use Rattle.orch_base.specs.declared.server.ServerNo.{ServerNo}
 use Rattle.commands.specs.declared.line.Line.TheVariants.{Follows}
 use Rattle.commands.specs.declared.name.CommandName.TheVariants as name
 use Rattle.commands.specs.declared.refusal.Refusal.TheVariants as refusal
-use Rattle.instance_keeper.specs.Book.{Known}
-use Rattle.operations.specs.Plans.{again, auto, finished, under, up}
+use Rattle.instance_keeper.specs.Book.{BookState}
+use Rattle.book_views.specs.Sources.{replicas_of}
+use Rattle.operations.specs.Plans.{again, auto, finished, swap, under, up}
 use Rattle.permission.specs.Checks.{are_one, first_refusal, is_given, refusal_by, unknown_in}
+use Rattle.permission.specs.Replicas.{siblings_of}
 use Rattle.permission.specs.Views.{attached_of, source_above, source_of}
+use Rattle.plan_parts.specs.Parts.{following, unders, ups}
 use Rattle.server_model.specs.Worlds.{World}
 use Rattle.moves_coords.specs.Permits.{by_gtids, case_of, refusal_about, refusal_of, row_of}
-use Rattle.moves_coords.specs.Plans.{moved_below, moved_up, plan_of, repointed, repointed_by}
+use Rattle.moves_coords.specs.Plans.{master_taken, moved_below, moved_up, plan_of, replicas_moved_up, repointed, repointed_by, siblings_taken}
 use Rattle.moves_coords.specs.declared.command.CoordsCommand.TheVariants as command
 use Rattle.move_laws.specs.Given.{given}
-use Rattle.move_laws.proofs.Begun.{above-by}
+use Rattle.move_laws.proofs.Beginning.{above-by}
 use Rattle.move_laws.proofs.Firsts.{each-none, given-by, neither, not-false, test-false}
 
 -- servers with one number are one
@@ -30,7 +33,7 @@ given-is a (Some c) h = ap Some (same-server c a (eqb-true c.0 a.0 h))
 are-one : (x : ServerNo) (o p : Option ServerNo) → o ≡ Some x → are_one o p ≡ true → p ≡ Some x
 are-one x o p e h = given-is x p (sym (ap (λ q. are_one q p) e) ∙ h)
 
-pub plan-up : (w : World) (b : Known) (i : ServerNo) → refusal_of w b (given name.MoveUp i None) ≡ None
+pub plan-up : (w : World) (b : BookState) (i : ServerNo) → refusal_of w b (given name.MoveUp i None) ≡ None
     → (x : ServerNo) × (g : ServerNo) × (source_of b i ≡ Some x) × (attached_of b x ≡ Some g)
     × (plan_of w b (given name.MoveUp i None) ≡ finished (up i x g) (Follows i g ∷ []))
 plan-up w b i h =
@@ -44,7 +47,7 @@ plan-up w b i h =
     in
     (x.0, g.0, x.1, here, plan)
 
-pub plan-under : (w : World) (b : Known) (i d : ServerNo) → refusal_of w b (given name.MoveBelow i (Some d)) ≡ None
+pub plan-under : (w : World) (b : BookState) (i d : ServerNo) → refusal_of w b (given name.MoveBelow i (Some d)) ≡ None
     → (x : ServerNo) × (source_of b i ≡ Some x) × (attached_of b d ≡ Some x) × (plan_of w b (given name.MoveBelow i (Some d)) ≡ finished (under i d x) (Follows i d ∷ []))
 plan-under w b i d h =
     let row = (neither (unknown_in b (given name.MoveBelow i (Some d))) (refusal_about w b command.MoveBelow (Some i) (Some d)) h).1 in
@@ -54,13 +57,13 @@ plan-under w b i d h =
     let plan : moved_below i (Some d) (source_of b i) ≡ finished (under i d x.0) (Follows i d ∷ []) = ap (moved_below i (Some d)) x.1 in
     (x.0, x.1, are-one x.0 (source_of b i) (attached_of b d) x.1 one, plan)
 
-repoint-row : (w : World) (b : Known) (i d : ServerNo) (way : Bool) → by_gtids w b i ≡ way → refusal_of w b (given name.Repoint i (Some d)) ≡ None
+repoint-row : (w : World) (b : BookState) (i d : ServerNo) (way : Bool) → by_gtids w b i ≡ way → refusal_of w b (given name.Repoint i (Some d)) ≡ None
     → first_refusal w b (case_of b command.Repoint i (Some d)) (row_of way command.Repoint) ≡ None
 repoint-row w b i d way e h =
     ap (λ g. first_refusal w b (case_of b command.Repoint i (Some d)) (row_of g command.Repoint)) (sym e)
     ∙ (neither (unknown_in b (given name.Repoint i (Some d))) (refusal_about w b command.Repoint (Some i) (Some d)) h).1
 
-pub plan-again : (w : World) (b : Known) (i d : ServerNo) → by_gtids w b i ≡ false → refusal_of w b (given name.Repoint i (Some d)) ≡ None
+pub plan-again : (w : World) (b : BookState) (i d : ServerNo) → by_gtids w b i ≡ false → refusal_of w b (given name.Repoint i (Some d)) ≡ None
     → (source_of b i ≡ Some d) × (plan_of w b (given name.Repoint i (Some d)) ≡ finished (again i d) (Follows i d ∷ []))
 plan-again w b i d e h =
     let t = each-none (map (refusal_by w b (case_of b command.Repoint i (Some d))) (row_of false command.Repoint)) (repoint-row w b i d false e h) in
@@ -73,6 +76,42 @@ plan-again w b i d e h =
     in
     (at, plan)
 
-pub plan-auto : (w : World) (b : Known) (i d : ServerNo) → by_gtids w b i ≡ true → refusal_of w b (given name.Repoint i (Some d)) ≡ None
+pub plan-auto : (w : World) (b : BookState) (i d : ServerNo) → by_gtids w b i ≡ true → refusal_of w b (given name.Repoint i (Some d)) ≡ None
     → plan_of w b (given name.Repoint i (Some d)) ≡ finished (auto i d) (Follows i d ∷ [])
 plan-auto w b i d e h = ap (λ g. repointed_by g i (Some d) (source_of b i)) e
+
+pub plan-ups : (w : World) (b : BookState) (i : ServerNo) → refusal_of w b (given name.MoveUpReplicas i None) ≡ None
+    → (x : ServerNo) × (source_of b i ≡ Some x) × (plan_of w b (given name.MoveUpReplicas i None) ≡ finished (ups (replicas_of b i) i x) (following (replicas_of b i) x))
+plan-ups w b i h =
+    let row = (neither (unknown_in b (given name.MoveUpReplicas i None)) (refusal_about w b command.MoveUpReplicas (Some i) None) h).1 in
+    let t = each-none (map (refusal_by w b (case_of b command.MoveUpReplicas i None)) (row_of (by_gtids w b i) command.MoveUpReplicas)) row in
+    let x = given-by (source_of b i) refusal.NoSource t.1.1.0 in
+    let plan : replicas_moved_up (replicas_of b i) i (source_of b i) ≡ finished (ups (replicas_of b i) i x.0) (following (replicas_of b i) x.0) =
+    ap (replicas_moved_up (replicas_of b i) i) x.1
+    in
+    (x.0, x.1, plan)
+
+pub plan-unders : (w : World) (b : BookState) (i : ServerNo) → refusal_of w b (given name.TakeSiblings i None) ≡ None
+    → (x : ServerNo) × (source_of b i ≡ Some x) × (plan_of w b (given name.TakeSiblings i None) ≡ finished (unders (siblings_of b i) i x) (following (siblings_of b i) i))
+plan-unders w b i h =
+    let row = (neither (unknown_in b (given name.TakeSiblings i None)) (refusal_about w b command.TakeSiblings (Some i) None) h).1 in
+    let t = each-none (map (refusal_by w b (case_of b command.TakeSiblings i None)) (row_of (by_gtids w b i) command.TakeSiblings)) row in
+    let x = given-by (source_of b i) refusal.NoSource t.1.1.0 in
+    let plan : siblings_taken (siblings_of b i) i (source_of b i) ≡ finished (unders (siblings_of b i) i x.0) (following (siblings_of b i) i) =
+    ap (siblings_taken (siblings_of b i) i) x.1
+    in
+    (x.0, x.1, plan)
+
+pub plan-swap : (w : World) (b : BookState) (i : ServerNo) → refusal_of w b (given name.TakeMaster i None) ≡ None
+    → (x : ServerNo) × (g : ServerNo) × (source_of b i ≡ Some x) × (attached_of b x ≡ Some g)
+    × (plan_of w b (given name.TakeMaster i None) ≡ finished (swap i x g) (Follows i g ∷ Follows x i ∷ []))
+plan-swap w b i h =
+    let row = (neither (unknown_in b (given name.TakeMaster i None)) (refusal_about w b command.TakeMaster (Some i) None) h).1 in
+    let t = each-none (map (refusal_by w b (case_of b command.TakeMaster i None)) (row_of (by_gtids w b i) command.TakeMaster)) row in
+    let x = given-by (source_of b i) refusal.NoSource t.1.1.0 in
+    let g = given-by (option_and_then (attached_of b) (source_of b i)) refusal.SourceHasNoSource t.1.1.1.1.0 in
+    let here : attached_of b x.0 ≡ Some g.0 = sym (ap (option_and_then (attached_of b)) x.1) ∙ g.1 in
+    let plan : master_taken i (source_of b i) (source_above b i) ≡ finished (swap i x.0 g.0) (Follows i g.0 ∷ Follows x.0 i ∷ []) =
+    ap (λ o. master_taken i o (source_above b i)) x.1 ∙ ap (master_taken i (Some x.0)) (above-by b i x.0 g.0 x.1 g.1)
+    in
+    (x.0, g.0, x.1, here, plan)

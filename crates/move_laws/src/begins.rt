@@ -1,25 +1,19 @@
-//! Permitted commands begin.
+//! Permitted commands by coordinates begin.
 
-ghost use Rattle.std.specs.Prelude.{◌≡◌, ℕ, ◌∷◌, [], List, None, Some};
-ghost use Rattle.orch_base.specs.declared.server.ServerNo.{ServerNo as Number};
-ghost use Rattle.commands.specs.declared.line.Line.TheVariants.{Follows};
+ghost use Rattle.std.specs.Prelude.{◌≡◌, ℕ, List, None};
 ghost use Rattle.commands.specs.declared.turn.Command.{Command as ACommand};
-ghost use Rattle.instance_keeper.specs.Book.{Known};
-ghost use Rattle.moves_coords.specs.Commands.{coords_command};
+ghost use Rattle.instance_keeper.specs.Book.{BookState};
 ghost use Rattle.moves_coords.specs.Permits.{leased_by, refusal_of};
 ghost use Rattle.moves_coords.specs.Plans.{plan_of};
-ghost use Rattle.moves_coords.specs.declared.command.CoordsCommand.TheVariants.{MoveBelow, MoveUp};
 ghost use Rattle.operations.specs.Jobs.{Job, job_with};
 ghost use Rattle.job_laws.specs.Leases.{Begins, leases_of};
-ghost use Rattle.operations.specs.Plans.{finished, under, up};
-ghost use Rattle.permission.specs.Views.{source_of};
 ghost use Rattle.server_model.specs.Worlds.{World};
 
 /// Where nothing refuses one of the commands by coordinates, the job of its plan may begin: its operations are held,
 /// each server that one of them may change is in the command's list, and nobody has a lease of a server of that list.
 /// So it is for every book and for servers in any state.
 pub fn permitted_commands_begin()
-    ensures { (w : World) (b : Known) (jobs : List Job) (given : ACommand) (id wait : ℕ) →
+    ensures { (w : World) (b : BookState) (jobs : List Job) (given : ACommand) (id wait : ℕ) →
         refusal_of w b given ≡ None →
         Begins w jobs (leases_of b.leases) (leased_by b given) (job_with id wait (plan_of w b given)) }
 {}

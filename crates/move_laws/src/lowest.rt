@@ -3,10 +3,12 @@
 ghost use Rattle.std.specs.Prelude.{◌≡◌, ◌<◌, ℕ, Bool, List, None, Some, slice_get, true};
 ghost use Rattle.commands.specs.Refusals.{number_of};
 ghost use Rattle.commands.specs.declared.refusal.Refusal.{Refusal};
-ghost use Rattle.instance_keeper.specs.Book.{Known};
+ghost use Rattle.instance_keeper.specs.Book.{BookState};
 ghost use Rattle.move_laws.specs.Numbers.{check_number, rises_from};
 ghost use Rattle.moves_coords.specs.Permits.{row_of};
 ghost use Rattle.moves_coords.specs.declared.command.CoordsCommand.{CoordsCommand};
+ghost use Rattle.moves_gtid.specs.Permits.{row_of as gtid_row_of};
+ghost use Rattle.moves_gtid.specs.declared.command.GtidCommand.{GtidCommand};
 ghost use Rattle.permission.specs.Checks.{Case, first_refusal, refusal_by};
 ghost use Rattle.permission.specs.declared.case.Check.{Check};
 ghost use Rattle.server_model.specs.Worlds.{World};
@@ -14,14 +16,14 @@ ghost use Rattle.server_model.specs.Worlds.{World};
 /// What a row of checks answers: nothing exactly where each check passes, else the refusal of one of its checks, and of
 /// a row whose numbers rise each check of a lower number passes. A check's refusal has the check's number.
 pub fn rows_answer_the_lowest()
-    ensures number { (w : World) (b : Known) (c : Case) (check : Check) (r : Refusal) →
+    ensures number { (w : World) (b : BookState) (c : Case) (check : Check) (r : Refusal) →
         refusal_by w b c check ≡ Some r → number_of r ≡ check_number check }
-    ensures passes { (w : World) (b : Known) (c : Case) (row : List Check) (k : ℕ) (check : Check) →
+    ensures passes { (w : World) (b : BookState) (c : Case) (row : List Check) (k : ℕ) (check : Check) →
         first_refusal w b c row ≡ None → slice_get row k ≡ Some check → refusal_by w b c check ≡ None }
-    ensures refuses { (w : World) (b : Known) (c : Case) (row : List Check) (r : Refusal) →
+    ensures refuses { (w : World) (b : BookState) (c : Case) (row : List Check) (r : Refusal) →
         first_refusal w b c row ≡ Some r →
         (k : ℕ) × (check : Check) × (slice_get row k ≡ Some check) × (refusal_by w b c check ≡ Some r) }
-    ensures lowest { (w : World) (b : Known) (c : Case) (from : ℕ) (row : List Check) (r : Refusal) (k : ℕ)
+    ensures lowest { (w : World) (b : BookState) (c : Case) (from : ℕ) (row : List Check) (r : Refusal) (k : ℕ)
         (check : Check) →
         rises_from from row ≡ true → first_refusal w b c row ≡ Some r → slice_get row k ≡ Some check →
         check_number check < number_of r → refusal_by w b c check ≡ None }
@@ -30,4 +32,9 @@ pub fn rows_answer_the_lowest()
 /// The numbers of each row rise, from above that of an unknown instance on, which is tested before them.
 pub fn numbers_rise()
     ensures { (gtids : Bool) (command : CoordsCommand) → rises_from 2 (row_of gtids command) ≡ true }
+{}
+
+/// So do those of the rows of commands by GTIDs.
+pub fn gtid_numbers_rise()
+    ensures { (command : GtidCommand) → rises_from 2 (gtid_row_of command) ≡ true }
 {}

@@ -3,30 +3,45 @@
 ghost use Rattle.std.specs.Prelude.{◌≡◌, ◌∷◌, [], Some, None, true, false};
 ghost use Rattle.orch_base.specs.declared.server.ServerNo.{ServerNo as Number};
 ghost use Rattle.commands.specs.declared.line.Line.TheVariants.{Follows};
-ghost use Rattle.commands.specs.declared.name.CommandName.TheVariants.{MoveBelow, MoveUp, Repoint};
-ghost use Rattle.instance_keeper.specs.Book.{Known};
+ghost use Rattle.book_views.specs.Sources.{replicas_of};
+ghost use Rattle.commands.specs.declared.name.CommandName.TheVariants.{MoveBelow, MoveUp, MoveUpReplicas, Repoint, TakeMaster, TakeSiblings};
+ghost use Rattle.instance_keeper.specs.Book.{BookState};
 ghost use Rattle.move_laws.specs.Given.{given};
 ghost use Rattle.moves_coords.specs.Permits.{by_gtids, refusal_of};
 ghost use Rattle.moves_coords.specs.Plans.{plan_of};
-ghost use Rattle.operations.specs.Plans.{again, auto, finished, under, up};
+ghost use Rattle.operations.specs.Plans.{again, auto, finished, swap, under, up};
+ghost use Rattle.permission.specs.Replicas.{siblings_of};
 ghost use Rattle.permission.specs.Views.{attached_of, source_of};
+ghost use Rattle.plan_parts.specs.Parts.{following, unders, ups};
 ghost use Rattle.server_model.specs.Worlds.{World};
 
 /// A permitted move has its whole plan, by the sources that the book shows: up to the source to which the instance's
 /// source is attached, below a sibling under their source, or anew under the same source, by coordinates, or below any
-/// server by GTIDs.
+/// server by GTIDs; each replica of the instance up to its source, each sibling below it, or the instance and its source
+/// in each other's place.
 pub fn permitted_moves_have_plans()
-    ensures up { (w : World) (b : Known) (i : Number) → refusal_of w b (given MoveUp i None) ≡ None →
+    ensures up { (w : World) (b : BookState) (i : Number) → refusal_of w b (given MoveUp i None) ≡ None →
         (x : Number) × (g : Number) × (source_of b i ≡ Some x) × (attached_of b x ≡ Some g) ×
         (plan_of w b (given MoveUp i None) ≡ finished (up i x g) (Follows i g ∷ [])) }
-    ensures under { (w : World) (b : Known) (i d : Number) →
+    ensures under { (w : World) (b : BookState) (i d : Number) →
         refusal_of w b (given MoveBelow i (Some d)) ≡ None →
         (x : Number) × (source_of b i ≡ Some x) × (attached_of b d ≡ Some x) ×
         (plan_of w b (given MoveBelow i (Some d)) ≡ finished (under i d x) (Follows i d ∷ [])) }
-    ensures again { (w : World) (b : Known) (i d : Number) → by_gtids w b i ≡ false →
+    ensures again { (w : World) (b : BookState) (i d : Number) → by_gtids w b i ≡ false →
         refusal_of w b (given Repoint i (Some d)) ≡ None →
         (source_of b i ≡ Some d) × (plan_of w b (given Repoint i (Some d)) ≡ finished (again i d) (Follows i d ∷ [])) }
-    ensures auto { (w : World) (b : Known) (i d : Number) → by_gtids w b i ≡ true →
+    ensures auto { (w : World) (b : BookState) (i d : Number) → by_gtids w b i ≡ true →
         refusal_of w b (given Repoint i (Some d)) ≡ None →
         plan_of w b (given Repoint i (Some d)) ≡ finished (auto i d) (Follows i d ∷ []) }
+    ensures ups { (w : World) (b : BookState) (i : Number) → let rs = replicas_of b i in
+        refusal_of w b (given MoveUpReplicas i None) ≡ None →
+        (x : Number) × (source_of b i ≡ Some x) ×
+        (plan_of w b (given MoveUpReplicas i None) ≡ finished (ups rs i x) (following rs x)) }
+    ensures unders { (w : World) (b : BookState) (i : Number) → let rs = siblings_of b i in
+        refusal_of w b (given TakeSiblings i None) ≡ None →
+        (x : Number) × (source_of b i ≡ Some x) ×
+        (plan_of w b (given TakeSiblings i None) ≡ finished (unders rs i x) (following rs i)) }
+    ensures swap { (w : World) (b : BookState) (i : Number) → refusal_of w b (given TakeMaster i None) ≡ None →
+        (x : Number) × (g : Number) × (source_of b i ≡ Some x) × (attached_of b x ≡ Some g) ×
+        (plan_of w b (given TakeMaster i None) ≡ finished (swap i x g) (Follows i g ∷ Follows x i ∷ [])) }
 {}

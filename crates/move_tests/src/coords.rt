@@ -1,35 +1,11 @@
 //! The commands that move or change one server by coordinates.
 
+use crate::cases::{Case, assert_cases};
 use crate::made::{
-    Server, auto, book_of, detached, leased, master, old, replica, unreached, with_set,
-    without_log, world_of,
+    Server, auto, detached, leased, master, old, replica, unreached, with_set, without_log,
 };
-use crate::told::{print_op, print_refusal};
-use book_views::book_forest;
-use commands::{Command, CommandName};
-use instance_keeper::Book;
-use moves_coords::{PermitFault, coords_command, leases, permit, plan};
-use operations::Op;
-use orch_base::{Moment, ServerNo};
-use server_model::World;
 use std::alloc::Global;
-use std::process::Abort;
 use std::test::*;
-
-// The servers' names, by number.
-const NAMES: [&str; 24] = [
-    "m", "s", "r", "t", "x", "z", "u", "v", "l", "k", "w", "a", "b", "c", "y", "q", "h", "n", "e",
-    "o", "g", "j", "p", "f",
-];
-
-fn number_of(name: &str) -> Option<ServerNo> {
-    for (number, other) in NAMES.iter().enumerate() {
-        if *other == name {
-            return Some(ServerNo(number as u32));
-        }
-    }
-    None
-}
 
 const GTIDS_OF_MASTER: &str = "00000000-0000-0000-0000-000000000015:1-3";
 
@@ -101,71 +77,6 @@ fn servers(alloc: Global) -> Result<Vec<Server<'static>>, Fail> {
     with_fifth(servers)
 }
 
-// A command, its instance and its destination, whether GTIDs are used, and what is wanted: the refusal, or the leases
-// and the operations.
-type Case = (&'static str, &'static str, &'static str, bool, &'static str);
-
-fn print_plan(out: &mut Vec<u8>, list: &[ServerNo], ops: &[Op]) -> Result<(), Fail> {
-    for no in list {
-        out.extend_from_slice(NAMES.get(no.0 as usize).copied().unwrap_or("?").as_bytes())?;
-    }
-    out.push(b':')?;
-    out.push(b' ')?;
-    'ops: for op in ops {
-        print_op(out, &NAMES, op)?;
-    }
-    Ok(())
-}
-
-// What a command is refused with, or its leases and its operations.
-fn told(
-    rt: &impl Abort,
-    alloc: Global,
-    book: &Book,
-    world: &World,
-    command: Command,
-) -> Result<Vec<u8>, Fail> {
-    let forest = book_forest(alloc, book)?;
-    assert!(rt; coords_command(command.name).is_some());
-    let mut out = Vec::new(alloc);
-    match permit(alloc, book, &forest, world, command, Moment(0)) {
-        Ok(()) => {
-            let list = leases(alloc, book, command)?;
-            let ops = plan(alloc, book, &forest, world, command)?;
-            print_plan(&mut out, &list, &ops)?;
-        }
-        Err(PermitFault::Refused(refusal)) => print_refusal(alloc, &mut out, &NAMES, &refusal)?,
-        Err(PermitFault::Memory) => out.extend_from_slice("memory".as_bytes())?,
-    }
-    Ok(out)
-}
-
-fn assert_case(rt: &impl Abort, alloc: Global, case: Case) -> Result<(), Fail> {
-    let (word, i, d, gtid, want) = case;
-    let servers = servers(alloc)?;
-    let book = book_of(rt, alloc, &servers)?;
-    let world = world_of(rt, alloc, &servers, gtid)?;
-    let Some(name) = CommandName::read(word) else {
-        assert!(rt; false, "no command {word}");
-        return Ok(());
-    };
-    let command = Command {
-        name,
-        i: number_of(i),
-        d: number_of(d),
-    };
-    let out = told(rt, alloc, &book, &world, command)?;
-    assert_eq!(rt; str::from_utf8(&out).ok(), Some(want), "{word} {i} {d}");
-    Ok(())
-}
-
-fn assert_cases(rt: &impl Abort, alloc: Global, cases: &[Case]) -> Result<(), Fail> {
-    for case in cases {
-        assert_case(rt, alloc, *case)?;
-    }
-    Ok(())
-}
-
 const MOVE_UP: [Case; 15] = [
     ("move-up", "u", "", false, "2"),
     ("move-up", "", "", false, "2"),
@@ -192,7 +103,7 @@ const MOVE_UP: [Case; 15] = [
 
 #[test]
 fn move_up(rt: HostRuntime) -> Result<(), Fail> {
-    assert_cases(&rt, rt.alloc(), &MOVE_UP)
+    assert_cases(&rt, rt.alloc(), &servers(rt.alloc())?, &MOVE_UP)
 }
 
 const MOVE_BELOW: [Case; 19] = [
@@ -225,7 +136,7 @@ const MOVE_BELOW: [Case; 19] = [
 
 #[test]
 fn move_below(rt: HostRuntime) -> Result<(), Fail> {
-    assert_cases(&rt, rt.alloc(), &MOVE_BELOW)
+    assert_cases(&rt, rt.alloc(), &servers(rt.alloc())?, &MOVE_BELOW)
 }
 
 const REPOINT: [Case; 23] = [
@@ -298,7 +209,7 @@ const REPOINT: [Case; 23] = [
 
 #[test]
 fn repoint(rt: HostRuntime) -> Result<(), Fail> {
-    assert_cases(&rt, rt.alloc(), &REPOINT)
+    assert_cases(&rt, rt.alloc(), &servers(rt.alloc())?, &REPOINT)
 }
 
 const SINGLE_SERVERS: [Case; 43] = [
@@ -397,5 +308,5 @@ const SINGLE_SERVERS: [Case; 43] = [
 
 #[test]
 fn single_servers(rt: HostRuntime) -> Result<(), Fail> {
-    assert_cases(&rt, rt.alloc(), &SINGLE_SERVERS)
+    assert_cases(&rt, rt.alloc(), &servers(rt.alloc())?, &SINGLE_SERVERS)
 }

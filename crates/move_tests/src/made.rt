@@ -10,7 +10,7 @@ use instance_keeper::{Book, Instance, Row};
 use made_openings::are_listed;
 use opening_checks::CheckedOpening;
 use openings::{Counts, Opening, ServerInit, parts_of};
-use orch_base::{IoState, Label, Moment, Name, ServerNo, Settings, SourceState, Version};
+use orch_base::{IoState, Moment, Name, OwnedText, ServerNo, Settings, SourceState, Version};
 use server_model::World;
 use server_words::Status;
 use std::alloc::Global;
@@ -122,7 +122,7 @@ fn settings(alloc: Global, server: &Server<'_>, no: u32) -> Result<Settings, Fai
             minor: server.version.1,
             patch: 36,
         },
-        cluster: Label::new(String::from_str(alloc, server.cluster)?),
+        cluster: OwnedText::new(String::from_str(alloc, server.cluster)?),
         logs: server.logs,
         limit: 1073741824,
     })

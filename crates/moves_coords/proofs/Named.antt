@@ -1,75 +1,74 @@
 -- The operations of a plan, and the leases, are of the book's servers, where the command's instances are.
-use Rattle.std.proofs.Common.{◌≡◌, ℕ, ◌<◌, Bool, true, false, List, [], ◌∷◌, length, refl, Option, Some, None, arith}
-use Rattle.std.specs.Prelude.{All, IfSome, IsTrue, nat_lt}
+use Rattle.std.proofs.Common.{◌≡◌, ◌<◌, Bool, true, false, List, [], ◌∷◌, length, refl, Option, Some, None}
+use Rattle.std.specs.Prelude.{All, IsTrue}
 use Rattle.std.specs.Option.{option_or, option_to_list}
-use Rattle.std.proofs.lemmas.Bool.Decides.{nat_tests}
-use Rattle.std.proofs.lemmas.List.Elements.{All-cons, All-nil}
 use Rattle.orch_base.specs.declared.server.ServerNo.{ServerNo}
-use Rattle.orch_base.specs.declared.server.SourceState.{SourceState}
-use Rattle.orch_base.specs.declared.server.SourceState.TheVariants.{Without, Attached, Detached}
+use Rattle.commands.specs.declared.line.Line.TheVariants.{Follows}
 use Rattle.commands.specs.Turns.{is_within}
 use Rattle.commands.specs.declared.turn.Command.{Command}
-use Rattle.instance_keeper.specs.Book.{Known, IsBook, are_known, instance_at, source_servers}
-use Rattle.book_views.specs.Sources.{seen_source, source_in}
-use Rattle.book_views.proofs.Reading.{known-below, source-known}
+use Rattle.instance_keeper.specs.Book.{BookState, IsBook}
+use Rattle.book_views.specs.Sources.{replicas_of}
 use Rattle.operations.specs.Named.{are_named}
+use Rattle.operations.specs.Plans.{again, auto, swap, under, up}
+use Rattle.permission.specs.Replicas.{siblings_of}
 use Rattle.permission.specs.Views.{source_above, source_of}
+use Rattle.permission.proofs.Within.{AllWithin, Within, cons-within, given-within, none-within, option-within, or-within, replicas-within, siblings-within, source-within}
+use Rattle.plan_parts.specs.Parts.{following, unders, ups}
+use Rattle.plan_parts.proofs.Named.{again-named, auto-named, below-test, finished-named, swap-named, under-named, unders-named, up-named, ups-named}
 use Rattle.server_model.specs.Worlds.{World}
 use Rattle.moves_coords.specs.Commands.{coords_command}
 use Rattle.moves_coords.specs.Permits.{by_gtids, leased_about, leased_by, leased_in, list_of}
-use Rattle.moves_coords.specs.Plans.{moved_below, moved_up, ops_of, plan_about, plan_in, plan_of, repointed, repointed_auto, repointed_by}
+use Rattle.moves_coords.specs.Plans.{master_taken, moved_below, moved_up, ops_of, plan_about, plan_in, plan_of, replicas_moved_up, repointed, repointed_auto, repointed_by, siblings_taken}
 use Rattle.moves_coords.specs.declared.command.CoordsCommand.{CoordsCommand}
 use Rattle.moves_coords.specs.declared.command.CoordsCommand.TheVariants as command
 
-abbrev Within : Known → Option ServerNo → Type 0
-Within b o = IfSome o (λ n. n.0 < length b.names)
+module _ (w : World) (b : BookState) (is : IsBook b) where
+  moved-up : (i : ServerNo) (x g : Option ServerNo) → i.0 < length b.names → Within b x → are_named (length b.names) (moved_up i x g) ≡ true
+  moved-up i None g at_i at_x = refl
+  moved-up i (Some x) None at_i at_x = refl
+  moved-up i (Some x) (Some g) at_i at_x = finished-named (length b.names) (up i x g) (Follows i g ∷ []) (up-named (length b.names) i x g at_i at_x)
 
-known-in : (b : Known) (s : SourceState) → are_known (length b.names) (source_servers s) ≡ true → Within b (source_in s)
-known-in b Without h = tt
-known-in b (Attached m) h = known-below (length b.names) m.0 h
-known-in b (Detached m) h = known-below (length b.names) m.0 h
+  replicas-up : (rs : List ServerNo) (i : ServerNo) (x : Option ServerNo) → AllWithin b rs → i.0 < length b.names
+      → are_named (length b.names) (replicas_moved_up rs i x) ≡ true
+  replicas-up rs i None at_rs at_i = refl
+  replicas-up rs i (Some x) at_rs at_i = finished-named (length b.names) (ups rs i x) (following rs x) (ups-named (length b.names) rs i x at_rs at_i)
 
-source-within : (b : Known) (n : ServerNo) → IsBook b → n.0 < length b.names → Within b (source_of b n)
-source-within b n is below = known-in b (seen_source (instance_at b n)) (source-known b n is below)
+  moved-below : (i : ServerNo) (d x : Option ServerNo) → i.0 < length b.names → Within b d → are_named (length b.names) (moved_below i d x) ≡ true
+  moved-below i None x at_i at_d = refl
+  moved-below i (Some d) None at_i at_d = refl
+  moved-below i (Some d) (Some x) at_i at_d = finished-named (length b.names) (under i d x) (Follows i d ∷ []) (under-named (length b.names) i d x at_i at_d)
 
-or-within : (b : Known) (o p : Option ServerNo) → Within b o → Within b p → Within b (option_or o p)
-or-within b None p at_o at_p = at_p
-or-within b (Some n) p at_o at_p = at_o
+  repointed-named : (i : ServerNo) (x : Option ServerNo) → i.0 < length b.names → are_named (length b.names) (repointed i x) ≡ true
+  repointed-named i None at_i = refl
+  repointed-named i (Some x) at_i = finished-named (length b.names) (again i x) (Follows i x ∷ []) (again-named (length b.names) i x at_i)
 
-below-test : (n count : ℕ) → n < count → nat_lt n count ≡ true
-below-test n count h = grind (arith, nat_tests)
+  auto-by : (i : ServerNo) (d : Option ServerNo) → i.0 < length b.names → Within b d → are_named (length b.names) (repointed_auto i d) ≡ true
+  auto-by i None at_i at_d = refl
+  auto-by i (Some d) at_i at_d = finished-named (length b.names) (auto i d) (Follows i d ∷ []) (auto-named (length b.names) i d at_i at_d)
 
-module _ (w : World) (b : Known) (is : IsBook b) where
-  up-named : (i : ServerNo) (x g : Option ServerNo) → i.0 < length b.names → Within b x → are_named (length b.names) (moved_up i x g) ≡ true
-  up-named i None g at_i at_x = refl
-  up-named i (Some x) None at_i at_x = refl
-  up-named i (Some x) (Some g) at_i at_x =
-      let hi = below-test i.0 (length b.names) at_i in let hx = below-test x.0 (length b.names) at_x in simp (hi, hx) refl
-
-  under-named : (i : ServerNo) (d x : Option ServerNo) → i.0 < length b.names → Within b d → are_named (length b.names) (moved_below i d x) ≡ true
-  under-named i None x at_i at_d = refl
-  under-named i (Some d) None at_i at_d = refl
-  under-named i (Some d) (Some x) at_i at_d =
-      let hi = below-test i.0 (length b.names) at_i in let hd = below-test d.0 (length b.names) at_d in simp (hi, hd) refl
-
-  again-named : (i : ServerNo) (x : Option ServerNo) → i.0 < length b.names → are_named (length b.names) (repointed i x) ≡ true
-  again-named i None at_i = refl
-  again-named i (Some x) at_i = let hi = below-test i.0 (length b.names) at_i in simp (hi) refl
-
-  auto-named : (i : ServerNo) (d : Option ServerNo) → i.0 < length b.names → Within b d → are_named (length b.names) (repointed_auto i d) ≡ true
-  auto-named i None at_i at_d = refl
-  auto-named i (Some d) at_i at_d =
-      let hi = below-test i.0 (length b.names) at_i in let hd = below-test d.0 (length b.names) at_d in simp (hi, hd) refl
-
-  repoint-named : (way : Bool) (i : ServerNo) (d x : Option ServerNo) → i.0 < length b.names → Within b d → Within b x
+  repoint : (way : Bool) (i : ServerNo) (d x : Option ServerNo) → i.0 < length b.names → Within b d → Within b x
       → are_named (length b.names) (repointed_by way i d x) ≡ true
-  repoint-named true i d x at_i at_d at_x = auto-named i (option_or d x) at_i (or-within b d x at_d at_x)
-  repoint-named false i d x at_i at_d at_x = again-named i x at_i
+  repoint true i d x at_i at_d at_x = auto-by i (option_or d x) at_i (or-within b d x at_d at_x)
+  repoint false i d x at_i at_d at_x = repointed-named i x at_i
+
+  siblings-below : (rs : List ServerNo) (i : ServerNo) (x : Option ServerNo) → AllWithin b rs → i.0 < length b.names
+      → are_named (length b.names) (siblings_taken rs i x) ≡ true
+  siblings-below rs i None at_rs at_i = refl
+  siblings-below rs i (Some x) at_rs at_i = finished-named (length b.names) (unders rs i x) (following rs i) (unders-named (length b.names) rs i x at_rs at_i)
+
+  swapped : (i : ServerNo) (x g : Option ServerNo) → i.0 < length b.names → Within b x → are_named (length b.names) (master_taken i x g) ≡ true
+  swapped i None g at_i at_x = refl
+  swapped i (Some x) None at_i at_x = refl
+  swapped i (Some x) (Some g) at_i at_x =
+      finished-named (length b.names) (swap i x g) (Follows i g ∷ Follows x i ∷ []) (swap-named (length b.names) i x g at_i at_x)
 
   ops-named : (c : CoordsCommand) (i : ServerNo) (d : Option ServerNo) → i.0 < length b.names → Within b d → are_named (length b.names) (ops_of w b c i d) ≡ true
-  ops-named command.MoveUp i d at_i at_d = up-named i (source_of b i) (source_above b i) at_i (source-within b i is at_i)
-  ops-named command.MoveBelow i d at_i at_d = under-named i d (source_of b i) at_i at_d
-  ops-named command.Repoint i d at_i at_d = repoint-named (by_gtids w b i) i d (source_of b i) at_i at_d (source-within b i is at_i)
+  ops-named command.MoveUp i d at_i at_d = moved-up i (source_of b i) (source_above b i) at_i (source-within b i is at_i)
+  ops-named command.MoveUpReplicas i d at_i at_d = replicas-up (replicas_of b i) i (source_of b i) (replicas-within b i) at_i
+  ops-named command.MoveBelow i d at_i at_d = moved-below i d (source_of b i) at_i at_d
+  ops-named command.Repoint i d at_i at_d = repoint (by_gtids w b i) i d (source_of b i) at_i at_d (source-within b i is at_i)
+  ops-named command.TakeSiblings i d at_i at_d = siblings-below (siblings_of b i) i (source_of b i) (siblings-within b i) at_i
+  ops-named command.TakeMaster i d at_i at_d = swapped i (source_of b i) (source_above b i) at_i (source-within b i is at_i)
   ops-named command.DetachReplica i d at_i at_d = let hi = below-test i.0 (length b.names) at_i in simp (hi) refl
   ops-named command.ReattachReplica i d at_i at_d = let hi = below-test i.0 (length b.names) at_i in simp (hi) refl
   ops-named command.ResetReplica i d at_i at_d = let hi = below-test i.0 (length b.names) at_i in simp (hi) refl
@@ -87,46 +86,36 @@ module _ (w : World) (b : Known) (is : IsBook b) where
   in-named command None at_i at_d = refl
   in-named command (Some c) at_i at_d = about-named c command.i command.d at_i at_d
 
-given-within : (b : Known) (o : Option ServerNo) → IsTrue (is_within (length b.names) o) → Within b o
-given-within b None h = tt
-given-within b (Some n) h = grind (arith, nat_tests)
-
-pub plan-named : (w : World) (b : Known) (command : Command) → IsBook b → IsTrue (is_within (length b.names) command.i) → IsTrue (is_within (length b.names) command.d)
+pub plan-named : (w : World) (b : BookState) (command : Command) → IsBook b → IsTrue (is_within (length b.names) command.i) → IsTrue (is_within (length b.names) command.d)
     → are_named (length b.names) (plan_of w b command) ≡ true
 plan-named w b command is at_i at_d = in-named w b is command (coords_command command.name) (given-within b command.i at_i) (given-within b command.d at_d)
 
 -- ---- leases
 
-abbrev AllWithin : Known → List ServerNo → Type 0
-AllWithin b list = All (λ n. n.0 < length b.names) list
+list-within : (b : BookState) → IsBook b → (c : CoordsCommand) (i : ServerNo) (d : Option ServerNo) → i.0 < length b.names → Within b d → AllWithin b (list_of b c i d)
+list-within b is command.MoveUp i d at_i at_d = cons-within b i (option_to_list (source_of b i)) at_i (option-within b (source_of b i) (source-within b i is at_i))
+list-within b is command.MoveUpReplicas i d at_i at_d = cons-within b i (replicas_of b i) at_i (replicas-within b i)
+list-within b is command.MoveBelow i d at_i at_d = cons-within b i (option_to_list d) at_i (option-within b d at_d)
+list-within b is command.Repoint i d at_i at_d = cons-within b i [] at_i (none-within b)
+list-within b is command.TakeSiblings i d at_i at_d = cons-within b i (siblings_of b i) at_i (siblings-within b i)
+list-within b is command.TakeMaster i d at_i at_d = cons-within b i (option_to_list (source_of b i)) at_i (option-within b (source_of b i) (source-within b i is at_i))
+list-within b is command.DetachReplica i d at_i at_d = cons-within b i [] at_i (none-within b)
+list-within b is command.ReattachReplica i d at_i at_d = cons-within b i [] at_i (none-within b)
+list-within b is command.ResetReplica i d at_i at_d = cons-within b i [] at_i (none-within b)
+list-within b is command.StartReplica i d at_i at_d = cons-within b i [] at_i (none-within b)
+list-within b is command.StopReplica i d at_i at_d = cons-within b i [] at_i (none-within b)
+list-within b is command.RestartReplica i d at_i at_d = cons-within b i [] at_i (none-within b)
+list-within b is command.SetReadOnly i d at_i at_d = cons-within b i [] at_i (none-within b)
+list-within b is command.SetWriteable i d at_i at_d = cons-within b i [] at_i (none-within b)
 
-listed-with : (b : Known) (i : ServerNo) (o : Option ServerNo) → i.0 < length b.names → Within b o → AllWithin b (i ∷ option_to_list o)
-listed-with b i None at_i at_o = All-cons (λ (n : ServerNo). n.0 < length b.names) i [] at_i (All-nil (λ (n : ServerNo). n.0 < length b.names))
-listed-with b i (Some x) at_i at_o =
-    All-cons (λ (n : ServerNo). n.0 < length b.names) i (x ∷ []) at_i
-    (All-cons (λ (n : ServerNo). n.0 < length b.names) x [] at_o (All-nil (λ (n : ServerNo). n.0 < length b.names)))
-
-list-within : (b : Known) → IsBook b → (c : CoordsCommand) (i : ServerNo) (d : Option ServerNo) → i.0 < length b.names → Within b d → AllWithin b (list_of b c i d)
-list-within b is command.MoveUp i d at_i at_d = listed-with b i (source_of b i) at_i (source-within b i is at_i)
-list-within b is command.MoveBelow i d at_i at_d = listed-with b i d at_i at_d
-list-within b is command.Repoint i d at_i at_d = listed-with b i None at_i tt
-list-within b is command.DetachReplica i d at_i at_d = listed-with b i None at_i tt
-list-within b is command.ReattachReplica i d at_i at_d = listed-with b i None at_i tt
-list-within b is command.ResetReplica i d at_i at_d = listed-with b i None at_i tt
-list-within b is command.StartReplica i d at_i at_d = listed-with b i None at_i tt
-list-within b is command.StopReplica i d at_i at_d = listed-with b i None at_i tt
-list-within b is command.RestartReplica i d at_i at_d = listed-with b i None at_i tt
-list-within b is command.SetReadOnly i d at_i at_d = listed-with b i None at_i tt
-list-within b is command.SetWriteable i d at_i at_d = listed-with b i None at_i tt
-
-about-within : (b : Known) → IsBook b → (c : CoordsCommand) (i d : Option ServerNo) → Within b i → Within b d → AllWithin b (leased_about b c i d)
-about-within b is c None d at_i at_d = All-nil (λ (n : ServerNo). n.0 < length b.names)
+about-within : (b : BookState) → IsBook b → (c : CoordsCommand) (i d : Option ServerNo) → Within b i → Within b d → AllWithin b (leased_about b c i d)
+about-within b is c None d at_i at_d = none-within b
 about-within b is c (Some i) d at_i at_d = list-within b is c i d at_i at_d
 
-in-within : (b : Known) → IsBook b → (command : Command) (c : Option CoordsCommand) → Within b command.i → Within b command.d → AllWithin b (leased_in b command c)
-in-within b is command None at_i at_d = All-nil (λ (n : ServerNo). n.0 < length b.names)
+in-within : (b : BookState) → IsBook b → (command : Command) (c : Option CoordsCommand) → Within b command.i → Within b command.d → AllWithin b (leased_in b command c)
+in-within b is command None at_i at_d = none-within b
 in-within b is command (Some c) at_i at_d = about-within b is c command.i command.d at_i at_d
 
-pub leases-within : (b : Known) (command : Command) → IsBook b → IsTrue (is_within (length b.names) command.i) → IsTrue (is_within (length b.names) command.d)
+pub leases-within : (b : BookState) (command : Command) → IsBook b → IsTrue (is_within (length b.names) command.i) → IsTrue (is_within (length b.names) command.d)
     → All (λ n. n.0 < length b.names) (leased_by b command)
 leases-within b command is at_i at_d = in-within b is command (coords_command command.name) (given-within b command.i at_i) (given-within b command.d at_d)

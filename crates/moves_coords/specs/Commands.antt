@@ -1,18 +1,18 @@
--- The commands that move or change one server by coordinates.
+-- The commands that move or change servers by coordinates.
 use Rattle.std.specs.Prelude.{Option, Some, None}
 use Rattle.commands.specs.declared.name.CommandName.{CommandName}
 use Rattle.commands.specs.declared.name.CommandName.TheVariants as name
 use Rattle.moves_coords.specs.declared.command.CoordsCommand.{CoordsCommand}
-use Rattle.moves_coords.specs.declared.command.CoordsCommand.TheVariants.{MoveUp, MoveBelow, Repoint, DetachReplica, ReattachReplica, ResetReplica, StartReplica, StopReplica, RestartReplica, SetReadOnly, SetWriteable}
+use Rattle.moves_coords.specs.declared.command.CoordsCommand.TheVariants.{MoveUp, MoveUpReplicas, MoveBelow, Repoint, TakeSiblings, TakeMaster, DetachReplica, ReattachReplica, ResetReplica, StartReplica, StopReplica, RestartReplica, SetReadOnly, SetWriteable}
 
 -- which of them a command is; none of any other command
 abbrev pub coords_command : CommandName → Option CoordsCommand
 coords_command name.MoveUp = Some MoveUp
-coords_command name.MoveUpReplicas = None
+coords_command name.MoveUpReplicas = Some MoveUpReplicas
 coords_command name.MoveBelow = Some MoveBelow
 coords_command name.Repoint = Some Repoint
-coords_command name.TakeSiblings = None
-coords_command name.TakeMaster = None
+coords_command name.TakeSiblings = Some TakeSiblings
+coords_command name.TakeMaster = Some TakeMaster
 coords_command name.MoveGtid = None
 coords_command name.MoveReplicasGtid = None
 coords_command name.EnableGtid = None

@@ -4,11 +4,14 @@ use Rattle.std.specs.Option.{option_or}
 use Rattle.orch_base.specs.declared.server.ServerNo.{ServerNo}
 use Rattle.commands.specs.declared.line.Line.TheVariants.{Follows, Server}
 use Rattle.commands.specs.declared.turn.Command.{Command}
-use Rattle.instance_keeper.specs.Book.{Known}
+use Rattle.instance_keeper.specs.Book.{BookState}
 use Rattle.operations.specs.declared.op.Op.{Op}
 use Rattle.operations.specs.declared.op.Op.TheVariants as op
-use Rattle.operations.specs.Plans.{again, asking, auto, finished, under, up}
+use Rattle.operations.specs.Plans.{again, asking, auto, finished, swap, under, up}
+use Rattle.plan_parts.specs.Parts.{following, unders, ups}
+use Rattle.book_views.specs.Sources.{replicas_of}
 use Rattle.server_model.specs.Worlds.{World}
+use Rattle.permission.specs.Replicas.{siblings_of}
 use Rattle.permission.specs.Views.{source_above, source_of}
 use Rattle.moves_coords.specs.declared.command.CoordsCommand.{CoordsCommand}
 use Rattle.moves_coords.specs.declared.command.CoordsCommand.TheVariants as command
@@ -20,6 +23,11 @@ abbrev pub moved_up : ServerNo → Option ServerNo → Option ServerNo → List 
 moved_up i None g = []
 moved_up i (Some x) None = []
 moved_up i (Some x) (Some g) = finished (up i x g) (Follows i g ∷ [])
+
+-- replicas of i, which is below x, go to x
+abbrev pub replicas_moved_up : List ServerNo → ServerNo → Option ServerNo → List Op
+replicas_moved_up replicas i None = []
+replicas_moved_up replicas i (Some x) = finished (ups replicas i x) (following replicas x)
 
 -- i, which is below x, goes below d
 abbrev pub moved_below : ServerNo → Option ServerNo → Option ServerNo → List Op
@@ -41,6 +49,17 @@ abbrev pub repointed_by : Bool → ServerNo → Option ServerNo → Option Serve
 repointed_by true i d x = repointed_auto i (option_or d x)
 repointed_by false i d x = repointed i x
 
+-- siblings of i, which is below x, go below i
+abbrev pub siblings_taken : List ServerNo → ServerNo → Option ServerNo → List Op
+siblings_taken siblings i None = []
+siblings_taken siblings i (Some x) = finished (unders siblings i x) (following siblings i)
+
+-- i, which is below x, and x change places under x's source g
+abbrev pub master_taken : ServerNo → Option ServerNo → Option ServerNo → List Op
+master_taken i None g = []
+master_taken i (Some x) None = []
+master_taken i (Some x) (Some g) = finished (swap i x g) (Follows i g ∷ Follows x i ∷ [])
+
 -- one operation of i, and its name at the end
 abbrev pub asked : Op → ServerNo → List Op
 asked one i = finished (asking one i) (Server i ∷ [])
@@ -50,10 +69,13 @@ abbrev pub asked_started : Op → ServerNo → List Op
 asked_started first i = finished (first ∷ asking (op.Start i) i) (Server i ∷ [])
 
 -- a command's operations, by the instance and the destination that is given
-abbrev pub ops_of : World → Known → CoordsCommand → ServerNo → Option ServerNo → List Op
+abbrev pub ops_of : World → BookState → CoordsCommand → ServerNo → Option ServerNo → List Op
 ops_of w b command.MoveUp i d = moved_up i (source_of b i) (source_above b i)
+ops_of w b command.MoveUpReplicas i d = replicas_moved_up (replicas_of b i) i (source_of b i)
 ops_of w b command.MoveBelow i d = moved_below i d (source_of b i)
 ops_of w b command.Repoint i d = repointed_by (by_gtids w b i) i d (source_of b i)
+ops_of w b command.TakeSiblings i d = siblings_taken (siblings_of b i) i (source_of b i)
+ops_of w b command.TakeMaster i d = master_taken i (source_of b i) (source_above b i)
 ops_of w b command.DetachReplica i d = asked (op.Detach i) i
 ops_of w b command.ReattachReplica i d = asked_started (op.Reattach i) i
 ops_of w b command.ResetReplica i d = asked (op.Reset i) i
@@ -63,14 +85,14 @@ ops_of w b command.RestartReplica i d = asked_started (op.Stop i) i
 ops_of w b command.SetReadOnly i d = asked (op.ReadOnly i true) i
 ops_of w b command.SetWriteable i d = asked (op.ReadOnly i false) i
 
-abbrev pub plan_about : World → Known → CoordsCommand → Option ServerNo → Option ServerNo → List Op
+abbrev pub plan_about : World → BookState → CoordsCommand → Option ServerNo → Option ServerNo → List Op
 plan_about w b c None d = []
 plan_about w b c (Some i) d = ops_of w b c i d
 
-abbrev pub plan_in : World → Known → Command → Option CoordsCommand → List Op
+abbrev pub plan_in : World → BookState → Command → Option CoordsCommand → List Op
 plan_in w b given None = []
 plan_in w b given (Some c) = plan_about w b c given.i given.d
 
 -- the operations of one of these commands, where nothing refuses it
-abbrev pub plan_of : World → Known → Command → List Op
+abbrev pub plan_of : World → BookState → Command → List Op
 plan_of w b given = plan_in w b given (coords_command given.name)

@@ -5,16 +5,21 @@ ghost use Rattle.moves_coords.specs.Commands.{coords_command};
 
 use commands::CommandName;
 
-/// A command that moves or changes one server by coordinates (orchestrator's documentation, "Executing via command
-/// line").
+/// A command that moves or changes servers by coordinates (orchestrator's documentation, "Executing via command line").
 #[derive(Clone, Copy, Debug, PartialEq, Eq)]
 pub enum CoordsCommand {
     /// `move-up`: a replica goes up, to its source's source.
     MoveUp,
+    /// `move-up-replicas`: the replicas of a server go up, to its source.
+    MoveUpReplicas,
     /// `move-below`: a replica goes below its sibling.
     MoveBelow,
     /// `repoint`: a replica is pointed at a source anew, by GTIDs where they are used and it finds its place by them.
     Repoint,
+    /// `take-siblings`: the siblings of a replica go below it.
+    TakeSiblings,
+    /// `take-master`: a replica and its source change places.
+    TakeMaster,
     /// `detach-replica`: a replica is detached from its source.
     DetachReplica,
     /// `reattach-replica`: a detached replica goes back to its source.
@@ -39,8 +44,11 @@ pub fn coords_command(name: CommandName) -> Option<CoordsCommand>
 {
     match name {
         CommandName::MoveUp => Some(CoordsCommand::MoveUp),
+        CommandName::MoveUpReplicas => Some(CoordsCommand::MoveUpReplicas),
         CommandName::MoveBelow => Some(CoordsCommand::MoveBelow),
         CommandName::Repoint => Some(CoordsCommand::Repoint),
+        CommandName::TakeSiblings => Some(CoordsCommand::TakeSiblings),
+        CommandName::TakeMaster => Some(CoordsCommand::TakeMaster),
         CommandName::DetachReplica => Some(CoordsCommand::DetachReplica),
         CommandName::ReattachReplica => Some(CoordsCommand::ReattachReplica),
         CommandName::ResetReplica => Some(CoordsCommand::ResetReplica),
@@ -49,10 +57,7 @@ pub fn coords_command(name: CommandName) -> Option<CoordsCommand>
         CommandName::RestartReplica => Some(CoordsCommand::RestartReplica),
         CommandName::SetReadOnly => Some(CoordsCommand::SetReadOnly),
         CommandName::SetWriteable => Some(CoordsCommand::SetWriteable),
-        CommandName::MoveUpReplicas
-        | CommandName::TakeSiblings
-        | CommandName::TakeMaster
-        | CommandName::MoveGtid
+        CommandName::MoveGtid
         | CommandName::MoveReplicasGtid
         | CommandName::EnableGtid
         | CommandName::DisableGtid

@@ -1,4 +1,4 @@
-//! The commands that move or change one server by coordinates: what refuses each, and its plan.
+//! The commands that move or change servers by coordinates: what refuses each, and its plan.
 #![tactic(auto)]
 
 mod command;

@@ -1,21 +1,22 @@
 //! What refuses the commands.
 
 ghost use Rattle.std.specs.Prelude.{◌≡◌, ◌<◌, All, IfOk, IsSome, IsTrue, length};
-ghost use Rattle.std.specs.Option.{option_to_list};
 ghost use Rattle.orch_base.specs.Gives.{Gives};
 ghost use Rattle.book_views.specs.Forests.{book_forest};
 ghost use Rattle.commands.specs.Turns.{is_within};
 ghost use Rattle.permission.specs.Checks.{permit_fault, permitted};
 ghost use Rattle.moves_coords.specs.Commands.{coords_command};
-ghost use Rattle.moves_coords.specs.Permits.{by_gtids, case_of, case_with, leased_by, list_of, partners_of, refusal_of, row_of, target_of};
+ghost use Rattle.moves_coords.specs.Permits.{by_gtids, case_of, in_order, is_first, leased_by, list_of, moves_of, partners_of, refusal_of, row_of, sources_of, swap_moves, target_of};
 
 use crate::command::{CoordsCommand, coords_command};
 use crate::{Memory, PermitFault};
+use book_views::replicas;
 use commands::{Command, Refusal};
 use instance_keeper::Book;
 use orch_base::{Moment, ServerNo};
 use permission::{
-    Case, Check, answered, first_refusal, is_auto, moves_to, source, source_above, unknown_in,
+    Case, Check, Move, answered, first_refusal, is_auto, is_before, moves_to, one_or_none,
+    siblings, source, source_above, unknown_in,
 };
 use server_model::World;
 use std::alloc::Global;
@@ -27,6 +28,15 @@ const MOVE_UP: [Check; 7] = [
     Check::NoSource,
     Check::AlreadyDetached,
     Check::SourceHasNoSource,
+    Check::SameServerId,
+    Check::VersionLower,
+];
+
+const MOVE_UP_REPLICAS: [Check; 6] = [
+    Check::Busy,
+    Check::Unreachable,
+    Check::NoSource,
+    Check::AlreadyDetached,
     Check::SameServerId,
     Check::VersionLower,
 ];
@@ -68,6 +78,27 @@ const REPOINT_BY_GTIDS: [Check; 11] = [
     Check::Errant,
 ];
 
+const TAKE_SIBLINGS: [Check; 7] = [
+    Check::Busy,
+    Check::Unreachable,
+    Check::NoSource,
+    Check::AlreadyDetached,
+    Check::DestNotLogging,
+    Check::SameServerId,
+    Check::VersionLower,
+];
+
+const TAKE_MASTER: [Check; 8] = [
+    Check::Busy,
+    Check::Unreachable,
+    Check::NoSource,
+    Check::AlreadyDetached,
+    Check::SourceHasNoSource,
+    Check::DestNotLogging,
+    Check::SameServerId,
+    Check::VersionLower,
+];
+
 const ATTACHED: [Check; 4] = [
     Check::Busy,
     Check::Unreachable,
@@ -99,6 +130,7 @@ fn row_of(by_gtids: bool, command: CoordsCommand) -> &'static [Check]
 {
     match command {
         CoordsCommand::MoveUp => &MOVE_UP,
+        CoordsCommand::MoveUpReplicas => &MOVE_UP_REPLICAS,
         CoordsCommand::MoveBelow => &MOVE_BELOW,
         CoordsCommand::Repoint => {
             if by_gtids {
@@ -107,6 +139,8 @@ fn row_of(by_gtids: bool, command: CoordsCommand) -> &'static [Check]
                 &REPOINT
             }
         }
+        CoordsCommand::TakeSiblings => &TAKE_SIBLINGS,
+        CoordsCommand::TakeMaster => &TAKE_MASTER,
         CoordsCommand::ReattachReplica => &DETACHED,
         CoordsCommand::ResetReplica => &WITH_SOURCE,
         CoordsCommand::SetReadOnly | CoordsCommand::SetWriteable => &REACHED,
@@ -117,7 +151,7 @@ fn row_of(by_gtids: bool, command: CoordsCommand) -> &'static [Check]
     }
 }
 
-// The new source of the instance.
+// The new source: of the instance, of its replicas, or of its siblings.
 fn target_of(
     book: &Book,
     command: CoordsCommand,
@@ -127,9 +161,11 @@ fn target_of(
     ensures { result ≡ target_of book.now command i d }
 {
     match command {
-        CoordsCommand::MoveUp => source_above(book, i),
+        CoordsCommand::MoveUp | CoordsCommand::TakeMaster => source_above(book, i),
+        CoordsCommand::MoveUpReplicas => source(book, i),
         CoordsCommand::MoveBelow => d,
         CoordsCommand::Repoint => d.or(source(book, i)),
+        CoordsCommand::TakeSiblings => Some(i),
         CoordsCommand::DetachReplica
         | CoordsCommand::ReattachReplica
         | CoordsCommand::ResetReplica
@@ -139,16 +175,6 @@ fn target_of(
         | CoordsCommand::SetReadOnly
         | CoordsCommand::SetWriteable => None,
     }
-}
-
-fn one_or_none(alloc: Global, no: Option<ServerNo>) -> Result<Vec<ServerNo>, Memory>
-    ensures { IfOk result (λ list. list.items ≡ option_to_list no) }
-{
-    let mut list = Vec::new(alloc);
-    if let Some(no) = no {
-        list.push(no)?;
-    }
-    Ok(list)
 }
 
 // The servers beside the instance of which the job takes the leases.
@@ -162,8 +188,10 @@ fn partners_of(
     ensures { IfOk result (λ list. list.items ≡ partners_of book.now command i d) }
 {
     match command {
-        CoordsCommand::MoveUp => one_or_none(alloc, source(book, i)),
+        CoordsCommand::MoveUp | CoordsCommand::TakeMaster => one_or_none(alloc, source(book, i)),
+        CoordsCommand::MoveUpReplicas => replicas(alloc, book, i),
         CoordsCommand::MoveBelow => one_or_none(alloc, d),
+        CoordsCommand::TakeSiblings => siblings(alloc, book, i),
         CoordsCommand::Repoint
         | CoordsCommand::DetachReplica
         | CoordsCommand::ReattachReplica
@@ -192,6 +220,100 @@ fn list_of(
     Ok(list)
 }
 
+fn in_order(is_first: bool, ms: Vec<Move>, ns: Vec<Move>) -> Result<Vec<Move>, Memory>
+    ensures { IfOk result (λ moves. moves.items ≡ in_order is_first ms.items ns.items) }
+{
+    let (mut first, mut last) = if is_first { (ms, ns) } else { (ns, ms) };
+    first.append(&mut last)?;
+    Ok(first)
+}
+
+fn is_first(book: &Book, i: ServerNo, x: Option<ServerNo>) -> bool
+    ensures { result ≡ is_first book.now i x }
+{
+    match x {
+        Some(x) => is_before(book, i, x),
+        None => true,
+    }
+}
+
+// An instance goes to its source's source, and its source below it.
+fn swap_moves(
+    alloc: Global,
+    book: &Book,
+    i: ServerNo,
+    x: Option<ServerNo>,
+    g: Option<ServerNo>,
+) -> Result<Vec<Move>, Memory>
+    ensures { IfOk result (λ moves. moves.items ≡ swap_moves book.now i x g) }
+{
+    let up = moves_to(alloc, &[i], g)?;
+    let down = moves_to(alloc, &one_or_none(alloc, x)?, Some(i))?;
+    in_order(is_first(book, i, x), up, down)
+}
+
+// Which servers move to which source, by name.
+fn moves_of(
+    alloc: Global,
+    book: &Book,
+    command: CoordsCommand,
+    i: ServerNo,
+    d: Option<ServerNo>,
+) -> Result<Vec<Move>, Memory>
+    ensures { IfOk result (λ moves. moves.items ≡ moves_of book.now command i d) }
+{
+    let to = target_of(book, command, i, d);
+    match command {
+        CoordsCommand::MoveUp | CoordsCommand::MoveBelow | CoordsCommand::Repoint => {
+            moves_to(alloc, &[i], to)
+        }
+        CoordsCommand::MoveUpReplicas => moves_to(alloc, &replicas(alloc, book, i)?, to),
+        CoordsCommand::TakeSiblings => moves_to(alloc, &siblings(alloc, book, i)?, to),
+        CoordsCommand::TakeMaster => swap_moves(alloc, book, i, source(book, i), to),
+        CoordsCommand::DetachReplica
+        | CoordsCommand::ReattachReplica
+        | CoordsCommand::ResetReplica
+        | CoordsCommand::StartReplica
+        | CoordsCommand::StopReplica
+        | CoordsCommand::RestartReplica
+        | CoordsCommand::SetReadOnly
+        | CoordsCommand::SetWriteable => Ok(Vec::new(alloc)),
+    }
+}
+
+// The servers below which others come, which must log.
+fn sources_of(
+    alloc: Global,
+    book: &Book,
+    command: CoordsCommand,
+    i: ServerNo,
+    d: Option<ServerNo>,
+) -> Result<Vec<ServerNo>, Memory>
+    ensures { IfOk result (λ list. list.items ≡ sources_of book.now command i d) }
+{
+    let mut above = one_or_none(alloc, target_of(book, command, i, d))?;
+    match command {
+        CoordsCommand::TakeMaster => {
+            let mut sources = one_or_none(alloc, Some(i))?;
+            sources.append(&mut above)?;
+            Ok(sources)
+        }
+        CoordsCommand::MoveUp
+        | CoordsCommand::MoveUpReplicas
+        | CoordsCommand::MoveBelow
+        | CoordsCommand::Repoint
+        | CoordsCommand::TakeSiblings
+        | CoordsCommand::DetachReplica
+        | CoordsCommand::ReattachReplica
+        | CoordsCommand::ResetReplica
+        | CoordsCommand::StartReplica
+        | CoordsCommand::StopReplica
+        | CoordsCommand::RestartReplica
+        | CoordsCommand::SetReadOnly
+        | CoordsCommand::SetWriteable => Ok(above),
+    }
+}
+
 // What the checks are about.
 fn case_of(
     alloc: Global,
@@ -205,8 +327,8 @@ fn case_of(
     let to = target_of(book, command, i, d);
     let leased = list_of(alloc, book, command, i, d)?;
     let reached = list_of(alloc, book, command, i, d)?;
-    let moves = moves_to(alloc, &[i], to)?;
-    let sources = one_or_none(alloc, to)?;
+    let moves = moves_of(alloc, book, command, i, d)?;
+    let sources = sources_of(alloc, book, command, i, d)?;
     Ok(Case::new(i, to, leased, reached, moves, sources))
 }
 

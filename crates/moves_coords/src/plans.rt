@@ -1,40 +1,27 @@
 //! The plans of the commands.
 
-ghost use Rattle.std.specs.Prelude.{◌≡◌, ◌∷◌, [], IfOk, IsSome, IsTrue, length, true};
+ghost use Rattle.std.specs.Prelude.{◌≡◌, IfOk, IsSome, IsTrue, length, true};
 ghost use Rattle.book_views.specs.Forests.{book_forest};
 ghost use Rattle.commands.specs.Turns.{is_within};
 ghost use Rattle.operations.specs.Named.{are_named};
-ghost use Rattle.operations.specs.Plans.{asking, finished};
 ghost use Rattle.moves_coords.specs.Commands.{coords_command};
-ghost use Rattle.moves_coords.specs.Plans.{asked, asked_started, moved_below, moved_up, ops_of, plan_of, repointed, repointed_auto};
+ghost use Rattle.moves_coords.specs.Plans.{asked, asked_started, master_taken, moved_below, moved_up, ops_of, plan_of, replicas_moved_up, repointed, repointed_auto, siblings_taken};
 
 use crate::Memory;
 use crate::command::{CoordsCommand, coords_command};
 use crate::permits::by_gtids;
+use book_views::replicas;
 use commands::{Command, Line, Lines};
 use instance_keeper::Book;
 use operations::Op;
 use orch_base::ServerNo;
-use permission::{source, source_above};
-use plan_parts::{again, asking, auto, finished, restarted, under, up};
+use permission::{siblings, source, source_above};
+use plan_parts::{
+    again, asking, auto, finished, moved, moved_each, restarted, swap, told, under, unders, up, ups,
+};
 use server_model::World;
 use std::alloc::Global;
 use topology_tree::Forest;
-
-fn one_line(alloc: Global, line: Line) -> Result<Lines, Memory>
-    ensures { IfOk result (λ lines. lines ≡ line ∷ []) }
-{
-    let mut lines = Vec::with_capacity(alloc, 1)?;
-    lines.push(line)?;
-    Ok(Lines::new(lines))
-}
-
-// The operations of a move, and its line at the end.
-fn moved(alloc: Global, ops: Vec<Op>, i: ServerNo, source: ServerNo) -> Result<Vec<Op>, Memory>
-    ensures { IfOk result (λ all. all.items ≡ finished ops.items (Line.Follows i source ∷ [])) }
-{
-    finished(ops, one_line(alloc, Line::Follows(i, source))?)
-}
 
 // To the source of its source.
 fn moved_up(
@@ -48,6 +35,21 @@ fn moved_up(
     match (x, g) {
         (Some(x), Some(g)) => moved(alloc, up(alloc, i, x, g)?, i, g),
         (Some(_), None) | (None, _) => Ok(Vec::new(alloc)),
+    }
+}
+
+// The replicas of `i`, to its source.
+fn replicas_moved_up(
+    alloc: Global,
+    replicas: &[ServerNo],
+    i: ServerNo,
+    x: Option<ServerNo>,
+) -> Result<Vec<Op>, Memory>
+    ensures { IfOk result (λ ops. ops.items ≡ replicas_moved_up replicas.now i x) }
+{
+    match x {
+        Some(x) => moved_each(alloc, ups(alloc, replicas, i, x)?, replicas, x),
+        None => Ok(Vec::new(alloc)),
     }
 }
 
@@ -86,18 +88,51 @@ fn repointed_auto(alloc: Global, i: ServerNo, d: Option<ServerNo>) -> Result<Vec
     }
 }
 
+// The siblings of `i`, below it.
+fn siblings_taken(
+    alloc: Global,
+    siblings: &[ServerNo],
+    i: ServerNo,
+    x: Option<ServerNo>,
+) -> Result<Vec<Op>, Memory>
+    ensures { IfOk result (λ ops. ops.items ≡ siblings_taken siblings.now i x) }
+{
+    match x {
+        Some(x) => moved_each(alloc, unders(alloc, siblings, i, x)?, siblings, i),
+        None => Ok(Vec::new(alloc)),
+    }
+}
+
+// To the source of its source, which goes below it.
+fn master_taken(
+    alloc: Global,
+    i: ServerNo,
+    x: Option<ServerNo>,
+    g: Option<ServerNo>,
+) -> Result<Vec<Op>, Memory>
+    ensures { IfOk result (λ ops. ops.items ≡ master_taken i x g) }
+{
+    match (x, g) {
+        (Some(x), Some(g)) => {
+            let lines = vec![in alloc; Line::Follows(i, g), Line::Follows(x, i)]?;
+            finished(swap(alloc, i, x, g)?, Lines::new(lines))
+        }
+        (Some(_), None) | (None, _) => Ok(Vec::new(alloc)),
+    }
+}
+
 // One operation, and the instance's name at the end.
 fn asked(alloc: Global, op: Op, i: ServerNo) -> Result<Vec<Op>, Memory>
     ensures { IfOk result (λ ops. ops.items ≡ asked op i) }
 {
-    finished(asking(alloc, op, i)?, one_line(alloc, Line::Server(i))?)
+    told(alloc, asking(alloc, op, i)?, i)
 }
 
 // One operation before the instance is started.
 fn asked_started(alloc: Global, op: Op, i: ServerNo) -> Result<Vec<Op>, Memory>
     ensures { IfOk result (λ ops. ops.items ≡ asked_started op i) }
 {
-    finished(restarted(alloc, op, i)?, one_line(alloc, Line::Server(i))?)
+    told(alloc, restarted(alloc, op, i)?, i)
 }
 
 fn ops_of(
@@ -113,7 +148,12 @@ fn ops_of(
     let x = source(book, i);
     match command {
         CoordsCommand::MoveUp => moved_up(alloc, i, x, source_above(book, i)),
+        CoordsCommand::MoveUpReplicas => {
+            replicas_moved_up(alloc, &replicas(alloc, book, i)?, i, x)
+        }
         CoordsCommand::MoveBelow => moved_below(alloc, i, d, x),
+        CoordsCommand::TakeSiblings => siblings_taken(alloc, &siblings(alloc, book, i)?, i, x),
+        CoordsCommand::TakeMaster => master_taken(alloc, i, x, source_above(book, i)),
         CoordsCommand::Repoint => {
             if by_gtids(book, world, i) {
                 repointed_auto(alloc, i, d.or(x))
@@ -141,8 +181,8 @@ fn plan_of(alloc: Global, book: &Book, world: &World, command: Command) -> Resul
     }
 }
 
-/// The operations of one of these commands, ended by its lines: `r<s` of a move, else the instance's name. Of a command
-/// that is refused for want of a source there are none. Where its instances are servers of the book, so are all servers
+/// The operations of one of these commands, ended by its lines: `r<s` of each move in order, else the instance's name.
+/// Of a command that is refused for want of a source there are none. Where its instances are servers of the book, so are all servers
 /// of the operations. `Err` is want of memory.
 pub fn plan(
     alloc: Global,

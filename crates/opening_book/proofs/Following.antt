@@ -20,9 +20,9 @@ use Rattle.instance_keeper.specs.declared.row.Change.{Change}
 use Rattle.instance_keeper.specs.declared.row.Change.TheVariants as change
 use Rattle.instance_keeper.specs.declared.row.Table.TheVariants as table
 use Rattle.instance_keeper.specs.declared.row.Key.TheVariants as key
-use Rattle.instance_keeper.specs.Book.{Known, IsBook, row_fits, fits, is_of_book, are_known, servers_of, after_addition, after_put, after_row, after_change, shown_by, book_rows, empty_book}
+use Rattle.instance_keeper.specs.Book.{BookState, IsBook, row_fits, fits, is_of_book, are_known, servers_of, after_addition, after_put, after_row, after_change, shown_by, book_rows, empty_book}
 use Rattle.instance_keeper.specs.Ranges.{IsInRange}
-use Rattle.instance_keeper.specs.Rows.{place, place_of, table_of, row_in, row_after, map_of, changed, changed_by, IsRising}
+use Rattle.instance_keeper.specs.Rows.{sort_key, sort_key_of, table_of, row_in, row_after, map_of, changed, changed_by, IsRising}
 use Rattle.instance_keeper.proofs.BookLaws.{book_change, book_put}
 use Rattle.instance_keeper.proofs.Books.{change_is, empty_is}
 use Rattle.instance_keeper.proofs.Lists.{pairs_head, pairs_tail}
@@ -30,10 +30,10 @@ use Rattle.instance_keeper.proofs.LookUps.{row_in-put, row_in-changed_by, row_in
 use Rattle.opening_book.specs.Counting.{counts, is_in_range, loaded}
 use Rattle.opening_book.specs.Following.{is_for_book, IsKeptFor, Follow}
 
--- the row of a place that passes a test
+-- the row of a sort key that passes a test
 
 abbrev pick : (Row → Bool) → ℕ → Option Row → Row → Option Row
-pick test p kept r = if test r && (place_of r == p) then Some r else kept
+pick test p kept r = if test r && (sort_key_of r == p) then Some r else kept
 
 abbrev picked : (Row → Bool) → ℕ → Option Row → List Row → Option Row
 picked test p kept rows = fold (pick test p) kept rows
@@ -49,30 +49,30 @@ unpicked : (b e : Bool) (r : Row) (kept : Option Row) → e ≡ false → (if b 
 unpicked true e r kept h = rw h refl
 unpicked false e r kept h = refl
 
-picked-above : (test : Row → Bool) (p : ℕ) (kept : Option Row) (rows : List Row) → All (λ x. p < place_of x) rows → picked test p kept rows ≡ kept
+picked-above : (test : Row → Bool) (p : ℕ) (kept : Option Row) (rows : List Row) → All (λ x. p < sort_key_of x) rows → picked test p kept rows ≡ kept
 picked-above test p kept [] all = refl
 picked-above test p kept (r ∷ rows) all =
-    ap (λ (k : Option Row). picked test p k rows) (unpicked (test r) (place_of r == p) r kept (apart p (place_of r) (All-head (λ x. p < place_of x) r rows all)))
-    ∙ picked-above test p kept rows (All-tail (λ x. p < place_of x) r rows all)
+    ap (λ (k : Option Row). picked test p k rows) (unpicked (test r) (sort_key_of r == p) r kept (apart p (sort_key_of r) (All-head (λ x. p < sort_key_of x) r rows all)))
+    ∙ picked-above test p kept rows (All-tail (λ x. p < sort_key_of x) r rows all)
 
 rest_rising : (r : Row) (rows : List Row) → IsRising (r ∷ rows) → IsRising rows
-rest_rising r rows rising = record { apart = pairs_tail (λ a b. place_of a < place_of b) r rows rising.apart }
+rest_rising r rows rising = record { apart = pairs_tail (λ a b. sort_key_of a < sort_key_of b) r rows rising.apart }
 
 is_eq : (a b : ℕ) → (a == b) ≡ true → a ≡ b
 is_eq a b h = grind arith
 
 picked-rising : (test : Row → Bool) (p : ℕ) (rows : List Row) → IsRising rows → picked test p None rows ≡ passing test (row_in rows p)
 picked-rising test p [] rising = refl
-picked-rising test p (r ∷ rows) rising = go (picked-rising test p rows (rest_rising r rows rising)) (place_of r == p) refl (test r) refl
+picked-rising test p (r ∷ rows) rising = go (picked-rising test p rows (rest_rising r rows rising)) (sort_key_of r == p) refl (test r) refl
   where
-    above : All (λ x. place_of r < place_of x) rows
-    above = pairs_head (λ a b. place_of a < place_of b) r rows rising.apart
+    above : All (λ x. sort_key_of r < sort_key_of x) rows
+    above = pairs_head (λ a b. sort_key_of a < sort_key_of b) r rows rising.apart
 
-    go : picked test p None rows ≡ passing test (row_in rows p) → (e : Bool) → (place_of r == p) ≡ e → (b : Bool) → test r ≡ b → picked test p (if b && e then Some r else None) rows ≡ passing test (if e then Some r else row_in rows p)
+    go : picked test p None rows ≡ passing test (row_in rows p) → (e : Bool) → (sort_key_of r == p) ≡ e → (b : Bool) → test r ≡ b → picked test p (if b && e then Some r else None) rows ≡ passing test (if e then Some r else row_in rows p)
     go rest true here true holds =
-        picked-above test p (Some r) rows (subst (λ n. All (λ x. n < place_of x) rows) (is_eq (place_of r) p here) above) ∙ sym (rw holds refl)
+        picked-above test p (Some r) rows (subst (λ n. All (λ x. n < sort_key_of x) rows) (is_eq (sort_key_of r) p here) above) ∙ sym (rw holds refl)
     go rest true here false fails =
-        picked-above test p None rows (subst (λ n. All (λ x. n < place_of x) rows) (is_eq (place_of r) p here) above) ∙ sym (rw fails refl)
+        picked-above test p None rows (subst (λ n. All (λ x. n < sort_key_of x) rows) (is_eq (sort_key_of r) p here) above) ∙ sym (rw fails refl)
     go rest false here true holds = rest
     go rest false here false fails = rest
 
@@ -86,31 +86,31 @@ map_of-rising rows p rising = row_in-map_of rows p ∙ picked-rising (λ r. true
 
 -- the rows of a book that is made of those that count
 
-IsLike : ℕ → Known → Type 0
+IsLike : ℕ → BookState → Type 0
 IsLike count b = IsBook b × (length b.names ≡ count)
 
-names-put : (b : Known) (r : Row) → (after_put b r).names ≡ b.names
+names-put : (b : BookState) (r : Row) → (after_put b r).names ≡ b.names
 names-put b (row.Instance i) = refl
 names-put b (row.Downtime d) = refl
 names-put b (row.Candidate c) = refl
 names-put b (row.Recovery r) = refl
 names-put b (row.Switch enabled) = refl
 
-taken : (count : ℕ) (b : Known) (r : Row) → IsLike count b → row_fits count r ≡ true → IsLike count (after_put b r)
+taken : (count : ℕ) (b : BookState) (r : Row) → IsLike count b → row_fits count r ≡ true → IsLike count (after_put b r)
 unfolding IsLike
 taken count b r like fit =
     let fit' = subst (λ n. row_fits n r ≡ true) (sym like.1) fit in
     (change_is b (change.Put r) like.0 fit', ap length (names-put b r) ∙ like.1)
 
-after_row-fits : (count : ℕ) (b : Known) (r : Row) → IsLike count b → row_fits count r ≡ true → after_row b r ≡ after_put b r
+after_row-fits : (count : ℕ) (b : BookState) (r : Row) → IsLike count b → row_fits count r ≡ true → after_row b r ≡ after_put b r
 unfolding IsLike
 after_row-fits count b r like fit = let fit' = subst (λ n. row_fits n r ≡ true) (sym like.1) fit in rw fit' refl
 
-after_row-not : (count : ℕ) (b : Known) (r : Row) → IsLike count b → row_fits count r ≡ false → after_row b r ≡ b
+after_row-not : (count : ℕ) (b : BookState) (r : Row) → IsLike count b → row_fits count r ≡ false → after_row b r ≡ b
 unfolding IsLike
 after_row-not count b r like fit = let fit' = subst (λ n. row_fits n r ≡ false) (sym like.1) fit in rw fit' refl
 
-row_put : (count : ℕ) (b : Known) (r : Row) (p : ℕ) → IsLike count b → row_fits count r ≡ true → row_in (book_rows (after_put b r)) p ≡ (if place_of r == p then Some r else row_in (book_rows b) p)
+row_put : (count : ℕ) (b : BookState) (r : Row) (p : ℕ) → IsLike count b → row_fits count r ≡ true → row_in (book_rows (after_put b r)) p ≡ (if sort_key_of r == p then Some r else row_in (book_rows b) p)
 unfolding IsLike
 row_put count b r p like fit =
     let fit' = subst (λ n. row_fits n r ≡ true) (sym like.1) fit in
@@ -120,27 +120,27 @@ abbrev both : ℕ → Row → Bool
 both count r = counts count r && row_fits count r
 
 -- taking rows one after another
-made-rows : (count : ℕ) (b : Known) (rows : List Row) (p : ℕ) → IsLike count b
+made-rows : (count : ℕ) (b : BookState) (rows : List Row) (p : ℕ) → IsLike count b
     → IsLike count (fold after_row b (filter (counts count) rows)) × (row_in (book_rows (fold after_row b (filter (counts count) rows))) p ≡ picked (both count) p (row_in (book_rows b) p) rows)
 made-rows count b [] p like = (like, refl)
 made-rows count b (r ∷ rows) p like = go (λ x. made-rows count x rows p) (counts count r) (row_fits count r) refl
   where
-    go : ((x : Known) → IsLike count x → IsLike count (fold after_row x (filter (counts count) rows)) × (row_in (book_rows (fold after_row x (filter (counts count) rows))) p ≡ picked (both count) p (row_in (book_rows x) p) rows))
+    go : ((x : BookState) → IsLike count x → IsLike count (fold after_row x (filter (counts count) rows)) × (row_in (book_rows (fold after_row x (filter (counts count) rows))) p ≡ picked (both count) p (row_in (book_rows x) p) rows))
         → (c f : Bool) → row_fits count r ≡ f
         → IsLike count (fold after_row b (if c then r ∷ filter (counts count) rows else filter (counts count) rows))
-        × (row_in (book_rows (fold after_row b (if c then r ∷ filter (counts count) rows else filter (counts count) rows))) p ≡ picked (both count) p (if (c && f) && (place_of r == p) then Some r else row_in (book_rows b) p) rows)
+        × (row_in (book_rows (fold after_row b (if c then r ∷ filter (counts count) rows else filter (counts count) rows))) p ≡ picked (both count) p (if (c && f) && (sort_key_of r == p) then Some r else row_in (book_rows b) p) rows)
     go more false f fit = more b like
     go more true false fit =
         let same = after_row-not count b r like fit in
         let rest = more b like in (
           subst (λ x. IsLike count (fold after_row x (filter (counts count) rows))) (sym same) rest.0,
-          ap (λ (x : Known). row_in (book_rows (fold after_row x (filter (counts count) rows))) p) same ∙ rest.1,
+          ap (λ (x : BookState). row_in (book_rows (fold after_row x (filter (counts count) rows))) p) same ∙ rest.1,
         )
     go more true true fit =
         let new = after_row-fits count b r like fit in
         let rest = more (after_put b r) (taken count b r like fit) in (
           subst (λ x. IsLike count (fold after_row x (filter (counts count) rows))) (sym new) rest.0,
-          ap (λ (x : Known). row_in (book_rows (fold after_row x (filter (counts count) rows))) p) new ∙ rest.1 ∙ ap (λ (x : Option Row). picked (both count) p x rows) (row_put count b r p like fit),
+          ap (λ (x : BookState). row_in (book_rows (fold after_row x (filter (counts count) rows))) p) new ∙ rest.1 ∙ ap (λ (x : Option Row). picked (both count) p x rows) (row_put count b r p like fit),
         )
 
 -- a row that counts and is of a book's table is one that the book takes
@@ -188,19 +188,19 @@ Follow-loaded settings rows small rising =
     }
 
 kept_changed : (count p : ℕ) (x y : Option Row) (c : Change) → IsKeptFor count x y → IsKeptFor count (row_after p x c) (row_after p y c)
-kept_changed count p x y (change.Put r) h = go (place_of r == p)
+kept_changed count p x y (change.Put r) h = go (sort_key_of r == p)
   where
     go : (e : Bool) → IsKeptFor count (if e then Some r else x) (if e then Some r else y)
     go true = refl
     go false = h
-kept_changed count p x y (change.Remove t k) h = go (place t k == p)
+kept_changed count p x y (change.Remove t k) h = go (sort_key t k == p)
   where
     go : (e : Bool) → IsKeptFor count (if e then None else x) (if e then None else y)
     go true = tt
     go false = h
 
 -- and so they do after a change of both
-pub Follow-changed : (rows : List Row) (b : Known) (c : Change) → Follow rows b → fits (length b.names) c ≡ true → IsInRange c → (after_change b c).names ≡ b.names → Follow (changed_by rows c) (after_change b c)
+pub Follow-changed : (rows : List Row) (b : BookState) (c : Change) → Follow rows b → fits (length b.names) c ≡ true → IsInRange c → (after_change b c).names ≡ b.names → Follow (changed_by rows c) (after_change b c)
 Follow-changed rows b c follow fit range names = record {
   rising = changed_by_rising rows c follow.rising;
   book = change_is b c follow.book fit;
@@ -211,7 +211,7 @@ Follow-changed rows b c follow fit range names = record {
       (kept_changed (length b.names) p (row_in rows p) (row_in (book_rows b) p) c (follow.each p))));
 }
 
-pub names-change : (b : Known) (c : Change) → (after_change b c).names ≡ b.names
+pub names-change : (b : BookState) (c : Change) → (after_change b c).names ≡ b.names
 names-change b (change.Put r) = names-put b r
 names-change b (change.Remove table.Instance (key.Server n)) = refl
 names-change b (change.Remove table.Downtime (key.Server n)) = refl
@@ -229,11 +229,11 @@ names-change b (change.Remove table.Candidate key.Global) = refl
 names-change b (change.Remove table.Recovery key.Global) = refl
 names-change b (change.Remove table.Switch key.Global) = refl
 
-pub Follow-change : (rows : List Row) (b : Known) (c : Change) → Follow rows b → fits (length b.names) c ≡ true → IsInRange c → Follow (changed_by rows c) (after_change b c)
+pub Follow-change : (rows : List Row) (b : BookState) (c : Change) → Follow rows b → fits (length b.names) c ≡ true → IsInRange c → Follow (changed_by rows c) (after_change b c)
 Follow-change rows b c follow fit range = Follow-changed rows b c follow fit range (names-change b c)
 
 -- bridges are no rows
-pub Follow-rings : (rows : List Row) (b : Known) (rings : List (List Bridge)) → length rings ≡ length b.names → Follow rows b → Follow rows (record b { rings = rings })
+pub Follow-rings : (rows : List Row) (b : BookState) (rings : List (List Bridge)) → length rings ≡ length b.names → Follow rows b → Follow rows (record b { rings = rings })
 Follow-rings rows b rings long follow =
     let is = follow.book in
     record {
@@ -258,13 +258,13 @@ pub length-ringed : (rings : List (List Bridge)) (n : ServerNo) (shown : Option 
 length-ringed rings n None = refl
 length-ringed rings n (Some x) = length-set rings n.0 (with_bridge (ring_at rings n) x)
 
-pub Follow-addition : (rows : List Row) (b : Known) (i : Instance) → Follow rows b → fits (length b.names) (change.Put (row.Instance i)) ≡ true → Follow (changed_by rows (change.Put (row.Instance i))) (after_addition b i)
+pub Follow-addition : (rows : List Row) (b : BookState) (i : Instance) → Follow rows b → fits (length b.names) (change.Put (row.Instance i)) ≡ true → Follow (changed_by rows (change.Put (row.Instance i))) (after_addition b i)
 Follow-addition rows b i follow fit =
     Follow-rings (changed_by rows (change.Put (row.Instance i))) (after_put b (row.Instance i)) (ringed b.rings i.no (shown_by i)) (length-ringed b.rings i.no (shown_by i) ∙ follow.book.rings)
     (Follow-change rows b (change.Put (row.Instance i)) follow fit tt)
 
 -- and so they do after a change of the opening
-pub Follow-opening : (rows : List Row) (b : Known) (c : Change) → Follow rows b → fits (length b.names) c ≡ true → IsInRange c → Follow (changed_by rows c) (after_opening b c)
+pub Follow-opening : (rows : List Row) (b : BookState) (c : Change) → Follow rows b → fits (length b.names) c ≡ true → IsInRange c → Follow (changed_by rows c) (after_opening b c)
 Follow-opening rows b (change.Remove t k) follow fit range = Follow-change rows b (change.Remove t k) follow fit range
 Follow-opening rows b (change.Put (row.Instance i)) follow fit range = Follow-addition rows b i follow fit
 Follow-opening rows b (change.Put (row.Downtime d)) follow fit range = Follow-change rows b (change.Put (row.Downtime d)) follow fit range
@@ -272,7 +272,7 @@ Follow-opening rows b (change.Put (row.Candidate c)) follow fit range = Follow-c
 Follow-opening rows b (change.Put (row.Recovery r)) follow fit range = Follow-change rows b (change.Put (row.Recovery r)) follow fit range
 Follow-opening rows b (change.Put (row.Switch enabled)) follow fit range = Follow-change rows b (change.Put (row.Switch enabled)) follow fit range
 
-pub names-opening : (b : Known) (c : Change) → (after_opening b c).names ≡ b.names
+pub names-opening : (b : BookState) (c : Change) → (after_opening b c).names ≡ b.names
 names-opening b (change.Remove t k) = names-change b (change.Remove t k)
 names-opening b (change.Put (row.Instance i)) = refl
 names-opening b (change.Put (row.Downtime d)) = refl
@@ -284,7 +284,7 @@ names-opening b (change.Put (row.Switch enabled)) = refl
 abbrev pub Takes : ℕ → Change → Type 0
 Takes count c = (fits count c ≡ true) × IsInRange c
 
-pub Follow-opened : (rows : List Row) (b : Known) (cs : List Change) → Follow rows b → All (Takes (length b.names)) cs → Follow (changed rows cs) (opened_book b cs)
+pub Follow-opened : (rows : List Row) (b : BookState) (cs : List Change) → Follow rows b → All (Takes (length b.names)) cs → Follow (changed rows cs) (opened_book b cs)
 Follow-opened rows b [] follow all = follow
 Follow-opened rows b (c ∷ cs) follow all =
     let here = All-head (Takes (length b.names)) c cs all in
@@ -299,13 +299,13 @@ put-range : (w : World) (at : Moment) (n : ℕ) (o : Option Server) → IfSome (
 put-range w at n None = tt
 put-range w at n (Some s) = tt
 
-missing-range : (w : World) (at : Moment) (b : Known) (n : ℕ) (known : Bool) → IfSome (missing w at b n known) IsInRange
+missing-range : (w : World) (at : Moment) (b : BookState) (n : ℕ) (known : Bool) → IfSome (missing w at b n known) IsInRange
 missing-range w at b n known = go (known && is_none (slice_index_or b.instances n None))
   where
     go : (lacks : Bool) → IfSome (if lacks then put_instance w at n (server_at w n) else None) IsInRange
     go true = put-range w at n (server_at w n)
     go false = tt
 
-pub missing_from-range : (w : World) (at : Moment) (b : Known) (n : ℕ) (known : List Bool) → All IsInRange (missing_from w at b n known)
+pub missing_from-range : (w : World) (at : Moment) (b : BookState) (n : ℕ) (known : List Bool) → All IsInRange (missing_from w at b n known)
 missing_from-range w at b n [] = All-nil IsInRange
 missing_from-range w at b n (k ∷ ks) = option-range (missing w at b n k) (missing_from w at b (n + 1) ks) (missing-range w at b n k) (missing_from-range w at b (n + 1) ks)

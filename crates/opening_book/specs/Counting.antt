@@ -5,7 +5,7 @@ use Rattle.orch_base.specs.declared.server.Settings.{Settings}
 use Rattle.instance_keeper.specs.declared.row.Row.{Row}
 use Rattle.instance_keeper.specs.declared.row.Row.TheVariants as row
 use Rattle.instance_keeper.specs.Rows.{map_of}
-use Rattle.instance_keeper.specs.Book.{Known, are_known, servers_of, book_made}
+use Rattle.instance_keeper.specs.Book.{BookState, are_known, servers_of, book_made}
 
 -- read numbers and moments are at most this
 abbrev pub greatest : ℕ
@@ -62,5 +62,5 @@ abbrev pub last_read : List Row → ℕ
 last_read rows = fold later_read 0 rows
 
 -- the book of the rows that count
-abbrev pub loaded : List Settings → List Row → Known
+abbrev pub loaded : List Settings → List Row → BookState
 loaded settings rows = book_made settings (counted (length settings) rows)

@@ -1,7 +1,7 @@
 -- Kept rows that follow a book.
 use Rattle.std.specs.Prelude.{◌≡◌, ℕ, ◌&&◌, Bool, false, length, List, Option, None, Some, IfSome}
 use Rattle.instance_keeper.specs.declared.row.Row.{Row}
-use Rattle.instance_keeper.specs.Book.{Known, is_of_book, book_rows, IsBook}
+use Rattle.instance_keeper.specs.Book.{BookState, is_of_book, book_rows, IsBook}
 use Rattle.instance_keeper.specs.Rows.{table_of, row_in, IsRising}
 use Rattle.opening_book.specs.Counting.{counts}
 
@@ -15,7 +15,7 @@ IsKeptFor servers kept (Some r) = kept ≡ Some r
 IsKeptFor servers kept None = IfSome kept (λ r. is_for_book servers r ≡ false)
 
 -- so it is at each table and key
-pub record Follow (rows : List Row) (b : Known) : Type 0 where
+pub record Follow (rows : List Row) (b : BookState) : Type 0 where
   pub rising : IsRising rows
   pub book : IsBook b
   pub each : (p : ℕ) → IsKeptFor (length b.names) (row_in rows p) (row_in (book_rows b) p)

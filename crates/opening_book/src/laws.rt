@@ -4,7 +4,7 @@ ghost use Rattle.std.specs.Prelude.{◌≡◌, ◌<◌, ◌^◌, true, length, L
 ghost use Rattle.orch_base.specs.declared.server.Settings.{Settings};
 ghost use Rattle.instance_keeper.specs.declared.row.Row.{Row};
 ghost use Rattle.instance_keeper.specs.declared.row.Change.{Change};
-ghost use Rattle.instance_keeper.specs.Book.{Known, fits, after_change};
+ghost use Rattle.instance_keeper.specs.Book.{BookState, fits, after_change};
 ghost use Rattle.instance_keeper.specs.Ranges.{IsInRange};
 ghost use Rattle.instance_keeper.specs.Rows.{changed_by, IsRising};
 ghost use Rattle.opening_book.specs.Counting.{loaded};
@@ -16,6 +16,6 @@ ghost use Rattle.opening_book.specs.Opening.{after_opening};
 /// other of its tables only rows that don't count.
 pub fn kept_rows_follow_the_book()
     ensures loaded { (settings : List Settings) (rows : List Row) → length settings < 2 ^ 32 → IsRising rows → Follow rows (loaded settings rows) }
-    ensures changed { (rows : List Row) (b : Known) (c : Change) → Follow rows b → fits (length b.names) c ≡ true → IsInRange c → Follow (changed_by rows c) (after_change b c) }
-    ensures opening { (rows : List Row) (b : Known) (c : Change) → Follow rows b → fits (length b.names) c ≡ true → IsInRange c → Follow (changed_by rows c) (after_opening b c) }
+    ensures changed { (rows : List Row) (b : BookState) (c : Change) → Follow rows b → fits (length b.names) c ≡ true → IsInRange c → Follow (changed_by rows c) (after_change b c) }
+    ensures opening { (rows : List Row) (b : BookState) (c : Change) → Follow rows b → fits (length b.names) c ≡ true → IsInRange c → Follow (changed_by rows c) (after_opening b c) }
 {}

@@ -4,7 +4,6 @@
 mod chain_laws;
 mod code;
 mod failed;
-mod label;
 mod memory;
 mod name;
 mod recovery;
@@ -12,12 +11,12 @@ mod rule;
 mod server;
 mod sink;
 mod source;
+mod text;
 mod threads;
 
 pub use chain_laws::chains_come_to_what_is_found;
 pub use code::Code;
 pub use failed::{Failed, NotRead};
-pub use label::Label;
 pub use memory::{MemSink, MemSource};
 pub use name::{Name, NameFault, printed_reads};
 pub use recovery::{CauseName, Ending, Kind};
@@ -25,5 +24,6 @@ pub use rule::Rule;
 pub use server::{IoState, Moment, ServerNo, Settings, SourceState, Txn, Version};
 pub use sink::{Sink, write_all};
 pub use source::{MAX_SCENARIO_LEN, Source, read_all};
+pub use text::OwnedText;
 /// Want of memory.
 pub use std::alloc::AllocError as Memory;

@@ -1,8 +1,8 @@
 //! Servers by their numbers, and their settings.
 
 use crate::Memory;
-use crate::label::Label;
 use crate::name::Name;
+use crate::text::OwnedText;
 use std::alloc::Global;
 
 /// A server of the scenario by its number, counted from 0 in the scenario's order.
@@ -84,7 +84,7 @@ pub struct Settings {
     pub server_id: u32,
     pub version: Version,
     /// The label of the cluster that the server belongs to: 1 to 261 bytes.
-    pub cluster: Label,
+    pub cluster: OwnedText,
     /// Whether the server writes a binary log, with what it replicates in it.
     pub logs: bool,
     /// The size at which a file of the binary log is full, `max_binlog_size`: 100 to 1,073,741,824 bytes.

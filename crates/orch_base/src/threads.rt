@@ -2,12 +2,12 @@
 
 use crate::code::Code;
 use crate::failed::{Failed, NotRead};
-use crate::label::Label;
 use crate::memory::{MemSink, MemSource};
 use crate::name::{Name, NameFault};
 use crate::recovery::{CauseName, Ending, Kind};
 use crate::rule::Rule;
 use crate::server::{IoState, Moment, ServerNo, Settings, SourceState, Txn, Version};
+use crate::text::OwnedText;
 
 fn crosses_threads<T: Send + Sync>() {}
 
@@ -16,7 +16,7 @@ fn all_cross_threads() {
     crosses_threads::<NameFault>();
     crosses_threads::<Failed>();
     crosses_threads::<NotRead>();
-    crosses_threads::<Label>();
+    crosses_threads::<OwnedText>();
     crosses_threads::<ServerNo>();
     crosses_threads::<Version>();
     crosses_threads::<Moment>();

@@ -16,12 +16,12 @@ use Rattle.orch_core.specs.Runs.{Recorded}
 use Rattle.tasks.specs.declared.asked.Task.{Task}
 use Rattle.tasks.specs.declared.ending.Ending.TheVariants as ends
 use Rattle.tasks.specs.Asked.{task_of}
-use Rattle.tasks.specs.Endings.{Tells}
-use Rattle.tasks.specs.Known.{IsFixed, cut_answer, task_answer}
+use Rattle.tasks.specs.Endings.{IsWhole, Tells, WasCut, course_of}
+use Rattle.tasks.specs.Known.{cut_answer, task_answer}
 use Rattle.tasks.specs.Report.{Answer, answer_of, cut_text}
 use Rattle.tasks.specs.Sinks.{End, FailsIn, Taken, Takes, TakesFront, TakesLine, between}
-use Rattle.tasks.specs.Works.{Comes, Work, turns_in}
-use Rattle.tasks.proofs.Known.{cut_begins, known_rows_fix}
+use Rattle.tasks.specs.Works.{Work}
+use Rattle.tasks.proofs.Known.{cut_begins, cut_is, on_is, whole_is}
 use Rattle.tasks.proofs.Sends.{front_more, front_of_longer, nothing_is_front, rose_later, takes_more, whole_is_front}
 use Rattle.orch_cli.specs.declared.way.Way.{Way}
 use Rattle.orch_cli.specs.declared.way.Way.TheVariants as way
@@ -107,26 +107,26 @@ module _ (c : Call) (rows : List Row) (known : c.kept ≡ Some rows) where
 
   -- ---- texts of the task
 
-  fixed : (w : Work) (us : List Turn) (run : Recorded) → Asks c w → Comes w us run → IsFixed w rows us run
-  fixed w us run asks comes = known_rows_fix w rows us run (asks.old ∙ known) comes
+  answer_is : (w : Work) (run : Recorded) → Asks c w → IsWhole (course_of w) run → answer_of w.task (names_of w.scenario) run ≡ task_answer w.task w.scenario rows
+  answer_is w run asks whole = ap (answer_of w.task (names_of w.scenario)) (whole_is w rows run (asks.old ∙ known) whole).run_is
 
-  answer_is : (w : Work) (run : Recorded) → Asks c w → Comes w (turns_in w) run → answer_of w.task (names_of w.scenario) run ≡ task_answer w.task w.scenario rows
-  answer_is w run asks comes = ap (answer_of w.task (names_of w.scenario)) (fixed w (turns_in w) run asks comes).run_is
+  out_is : (w : Work) (run : Recorded) → Asks c w → IsWhole (course_of w) run → (answer_of w.task (names_of w.scenario) run).out ≡ r.out
+  out_is w run asks whole = ap (λ (a : Answer). a.out) (answer_is w run asks whole) ∙ ap (λ (x : Report). x.out) (sym (of_task w asks))
 
-  out_is : (w : Work) (run : Recorded) → Asks c w → Comes w (turns_in w) run → (answer_of w.task (names_of w.scenario) run).out ≡ r.out
-  out_is w run asks comes = ap (λ (a : Answer). a.out) (answer_is w run asks comes) ∙ ap (λ (x : Report). x.out) (sym (of_task w asks))
-
-  err_is : (w : Work) (run : Recorded) → Asks c w → Comes w (turns_in w) run → (answer_of w.task (names_of w.scenario) run).err ≡ r.err
-  err_is w run asks comes = ap (λ (a : Answer). a.err) (answer_is w run asks comes) ∙ ap (λ (x : Report). x.err) (sym (of_task w asks))
+  err_is : (w : Work) (run : Recorded) → Asks c w → IsWhole (course_of w) run → (answer_of w.task (names_of w.scenario) run).err ≡ r.err
+  err_is w run asks whole = ap (λ (a : Answer). a.err) (answer_is w run asks whole) ∙ ap (λ (x : Report). x.err) (sym (of_task w asks))
 
   -- what is left of a run that was cut begins the report
-  front_of : (w : Work) (k : ℕ) (run : Recorded) → Asks c w → Comes w (take k (turns_in w)) run → TakesFront c.out (cut_text w.task.asked (names_of w.scenario) run) → TakesFront c.out r.out
-  front_of w k run asks comes took =
-      let left = cut_answer w.task w.scenario rows k in
-      let begins = cut_begins w.task w.scenario rows k in
-      let first : TakesFront c.out left = subst (TakesFront c.out) (ap (cut_text w.task.asked (names_of w.scenario)) (fixed w (take k (turns_in w)) run asks comes).run_is) took in
+  front_of : (w : Work) (run : Recorded) → Asks c w → (k : ℕ) × (cut_text w.task.asked (names_of w.scenario) run ≡ cut_answer w.task w.scenario rows k) → TakesFront c.out (cut_text w.task.asked (names_of w.scenario) run) → TakesFront c.out r.out
+  front_of w run asks is took =
+      let left = cut_answer w.task w.scenario rows is.0 in
+      let begins = cut_begins w.task w.scenario rows is.0 in
+      let first : TakesFront c.out left = subst (TakesFront c.out) is.1 took in
       let longer : TakesFront c.out (left ++ begins.rest) = front_of_longer c.out.old.bytes c.out.new.bytes left begins.rest first in
       subst (TakesFront c.out) (sym begins.is ∙ ap (λ (x : Report). x.out) (sym (of_task w asks))) longer
+
+  cut_front : (w : Work) (run : Recorded) → Asks c w → WasCut (course_of w) run → TakesFront c.out (cut_text w.task.asked (names_of w.scenario) run) → TakesFront c.out r.out
+  cut_front w run asks cut took = front_of w run asks (cut_is w rows run (asks.old ∙ known) cut) took
 
   empty_front : Takes c.out [] → TakesFront c.out r.out
   empty_front took = nothing_is_front c.out.old.bytes c.out.new.bytes r.out took
@@ -139,15 +139,15 @@ module _ (c : Call) (rows : List Row) (known : c.kept ≡ Some rows) where
       at : Tells closes.work c.out (between c.err.old closes.mid) ends.Unwritten → TakesFront c.out r.out
       at (inl never) = absurd never
       at (inr (inl fails)) = empty_front fails.on_out
-      at (inr (inr (inl fails))) = subst (TakesFront c.out) (out_is closes.work fails.run closes.asks fails.comes) fails.on_out.front
-      at (inr (inr (inr fails))) = front_of closes.work fails.cut.k fails.run closes.asks fails.cut.comes fails.on_out.front
+      at (inr (inr (inl fails))) = subst (TakesFront c.out) (out_is closes.work fails.run closes.asks fails.whole) fails.on_out.front
+      at (inr (inr (inr fails))) = cut_front closes.work fails.run closes.asks fails.cut fails.on_out.front
 
   keeper_front : Closes c ends.Keeper (codes "keeper fault\n") → TakesFront c.out r.out
   keeper_front closes = at closes.tells
     where
       at : Tells closes.work c.out (between c.err.old closes.mid) ends.Keeper → TakesFront c.out r.out
       at (inl idle) = empty_front idle.on_out
-      at (inr fails) = front_of closes.work fails.cut.k fails.run closes.asks fails.cut.comes (whole_is_front c.out.old.bytes c.out.new.bytes (cut_text closes.work.task.asked (names_of closes.work.scenario) fails.run) fails.on_out)
+      at (inr fails) = cut_front closes.work fails.run closes.asks fails.cut (whole_is_front c.out.old.bytes c.out.new.bytes (cut_text closes.work.task.asked (names_of closes.work.scenario) fails.run) fails.on_out)
 
   memory_front : Idles c (codes "out of memory\n") ⊎ Closes c ends.Memory (codes "out of memory\n") → TakesFront c.out r.out
   memory_front (inl idle) = empty_front idle.out
@@ -155,10 +155,10 @@ module _ (c : Call) (rows : List Row) (known : c.kept ≡ Some rows) where
     where
       at : Tells closes.work c.out (between c.err.old closes.mid) ends.Memory → TakesFront c.out r.out
       at (inl idle) = empty_front idle.on_out
-      at (inr fails) = front_of closes.work fails.k fails.run closes.asks fails.comes fails.on_out
+      at (inr fails) = front_of closes.work fails.run closes.asks (on_is closes.work rows fails.run (closes.asks.old ∙ known) fails.on) fails.on_out
 
   whole_out : (w : Way) → Ends c w → status_of w ≡ r.status → Takes c.out r.out
-  whole_out (way.Reported refused) reports same = subst (Takes c.out) (out_is reports.work reports.written.run reports.asks reports.written.comes) reports.written.on_out
+  whole_out (way.Reported refused) reports same = subst (Takes c.out) (out_is reports.work reports.written.run reports.asks reports.written.whole) reports.written.on_out
   whole_out way.Usage ended same = subst (Takes c.out) (ap (λ (x : Report). x.out) (sym (of_bad ended.0))) ended.1.out
   whole_out way.Fault ended same = subst (Takes c.out) (ap (λ (x : Report). x.out) (sym (of_fault ended.0.0 ended.1.0 ended.0.1 ended.1.1))) ended.1.2.out
   whole_out way.Source ended same = absurd (plain.not_three same)
@@ -194,9 +194,9 @@ module _ (c : Call) (rows : List Row) (known : c.kept ≡ Some rows) where
 
       at : Tells closes.work c.out (between c.err.old closes.mid) ends.Unwritten → TakesBehind r (codes "write fault\n") c.err
       at (inl never) = absurd never
-      at (inr (inl fails)) = from (subst (TakesFront (between c.err.old closes.mid)) (err_is closes.work fails.run closes.asks fails.comes) fails.on_err.front)
+      at (inr (inl fails)) = from (subst (TakesFront (between c.err.old closes.mid)) (err_is closes.work fails.run closes.asks fails.whole) fails.on_err.front)
       at (inr (inr (inl fails))) =
-          from (whole_is_front c.err.old.bytes closes.mid.bytes r.err (subst (Takes (between c.err.old closes.mid)) (err_is closes.work fails.run closes.asks fails.comes) fails.on_err))
+          from (whole_is_front c.err.old.bytes closes.mid.bytes r.err (subst (Takes (between c.err.old closes.mid)) (err_is closes.work fails.run closes.asks fails.whole) fails.on_err))
       at (inr (inr (inr fails))) = from (nothing_is_front c.err.old.bytes closes.mid.bytes r.err fails.on_err)
 
   keeper_line : Closes c ends.Keeper (codes "keeper fault\n") → TakesLine c.err (codes "keeper fault\n")
@@ -215,7 +215,7 @@ module _ (c : Call) (rows : List Row) (known : c.kept ≡ Some rows) where
       at (inr fails) = fails.on_err
 
   reported_err : (w : Way) → IsReported w → Ends c w → Takes c.err r.err
-  reported_err (way.Reported refused) is reports = subst (Takes c.err) (err_is reports.work reports.written.run reports.asks reports.written.comes) reports.written.on_err
+  reported_err (way.Reported refused) is reports = subst (Takes c.err) (err_is reports.work reports.written.run reports.asks reports.written.whole) reports.written.on_err
   reported_err way.Usage is ended = absurd is
   reported_err way.Fault is ended = absurd is
   reported_err way.Source is ended = absurd is
@@ -250,7 +250,7 @@ module _ (c : Call) (rows : List Row) (known : c.kept ≡ Some rows) where
 
   pub ends_as : (w : Way) → Ends c w → EndsAs r (status_of w)
   ends_as (way.Reported refused) reports =
-      inl (refused_of refused (task_answer reports.work.task reports.work.scenario rows).is_refused (reports.written.is_refused ∙ ap (λ (a : Answer). a.is_refused) (answer_is reports.work reports.written.run reports.asks reports.written.comes))
+      inl (refused_of refused (task_answer reports.work.task reports.work.scenario rows).is_refused (reports.written.is_refused ∙ ap (λ (a : Answer). a.is_refused) (answer_is reports.work reports.written.run reports.asks reports.written.whole))
       ∙ ap (λ (x : Report). x.status) (sym (of_task reports.work reports.asks)))
   ends_as way.Usage ended = inl (ap (λ (x : Report). x.status) (sym (of_bad ended.0)))
   ends_as way.Fault ended = inl (ap (λ (x : Report). x.status) (sym (of_fault ended.0.0 ended.1.0 ended.0.1 ended.1.1)))
@@ -261,7 +261,7 @@ module _ (c : Call) (rows : List Row) (known : c.kept ≡ Some rows) where
 
   whole_rows : (w : Way) → Ends c w → status_of w ≡ r.status → c.kept_now ≡ Some r.rows
   whole_rows (way.Reported refused) reports same =
-      sym reports.asks.new ∙ ((fixed reports.work (turns_in reports.work) reports.written.run reports.asks reports.written.comes).rows_are ∙ ap (λ (x : Report). Some x.rows) (sym (of_task reports.work reports.asks)))
+      sym reports.asks.new ∙ ((whole_is reports.work rows reports.written.run (reports.asks.old ∙ known) reports.written.whole).rows_are ∙ ap (λ (x : Report). Some x.rows) (sym (of_task reports.work reports.asks)))
   whole_rows way.Usage ended same = ended.1.kept ∙ (known ∙ ap (λ (x : Report). Some x.rows) (sym (of_bad ended.0)))
   whole_rows way.Fault ended same = ended.1.2.kept ∙ (known ∙ ap (λ (x : Report). Some x.rows) (sym (of_fault ended.0.0 ended.1.0 ended.0.1 ended.1.1)))
   whole_rows way.Source ended same = absurd (plain.not_three same)

@@ -1,34 +1,45 @@
 -- Each run of the turns that words take: its states are safe, and its commands answer by the permission table.
-use Rattle.std.proofs.Common.{◌≡◌, ℕ, List, [], ◌∷◌, ◌++◌, length, Option, Some, None, Ok, ◌∙◌, refl, sym, ap, subst, take}
-use Rattle.std.specs.Prelude.{IfSome, All, true}
+use Rattle.std.proofs.Common.{◌≡◌, ℕ, zero, suc, ◌<◌, Bool, true, false, cond, List, [], ◌∷◌, ◌++◌, length, Option, Some, None, Ok, ◌∙◌, refl, sym, ap, subst, take, inl, inr}
+use Rattle.std.specs.Prelude.{IfSome, All}
+use Rattle.std.proofs.Math.Seq.{take-length}
 use Rattle.std.proofs.lemmas.List.{length-map}
 use Rattle.std.proofs.lemmas.List.Elements.{All-append, All-cons, All-nil, All-take}
 use Rattle.instance_keeper.specs.declared.row.Row.{Row}
 use Rattle.command_line.specs.declared.parts.Places.{Places}
 use Rattle.command_line.specs.Places.{places_of}
 use Rattle.orch_base.specs.Names.{HostPort}
+use Rattle.orch_base.specs.declared.server.ServerNo.{ServerNo}
+use Rattle.name_order.specs.NameOrder.{by_name}
+use Rattle.name_order.proofs.Arranged.{by_name-within}
 use Rattle.scenarios.specs.declared.scenario.Scenario.{Scenario}
 use Rattle.scenarios.specs.Scenarios.{IsScenario, names_of}
 use Rattle.scenarios.specs.Turns.{IsTurn}
 use Rattle.turns.specs.declared.turn.Turn.{Turn}
 use Rattle.turns.specs.declared.turn.Turn.TheVariants as turn
+use Rattle.jobs_in_flight.specs.Jobs.{is_open, most_turns}
 use Rattle.orch_core.specs.Keeping.{Ran}
+use Rattle.orch_core.specs.Rounds.{after_turns, round_of}
+use Rattle.orch_core.proofs.Finishing.{Ran-append, turns-round}
 use Rattle.orch_core.specs.Runs.{Held, LeadsTo, Recorded, engine, held_run, held_step, recorder, record_turn, run_turns, turns_of}
 use Rattle.instance_keeper.specs.Rows.{changed}
 use Rattle.orch_core.specs.Scenarios.{StartsBy, kept_at_start, start, start_changes, without_turns}
 use Rattle.orch_core.specs.States.{State}
-use Rattle.run_laws.proofs.Permissions.{answers_by_table, refused_changes_nothing}
-use Rattle.run_laws.proofs.RunLaws.{Holds, Holds-comes}
+use Rattle.flight_laws.specs.Ready.{Ready}
+use Rattle.run_laws.specs.Runs.{ComesTo}
+use Rattle.run_laws.proofs.Permissions.{answers_by_table, begun_joins, begun_leased, begun_number, refused_changes_nothing}
+use Rattle.run_laws.proofs.RunLaws.{Goes, Goes-comes}
 use Rattle.scenario_reader.proofs.Sound.{scenario_in_sound}
 use Rattle.tasks.specs.declared.asked.Asked.{Asked}
 use Rattle.tasks.specs.declared.asked.Asked.TheVariants as asked
 use Rattle.tasks.specs.declared.asked.Task.{Task}
 use Rattle.tasks.specs.Asked.{IsAsked, IsTaken, asked_of, own_turns, task_of, turns_taken}
+use Rattle.tasks.specs.Closing.{closing, closing_by, own_job, rounds_of, rounds_while}
+use Rattle.tasks.specs.Endings.{IsOn, course_of}
 use Rattle.tasks.specs.Works.{Comes, Work, turns_in}
 use Rattle.tasks.proofs.Courses.{run_state}
 use Rattle.tasks.proofs.Words.{asked_is}
 use Rattle.orch_cli.specs.Ends.{IsTask}
-use Rattle.orch_cli.specs.Runs.{IsSafeRun, ObeysTable}
+use Rattle.orch_cli.specs.Runs.{IsSafeRun, IsSafeState, ObeysTable}
 
 -- ---- the turns
 
@@ -88,20 +99,79 @@ along s wait (Some rows) begun ts run opens leads =
 
 -- ---- laws of each run
 
-holds : (words : List (List ℕ)) (bytes : List ℕ) (w : Work) (k : ℕ) (run : Recorded) → IsTask words bytes w → Comes w (take k (turns_in w)) run → Holds run.state
-holds words bytes w k run is comes =
+-- any turns over the servers
+module _ (w : Work) (ts : List Turn) (kept : Option (List Row)) (run : Recorded) (scenario : IsScenario w.scenario) (all : All (IsTurn (length w.scenario.opening.servers)) ts) (comes : Comes w ts kept run) where
+  found : Along w.scenario w.task.waits ts run.state
+  found = along w.scenario w.task.waits w.old comes.begun ts run comes.opens comes.ran.state
+
+  comes_to : ComesTo w.scenario found.xs run.state
+  comes_to = record {
+    scenario = scenario;
+    wait = w.task.waits;
+    rows = found.rows;
+    turns = subst (All (IsTurn (length w.scenario.opening.servers))) (sym found.turns) all;
+    state = found.state;
+  }
+
+  goes : Goes (length w.scenario.opening.servers) run.state
+  goes = Goes-comes w.scenario found.xs run.state comes_to
+
+  holds : IsSafeState run.state
+  holds = record { placed = goes.held.placed; held = goes.held; sound = goes.sound; safe = λ q. (goes.sound q).safe }
+
+  ready : Ready (length w.scenario.opening.servers) run.state
+  ready = goes.ready
+
+-- the turns of rounds are turns over the servers
+module _ (count : ℕ) where
+  while_turns : (round : List Turn) → All (IsTurn count) round → (n : ℕ) (s : State) (job : ℕ) → All (IsTurn count) (rounds_while round n s job)
+  while_turns round all zero s job = All-nil (IsTurn count)
+  while_turns round all (suc n) s job = go (is_open s.jobs job) (while_turns round all n (after_turns s round) job)
+    where
+      go : (b : Bool) → All (IsTurn count) (rounds_while round n (after_turns s round) job) → All (IsTurn count) (cond b (round ++ rounds_while round n (after_turns s round) job) [])
+      go true later = All-append (IsTurn count) round (rounds_while round n (after_turns s round) job) all later
+      go false later = All-nil (IsTurn count)
+
+  rounds_turns : (s : State) (job : ℕ) → length s.book.names ≡ count → All (IsTurn count) (rounds_of s job)
+  unfolding rounds_of
+  rounds_turns s job counts =
+      while_turns (round_of s job)
+      (turns-round count (by_name s.book.names) job (subst (λ (n : ℕ). All (λ (server : ServerNo). server.0 < n) (by_name s.book.names)) counts (by_name-within s.book.names)))
+      (most_turns s.jobs job) s job
+
+  closing_turns : (a : Asked) (run : Recorded) → length run.state.book.names ≡ count → All (IsTurn count) (closing a run)
+  closing_turns a run counts = go (own_job a run)
+    where
+      go : (o : Option ℕ) → All (IsTurn count) (closing_by o run.state)
+      go None = All-nil (IsTurn count)
+      go (Some job) = rounds_turns run.state job counts
+
+on_holds : (words : List (List ℕ)) (bytes : List ℕ) (w : Work) (run : Recorded) → IsTask words bytes w → IsOn (course_of w) run → IsSafeState run.state
+on_holds words bytes w run is (inl at) =
     let scenario = scenario_in_sound bytes w.scenario is.read in
-    let found = along w.scenario w.task.waits w.old comes.begun (take k (turns_in w)) run comes.opens comes.ran.state in
-    let all : All (IsTurn (length w.scenario.opening.servers)) (turns_of found.xs) = subst (All (IsTurn (length w.scenario.opening.servers))) (sym found.turns) (work_turns words bytes w k is scenario) in
-    Holds-comes w.scenario found.xs run.state (record { scenario = scenario; wait = w.task.waits; rows = found.rows; turns = all; state = found.state })
+    holds w (take at.k (turns_in w)) w.new run scenario (work_turns words bytes w at.k is scenario) at.comes
+on_holds words bytes w run is (inr at) =
+    let scenario = scenario_in_sound bytes w.scenario is.read in
+    let count = length w.scenario.opening.servers in
+    let own : All (IsTurn count) (turns_in w) = subst (All (IsTurn count)) (take-length (turns_in w)) (work_turns words bytes w (length (turns_in w)) is scenario) in
+    let mid = ready w (turns_in w) at.rows at.mid scenario own at.came in
+    let us = take at.k (closing w.task.asked at.mid) in
+    let more : All (IsTurn count) us = All-take (IsTurn count) at.k (closing w.task.asked at.mid) (closing_turns count w.task.asked at.mid mid.names) in
+    holds w (turns_in w ++ us) w.new run scenario (All-append (IsTurn count) (turns_in w) us own more)
+    (record { begun = at.came.begun; opens = at.came.opens; ran = Ran-append recorder (kept_at_start true w.old w.scenario) at.rows w.new (without_turns at.came.begun) at.mid run (turns_in w) us at.came.ran at.ran })
 
 pub safe_run : (words : List (List ℕ)) (left : Option (List ℕ)) → IfSome left (λ bytes. IsSafeRun words bytes)
 safe_run words None = tt
-safe_run words (Some bytes) = λ w k run is comes. let h = holds words bytes w k run is comes in (h.safe, h.placed)
+safe_run words (Some bytes) = λ w run is on. on_holds words bytes w run is on
 
 pub obeys : (words : List (List ℕ)) (left : Option (List ℕ)) → IfSome left (λ bytes. ObeysTable words bytes)
 obeys words None = tt
-obeys words (Some bytes) = λ w k run rows c is comes here. record {
+obeys words (Some bytes) = λ w k kept run rows c is comes here. record {
   answer = answers_by_table run.state c;
   refused = refused_changes_nothing rows run.state c;
+  begun = λ job begins. record {
+    number = begun_number run.state c job begins;
+    joins = begun_joins rows run.state c job begins;
+    leases = begun_leased rows run.state c job begins;
+  };
 }

@@ -1,11 +1,44 @@
 //! The real thing as a source or a sink: any reader or writer of std, with a count of its faults.
 
 ghost use Rattle.std.specs.Prelude.{◌≡◌};
+ghost use Rattle.std.specs.Io.{ReadsAtMost, WritesAtMost};
+ghost use Rattle.std.specs.Io.KnownBytes.{ReadConsumes, WriteAppends};
 
 use orch_base::{Failed, Sink, Source};
 use std::fs::File;
 use std::io::{self, ErrorKind, Read, Write};
 use std::rt::Stdin;
+
+/// A read or a write is made at most so many times where signals interrupt it; the last interruption counts as a fault.
+const TRIES: u32 = 100;
+
+// Reads; what a signal interrupts is tried again.
+fn read_again<R: Read>(reader: &mut R, buf: &mut [u8]) -> io::Result<usize>
+    ensures bound { ReadsAtMost result buf.new }
+    ensures bytes { ReadConsumes (R.remaining reader.old) (R.remaining reader.new) result buf.new }
+{
+    for _ in 1..TRIES {
+        match reader.read(buf) {
+            Err(error) if error.kind() == ErrorKind::Interrupted => {}
+            result => return result,
+        }
+    }
+    reader.read(buf)
+}
+
+// Writes; what a signal interrupts is tried again.
+fn write_again<W: Write>(writer: &mut W, piece: &[u8]) -> io::Result<usize>
+    ensures bound { WritesAtMost result piece.now }
+    ensures bytes { WriteAppends (W.contents writer.old) (W.contents writer.new) result piece.now }
+{
+    for _ in 1..TRIES {
+        match writer.write(piece) {
+            Err(error) if error.kind() == ErrorKind::Interrupted => {}
+            result => return result,
+        }
+    }
+    writer.write(piece)
+}
 
 /// What a scenario is read from.
 #[derive(Drop)]
@@ -47,7 +80,7 @@ impl<R: Read> Source for FileSource<R> {
     ghost faults = { λ s. s.faults };
 
     fn read(&mut self, buf: &mut [u8]) -> Result<usize, Failed> {
-        match self.inner.read(buf) {
+        match read_again(&mut self.inner, buf) {
             Ok(count) => Ok(count),
             Err(_) => {
                 self.faults = self.faults.saturating_add(1);
@@ -78,7 +111,7 @@ impl<W: Write> Sink for StreamSink<W> {
     ghost faults = { λ s. s.faults };
 
     fn write(&mut self, piece: &[u8]) -> Result<usize, Failed> {
-        match self.inner.write(piece) {
+        match write_again(&mut self.inner, piece) {
             Ok(count) if count > 0 || piece.is_empty() => Ok(count),
             _ => {
                 self.faults = self.faults.saturating_add(1);
@@ -109,6 +142,60 @@ mod tests {
 
         fn flush(&mut self) -> io::Result<()> {
             Ok(())
+        }
+    }
+
+    // Reads zeros and takes all, but for so many interruptions first.
+    #[derive(Drop)]
+    struct Interrupted {
+        left: u32,
+    }
+
+    impl Interrupted {
+        fn next_is_interrupted(&mut self) -> bool {
+            let interrupted = self.left > 0;
+            self.left = self.left.saturating_sub(1);
+            interrupted
+        }
+    }
+
+    impl Read for Interrupted {
+        fn read(&mut self, buf: &mut [u8]) -> io::Result<usize> {
+            if self.next_is_interrupted() {
+                return Err(io::Error::from(ErrorKind::Interrupted));
+            }
+            Ok(buf.len())
+        }
+    }
+
+    impl Write for Interrupted {
+        fn write(&mut self, buf: &[u8]) -> io::Result<usize> {
+            if self.next_is_interrupted() {
+                return Err(io::Error::from(ErrorKind::Interrupted));
+            }
+            Ok(buf.len())
+        }
+
+        fn flush(&mut self) -> io::Result<()> {
+            Ok(())
+        }
+    }
+
+    #[test]
+    fn interruptions_are_tried_again(rt: HostRuntime) {
+        let mut buf = [0; 4];
+        for (left, want, faults) in [
+            (0, Some(4), 0),
+            (1, Some(4), 0),
+            (TRIES - 1, Some(4), 0),
+            (TRIES, None, 1),
+        ] {
+            let mut source = FileSource::new(Interrupted { left });
+            assert_eq!(rt; source.read(&mut buf).ok(), want);
+            assert_eq!(rt; source.faults, faults);
+            let mut sink = StreamSink::new(Interrupted { left });
+            assert_eq!(rt; sink.write(b"abcd").ok(), want);
+            assert_eq!(rt; sink.faults, faults);
         }
     }
 

@@ -6,13 +6,17 @@ mod fault;
 mod reading;
 #[cfg(test)]
 mod tests;
+#[cfg(test)]
+mod tests_of_jobs;
+#[cfg(test)]
+mod tests_of_moves;
 mod top;
 mod way;
 
 use command_line::{Usage, places};
 use edge::{FileSource, Input, StreamSink};
 use instance_keeper::MemKeeper;
-use orch_base::{Label, Sink};
+use orch_base::{OwnedText, Sink};
 use std::alloc::Global;
 use std::fs::File;
 use std::process::ExitCode;
@@ -29,7 +33,7 @@ fn words_of(rt: &HostRuntime, alloc: Global) -> io::Result<Vec<Vec<u8>>> {
 }
 
 // What the scenario is read from: standard input, or the file of this path.
-fn input(rt: &HostRuntime, path: Option<Label>) -> Input {
+fn input(rt: &HostRuntime, path: Option<OwnedText>) -> Input {
     let Some(path) = path else {
         return Input::Standard(rt.stdin());
     };

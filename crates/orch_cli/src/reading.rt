@@ -45,7 +45,9 @@ fn scenario_in(alloc: Global, bytes: &[u8]) -> Result<Scenario, Stop>
 pub(crate) fn scenario_from<S: Source>(alloc: Global, source: &mut S) -> Result<Scenario, Stop>
     ensures read { IfSome (S.left source.old) (λ bytes. ReadsAs bytes result) }
     ensures sound { IfOk result IsScenario }
-    ensures consumed { IfOk result (λ _. IfSome (S.left source.old) (λ bytes. Consumes (S.left source.old) (S.left source.new) bytes)) }
+    ensures consumed { IfOk result (λ _.
+        IfSome (S.left source.old) (λ bytes.
+        Consumes (S.left source.old) (S.left source.new) bytes)) }
     ensures source { result ≡ Err Stop.Source → Rose (S.faults source.old) (S.faults source.new) }
 {
     match read_all(alloc, source) {

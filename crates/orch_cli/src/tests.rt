@@ -178,7 +178,7 @@ server r:3306 up ro executed 0 end mysql-bin.000001:4 source m:3306 at mysql-bin
 errant 0
 ";
 
-fn words_of(alloc: Global, texts: &[&str]) -> Result<Vec<Vec<u8>>, Fail> {
+pub(crate) fn words_of(alloc: Global, texts: &[&str]) -> Result<Vec<Vec<u8>>, Fail> {
     let mut words = Vec::new(alloc);
     for text in texts {
         words.push(Vec::from_slice(alloc, text.as_bytes())?)?;
@@ -253,7 +253,7 @@ fn answers(rt: HostRuntime) -> Result<(), Fail> {
 }
 
 // What a call answers: its status, and what out and err took of at most so many bytes.
-fn call(
+pub(crate) fn call(
     alloc: Global,
     words: &[Vec<u8>],
     text: &str,
@@ -614,5 +614,26 @@ fn hostile_rows_stay(rt: HostRuntime) -> Result<(), Fail> {
     assert!(rt; kept[0].is_same(&row(alloc, 0, 41)));
     assert!(rt; kept[1].is_same(&row(alloc, 1, past)));
     assert!(rt; kept[2].is_same(&row(alloc, 2, 7)));
+    Ok(())
+}
+
+#[test]
+fn nothing_is_kept_anew(rt: HostRuntime) -> Result<(), Fail> {
+    let alloc = rt.alloc();
+    // The rows of all servers are kept already, so the keeper is only asked for them, and a second call, which would
+    // fail, never comes.
+    let mut rows = Vec::new(alloc);
+    rows.push(row(alloc, 0, 0))?;
+    rows.push(row(alloc, 1, 0))?;
+    let mut keeper = MemKeeper::new(alloc, rows, vec![in alloc; 2]?)?;
+    let text = Vec::from_slice(alloc, CATCHES_UP.as_bytes())?;
+    let mut source = MemSource::new(text, Vec::new(alloc));
+    let mut out = MemSink::new(alloc, 2000, Vec::new(alloc))?;
+    let mut err = MemSink::new(alloc, 100, Vec::new(alloc))?;
+    let words = words_of(alloc, RUN)?;
+    let result = orch(alloc, &words, &mut source, &mut out, &mut err, &mut keeper);
+    assert_eq!(rt; str::from_utf8(out.written()).ok(), Some(CAUGHT_UP));
+    assert!(rt; err.written().is_empty());
+    assert_eq!(rt; result, 0);
     Ok(())
 }

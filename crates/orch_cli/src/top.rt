@@ -27,7 +27,8 @@ use tasks::{Ending, names_of, task_of, task_report};
 
 /// Writes a line, as far as the sink takes it.
 pub(crate) fn close<E: Sink>(err: &mut E, line: &[u8])
-    ensures took { TakesLine (between (taken (E.written err.old) (E.faults err.old)) (taken (E.written err.new) (E.faults err.new))) line.now }
+    ensures took { TakesLine (between (taken (E.written err.old) (E.faults err.old))
+        (taken (E.written err.new) (E.faults err.new))) line.now }
     ensures later { E.faults err.old ≤ E.faults err.new }
 {
     match write_all(err, line) {
@@ -47,9 +48,16 @@ fn told<O: Sink, E: Sink, K: Keeper>(
 ) -> Ending
     requires words { IsTaken places.now }
     requires scenario { IsScenario scenario.now }
-    ensures tells { Tells (record { task = task_of places.now (names_of scenario.now); scenario = scenario.now; old = K.kept keeper.old; new = K.kept keeper.new })
-        (between (taken (O.written out.old) (O.faults out.old)) (taken (O.written out.new) (O.faults out.new)))
-        (between (taken (E.written err.old) (E.faults err.old)) (taken (E.written err.new) (E.faults err.new))) result }
+    ensures tells { Tells (record {
+      task = task_of places.now (names_of scenario.now);
+      scenario = scenario.now;
+      old = K.kept keeper.old;
+      new = K.kept keeper.new;
+    })
+        (between (taken (O.written out.old) (O.faults out.old))
+        (taken (O.written out.new) (O.faults out.new)))
+        (between (taken (E.written err.old) (E.faults err.old))
+        (taken (E.written err.new) (E.faults err.new))) result }
     ensures cause { HasKeepersCause (K.faults keeper.old) (K.faults keeper.new) result }
     ensures later { E.faults err.old ≤ E.faults err.new }
 {
@@ -73,11 +81,15 @@ fn report<O: Sink, E: Sink, K: Keeper>(
 ) -> Way
     requires words { IsTaken places.now }
     requires scenario { IsScenario scenario.now }
-    ensures ends { (words : List (List ℕ)) (bytes : List ℕ) → places_of words ≡ Ok places.now → scenario_in bytes ≡ Ok scenario.now
+    ensures ends { (words : List (List ℕ)) (bytes : List ℕ) → places_of words ≡ Ok places.now
+        → scenario_in bytes ≡ Ok scenario.now
         → Ends (call words bytes (K.kept keeper.old) (K.kept keeper.new)
-        (between (taken (O.written out.old) (O.faults out.old)) (taken (O.written out.new) (O.faults out.new)))
-        (between (taken (E.written err.old) (E.faults err.old)) (taken (E.written err.new) (E.faults err.new)))) result }
-    ensures sink { result ≡ Way.Sink → Rose (O.faults out.old) (O.faults out.new) ⊎ Rose (E.faults err.old) (E.faults err.new) }
+        (between (taken (O.written out.old) (O.faults out.old))
+        (taken (O.written out.new) (O.faults out.new)))
+        (between (taken (E.written err.old) (E.faults err.old))
+        (taken (E.written err.new) (E.faults err.new)))) result }
+    ensures sink { result ≡ Way.Sink → Rose (O.faults out.old) (O.faults out.new)
+        ⊎ Rose (E.faults err.old) (E.faults err.new) }
     ensures keeper { result ≡ Way.Keeper → Rose (K.faults keeper.old) (K.faults keeper.new) }
     ensures not_source { result ≡ Way.Source → ⊥ }
     ensures not_usage { result ≡ Way.Usage → ⊥ }
@@ -101,8 +113,12 @@ fn report<O: Sink, E: Sink, K: Keeper>(
 
 // Writes the line of a scenario's fault.
 fn close_fault<E: Sink>(alloc: Global, err: &mut E, fault: &Fault) -> Way
-    ensures { ((result ≡ Way.Fault) × TakesLine (between (taken (E.written err.old) (E.faults err.old)) (taken (E.written err.new) (E.faults err.new))) (fault_text fault.now))
-        ⊎ ((result ≡ Way.Memory) × TakesLine (between (taken (E.written err.old) (E.faults err.old)) (taken (E.written err.new) (E.faults err.new))) (codes "out of memory\n")) }
+    ensures { ((result ≡ Way.Fault)
+        × TakesLine (between (taken (E.written err.old) (E.faults err.old))
+        (taken (E.written err.new) (E.faults err.new))) (fault_text fault.now))
+        ⊎ ((result ≡ Way.Memory) × TakesLine
+        (between (taken (E.written err.old) (E.faults err.old))
+        (taken (E.written err.new) (E.faults err.new))) (codes "out of memory\n")) }
 {
     match fault_line(alloc, fault) {
         Ok(line) => {
@@ -126,15 +142,21 @@ fn answer<S: Source, O: Sink, E: Sink, K: Keeper>(
     keeper: &mut K,
 ) -> Way
     requires { IsTaken places.now }
-    ensures ends { (words : List (List ℕ)) → places_of words ≡ Ok places.now → IfSome (S.left source.old) (λ bytes.
+    ensures ends { (words : List (List ℕ)) → places_of words ≡ Ok places.now
+        → IfSome (S.left source.old) (λ bytes.
         Ends (call words bytes (K.kept keeper.old) (K.kept keeper.new)
-        (between (taken (O.written out.old) (O.faults out.old)) (taken (O.written out.new) (O.faults out.new)))
-        (between (taken (E.written err.old) (E.faults err.old)) (taken (E.written err.new) (E.faults err.new)))) result) }
+        (between (taken (O.written out.old) (O.faults out.old))
+        (taken (O.written out.new) (O.faults out.new)))
+        (between (taken (E.written err.old) (E.faults err.old))
+        (taken (E.written err.new) (E.faults err.new)))) result) }
     ensures not_usage { result ≡ Way.Usage → ⊥ }
     ensures source { result ≡ Way.Source → Rose (S.faults source.old) (S.faults source.new) }
-    ensures sink { result ≡ Way.Sink → Rose (O.faults out.old) (O.faults out.new) ⊎ Rose (E.faults err.old) (E.faults err.new) }
+    ensures sink { result ≡ Way.Sink → Rose (O.faults out.old) (O.faults out.new)
+        ⊎ Rose (E.faults err.old) (E.faults err.new) }
     ensures keeper { result ≡ Way.Keeper → Rose (K.faults keeper.old) (K.faults keeper.new) }
-    ensures read { IsReported result → IfSome (S.left source.old) (λ bytes. Consumes (S.left source.old) (S.left source.new) bytes) }
+    ensures read { IsReported result
+        → IfSome (S.left source.old)
+        (λ bytes. Consumes (S.left source.old) (S.left source.new) bytes) }
 {
     match scenario_from(alloc, source) {
         Ok(scenario) => report(alloc, places, &scenario, out, err, keeper),
@@ -175,11 +197,13 @@ pub fn orch<S: Source, O: Sink, E: Sink, K: Keeper>(
 ) -> u8
     // 1 exactly where the words aren't taken, and 2 exactly where they are and the scenario has a fault, but for 3 and 6.
     ensures usage { IsUsage (map (λ w. w.items) words.now) result }
-    ensures fault { IfSome (S.left scenario.old) (λ bytes. FaultsAs (places_of (map (λ w. w.items) words.now)) bytes result) }
+    ensures fault { IfSome (S.left scenario.old)
+        (λ bytes. FaultsAs (places_of (map (λ w. w.items) words.now)) bytes result) }
 
     // 3, 4 and 5 only where a count of faults rose, and 0 and 7 only where the source was read to its end.
     ensures source { result ≡ 3 → Rose (S.faults scenario.old) (S.faults scenario.new) }
-    ensures sink { result ≡ 4 → Rose (O.faults out.old) (O.faults out.new) ⊎ Rose (E.faults err.old) (E.faults err.new) }
+    ensures sink { result ≡ 4 → Rose (O.faults out.old) (O.faults out.new)
+        ⊎ Rose (E.faults err.old) (E.faults err.new) }
     ensures keeper { result ≡ 5 → Rose (K.faults keeper.old) (K.faults keeper.new) }
     ensures read { IfSome (S.left scenario.old) (λ bytes.
         (result ≡ 0) ⊎ (result ≡ 7) → Consumes (S.left scenario.old) (S.left scenario.new) bytes) }
@@ -187,8 +211,10 @@ pub fn orch<S: Source, O: Sink, E: Sink, K: Keeper>(
     // What out and err took and what the keeper has, by the status: exactly, whether the keeper tells its rows or not.
     ensures ends { IfSome (S.left scenario.old) (λ bytes.
         EndsBy (call (map (λ w. w.items) words.now) bytes (K.kept keeper.old) (K.kept keeper.new)
-        (between (taken (O.written out.old) (O.faults out.old)) (taken (O.written out.new) (O.faults out.new)))
-        (between (taken (E.written err.old) (E.faults err.old)) (taken (E.written err.new) (E.faults err.new)))) result) }
+        (between (taken (O.written out.old) (O.faults out.old))
+        (taken (O.written out.new) (O.faults out.new)))
+        (between (taken (E.written err.old) (E.faults err.old))
+        (taken (E.written err.new) (E.faults err.new)))) result) }
 
     // Where the keeper tells its rows, all of it against the report, which is a function of the words, the bytes and the rows: the
     // status, what out and err took, and the rows that are kept.
@@ -196,25 +222,34 @@ pub fn orch<S: Source, O: Sink, E: Sink, K: Keeper>(
         EndsAs (report (map (λ w. w.items) words.now) bytes rows) result)) }
     ensures out { IfSome (S.left scenario.old) (λ bytes. IfSome (K.kept keeper.old) (λ rows.
         WritesOut (report (map (λ w. w.items) words.now) bytes rows) result
-        (between (taken (O.written out.old) (O.faults out.old)) (taken (O.written out.new) (O.faults out.new))))) }
+        (between (taken (O.written out.old) (O.faults out.old))
+        (taken (O.written out.new) (O.faults out.new))))) }
     ensures err { IfSome (S.left scenario.old) (λ bytes. IfSome (K.kept keeper.old) (λ rows.
         WritesErr (report (map (λ w. w.items) words.now) bytes rows) result
-        (between (taken (E.written err.old) (E.faults err.old)) (taken (E.written err.new) (E.faults err.new))))) }
+        (between (taken (E.written err.old) (E.faults err.old))
+        (taken (E.written err.new) (E.faults err.new))))) }
     ensures kept { IfSome (S.left scenario.old) (λ bytes. IfSome (K.kept keeper.old) (λ rows.
-        KeepsRows (report (map (λ w. w.items) words.now) bytes rows) result rows (K.kept keeper.new))) }
+        KeepsRows (report (map (λ w. w.items) words.now) bytes rows) result rows
+        (K.kept keeper.new))) }
 
     // Where no count rose, the whole report of good words and bytes is written, or memory ran out.
     ensures complete { IfSome (S.left scenario.old) (λ bytes.
         IsGood (map (λ w. w.items) words.now) bytes
-        → NoneRose (S.faults scenario.old) (S.faults scenario.new) (K.faults keeper.old) (K.faults keeper.new)
-        (between (taken (O.written out.old) (O.faults out.old)) (taken (O.written out.new) (O.faults out.new)))
-        (between (taken (E.written err.old) (E.faults err.old)) (taken (E.written err.new) (E.faults err.new)))
+        → NoneRose (S.faults scenario.old) (S.faults scenario.new) (K.faults keeper.old)
+        (K.faults keeper.new)
+        (between (taken (O.written out.old) (O.faults out.old))
+        (taken (O.written out.new) (O.faults out.new)))
+        (between (taken (E.written err.old) (E.faults err.old))
+        (taken (E.written err.new) (E.faults err.new)))
         → IsComplete result) }
 
-    // Every quiet state of each run of these turns, of the report's too, is safe, and every state is placed, whatever rows the keeper
-    // hands back; and every command turn of such a run answers by the permission table, a refused one changing nothing.
-    ensures safe { IfSome (S.left scenario.old) (λ bytes. IsSafeRun (map (λ w. w.items) words.now) bytes) }
-    ensures commands { IfSome (S.left scenario.old) (λ bytes. ObeysTable (map (λ w. w.items) words.now) bytes) }
+    // Every state of each run of these turns, of the report's too, is held with its jobs in flight, and every quiet one is sound and
+    // so safe, whatever rows the keeper hands back; and every command turn of such a run answers by the permission table, a refused
+    // one changing nothing.
+    ensures safe { IfSome (S.left scenario.old)
+        (λ bytes. IsSafeRun (map (λ w. w.items) words.now) bytes) }
+    ensures commands { IfSome (S.left scenario.old)
+        (λ bytes. ObeysTable (map (λ w. w.items) words.now) bytes) }
 {
     match places(alloc, words) {
         Ok(places) => answer(alloc, &places, scenario, out, err, keeper).status(),

@@ -3,4 +3,7 @@ pub mod Sources
 pub mod States
 pub mod Runs
 pub mod Starts
+pub mod Beginnings
 pub mod Outcomes
+pub mod Turned
+pub mod Finishing

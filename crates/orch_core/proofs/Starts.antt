@@ -14,7 +14,7 @@ use Rattle.instance_keeper.specs.declared.row.Change.{Change}
 use Rattle.instance_keeper.specs.declared.row.Change.TheVariants as change
 use Rattle.instance_keeper.specs.declared.row.Table.TheVariants as table
 use Rattle.instance_keeper.specs.declared.row.Key.TheVariants as key
-use Rattle.instance_keeper.specs.Book.{Known, are_known, servers_of, source_servers, fits, after_change, book_made}
+use Rattle.instance_keeper.specs.Book.{BookState, are_known, servers_of, source_servers, fits, after_change, book_made}
 use Rattle.instance_keeper.proofs.Books.{both_true}
 use Rattle.opening_book.specs.Counting.{counted, counts, end_or, greatest, greatest_id, is_end_in_range, is_in_range, last_read, latest, loaded, raised}
 use Rattle.instance_keeper.specs.Rows.{changed, map_of}
@@ -37,7 +37,10 @@ use Rattle.scenarios.specs.Turns.{pollers}
 use Rattle.scenarios.proofs.Rooms.{longest-at}
 use Rattle.orch_core.specs.declared.configuration.Configuration.{Configuration}
 use Rattle.orch_core.specs.Scenarios.{configuration_of, start_world, start_rows, start_moment, start_changes, start, StartsBy, kept_at_start}
+use Rattle.operations.specs.Jobs.{Job}
+use Rattle.operations.specs.Named.{IsInRange}
 use Rattle.orch_core.specs.States.{HasKnownSource, IsSlot, IsState, State}
+use Rattle.jobs_in_flight.specs.Jobs.{Rise}
 use Rattle.orch_core.proofs.Servers.{servers-start}
 use Rattle.orch_core.proofs.Sources.{KnowsSources, source-at}
 use Rattle.opening_book.proofs.Following.{names-opening}
@@ -128,25 +131,25 @@ fits-instance : (w : World) (at : Moment) (n : ℕ) (o : Option Server) → Know
 fits-instance w at n None sources here = tt
 fits-instance w at n (Some s) sources here = both_known (length w.servers) n (source_servers s.source) (slice_get_within w.servers n s here) (source-at w.servers n s sources here)
 
-fits-missing : (w : World) (at : Moment) (b : Known) (n : ℕ) (known : Bool) → KnowsSources w.servers → IfSome (missing w at b n known) (λ c. IsTrue (fits (length w.servers) c))
+fits-missing : (w : World) (at : Moment) (b : BookState) (n : ℕ) (known : Bool) → KnowsSources w.servers → IfSome (missing w at b n known) (λ c. IsTrue (fits (length w.servers) c))
 fits-missing w at b n known sources = go (known && is_none (slice_index_or b.instances n None))
   where
     go : (lacks : Bool) → IfSome (if lacks then put_instance w at n (server_at w n) else None) (λ c. IsTrue (fits (length w.servers) c))
     go true = fits-instance w at n (server_at w n) sources refl
     go false = tt
 
-fits-from : (w : World) (at : Moment) (b : Known) (n : ℕ) (known : List Bool) → KnowsSources w.servers → FitsBook (length w.servers) (missing_from w at b n known)
+fits-from : (w : World) (at : Moment) (b : BookState) (n : ℕ) (known : List Bool) → KnowsSources w.servers → FitsBook (length w.servers) (missing_from w at b n known)
 unfolding FitsBook
 fits-from w at b n [] sources = All-nil (λ c. IsTrue (fits (length w.servers) c))
 fits-from w at b n (k ∷ ks) sources = fits-option (length w.servers) (missing w at b n k) (missing_from w at b (n + 1) ks) (fits-missing w at b n k sources) (fits-from w at b (n + 1) ks sources)
 
-pub fits-opening : (w : World) (at : Moment) (b : Known) (known : List Bool) → KnowsSources w.servers → length b.names ≡ length w.servers → All (λ c. IsTrue (fits (length b.names) c)) (opening_changes w at b known)
+pub fits-opening : (w : World) (at : Moment) (b : BookState) (known : List Bool) → KnowsSources w.servers → length b.names ≡ length w.servers → All (λ c. IsTrue (fits (length b.names) c)) (opening_changes w at b known)
 unfolding FitsBook
 fits-opening w at b known sources names = subst (λ count. All (λ c. IsTrue (fits count c)) (opening_changes w at b known)) (sym names) (fits-from w at b 0 known sources)
 
 -- ---- no change of a book changes its names or settings
 
-pub settings-change : (b : Known) (c : Change) → (after_change b c).settings ≡ b.settings
+pub settings-change : (b : BookState) (c : Change) → (after_change b c).settings ≡ b.settings
 settings-change b (change.Put r) = settings-put b r
 settings-change b (change.Remove table.Instance (key.Server n)) = refl
 settings-change b (change.Remove table.Downtime (key.Server n)) = refl
@@ -164,7 +167,7 @@ settings-change b (change.Remove table.Candidate key.Global) = refl
 settings-change b (change.Remove table.Recovery key.Global) = refl
 settings-change b (change.Remove table.Switch key.Global) = refl
 
-settings-opening : (b : Known) (c : Change) → (after_opening b c).settings ≡ b.settings
+settings-opening : (b : BookState) (c : Change) → (after_opening b c).settings ≡ b.settings
 settings-opening b (change.Remove t k) = settings-change b (change.Remove t k)
 settings-opening b (change.Put (row.Instance i)) = refl
 settings-opening b (change.Put (row.Downtime d)) = refl
@@ -172,23 +175,23 @@ settings-opening b (change.Put (row.Candidate c)) = refl
 settings-opening b (change.Put (row.Recovery r)) = refl
 settings-opening b (change.Put (row.Switch enabled)) = refl
 
-names-opened : (b : Known) (cs : List Change) → (opened_book b cs).names ≡ b.names
+names-opened : (b : BookState) (cs : List Change) → (opened_book b cs).names ≡ b.names
 names-opened b [] = refl
 names-opened b (c ∷ cs) = names-opened (after_opening b c) cs ∙ names-opening b c
 
-settings-opened : (b : Known) (cs : List Change) → (opened_book b cs).settings ≡ b.settings
+settings-opened : (b : BookState) (cs : List Change) → (opened_book b cs).settings ≡ b.settings
 settings-opened b [] = refl
 settings-opened b (c ∷ cs) = settings-opened (after_opening b c) cs ∙ settings-opening b c
 
-pub book-settings : (s : Scenario) (w : World) (settings : List Settings) (items : List Row) (b : Known) → w ≡ start_world s → settings ≡ settings_of s → b ≡ book_made settings items → length b.settings ≡ length w.servers
+pub book-settings : (s : Scenario) (w : World) (settings : List Settings) (items : List Row) (b : BookState) → w ≡ start_world s → settings ≡ settings_of s → b ≡ book_made settings items → length b.settings ≡ length w.servers
 book-settings s w settings items b world settings_are loads =
-    ap (λ (x : Known). length x.settings) loads ∙ (ap length (settings-made settings items) ∙ (ap length settings_are
+    ap (λ (x : BookState). length x.settings) loads ∙ (ap length (settings-made settings items) ∙ (ap length settings_are
     ∙ (length-map s.opening.servers (λ i. i.settings) ∙ sym (ap (λ (x : World). length x.servers) world ∙ servers-start s))))
 
-pub book-names : (s : Scenario) (w : World) (settings : List Settings) (items : List Row) (b : Known) → w ≡ start_world s → settings ≡ settings_of s → b ≡ book_made settings items → length b.names ≡ length w.servers
+pub book-names : (s : Scenario) (w : World) (settings : List Settings) (items : List Row) (b : BookState) → w ≡ start_world s → settings ≡ settings_of s → b ≡ book_made settings items → length b.names ≡ length w.servers
 book-names s w settings items b world settings_are loads =
-    ap (λ (x : Known). length x.names) loads ∙ (ap length (names-made settings items) ∙ (length-map settings (λ x. x.name)
-    ∙ (sym (ap length (settings-made settings items)) ∙ (sym (ap (λ (x : Known). length x.settings) loads) ∙ book-settings s w settings items b world settings_are loads))))
+    ap (λ (x : BookState). length x.names) loads ∙ (ap length (names-made settings items) ∙ (length-map settings (λ x. x.name)
+    ∙ (sym (ap length (settings-made settings items)) ∙ (sym (ap (λ (x : BookState). length x.settings) loads) ∙ book-settings s w settings items b world settings_are loads))))
 
 -- the world of an opening, with room as it was counted
 pub world_made : (s : Scenario) (w : World) (room flushes : ℕ) → w ≡ opened_world s.opening room flushes → room ≡ room_of s → flushes ≡ flushes_of s → w ≡ start_world s
@@ -196,7 +199,7 @@ world_made s w room flushes made room_is flushes_are =
     made ∙ ap (λ (n : ℕ). opened_world s.opening n flushes) room_is ∙ ap (λ (n : ℕ). opened_world s.opening (room_of s) n) flushes_are
 
 -- the pieces of an opening, as they were made one after another
-pub record IsOpening (s : Scenario) (w : World) (settings : List Settings) (items : List Row) (moment : Moment) (b b' : Known) (slots : List (Option Observation)) (reads : ℕ) (wait : ℕ) (configuration : Configuration) : Type 0 where
+pub record IsOpening (s : Scenario) (w : World) (settings : List Settings) (items : List Row) (moment : Moment) (b b' : BookState) (slots : List (Option Observation)) (reads : ℕ) (jobs : List Job) (wait : ℕ) (configuration : Configuration) : Type 0 where
   pub world : w ≡ start_world s
   pub settings_made : settings ≡ settings_of s
   pub moment_made : moment.0 ≡ latest s.moment.0 items
@@ -204,13 +207,14 @@ pub record IsOpening (s : Scenario) (w : World) (settings : List Settings) (item
   pub completes : b' ≡ opened_book b (opening_changes w moment b s.known)
   pub empty : slots ≡ empty_slots
   pub read : reads ≡ last_read items
+  pub idle : jobs ≡ []
   pub configured : configuration ≡ configuration_of wait s
   pub some : (rows : List Row) × (items ≡ counted (length settings) rows)
 
-module _ (s : Scenario) (w : World) (settings : List Settings) (items : List Row) (moment : Moment) (b b' : Known) (slots : List (Option Observation)) (reads wait : ℕ) (configuration : Configuration)
-    (is : IsOpening s w settings items moment b b' slots reads wait configuration) where
+module _ (s : Scenario) (w : World) (settings : List Settings) (items : List Row) (moment : Moment) (b b' : BookState) (slots : List (Option Observation)) (reads : ℕ) (jobs : List Job) (wait : ℕ) (configuration : Configuration)
+    (is : IsOpening s w settings items moment b b' slots reads jobs wait configuration) where
   abbrev made : State
-  made = record { world = w; moment = moment.0; book = b'; slots = slots; reads = reads; last_job = 0; configuration = configuration }
+  made = record { world = w; moment = moment.0; book = b'; slots = slots; reads = reads; jobs = jobs; last_job = 0; configuration = configuration }
 
   moment-most : IsScenario s → moment.0 ≤ 2 ^ 63
   moment-most scenario =
@@ -219,11 +223,13 @@ module _ (s : Scenario) (w : World) (settings : List Settings) (items : List Row
 
   pub IsState-made : IsScenario s → IsState made
   IsState-made scenario = record {
-    names = ap (λ (x : Known). length x.names) is.completes ∙ (ap length (names-opened b (opening_changes w moment b s.known)) ∙ book-names s w settings items b is.world is.settings_made is.loads);
-    settings = ap (λ (x : Known). length x.settings) is.completes ∙ (ap length (settings-opened b (opening_changes w moment b s.known)) ∙ book-settings s w settings items b is.world is.settings_made is.loads);
+    names = ap (λ (x : BookState). length x.names) is.completes ∙ (ap length (names-opened b (opening_changes w moment b s.known)) ∙ book-names s w settings items b is.world is.settings_made is.loads);
+    settings = ap (λ (x : BookState). length x.settings) is.completes ∙ (ap length (settings-opened b (opening_changes w moment b s.known)) ∙ book-settings s w settings items b is.world is.settings_made is.loads);
     slots = ap length is.empty ∙ length-replicate {A = Option Observation} pollers None;
     observed = subst (All (IsSlot (length w.servers))) (sym is.empty) (All-replicate (IsSlot (length w.servers)) pollers None tt);
     sources = subst (λ (x : World). KnowsSources x.servers) (sym is.world) (sources-start s scenario);
+    jobs = subst (All (IsInRange (length w.servers))) (sym is.idle) (All-nil (IsInRange (length w.servers)));
+    rising = let low : 0 ≤ 0 = omega arith in subst (λ (xs : List Job). Rise 0 xs 0) (sym is.idle) low;
     moment = moment-most scenario;
   }
 
@@ -241,16 +247,17 @@ module _ (s : Scenario) (w : World) (settings : List Settings) (items : List Row
     changes_are =
         ap (λ (x : World). opening_changes x moment b s.known) is.world
         ∙ ap (λ (x : Moment). opening_changes (start_world s) x b s.known) moment_is
-        ∙ ap (λ (x : Known). opening_changes (start_world s) (start_moment s rows) x s.known) book_is
+        ∙ ap (λ (x : BookState). opening_changes (start_world s) (start_moment s rows) x s.known) book_is
 
     pub state_is : made ≡ start s wait rows
     state_is =
-        let book = is.completes ∙ ap (opened_book b) changes_are ∙ ap (λ (x : Known). opened_book x (start_changes s rows)) book_is in
+        let book = is.completes ∙ ap (opened_book b) changes_are ∙ ap (λ (x : BookState). opened_book x (start_changes s rows)) book_is in
         let read = is.read ∙ ap last_read items_made in
         let begins : State = start s wait rows in
-        ap (λ (x : World). record made { world = x }) is.world
-        ∙ ap (λ (x : Moment). record made { world = start_world s; moment = x.0 }) moment_is
-        ∙ ap (λ (x : Known). record made { world = start_world s; moment = (start_moment s rows).0; book = x }) book
+        ap (λ (x : List Job). record made { jobs = x }) is.idle
+        ∙ ap (λ (x : World). record made { jobs = []; world = x }) is.world
+        ∙ ap (λ (x : Moment). record made { jobs = []; world = start_world s; moment = x.0 }) moment_is
+        ∙ ap (λ (x : BookState). record made { jobs = []; world = start_world s; moment = (start_moment s rows).0; book = x }) book
         ∙ ap (λ (x : List (Option Observation)). record begins { slots = x; reads = reads; configuration = configuration }) is.empty
         ∙ ap (λ (x : ℕ). record begins { reads = x; configuration = configuration }) read
         ∙ ap (λ (x : Configuration). record begins { configuration = x }) is.configured

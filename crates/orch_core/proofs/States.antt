@@ -3,7 +3,7 @@ use Rattle.std.proofs.Common.{◌≡◌, ℕ, ◌+◌, ◌<◌, ◌≤◌, ◌^�
 use Rattle.std.specs.Prelude.{All, min, IfSome, ◌&&◌, nat_lt, slice_set, fold, map, Ok, Err, if◌then◌else◌}
 use Rattle.std.proofs.lemmas.Bool.{false≢true}
 use Rattle.std.proofs.lemmas.List.{length-set, length-replicate, length-map}
-use Rattle.std.proofs.lemmas.List.Elements.{All-set, All-replicate}
+use Rattle.std.proofs.lemmas.List.Elements.{All-nil, All-set, All-replicate}
 use Rattle.orch_base.specs.declared.server.Settings.{Settings}
 use Rattle.orch_base.specs.declared.server.ServerNo.{ServerNo}
 use Rattle.instance_keeper.specs.declared.observation.Observation.{Observation}
@@ -12,7 +12,7 @@ use Rattle.instance_keeper.specs.declared.row.Change.{Change}
 use Rattle.instance_keeper.specs.declared.row.Row.{Row}
 use Rattle.instance_keeper.specs.Rows.{changed}
 use Rattle.instance_keeper.specs.declared.row.Row.TheVariants as row
-use Rattle.instance_keeper.specs.Book.{Known, are_known, observed_servers, seen_servers, source_servers, row_fits, empty_book, after_put, after_row, book_made, instance_at, renewed, renewed_book, stored_over}
+use Rattle.instance_keeper.specs.Book.{BookState, are_known, observed_servers, seen_servers, source_servers, row_fits, empty_book, after_put, after_row, book_made, instance_at, renewed, renewed_book, stored_over}
 use Rattle.opening_book.specs.Counting.{counted, loaded}
 use Rattle.opening_book.specs.Seeing.{seen_in}
 use Rattle.server_model.specs.declared.server.Server.{Server}
@@ -26,9 +26,12 @@ use Rattle.turns.specs.declared.turn.Turn.{Turn}
 use Rattle.turns.specs.declared.turn.Turn.TheVariants as turn
 use Rattle.scenarios.specs.Turns.{pollers, IsTurn}
 use Rattle.orch_core.specs.Turns.{exchanges_of, is_exchange, ticked}
+use Rattle.operations.specs.Jobs.{Job}
+use Rattle.operations.specs.Named.{IsInRange}
+use Rattle.jobs_in_flight.specs.Jobs.{Rise, stored}
 use Rattle.orch_core.specs.States.{State, IsSlot, IsState}
 use Rattle.orch_core.proofs.Sources.{KnowsSources, source-at, sources-run}
-use Rattle.orch_core.specs.Polls.{empty_slots, stored, changes_of}
+use Rattle.orch_core.specs.Polls.{empty_slots, changes_of}
 use Rattle.orch_core.specs.Readings.{reading_by}
 use Rattle.orch_core.specs.Replies.{exchange_reply, reply_of}
 use Rattle.orch_core.specs.Runs.{engine, step, exchange_step}
@@ -81,21 +84,21 @@ reading_known w n read now all within =
 
 -- no change of a book changes its names, and a loaded one has those of its settings
 
-pub names-put : (b : Known) (r : Row) → (after_put b r).names ≡ b.names
+pub names-put : (b : BookState) (r : Row) → (after_put b r).names ≡ b.names
 names-put b (row.Instance i) = refl
 names-put b (row.Downtime d) = refl
 names-put b (row.Candidate c) = refl
 names-put b (row.Recovery r) = refl
 names-put b (row.Switch enabled) = refl
 
-names-row : (b : Known) (r : Row) → (after_row b r).names ≡ b.names
+names-row : (b : BookState) (r : Row) → (after_row b r).names ≡ b.names
 names-row b r = go (row_fits (length b.names) r)
   where
     go : (fits : Bool) → (if fits then after_put b r else b).names ≡ b.names
     go true = names-put b r
     go false = refl
 
-names-rows : (b : Known) (rows : List Row) → (fold after_row b rows).names ≡ b.names
+names-rows : (b : BookState) (rows : List Row) → (fold after_row b rows).names ≡ b.names
 names-rows b [] = refl
 names-rows b (r ∷ rows) = names-rows (after_row b r) rows ∙ names-row b r
 
@@ -105,7 +108,7 @@ names-made settings rows = names-rows (empty_book settings) rows
 pub names-loaded : (settings : List Settings) (rows : List Row) → (loaded settings rows).names ≡ map (λ x. x.name) settings
 names-loaded settings rows = names-made settings (counted (length settings) rows)
 
-pub names-over : (b : Known) (o : Observation) (kept : Option Instance) → (stored_over b o kept).names ≡ b.names
+pub names-over : (b : BookState) (o : Observation) (kept : Option Instance) → (stored_over b o kept).names ≡ b.names
 names-over b o None = refl
 names-over b o (Some kept) = go (nat_lt o.read kept.read)
   where
@@ -113,27 +116,27 @@ names-over b o (Some kept) = go (nat_lt o.read kept.read)
     go true = refl
     go false = refl
 
-pub names-stored : (b : Known) (slot : Option Observation) → (stored b slot).names ≡ b.names
+pub names-stored : (b : BookState) (slot : Option Observation) → (stored b slot).names ≡ b.names
 names-stored b None = refl
 names-stored b (Some o) = names-over b o (instance_at b o.no)
 
 -- nor its settings
 
-pub settings-put : (b : Known) (r : Row) → (after_put b r).settings ≡ b.settings
+pub settings-put : (b : BookState) (r : Row) → (after_put b r).settings ≡ b.settings
 settings-put b (row.Instance i) = refl
 settings-put b (row.Downtime d) = refl
 settings-put b (row.Candidate c) = refl
 settings-put b (row.Recovery r) = refl
 settings-put b (row.Switch enabled) = refl
 
-settings-row : (b : Known) (r : Row) → (after_row b r).settings ≡ b.settings
+settings-row : (b : BookState) (r : Row) → (after_row b r).settings ≡ b.settings
 settings-row b r = go (row_fits (length b.names) r)
   where
     go : (fits : Bool) → (if fits then after_put b r else b).settings ≡ b.settings
     go true = settings-put b r
     go false = refl
 
-settings-rows : (b : Known) (rows : List Row) → (fold after_row b rows).settings ≡ b.settings
+settings-rows : (b : BookState) (rows : List Row) → (fold after_row b rows).settings ≡ b.settings
 settings-rows b [] = refl
 settings-rows b (r ∷ rows) = settings-rows (after_row b r) rows ∙ settings-row b r
 
@@ -143,7 +146,7 @@ settings-made settings rows = settings-rows (empty_book settings) rows
 pub settings-loaded : (settings : List Settings) (rows : List Row) → (loaded settings rows).settings ≡ settings
 settings-loaded settings rows = settings-made settings (counted (length settings) rows)
 
-pub settings-over : (b : Known) (o : Observation) (kept : Option Instance) → (stored_over b o kept).settings ≡ b.settings
+pub settings-over : (b : BookState) (o : Observation) (kept : Option Instance) → (stored_over b o kept).settings ≡ b.settings
 settings-over b o None = refl
 settings-over b o (Some kept) = go (nat_lt o.read kept.read)
   where
@@ -151,7 +154,7 @@ settings-over b o (Some kept) = go (nat_lt o.read kept.read)
     go true = refl
     go false = refl
 
-pub settings-stored : (b : Known) (slot : Option Observation) → (stored b slot).settings ≡ b.settings
+pub settings-stored : (b : BookState) (slot : Option Observation) → (stored b slot).settings ≡ b.settings
 settings-stored b None = refl
 settings-stored b (Some o) = settings-over b o (instance_at b o.no)
 
@@ -183,6 +186,8 @@ IsState-exchange s t w moment is turn world servers passed = record {
   slots = is.slots;
   observed = subst (λ count. All (IsSlot count) s.slots) (sym servers) is.observed;
   sources = subst (λ (v : World). KnowsSources v.servers) (sym world) (sources-run s.world (exchanges_of t) (Allowed-turn (length s.world.servers) s.world t turn).0 is.sources);
+  jobs = subst (λ count. All (IsInRange count) s.jobs) (sym servers) is.jobs;
+  rising = is.rising;
   moment = subst (λ (n : ℕ). n ≤ 2 ^ 63) (sym passed) (ticked-most s.moment t is.moment);
 }
 
@@ -194,34 +199,40 @@ IsState-read s p n o reads read now is within reading = record {
   slots = length-set s.slots p (Some o) ∙ is.slots;
   observed = All-set (IsSlot (length s.world.servers)) s.slots p (Some o) (ap (λ (x : Observation). are_known (length s.world.servers) (observed_servers x)) reading ∙ reading_known s.world n read now is.sources within) is.observed;
   sources = is.sources;
+  jobs = is.jobs;
+  rising = is.rising;
   moment = is.moment;
 }
 
-pub IsState-store : (s : State) (p : ℕ) (b : Known) (slot left : Option Observation) → IsState s → b ≡ stored s.book slot → left ≡ None
+pub IsState-store : (s : State) (p : ℕ) (b : BookState) (slot left : Option Observation) → IsState s → b ≡ stored s.book slot → left ≡ None
     → IsState (record s { book = b; slots = slice_set s.slots p left })
 IsState-store s p b slot left is stores empty = record {
-  names = ap (λ (x : Known). length x.names) stores ∙ (ap length (names-stored s.book slot) ∙ is.names);
-  settings = ap (λ (x : Known). length x.settings) stores ∙ (ap length (settings-stored s.book slot) ∙ is.settings);
+  names = ap (λ (x : BookState). length x.names) stores ∙ (ap length (names-stored s.book slot) ∙ is.names);
+  settings = ap (λ (x : BookState). length x.settings) stores ∙ (ap length (settings-stored s.book slot) ∙ is.settings);
   slots = length-set s.slots p left ∙ is.slots;
   observed = All-set (IsSlot (length s.world.servers)) s.slots p left (subst (IsSlot (length s.world.servers)) (sym empty) tt) is.observed;
   sources = is.sources;
+  jobs = is.jobs;
+  rising = is.rising;
   moment = is.moment;
 }
 
-pub IsState-restart : (s : State) (b : Known) (slots : List (Option Observation)) → IsState s → (rows : List Row) × (b ≡ loaded s.book.settings rows) → slots ≡ empty_slots
-    → IsState (record s { book = b; slots = slots })
-IsState-restart s b slots is loads empty = record {
-  names = ap (λ (x : Known). length x.names) loads.1 ∙ (ap length (names-loaded s.book.settings loads.0) ∙ (length-map s.book.settings (λ x. x.name) ∙ is.settings));
-  settings = ap (λ (x : Known). length x.settings) loads.1 ∙ (ap length (settings-loaded s.book.settings loads.0) ∙ is.settings);
+pub IsState-restart : (s : State) (b : BookState) (slots : List (Option Observation)) (jobs : List Job) → IsState s → (rows : List Row) × (b ≡ loaded s.book.settings rows) → slots ≡ empty_slots → jobs ≡ []
+    → IsState (record s { book = b; slots = slots; jobs = jobs })
+IsState-restart s b slots jobs is loads empty dropped = record {
+  names = ap (λ (x : BookState). length x.names) loads.1 ∙ (ap length (names-loaded s.book.settings loads.0) ∙ (length-map s.book.settings (λ x. x.name) ∙ is.settings));
+  settings = ap (λ (x : BookState). length x.settings) loads.1 ∙ (ap length (settings-loaded s.book.settings loads.0) ∙ is.settings);
   slots = ap length empty ∙ length-replicate {A = Option Observation} pollers None;
   observed = subst (All (IsSlot (length s.world.servers))) (sym empty) (All-replicate (IsSlot (length s.world.servers)) pollers None tt);
   sources = is.sources;
+  jobs = subst (All (IsInRange (length s.world.servers))) (sym dropped) (All-nil (IsInRange (length s.world.servers)));
+  rising = let low : 0 ≤ s.last_job = omega arith in subst (λ (xs : List Job). Rise 0 xs s.last_job) (sym dropped) low;
   moment = is.moment;
 }
 
 -- a book that takes the rows which count of those that the keeper gave
 
-module _ (s : State) (servers : ℕ) (items : List Row) (b : Known) (is : IsState s) (count : servers ≡ length s.book.names) (made : b ≡ book_made s.book.settings items) where
+module _ (s : State) (servers : ℕ) (items : List Row) (b : BookState) (is : IsState s) (count : servers ≡ length s.book.names) (made : b ≡ book_made s.book.settings items) where
   loads : (rows : List Row) → items ≡ counted servers rows → b ≡ loaded s.book.settings rows
   loads rows e =
       let each : servers ≡ length s.book.settings = count ∙ is.names ∙ sym is.settings in
@@ -230,24 +241,25 @@ module _ (s : State) (servers : ℕ) (items : List Row) (b : Known) (is : IsStat
   pub loads-counted : (rows : List Row) × (items ≡ counted servers rows) → (rows : List Row) × (b ≡ loaded s.book.settings rows)
   loads-counted some = (some.0, loads some.0 some.1)
 
-pub told-counted : (kept : Option (List Row)) (s : State) (servers : ℕ) (items : List Row) (b : Known) → IsState s → servers ≡ length s.book.names → b ≡ book_made s.book.settings items
+pub told-counted : (kept : Option (List Row)) (s : State) (servers : ℕ) (items : List Row) (b : BookState) → IsState s → servers ≡ length s.book.names → b ≡ book_made s.book.settings items
     → IfSome kept (λ rows. items ≡ counted servers rows) → IfSome kept (λ rows. b ≡ loaded s.book.settings rows)
 told-counted None s servers items b is count made told = tt
 told-counted (Some rows) s servers items b is count made told = loads s servers items b is count made rows told
 
 -- a restart by the rows that the keeper gave
 
-pub StepsTo-restart : (kept : Option (List Row)) (s : State) (b : Known) (slots : List (Option Observation))
-    → IfSome kept (λ rows. b ≡ loaded s.book.settings rows) → (rows : List Row) × (b ≡ loaded s.book.settings rows) → slots ≡ empty_slots
-    → StepsTo engine kept s turn.Restart (record s { book = b; slots = slots })
-StepsTo-restart kept s b slots told some empty = go kept told
+pub StepsTo-restart : (kept : Option (List Row)) (s : State) (b : BookState) (slots : List (Option Observation)) (jobs : List Job)
+    → IfSome kept (λ rows. b ≡ loaded s.book.settings rows) → (rows : List Row) × (b ≡ loaded s.book.settings rows) → slots ≡ empty_slots → jobs ≡ []
+    → StepsTo engine kept s turn.Restart (record s { book = b; slots = slots; jobs = jobs })
+StepsTo-restart kept s b slots jobs told some empty dropped = go kept told
   where
-    is : (rows : List Row) → b ≡ loaded s.book.settings rows → record s { book = b; slots = slots } ≡ step rows s turn.Restart
+    is : (rows : List Row) → b ≡ loaded s.book.settings rows → record s { book = b; slots = slots; jobs = jobs } ≡ step rows s turn.Restart
     is rows loads =
-        ap (λ (x : Known). record s { book = x; slots = slots }) loads
-        ∙ ap (λ (x : List (Option Observation)). record s { book = loaded s.book.settings rows; slots = x }) empty
+        ap (λ (x : BookState). record s { book = x; slots = slots; jobs = jobs }) loads
+        ∙ ap (λ (x : List (Option Observation)). record s { book = loaded s.book.settings rows; slots = x; jobs = jobs }) empty
+        ∙ ap (λ (x : List Job). record s { book = loaded s.book.settings rows; slots = empty_slots; jobs = x }) dropped
 
-    go : (kept : Option (List Row)) → IfSome kept (λ rows. b ≡ loaded s.book.settings rows) → StepsTo engine kept s turn.Restart (record s { book = b; slots = slots })
+    go : (kept : Option (List Row)) → IfSome kept (λ rows. b ≡ loaded s.book.settings rows) → StepsTo engine kept s turn.Restart (record s { book = b; slots = slots; jobs = jobs })
     go None told = (some.0, is some.0 some.1)
     go (Some rows) told = is rows told
 
@@ -274,7 +286,7 @@ exchange-is rows s (turn.Cut n link) is = record { steps = refl; changes = refl;
 exchange-is rows s (turn.Join n link) is = record { steps = refl; changes = refl; reply = refl; asks_not = refl }
 exchange-is rows s (turn.Rotate n) is = record { steps = refl; changes = refl; reply = refl; asks_not = refl }
 exchange-is rows s (turn.Tick seconds) is = record { steps = refl; changes = refl; reply = refl; asks_not = refl }
-exchange-is rows s (turn.Job job) is = record { steps = refl; changes = refl; reply = refl; asks_not = refl }
+exchange-is rows s (turn.Job job) is = absurd (false≢true is)
 exchange-is rows s turn.Scan is = record { steps = refl; changes = refl; reply = refl; asks_not = refl }
 exchange-is rows s (turn.PollRead p n) is = absurd (false≢true is)
 exchange-is rows s (turn.PollStore p) is = absurd (false≢true is)
@@ -291,3 +303,7 @@ pub kept_unchanged : (made : Bool) (kept : Option (List Row)) (s : State) (t : T
 kept_unchanged true None s t none = refl
 kept_unchanged true (Some rows) s t none = ap (λ (cs : List Change). Some (changed rows cs)) (none rows)
 kept_unchanged false kept s t none = refl
+
+-- the jobs are as they were
+pub IsState-room : (s : State) (jobs : List Job) → IsState s → jobs ≡ s.jobs → IsState (record s { jobs = jobs })
+IsState-room s jobs is same = subst (λ (xs : List Job). IsState (record s { jobs = xs })) (sym same) is

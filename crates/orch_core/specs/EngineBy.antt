@@ -9,6 +9,7 @@ state_of a = record {
   book = a.book;
   slots = a.slots.items;
   reads = a.reads;
+  jobs = a.jobs.items;
   last_job = a.last_job;
   configuration = a.configuration;
 }

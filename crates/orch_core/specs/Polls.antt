@@ -1,4 +1,4 @@
--- Polls and commands: what orchestrator reads of servers, and what it makes of it.
+-- Polls, commands and jobs: what orchestrator reads of servers, and what it makes of it.
 use Rattle.std.specs.Prelude.{ℕ, List, [], replicate, slice_index_or, slice_set, Option, Some, None, is_some, if◌then◌else◌}
 use Rattle.std.specs.Option.{option_to_list}
 use Rattle.orch_base.specs.declared.server.ServerNo.{ServerNo}
@@ -6,11 +6,15 @@ use Rattle.orch_base.specs.Memory.{next_count}
 use Rattle.instance_keeper.specs.declared.observation.Observation.{Observation}
 use Rattle.instance_keeper.specs.declared.row.Row.{Row}
 use Rattle.instance_keeper.specs.declared.row.Change.{Change}
-use Rattle.instance_keeper.specs.Book.{Known, instance_at, after_store, store_change}
+use Rattle.instance_keeper.specs.Book.{BookState, instance_at, store_change}
 use Rattle.opening_book.specs.Counting.{loaded}
 use Rattle.commands.specs.declared.turn.CommandTurn.{CommandTurn}
-use Rattle.orch_core.specs.Commands.{Outcome, outcome_of, updated}
+use Rattle.operations.specs.Jobs.{Job}
+use Rattle.orch_core.specs.Commands.{Outcome, jobs_updated, last_job_updated, outcome_of, updated}
+use Rattle.jobs_in_flight.specs.Jobs.{book_turned, job_observation, jobs_turned, reads_with, stored}
+use Rattle.orch_core.specs.Jobs.{turned_at}
 use Rattle.orch_core.specs.Readings.{reading_by}
+use Rattle.orch_core.specs.declared.command.Numbers.{Numbers}
 use Rattle.turns.specs.declared.turn.Turn.{Turn}
 use Rattle.turns.specs.declared.turn.Turn.TheVariants as turn
 use Rattle.orch_core.specs.States.{State}
@@ -44,11 +48,15 @@ slots_after s (turn.Job job) = s.slots
 slots_after s turn.Scan = s.slots
 slots_after s (turn.Command c) = s.slots
 
+-- the numbers by which a command goes
+abbrev pub numbers_of : State → Numbers
+numbers_of s = record { reads = s.reads; last_job = s.last_job; wait = s.configuration.wait; moment = record { 0 = s.moment } }
+
 -- what a command answers and changes
 abbrev pub command_outcome : State → CommandTurn → Outcome
-command_outcome s c = outcome_of s.world s.book s.reads s.moment c
+command_outcome s c = outcome_of s.world s.book (numbers_of s) c
 
--- a poll that reads a server takes the next read number, and so does a command that does
+-- a poll that reads a server takes the next read number, and so does a command or a job's turn that does
 abbrev pub reads_after : State → Turn → ℕ
 reads_after s (turn.PollRead p n) = if is_some (instance_at s.book n) then next_count s.reads else s.reads
 reads_after s (turn.Command c) = (command_outcome s c).reads
@@ -61,17 +69,14 @@ reads_after s (turn.Cut n link) = s.reads
 reads_after s (turn.Join n link) = s.reads
 reads_after s (turn.Rotate n) = s.reads
 reads_after s (turn.Tick seconds) = s.reads
-reads_after s (turn.Job job) = s.reads
+reads_after s (turn.Job job) = reads_with s.reads (job_observation (turned_at s job))
 reads_after s turn.Scan = s.reads
 reads_after s (turn.PollStore p) = s.reads
 reads_after s turn.Restart = s.reads
 
-abbrev pub stored : Known → Option Observation → Known
-stored b None = b
-stored b (Some o) = after_store b o
-
--- the slot's reading is stored, a command's changes are made, and a restart loads the rows that count
-abbrev pub book_after : List Row → State → Turn → Known
+-- the slot's reading is stored, a command's changes are made, what a job observed is stored and the leases of one that is
+-- ended are free, and a restart loads the rows that count, without bridges and leases
+abbrev pub book_after : List Row → State → Turn → BookState
 book_after rows s (turn.PollStore p) = stored s.book (slot_at s p)
 book_after rows s (turn.Command c) = updated s.book (command_outcome s c).book
 book_after rows s turn.Restart = loaded s.book.settings rows
@@ -84,11 +89,11 @@ book_after rows s (turn.Cut n link) = s.book
 book_after rows s (turn.Join n link) = s.book
 book_after rows s (turn.Rotate n) = s.book
 book_after rows s (turn.Tick seconds) = s.book
-book_after rows s (turn.Job job) = s.book
+book_after rows s (turn.Job job) = book_turned s.book job (turned_at s job)
 book_after rows s turn.Scan = s.book
 book_after rows s (turn.PollRead p n) = s.book
 
-abbrev pub changes_by : Known → Option Observation → List Change
+abbrev pub changes_by : BookState → Option Observation → List Change
 changes_by b None = []
 changes_by b (Some o) = option_to_list (store_change (instance_at b o.no) o)
 
@@ -105,7 +110,43 @@ changes_of rows s (turn.Cut n link) = []
 changes_of rows s (turn.Join n link) = []
 changes_of rows s (turn.Rotate n) = []
 changes_of rows s (turn.Tick seconds) = []
-changes_of rows s (turn.Job job) = []
+changes_of rows s (turn.Job job) = changes_by s.book (job_observation (turned_at s job))
 changes_of rows s turn.Scan = []
 changes_of rows s (turn.PollRead p n) = []
 changes_of rows s turn.Restart = []
+
+-- a command may begin a job, a job's turn may end it, and a restart drops all jobs
+abbrev pub jobs_after : State → Turn → List Job
+jobs_after s (turn.Command c) = jobs_updated s.jobs (command_outcome s c).book
+jobs_after s (turn.Job job) = jobs_turned s.jobs job (turned_at s job)
+jobs_after s turn.Restart = []
+jobs_after s (turn.PollStore p) = s.jobs
+jobs_after s (turn.Write n size) = s.jobs
+jobs_after s (turn.Fetch n) = s.jobs
+jobs_after s (turn.Apply n) = s.jobs
+jobs_after s (turn.Fail n) = s.jobs
+jobs_after s (turn.Heal n) = s.jobs
+jobs_after s (turn.Cut n link) = s.jobs
+jobs_after s (turn.Join n link) = s.jobs
+jobs_after s (turn.Rotate n) = s.jobs
+jobs_after s (turn.Tick seconds) = s.jobs
+jobs_after s (turn.PollRead p n) = s.jobs
+jobs_after s turn.Scan = s.jobs
+
+-- the numbers of jobs go on
+abbrev pub last_job_after : State → Turn → ℕ
+last_job_after s (turn.Command c) = last_job_updated s.last_job (command_outcome s c).book
+last_job_after s (turn.Job job) = s.last_job
+last_job_after s turn.Restart = s.last_job
+last_job_after s (turn.PollStore p) = s.last_job
+last_job_after s (turn.Write n size) = s.last_job
+last_job_after s (turn.Fetch n) = s.last_job
+last_job_after s (turn.Apply n) = s.last_job
+last_job_after s (turn.Fail n) = s.last_job
+last_job_after s (turn.Heal n) = s.last_job
+last_job_after s (turn.Cut n link) = s.last_job
+last_job_after s (turn.Join n link) = s.last_job
+last_job_after s (turn.Rotate n) = s.last_job
+last_job_after s (turn.Tick seconds) = s.last_job
+last_job_after s (turn.PollRead p n) = s.last_job
+last_job_after s turn.Scan = s.last_job

@@ -46,6 +46,7 @@ start s wait rows = record {
   book = opened_book (loaded (settings_of s) rows) (start_changes s rows);
   slots = empty_slots;
   reads = last_read (start_rows s rows);
+  jobs = [];
   last_job = 0;
   configuration = configuration_of wait s;
 }

@@ -1,20 +1,24 @@
 -- What a run is at a moment.
 use Rattle.std.specs.Prelude.{◌≡◌, ◌≤◌, ◌^◌, ℕ, true, length, List, Option, IfSome, All}
 use Rattle.instance_keeper.specs.declared.observation.Observation.{Observation}
-use Rattle.instance_keeper.specs.Book.{Known, are_known, observed_servers, source_servers}
+use Rattle.instance_keeper.specs.Book.{BookState, are_known, observed_servers, source_servers}
+use Rattle.operations.specs.Jobs.{Job}
+use Rattle.operations.specs.Named.{IsInRange}
+use Rattle.jobs_in_flight.specs.Jobs.{Rise}
 use Rattle.orch_core.specs.declared.configuration.Configuration.{Configuration}
 use Rattle.server_model.specs.declared.server.Server.{Server}
 use Rattle.server_model.specs.Worlds.{World}
 use Rattle.scenarios.specs.Turns.{pollers}
 
--- the servers, the moment, what orchestrator knows, the pollers' slots, the greatest read number so far, the number of
--- the last job, and what holds throughout the run
+-- the servers, the moment, what orchestrator knows, the pollers' slots, the greatest read number so far, the unended jobs by
+-- rising number, the number of the last job that was begun, and what holds throughout the run
 pub record State : Type 0 where
   pub world : World
   pub moment : ℕ
-  pub book : Known
+  pub book : BookState
   pub slots : List (Option Observation)
   pub reads : ℕ
+  pub jobs : List Job
   pub last_job : ℕ
   pub configuration : Configuration
 
@@ -26,12 +30,14 @@ HasKnownSource count s = are_known count (source_servers s.source) ≡ true
 abbrev pub IsSlot : ℕ → Option Observation → Type 0
 IsSlot count slot = IfSome slot (λ o. are_known count (observed_servers o) ≡ true)
 
--- every server is in the book's lists, every poller has its slot, each reading and each source is of the servers, and
--- time stands still at 2^63
+-- every server is in the book's lists, every poller has its slot, each reading, each source and each job is of the servers,
+-- the jobs' numbers rise from 1 on up to that of the last job, and time stands still at 2^63
 pub record IsState (s : State) : Type 0 where
   pub names : length s.book.names ≡ length s.world.servers
   pub settings : length s.book.settings ≡ length s.world.servers
   pub slots : length s.slots ≡ pollers
   pub observed : All (IsSlot (length s.world.servers)) s.slots
   pub sources : All (HasKnownSource (length s.world.servers)) s.world.servers
+  pub jobs : All (IsInRange (length s.world.servers)) s.jobs
+  pub rising : Rise 0 s.jobs s.last_job
   pub moment : s.moment ≤ 2 ^ 63

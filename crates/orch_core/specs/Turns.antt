@@ -5,9 +5,11 @@ use Rattle.server_words.specs.declared.changes.Event.TheVariants as event
 use Rattle.server_model.specs.Run.{Exchange, Write, Fetch, Apply, Befall, Rotate}
 use Rattle.turns.specs.declared.turn.Turn.{Turn}
 use Rattle.turns.specs.declared.turn.Turn.TheVariants as turn
+use Rattle.jobs_in_flight.specs.Jobs.{job_exchanges}
+use Rattle.orch_core.specs.Jobs.{turned_at}
 use Rattle.orch_core.specs.States.{State}
 
--- the exchanges of a turn that looks at no state
+-- the exchanges of a turn that looks at no state; a job's turn has none here
 abbrev pub exchanges_of : Turn → List Exchange
 exchanges_of (turn.Write n size) = Write n.0 size ∷ []
 exchanges_of (turn.Fetch n) = Fetch n.0 ∷ []
@@ -25,9 +27,23 @@ exchanges_of (turn.PollStore p) = []
 exchanges_of (turn.Command c) = []
 exchanges_of turn.Restart = []
 
--- the exchanges that a turn makes in a state, in order
+-- the exchanges that a turn makes in a state, in order: those of a job's turn are what its operation comes to
 abbrev pub exchanges_at : State → Turn → List Exchange
-exchanges_at s t = exchanges_of t
+exchanges_at s (turn.Job job) = job_exchanges (turned_at s job)
+exchanges_at s (turn.Write n size) = exchanges_of (turn.Write n size)
+exchanges_at s (turn.Fetch n) = exchanges_of (turn.Fetch n)
+exchanges_at s (turn.Apply n) = exchanges_of (turn.Apply n)
+exchanges_at s (turn.Fail n) = exchanges_of (turn.Fail n)
+exchanges_at s (turn.Heal n) = exchanges_of (turn.Heal n)
+exchanges_at s (turn.Cut n link) = exchanges_of (turn.Cut n link)
+exchanges_at s (turn.Join n link) = exchanges_of (turn.Join n link)
+exchanges_at s (turn.Rotate n) = exchanges_of (turn.Rotate n)
+exchanges_at s (turn.Tick seconds) = exchanges_of (turn.Tick seconds)
+exchanges_at s turn.Scan = exchanges_of turn.Scan
+exchanges_at s (turn.PollRead p n) = exchanges_of (turn.PollRead p n)
+exchanges_at s (turn.PollStore p) = exchanges_of (turn.PollStore p)
+exchanges_at s (turn.Command c) = exchanges_of (turn.Command c)
+exchanges_at s turn.Restart = exchanges_of turn.Restart
 
 -- so many seconds later; the moment stands still at 2^63
 abbrev pub later : ℕ → ℕ → ℕ
@@ -55,7 +71,7 @@ ticked now turn.Restart = now
 abbrev pub moment_after : List Row → State → Turn → ℕ
 moment_after rows s t = ticked s.moment t
 
--- a turn that neither polls nor stores, is no command, and doesn't start orchestrator again
+-- a turn that neither polls nor stores, is no command and no job's, and doesn't start orchestrator again
 abbrev pub is_exchange : Turn → Bool
 is_exchange (turn.Write n size) = true
 is_exchange (turn.Fetch n) = true
@@ -66,7 +82,7 @@ is_exchange (turn.Cut n link) = true
 is_exchange (turn.Join n link) = true
 is_exchange (turn.Rotate n) = true
 is_exchange (turn.Tick seconds) = true
-is_exchange (turn.Job job) = true
+is_exchange (turn.Job job) = false
 is_exchange turn.Scan = true
 is_exchange (turn.PollRead p n) = false
 is_exchange (turn.PollStore p) = false

@@ -1,25 +1,61 @@
 //! What a command answers, and what it changes.
 
-ghost use Rattle.std.specs.Prelude.{◌≡◌, ◌<◌, ◌∷◌, [], IfOk, IsTrue, length};
+ghost use Rattle.std.specs.Prelude.{◌≡◌, ◌<◌, ◌∷◌, [], IfOk, IsSome, IsTrue, length, vec_len, vec_capacity};
 ghost use Rattle.std.specs.Option.{option_to_list};
 ghost use Rattle.instance_keeper.specs.Book.{discovery_change, instance_at};
 ghost use Rattle.orch_base.specs.Memory.{next_count};
 ghost use Rattle.commands.specs.Turns.{is_within};
 ghost use Rattle.asking_commands.specs.Answers.{lines_of, permitted};
-ghost use Rattle.orch_core.specs.Commands.{asked, discovered, forgotten, outcome_of, reads_server, refusal, removal, removes, told_with, updated, IsUpdate};
+ghost use Rattle.command_jobs.specs.Jobs.{planner_for};
+ghost use Rattle.orch_core.specs.Commands.{asked, begun_by, discovered, forgotten, jobs_updated, last_job_updated, outcome_by, outcome_of, reads_server, refusal, removal, removes, told_with, updated, IsUpdate};
 ghost use Rattle.orch_core.specs.CommandsBy.{outcome};
 ghost use Rattle.orch_core.specs.Readings.{reading_by};
 
 use crate::Reply;
 use crate::engine::read_server;
 use asking_commands::{AnswerFault, answer, permit};
-use commands::{Command, CommandName, CommandTurn, Line, Lines, Refusal, Route};
+use book_views::book_forest;
+use command_jobs::{PermitFault, leases, permit as permit_job, plan};
+use command_routes::{Planner, Route};
+use commands::{Command, CommandName, CommandTurn, Line, Lines, Refusal};
 use instance_keeper::{Book, Change, Instance, Key, Observation, Row, Seen, Table};
+use job_plans::Job;
 use orch_base::{Memory, Moment, ServerNo};
 use server_model::World;
 use std::alloc::Global;
+use std::marker::Model;
 
-/// What a command makes of the book.
+/// The numbers by which a command goes.
+#[derive(Clone, Copy)]
+pub(crate) struct Numbers {
+    /// The greatest read number so far.
+    pub(crate) reads: u64,
+    /// The number of the last job that was begun.
+    pub(crate) last_job: u64,
+    /// At most so many times a job waits.
+    pub(crate) wait: u32,
+    pub(crate) moment: Moment,
+}
+
+/// A job that begins.
+#[derive(Drop)]
+pub(crate) struct Beginning {
+    // The servers of which it takes the leases.
+    list: Vec<ServerNo>,
+    job: Job,
+}
+
+impl Model for Beginning {
+    ghost use Rattle.orch_core.specs.Beginnings.{Beginning as Start};
+
+    ghost Value = { Start };
+
+    ghost use Rattle.orch_core.specs.BeginningsBy.{beginning_of};
+
+    ghost view = { beginning_of };
+}
+
+/// What a command makes of the book and the jobs.
 #[derive(Drop)]
 pub(crate) enum Update {
     /// Nothing.
@@ -28,6 +64,8 @@ pub(crate) enum Update {
     Change(Change),
     /// It takes in what was read of a server.
     Discovery(Observation),
+    /// A job begins, which takes its leases.
+    Begins(Beginning),
 }
 
 /// What a command answers, what it makes of the book, how it changes the kept rows, and the greatest read number after
@@ -40,33 +78,52 @@ pub(crate) struct Outcome {
     pub(crate) reads: u64,
 }
 
-/// Makes of the book what a command makes of it. It takes no memory.
-pub(crate) fn update_book(book: &mut Book, update: Update)
-    requires { IsUpdate (length book.old.names) update }
-    ensures { book.new ≡ updated book.old update }
+// The job's leases are taken, and it joins the others.
+fn join(book: &mut Book, jobs: &mut Vec<Job>, last_job: &mut u64, beginning: Beginning)
+    requires update { IsUpdate book.old (Update.Begins beginning) }
+    requires room { vec_len jobs.old < vec_capacity jobs.old }
+    ensures book { book.new ≡ updated book.old (Update.Begins beginning) }
+    ensures jobs { jobs.new.items ≡ jobs_updated jobs.old.items (Update.Begins beginning) }
+    ensures last { last_job.new ≡ last_job_updated last_job.old (Update.Begins beginning) }
+{
+    let Beginning { list, job } = beginning;
+    let number = job.id();
+    let _ = book.take_leases(&list, number);
+    *last_job = number;
+    jobs.push_reserved(job);
+}
+
+/// Makes of the book and the jobs what a command makes of them. It takes no memory.
+pub(crate) fn update_all(book: &mut Book, jobs: &mut Vec<Job>, last_job: &mut u64, update: Update)
+    requires update { IsUpdate book.old update }
+    requires room { vec_len jobs.old < vec_capacity jobs.old }
+    ensures book { book.new ≡ updated book.old update }
+    ensures jobs { jobs.new.items ≡ jobs_updated jobs.old.items update }
+    ensures last { last_job.new ≡ last_job_updated last_job.old update }
 {
     match update {
         Update::Stays => {}
         Update::Change(change) => book.set(change),
         Update::Discovery(o) => book.discover(o),
+        Update::Begins(beginning) => join(book, jobs, last_job, beginning),
     }
 }
 
 fn reads_server(name: CommandName) -> bool
     ensures { result ≡ reads_server name }
 {
-    match name.route() {
+    match Route::of(name) {
         Route::Discovers => true,
-        Route::Forgets | Route::Asks(_) | Route::Unbuilt => false,
+        Route::Forgets | Route::Asks(_) | Route::Begins(_) | Route::Unbuilt => false,
     }
 }
 
 fn removes(name: CommandName) -> bool
     ensures { result ≡ removes name }
 {
-    match name.route() {
+    match Route::of(name) {
         Route::Forgets => true,
-        Route::Discovers | Route::Asks(_) | Route::Unbuilt => false,
+        Route::Discovers | Route::Asks(_) | Route::Begins(_) | Route::Unbuilt => false,
     }
 }
 
@@ -209,9 +266,49 @@ fn ask(alloc: Global, book: &Book, reads: u64, t: &CommandTurn) -> Result<Outcom
     }
 }
 
-/// The outcome of a command, by the greatest read number so far and the moment. It changes nothing.
-#[tactic(auto, unfolding(crate::specs::Commands::outcome_of))]
-pub(crate) fn outcome_of(
+// Begins the job of a command, unless it is refused. Where no number is left for a job, memory wants.
+fn begin_by(
+    alloc: Global,
+    world: &World,
+    book: &Book,
+    numbers: Numbers,
+    command: Command,
+    planner: Planner,
+) -> Result<Outcome, Memory>
+    requires { planner_for command.name ≡ Some planner }
+    ensures { IfOk result (λ out. outcome out ≡ begun_by world.now book.now numbers command planner) }
+{
+    let forest = book_forest(alloc, book)?;
+    match permit_job(
+        alloc,
+        book,
+        &forest,
+        world,
+        command,
+        planner,
+        numbers.moment,
+    ) {
+        Ok(()) => {}
+        Err(PermitFault::Refused(why)) => return Ok(refused(alloc, numbers.reads, why)),
+        Err(PermitFault::Memory) => return Err(Memory),
+    }
+    if numbers.last_job == u64::MAX {
+        return Err(Memory);
+    }
+    let number = numbers.last_job + 1;
+    let list = leases(alloc, book, command, planner)?;
+    let ops = plan(alloc, book, &forest, world, command, planner)?;
+    let job = Job::make(alloc, number, ops, numbers.wait)?;
+    Ok(Outcome {
+        reply: Reply::Begun(number),
+        book: Update::Begins(Beginning { list, job }),
+        rows: Vec::new(alloc),
+        reads: numbers.reads,
+    })
+}
+
+// The outcome of a command that begins no job.
+fn outcome_by(
     alloc: Global,
     world: &World,
     book: &Book,
@@ -222,7 +319,7 @@ pub(crate) fn outcome_of(
     requires servers { length book.now.names ≡ length world.now.servers }
     requires i { IsTrue (is_within (length book.now.names) t.now.command.i) }
     requires d { IsTrue (is_within (length book.now.names) t.now.command.d) }
-    ensures { IfOk result (λ out. outcome out ≡ outcome_of world.now book.now reads moment.0 t.now) }
+    ensures { IfOk result (λ out. outcome out ≡ outcome_by world.now book.now reads moment.0 t.now t.now.command.i) }
 {
     match t.command.i {
         Some(no) if reads_server(t.command.name) => {
@@ -230,5 +327,26 @@ pub(crate) fn outcome_of(
         }
         Some(no) if removes(t.command.name) => forget(alloc, book, t.command, no, reads),
         Some(_) | None => ask(alloc, book, reads, t),
+    }
+}
+
+/// The outcome of a command, by the numbers that it goes by. It changes nothing. Memory comes, too, where no number is left
+/// for a job.
+#[tactic(auto, unfolding(crate::specs::Commands::outcome_of))]
+pub(crate) fn outcome_of(
+    alloc: Global,
+    world: &World,
+    book: &Book,
+    numbers: Numbers,
+    t: &CommandTurn,
+) -> Result<Outcome, Memory>
+    requires servers { length book.now.names ≡ length world.now.servers }
+    requires i { IsTrue (is_within (length book.now.names) t.now.command.i) }
+    requires d { IsTrue (is_within (length book.now.names) t.now.command.d) }
+    ensures { IfOk result (λ out. outcome out ≡ outcome_of world.now book.now numbers t.now) }
+{
+    match Route::of(t.command.name).planner() {
+        Some(planner) => begin_by(alloc, world, book, numbers, t.command, planner),
+        None => outcome_by(alloc, world, book, numbers.reads, numbers.moment, t),
     }
 }

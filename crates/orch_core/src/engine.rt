@@ -1,28 +1,31 @@
 //! The machine of a run: the servers, the moment, and what orchestrator knows, one turn after another. It writes no
 //! journal.
 
-ghost use Rattle.std.specs.Prelude.{◌≡◌, ◌≢◌, ◌<◌, ◌≤◌, ◌^◌, ℕ, List, [], All, Some, None, IfOk, IfSome, IfErr, OnOk, OnErr, Err, true, false, if◌then◌else◌, is_ok, length, map};
-ghost use Rattle.instance_keeper.specs.declared.row.Row.{Row as ARow};
+ghost use Rattle.std.specs.Prelude.{◌≡◌, ◌≢◌, ◌<◌, ◌≤◌, ◌^◌, ℕ, List, [], ◌∷◌, All, Some, None, IfOk, IfSome, IfErr, OnOk, OnErr, Err, true, false, if◌then◌else◌, is_ok, length, map, slice_get};
 ghost use Rattle.instance_keeper.specs.Book.{are_known, observed_servers};
-ghost use Rattle.opening_book.specs.Counting.{counted, loaded};
 ghost use Rattle.opening_book.specs.Opening.{opened_book, opening_changes};
 ghost use Rattle.server_model.specs.Run.{run};
 ghost use Rattle.scenarios.specs.Turns.{pollers, IsCommand, IsTurn};
 ghost use Rattle.turns.specs.Plain.{is_plain};
 ghost use Rattle.orch_core.specs.Turns.{exchanges_of, is_exchange, later, ticked};
-ghost use Rattle.orch_core.specs.Polls.{changes_by, changes_of, empty_slots, stored};
+ghost use Rattle.jobs_in_flight.specs.Jobs.{Rise, is_open, job_at, stored};
+ghost use Rattle.orch_core.specs.Polls.{changes_of, empty_slots, numbers_of};
 ghost use Rattle.orch_core.specs.Readings.{reading_by};
 ghost use Rattle.orch_core.specs.Replies.{exchange_reply, read_reply, reply_by, reply_of, stored_reply, AreReply};
 ghost use Rattle.orch_core.specs.Runs.{engine};
 ghost use Rattle.orch_core.specs.Keeping.{StepsTo, kept_by, kept_if, asks, Calls, HasTurnCause};
 ghost use Rattle.orch_core.specs.Scenarios.{configuration_of};
-ghost use Rattle.orch_core.specs.States.{HasKnownSource};
+ghost use Rattle.orch_core.specs.States.{HasKnownSource, IsState};
 
-use crate::command::{outcome_of, update_book};
-use crate::{Configuration, HeldCommand, Reply, Scenario, Turn, TurnFault};
-use instance_keeper::{Book, Change, Keeper, Observation, Row, StoreAnswer};
-use opening_book::{counted, last_read, latest_moment, loaded_book, open_book, opening_changes};
+use crate::command::{Numbers, outcome_of};
+use crate::keep::{counted_rows, keep_and_update, keep_some, keep_store};
+use crate::{BoxedCommand, Configuration, Reply, Scenario, Turn, TurnFault};
+use instance_keeper::{Book, Keeper, Observation, StoreAnswer};
+use job_plans::Job;
+use jobs_in_flight::{FoundJob, answer, find, others_over, take_turn};
+use opening_book::{last_read, latest_moment, loaded_book, open_book, opening_changes};
 use openings::ServerInit;
+use operations::{jobs_end, jobs_stay_in_range};
 use orch_base::{Memory, Moment, Name, ServerNo, Settings};
 use server_model::{StatusFault, World};
 use std::alloc::Global;
@@ -46,6 +49,7 @@ pub struct Engine {
     book: Book,
     slots: Vec<Option<Observation>>,
     reads: u64,
+    jobs: Vec<Job>,
     last_job: u64,
     configuration: Configuration,
 }
@@ -149,12 +153,9 @@ fn exchange(world: &mut World, now: Moment, t: &Turn) -> Reply
         }
         Turn::Rotate(no) => Reply::Rotate(world.rotate(*no)),
         Turn::Tick(seconds) => Reply::Now(later(now, *seconds)),
-        Turn::PollRead(_, _)
-        | Turn::PollStore(_)
-        | Turn::Command(_)
-        | Turn::Job(_)
-        | Turn::Scan
-        | Turn::Restart => Reply::Done,
+        Turn::Job(_) => Reply::NoJob,
+        Turn::PollRead(_, _) | Turn::PollStore(_) | Turn::Command(_) | Turn::Scan | Turn::Restart =>
+            Reply::Done,
     }
 }
 
@@ -215,75 +216,6 @@ fn store(book: &mut Book, slot: Option<Observation>) -> Reply
         None => Reply::Nothing,
         Some(o) => reply_by(book.store_observation(o)),
     }
-}
-
-// Keeps the changes that storing the slot's reading makes, where it makes any.
-fn keep_store<K: Keeper>(
-    alloc: Global,
-    keeper: &mut K,
-    book: &Book,
-    slot: &Option<Observation>,
-) -> Result<(), TurnFault>
-    requires { IfSome slot.now (λ o. o.no.0 < length book.now.names) }
-    ensures kept { K.kept keeper.new ≡ kept_if (is_ok result) (K.kept keeper.old) (changes_by book.now slot.now) }
-    ensures cause { HasTurnCause (K.faults keeper.old) (K.faults keeper.new) result }
-    ensures idle { changes_by book.now slot.now ≡ [] → keeper.new ≡ keeper.old }
-    ensures calls { result ≡ Err TurnFault.Keeper → changes_by book.now slot.now ≢ [] }
-{
-    let Some(o) = slot else {
-        return Ok(());
-    };
-    match book.change_by(o)? {
-        Some(change) => keep(alloc, keeper, book.names(), &[change]),
-        None => Ok(()),
-    }
-}
-
-fn keep<K: Keeper>(
-    alloc: Global,
-    keeper: &mut K,
-    names: &[Name],
-    changes: &[Change],
-) -> Result<(), TurnFault>
-    ensures kept { K.kept keeper.new ≡ kept_if (is_ok result) (K.kept keeper.old) changes.now }
-    ensures cause { HasTurnCause (K.faults keeper.old) (K.faults keeper.new) result }
-{
-    keeper.keep(alloc, names, changes)?;
-    Ok(())
-}
-
-// Keeps the changes, where there are any.
-fn keep_some<K: Keeper>(
-    alloc: Global,
-    keeper: &mut K,
-    names: &[Name],
-    changes: &[Change],
-) -> Result<(), TurnFault>
-    ensures kept { K.kept keeper.new ≡ kept_if (is_ok result) (K.kept keeper.old) changes.now }
-    ensures cause { HasTurnCause (K.faults keeper.old) (K.faults keeper.new) result }
-    ensures idle { changes.now ≡ [] → keeper.new ≡ keeper.old }
-    ensures calls { result ≡ Err TurnFault.Keeper → changes.now ≢ [] }
-{
-    if changes.is_empty() {
-        return Ok(());
-    }
-    keep(alloc, keeper, names, changes)
-}
-
-// The rows that count among these servers, by the keeper.
-fn counted_rows<K: Keeper>(
-    alloc: Global,
-    keeper: &mut K,
-    names: &[Name],
-    servers: u32,
-) -> Result<Vec<Row>, TurnFault>
-    ensures told { IfSome (K.kept keeper.old) (λ rows. IfOk result (λ r. r.items ≡ counted servers rows)) }
-    ensures some { IfOk result (λ r. (rows : List ARow) × (r.items ≡ counted servers rows)) }
-    ensures kept { K.kept keeper.new ≡ K.kept keeper.old }
-    ensures cause { HasTurnCause (K.faults keeper.old) (K.faults keeper.new) result }
-{
-    let rows = keeper.rows(alloc, names)?;
-    Ok(counted(alloc, servers, rows)?)
 }
 
 // The book with the instances of the known servers that it lacks, which are kept first.
@@ -360,6 +292,14 @@ fn configure(alloc: Global, s: &Scenario, wait: u32) -> Result<Configuration, Me
     })
 }
 
+fn is_number(_number: u64)
+    ensures { _number < 2 ^ 64 }
+{}
+
+fn is_bound(_wait: u32)
+    ensures { _wait < 2 ^ 32 }
+{}
+
 impl Engine {
     ghost use Rattle.orch_core.specs.Runs.{step, exchange_step};
 
@@ -428,7 +368,79 @@ impl Engine {
         let rows = counted_rows(alloc, keeper, self.book.names(), self.book.servers())?;
         self.book.reload(rows);
         empty_slots(&mut self.slots);
+        self.jobs.clear();
         Ok(Reply::Done)
+    }
+
+    fn numbers(&self) -> Numbers
+        ensures { result ≡ numbers_of self.now }
+    {
+        Numbers {
+            reads: self.reads,
+            last_job: self.last_job,
+            wait: self.configuration.wait,
+            moment: self.moment,
+        }
+    }
+
+    // The turn of the job of a number: the row of what it observes is kept first.
+    fn job<K: Keeper>(
+        &mut self,
+        alloc: Global,
+        keeper: &mut K,
+        id: u64,
+        written: bool,
+    ) -> Result<Replies, TurnFault>
+        ensures reply { IfOk result (λ r. AreReply written (reply_of self.old (Turn.Job id)) r) }
+        ensures ok { OnOk result (self.new ≡ step [] self.old (Turn.Job id)) }
+        ensures err { OnErr result (self.new ≡ self.old) }
+        ensures kept { K.kept keeper.new ≡ kept_if (is_ok result) (K.kept keeper.old) (changes_of [] self.old (Turn.Job id)) }
+        ensures cause { HasTurnCause (K.faults keeper.old) (K.faults keeper.new) result }
+        ensures idle { changes_of [] self.old (Turn.Job id) ≡ [] → keeper.new ≡ keeper.old }
+        ensures calls { result ≡ Err TurnFault.Keeper → changes_of [] self.old (Turn.Job id) ≢ [] }
+        ensures servers { length self.new.world.servers ≡ length self.old.world.servers }
+    {
+        match find(&self.jobs, id) {
+            None => Ok(plain(Reply::NoJob, written)),
+            Some(at) => self.job_at(alloc, keeper, FoundJob { at, id }, written),
+        }
+    }
+
+    fn job_at<K: Keeper>(
+        &mut self,
+        alloc: Global,
+        keeper: &mut K,
+        found: FoundJob,
+        written: bool,
+    ) -> Result<Replies, TurnFault>
+        requires at { found.at < length self.old.jobs }
+        requires id { job_at self.old.jobs found.id ≡ slice_get self.old.jobs found.at }
+        ensures reply { IfOk result (λ r. AreReply written (reply_of self.old (Turn.Job found.id)) r) }
+        ensures ok { OnOk result (self.new ≡ step [] self.old (Turn.Job found.id)) }
+        ensures err { OnErr result (self.new ≡ self.old) }
+        ensures kept { K.kept keeper.new ≡ kept_if (is_ok result) (K.kept keeper.old) (changes_of [] self.old (Turn.Job found.id)) }
+        ensures cause { HasTurnCause (K.faults keeper.old) (K.faults keeper.new) result }
+        ensures idle { changes_of [] self.old (Turn.Job found.id) ≡ [] → keeper.new ≡ keeper.old }
+        ensures calls { result ≡ Err TurnFault.Keeper → changes_of [] self.old (Turn.Job found.id) ≢ [] }
+        ensures servers { length self.new.world.servers ≡ length self.old.world.servers }
+    {
+        // shows the proof that a job's numbers stay in their ranges
+        jobs_stay_in_range();
+        let read = self.reads.saturating_add(1);
+        let look = self.jobs[found.at].look(alloc, &self.world, read, self.moment)?;
+        let told = answer(alloc, &look.step)?;
+        let written = copied(alloc, &told, written)?;
+        keep_store(alloc, keeper, &self.book, &look.observation)?;
+        take_turn(
+            alloc,
+            &mut self.jobs,
+            &mut self.world,
+            &mut self.book,
+            &mut self.reads,
+            found,
+            look,
+        )?;
+        Ok(Replies { told, written })
     }
 
     // Does a command: what it changes of the kept rows is kept first.
@@ -436,7 +448,7 @@ impl Engine {
         &mut self,
         alloc: Global,
         keeper: &mut K,
-        t: &HeldCommand,
+        t: &BoxedCommand,
         written: bool,
     ) -> Result<Replies, TurnFault>
         requires { IsCommand (length self.old.world.servers) t.now }
@@ -448,17 +460,23 @@ impl Engine {
         ensures idle { changes_of [] self.old (Turn.Command t.now) ≡ [] → keeper.new ≡ keeper.old }
         ensures calls { result ≡ Err TurnFault.Keeper → changes_of [] self.old (Turn.Command t.now) ≢ [] }
     {
-        let outcome = outcome_of(
-            alloc,
-            &self.world,
-            &self.book,
-            self.reads,
-            self.moment,
-            t.as_turn(),
-        )?;
+        // shows the proof what holds of the book
+        let _ = self.book.servers();
+        let numbers = self.numbers();
+        let outcome = outcome_of(alloc, &self.world, &self.book, numbers, t.as_turn())?;
         let written = copied(alloc, &outcome.reply, written)?;
-        keep_some(alloc, keeper, self.book.names(), &outcome.rows)?;
-        update_book(&mut self.book, outcome.book);
+        keep_and_update(
+            alloc,
+            keeper,
+            &mut self.book,
+            &mut self.jobs,
+            &mut self.last_job,
+            outcome.book,
+            &outcome.rows,
+        )?;
+        // shows the proof that these numbers are in their ranges
+        is_number(self.last_job);
+        is_bound(numbers.wait);
         self.reads = outcome.reads;
         Ok(Replies {
             told: outcome.reply,
@@ -469,6 +487,7 @@ impl Engine {
 
 impl Engine {
     ghost use Rattle.orch_core.specs.Keeping.{Ran, WasCutOff};
+    ghost use Rattle.orch_core.specs.Rounds.{FinishedBy, WasCutShort};
     ghost use Rattle.scenarios.specs.Scenarios.{IsScenario};
     ghost use Rattle.orch_core.specs.Scenarios.{StartsBy, kept_at_start};
 
@@ -506,6 +525,7 @@ impl Engine {
             book,
             slots,
             reads: last_read(&rows),
+            jobs: Vec::new(alloc),
             last_job: 0,
             configuration,
         })
@@ -533,6 +553,7 @@ impl Engine {
             Turn::PollRead(poller, no) => Ok(plain(self.poll_read(alloc, *poller, *no)?, written)),
             Turn::PollStore(poller) => Ok(plain(self.poll_store(alloc, keeper, *poller)?, written)),
             Turn::Command(t) => self.command(alloc, keeper, t, written),
+            Turn::Job(id) => self.job(alloc, keeper, *id, written),
             Turn::Restart => Ok(plain(self.restart(alloc, keeper)?, written)),
             Turn::Write(_, _)
             | Turn::Fetch(_)
@@ -543,7 +564,6 @@ impl Engine {
             | Turn::Join(_, _)
             | Turn::Rotate(_)
             | Turn::Tick(_)
-            | Turn::Job(_)
             | Turn::Scan => Ok(plain(self.exchange_turn(t), written)),
         }
     }
@@ -590,6 +610,83 @@ impl Engine {
             self.turn(alloc, keeper, t)?;
         }
         Ok(())
+    }
+
+    // One round of a job: the job's turn, which answers so, and then the others.
+    fn round<K: Keeper>(
+        &mut self,
+        alloc: Global,
+        keeper: &mut K,
+        job: u64,
+        others: &[Turn],
+    ) -> Result<Reply, TurnFault>
+        requires { All (IsTurn (length self.old.world.servers)) others.now }
+        ensures reply { IfOk result (λ r. r ≡ reply_of self.old (Turn.Job job)) }
+        ensures ok { OnOk result (Ran engine (K.kept keeper.old) self.old (Turn.Job job ∷ others.now) (K.kept keeper.new) self.new) }
+        ensures err { IfErr result (λ e. WasCutOff engine (K.kept keeper.old) self.old (Turn.Job job ∷ others.now) (K.kept keeper.new) self.new e) }
+        ensures cause { HasTurnCause (K.faults keeper.old) (K.faults keeper.new) result }
+        ensures servers { length self.new.world.servers ≡ length self.old.world.servers }
+    {
+        let reply = self.turn(alloc, keeper, &Turn::Job(job))?;
+        self.run(alloc, keeper, others)?;
+        Ok(reply)
+    }
+
+    /// Rounds until the job has ended; none where it isn't open. It answers what the job's last turn answered. A round is one
+    /// turn of the job, then fetch and apply on each server in name order, then a poll-read and a poll-store by poller 0 of
+    /// each server in name order. There are at most as many rounds as the job has turns left. They run to the first fault, as
+    /// `run` does. Beside what the servers and the book hold, they take memory for one round only.
+    pub fn finish<K: Keeper>(
+        &mut self,
+        alloc: Global,
+        keeper: &mut K,
+        job: u64,
+    ) -> Result<Option<Reply>, TurnFault>
+        ensures ok { IfOk result (FinishedBy (K.kept keeper.old) self.old job (K.kept keeper.new) self.new) }
+        ensures err { IfErr result (λ e. WasCutShort engine (λ s. s) (K.kept keeper.old) self.old job (K.kept keeper.new) self.new e) }
+        ensures cause { HasTurnCause (K.faults keeper.old) (K.faults keeper.new) result }
+        ensures servers { length self.new.world.servers ≡ length self.old.world.servers }
+    {
+        let mut told = None;
+        if !self.is_open(job) {
+            return Ok(told);
+        }
+        // each shows the proof a law: of the state, of a job's numbers, and that its turns come to an end
+        self.shows_state();
+        jobs_stay_in_range();
+        jobs_end();
+        let Ok(others) = others_over(alloc, self.book.order()) else {
+            return Err(TurnFault::Memory);
+        };
+        'rounds: while self.is_open(job) {
+            self.shows_state();
+            match self.round(alloc, keeper, job, &others) {
+                Ok(reply) => told = Some(reply),
+                Err(fault) => return Err(fault),
+            }
+        }
+        Ok(told)
+    }
+
+    pub(crate) fn shows_state(&self)
+        ensures { IsState self.now }
+    {
+        let _reads = self.reads;
+    }
+
+    /// Whether there is an unended job of this number.
+    pub fn is_open(&self, job: u64) -> bool
+        ensures { result ≡ is_open self.now.jobs job }
+    {
+        find(&self.jobs, job).is_some()
+    }
+
+    /// The unended jobs, by rising number.
+    pub fn open_jobs(&self) -> &[Job]
+        ensures jobs { result.now ≡ self.now.jobs }
+        ensures rising { Rise 0 result.now self.now.last_job }
+    {
+        &self.jobs
     }
 
     /// The moment that it is now: at most 2^63.

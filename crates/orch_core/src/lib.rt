@@ -6,6 +6,7 @@ mod command;
 mod configuration;
 mod engine;
 mod fault;
+mod keep;
 mod orch;
 mod threads;
 
@@ -17,4 +18,4 @@ pub use engine::Engine;
 pub use fault::TurnFault;
 pub use orch::Orch;
 pub use scenarios::{Alias, Aliases, ClusterFilters, FilterList, Scenario, Texts, Turns, built};
-pub use turns::{HeldCommand, Reply, Turn};
+pub use turns::{BoxedCommand, Reply, Turn};

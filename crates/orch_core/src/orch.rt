@@ -3,7 +3,10 @@
 ghost use Rattle.std.specs.Prelude.{◌≡◌, ◌≤◌, ◌^◌, [], All, IfOk, IfErr, OnOk, OnErr, Err, false, is_ok, length};
 ghost use Rattle.scenarios.specs.Scenarios.{IsScenario};
 ghost use Rattle.scenarios.specs.Turns.{IsTurn};
+ghost use Rattle.jobs_in_flight.specs.Jobs.{Rise, is_open};
 ghost use Rattle.orch_core.specs.Polls.{changes_of};
+ghost use Rattle.orch_core.specs.Rounds.{Finished, WasCutShort};
+ghost use Rattle.orch_core.specs.States.{IsState};
 ghost use Rattle.orch_core.specs.Replies.{reply_of};
 ghost use Rattle.orch_core.specs.Runs.{recorder};
 ghost use Rattle.orch_core.specs.Keeping.{StepsTo, kept_by, asks, Calls, HasTurnCause, Ran, WasCutOff};
@@ -11,6 +14,9 @@ ghost use Rattle.orch_core.specs.Scenarios.{StartsBy, kept_at_start};
 
 use crate::{Engine, Reply, Scenario, Turn, TurnFault};
 use instance_keeper::{Book, Keeper};
+use job_plans::Job;
+use jobs_in_flight::round_over;
+use operations::{jobs_end, jobs_stay_in_range};
 use orch_base::Moment;
 use server_model::World;
 use std::alloc::Global;
@@ -103,6 +109,58 @@ impl Orch {
             self.turn(alloc, keeper, t.copy(alloc)?)?;
         }
         Ok(())
+    }
+
+    /// Rounds until the job has ended, as `Engine::finish`'s; each of their turns joins the journal with its reply.
+    pub fn finish<K: Keeper>(
+        &mut self,
+        alloc: Global,
+        keeper: &mut K,
+        job: u64,
+    ) -> Result<(), TurnFault>
+        ensures ok { OnOk result (Finished recorder (λ r. r.state) (K.kept keeper.old) self.old job (K.kept keeper.new) self.new) }
+        ensures err { IfErr result (λ e. WasCutShort recorder (λ r. r.state) (K.kept keeper.old) self.old job (K.kept keeper.new) self.new e) }
+        ensures cause { HasTurnCause (K.faults keeper.old) (K.faults keeper.new) result }
+        ensures servers { length self.new.state.world.servers ≡ length self.old.state.world.servers }
+    {
+        if !self.is_open(job) {
+            return Ok(());
+        }
+        // each shows the proof a law: of the state, of a job's numbers, and that its turns come to an end
+        self.shows_state();
+        jobs_stay_in_range();
+        jobs_end();
+        let Ok(turns) = round_over(alloc, self.engine.book().order(), job) else {
+            return Err(TurnFault::Memory);
+        };
+        'rounds: while self.is_open(job) {
+            self.shows_state();
+            if let Err(fault) = self.run(alloc, keeper, &turns) {
+                return Err(fault);
+            }
+        }
+        Ok(())
+    }
+
+    fn shows_state(&self)
+        ensures { IsState self.now.state }
+    {
+        self.engine.shows_state();
+    }
+
+    /// Whether there is an unended job of this number.
+    pub fn is_open(&self, job: u64) -> bool
+        ensures { result ≡ is_open self.now.state.jobs job }
+    {
+        self.engine.is_open(job)
+    }
+
+    /// The unended jobs, by rising number.
+    pub fn open_jobs(&self) -> &[Job]
+        ensures jobs { result.now ≡ self.now.state.jobs }
+        ensures rising { Rise 0 result.now self.now.state.last_job }
+    {
+        self.engine.open_jobs()
     }
 
     /// Each turn so far with its reply, in order.

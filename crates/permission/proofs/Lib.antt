@@ -1,2 +1,4 @@
 pub mod Missing
 pub mod Below
+pub mod Within
+pub mod Free

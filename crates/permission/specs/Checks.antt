@@ -7,7 +7,7 @@ use Rattle.commands.specs.declared.refusal.Refusal.{Refusal}
 use Rattle.commands.specs.declared.refusal.Refusal.TheVariants as refusal
 use Rattle.commands.specs.declared.turn.Command.{Command}
 use Rattle.commands.specs.Unknown.{unknown_of}
-use Rattle.instance_keeper.specs.Book.{Known, instance_at, lease_at}
+use Rattle.instance_keeper.specs.Book.{BookState, instance_at, lease_at}
 use Rattle.server_model.specs.Worlds.{World}
 use Rattle.book_views.specs.Sources.{seen_source, is_instance}
 use Rattle.permission.specs.declared.case.Check.{Check}
@@ -43,18 +43,18 @@ busy_by n None = None
 busy_by n (Some job) = Some (refusal.Busy n job)
 
 -- a job has the server's lease
-abbrev pub busy : Known → ServerNo → Option Refusal
+abbrev pub busy : BookState → ServerNo → Option Refusal
 busy b n = busy_by n (lease_at b n)
 
 -- the server isn't a valid instance
-abbrev pub unreached : Known → ServerNo → Option Refusal
+abbrev pub unreached : BookState → ServerNo → Option Refusal
 unreached b n = only_if (not (is_valid b n)) (refusal.Unreachable n)
 
 abbrev pub of_other_cluster : World → Move → Option Refusal
 of_other_cluster w m = only_if (not (same_label w m.no m.source)) refusal.OtherCluster
 
 -- the new source is below the server that moves
-abbrev pub of_below : Known → Move → Option Refusal
+abbrev pub of_below : BookState → Move → Option Refusal
 of_below b m = only_if (is_below b m.source m.no) refusal.Below
 
 -- the new source has no binary log
@@ -72,11 +72,11 @@ errant_by [] = None
 errant_by (s ∷ xs) = Some (refusal.Errant (s ∷ xs))
 
 -- what the server has executed of its own, as it was seen, and its new source lacks
-abbrev pub errant : World → Known → Move → Option Refusal
+abbrev pub errant : World → BookState → Move → Option Refusal
 errant w b m = errant_by (own_missing (uuid_of w m.no) (set_seen b m.no) (set_seen b m.source))
 
 -- the refusal of a check, none where it passes; over several servers that of the first
-abbrev pub refusal_by : World → Known → Case → Check → Option Refusal
+abbrev pub refusal_by : World → BookState → Case → Check → Option Refusal
 refusal_by w b c check.SameInstance = only_if (is_given c.i c.to) refusal.SameInstance
 refusal_by w b c check.Busy = first_about (busy b) c.leased
 refusal_by w b c check.Unreachable = first_about (unreached b) c.reached
@@ -95,16 +95,16 @@ refusal_by w b c check.GtidOff = only_if (not w.gtid) refusal.GtidOff
 refusal_by w b c check.Errant = first_about (errant w b) c.moves
 
 -- the refusal of the first check that doesn't pass; a row has its checks by rising number
-abbrev pub first_refusal : World → Known → Case → List Check → Option Refusal
+abbrev pub first_refusal : World → BookState → Case → List Check → Option Refusal
 first_refusal w b c row = first_about (refusal_by w b c) row
 
 -- ---- 2: the instances that a command names
 
-abbrev pub is_known : Known → Option ServerNo → Bool
+abbrev pub is_known : BookState → Option ServerNo → Bool
 is_known b None = false
 is_known b (Some n) = is_instance b n
 
-abbrev pub unknown_in : Known → Command → Option Refusal
+abbrev pub unknown_in : BookState → Command → Option Refusal
 unknown_in b c = unknown_of c (is_known b c.i) (is_known b c.d)
 
 -- ---- the answer of a permit

@@ -2,3 +2,4 @@ pub mod Lists
 pub mod Views
 pub mod Errants
 pub mod Checks
+pub mod Replicas

@@ -9,7 +9,7 @@ use Rattle.orch_base.specs.declared.server.SourceState.{SourceState}
 use Rattle.orch_base.specs.declared.server.SourceState.TheVariants.{Without, Attached, Detached}
 use Rattle.orch_base.specs.declared.server.Version.{Version}
 use Rattle.instance_keeper.specs.declared.observation.Instance.{Instance}
-use Rattle.instance_keeper.specs.Book.{Known, instance_at}
+use Rattle.instance_keeper.specs.Book.{BookState, instance_at}
 use Rattle.server_model.specs.declared.server.Server.{Server}
 use Rattle.server_model.specs.Worlds.{World, server_at}
 use Rattle.topology_tree.specs.Forests.{above}
@@ -19,7 +19,7 @@ use Rattle.book_views.specs.Sources.{seen_source, source_in}
 -- ---- by the book
 
 -- the seen source, attached or detached
-abbrev pub source_of : Known → ServerNo → Option ServerNo
+abbrev pub source_of : BookState → ServerNo → Option ServerNo
 source_of b n = source_in (seen_source (instance_at b n))
 
 abbrev pub attached_in : SourceState → Option ServerNo
@@ -28,7 +28,7 @@ attached_in (Attached m) = Some m
 attached_in (Detached m) = None
 
 -- the seen source, where the server is attached to it
-abbrev pub attached_of : Known → ServerNo → Option ServerNo
+abbrev pub attached_of : BookState → ServerNo → Option ServerNo
 attached_of b n = attached_in (seen_source (instance_at b n))
 
 abbrev pub is_attached_in : SourceState → Bool
@@ -42,7 +42,7 @@ is_detached_in (Attached m) = false
 is_detached_in (Detached m) = true
 
 -- the source's own source, attached or detached
-abbrev pub source_above : Known → ServerNo → Option ServerNo
+abbrev pub source_above : BookState → ServerNo → Option ServerNo
 source_above b n = option_and_then (source_of b) (source_of b n)
 
 abbrev pub valid_in : Option Instance → Bool
@@ -50,7 +50,7 @@ valid_in None = false
 valid_in (Some i) = i.valid
 
 -- the server is an instance whose last reading reached it
-abbrev pub is_valid : Known → ServerNo → Bool
+abbrev pub is_valid : BookState → ServerNo → Bool
 is_valid b n = valid_in (instance_at b n)
 
 abbrev pub auto_in : Option Instance → Bool
@@ -58,7 +58,7 @@ auto_in None = false
 auto_in (Some i) = i.seen.auto
 
 -- the server was seen to find its place by GTIDs
-abbrev pub is_auto : Known → ServerNo → Bool
+abbrev pub is_auto : BookState → ServerNo → Bool
 is_auto b n = auto_in (instance_at b n)
 
 abbrev pub set_in : Option Instance → List Interval
@@ -66,14 +66,19 @@ set_in None = []
 set_in (Some i) = i.seen.set
 
 -- the set that was seen of the server
-abbrev pub set_seen : Known → ServerNo → List Interval
+abbrev pub set_seen : BookState → ServerNo → List Interval
 set_seen b n = set_in (instance_at b n)
 
 -- one server comes to another by following parents in the book's forest, which takes fewer steps than there are nodes
-abbrev pub is_below : Known → ServerNo → ServerNo → Bool
+abbrev pub is_below : BookState → ServerNo → ServerNo → Bool
 is_below b one other =
     nat_lt one.0 (length b.names) && nat_lt other.0 (length b.names)
     && is_reached (above (book_forest b)) (length (book_forest b)) (node_at b other) (node_at b one)
+
+-- one server stands before another by name
+abbrev pub is_before : BookState → ServerNo → ServerNo → Bool
+is_before b one other =
+    nat_lt one.0 (length b.names) && nat_lt other.0 (length b.names) && nat_lt (node_at b one) (node_at b other)
 
 -- ---- by the settings, which never change
 

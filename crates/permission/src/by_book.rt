@@ -7,7 +7,7 @@ ghost use Rattle.book_views.specs.Forests.{book_forest, IsBelow};
 ghost use Rattle.book_views.specs.Sources.{is_instance, seen_source};
 ghost use Rattle.permission.specs.Checks.{busy, of_below, unreached};
 ghost use Rattle.permission.specs.Lists.{first_about};
-ghost use Rattle.permission.specs.Views.{attached_in, attached_of, is_attached_in, is_auto, is_below, is_detached_in, is_valid, set_seen, source_above, source_of};
+ghost use Rattle.permission.specs.Views.{attached_in, attached_of, is_attached_in, is_auto, is_before, is_below, is_detached_in, is_valid, set_seen, source_above, source_of};
 
 use crate::case::Move;
 use commands::Refusal;
@@ -142,6 +142,14 @@ pub fn is_below(book: &Book, forest: &Forest, no: ServerNo, other: ServerNo) -> 
     forest.edges_have_no_loop();
     let count = book.servers();
     no.0 < count && other.0 < count && book_views::is_below(book, forest, no, other)
+}
+
+/// Whether a server of the book stands before another by name.
+pub fn is_before(book: &Book, one: ServerNo, other: ServerNo) -> bool
+    ensures { result ≡ is_before book.now one other }
+{
+    let count = book.servers();
+    one.0 < count && other.0 < count && book.rank(one) < book.rank(other)
 }
 
 /// The first of the servers of which a job has the lease, with that job.

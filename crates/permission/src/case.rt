@@ -1,6 +1,7 @@
 //! What the checks of a command are about.
 
 ghost use Rattle.std.specs.Prelude.{◌≡◌, IfOk};
+ghost use Rattle.std.specs.Option.{option_to_list};
 ghost use Rattle.permission.specs.Lists.{moves_to};
 
 use crate::Memory;
@@ -73,6 +74,17 @@ impl Model for Case {
     ghost Value = { ACase };
 
     ghost view = { λ c. record { i = c.i; to = c.to; leased = c.leased.items; reached = c.reached.items; moves = c.moves.items; sources = c.sources.items } };
+}
+
+/// The list of one server, where there is one.
+pub fn one_or_none(alloc: Global, no: Option<ServerNo>) -> Result<Vec<ServerNo>, Memory>
+    ensures { IfOk result (λ list. list.items ≡ option_to_list no) }
+{
+    let mut list = Vec::new(alloc);
+    if let Some(no) = no {
+        list.push(no)?;
+    }
+    Ok(list)
 }
 
 /// These servers move to one source, where there is one.

@@ -5,10 +5,12 @@
 mod by_book;
 mod by_settings;
 mod case;
+mod replicas;
 mod row;
 
-pub use by_book::{attached_to, is_auto, is_below, source, source_above};
-pub use case::{Case, Check, Move, moves_to};
+pub use by_book::{attached_to, is_auto, is_before, is_below, source, source_above};
+pub use case::{Case, Check, Move, moves_to, one_or_none};
 /// Want of memory.
 pub use orch_base::Memory;
+pub use replicas::{replicas_but, siblings};
 pub use row::{PermitFault, answered, first_refusal, unknown_in};

@@ -15,7 +15,7 @@ use crate::by_book::{
 };
 use crate::by_settings::{lower_version, not_logging, other_cluster, same_id, uuid};
 use crate::case::{Case, Check, Move};
-use commands::{Command, HeldSet, Refusal, unknown_instance};
+use commands::{BoxedSet, Command, Refusal, unknown_instance};
 use gtid_sets::GtidSet;
 use instance_keeper::Book;
 use orch_base::ServerNo;
@@ -48,7 +48,8 @@ fn only_if(fails: bool, refusal: Refusal) -> Option<Refusal>
     if fails { Some(refusal) } else { None }
 }
 
-fn is_given(no: ServerNo, other: Option<ServerNo>) -> bool
+/// Whether a server is the one that is given.
+pub(crate) fn is_given(no: ServerNo, other: Option<ServerNo>) -> bool
     ensures { result ≡ is_given no other }
 {
     match other {
@@ -93,7 +94,7 @@ fn errant_by(alloc: Global, missing: GtidSet) -> Result<Option<Refusal>, Memory>
     if missing.is_empty() {
         return Ok(None);
     }
-    Ok(Some(Refusal::Errant(HeldSet::new(alloc, missing)?)))
+    Ok(Some(Refusal::Errant(BoxedSet::new(alloc, missing)?)))
 }
 
 fn errant(alloc: Global, book: &Book, world: &World, one: Move) -> Result<Option<Refusal>, Memory>

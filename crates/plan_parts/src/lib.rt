@@ -1,8 +1,12 @@
 //! The lists of operations of which plans are made.
 #![tactic(auto)]
 
+mod ends;
+mod lists;
 mod parts;
 
+pub use ends::{finished, following, moved, moved_each, told};
+pub use lists::{autos, unders, ups};
 /// Want of memory.
 pub use orch_base::Memory;
-pub use parts::{again, asking, auto, finished, restarted, swap, under, up};
+pub use parts::{again, again_auto, asking, auto, restarted, swap, under, up};

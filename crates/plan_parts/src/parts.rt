@@ -1,10 +1,10 @@
 //! The parts of plans.
 
 ghost use Rattle.std.specs.Prelude.{◌≡◌, ◌∷◌, [], IfOk, None};
-ghost use Rattle.operations.specs.Plans.{again, asking, auto, finished, swap, under, up};
+ghost use Rattle.operations.specs.Plans.{again, asking, auto, swap, under, up};
+ghost use Rattle.plan_parts.specs.Parts.{again_auto};
 
 use crate::Memory;
-use commands::Lines;
 use operations::{Aim, Crossing, Op};
 use orch_base::ServerNo;
 use std::alloc::Global;
@@ -79,6 +79,20 @@ pub fn auto(alloc: Global, r: ServerNo, d: ServerNo) -> Result<Vec<Op>, Memory>
     ]?)
 }
 
+/// `i` finds its place under its source `x` by what was executed, from now on.
+pub fn again_auto(alloc: Global, i: ServerNo, x: ServerNo) -> Result<Vec<Op>, Memory>
+    ensures { IfOk result (λ ops. ops.items ≡ again_auto i x) }
+{
+    Ok(vec![in alloc;
+        Op::Stop(i),
+        Op::Status(i, Some(x)),
+        Op::Status(x, None),
+        Op::Auto(i, x),
+        Op::Start(i),
+        Op::Status(i, None),
+    ]?)
+}
+
 /// `i`, which is below `x`, and `x` change places under `x`'s source `g`.
 pub fn swap(alloc: Global, i: ServerNo, x: ServerNo, g: ServerNo) -> Result<Vec<Op>, Memory>
     ensures { IfOk result (λ ops. ops.items ≡ swap i x g) }
@@ -113,12 +127,4 @@ pub fn restarted(alloc: Global, op: Op, i: ServerNo) -> Result<Vec<Op>, Memory>
     ensures { IfOk result (λ ops. ops.items ≡ op ∷ asking (Op.Start i) i) }
 {
     Ok(vec![in alloc; op, Op::Start(i), Op::Status(i, None)]?)
-}
-
-/// These operations, and at last the end with these lines.
-pub fn finished(mut ops: Vec<Op>, lines: Lines) -> Result<Vec<Op>, Memory>
-    ensures { IfOk result (λ all. all.items ≡ finished ops.items lines) }
-{
-    ops.push(Op::Finish(lines))?;
-    Ok(ops)
 }

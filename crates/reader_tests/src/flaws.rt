@@ -6,7 +6,7 @@ ghost use Rattle.scenario_servers.specs.Openings.{IsGiven};
 use binlog_coords::Coord;
 use made_openings::{are_apart, are_servers};
 use openings::{Counts, Part, Parts, ServerInit};
-use orch_base::{Label, Name, ServerNo, Version};
+use orch_base::{Name, OwnedText, ServerNo, Version};
 use scenario_openings::opening_in;
 use scenario_servers::{Given, Identity, Replication, Setup, inits_of};
 use scenario_values::{FaultCode, ReadFault};
@@ -95,7 +95,7 @@ fn identity(alloc: Global, n: u32, sketch: &Sketch) -> Result<Identity, Fail> {
         _ => "c",
     };
     let cluster = if sketch.is_labelled {
-        Some(Label::new(String::from_str(alloc, "main")?))
+        Some(OwnedText::new(String::from_str(alloc, "main")?))
     } else {
         None
     };

@@ -1,7 +1,8 @@
 //! Command turns, what they are given, and the faults of their keys.
 
-use commands::{CommandName, CommandTurn, is_built_command};
-use orch_base::{Label, Name, Rule, ServerNo};
+use command_routes::is_built_command;
+use commands::{CommandName, CommandTurn};
+use orch_base::{Name, OwnedText, Rule, ServerNo};
 use scenario_servers::Names;
 use scenario_turns::{Patterns, command_in, found, printed_names};
 use scenario_values::ReadFault;
@@ -19,7 +20,7 @@ fn names_of(alloc: Global) -> Result<Names, Fail> {
     }
 }
 
-fn printed_of(alloc: Global) -> Result<Vec<Label>, Fail> {
+fn printed_of(alloc: Global) -> Result<Vec<OwnedText>, Fail> {
     let mut names = Vec::new(alloc);
     for text in ["db-a", "db-b:3307", "db-c:3306"] {
         match Name::read(alloc, text) {

@@ -128,7 +128,16 @@ fn turns_have_codes_and_paths(rt: HostRuntime) -> Result<(), Fail> {
         ("[]", FaultCode::BadTurn, "/turns/1"),
         ("[1]", FaultCode::BadType, "/turns/1/0"),
         (r#"["spin"]"#, FaultCode::BadTurn, "/turns/1"),
-        (r#"["job"]"#, FaultCode::NotBuilt, "/turns/1"),
+        (r#"["job"]"#, FaultCode::BadTurn, "/turns/1"),
+        (r#"["job",1,2]"#, FaultCode::BadTurn, "/turns/1"),
+        (r#"["job","1"]"#, FaultCode::BadType, "/turns/1/1"),
+        (r#"["job",1.5]"#, FaultCode::BadNumber, "/turns/1/1"),
+        (r#"["job",-1]"#, FaultCode::BadNumber, "/turns/1/1"),
+        (
+            r#"["job",18446744073709551616]"#,
+            FaultCode::BadNumber,
+            "/turns/1/1",
+        ),
         (r#"["scan",1,2]"#, FaultCode::NotBuilt, "/turns/1"),
         (r#"["write","x"]"#, FaultCode::BadTurn, "/turns/1"),
         (r#"["write","x",0]"#, FaultCode::UnknownName, "/turns/1/1"),
@@ -183,7 +192,7 @@ fn commands_have_codes_and_paths(rt: HostRuntime) -> Result<(), Fail> {
         ("1,1", FaultCode::BadType, "/turns/0/1"),
         (r#""run",{}"#, FaultCode::BadCommand, "/turns/0/1"),
         (r#""spin",1"#, FaultCode::BadCommand, "/turns/0/1"),
-        (r#""move-up",1"#, FaultCode::NotBuilt, "/turns/0/1"),
+        (r#""recover",1"#, FaultCode::NotBuilt, "/turns/0/1"),
         (r#""recover",{"i":"m"}"#, FaultCode::NotBuilt, "/turns/0/1"),
         (r#""topology",["m"]"#, FaultCode::BadType, "/turns/0/2"),
         (r#""topology",{}"#, FaultCode::BadCommand, "/turns/0/2"),
@@ -328,6 +337,7 @@ fn shown(alloc: Global, turn: &Turn) -> Result<String, Fail> {
         Turn::Apply(no) => format!(in alloc; "apply {}", no.0)?,
         Turn::PollRead(poller, no) => format!(in alloc; "read {poller} {}", no.0)?,
         Turn::PollStore(poller) => format!(in alloc; "store {poller}")?,
+        Turn::Job(job) => format!(in alloc; "job {job}")?,
         Turn::Restart => String::from_str(alloc, "restart")?,
         Turn::Write(_, _)
         | Turn::Fail(_)
@@ -337,7 +347,6 @@ fn shown(alloc: Global, turn: &Turn) -> Result<String, Fail> {
         | Turn::Rotate(_)
         | Turn::Tick(_)
         | Turn::Command(_)
-        | Turn::Job(_)
         | Turn::Scan => String::new(alloc),
     })
 }
@@ -346,7 +355,8 @@ fn shown(alloc: Global, turn: &Turn) -> Result<String, Fail> {
 fn polls_and_rounds_stand_for_turns_in_name_order(rt: HostRuntime) -> Result<(), Fail> {
     let text = r#"{
         "version": 1, "servers": [{"name": "a:10"}, {"name": "b:1"}, {"name": "a:2"}],
-        "turns": [["polls"], ["restart"], ["round"], ["poll-read", 63, "b:1"], ["poll-store", 63]]
+        "turns": [["polls"], ["restart"], ["round"], ["poll-read", 63, "b:1"], ["poll-store", 63], ["job", 0],
+            ["job", 18446744073709551615]]
     }"#;
     let Ok(scenario) = read(rt.alloc(), text.as_bytes()) else {
         panic!(rt; "not read");
@@ -374,6 +384,8 @@ fn polls_and_rounds_stand_for_turns_in_name_order(rt: HostRuntime) -> Result<(),
         "store 0",
         "read 63 1",
         "store 63",
+        "job 0",
+        "job 18446744073709551615",
     ];
     assert_eq!(rt; turns.len(), wanted.len());
     for (turn, want) in turns.iter().zip(wanted) {

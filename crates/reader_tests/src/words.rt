@@ -1,7 +1,7 @@
 //! Words that are taken, and words that aren't.
 
 use command_line::{Places, Usage, places};
-use orch_base::{Label, Name};
+use orch_base::{Name, OwnedText};
 use std::alloc::Global;
 use std::test::Fail;
 
@@ -23,7 +23,7 @@ fn printed(alloc: Global, name: &Option<Name>) -> Result<String, Fail> {
     Ok(String::from_utf8_lossy(alloc, &bytes)?)
 }
 
-fn text_of(label: &Option<Label>) -> &str {
+fn text_of(label: &Option<OwnedText>) -> &str {
     match label {
         Some(label) => label.as_str(),
         None => "-",

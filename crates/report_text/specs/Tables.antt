@@ -1,4 +1,4 @@
--- The tables: a line for each server, and how many writes servers with a source accepted.
+-- The tables: a line for each server and each unended job, and how many writes servers with a source accepted.
 use Rattle.std.specs.Prelude.{ℕ, Bool, List, [], ◌∷◌, ◌++◌, length, codes, decimal, Option, Some, None, if◌then◌else◌}
 use Rattle.orch_base.specs.Names.{HostPort, printed}
 use Rattle.orch_base.specs.declared.server.SourceState.{SourceState}
@@ -82,6 +82,15 @@ abbrev pub servers_text : World → List Server → List ℕ
 servers_text w [] = []
 servers_text w (s ∷ rest) = server_text w s ++ servers_text w rest
 
--- a line for each server in order, then the count of errant writes
-abbrev pub tables_text : World → List ℕ
-tables_text w = servers_text w w.servers ++ codes "errant " ++ decimal w.errant ++ codes "\n"
+-- job N open
+abbrev pub job_text : ℕ → List ℕ
+job_text job = codes "job " ++ decimal job ++ codes " open\n"
+
+-- a line for each of these unended jobs
+abbrev pub jobs_text : List ℕ → List ℕ
+jobs_text [] = []
+jobs_text (job ∷ rest) = job_text job ++ jobs_text rest
+
+-- a line for each server in order, then one for each unended job, then the count of errant writes
+abbrev pub tables_text : World → List ℕ → List ℕ
+tables_text w jobs = servers_text w w.servers ++ jobs_text jobs ++ codes "errant " ++ decimal w.errant ++ codes "\n"

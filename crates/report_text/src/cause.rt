@@ -3,15 +3,19 @@
 ghost use Rattle.std.specs.Prelude.{◌≡◌, ◌++◌, OnOk};
 ghost use Rattle.report_text.specs.Causes.{cause_text, details_text, source_text, spot_text, spots_text};
 
-use crate::names::{print_at_server, print_name};
+use crate::names::{PrintedNames, print_at_server, print_name};
 use crate::words::cause_name_word;
 use binlog_coords::print_coord;
 use commands::Cause;
-use orch_base::{Memory, Name, ServerNo, SourceState};
+use orch_base::{Memory, ServerNo, SourceState};
 use server_words::Spot;
 
 /// Where a server stands.
-pub(crate) fn print_spot(spot: Spot, names: &[Name], out: &mut Vec<u8>) -> Result<(), Memory>
+pub(crate) fn print_spot(
+    spot: Spot,
+    names: &PrintedNames<'_>,
+    out: &mut Vec<u8>,
+) -> Result<(), Memory>
     ensures { OnOk result (out.new.items ≡ out.old.items ++ spot_text names.now spot) }
 {
     match spot {
@@ -28,7 +32,11 @@ pub(crate) fn print_spot(spot: Spot, names: &[Name], out: &mut Vec<u8>) -> Resul
     }
 }
 
-fn print_source(source: SourceState, names: &[Name], out: &mut Vec<u8>) -> Result<(), Memory>
+fn print_source(
+    source: SourceState,
+    names: &PrintedNames<'_>,
+    out: &mut Vec<u8>,
+) -> Result<(), Memory>
     ensures { OnOk result (out.new.items ≡ out.old.items ++ source_text names.now source) }
 {
     match source {
@@ -42,7 +50,12 @@ fn print_source(source: SourceState, names: &[Name], out: &mut Vec<u8>) -> Resul
 }
 
 // expected SPOT found SPOT
-fn print_spots(expected: Spot, found: Spot, names: &[Name], out: &mut Vec<u8>) -> Result<(), Memory>
+fn print_spots(
+    expected: Spot,
+    found: Spot,
+    names: &PrintedNames<'_>,
+    out: &mut Vec<u8>,
+) -> Result<(), Memory>
     ensures { OnOk result (out.new.items ≡ out.old.items ++ spots_text names.now expected found) }
 {
     out.extend_from_slice(b" expected ")?;
@@ -52,7 +65,7 @@ fn print_spots(expected: Spot, found: Spot, names: &[Name], out: &mut Vec<u8>) -
 }
 
 // What the cause speaks of, each value behind a space.
-fn print_details(cause: &Cause, names: &[Name], out: &mut Vec<u8>) -> Result<(), Memory>
+fn print_details(cause: &Cause, names: &PrintedNames<'_>, out: &mut Vec<u8>) -> Result<(), Memory>
     ensures { OnOk result (out.new.items ≡ out.old.items ++ details_text names.now cause.now) }
 {
     match cause {
@@ -84,7 +97,11 @@ fn print_details(cause: &Cause, names: &[Name], out: &mut Vec<u8>) -> Result<(),
 }
 
 /// The cause's name, and what it speaks of.
-pub(crate) fn print_cause(cause: &Cause, names: &[Name], out: &mut Vec<u8>) -> Result<(), Memory>
+pub(crate) fn print_cause(
+    cause: &Cause,
+    names: &PrintedNames<'_>,
+    out: &mut Vec<u8>,
+) -> Result<(), Memory>
     ensures { OnOk result (out.new.items ≡ out.old.items ++ cause_text names.now cause.now) }
 {
     out.extend_from_slice(cause_name_word(cause.name()))?;

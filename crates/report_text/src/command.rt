@@ -3,11 +3,15 @@
 ghost use Rattle.std.specs.Prelude.{◌≡◌, ◌++◌, OnOk};
 ghost use Rattle.report_text.specs.Commands.{command_text, given_text};
 
-use crate::names::print_name;
+use crate::names::{PrintedNames, print_name};
 use commands::Command;
-use orch_base::{Memory, Name, ServerNo};
+use orch_base::{Memory, ServerNo};
 
-fn print_given(names: &[Name], no: Option<ServerNo>, out: &mut Vec<u8>) -> Result<(), Memory>
+fn print_given(
+    names: &PrintedNames<'_>,
+    no: Option<ServerNo>,
+    out: &mut Vec<u8>,
+) -> Result<(), Memory>
     ensures { OnOk result (out.new.items ≡ out.old.items ++ given_text names.now no) }
 {
     match no {
@@ -22,7 +26,7 @@ fn print_given(names: &[Name], no: Option<ServerNo>, out: &mut Vec<u8>) -> Resul
 /// `command COMMAND`, then the instance and the destination where they are given.
 pub(crate) fn print_command(
     command: &Command,
-    names: &[Name],
+    names: &PrintedNames<'_>,
     out: &mut Vec<u8>,
 ) -> Result<(), Memory>
     ensures { OnOk result (out.new.items ≡ out.old.items ++ command_text names.now command.now) }

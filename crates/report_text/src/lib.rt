@@ -12,5 +12,6 @@ mod replies;
 mod table;
 mod words;
 
-pub use replies::{plain_text, reply_text};
+pub use names::PrintedNames;
+pub use replies::{plain_text, reply_text, reply_text_by};
 pub use table::tables;

@@ -4,7 +4,7 @@ ghost use Rattle.std.specs.Prelude.{◌≡◌, ◌++◌, codes, OnOk};
 ghost use Rattle.report_text.specs.Told.{counts_text, depth_text, detached_text, levels_text, lost_text, marks_text, named_text, told_lines, told_text, two_text, version_text};
 
 use crate::cause::print_spot;
-use crate::names::{print_at_server, print_name};
+use crate::names::{PrintedNames, print_at_server, print_name};
 use crate::number::{print_counted, print_number};
 use crate::recovery::print_recovery;
 use crate::refusal::print_refusal;
@@ -12,7 +12,7 @@ use crate::table::mode_word;
 use crate::words::{code_word, rule_word, state_word};
 use binlog_coords::print_coord;
 use commands::{Line, Lost, StateWord};
-use orch_base::{Memory, Name, ServerNo, Version};
+use orch_base::{Memory, ServerNo, Version};
 
 fn print_version(version: Version, out: &mut Vec<u8>) -> Result<(), Memory>
     ensures { OnOk result (out.new.items ≡ out.old.items ++ version_text version) }
@@ -65,7 +65,7 @@ fn print_marks(
 }
 
 // ` ahead C`, ` behind C`, ` unreachable`, ` moved SPOT`, ` not logging` or ` must not`
-fn print_lost(why: Lost, names: &[Name], out: &mut Vec<u8>) -> Result<(), Memory>
+fn print_lost(why: Lost, names: &PrintedNames<'_>, out: &mut Vec<u8>) -> Result<(), Memory>
     ensures { OnOk result (out.new.items ≡ out.old.items ++ lost_text names.now why) }
 {
     match why {
@@ -119,7 +119,7 @@ fn print_counts(
 fn print_name_word(
     no: ServerNo,
     word: &[u8],
-    names: &[Name],
+    names: &PrintedNames<'_>,
     out: &mut Vec<u8>,
 ) -> Result<(), Memory>
     ensures { OnOk result (out.new.items ≡ out.old.items ++ named_text names.now no word.now) }
@@ -129,7 +129,7 @@ fn print_name_word(
     out.extend_from_slice(word)
 }
 
-fn print_told(line: &Line, names: &[Name], out: &mut Vec<u8>) -> Result<(), Memory>
+fn print_told(line: &Line, names: &PrintedNames<'_>, out: &mut Vec<u8>) -> Result<(), Memory>
     ensures { OnOk result (out.new.items ≡ out.old.items ++ told_text names.now line.now) }
 {
     match line {
@@ -197,7 +197,7 @@ fn print_told(line: &Line, names: &[Name], out: &mut Vec<u8>) -> Result<(), Memo
 fn print_told_line(
     indent: &[u8],
     line: &Line,
-    names: &[Name],
+    names: &PrintedNames<'_>,
     out: &mut Vec<u8>,
 ) -> Result<(), Memory>
     ensures { OnOk result (out.new.items ≡ out.old.items ++ (indent.now ++ told_text names.now line.now ++ codes "\n")) }
@@ -211,7 +211,7 @@ fn print_told_line(
 pub(crate) fn print_told_lines(
     indent: &[u8],
     lines: &[Line],
-    names: &[Name],
+    names: &PrintedNames<'_>,
     out: &mut Vec<u8>,
 ) -> Result<(), Memory>
     ensures { OnOk result (out.new.items ≡ out.old.items ++ told_lines indent.now names.now lines.now) }

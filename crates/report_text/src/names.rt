@@ -1,16 +1,55 @@
 //! Servers' names by their numbers.
 
-ghost use Rattle.std.specs.Prelude.{◌≡◌, ◌++◌, OnOk};
+ghost use Rattle.std.specs.Prelude.{◌≡◌, ◌++◌, IfOk, OnOk};
 ghost use Rattle.report_text.specs.Names.{name_text};
 
 use orch_base::{Memory, Name, ServerNo};
+use std::alloc::Global;
+use std::marker::Model;
+
+/// Servers' names, each printed once, so that many texts append them.
+#[derive(Drop)]
+pub struct PrintedNames<'a> {
+    names: &'a [Name],
+    texts: Vec<Vec<u8>>,
+}
+
+impl<'a> Model for PrintedNames<'a> {
+    ghost use Rattle.std.specs.Prelude.{◌≡◌, List, map};
+    ghost use Rattle.orch_base.specs.Names.{HostPort, printed};
+
+    ghost Value = { List HostPort };
+
+    ghost view = { λ p. p.names.now };
+
+    ghost invariant = { λ p. map (λ t. t.items) p.texts.items ≡ map printed p.names.now };
+}
+
+impl<'a> PrintedNames<'a> {
+    /// Prints each of these names, in order. `Memory` comes only for want of memory.
+    pub fn new(alloc: Global, names: &'a [Name]) -> Result<PrintedNames<'a>, Memory>
+        ensures { IfOk result (λ p. p ≡ names.now) }
+    {
+        let mut texts = Vec::with_capacity(alloc, names.len())?;
+        for name in names {
+            let mut text = Vec::new(alloc);
+            name.print(&mut text)?;
+            texts.push(text)?;
+        }
+        Ok(PrintedNames { names, texts })
+    }
+}
 
 /// The name of the server of this number.
-pub(crate) fn print_name(names: &[Name], no: ServerNo, out: &mut Vec<u8>) -> Result<(), Memory>
+pub(crate) fn print_name(
+    names: &PrintedNames<'_>,
+    no: ServerNo,
+    out: &mut Vec<u8>,
+) -> Result<(), Memory>
     ensures { OnOk result (out.new.items ≡ out.old.items ++ name_text names.now no) }
 {
-    match names.get(no.0 as usize) {
-        Some(name) => name.print(out),
+    match names.texts.get(no.0 as usize) {
+        Some(text) => out.extend_from_slice(text),
         None => Ok(()),
     }
 }
@@ -18,7 +57,7 @@ pub(crate) fn print_name(names: &[Name], no: ServerNo, out: &mut Vec<u8>) -> Res
 /// The word, and the name of the server of this number.
 pub(crate) fn print_at_server(
     word: &[u8],
-    names: &[Name],
+    names: &PrintedNames<'_>,
     no: ServerNo,
     out: &mut Vec<u8>,
 ) -> Result<(), Memory>

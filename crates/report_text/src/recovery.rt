@@ -3,11 +3,11 @@
 ghost use Rattle.std.specs.Prelude.{◌≡◌, ◌++◌, OnOk};
 ghost use Rattle.report_text.specs.Recoveries.{begun_text, ended_text, ending_text, recovery_text};
 
-use crate::names::print_at_server;
+use crate::names::{PrintedNames, print_at_server};
 use crate::number::print_counted;
 use crate::words::{acked_word, cause_name_word, kind_word};
 use commands::RecoveryLine;
-use orch_base::{Ending, Memory, Moment, Name};
+use orch_base::{Ending, Memory, Moment};
 
 fn print_ended(ended: Option<Moment>, out: &mut Vec<u8>) -> Result<(), Memory>
     ensures { OnOk result (out.new.items ≡ out.old.items ++ ended_text ended) }
@@ -22,7 +22,7 @@ fn print_ended(ended: Option<Moment>, out: &mut Vec<u8>) -> Result<(), Memory>
 fn print_ending(
     ended: Option<Moment>,
     outcome: Ending,
-    names: &[Name],
+    names: &PrintedNames<'_>,
     out: &mut Vec<u8>,
 ) -> Result<(), Memory>
     ensures { OnOk result (out.new.items ≡ out.old.items ++ ending_text names.now ended outcome) }
@@ -46,7 +46,7 @@ fn print_ending(
 }
 
 // recovery ID CLUSTER KIND FAILED begun T
-fn print_begun(r: &RecoveryLine, names: &[Name], out: &mut Vec<u8>) -> Result<(), Memory>
+fn print_begun(r: &RecoveryLine, names: &PrintedNames<'_>, out: &mut Vec<u8>) -> Result<(), Memory>
     ensures { OnOk result (out.new.items ≡ out.old.items ++ begun_text names.now r.now) }
 {
     print_counted(b"recovery ", r.id, out)?;
@@ -61,7 +61,7 @@ fn print_begun(r: &RecoveryLine, names: &[Name], out: &mut Vec<u8>) -> Result<()
 /// The line of a recovery: what is recovered, when it began, when and how it ended, and whether it is acknowledged.
 pub(crate) fn print_recovery(
     r: &RecoveryLine,
-    names: &[Name],
+    names: &PrintedNames<'_>,
     out: &mut Vec<u8>,
 ) -> Result<(), Memory>
     ensures { OnOk result (out.new.items ≡ out.old.items ++ recovery_text names.now r.now) }

@@ -3,11 +3,11 @@
 ghost use Rattle.std.specs.Prelude.{◌≡◌, ◌++◌, OnOk};
 ghost use Rattle.report_text.specs.Refusals.{refusal_name, refusal_text, values_text};
 
-use crate::names::print_at_server;
+use crate::names::{PrintedNames, print_at_server};
 use crate::number::{print_counted, print_number};
 use crate::words::code_word;
 use commands::Refusal;
-use orch_base::{Memory, Name};
+use orch_base::Memory;
 
 fn name_word(refusal: &Refusal) -> &'static [u8]
     ensures { result.now ≡ refusal_name refusal.now }
@@ -45,7 +45,11 @@ fn name_word(refusal: &Refusal) -> &'static [u8]
 }
 
 // What the refusal speaks of, each value behind a space.
-fn print_values(refusal: &Refusal, names: &[Name], out: &mut Vec<u8>) -> Result<(), Memory>
+fn print_values(
+    refusal: &Refusal,
+    names: &PrintedNames<'_>,
+    out: &mut Vec<u8>,
+) -> Result<(), Memory>
     ensures { OnOk result (out.new.items ≡ out.old.items ++ values_text names.now refusal.now) }
 {
     match refusal {
@@ -95,7 +99,7 @@ fn print_values(refusal: &Refusal, names: &[Name], out: &mut Vec<u8>) -> Result<
 /// The refusal's number, its name, and what it speaks of.
 pub(crate) fn print_refusal(
     refusal: &Refusal,
-    names: &[Name],
+    names: &PrintedNames<'_>,
     out: &mut Vec<u8>,
 ) -> Result<(), Memory>
     ensures { OnOk result (out.new.items ≡ out.old.items ++ refusal_text names.now refusal.now) }

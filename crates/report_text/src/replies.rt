@@ -9,7 +9,7 @@ ghost use Rattle.binlog_coords.specs.Text.{coord_text};
 use crate::cause::print_cause;
 use crate::command::print_command;
 use crate::line::print_told_lines;
-use crate::names::print_at_server;
+use crate::names::{PrintedNames, print_at_server};
 use crate::number::{print_counted, print_number};
 use crate::refusal::print_refusal;
 use binlog_coords::{Coord, print_coord};
@@ -30,7 +30,7 @@ fn link_word(link: Link) -> &'static [u8]
 // The word, a space, the server's name, a space and the link.
 fn print_link(
     word: &[u8],
-    names: &[Name],
+    names: &PrintedNames<'_>,
     no: ServerNo,
     link: Link,
     out: &mut Vec<u8>,
@@ -45,7 +45,7 @@ fn print_link(
 // `poll-read `, the poller, a space and the server's name.
 fn print_poll_read(
     poller: u32,
-    names: &[Name],
+    names: &PrintedNames<'_>,
     no: ServerNo,
     out: &mut Vec<u8>,
 ) -> Result<(), Memory>
@@ -55,7 +55,7 @@ fn print_poll_read(
     print_at_server(b" ", names, no, out)
 }
 
-fn print_words(t: &Turn, names: &[Name], out: &mut Vec<u8>) -> Result<(), Memory>
+fn print_words(t: &Turn, names: &PrintedNames<'_>, out: &mut Vec<u8>) -> Result<(), Memory>
     ensures { OnOk result (out.new.items ≡ out.old.items ++ words_text names.now t.now) }
 {
     match t {
@@ -144,7 +144,7 @@ fn print_between(before: &[u8], number: u64, after: &[u8], out: &mut Vec<u8>) ->
     out.extend_from_slice(after)
 }
 
-fn print_answer(r: &Reply, names: &[Name], out: &mut Vec<u8>) -> Result<(), Memory>
+fn print_answer(r: &Reply, names: &PrintedNames<'_>, out: &mut Vec<u8>) -> Result<(), Memory>
     ensures { OnOk result (out.new.items ≡ out.old.items ++ answer_text names.now r.now) }
 {
     match r {
@@ -202,7 +202,7 @@ fn told_in(r: &Reply) -> Option<&[Line]>
 }
 
 // The lines of what is done, each behind two spaces.
-fn print_lines(r: &Reply, names: &[Name], out: &mut Vec<u8>) -> Result<(), Memory>
+fn print_lines(r: &Reply, names: &PrintedNames<'_>, out: &mut Vec<u8>) -> Result<(), Memory>
     ensures { OnOk result (out.new.items ≡ out.old.items ++ told_lines (codes "  ") names.now (lines_of (told_in r.now))) }
 {
     match told_in(r) {
@@ -216,7 +216,7 @@ fn print_line(
     number: u64,
     t: &Turn,
     r: &Reply,
-    names: &[Name],
+    names: &PrintedNames<'_>,
     out: &mut Vec<u8>,
 ) -> Result<(), Memory>
     ensures { OnOk result (out.new.items ≡ out.old.items ++ line_text names.now number t.now r.now) }
@@ -242,13 +242,31 @@ pub fn reply_text(
     ensures ok { OnOk result (out.new.items ≡ out.old.items ++ line_text names.now number t.now r.now) }
     ensures err { OnErr result (out.new.items ≡ out.old.items) }
 {
-    let mut line = Vec::new(*out.allocator());
-    print_line(number, t, r, names, &mut line)?;
-    out.append(&mut line)
+    let alloc = *out.allocator();
+    let names = PrintedNames::new(alloc, names)?;
+    reply_text_by(number, t, r, &names, &mut Vec::new(alloc), out)
+}
+
+/// As `reply_text`, by names that are printed once for many lines. `line` is room for a line, which the caller keeps from one to the
+/// next: what it holds is lost.
+pub fn reply_text_by(
+    number: u64,
+    t: &Turn,
+    r: &Reply,
+    names: &PrintedNames<'_>,
+    line: &mut Vec<u8>,
+    out: &mut Vec<u8>,
+) -> Result<(), Memory>
+    ensures ok { OnOk result (out.new.items ≡ out.old.items ++ line_text names.now number t.now r.now) }
+    ensures err { OnErr result (out.new.items ≡ out.old.items) }
+{
+    line.clear();
+    print_line(number, t, r, names, line)?;
+    out.extend_from_slice(line)
 }
 
 #[tactic(auto, unfolding(crate::specs::Lines::plain_text_of))]
-fn print_plain(r: &Reply, names: &[Name], out: &mut Vec<u8>) -> Result<(), Memory>
+fn print_plain(r: &Reply, names: &PrintedNames<'_>, out: &mut Vec<u8>) -> Result<(), Memory>
     ensures { OnOk result (out.new.items ≡ out.old.items ++ plain_text_of names.now r.now) }
 {
     match told_in(r) {
@@ -266,7 +284,9 @@ pub fn plain_text(r: &Reply, names: &[Name], out: &mut Vec<u8>) -> Result<(), Me
     ensures ok { OnOk result (out.new.items ≡ out.old.items ++ plain_text_of names.now r.now) }
     ensures err { OnErr result (out.new.items ≡ out.old.items) }
 {
-    let mut text = Vec::new(*out.allocator());
-    print_plain(r, names, &mut text)?;
+    let alloc = *out.allocator();
+    let names = PrintedNames::new(alloc, names)?;
+    let mut text = Vec::new(alloc);
+    print_plain(r, &names, &mut text)?;
     out.append(&mut text)
 }

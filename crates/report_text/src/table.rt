@@ -3,9 +3,9 @@
 ghost use Rattle.std.specs.Prelude.{◌≡◌, ◌++◌, ◌<◌, length, OnOk, OnErr};
 ghost use Rattle.std.specs.Option.{option_copied};
 ghost use Rattle.server_model.specs.Worlds.{server_at};
-ghost use Rattle.report_text.specs.Tables.{up_text, mode_text, on_text, end_text, until_text, auto_text, places_text, threads_text, standing_text, name_text, source_text, state_text, log_text, line_at, tables_text};
+ghost use Rattle.report_text.specs.Tables.{up_text, mode_text, on_text, end_text, until_text, auto_text, places_text, threads_text, standing_text, name_text, source_text, state_text, log_text, line_at, servers_text, job_text, jobs_text, tables_text};
 
-use crate::number::print_number;
+use crate::number::{print_counted, print_number};
 use binlog_coords::{Coord, LogIndex, print_coord};
 use orch_base::{Memory, Name, ServerNo, SourceState};
 use server_model::{Plain, World};
@@ -142,24 +142,48 @@ fn print_server(world: &World, no: ServerNo, out: &mut Vec<u8>) -> Result<(), Me
     out.extend_from_slice(b"\n")
 }
 
-fn print_tables(world: &World, out: &mut Vec<u8>) -> Result<(), Memory>
-    ensures { OnOk result (out.new.items ≡ out.old.items ++ tables_text world.now) }
+fn print_servers(world: &World, out: &mut Vec<u8>) -> Result<(), Memory>
+    ensures { OnOk result (out.new.items ≡ out.old.items ++ servers_text world.now world.now.servers) }
 {
     for no in 0..world.servers() {
         print_server(world, ServerNo(no), out)?;
     }
+    Ok(())
+}
+
+fn print_job(job: u64, out: &mut Vec<u8>) -> Result<(), Memory>
+    ensures { OnOk result (out.new.items ≡ out.old.items ++ job_text job) }
+{
+    print_counted(b"job ", job, out)?;
+    out.extend_from_slice(b" open\n")
+}
+
+fn print_jobs(jobs: &[u64], out: &mut Vec<u8>) -> Result<(), Memory>
+    ensures { OnOk result (out.new.items ≡ out.old.items ++ jobs_text jobs.now) }
+{
+    for job in jobs {
+        print_job(*job, out)?;
+    }
+    Ok(())
+}
+
+fn print_tables(world: &World, jobs: &[u64], out: &mut Vec<u8>) -> Result<(), Memory>
+    ensures { OnOk result (out.new.items ≡ out.old.items ++ tables_text world.now jobs.now) }
+{
+    print_servers(world, out)?;
+    print_jobs(jobs, out)?;
     out.extend_from_slice(b"errant ")?;
     print_number(world.errant(), out)?;
     out.extend_from_slice(b"\n")
 }
 
-/// Appends a line for each server in the world's order, and then how many writes servers with a source accepted; or
-/// nothing at want of memory.
-pub fn tables(world: &World, out: &mut Vec<u8>) -> Result<(), Memory>
-    ensures ok { OnOk result (out.new.items ≡ out.old.items ++ tables_text world.now) }
+/// Appends a line for each server in the world's order, then one for each of the unended jobs, given by their numbers, and
+/// then how many writes servers with a source accepted; or nothing at want of memory.
+pub fn tables(world: &World, jobs: &[u64], out: &mut Vec<u8>) -> Result<(), Memory>
+    ensures ok { OnOk result (out.new.items ≡ out.old.items ++ tables_text world.now jobs.now) }
     ensures err { OnErr result (out.new.items ≡ out.old.items) }
 {
     let mut lines = Vec::new(*out.allocator());
-    print_tables(world, &mut lines)?;
+    print_tables(world, jobs, &mut lines)?;
     out.append(&mut lines)
 }

@@ -1,3 +1,5 @@
+pub mod Plain
 pub mod RunLaws
+pub mod JobTurns
 pub mod Follows
 pub mod Permissions

@@ -1,5 +1,5 @@
 -- Runs of turns, state by state: what each turn's exchanges keep.
-use Rattle.std.proofs.Common.{◌≡◌, ℕ, ◌+◌, ◌-◌, ◌≤◌, Bool, cond, List, [], ◌∷◌, ◌++◌, length, take, refl, sym, ◌∙◌, ap, subst, Some, arith, zero, suc}
+use Rattle.std.proofs.Common.{◌≡◌, ℕ, ◌+◌, ◌-◌, ◌≤◌, Bool, cond, List, [], ◌∷◌, ◌++◌, length, take, refl, sym, ◌∙◌, ap, subst, Option, None, Some, false, arith, zero, suc}
 use Rattle.std.specs.Prelude.{All, slice_get, count_by}
 use Rattle.std.proofs.Math.Seq.{take-append-add}
 use Rattle.std.proofs.lemmas.List.Sums.{sum_by-append, sum_by-cons}
@@ -20,8 +20,6 @@ use Rattle.server_model.specs.Worlds.{World, server_at}
 use Rattle.replication_laws.specs.Room.{HasFiles, IsNotFull}
 use Rattle.world_openings.specs.Room.{room_for}
 use Rattle.replication_laws.proofs.Applies.{no_skipped}
-use Rattle.replication_laws.proofs.Keeping.{Placed-safe}
-use Rattle.opening_laws.proofs.Openings.{Safe-opened}
 use Rattle.replication_laws.proofs.Files.{not_full-files}
 use Rattle.opening_laws.proofs.Rooms.{not_full-opened}
 use Rattle.replication_laws.proofs.Runs as exchanges
@@ -36,35 +34,70 @@ use Rattle.orch_core.specs.Scenarios.{start, start_world}
 use Rattle.orch_core.specs.States.{State}
 use Rattle.orch_core.specs.Turns.{exchanges_at, exchanges_of}
 use Rattle.orch_core.proofs.States.{Allowed-turn}
+use Rattle.orch_base.specs.Memory.{next_count}
+use Rattle.std.specs.Prelude.{◌==◌}
+use Rattle.std.specs.Option.{option_map}
+use Rattle.operations.specs.Jobs.{Job}
+use Rattle.operations.proofs.Allowing.{turn-allowed}
+use Rattle.job_laws.specs.Flights.{Flight, Held, Sound}
+use Rattle.job_laws.specs.Held.{HeldJob}
+use Rattle.job_laws.specs.Sound.{AllBridged}
+use Rattle.job_laws.proofs.Lists.{All-find}
+use Rattle.job_laws.proofs.Passages.{Held-passing, Sound-passing}
+use Rattle.job_laws.proofs.Turns.{turn-sound}
+use Rattle.jobs_in_flight.specs.Jobs.{job_at, job_exchanges}
+use Rattle.orch_core.specs.Jobs.{turn_of}
+use Rattle.flight_laws.specs.Flights.{flight_of, moment_at, passages_of}
 use Rattle.run_laws.specs.Runs.{ComesBy, ComesTo, ComesWithin}
+use Rattle.flight_laws.proofs.Flown.{flown, may-pass}
+use Rattle.flight_laws.proofs.Openings.{Held-start, Sound-start}
+use Rattle.run_laws.proofs.Plain.{IsPlain, none-counts, turn-plain}
+use Rattle.flight_laws.specs.Ready.{Ready}
+use Rattle.flight_laws.proofs.Readiness.{Ready-start, Ready-step}
 
 -- ---- what holds of each state
 
+-- all that is kept speaks of so many servers, what is held holds, and in a quiet state the rest, too
+pub record Goes (count : ℕ) (s : State) : Type 0 where
+  pub ready : Ready count s
+  pub held : Held (flight_of s)
+  pub sound : IsQuiet s.world → Sound (flight_of s)
+
+Goes-step : (count : ℕ) (rows : List Row) (s : State) (t : Turn) → IsTurn count t → Goes count s → Goes count (step rows s t)
+Goes-step count rows s t is goes =
+    let same = flown count rows s t goes.ready is in
+    let may = may-pass count s t goes.ready is in
+    record {
+      ready = Ready-step count rows s t goes.ready is;
+      held = subst Held (sym same) (Held-passing (flight_of s) (passages_of s t) may goes.held);
+      sound = λ q.
+          subst Sound (sym same)
+          (Sound-passing (flight_of s) (passages_of s t) may (subst (λ (f : Flight). IsQuiet f.world) same q) goes.held
+          (goes.sound (exchanges.quiet-run s.world (exchanges_at s t) q)));
+    }
+
+Goes-run : (count : ℕ) (s : State) (xs : List (List Row × Turn)) → All (IsTurn count) (turns_of xs) → Goes count s → Goes count (run_turns engine s xs)
+Goes-run count s [] all goes = goes
+Goes-run count s (x ∷ xs) all goes =
+    Goes-run count (step x.0 s x.1) xs (All-tail (IsTurn count) x.1 (turns_of xs) all) (Goes-step count x.0 s x.1 (All-head (IsTurn count) x.1 (turns_of xs) all) goes)
+
+pub Goes-start : (s : Scenario) (wait : ℕ) (rows : List Row) → IsScenario s → Goes (length s.opening.servers) (start s wait rows)
+Goes-start s wait rows is = record { ready = Ready-start s wait rows is; held = Held-start s wait rows is; sound = λ q. Sound-start s wait rows is }
+
+pub Goes-comes : (s : Scenario) (xs : List (List Row × Turn)) (now : State) → ComesTo s xs now → Goes (length s.opening.servers) now
+Goes-comes s xs now comes =
+    subst (Goes (length s.opening.servers)) (sym comes.state)
+    (Goes-run (length s.opening.servers) (start s comes.wait comes.rows) xs comes.turns (Goes-start s comes.wait comes.rows comes.scenario))
+
+-- of the servers alone
 pub record Holds (s : State) : Type 0 where
   pub placed : Placed s.world
   pub safe : IsQuiet s.world → Safe s.world
 
-Holds-step : (count : ℕ) (rows : List Row) (s : State) (t : Turn) → IsTurn count t → Holds s → Holds (step rows s t)
-Holds-step count rows s t is holds =
-    let allowed = Allowed-turn count s.world t is in
-    record {
-      placed = exchanges.Placed-run s.world (exchanges_at s t) holds.placed allowed.0;
-      safe = λ q. exchanges.Safe-run s.world (exchanges_at s t) (holds.safe (exchanges.quiet-run s.world (exchanges_at s t) q)) allowed.0 allowed.1 q;
-    }
-
-Holds-run : (count : ℕ) (s : State) (xs : List (List Row × Turn)) → All (IsTurn count) (turns_of xs) → Holds s → Holds (run_turns engine s xs)
-Holds-run count s [] all holds = holds
-Holds-run count s (x ∷ xs) all holds =
-    Holds-run count (step x.0 s x.1) xs (All-tail (IsTurn count) x.1 (turns_of xs) all) (Holds-step count x.0 s x.1 (All-head (IsTurn count) x.1 (turns_of xs) all) holds)
-
-Holds-start : (s : Scenario) (wait : ℕ) (rows : List Row) → IsScenario s → Holds (start s wait rows)
-Holds-start s wait rows is =
-    let safe = Safe-opened s.opening (room_of s) (flushes_of s) is.checked in
-    record { placed = Placed-safe (start_world s) safe; safe = λ q. safe }
-
 pub Holds-comes : (s : Scenario) (xs : List (List Row × Turn)) (now : State) → ComesTo s xs now → Holds now
 Holds-comes s xs now comes =
-    subst Holds (sym comes.state) (Holds-run (length s.opening.servers) (start s comes.wait comes.rows) xs comes.turns (Holds-start s comes.wait comes.rows comes.scenario))
+    let goes = Goes-comes s xs now comes in
+    record { placed = goes.held.placed; safe = λ q. (goes.sound q).safe }
 
 pub not_skipped : (s : Scenario) (xs : List (List Row × Turn)) (now : State) (n : ℕ) (to : Coord) → ComesTo s xs now → IsQuiet now.world → (apply now.world n).0 ≡ answers.Skipped to → ⊥
 not_skipped s xs now n to comes q = no_skipped now.world n to ((Holds-comes s xs now comes).safe q)
@@ -117,15 +150,45 @@ Fit-append w (e ∷ es) fs here more =
     let rest = Fit-append (after w e) es fs (record { allowed = here.allowed.1; join = here.join.1 }) more in
     record { allowed = (here.allowed.0, rest.allowed); join = (here.join.0, rest.join) }
 
-Fit-turn : (count : ℕ) (s : State) (t : Turn) → IsTurn count t → Fit s.world (exchanges_at s t)
-Fit-turn count s t is = let fit = Allowed-turn count s.world t is in record { allowed = fit.0; join = fit.1 }
+-- a job's turn in a sound state
+Fit-job : (s : State) (o : Option Job) → ((j : Job) → o ≡ Some j → HeldJob s.world j) → ((j : Job) → o ≡ Some j → AllBridged s.world j.seen) → Placed s.world → Safe s.world
+    → Fit s.world (job_exchanges (option_map (turn_of s) o))
+Fit-job s None held bridged placed safe = record { allowed = tt; join = tt }
+Fit-job s (Some j) held bridged placed safe = record {
+  allowed = turn-allowed s.world (next_count s.reads) (moment_at s) j;
+  join = (turn-sound s.world (next_count s.reads) (moment_at s) j safe placed (held j refl) (bridged j refl)).joins;
+}
 
-Fit-along : (count : ℕ) (s : State) (xs : List (List Row × Turn)) → All (IsTurn count) (turns_of xs) → Fit s.world (along s xs)
+Fit-plain : (count : ℕ) (s : State) (t : Turn) → IsTurn count t → Fit s.world (exchanges_of t)
+Fit-plain count s t is = let fit = Allowed-turn count s.world t is in record { allowed = fit.0; join = fit.1 }
+
+Fit-turn : (count : ℕ) (s : State) (t : Turn) → IsTurn count t → Goes count s → IsQuiet s.world → Fit s.world (exchanges_at s t)
+Fit-turn count s (turn.Write n size) is goes q = Fit-plain count s (turn.Write n size) is
+Fit-turn count s (turn.Fetch n) is goes q = Fit-plain count s (turn.Fetch n) is
+Fit-turn count s (turn.Apply n) is goes q = Fit-plain count s (turn.Apply n) is
+Fit-turn count s (turn.Fail n) is goes q = Fit-plain count s (turn.Fail n) is
+Fit-turn count s (turn.Heal n) is goes q = Fit-plain count s (turn.Heal n) is
+Fit-turn count s (turn.Cut n link) is goes q = Fit-plain count s (turn.Cut n link) is
+Fit-turn count s (turn.Join n link) is goes q = Fit-plain count s (turn.Join n link) is
+Fit-turn count s (turn.Rotate n) is goes q = Fit-plain count s (turn.Rotate n) is
+Fit-turn count s (turn.Tick seconds) is goes q = Fit-plain count s (turn.Tick seconds) is
+Fit-turn count s (turn.Job job) is goes q =
+    let is_job : Job → Bool = λ j. j.id == job in
+    Fit-job s (job_at s.jobs job) (λ j at. All-find (HeldJob s.world) is_job s.jobs j goes.held.jobs at)
+    (λ j at. All-find (λ k. AllBridged s.world k.seen) is_job s.jobs j (goes.sound q).jobs at) goes.held.placed (goes.sound q).safe
+Fit-turn count s turn.Scan is goes q = Fit-plain count s turn.Scan is
+Fit-turn count s (turn.PollRead p n) is goes q = Fit-plain count s (turn.PollRead p n) is
+Fit-turn count s (turn.PollStore p) is goes q = Fit-plain count s (turn.PollStore p) is
+Fit-turn count s (turn.Command c) is goes q = Fit-plain count s (turn.Command c) is
+Fit-turn count s turn.Restart is goes q = Fit-plain count s turn.Restart is
+
+Fit-along : (count : ℕ) (s : State) (xs : List (List Row × Turn)) → All (IsTurn count) (turns_of xs) → Goes count s → IsQuiet (run_turns engine s xs).world → Fit s.world (along s xs)
 unfolding along
-Fit-along count s [] all = record { allowed = tt; join = tt }
-Fit-along count s (x ∷ xs) all =
-    Fit-append s.world (exchanges_at s x.1) (along (step x.0 s x.1) xs) (Fit-turn count s x.1 (All-head (IsTurn count) x.1 (turns_of xs) all))
-    (Fit-along count (step x.0 s x.1) xs (All-tail (IsTurn count) x.1 (turns_of xs) all))
+Fit-along count s [] all goes q = record { allowed = tt; join = tt }
+Fit-along count s (x ∷ xs) all goes q =
+    let here = All-head (IsTurn count) x.1 (turns_of xs) all in
+    Fit-append s.world (exchanges_at s x.1) (along (step x.0 s x.1) xs) (Fit-turn count s x.1 here goes (quiet-back s (x ∷ xs) q))
+    (Fit-along count (step x.0 s x.1) xs (All-tail (IsTurn count) x.1 (turns_of xs) all) (Goes-step count x.0 s x.1 here goes) q)
 
 -- ---- how many of them add a transaction or a file
 
@@ -134,47 +197,52 @@ tick b = cond b 1 0
 
 -- an exchange of a kind is made by a turn of a kind
 record Tells (test : Exchange → Bool) (is : Turn → Bool) : Type 0 where
-  each : (t : Turn) → count_by test (exchanges_of t) ≡ tick (is t)
+  each : (s : State) (t : Turn) → count_by test (exchanges_at s t) ≡ tick (is t)
+
+-- a job's turn makes none of them
+job-none : (test : Exchange → Bool) → ((e : Exchange) → IsPlain e → test e ≡ false) → (s : State) (o : Option Job) → count_by test (job_exchanges (option_map (turn_of s) o)) ≡ 0
+job-none test plain s None = refl
+job-none test plain s (Some j) = none-counts test plain (turn_of s j).exchanges (turn-plain s.world (next_count s.reads) (moment_at s) j)
 
 adds-writes : Tells adds is_write
 adds-writes = record { each = each }
   where
-    each : (t : Turn) → count_by adds (exchanges_of t) ≡ tick (is_write t)
-    each (turn.Write n size) = refl
-    each (turn.Fetch n) = refl
-    each (turn.Apply n) = refl
-    each (turn.Fail n) = refl
-    each (turn.Heal n) = refl
-    each (turn.Cut n link) = refl
-    each (turn.Join n link) = refl
-    each (turn.Rotate n) = refl
-    each (turn.Tick seconds) = refl
-    each (turn.Job job) = refl
-    each turn.Scan = refl
-    each (turn.PollRead p n) = refl
-    each (turn.PollStore p) = refl
-    each (turn.Command c) = refl
-    each turn.Restart = refl
+    each : (s : State) (t : Turn) → count_by adds (exchanges_at s t) ≡ tick (is_write t)
+    each s (turn.Write n size) = refl
+    each s (turn.Fetch n) = refl
+    each s (turn.Apply n) = refl
+    each s (turn.Fail n) = refl
+    each s (turn.Heal n) = refl
+    each s (turn.Cut n link) = refl
+    each s (turn.Join n link) = refl
+    each s (turn.Rotate n) = refl
+    each s (turn.Tick seconds) = refl
+    each s (turn.Job job) = job-none adds (λ e plain. plain.writes_not) s (job_at s.jobs job)
+    each s turn.Scan = refl
+    each s (turn.PollRead p n) = refl
+    each s (turn.PollStore p) = refl
+    each s (turn.Command c) = refl
+    each s turn.Restart = refl
 
 opens-rotates : Tells opens_file is_rotate
 opens-rotates = record { each = each }
   where
-    each : (t : Turn) → count_by opens_file (exchanges_of t) ≡ tick (is_rotate t)
-    each (turn.Write n size) = refl
-    each (turn.Fetch n) = refl
-    each (turn.Apply n) = refl
-    each (turn.Fail n) = refl
-    each (turn.Heal n) = refl
-    each (turn.Cut n link) = refl
-    each (turn.Join n link) = refl
-    each (turn.Rotate n) = refl
-    each (turn.Tick seconds) = refl
-    each (turn.Job job) = refl
-    each turn.Scan = refl
-    each (turn.PollRead p n) = refl
-    each (turn.PollStore p) = refl
-    each (turn.Command c) = refl
-    each turn.Restart = refl
+    each : (s : State) (t : Turn) → count_by opens_file (exchanges_at s t) ≡ tick (is_rotate t)
+    each s (turn.Write n size) = refl
+    each s (turn.Fetch n) = refl
+    each s (turn.Apply n) = refl
+    each s (turn.Fail n) = refl
+    each s (turn.Heal n) = refl
+    each s (turn.Cut n link) = refl
+    each s (turn.Join n link) = refl
+    each s (turn.Rotate n) = refl
+    each s (turn.Tick seconds) = refl
+    each s (turn.Job job) = job-none opens_file (λ e plain. plain.rotates_not) s (job_at s.jobs job)
+    each s turn.Scan = refl
+    each s (turn.PollRead p n) = refl
+    each s (turn.PollStore p) = refl
+    each s (turn.Command c) = refl
+    each s turn.Restart = refl
 
 -- the scenario's first turns and the next one are no more than all of a kind
 module _ (is : Turn → Bool) where
@@ -196,18 +264,18 @@ module _ (test : Exchange → Bool) (is : Turn → Bool) (tells : Tells test is)
   unfolding along
   count-along s [] = refl
   count-along s (x ∷ xs) =
-      let here : count_by test (exchanges_of x.1) ≡ tick (is x.1) = tells.each x.1 in
+      let here : count_by test (exchanges_at s x.1) ≡ tick (is x.1) = tells.each s x.1 in
       let rest : count_by test (along (step x.0 s x.1) xs) ≡ count_by is (turns_of xs) = count-along (step x.0 s x.1) xs in
       sum_by-append (λ e. tick (test e)) (exchanges_at s x.1) (along (step x.0 s x.1) xs)
       ∙ (ap (λ (n : ℕ). n + count_by test (along (step x.0 s x.1) xs)) here ∙ ap (λ (n : ℕ). tick (is x.1) + n) rest)
       ∙ sym (sum_by-cons (λ t. tick (is t)) x.1 (turns_of xs))
 
   -- the exchanges of the turns and of the next one
-  count-made : (s : State) (xs : List (List Row × Turn)) (t : Turn) → count_by test (along s xs ++ exchanges_of t) ≡ count_by is (turns_of xs ++ t ∷ [])
-  count-made s xs t =
-      let here : count_by test (exchanges_of t) ≡ tick (is t) = tells.each t in
+  count-made : (s now : State) (xs : List (List Row × Turn)) (t : Turn) → count_by test (along s xs ++ exchanges_at now t) ≡ count_by is (turns_of xs ++ t ∷ [])
+  count-made s now xs t =
+      let here : count_by test (exchanges_at now t) ≡ tick (is t) = tells.each now t in
       let before : count_by test (along s xs) ≡ count_by is (turns_of xs) = count-along s xs in
-      omega (arith, here, before, sum_by-append (λ e. tick (test e)) (along s xs) (exchanges_of t), sum_by-append (λ y. tick (is y)) (turns_of xs) (t ∷ []), sum_by-cons (λ y. tick (is y)) t [])
+      omega (arith, here, before, sum_by-append (λ e. tick (test e)) (along s xs) (exchanges_at now t), sum_by-append (λ y. tick (is y)) (turns_of xs) (t ∷ []), sum_by-cons (λ y. tick (is y)) t [])
 
 -- ---- no exchange of such a run finds a history or a log full
 
@@ -222,26 +290,27 @@ module _ (is : Turn → Bool) (s : Scenario) (xs : List (List Row × Turn)) (t :
   first = start s by.comes.wait by.comes.rows
 
   abbrev made : List Exchange
-  made = along first xs ++ exchanges_of t
+  made = along first xs ++ exchanges_at now t
 
   now-world : now.world ≡ run (start_world s) (along first xs)
   now-world = ap (λ (x : State). x.world) by.comes.state ∙ world-along first xs
 
-  fit : Fit (start_world s) made
-  fit =
-      Fit-append (start_world s) (along first xs) (exchanges_of t) (Fit-along (length s.opening.servers) first xs by.comes.turns)
-      (subst (λ (w : World). Fit w (exchanges_of t)) now-world (Fit-turn (length s.opening.servers) now t by.next))
+  fit : IsQuiet now.world → Fit (start_world s) made
+  fit q =
+      Fit-append (start_world s) (along first xs) (exchanges_at now t)
+      (Fit-along (length s.opening.servers) first xs by.comes.turns (Goes-start s by.comes.wait by.comes.rows by.comes.scenario) (subst (λ (x : State). IsQuiet x.world) by.comes.state q))
+      (subst (λ (w : World). Fit w (exchanges_at now t)) now-world (Fit-turn (length s.opening.servers) now t by.next (Goes-comes s xs now by.comes) q))
 
   -- the world after some of the turn's exchanges
   run-made : (j : ℕ) → run (start_world s) (take (length (along first xs) + j) made) ≡ run now.world (take j (exchanges_at now t))
   run-made j =
-      ap (run (start_world s)) (take-append-add (along first xs) (exchanges_of t) j)
-      ∙ run-append (start_world s) (along first xs) (take j (exchanges_of t))
-      ∙ ap (λ (w : World). run w (take j (exchanges_of t))) (sym now-world)
+      ap (run (start_world s)) (take-append-add (along first xs) (exchanges_at now t) j)
+      ∙ run-append (start_world s) (along first xs) (take j (exchanges_at now t))
+      ∙ ap (λ (w : World). run w (take j (exchanges_at now t))) (sym now-world)
 
   -- they are no more than the scenario's turns of that kind
   few-made : (test : Exchange → Bool) → Tells test is → count_by test made ≤ count_by is s.turns
-  few-made test tells = let all = count-made test is tells first xs t in let few = by.few in omega (arith, all, few)
+  few-made test tells = let all = count-made test is tells first now xs t in let few = by.few in omega (arith, all, few)
 
   room-left : Tells adds is → count_by is s.turns ≡ count_by is_write s.turns → room_for s.opening made ≤ room_of s
   room-left tells same = let few = few-made adds tells in omega (arith, few, same)
@@ -258,10 +327,10 @@ pub not_full : (s : Scenario) (xs : List (List Row × Turn)) (t : Turn) (now : S
     → IsQuiet (run now.world (take j (exchanges_at now t))) → IsNotFull (run now.world (take j (exchanges_at now t))) e
 not_full s xs t now j e by makes q =
     let es = along (first is_write s xs t now by) xs in
-    let all = fit is_write s xs t now by in
+    let all = fit is_write s xs t now by (exchanges.quiet-run now.world (take j (exchanges_at now t)) q) in
     subst (λ w. IsNotFull w e) (run-made is_write s xs t now by j)
     (not_full-opened s.opening (room_of s) (flushes_of s) (made is_write s xs t now by) (length es + j) e by.comes.scenario.checked all.allowed all.join (room-left is_write s xs t now by adds-writes refl)
-    (get-append es (exchanges_of t) j ∙ makes)
+    (get-append es (exchanges_at now t) j ∙ makes)
     (subst IsQuiet (sym (run-made is_write s xs t now by j)) q))
 
 pub files_left : (s : Scenario) (xs : List (List Row × Turn)) (now : State) (n : ServerNo) → ComesWithin is_rotate s xs (turn.Rotate n) now → (rotate now.world n.0).0 ≡ rotating.Full → ⊥

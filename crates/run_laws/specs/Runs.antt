@@ -1,10 +1,14 @@
 -- Runs from a scenario's opening state, whatever rows the keeper hands back at the opening and at each turn.
 use Rattle.std.specs.Prelude.{◌≡◌, ◌≤◌, ℕ, Bool, List, [], ◌∷◌, ◌++◌, All, count_by, length, take}
 use Rattle.instance_keeper.specs.declared.row.Row.{Row}
+use Rattle.commands.specs.declared.turn.CommandTurn.{CommandTurn}
+use Rattle.turns.specs.declared.turn.Reply.TheVariants as answered
 use Rattle.turns.specs.declared.turn.Turn.{Turn}
+use Rattle.turns.specs.declared.turn.Turn.TheVariants as turn
 use Rattle.scenarios.specs.declared.scenario.Scenario.{Scenario}
 use Rattle.scenarios.specs.Scenarios.{IsScenario}
 use Rattle.scenarios.specs.Turns.{IsTurn}
+use Rattle.orch_core.specs.Replies.{reply_of}
 use Rattle.orch_core.specs.Runs.{engine, run_turns, turns_of}
 use Rattle.orch_core.specs.Scenarios.{start}
 use Rattle.orch_core.specs.States.{State}
@@ -27,3 +31,12 @@ pub record ComesWithin (is : Turn → Bool) (s : Scenario) (xs : List (List Row 
   pub comes : ComesTo s xs now
   pub next : IsTurn (length s.opening.servers) t
   pub few : count_by is (turns_of xs ++ t ∷ []) ≤ count_by is s.turns
+
+-- and this turn can be taken next
+pub record ComesBefore (s : Scenario) (xs : List (List Row × Turn)) (now : State) (t : Turn) : Type 0 where
+  pub comes : ComesTo s xs now
+  pub next : IsTurn (length s.opening.servers) t
+
+-- a command begins the job of a number
+abbrev pub IsBegun : State → CommandTurn → ℕ → Type 0
+IsBegun s c id = reply_of s (turn.Command c) ≡ answered.Begun id

@@ -2,18 +2,18 @@
 
 use binlog_coords::Coord;
 use commands::{
-    Cause, Command, CommandName, CommandTurn, HeldSet, Keys, Line, Lines, Lost, RecoveryLine,
+    BoxedSet, Cause, Command, CommandName, CommandTurn, Keys, Line, Lines, Lost, RecoveryLine,
     Refusal, StateWord,
 };
 use gtid_sets::GtidSet;
 use orch_base::{
-    CauseName, Code, Ending, Kind, Label, Moment, Name, Rule, ServerNo, SourceState, Version,
+    CauseName, Code, Ending, Kind, Moment, Name, OwnedText, Rule, ServerNo, SourceState, Version,
 };
 use report_text::{plain_text, reply_text};
 use server_words::{ApplyAnswer, FetchAnswer, Link, RotateAnswer, Spot, WriteAnswer};
 use std::alloc::Global;
 use std::test::Fail;
-use turns::{HeldCause, HeldCommand, Reply, Turn};
+use turns::{BoxedCause, BoxedCommand, Reply, Turn};
 
 const M: ServerNo = ServerNo(0);
 
@@ -212,7 +212,7 @@ fn command(
         pattern: None,
     };
     let command = Command { name, i, d };
-    let held = HeldCommand::new(alloc, CommandTurn { command, keys })?;
+    let held = BoxedCommand::new(alloc, CommandTurn { command, keys })?;
     Ok(Turn::Command(held))
 }
 
@@ -251,7 +251,7 @@ fn a_refused_command_tells_no_lines(rt: HostRuntime) -> Result<(), Fail> {
         ),
         (
             (CommandName::MoveGtid, Some(R), Some(S)),
-            Refusal::Errant(HeldSet::new(alloc, set(alloc)?)?),
+            Refusal::Errant(BoxedSet::new(alloc, set(alloc)?)?),
             "move-gtid r:3306 s:3306",
             "refused 18 Errant 3e11fa47-71ca-11e1-9e33-c80aa9429562:1-3",
         ),
@@ -330,7 +330,7 @@ fn each_cause_is_told(rt: HostRuntime) -> Result<(), Fail> {
         (Cause::Running(R), "Running r:3306"),
         (Cause::Loop(R), "Loop r:3306"),
         (
-            Cause::Errant(R, HeldSet::new(alloc, set(alloc)?)?),
+            Cause::Errant(R, BoxedSet::new(alloc, set(alloc)?)?),
             "Errant r:3306 3e11fa47-71ca-11e1-9e33-c80aa9429562:1-3",
         ),
         (Cause::Moved(R, SourceState::Without), "Moved r:3306 none"),
@@ -346,7 +346,7 @@ fn each_cause_is_told(rt: HostRuntime) -> Result<(), Fail> {
         (Cause::NoCandidate, "NoCandidate"),
     ];
     for (cause, text) in cases {
-        let reply = Reply::Failed(HeldCause::new(alloc, cause)?);
+        let reply = Reply::Failed(BoxedCause::new(alloc, cause)?);
         let mut out = Vec::new(alloc);
         reply_text(4, &Turn::Job(2), &reply, &names, &mut out)?;
         let wanted = format!(in alloc; "4 job 2: failed {text}\n")?;
@@ -372,7 +372,7 @@ fn recovery(
 ) -> Result<Line, Fail> {
     Ok(Line::Recovery(RecoveryLine {
         id: 1,
-        cluster: Label::new(String::from_str(alloc, "m:3306")?),
+        cluster: OwnedText::new(String::from_str(alloc, "m:3306")?),
         kind,
         failed: M,
         begun: Moment(0),
@@ -543,7 +543,7 @@ fn each_line_is_told(rt: HostRuntime) -> Result<(), Fail> {
 
 fn cluster(alloc: Global, label: &str) -> Result<Line, Fail> {
     let label = String::from_str(alloc, label)?;
-    Ok(Line::Cluster(Label::new(label)))
+    Ok(Line::Cluster(OwnedText::new(label)))
 }
 
 #[test]

@@ -1,14 +1,14 @@
 //! The names of commands, what they need, their routes, causes, refusals, lines and values.
 
 use binlog_coords::Coord;
+use command_routes::{Question, Route, is_built_command};
 use commands::{
-    Answers, Cause, Command, CommandName, CommandTurn, Found, HeldSet, Keys, Line, Lines, Lost,
-    Needs, Question, RecoveryLine, Refusal, Route, StateWord, is_built_command, number_within,
-    rule_at, seconds_at, unknown_instance,
+    Answers, BoxedSet, Cause, Command, CommandName, CommandTurn, Found, Keys, Line, Lines, Lost,
+    Needs, RecoveryLine, Refusal, StateWord, number_within, rule_at, seconds_at, unknown_instance,
 };
 use gtid_sets::GtidSet;
 use orch_base::{
-    CauseName, Code, Ending, Kind, Label, Moment, Rule, ServerNo, SourceState, Version,
+    CauseName, Code, Ending, Kind, Moment, OwnedText, Rule, ServerNo, SourceState, Version,
 };
 use server_words::Spot;
 use std::test::Fail;
@@ -83,10 +83,10 @@ fn turns_are_copied(rt: HostRuntime) -> Result<(), Fail> {
         keys: Keys {
             rule: Some(Rule::MustNot),
             duration: Some(600),
-            reason: Some(Label::new(String::from_str(rt.alloc(), "why")?)),
+            reason: Some(OwnedText::new(String::from_str(rt.alloc(), "why")?)),
             owner: None,
             pattern: Some(Found {
-                text: Label::new(String::from_str(rt.alloc(), "^s")?),
+                text: OwnedText::new(String::from_str(rt.alloc(), "^s")?),
                 answers: Answers::new(vec![in rt.alloc(); false, true]?),
             }),
         },
@@ -121,7 +121,7 @@ fn lines_are_copied(rt: HostRuntime) -> Result<(), Fail> {
     let mut lines = Vec::new(rt.alloc());
     lines.push(Line::Server(ServerNo(1)))?;
     lines.push(Line::NoMaster)?;
-    lines.push(Line::Cluster(Label::new(String::from_str(rt.alloc(), "m")?)))?;
+    lines.push(Line::Cluster(OwnedText::new(String::from_str(rt.alloc(), "m")?)))?;
     lines.push(Line::Instance {
         depth: 2,
         no: ServerNo(5),
@@ -220,8 +220,8 @@ fn numbers(rt: HostRuntime) -> Result<(), Fail> {
 
 #[test]
 fn routes(rt: HostRuntime) -> Result<(), Fail> {
-    assert_eq!(rt; CommandName::Find.route(), Route::Asks(Question::Find));
-    assert_eq!(rt; CommandName::Recover.route(), Route::Unbuilt);
+    assert_eq!(rt; Route::of(CommandName::Find), Route::Asks(Question::Find));
+    assert_eq!(rt; Route::of(CommandName::Recover), Route::Unbuilt);
     for (word, built) in [
         ("run", true),
         ("find", true),
@@ -249,7 +249,7 @@ fn causes_and_refusals_are_copied(rt: HostRuntime) -> Result<(), Fail> {
     let alloc = rt.alloc();
     let moved = Cause::Moved(ServerNo(1), SourceState::Without).copy(alloc)?;
     assert_eq!(rt; moved.name(), CauseName::Moved);
-    let set = HeldSet::new(
+    let set = BoxedSet::new(
         alloc,
         GtidSet::read(alloc, "3e11fa47-71ca-11e1-9e33-c80aa9429562:1-3")?,
     )?;
@@ -267,7 +267,7 @@ fn causes_and_refusals_are_copied(rt: HostRuntime) -> Result<(), Fail> {
     assert!(rt; matches!(lost.copy(alloc)?, Line::Lost { detached: true, .. }));
     let recovery = Line::Recovery(RecoveryLine {
         id: 1,
-        cluster: Label::new(String::from_str(alloc, "m")?),
+        cluster: OwnedText::new(String::from_str(alloc, "m")?),
         kind: Kind::Master,
         failed: ServerNo(0),
         begun: Moment(5),

@@ -5,7 +5,7 @@ ghost use Rattle.scenario_servers.specs.Openings.{known_of};
 
 use binlog_coords::Coord;
 use openings::{Counts, Parts};
-use orch_base::{Label, Memory, Name, ServerNo, Version};
+use orch_base::{Memory, Name, OwnedText, ServerNo, Version};
 use std::alloc::Global;
 
 /// Who a server is.
@@ -16,7 +16,7 @@ pub struct Identity {
     pub server_id: u32,
     pub version: Version,
     /// The cluster's label; where it isn't given, that of the root of the server's tree.
-    pub cluster: Option<Label>,
+    pub cluster: Option<OwnedText>,
 }
 
 /// How a server is set up, and what reaches it.

@@ -6,11 +6,11 @@ ghost use Rattle.scenario_servers.specs.Openings.{init_under, inits_of};
 use crate::Given;
 use crate::labels::labels_of;
 use openings::ServerInit;
-use orch_base::{Label, Memory, Settings};
+use orch_base::{Memory, OwnedText, Settings};
 use std::alloc::Global;
 
 // A server of the cluster of this label.
-fn init_under(cluster: Label, given: Given) -> ServerInit
+fn init_under(cluster: OwnedText, given: Given) -> ServerInit
     ensures { result ≡ init_under cluster given }
 {
     let Given {

@@ -6,7 +6,7 @@ ghost use Rattle.scenario_servers.specs.Labels.{labels_of};
 ghost use Rattle.scenario_servers.specs.Openings.{label_at, label_of, own_label, root_in, source_in};
 
 use crate::Given;
-use orch_base::{Label, Memory, Name};
+use orch_base::{Memory, Name, OwnedText};
 use std::alloc::Global;
 
 fn source_in(given: &[Given], n: usize) -> Option<u32>
@@ -33,15 +33,15 @@ fn root_in(given: &[Given], n: usize) -> usize
 
 /// A name as it is printed, HOST:PORT.
 #[tactic(auto, using(crate::proofs::Printed::printed_is_utf8))]
-pub fn printed_name(alloc: Global, name: &Name) -> Result<Label, Memory>
+pub fn printed_name(alloc: Global, name: &Name) -> Result<OwnedText, Memory>
     ensures { IfOk result (λ l. l ≡ printed name.now) }
 {
     let mut text = Vec::new(alloc);
     name.print(&mut text)?;
-    Ok(Label::new(String::from_utf8(text).unwrap()))
+    Ok(OwnedText::new(String::from_utf8(text).unwrap()))
 }
 
-fn own_label(alloc: Global, given: &Given) -> Result<Label, Memory>
+fn own_label(alloc: Global, given: &Given) -> Result<OwnedText, Memory>
     ensures { IfOk result (λ l. l ≡ own_label given.now) }
 {
     match &given.identity.cluster {
@@ -50,17 +50,17 @@ fn own_label(alloc: Global, given: &Given) -> Result<Label, Memory>
     }
 }
 
-fn root_label(alloc: Global, given: &[Given], n: usize) -> Result<Label, Memory>
+fn root_label(alloc: Global, given: &[Given], n: usize) -> Result<OwnedText, Memory>
     ensures { IfOk result (λ l. l ≡ label_at (slice_get given.now (root_in given.now n))) }
 {
     match given.get(root_in(given, n)) {
         Some(root) => own_label(alloc, root),
-        None => Ok(Label::new(String::new(alloc))),
+        None => Ok(OwnedText::new(String::new(alloc))),
     }
 }
 
 // The label that is given, or that of the root.
-fn label_of(alloc: Global, given: &[Given], n: usize, one: &Given) -> Result<Label, Memory>
+fn label_of(alloc: Global, given: &[Given], n: usize, one: &Given) -> Result<OwnedText, Memory>
     ensures { IfOk result (λ l. l ≡ label_of given.now n one.now) }
 {
     match &one.identity.cluster {
@@ -70,7 +70,7 @@ fn label_of(alloc: Global, given: &[Given], n: usize, one: &Given) -> Result<Lab
 }
 
 /// The label of each server's cluster, in order. The time is that of the servers, squared.
-pub(crate) fn labels_of(alloc: Global, given: &[Given]) -> Result<Vec<Label>, Memory>
+pub(crate) fn labels_of(alloc: Global, given: &[Given]) -> Result<Vec<OwnedText>, Memory>
     ensures { IfOk result (λ v. v.items ≡ labels_of given.now) }
 {
     let mut labels = Vec::with_capacity(alloc, given.len())?;

@@ -7,8 +7,8 @@ use Rattle.std.proofs.lemmas.Slice.Eq.{bytes_eq-Decides}
 use Rattle.commands.specs.declared.name.CommandName.{CommandName}
 use Rattle.commands.specs.declared.name.CommandName.TheVariants as name
 use Rattle.commands.specs.Names.{name_of, word_of}
-use Rattle.commands.specs.Routes.{is_built as is_built_route, is_built_command, route_of}
-use Rattle.commands.proofs.Routes.{built-routes}
+use Rattle.command_routes.specs.Routes.{is_built as is_built_route, is_built_command, route_of}
+use Rattle.command_routes.proofs.Routes.{built-routes}
 use Rattle.scenarios.specs.Built.{built_names, built_turns, is_built, is_listed}
 use Rattle.scenario_values.specs.declared.fault.FaultCode.TheVariants.{BadTurn, NotBuilt}
 use Rattle.scenario_values.specs.Faults.{fails, is_key}
@@ -98,12 +98,8 @@ others_fail text none = go (built_word text) (words_listed text ∙ none)
 -- a turn that isn't built isn't listed
 pub unbuilt_unlisted : (text : List ℕ) → is_key unbuilt_words text ≡ true → is_built text ≡ false
 unfolding name_of
-unbuilt_unlisted text e = go (pointwise nat_eq (codes "job") text) refl e
+unbuilt_unlisted text e = go (pointwise nat_eq (codes "scan") text) refl e
   where
-    last : (b : Bool) → pointwise nat_eq (codes "scan") text ≡ b → (b || false) ≡ true → is_built text ≡ false
-    last true is e = subst (λ (t : List ℕ). is_built t ≡ false) (same_text (codes "scan") text (sym is)) refl
-    last false is e = absurd cc
-
-    go : (b : Bool) → pointwise nat_eq (codes "job") text ≡ b → (b || (pointwise nat_eq (codes "scan") text || false)) ≡ true → is_built text ≡ false
-    go true is e = subst (λ (t : List ℕ). is_built t ≡ false) (same_text (codes "job") text (sym is)) refl
-    go false is e = last (pointwise nat_eq (codes "scan") text) refl e
+    go : (b : Bool) → pointwise nat_eq (codes "scan") text ≡ b → (b || false) ≡ true → is_built text ≡ false
+    go true is e = subst (λ (t : List ℕ). is_built t ≡ false) (same_text (codes "scan") text (sym is)) refl
+    go false is e = absurd cc

@@ -5,7 +5,7 @@ use Rattle.orch_base.specs.declared.server.ServerNo.{ServerNo}
 use Rattle.orch_base.specs.Names.{HostPort}
 use Rattle.server_words.specs.declared.changes.Link.{Link}
 use Rattle.turns.specs.declared.turn.Turn.{Turn}
-use Rattle.turns.specs.declared.turn.Turn.TheVariants.{Write, Fetch, Apply, Fail, Heal, Cut, Join, Rotate, Tick, PollRead, PollStore, Command, Restart}
+use Rattle.turns.specs.declared.turn.Turn.TheVariants.{Write, Fetch, Apply, Fail, Heal, Cut, Join, Rotate, Tick, PollRead, PollStore, Command, Job, Restart}
 use Rattle.scenarios.specs.Turns.{IsCommand, IsTurn}
 use Rattle.scenario_values.specs.declared.fault.Fault.{Fault}
 use Rattle.scenario_values.specs.Faults.{under_item}
@@ -20,7 +20,7 @@ use Rattle.scenario_turns.specs.declared.word.Word.{Word}
 use Rattle.scenario_turns.specs.declared.word.Word.TheVariants as word
 use Rattle.scenario_turns.specs.Expansion.{IsListedTurn}
 use Rattle.scenario_turns.specs.Words.{word_at}
-use Rattle.scenario_turns.specs.Turns.{one_of, two_of, link_in, poller_in, server_of, size_of, link_of, seconds_of, poll_of, poller_of, turn_by, alone, turn_of, turn_with, turn_from, turn_in}
+use Rattle.scenario_turns.specs.Turns.{one_of, two_of, link_in, poller_in, server_of, size_of, link_of, seconds_of, poll_of, poller_of, job_of, turn_by, alone, turn_of, turn_with, turn_from, turn_in}
 use Rattle.scenario_turns.proofs.Sound.{command-has}
 
 server-has : (names : List (Option HostPort)) (rest : Items) (n : ServerNo) → server_of names rest ≡ Ok n → n.0 < length names
@@ -109,6 +109,7 @@ turn_of-has names printed word.Polls rest t counts e = alone-has (length names) 
 turn_of-has names printed word.Round rest t counts e = alone-has (length names) Round rest t tt e
 turn_of-has names printed word.Command rest t counts e =
     made-has (length names) (IsCommand (length names)) Command (command_in names printed rest) t (λ c is. is) (λ c f. command-has names printed rest c counts f) e
+turn_of-has names printed word.Job rest t counts e = made-has (length names) (λ n. Unit {0}) Job (job_of rest) t (λ n is. is) (λ n read. tt) e
 turn_of-has names printed word.Restart rest t counts e = alone-has (length names) (One Restart) rest t tt e
 
 pub turn-has : (names : List (Option HostPort)) (printed : List (List ℕ)) (d : Data) (t : ListedTurn) → length printed ≡ length names → turn_in names printed d ≡ Ok t → IsListedTurn (length names) t

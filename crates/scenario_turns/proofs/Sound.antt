@@ -15,7 +15,7 @@ use Rattle.commands.specs.declared.turn.CommandTurn.{CommandTurn}
 use Rattle.commands.specs.declared.turn.Found.{Found}
 use Rattle.commands.specs.declared.turn.Keys.{Keys}
 use Rattle.commands.specs.Names.{name_of, needs_of}
-use Rattle.commands.specs.Routes.{is_built, route_of}
+use Rattle.command_routes.specs.Routes.{is_built, route_of}
 use Rattle.commands.specs.Turns.{is_there, is_within}
 use Rattle.cluster_filters.specs.Patterns.{is_found, is_pattern}
 use Rattle.commands.specs.Values.{number_and_unit, number_at, seconds_at, within}

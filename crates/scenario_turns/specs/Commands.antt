@@ -2,7 +2,7 @@
 use Rattle.std.specs.Prelude.{ℕ, ◌∷◌, List, [], codes, Option, Result, Ok}
 use Rattle.serde_json.specs.Data.{Data, Items, no_items, item}
 use Rattle.commands.specs.Names.{name_of, needs_of}
-use Rattle.commands.specs.Routes.{is_built, route_of}
+use Rattle.command_routes.specs.Routes.{is_built, route_of}
 use Rattle.commands.specs.Turns.{is_there}
 use Rattle.commands.specs.declared.name.CommandName.{CommandName}
 use Rattle.commands.specs.declared.turn.Command.{Command}

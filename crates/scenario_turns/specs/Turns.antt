@@ -1,5 +1,5 @@
 -- The turns: of each the word, then the number of parts, then the parts from the left.
-use Rattle.std.specs.Prelude.{ℕ, List, if◌then◌else◌, codes, Option, Result, Ok}
+use Rattle.std.specs.Prelude.{ℕ, ◌-◌, ◌^◌, List, if◌then◌else◌, codes, Option, Result, Ok}
 use Rattle.serde_json.specs.Data.{Data, Items, no_items, item}
 use Rattle.orch_base.specs.declared.server.ServerNo.{ServerNo}
 use Rattle.orch_base.specs.Gives.{◌>>=◌}
@@ -7,7 +7,7 @@ use Rattle.orch_base.specs.Names.{HostPort}
 use Rattle.server_words.specs.declared.changes.Link.{Link}
 use Rattle.server_words.specs.declared.changes.Link.TheVariants.{Desk, Feed}
 use Rattle.turns.specs.declared.turn.Turn.{Turn}
-use Rattle.turns.specs.declared.turn.Turn.TheVariants.{Write, Fetch, Apply, Fail, Heal, Cut, Join, Rotate, Tick, PollRead, PollStore, Command, Restart}
+use Rattle.turns.specs.declared.turn.Turn.TheVariants.{Write, Fetch, Apply, Fail, Heal, Cut, Join, Rotate, Tick, PollRead, PollStore, Command, Job, Restart}
 use Rattle.scenario_values.specs.declared.fault.Fault.{Fault}
 use Rattle.scenario_values.specs.declared.fault.FaultCode.TheVariants.{BadTurn, BadNumber}
 use Rattle.scenario_values.specs.Faults.{fails, under_item}
@@ -82,6 +82,12 @@ poller_of rest = do
   poller ← one_of rest
   under_item 1 (poller_in poller)
 
+-- N
+unfoldable pub job_of : Items → Result ℕ Fault
+job_of rest = do
+  number ← one_of rest
+  under_item 1 (number_in 0 (2 ^ 64 - 1) number)
+
 -- the turn of what was read
 abbrev pub turn_by : {A : Type 0} → (A → Turn) → Result A Fault → Result ListedTurn Fault
 turn_by make read = do
@@ -108,6 +114,7 @@ turn_of names printed word.PollStore rest = turn_by PollStore (poller_of rest)
 turn_of names printed word.Polls rest = alone Polls rest
 turn_of names printed word.Round rest = alone Round rest
 turn_of names printed word.Command rest = turn_by Command (command_in names printed rest)
+turn_of names printed word.Job rest = turn_by Job (job_of rest)
 turn_of names printed word.Restart rest = alone (One Restart) rest
 
 unfoldable pub turn_with : List (Option HostPort) → List (List ℕ) → Data → Items → Result ListedTurn Fault

@@ -6,7 +6,7 @@ use Rattle.scenario_values.specs.declared.fault.Fault.{Fault}
 use Rattle.scenario_values.specs.declared.fault.FaultCode.TheVariants.{BadTurn, NotBuilt}
 use Rattle.scenario_values.specs.Faults.{fails, is_key}
 use Rattle.scenario_turns.specs.declared.word.Word.{Word}
-use Rattle.scenario_turns.specs.declared.word.Word.TheVariants.{Write, Fetch, Apply, Fail, Heal, Rotate, Cut, Join, Tick, PollRead, PollStore, Polls, Round, Command, Restart}
+use Rattle.scenario_turns.specs.declared.word.Word.TheVariants.{Write, Fetch, Apply, Fail, Heal, Rotate, Cut, Join, Tick, PollRead, PollStore, Polls, Round, Command, Job, Restart}
 
 abbrev pub is_word : List ℕ → List ℕ → Bool
 is_word word text = pointwise nat_eq word text
@@ -28,6 +28,7 @@ words =
     ∷ (codes "polls", Polls)
     ∷ (codes "round", Round)
     ∷ (codes "command", Command)
+    ∷ (codes "job", Job)
     ∷ (codes "restart", Restart)
     ∷ []
 
@@ -37,7 +38,7 @@ built_word text = option_map (λ w. w.1) (find (λ w. bytes_eq text w.0) words)
 
 -- the turns that aren't built yet
 abbrev pub unbuilt_words : List (List ℕ)
-unbuilt_words = codes "job" ∷ codes "scan" ∷ []
+unbuilt_words = codes "scan" ∷ []
 
 abbrev pub word_or_fails : List ℕ → Option Word → Result Word Fault
 word_or_fails text None = if is_key unbuilt_words text then fails NotBuilt else fails BadTurn

@@ -8,6 +8,7 @@ ghost use Rattle.serde_json.specs.View.{view, items_view};
 
 use crate::keys::given_in;
 use crate::patterns::Patterns;
+use command_routes::Route;
 use commands::{CommandName, CommandTurn};
 use scenario_servers::Names;
 use scenario_values::{FaultCode, ReadFault, fails, text_in, under_item};
@@ -20,7 +21,7 @@ fn name_in(alloc: Global, value: &Value) -> Result<CommandName, ReadFault>
 {
     let text = text_in(alloc, value)?;
     match CommandName::read(text) {
-        Some(name) if name.route().is_built() => Ok(name),
+        Some(name) if Route::of(name).is_built() => Ok(name),
         Some(_) => Err(fails(alloc, FaultCode::NotBuilt)),
         None => Err(fails(alloc, FaultCode::BadCommand)),
     }

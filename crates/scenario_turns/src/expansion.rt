@@ -6,7 +6,7 @@ ghost use Rattle.scenario_turns.specs.Expansion.{printed_of, server_names, in_or
 use crate::pattern::printed_names;
 use name_order::in_name_order;
 use openings::ServerInit;
-use orch_base::{Label, Memory, Name, ServerNo};
+use orch_base::{Memory, Name, OwnedText, ServerNo};
 use scenarios::Turn;
 use std::alloc::Global;
 
@@ -34,7 +34,7 @@ fn server_names(alloc: Global, servers: &[ServerInit]) -> Result<Vec<Name>, Memo
 }
 
 /// The servers' names as they are printed.
-pub fn printed_of(alloc: Global, servers: &[ServerInit]) -> Result<Vec<Label>, Memory>
+pub fn printed_of(alloc: Global, servers: &[ServerInit]) -> Result<Vec<OwnedText>, Memory>
     ensures { IfOk result (λ printed. printed.items ≡ printed_of servers.now) }
 {
     let names = server_names(alloc, servers)?;

@@ -9,7 +9,7 @@ ghost use Rattle.serde_json.specs.View.{view};
 
 use crate::patterns::Patterns;
 use commands::{Command, CommandName, CommandTurn, Found, Keys, rule_at, seconds_at};
-use orch_base::{Label, Rule, ServerNo};
+use orch_base::{OwnedText, Rule, ServerNo};
 use scenario_servers::{Names, server_named};
 use scenario_values::{
     FaultCode, ReadFault, fails, holds, members_in, only_keys, text_in, text_within, under,
@@ -40,7 +40,7 @@ fn duration_in(alloc: Global, value: &Value) -> Result<u64, ReadFault>
 }
 
 #[tactic(auto, unfolding(crate::specs::Commands::short_in))]
-fn short_in(alloc: Global, value: &Value) -> Result<Label, ReadFault>
+fn short_in(alloc: Global, value: &Value) -> Result<OwnedText, ReadFault>
     ensures { Gives (λ l. l) fault_of result (short_in (view value.now)) }
 {
     let text = text_in(alloc, value)?;
@@ -100,7 +100,7 @@ fn maybe_duration(alloc: Global, object: &Value, key: &str) -> Result<Option<u64
 }
 
 #[tactic(auto, using(scenario_values::proofs::Unders::gives_under))]
-fn maybe_short(alloc: Global, object: &Value, key: &str) -> Result<Option<Label>, ReadFault>
+fn maybe_short(alloc: Global, object: &Value, key: &str) -> Result<Option<OwnedText>, ReadFault>
     ensures { Gives (λ l. l) fault_of result (maybe key.now short_in (view object.now)) }
 {
     match object.get(key) {

@@ -6,7 +6,7 @@ ghost use Rattle.orch_base.specs.Names.{HostPort};
 ghost use Rattle.commands.specs.declared.name.CommandName.{CommandName};
 ghost use Rattle.commands.specs.declared.turn.CommandTurn.{CommandTurn};
 ghost use Rattle.commands.specs.Names.{word_of};
-ghost use Rattle.commands.specs.Routes.{is_built as is_built_route, route_of};
+ghost use Rattle.command_routes.specs.Routes.{is_built as is_built_route, route_of};
 ghost use Rattle.scenarios.specs.Built.{built_turns, is_built, is_listed};
 ghost use Rattle.scenarios.specs.Turns.{IsCommand};
 ghost use Rattle.scenario_values.specs.declared.fault.FaultCode.TheVariants.{BadTurn, NotBuilt};

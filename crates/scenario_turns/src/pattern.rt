@@ -9,13 +9,13 @@ ghost use Rattle.scenario_values.specs.Faults.{fault_of};
 
 use cluster_filters::{FilterFault, Pattern};
 use commands::{Answers, Found};
-use orch_base::{Label, Memory, Name};
+use orch_base::{Memory, Name, OwnedText};
 use scenario_servers::printed_name;
 use scenario_values::{FaultCode, ReadFault, fails};
 use std::alloc::Global;
 
 /// Each server's name as it is printed, `host:port`.
-pub fn printed_names(alloc: Global, names: &[Name]) -> Result<Vec<Label>, Memory>
+pub fn printed_names(alloc: Global, names: &[Name]) -> Result<Vec<OwnedText>, Memory>
     ensures { IfOk result (λ p. p.items ≡ map printed names.now) }
 {
     let mut texts = Vec::with_capacity(alloc, names.len())?;
@@ -25,7 +25,7 @@ pub fn printed_names(alloc: Global, names: &[Name]) -> Result<Vec<Label>, Memory
     Ok(texts)
 }
 
-fn answers(alloc: Global, pattern: &Pattern, printed: &[Label]) -> Result<Answers, Memory>
+fn answers(alloc: Global, pattern: &Pattern, printed: &[OwnedText]) -> Result<Answers, Memory>
     ensures { IfOk result (λ a. a ≡ map (is_found pattern.now) printed.now) }
 {
     let mut answers = Vec::with_capacity(alloc, printed.len())?;
@@ -39,13 +39,13 @@ fn answers(alloc: Global, pattern: &Pattern, printed: &[Label]) -> Result<Answer
 /// is no regular expression, or nests past the limit of `regex`, is `BadPattern`. Want of memory also answers a pattern
 /// past the room that `regex` grants one.
 #[tactic(auto, unfolding(crate::specs::Found::found_in))]
-pub fn found(alloc: Global, text: &str, printed: &[Label]) -> Result<Found, ReadFault>
+pub fn found(alloc: Global, text: &str, printed: &[OwnedText]) -> Result<Found, ReadFault>
     ensures { Gives (λ f. f) fault_of result (found_in printed.now text.now) }
 {
     match Pattern::read(alloc, text) {
         Ok(pattern) => {
             let answers = answers(alloc, &pattern, printed)?;
-            let text = Label::new(String::from_str(alloc, text)?);
+            let text = OwnedText::new(String::from_str(alloc, text)?);
             Ok(Found { text, answers })
         }
         Err(FilterFault::BadPattern(_)) => Err(fails(alloc, FaultCode::BadPattern)),

@@ -2,7 +2,7 @@
 
 use crate::pattern::found;
 use commands::{Answers, Found};
-use orch_base::{Label, Memory};
+use orch_base::{Memory, OwnedText};
 use scenario_values::ReadFault;
 use serde_json::Value;
 use std::alloc::Global;
@@ -12,7 +12,7 @@ use std::marker::Model;
 /// The servers' printed names, which contracts see as that list, and the answers of patterns that were compiled.
 #[derive(Drop)]
 pub struct Patterns {
-    printed: Vec<Label>,
+    printed: Vec<OwnedText>,
     known: BTreeMap<String, Answers>,
 }
 
@@ -39,7 +39,7 @@ impl Patterns {
     ghost use Rattle.scenario_values.specs.Faults.{fault_of};
 
     /// These printed names, and no pattern.
-    pub fn new(alloc: Global, printed: Vec<Label>) -> Patterns
+    pub fn new(alloc: Global, printed: Vec<OwnedText>) -> Patterns
         ensures { result ≡ printed.items }
     {
         Patterns {
@@ -64,7 +64,11 @@ impl Patterns {
 
     /// These printed names, with the patterns that listed turns ask for. The time is that of the turns, and of each
     /// pattern on each name.
-    pub fn of_turns(alloc: Global, printed: Vec<Label>, turns: &[Value]) -> Result<Patterns, Memory>
+    pub fn of_turns(
+        alloc: Global,
+        printed: Vec<OwnedText>,
+        turns: &[Value],
+    ) -> Result<Patterns, Memory>
         ensures { IfOk result (λ p. p ≡ printed.items) }
     {
         let mut patterns = Patterns::new(alloc, printed);
@@ -83,7 +87,7 @@ impl Patterns {
     {
         match self.known.get(text) {
             Some(answers) => Ok(Found {
-                text: Label::new(String::from_str(alloc, text)?),
+                text: OwnedText::new(String::from_str(alloc, text)?),
                 answers: answers.copy(alloc)?,
             }),
             None => found(alloc, text, &self.printed),

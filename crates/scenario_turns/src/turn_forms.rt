@@ -8,7 +8,7 @@ ghost use Rattle.scenario_values.specs.Values.{text_in, number_in};
 ghost use Rattle.scenario_servers.specs.Names.{server_named};
 ghost use Rattle.turns.specs.declared.turn.Turn.TheVariants.{Write, Cut, Join, PollRead, Command};
 ghost use Rattle.scenario_turns.specs.Commands.{command_in};
-ghost use Rattle.scenario_turns.specs.Turns.{link_in, poller_in, one_of, two_of, server_of, size_of, link_of, seconds_of, poll_of, poller_of, turn_by, alone, turn_of, turn_with, turn_from, turn_in};
+ghost use Rattle.scenario_turns.specs.Turns.{link_in, poller_in, one_of, two_of, server_of, size_of, link_of, seconds_of, poll_of, poller_of, job_of, turn_by, alone, turn_of, turn_with, turn_from, turn_in};
 
 use crate::command::command_in;
 use crate::expansion::ListedTurn;
@@ -17,7 +17,7 @@ use crate::word::{Word, is_word, word_at};
 use orch_base::ServerNo;
 use scenario_servers::{Names, server_named};
 use scenario_values::{FaultCode, ReadFault, fails, items_in, number_in, text_in, under_item};
-use scenarios::{HeldCommand, Turn};
+use scenarios::{BoxedCommand, Turn};
 use serde_json::Value;
 use server_words::Link;
 use std::alloc::Global;
@@ -161,6 +161,14 @@ fn poller_of(alloc: Global, rest: &[Value]) -> Result<u32, ReadFault>
     poller_at(alloc, poller)
 }
 
+#[tactic(auto, unfolding(crate::specs::Turns::job_of))]
+fn job_of(alloc: Global, rest: &[Value]) -> Result<u64, ReadFault>
+    ensures { Gives (λ n. n) fault_of result (job_of (items_view rest.now)) }
+{
+    let number = one_of(alloc, rest)?;
+    number_at(alloc, 1, 0, u64::MAX, number)
+}
+
 fn write_of(alloc: Global, names: &Names, rest: &[Value]) -> Result<ListedTurn, ReadFault>
     ensures { Gives (λ t. t) fault_of result (turn_by (λ p. Write p.0 p.1) (size_of names.now (items_view rest.now))) }
 {
@@ -209,7 +217,7 @@ fn command_of(
     ensures { Gives (λ t. t) fault_of result (turn_by Command (command_in names.now patterns.now (items_view rest.now))) }
 {
     let command = command_in(alloc, names, patterns, rest)?;
-    Ok(ListedTurn::One(Turn::Command(HeldCommand::new(alloc, command)?)))
+    Ok(ListedTurn::One(Turn::Command(BoxedCommand::new(alloc, command)?)))
 }
 
 #[rattlefmt::skip]
@@ -231,6 +239,7 @@ fn turn_of(alloc: Global, names: &Names, patterns: &Patterns, word: Word, rest: 
         Word::Polls => alone(alloc, ListedTurn::Polls, rest),
         Word::Round => alone(alloc, ListedTurn::Round, rest),
         Word::Command => command_of(alloc, names, patterns, rest),
+        Word::Job => Ok(ListedTurn::One(Turn::Job(job_of(alloc, rest)?))),
         Word::Restart => alone(alloc, ListedTurn::One(Turn::Restart), rest),
     }
 }

@@ -25,6 +25,7 @@ pub enum Word {
     Polls,
     Round,
     Command,
+    Job,
     Restart,
 }
 
@@ -53,6 +54,7 @@ fn built_word(text: &str) -> Option<Word>
         "polls" => Some(Word::Polls),
         "round" => Some(Word::Round),
         "command" => Some(Word::Command),
+        "job" => Some(Word::Job),
         "restart" => Some(Word::Restart),
         _ => None,
     }
@@ -61,7 +63,7 @@ fn built_word(text: &str) -> Option<Word>
 fn is_unbuilt(text: &str) -> bool
     ensures { result ≡ is_key unbuilt_words text.now }
 {
-    ["job", "scan"].contains(&text)
+    ["scan"].contains(&text)
 }
 
 /// The word of a turn that is built. That of another turn of the format is `NotBuilt`, and any other text `BadTurn`.

@@ -9,7 +9,7 @@ ghost use Rattle.scenario_values.specs.Values.{bool_in, whole_in, number_in, coo
 use crate::fault::{FaultCode, ReadFault, fails, under};
 use crate::value::{bool_in, coord_in, label_in, number_in, version_in, whole_in};
 use binlog_coords::Coord;
-use orch_base::{Label, Version};
+use orch_base::{OwnedText, Version};
 use serde_json::Value;
 use std::alloc::Global;
 
@@ -113,7 +113,7 @@ pub fn maybe_coord(alloc: Global, object: &Value, key: &str) -> Result<Option<Co
 
 /// The cluster's label at a key, if it is there.
 #[tactic(auto, using(crate::proofs::Unders::gives_under))]
-pub fn maybe_label(alloc: Global, object: &Value, key: &str) -> Result<Option<Label>, ReadFault>
+pub fn maybe_label(alloc: Global, object: &Value, key: &str) -> Result<Option<OwnedText>, ReadFault>
     ensures { Gives (λ l. l) fault_of result (maybe key.now label_in (view object.now)) }
 {
     match object.get(key) {

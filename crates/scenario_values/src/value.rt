@@ -11,7 +11,7 @@ ghost use Rattle.scenario_values.specs.Values.{members_in, items_in, text_in, bo
 
 use crate::fault::{FaultCode, ReadFault, fails};
 use binlog_coords::{Coord, read_coord};
-use orch_base::{Label, Name, NameFault, Version};
+use orch_base::{Name, NameFault, OwnedText, Version};
 use serde_json::{Map, Value};
 use std::alloc::Global;
 use uuid::Uuid;
@@ -110,18 +110,23 @@ pub fn coord_in(alloc: Global, value: &Value) -> Result<Coord, ReadFault>
 }
 
 /// A text of low to high bytes; of another length it is `BadNumber`.
-pub fn text_within(alloc: Global, low: usize, high: usize, text: &str) -> Result<Label, ReadFault>
+pub fn text_within(
+    alloc: Global,
+    low: usize,
+    high: usize,
+    text: &str,
+) -> Result<OwnedText, ReadFault>
     ensures { Gives (λ l. l) fault_of result (text_within low high text.now) }
 {
     if low <= text.len() && text.len() <= high {
-        Ok(Label::new(String::from_str(alloc, text)?))
+        Ok(OwnedText::new(String::from_str(alloc, text)?))
     } else {
         Err(fails(alloc, FaultCode::BadNumber))
     }
 }
 
 /// A cluster's label, a text of 1 to 261 bytes; of another length it is `BadNumber`.
-pub fn label_or_fails(alloc: Global, text: &str) -> Result<Label, ReadFault>
+pub fn label_or_fails(alloc: Global, text: &str) -> Result<OwnedText, ReadFault>
     ensures { Gives (λ l. l) fault_of result (label_or_fails text.now) }
 {
     text_within(alloc, 1, 261, text)
@@ -129,7 +134,7 @@ pub fn label_or_fails(alloc: Global, text: &str) -> Result<Label, ReadFault>
 
 /// A cluster's label; a text of no or more than 261 bytes is `BadNumber`, a value of another kind `BadType`.
 #[tactic(auto, unfolding(crate::specs::Values::label_in))]
-pub fn label_in(alloc: Global, value: &Value) -> Result<Label, ReadFault>
+pub fn label_in(alloc: Global, value: &Value) -> Result<OwnedText, ReadFault>
     ensures { Gives (λ l. l) fault_of result (label_in (view value.now)) }
 {
     let text = text_in(alloc, value)?;

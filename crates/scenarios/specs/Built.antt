@@ -2,7 +2,7 @@
 use Rattle.std.specs.Prelude.{ℕ, ◌∷◌, ◌++◌, ◌||◌, List, [], Bool, nat_eq, codes}
 use Rattle.std.specs.Cmp.Lexicographic.{pointwise}
 use Rattle.std.specs.List.{list_any}
-use Rattle.commands.specs.Routes.{is_built_command}
+use Rattle.command_routes.specs.Routes.{is_built_command}
 
 abbrev pub built_keys : List (List ℕ)
 built_keys = codes "version" ∷ codes "now" ∷ codes "gtid" ∷ codes "aliases" ∷ codes "filters" ∷ codes "servers" ∷ codes "turns" ∷ []
@@ -14,7 +14,7 @@ built_server_keys = codes "name" ∷ codes "uuid" ∷ codes "server_id" ∷ code
 
 abbrev pub built_turns : List (List ℕ)
 built_turns = codes "write" ∷ codes "fetch" ∷ codes "apply" ∷ codes "fail" ∷ codes "heal" ∷ codes "cut" ∷ codes "join" ∷ codes "rotate" ∷ codes "tick"
-    ∷ codes "poll-read" ∷ codes "poll-store" ∷ codes "polls" ∷ codes "round" ∷ codes "command" ∷ codes "restart" ∷ []
+    ∷ codes "poll-read" ∷ codes "poll-store" ∷ codes "polls" ∷ codes "round" ∷ codes "command" ∷ codes "job" ∷ codes "restart" ∷ []
 
 -- the top keys, the servers' keys and the turns that are built
 abbrev pub built_names : List (List ℕ)

@@ -1,7 +1,7 @@
 -- Turns that can be taken, and what each may add.
 use Rattle.std.specs.Prelude.{◌≡◌, ℕ, ◌<◌, ◌≤◌, Bool, false, true, length, IfSome}
 use Rattle.commands.specs.declared.turn.CommandTurn.{CommandTurn}
-use Rattle.commands.specs.Routes.{is_built, route_of}
+use Rattle.command_routes.specs.Routes.{is_built, route_of}
 use Rattle.commands.specs.Turns.{fits}
 use Rattle.turns.specs.declared.turn.Turn.{Turn}
 use Rattle.turns.specs.declared.turn.Turn.TheVariants as turn
@@ -31,7 +31,7 @@ IsTurn count (turn.Cut n link) = n.0 < count
 IsTurn count (turn.Join n link) = n.0 < count
 IsTurn count (turn.Rotate n) = n.0 < count
 IsTurn count (turn.Tick seconds) = seconds ≤ 1000000000
-IsTurn count (turn.Job job) = ⊥
+IsTurn count (turn.Job job) = Unit {0}
 IsTurn count turn.Scan = ⊥
 IsTurn count (turn.PollRead p n) = (p < pollers) × (n.0 < count)
 IsTurn count (turn.PollStore p) = p < pollers

@@ -3,7 +3,7 @@
 ghost use Rattle.std.specs.Prelude.{◌≡◌, IfOk, map, string_bytes};
 
 use commands::Answers;
-use orch_base::{Label, Memory};
+use orch_base::{Memory, OwnedText};
 use std::alloc::Global;
 use std::marker::Model;
 
@@ -11,9 +11,9 @@ use std::marker::Model;
 #[derive(Drop)]
 pub struct Alias {
     /// 1 to 261 bytes.
-    pub cluster: Label,
+    pub cluster: OwnedText,
     /// At most 255 bytes.
-    pub alias: Label,
+    pub alias: OwnedText,
 }
 
 impl Alias {

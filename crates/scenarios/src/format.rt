@@ -3,7 +3,7 @@
 ghost use Rattle.std.specs.Prelude.{◌≡◌};
 ghost use Rattle.scenarios.specs.Built.{built_names, is_built, is_listed};
 
-use commands::is_built_command;
+use command_routes::is_built_command;
 
 #[rattlefmt::skip]
 fn is_listed(what: &str) -> bool
@@ -13,7 +13,7 @@ fn is_listed(what: &str) -> bool
         "version", "now", "gtid", "aliases", "filters", "servers", "turns", "name", "uuid", "server_id", "version", "cluster",
         "logs", "read_only", "limit", "up", "desk", "feed", "known", "history", "source", "executed", "at", "read", "io", "sql", "auto",
         "detached", "until", "flushes", "write", "fetch", "apply", "fail", "heal", "cut", "join", "rotate", "tick",
-        "poll-read", "poll-store", "polls", "round", "command", "restart",
+        "poll-read", "poll-store", "polls", "round", "command", "job", "restart",
     ]
     .contains(&what)
 }

@@ -15,4 +15,4 @@ pub use format::built;
 /// Want of memory.
 pub use orch_base::Memory;
 pub use scenario::{Scenario, Turns};
-pub use turns::{HeldCommand, Turn};
+pub use turns::{BoxedCommand, Turn};

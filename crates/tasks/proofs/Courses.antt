@@ -22,7 +22,7 @@ use Rattle.orch_core.specs.States.{State}
 use Rattle.orch_core.proofs.Runs.{Ran-more, Ran-nil, StepsTo-recorded}
 use Rattle.report_text.specs.Lines.{line_text, lines_text}
 use Rattle.tasks.specs.declared.progress.Progress.{Progress}
-use Rattle.tasks.specs.Progress.{Adds, Follows, GivesUp, GaveUp, IsFresh, Leads, Point, Replies, StopsBefore, StopsBehind, point}
+use Rattle.tasks.specs.Progress.{Adds, Follows, GivesUp, GivesUpOn, GaveUp, IsFresh, Leads, Point, Replies, StopsBefore, StopsBehind, point}
 use Rattle.tasks.specs.Report.{any_refused, is_refused, last_reply, or_reply, replies_text}
 use Rattle.tasks.specs.Sinks.{Carries, IsOnTheWay, Taken, TakesFront, between}
 use Rattle.tasks.proofs.Sends.{front_of_longer, front_taken, takes_nothing}
@@ -62,10 +62,10 @@ last_is (e ∷ es) c r = ap (λ (o : Option Reply). or_reply o e) (last_is es c 
 
 -- ---- the same turns with a journal
 
--- the run with its journal
-pub record Recording (kept : Option (List Row)) (s : State) (ts : List Turn) (kept' : Option (List Row)) (now : State) : Type 0 where
+-- from a run with its journal on, the run with what joins it
+pub record Recording (kept : Option (List Row)) (mid : Recorded) (ts : List Turn) (kept' : Option (List Row)) (now : State) : Type 0 where
   pub run : Recorded
-  pub ran : Ran recorder kept (without_turns s) ts kept' run
+  pub ran : Ran recorder kept mid ts kept' run
   pub state : run.state ≡ now
 
 pub run_state : (r : Recorded) (xs : List (List Row × Turn)) → (run_turns recorder r xs).state ≡ run_turns engine r.state xs
@@ -80,21 +80,27 @@ unfolding bare
 held_bare h [] = refl
 held_bare h (t ∷ ts) = held_bare (held_step recorder h t) ts
 
-pub recorded : (kept kept' : Option (List Row)) (s now : State) (ts : List Turn) → Ran engine kept s ts kept' now → Recording kept s ts kept' now
+recorded_on : (kept kept' : Option (List Row)) (mid : Recorded) (now : State) (ts : List Turn) → Ran engine kept mid.state ts kept' now → Recording kept mid ts kept' now
 unfolding bare
-recorded None kept' s now ts ran = record {
-  run = run_turns recorder (without_turns s) ran.state.0;
+recorded_on None kept' mid now ts ran = record {
+  run = run_turns recorder mid ran.state.0;
   ran = record { state = (ran.state.0, ran.state.1, refl); rows = ran.rows };
-  state = run_state (without_turns s) ran.state.0 ∙ sym ran.state.2;
+  state = run_state mid ran.state.0 ∙ sym ran.state.2;
 }
-recorded (Some rows) kept' s now ts ran =
-    let h : Held Recorded = record { rows = rows; state = without_turns s } in
+recorded_on (Some rows) kept' mid now ts ran =
+    let h : Held Recorded = record { rows = rows; state = mid } in
     let same : bare (held_run recorder h ts) ≡ held_run engine (bare h) ts = held_bare h ts in
     record {
       run = (held_run recorder h ts).state;
       ran = record { state = refl; rows = ran.rows ∙ sym (ap (λ (x : Held State). Some x.rows) same) };
       state = ap (λ (x : Held State). x.state) same ∙ sym ran.state;
     }
+
+pub recorded_at : (kept kept' : Option (List Row)) (mid : Recorded) (s now : State) (ts : List Turn) → mid.state ≡ s → Ran engine kept s ts kept' now → Recording kept mid ts kept' now
+recorded_at kept kept' mid s now ts at ran = recorded_on kept kept' mid now ts (subst (λ (v : State). Ran engine kept v ts kept' now) (sym at) ran)
+
+pub recorded : (kept kept' : Option (List Row)) (s now : State) (ts : List Turn) → Ran engine kept s ts kept' now → Recording kept (without_turns s) ts kept' now
+recorded kept kept' s now ts ran = recorded_on kept kept' (without_turns s) now ts ran
 
 -- ---- turn by turn
 
@@ -187,18 +193,18 @@ gave_up names from mid to ts i d start old p fault.Memory within follows same ca
 
 -- ---- a single command's turns
 
--- the scenario's turns gave up
-pub first_gave_up : (from : Point) (kept : Option (List Row)) (now : State) (ts us : List Turn) (why : TurnFault) → WasCutOff engine from.kept from.state ts kept now why → GivesUp from (ts ++ us) kept why
-first_gave_up from kept now ts us why cut = at why cut.calls
+-- from a run on, the first of these turns gave up
+pub gave_up_on : (rows kept : Option (List Row)) (mid : Recorded) (s now : State) (ts us : List Turn) (why : TurnFault) → mid.state ≡ s → WasCutOff engine rows s ts kept now why → GivesUpOn rows mid (ts ++ us) kept why
+gave_up_on rows kept mid s now ts us why same cut = at why cut.calls
   where
-    run : Recording from.kept from.state (take cut.k ts) kept now
-    run = recorded from.kept kept from.state now (take cut.k ts) cut.ran
+    run : Recording rows mid (take cut.k ts) kept now
+    run = recorded_at rows kept mid s now (take cut.k ts) same cut.ran
 
     front : take cut.k (ts ++ us) ≡ take cut.k ts
     front = take-append-le cut.k ts us (omega (arith, cut.within))
 
-    leads : Leads from kept (take cut.k (ts ++ us)) run.run
-    leads = subst (λ vs. Leads from kept vs run.run) (sym front) run.ran
+    leads : Ran recorder rows mid (take cut.k (ts ++ us)) kept run.run
+    leads = subst (λ vs. Ran recorder rows mid vs kept run.run) (sym front) run.ran
 
     within : cut.k < length (ts ++ us)
     within = omega (arith, cut.within, length-append ts us)
@@ -206,15 +212,19 @@ first_gave_up from kept now ts us why cut = at why cut.calls
     here : (t : Turn) → slice_get (ts ++ us) cut.k ≡ Some t → slice_get ts cut.k ≡ Some t
     here t at = slice_get-get_or ts cut.k t cut.within ∙ ap Some (sym (get_or-append ts us t cut.k cut.within) ∙ get_or_from_slice_get (ts ++ us) cut.k t t at)
 
-    at : (e : TurnFault) → (e ≡ fault.Keeper → (t : Turn) → slice_get ts cut.k ≡ Some t → Calls engine now t) → GivesUp from (ts ++ us) kept e
+    at : (e : TurnFault) → (e ≡ fault.Keeper → (t : Turn) → slice_get ts cut.k ≡ Some t → Calls engine now t) → GivesUpOn rows mid (ts ++ us) kept e
     at fault.Keeper calls = (run.run, record { k = cut.k; within = within; comes = leads; calls = λ t is. subst (λ (v : State). Calls engine v t) (sym run.state) (calls refl t (here t is)) })
     at fault.Memory calls = record { k = cut.k; within = omega (arith, within); run = run.run; ran = leads }
+
+-- the scenario's turns gave up
+pub first_gave_up : (from : Point) (kept : Option (List Row)) (now : State) (ts us : List Turn) (why : TurnFault) → WasCutOff engine from.kept from.state ts kept now why → GivesUp from (ts ++ us) kept why
+first_gave_up from kept now ts us why cut = gave_up_on from.kept kept (without_turns from.state) from.state now ts us why refl cut
 
 -- the command's own turn did
 pub last_gave_up : (from : Point) (mid : Point) (kept : Option (List Row)) (ts : List Turn) (t : Turn) (why : TurnFault) → Ran engine from.kept from.state ts mid.kept mid.state → kept ≡ mid.kept → (why ≡ fault.Keeper → Calls engine mid.state t) → GivesUp from (ts ++ t ∷ []) kept why
 last_gave_up from mid kept ts t why ran same calls = at why calls
   where
-    run : Recording from.kept from.state ts mid.kept mid.state
+    run : Recording from.kept (without_turns from.state) ts mid.kept mid.state
     run = recorded from.kept mid.kept from.state mid.state ts ran
 
     front : take (length ts) (ts ++ t ∷ []) ≡ ts

@@ -1,6 +1,7 @@
 -- Tasks where the keeper tells its rows.
-use Rattle.std.proofs.Common.{◌≡◌, ◌∙◌, ℕ, ◌+◌, true, List, [], ◌∷◌, ◌++◌, length, take, drop, refl, sym, ap, subst, append_assoc, Option, Some}
-use Rattle.std.proofs.lemmas.List.{append-nil, take-append-drop}
+use Rattle.std.proofs.Common.{◌≡◌, ◌∙◌, ℕ, ◌+◌, true, List, [], ◌∷◌, ◌++◌, length, take, drop, refl, sym, ap, subst, append_assoc, arith, Option, Some, inl, inr}
+use Rattle.std.proofs.lemmas.List.{append-nil, take-append-drop, take-append-le}
+use Rattle.std.proofs.Math.Seq.{take-append-add}
 use Rattle.std.proofs.lemmas.List.Sums.{fold-append}
 use Rattle.orch_base.specs.Names.{HostPort}
 use Rattle.instance_keeper.specs.declared.row.Row.{Row}
@@ -15,14 +16,14 @@ use Rattle.orch_core.specs.Runs.{Held, Recorded, held_run, held_step, recorder}
 use Rattle.orch_core.specs.Scenarios.{StartsBy, kept_at_start, start, start_changes, without_turns}
 use Rattle.orch_core.specs.States.{State}
 use Rattle.report_text.specs.Lines.{lines_text}
-use Rattle.report_text.specs.Tables.{tables_text}
 use Rattle.tasks.specs.declared.asked.Asked.{Asked}
 use Rattle.tasks.specs.declared.asked.Asked.TheVariants as asked
 use Rattle.tasks.specs.declared.asked.Task.{Task}
-use Rattle.tasks.specs.Asked.{turns_taken}
-use Rattle.tasks.specs.Known.{Begins, IsFixed, cut_answer, held_after, held_from, last_held, opened, task_answer}
-use Rattle.tasks.specs.Report.{asked_answer, cut_text, replies_text}
-use Rattle.tasks.specs.Works.{Comes, Work}
+use Rattle.tasks.specs.Closing.{closing}
+use Rattle.tasks.specs.Endings.{IsOn, IsWhole, WasCut, course_of}
+use Rattle.tasks.specs.Known.{Begins, IsFixed, all_turns, cut_answer, held_from, opened, own_held, task_answer}
+use Rattle.tasks.specs.Report.{asked_answer, cut_text, replies_text, tables_of}
+use Rattle.tasks.specs.Works.{Comes, Work, turns_in}
 use Rattle.tasks.proofs.Courses.{lines-append}
 
 -- ---- known rows fix the run
@@ -30,11 +31,11 @@ use Rattle.tasks.proofs.Courses.{lines-append}
 abbrev from_start : Work → List Row → State → List Turn → Held Recorded
 from_start w rows begun ts = held_run recorder (record { rows = changed rows (start_changes w.scenario rows); state = without_turns begun }) ts
 
-pub known_rows_fix : (w : Work) (rows : List Row) (ts : List Turn) (run : Recorded) → w.old ≡ Some rows → Comes w ts run → IsFixed w rows ts run
-known_rows_fix w rows ts run known comes =
+pub known_rows_fix : (w : Work) (rows : List Row) (ts : List Turn) (kept : Option (List Row)) (run : Recorded) → w.old ≡ Some rows → Comes w ts kept run → IsFixed w rows ts kept run
+known_rows_fix w rows ts kept run known comes =
     let begun : comes.begun ≡ start w.scenario w.task.waits rows = subst (λ (o : Option (List Row)). StartsBy o w.scenario w.task.waits comes.begun) known comes.opens in
-    let ran : Ran recorder (Some (changed rows (start_changes w.scenario rows))) (without_turns comes.begun) ts w.new run =
-    subst (λ (o : Option (List Row)). Ran recorder (kept_at_start true o w.scenario) (without_turns comes.begun) ts w.new run) known comes.ran in
+    let ran : Ran recorder (Some (changed rows (start_changes w.scenario rows))) (without_turns comes.begun) ts kept run =
+    subst (λ (o : Option (List Row)). Ran recorder (kept_at_start true o w.scenario) (without_turns comes.begun) ts kept run) known comes.ran in
     record {
       run_is = ran.state ∙ ap (λ (b : State). (from_start w rows b ts).state) begun;
       rows_are = ran.rows ∙ ap (λ (b : State). Some (from_start w rows b ts).rows) begun;
@@ -70,13 +71,62 @@ replies_begin names h ts k =
 
 -- and so does what is left of any task
 pub cut_begins : (c : Task) (s : Scenario) (rows : List Row) (k : ℕ) → Begins (cut_answer c s rows k) (task_answer c s rows).out
-cut_begins c s rows k = at c.asked
+cut_begins c s rows k = at c.asked (all_turns c s rows)
   where
-    at : (a : Asked) → Begins (cut_text a (names_of s) (held_from c s rows (take k (turns_taken c.asked s.turns))).state) (asked_answer a c.tables (names_of s) (held_from c s rows (turns_taken c.asked s.turns)).state).out
-    at asked.Run =
-        let first = replies_begin (names_of s) (opened c s rows) (turns_taken c.asked s.turns) k in
-        let tables = tables_text (last_held c s rows).state.state.world in
-        record { rest = first.rest ++ tables; is = ap (λ (v : List ℕ). v ++ tables) first.is ∙ append_assoc (cut_text asked.Run (names_of s) (held_after c s rows k).state) first.rest tables }
-    at (asked.Turn t) = record { rest = (asked_answer (asked.Turn t) c.tables (names_of s) (last_held c s rows).state).out; is = refl }
-    at asked.Unknown = record { rest = (asked_answer asked.Unknown c.tables (names_of s) (last_held c s rows).state).out; is = refl }
-    at asked.Nothing = record { rest = []; is = refl }
+    at : (a : Asked) (ts : List Turn) → Begins (cut_text a (names_of s) (held_from c s rows (take k ts)).state) (asked_answer a c.tables (names_of s) (held_from c s rows ts).state).out
+    at asked.Run ts =
+        let first = replies_begin (names_of s) (opened c s rows) ts k in
+        let tables = tables_of (held_from c s rows ts).state.state in
+        record { rest = first.rest ++ tables; is = ap (λ (v : List ℕ). v ++ tables) first.is ∙ append_assoc (cut_text asked.Run (names_of s) (held_from c s rows (take k ts)).state) first.rest tables }
+    at (asked.Turn t) ts = record { rest = (asked_answer (asked.Turn t) c.tables (names_of s) (held_from c s rows ts).state).out; is = refl }
+    at asked.Unknown ts = record { rest = (asked_answer asked.Unknown c.tables (names_of s) (held_from c s rows ts).state).out; is = refl }
+    at asked.Nothing ts = record { rest = []; is = refl }
+
+-- ---- all turns
+
+-- a run on from a state that is known, by rows that are known
+ran_on : (h : Held Recorded) (ts : List Turn) (rows kept : Option (List Row)) (mid run : Recorded) → mid ≡ h.state → rows ≡ Some h.rows → Ran recorder rows mid ts kept run
+    → (run ≡ (held_run recorder h ts).state) × (kept ≡ Some (held_run recorder h ts).rows)
+ran_on h ts rows kept mid run at known ran =
+    let here : Ran recorder (Some h.rows) h.state ts kept run = subst (λ (r : Recorded). Ran recorder (Some h.rows) r ts kept run) at (subst (λ o. Ran recorder o mid ts kept run) known ran) in
+    (here.state, here.rows)
+
+-- turns behind the task's own, by the rows of the keeper
+pub behind_own : (w : Work) (rows : List Row) (ts : List Turn) (mid_rows kept : Option (List Row)) (mid run : Recorded) → w.old ≡ Some rows → Comes w (turns_in w) mid_rows mid → Ran recorder mid_rows mid ts kept run
+    → IsFixed w rows (turns_in w ++ ts) kept run
+behind_own w rows ts mid_rows kept mid run known comes ran =
+    let first = known_rows_fix w rows (turns_in w) mid_rows mid known comes in
+    let own = held_from w.task w.scenario rows (turns_in w) in
+    let last = ran_on own ts mid_rows kept mid run first.run_is first.rows_are ran in
+    let both : held_from w.task w.scenario rows (turns_in w ++ ts) ≡ held_run recorder own ts = fold-append (held_step recorder) (opened w.task w.scenario rows) (turns_in w) ts in
+    record {
+      run_is = last.0 ∙ sym (ap (λ (h : Held Recorded). h.state) both);
+      rows_are = last.1 ∙ sym (ap (λ (h : Held Recorded). Some h.rows) both);
+    }
+
+-- all turns lead to one run
+pub whole_is : (w : Work) (rows : List Row) (run : Recorded) → w.old ≡ Some rows → IsWhole (course_of w) run → IsFixed w rows (all_turns w.task w.scenario rows) w.new run
+whole_is w rows run known whole =
+    let first = known_rows_fix w rows (turns_in w) whole.rows whole.mid known whole.came in
+    let at = behind_own w rows (closing w.task.asked whole.mid) whole.rows w.new whole.mid run known whole.came whole.closed in
+    subst (λ (r : Recorded). IsFixed w rows (turns_in w ++ closing w.task.asked r) w.new run) first.run_is at
+
+-- some of them lead to what is left of the task
+pub on_is : (w : Work) (rows : List Row) (run : Recorded) → w.old ≡ Some rows → IsOn (course_of w) run → (k : ℕ) × (cut_text w.task.asked (names_of w.scenario) run ≡ cut_answer w.task w.scenario rows k)
+on_is w rows run known (inl at) =
+    let is = known_rows_fix w rows (take at.k (turns_in w)) w.new run known at.comes in
+    let front : take at.k (all_turns w.task w.scenario rows) ≡ take at.k (turns_in w) = take-append-le at.k (turns_in w) (closing w.task.asked (own_held w.task w.scenario rows).state) at.within in
+    (at.k, ap (cut_text w.task.asked (names_of w.scenario)) (is.run_is ∙ ap (λ ts. (held_from w.task w.scenario rows ts).state) (sym front)))
+on_is w rows run known (inr at) =
+    let first = known_rows_fix w rows (turns_in w) at.rows at.mid known at.came in
+    let is = behind_own w rows (take at.k (closing w.task.asked at.mid)) at.rows w.new at.mid run known at.came at.ran in
+    let n = length (turns_in w) + at.k in
+    let same : turns_in w ++ take at.k (closing w.task.asked at.mid) ≡ take n (all_turns w.task w.scenario rows) =
+    ap (λ (r : Recorded). turns_in w ++ take at.k (closing w.task.asked r)) first.run_is ∙ sym (take-append-add (turns_in w) (closing w.task.asked (own_held w.task w.scenario rows).state) at.k) in
+    (n, ap (cut_text w.task.asked (names_of w.scenario)) (is.run_is ∙ ap (λ ts. (held_from w.task w.scenario rows ts).state) same))
+
+-- and so do those before one that was cut
+pub cut_is : (w : Work) (rows : List Row) (run : Recorded) → w.old ≡ Some rows → WasCut (course_of w) run → (k : ℕ) × (cut_text w.task.asked (names_of w.scenario) run ≡ cut_answer w.task w.scenario rows k)
+cut_is w rows run known (inl at) = on_is w rows run known (inl (record { k = at.k; within = let less = at.within in omega (arith, less); comes = at.comes }))
+cut_is w rows run known (inr at) =
+    on_is w rows run known (inr (record { mid = at.mid; rows = at.rows; came = at.came; k = at.cut.k; within = let less = at.cut.within in omega (arith, less); ran = at.cut.comes }))

@@ -1,3 +1,4 @@
+pub mod Closings
 pub mod Courses
 pub mod Known
 pub mod Sends

@@ -1,5 +1,6 @@
 -- What stands at the ending of a task.
-use Rattle.std.proofs.Common.{◌≡◌, ◌∙◌, ℕ, List, [], ◌++◌, length, take, true, false, refl, sym, ap, subst, arith, Option, Bool, inl, inr}
+use Rattle.std.proofs.Common.{Some, ◌≡◌, ◌∙◌, ℕ, List, [], ◌++◌, length, take, true, false, refl, sym, ap, subst, arith, Option, Bool, inl, inr}
+use Rattle.std.specs.Option.{option_and_then}
 use Rattle.std.proofs.lemmas.List.{append-nil}
 use Rattle.std.proofs.Math.Seq.{take-length}
 use Rattle.orch_base.specs.Names.{HostPort}
@@ -7,7 +8,6 @@ use Rattle.instance_keeper.specs.declared.row.Row.{Row}
 use Rattle.commands.specs.declared.refusal.Refusal.TheVariants.{UnknownInstance}
 use Rattle.commands.specs.declared.turn.CommandTurn.{CommandTurn}
 use Rattle.scenarios.specs.Scenarios.{names_of}
-use Rattle.server_model.specs.Worlds.{World}
 use Rattle.turns.specs.declared.turn.Turn.{Turn}
 use Rattle.turns.specs.declared.turn.Reply.{Reply}
 use Rattle.turns.specs.declared.turn.Reply.TheVariants as answered
@@ -17,7 +17,7 @@ use Rattle.orch_core.specs.Keeping.{Ran, WasCutOff}
 use Rattle.orch_core.specs.Runs.{Recorded, engine, recorder}
 use Rattle.orch_core.specs.Scenarios.{StartsBy, kept_at_start, without_turns}
 use Rattle.orch_core.specs.States.{State}
-use Rattle.report_text.specs.Tables.{tables_text}
+use Rattle.orch_core.proofs.Runs.{Ran-nil}
 use Rattle.tasks.specs.declared.asked.Asked.{Asked}
 use Rattle.tasks.specs.declared.asked.Asked.TheVariants as asked
 use Rattle.tasks.specs.declared.asked.Task.{Task}
@@ -25,9 +25,10 @@ use Rattle.tasks.specs.declared.ending.Ending.{Ending}
 use Rattle.tasks.specs.declared.ending.Ending.TheVariants as ends
 use Rattle.tasks.specs.declared.progress.Progress.{Progress}
 use Rattle.tasks.specs.Asked.{own_turns, turns_taken}
-use Rattle.tasks.specs.Endings.{Course, Stands, Tells}
-use Rattle.tasks.specs.Progress.{EndsCut, EndsWhole, Follows, GaveUp, Gives, GivesUp, Leads, Point, Replies, StopsBehind, StopsBefore, course_from, point}
-use Rattle.tasks.specs.Report.{Answer, answer_of, asked_answer, cut_text, own_answer, replies_text, told_answer}
+use Rattle.tasks.specs.Closing.{begun_by, closing, closing_by}
+use Rattle.tasks.specs.Endings.{Course, IsOn, IsWhole, Stands, Tells, WasCut}
+use Rattle.tasks.specs.Progress.{Answers, EndsCut, EndsWhole, Follows, GaveUp, Gives, GivesUp, GivesUpOn, Leads, Point, Stops, StopsBehind, StopsBefore, course_from, point}
+use Rattle.tasks.specs.Report.{Answer, answer_of, asked_answer, cut_text, last_reply, own_answer, replies_text, tables_of, told_answer}
 use Rattle.tasks.specs.Singles.{Writes}
 use Rattle.tasks.specs.Sinks.{End, FailsIn, Taken, Takes, TakesFront, between}
 use Rattle.tasks.specs.Works.{Comes, IsCut, Work, turns_in}
@@ -46,42 +47,51 @@ module _ (c : Task) (names : List HostPort) (ts : List Turn) (from to : Point) (
   left_text : (run : Recorded) → cut_text c.asked names run ≡ replies_text names run
   left_text run = ap (λ (a : Asked). cut_text a names run) is_run
 
-  whole_text : (run : Recorded) (w : World) → w ≡ to.state.world → run.state ≡ to.state → replies_text names run ++ tables_text w ≡ (answer_of c names run).out
-  whole_text run w world state =
-      ap (λ (v : World). replies_text names run ++ tables_text v) (world ∙ ap (λ (x : State). x.world) (sym state)) ∙ ap (λ (a : Answer). a.out) (sym (run_text run))
+  whole_text : (run : Recorded) → run.state ≡ to.state → replies_text names run ++ tables_of to.state ≡ (answer_of c names run).out
+  whole_text run state = ap (λ (s : State). replies_text names run ++ tables_of s) (sym state) ∙ ap (λ (a : Answer). a.out) (sym (run_text run))
+
+  -- nothing follows a run's turns
+  nothing_follows : (run : Recorded) → closing c.asked run ≡ []
+  nothing_follows run = ap (λ (a : Asked). closing a run) is_run
+
+  whole_of : (run : Recorded) → Leads from to.kept ts run → IsWhole course run
+  whole_of run leads = record {
+    mid = run;
+    rows = to.kept;
+    came = leads;
+    closed = subst (λ us. Ran recorder to.kept run us to.kept run) (sym (nothing_follows run)) (Ran-nil recorder to.kept run);
+  }
 
   err_text : (run : Recorded) → Takes (between err err) (answer_of c names run).err
   err_text run = subst (λ (v : List ℕ). Takes (between err err) v) (ap (λ (a : Answer). a.err) (sym (run_text run))) (takes_nothing err.bytes)
 
   -- behind all turns
-  pub whole_stands : (w : World) (ending : Ending) → w ≡ to.state.world → Follows names from ts to (between start mid) p → EndsWhole w p mid new ending → Stands course (between start new) (between err err) ending
-  whole_stands w (ends.Written refused) world follows told = record {
+  pub whole_stands : (ending : Ending) → Follows names from ts to (between start mid) p → EndsWhole to.state p mid new ending → Stands course (between start new) (between err err) ending
+  whole_stands (ends.Written refused) follows told = record {
     run = follows.run;
-    comes = follows.ran;
-    on_out = subst (λ (v : List ℕ). Takes (between start new) v) (whole_text follows.run w world follows.state) (told.0 start (replies_text names follows.run) follows.text);
+    whole = whole_of follows.run follows.ran;
+    on_out = subst (λ (v : List ℕ). Takes (between start new) v) (whole_text follows.run follows.state) (told.0 start (replies_text names follows.run) follows.text);
     on_err = err_text follows.run;
     is_refused = told.1 ∙ (follows.refused ∙ ap (λ (a : Answer). a.is_refused) (sym (run_text follows.run)));
   }
-  whole_stands w ends.Unwritten world follows told = inr (inl (record {
+  whole_stands ends.Unwritten follows told = inr (inl (record {
     run = follows.run;
-    comes = follows.ran;
+    whole = whole_of follows.run follows.ran;
     on_err = err_text follows.run;
-    on_out = subst (λ (v : List ℕ). FailsIn (between start new) v) (whole_text follows.run w world follows.state) (told start (replies_text names follows.run) follows.text);
+    on_out = subst (λ (v : List ℕ). FailsIn (between start new) v) (whole_text follows.run follows.state) (told start (replies_text names follows.run) follows.text);
   }))
-  whole_stands w ends.Keeper world follows told = absurd told
-  whole_stands w ends.Memory world follows told = record {
-    k = length ts;
-    within = omega arith;
+  whole_stands ends.Keeper follows told = absurd told
+  whole_stands ends.Memory follows told = record {
     run = follows.run;
-    comes = subst (λ us. Leads from to.kept us follows.run) (sym (take-length ts)) follows.ran;
+    on = inl (record { k = length ts; within = omega arith; comes = subst (λ us. Leads from to.kept us follows.run) (sym (take-length ts)) follows.ran });
     on_err = takes_nothing err.bytes;
     on_out = subst (λ (v : List ℕ). TakesFront (between start new) v) (sym (left_text follows.run))
         (subst (λ (o : Taken). TakesFront (between start o) (replies_text names follows.run)) (sym told)
         (front_taken (between start mid) p.pieces.held.items (replies_text names follows.run) p.pieces.failed follows.text));
   }
 
-  cut_at : (stops : StopsBefore names from ts to (between start mid) p) → IsCut (Leads from to.kept) ts stops.follows.run
-  cut_at stops = record { k = stops.k; within = stops.within; comes = stops.follows.ran; calls = stops.calls }
+  cut_at : (stops : StopsBefore names from ts to (between start mid) p) → WasCut course stops.follows.run
+  cut_at stops = inl (record { k = stops.k; within = stops.within; comes = stops.follows.ran; calls = stops.calls })
 
   rest_text : (run : Recorded) → replies_text names run ++ [] ≡ cut_text c.asked names run
   rest_text run = append-nil (replies_text names run) ∙ sym (left_text run)
@@ -106,10 +116,8 @@ module _ (c : Task) (names : List HostPort) (ts : List Turn) (from to : Point) (
   -- memory ran out
   pub wanting_stands : StopsBehind names from ts to (between start new) → Stands course (between start new) (between err err) ends.Memory
   wanting_stands stops = record {
-    k = stops.k;
-    within = stops.within;
     run = stops.run;
-    comes = stops.ran;
+    on = inl (record { k = stops.k; within = stops.within; comes = stops.ran });
     on_err = takes_nothing err.bytes;
     on_out = subst (λ (v : List ℕ). TakesFront (between start new) v) (sym (left_text stops.run)) stops.front;
   }
@@ -124,27 +132,31 @@ gave_memory names from to ts e p why is gave = subst (GaveUp names from ts to e 
 -- ---- single commands
 
 -- an answer was written
-pub writes_stand : (c : Task) (names : List HostPort) (ts : List Turn) (from : Point) (kept : Option (List Row)) (run : Recorded) (a : Answer) (out err : End) (ending : Ending) → Leads from kept ts run → answer_of c names run ≡ a → Writes a out err ending
-    → Stands (course_from c names ts from kept) out err ending
-writes_stand c names ts from kept run a out err (ends.Written refused) leads is wrote = record {
+pub writes_stand : (c : Course) (run : Recorded) (a : Answer) (out err : End) (ending : Ending) → IsWhole c run → answer_of c.task c.names run ≡ a → Writes a out err ending → Stands c out err ending
+writes_stand c run a out err (ends.Written refused) whole is wrote = record {
   run = run;
-  comes = leads;
+  whole = whole;
   on_out = subst (λ (b : Answer). Takes out b.out) (sym is) wrote.0.on_out;
   on_err = subst (λ (b : Answer). Takes err b.err) (sym is) wrote.0.on_err;
   is_refused = wrote.1 ∙ ap (λ (b : Answer). b.is_refused) (sym is);
 }
-writes_stand c names ts from kept run a out err ends.Unwritten leads is (inl first) =
-    inl (record { run = run; comes = leads; on_err = subst (λ (b : Answer). FailsIn err b.err) (sym is) first.0; on_out = first.1 })
-writes_stand c names ts from kept run a out err ends.Unwritten leads is (inr second) =
-    inr (inl (record { run = run; comes = leads; on_err = subst (λ (b : Answer). Takes err b.err) (sym is) second.0; on_out = subst (λ (b : Answer). FailsIn out b.out) (sym is) second.1 }))
-writes_stand c names ts from kept run a out err ends.Keeper leads is wrote = absurd wrote
-writes_stand c names ts from kept run a out err ends.Memory leads is wrote = record {
-  k = length ts;
-  within = omega arith;
+writes_stand c run a out err ends.Unwritten whole is (inl first) =
+    inl (record { run = run; whole = whole; on_err = subst (λ (b : Answer). FailsIn err b.err) (sym is) first.0; on_out = first.1 })
+writes_stand c run a out err ends.Unwritten whole is (inr second) =
+    inr (inl (record { run = run; whole = whole; on_err = subst (λ (b : Answer). Takes err b.err) (sym is) second.0; on_out = subst (λ (b : Answer). FailsIn out b.out) (sym is) second.1 }))
+writes_stand c run a out err ends.Keeper whole is wrote = absurd wrote
+writes_stand c run a out err ends.Memory whole is wrote = record {
   run = run;
-  comes = subst (λ us. Leads from kept us run) (sym (take-length ts)) leads;
+  on = inr (record {
+    mid = whole.mid;
+    rows = whole.rows;
+    came = whole.came;
+    k = length (closing c.task.asked whole.mid);
+    within = omega arith;
+    ran = subst (λ us. Ran recorder whole.rows whole.mid us c.kept run) (sym (take-length (closing c.task.asked whole.mid))) whole.closed;
+  });
   on_err = wrote.1;
-  on_out = nothing_is_front out.old.bytes out.new.bytes (cut_text c.asked names run) wrote.0;
+  on_out = nothing_is_front out.old.bytes out.new.bytes (cut_text c.task.asked c.names run) wrote.0;
 }
 
 -- nothing is left of it where its turns gave up
@@ -154,67 +166,138 @@ quiet_cut (asked.Turn t) names run other = refl
 quiet_cut asked.Unknown names run other = refl
 quiet_cut asked.Nothing names run other = refl
 
+pub cut_quietly : (c : Task) (names : List HostPort) (ts : List Turn) (from : Point) (kept : Option (List Row)) (out err : Taken) (run : Recorded) → (c.asked ≡ asked.Run → ⊥) → WasCut (course_from c names ts from kept) run
+    → Stands (course_from c names ts from kept) (between out out) (between err err) ends.Keeper
+cut_quietly c names ts from kept out err run other cut = record {
+  run = run;
+  cut = cut;
+  on_err = takes_nothing err.bytes;
+  on_out = subst (λ (v : List ℕ). Takes (between out out) v) (sym (quiet_cut c.asked names run other)) (takes_nothing out.bytes);
+}
+
+pub wanting_quietly : (c : Task) (names : List HostPort) (ts : List Turn) (from : Point) (kept : Option (List Row)) (out err : Taken) (run : Recorded) → IsOn (course_from c names ts from kept) run
+    → Stands (course_from c names ts from kept) (between out out) (between err err) ends.Memory
+wanting_quietly c names ts from kept out err run on = record {
+  run = run;
+  on = on;
+  on_err = takes_nothing err.bytes;
+  on_out = nothing_is_front out.bytes out.bytes (cut_text c.asked names run) (takes_nothing out.bytes);
+}
+
 pub keeper_stands : (c : Task) (names : List HostPort) (ts : List Turn) (from : Point) (kept : Option (List Row)) (out err : Taken) (why : TurnFault) → (c.asked ≡ asked.Run → ⊥) → why ≡ fault.Keeper → GivesUp from ts kept why
     → Stands (course_from c names ts from kept) (between out out) (between err err) ends.Keeper
 keeper_stands c names ts from kept out err why other is gives =
     let at : (run : Recorded) × IsCut (Leads from kept) ts run = subst (GivesUp from ts kept) is gives in
-    record {
-      run = at.0;
-      cut = at.1;
-      on_err = takes_nothing err.bytes;
-      on_out = subst (λ (v : List ℕ). Takes (between out out) v) (sym (quiet_cut c.asked names at.0 other)) (takes_nothing out.bytes);
-    }
+    cut_quietly c names ts from kept out err at.0 other (inl at.1)
 
 pub memory_stands : (c : Task) (names : List HostPort) (ts : List Turn) (from : Point) (kept : Option (List Row)) (out err : Taken) (why : TurnFault) → why ≡ fault.Memory → GivesUp from ts kept why
     → Stands (course_from c names ts from kept) (between out out) (between err err) ends.Memory
 memory_stands c names ts from kept out err why is gives =
-    let at : Gives from ts kept = subst (GivesUp from ts kept) is gives in
-    record {
-      k = at.k;
-      within = at.within;
-      run = at.run;
-      comes = at.ran;
-      on_err = takes_nothing err.bytes;
-      on_out = nothing_is_front out.bytes out.bytes (cut_text c.asked names at.run) (takes_nothing out.bytes);
-    }
+    let at : Gives from.kept (without_turns from.state) ts kept = subst (GivesUp from ts kept) is gives in
+    wanting_quietly c names ts from kept out err at.run (inl (record { k = at.k; within = at.within; comes = at.ran }))
 
--- what is answered by a command's reply
-pub own_stands : (c : Task) (names : List HostPort) (ts : List Turn) (from to : Point) (t : CommandTurn) (tables : Bool) (w : World) (reply : Reply) (out err : End) (ending : Ending) → c.asked ≡ asked.Turn t → c.tables ≡ tables → w ≡ to.state.world → Replies from ts to reply
-    → Writes (told_answer tables names w reply) out err ending → Stands (course_from c names ts from to.kept) out err ending
-own_stands c names ts from to t tables w reply out err ending is tabled world replies wrote =
-    writes_stand c names ts from to.kept replies.run (told_answer tables names w reply) out err ending replies.ran
-    (ap (λ (a : Asked). asked_answer a c.tables names replies.run) is
-    ∙ (ap (λ (r : Option Reply). own_answer c.tables names replies.run.state.world r) replies.last
-    ∙ (ap (λ (b : Bool). told_answer b names replies.run.state.world reply) tabled ∙ ap (λ (v : World). told_answer tables names v reply) (ap (λ (x : State). x.world) replies.state ∙ sym world))))
-    wrote
+-- ---- a single command with a turn of its own
+
+module _ (c : Task) (names : List HostPort) (ts : List Turn) (from : Point) (t : CommandTurn) (is : c.asked ≡ asked.Turn t) where
+  not_a_run : c.asked ≡ asked.Run → ⊥
+  not_a_run run = apart (sym is ∙ run)
+    where
+      apart : asked.Turn t ≡ asked.Run → ⊥
+      apart e = cc
+
+  -- what follows its own turn
+  follows_own : (mid : Recorded) (reply : Reply) → last_reply mid.journal ≡ Some reply → closing c.asked mid ≡ closing_by (begun_by reply) mid.state
+  follows_own mid reply last =
+      ap (λ (a : Asked). closing a mid) is ∙ ap (λ (o : Option Reply). closing_by (option_and_then begun_by o) mid.state) last
+
+  -- what is answered by its last reply
+  pub own_stands : (to : Point) (tables : Bool) (reply : Reply) (out err : End) (ending : Ending) → c.tables ≡ tables → Answers from ts to reply → Writes (told_answer tables names to.state reply) out err ending
+      → Stands (course_from c names ts from to.kept) out err ending
+  own_stands to tables reply out err ending tabled answers wrote =
+      let closes = answers.closes in
+      let mid = answers.replies.run in
+      writes_stand (course_from c names ts from to.kept) closes.run (told_answer tables names to.state reply) out err ending
+      (record {
+        mid = mid;
+        rows = answers.at.kept;
+        came = answers.replies.ran;
+        closed = subst (λ us. Ran recorder answers.at.kept mid us to.kept closes.run) (sym (follows_own mid answers.reply answers.replies.last)) closes.ran;
+      })
+      (ap (λ (a : Asked). asked_answer a c.tables names closes.run) is
+      ∙ (ap (λ (r : Option Reply). own_answer c.tables names closes.run.state r) closes.last
+      ∙ (ap (λ (b : Bool). told_answer b names closes.run.state reply) tabled ∙ ap (λ (s : State). told_answer tables names s reply) closes.state)))
+      wrote
+
+  pub own_keeper : (kept : Option (List Row)) (out err : Taken) (why : TurnFault) → why ≡ fault.Keeper → Stops from ts kept why → Stands (course_from c names ts from kept) (between out out) (between err err) ends.Keeper
+  own_keeper kept out err why failed (inl gives) = keeper_stands c names ts from kept out err why not_a_run failed gives
+  own_keeper kept out err why failed (inr stops) =
+      let mid = stops.replies.run in
+      let us = closing_by (begun_by stops.reply) mid.state in
+      let at : (run : Recorded) × IsCut (λ vs run. Ran recorder stops.at.kept mid vs kept run) us run = subst (GivesUpOn stops.at.kept mid us kept) failed stops.gives in
+      cut_quietly c names ts from kept out err at.0 not_a_run (inr (record {
+        mid = mid;
+        rows = stops.at.kept;
+        came = stops.replies.ran;
+        cut = subst (λ vs. IsCut (λ ws run. Ran recorder stops.at.kept mid ws kept run) vs at.0) (sym (follows_own mid stops.reply stops.replies.last)) at.1;
+      }))
+
+  pub own_memory : (kept : Option (List Row)) (out err : Taken) (why : TurnFault) → why ≡ fault.Memory → Stops from ts kept why → Stands (course_from c names ts from kept) (between out out) (between err err) ends.Memory
+  own_memory kept out err why failed (inl gives) = memory_stands c names ts from kept out err why failed gives
+  own_memory kept out err why failed (inr stops) =
+      let mid = stops.replies.run in
+      let us = closing_by (begun_by stops.reply) mid.state in
+      let given : Gives stops.at.kept mid us kept = subst (GivesUpOn stops.at.kept mid us kept) failed stops.gives in
+      let at = subst (λ vs. Gives stops.at.kept mid vs kept) (sym (follows_own mid stops.reply stops.replies.last)) given in
+      wanting_quietly c names ts from kept out err at.run (inr (record { mid = mid; rows = stops.at.kept; came = stops.replies.ran; k = at.k; within = at.within; ran = at.ran }))
 
 -- and to one that uses an instance that no server is
-pub unknown_stands : (c : Task) (names : List HostPort) (ts : List Turn) (from : Point) (kept : Option (List Row)) (now : State) (w : World) (out err : End) (ending : Ending) → c.asked ≡ asked.Unknown → w ≡ now.world → Recording from.kept from.state ts kept now
-    → Writes (told_answer false names w (answered.Refused UnknownInstance)) out err ending → Stands (course_from c names ts from kept) out err ending
-unknown_stands c names ts from kept now w out err ending is world recording wrote =
-    writes_stand c names ts from kept recording.run (told_answer false names w (answered.Refused UnknownInstance)) out err ending recording.ran
+pub unknown_stands : (c : Task) (names : List HostPort) (ts : List Turn) (from : Point) (kept : Option (List Row)) (now : State) (out err : End) (ending : Ending) → c.asked ≡ asked.Unknown → Recording from.kept (without_turns from.state) ts kept now
+    → Writes (told_answer false names now (answered.Refused UnknownInstance)) out err ending → Stands (course_from c names ts from kept) out err ending
+unknown_stands c names ts from kept now out err ending is recording wrote =
+    writes_stand (course_from c names ts from kept) recording.run (told_answer false names now (answered.Refused UnknownInstance)) out err ending
+    (record {
+      mid = recording.run;
+      rows = kept;
+      came = recording.ran;
+      closed = subst (λ us. Ran recorder kept recording.run us kept recording.run) (sym (ap (λ (a : Asked). closing a recording.run) is)) (Ran-nil recorder kept recording.run);
+    })
     (ap (λ (a : Asked). asked_answer a c.tables names recording.run) is
-    ∙ ap (λ (v : World). told_answer false names v (answered.Refused UnknownInstance)) (ap (λ (x : State). x.world) recording.state ∙ sym world))
+    ∙ ap (λ (s : State). told_answer false names s (answered.Refused UnknownInstance)) recording.state)
     wrote
 
 -- ---- from the opening on
 
-stands_on : (c : Course) (came : List Turn → Recorded → Type 0) → ((ts : List Turn) (run : Recorded) → c.came ts run → came ts run) → (out err : End) (ending : Ending) → Stands c out err ending → Stands (record c { came = came }) out err ending
-stands_on c came on out err (ends.Written refused) s = record { run = s.run; comes = on c.turns s.run s.comes; on_out = s.on_out; on_err = s.on_err; is_refused = s.is_refused }
-stands_on c came on out err ends.Unwritten (inl s) = inl (record { run = s.run; comes = on c.turns s.run s.comes; on_err = s.on_err; on_out = s.on_out })
-stands_on c came on out err ends.Unwritten (inr (inl s)) = inr (inl (record { run = s.run; comes = on c.turns s.run s.comes; on_err = s.on_err; on_out = s.on_out }))
-stands_on c came on out err ends.Unwritten (inr (inr s)) =
-    inr (inr (record { run = s.run; cut = record { k = s.cut.k; within = s.cut.within; comes = on (take s.cut.k c.turns) s.run s.cut.comes; calls = s.cut.calls }; on_err = s.on_err; on_out = s.on_out }))
-stands_on c came on out err ends.Keeper s = record { run = s.run; cut = record { k = s.cut.k; within = s.cut.within; comes = on (take s.cut.k c.turns) s.run s.cut.comes; calls = s.cut.calls }; on_err = s.on_err; on_out = s.on_out }
-stands_on c came on out err ends.Memory s = record { k = s.k; within = s.within; run = s.run; comes = on (take s.k c.turns) s.run s.comes; on_err = s.on_err; on_out = s.on_out }
+-- turns that come so come from further back, too
+module _ (c : Course) (came : List Turn → Option (List Row) → Recorded → Type 0) (on : (ts : List Turn) (kept : Option (List Row)) (run : Recorded) → c.came ts kept run → came ts kept run) where
+  abbrev further : Course
+  further = record c { came = came }
+
+  whole_on : (run : Recorded) → IsWhole c run → IsWhole further run
+  whole_on run whole = record { mid = whole.mid; rows = whole.rows; came = on c.turns whole.rows whole.mid whole.came; closed = whole.closed }
+
+  is_on : (run : Recorded) → IsOn c run → IsOn further run
+  is_on run (inl at) = inl (record { k = at.k; within = at.within; comes = on (take at.k c.turns) c.kept run at.comes })
+  is_on run (inr at) = inr (record { mid = at.mid; rows = at.rows; came = on c.turns at.rows at.mid at.came; k = at.k; within = at.within; ran = at.ran })
+
+  cut_on : (run : Recorded) → WasCut c run → WasCut further run
+  cut_on run (inl at) = inl (record { k = at.k; within = at.within; comes = on (take at.k c.turns) c.kept run at.comes; calls = at.calls })
+  cut_on run (inr at) = inr (record { mid = at.mid; rows = at.rows; came = on c.turns at.rows at.mid at.came; cut = at.cut })
+
+  stands_on : (out err : End) (ending : Ending) → Stands c out err ending → Stands further out err ending
+  stands_on out err (ends.Written refused) s = record { run = s.run; whole = whole_on s.run s.whole; on_out = s.on_out; on_err = s.on_err; is_refused = s.is_refused }
+  stands_on out err ends.Unwritten (inl s) = inl (record { run = s.run; whole = whole_on s.run s.whole; on_err = s.on_err; on_out = s.on_out })
+  stands_on out err ends.Unwritten (inr (inl s)) = inr (inl (record { run = s.run; whole = whole_on s.run s.whole; on_err = s.on_err; on_out = s.on_out }))
+  stands_on out err ends.Unwritten (inr (inr s)) = inr (inr (record { run = s.run; cut = cut_on s.run s.cut; on_err = s.on_err; on_out = s.on_out }))
+  stands_on out err ends.Keeper s = record { run = s.run; cut = cut_on s.run s.cut; on_err = s.on_err; on_out = s.on_out }
+  stands_on out err ends.Memory s = record { run = s.run; on = is_on s.run s.on; on_err = s.on_err; on_out = s.on_out }
 
 pub begun_stands : (w : Work) (names : List HostPort) (ts : List Turn) (begun : State) (mid : Option (List Row)) (out err : End) (ending : Ending) → StartsBy w.old w.scenario w.task.waits begun → mid ≡ kept_at_start true w.old w.scenario → names ≡ names_of w.scenario → ts ≡ turns_in w
     → Stands (course_from w.task names ts (point mid begun) w.new) out err ending → Tells w out err ending
 begun_stands w names ts begun mid out err ending opens kept named all stands =
-    inr (subst (λ us. Stands (record { task = w.task; names = names_of w.scenario; turns = us; came = Comes w }) out err ending) all
-    (subst (λ ns. Stands (record { task = w.task; names = ns; turns = ts; came = Comes w }) out err ending) named
+    inr (subst (λ us. Stands (record { task = w.task; names = names_of w.scenario; turns = us; came = Comes w; kept = w.new }) out err ending) all
+    (subst (λ ns. Stands (record { task = w.task; names = ns; turns = ts; came = Comes w; kept = w.new }) out err ending) named
     (stands_on (course_from w.task names ts (point mid begun) w.new) (Comes w)
-    (λ us run leads. record { begun = begun; opens = opens; ran = subst (λ k. Ran recorder k (without_turns begun) us w.new run) kept leads })
+    (λ us rows run leads. record { begun = begun; opens = opens; ran = subst (λ k. Ran recorder k (without_turns begun) us rows run) kept leads })
     out err ending stands)))
 
 -- the turns of each thing that is asked

@@ -11,9 +11,9 @@ use Rattle.orch_base.specs.declared.server.ServerNo.{ServerNo}
 use Rattle.commands.specs.declared.name.CommandName.{CommandName}
 use Rattle.commands.specs.declared.turn.Found.{Found}
 use Rattle.commands.specs.Names.{name_of, needs_of, nothing, uses_of}
-use Rattle.commands.specs.Routes.{is_built, is_built_name, route_of}
+use Rattle.command_routes.specs.Routes.{is_built, is_built_name, route_of}
 use Rattle.commands.specs.Turns.{is_there, is_within}
-use Rattle.commands.proofs.Routes.{needed-used}
+use Rattle.commands.proofs.Needed.{needed-used}
 use Rattle.cluster_filters.specs.Patterns.{is_found, is_pattern}
 use Rattle.command_line.specs.Commands.{needs_at}
 use Rattle.command_line.specs.Taken.{AreTaken, are_there}

@@ -1,28 +1,70 @@
 -- How a task ends, and what has been written and kept then.
-use Rattle.std.specs.Prelude.{◌≡◌, ℕ, ◌≤◌, ◌⊎◌, Bool, List, [], length, take}
+use Rattle.std.specs.Prelude.{◌≡◌, ℕ, ◌≤◌, ◌⊎◌, Bool, List, [], length, take, Option}
+use Rattle.instance_keeper.specs.declared.row.Row.{Row}
 use Rattle.orch_base.specs.Causes.{Rose}
 use Rattle.orch_base.specs.Names.{HostPort}
 use Rattle.scenarios.specs.Scenarios.{names_of}
 use Rattle.turns.specs.declared.turn.Turn.{Turn}
-use Rattle.orch_core.specs.Runs.{Recorded}
+use Rattle.orch_core.specs.Keeping.{Ran}
+use Rattle.orch_core.specs.Runs.{Recorded, recorder}
 use Rattle.tasks.specs.declared.asked.Task.{Task}
 use Rattle.tasks.specs.declared.ending.Ending.{Ending}
 use Rattle.tasks.specs.declared.ending.Ending.TheVariants as ends
+use Rattle.tasks.specs.Closing.{closing}
 use Rattle.tasks.specs.Report.{answer_of, cut_text}
 use Rattle.tasks.specs.Sinks.{End, FailsIn, Takes, TakesFront}
 use Rattle.tasks.specs.Works.{Comes, IsCut, Work, turns_in}
 
--- what a task's report is of: the task, the servers' names, all turns, and which turns lead to which state
+-- what a task's report is of: the task, the servers' names, the scenario's turns and the command's own, which turns lead to which
+-- kept rows and which state, and the kept rows at the end
 pub record Course : Type 1 where
   pub task : Task
   pub names : List HostPort
   pub turns : List Turn
-  pub came : List Turn → Recorded → Type 0
+  pub came : List Turn → Option (List Row) → Recorded → Type 0
+  pub kept : Option (List Row)
+
+-- all turns were taken: those of the course, and then the rounds of the job that the command began
+pub record IsWhole (c : Course) (run : Recorded) : Type 0 where
+  pub mid : Recorded
+  pub rows : Option (List Row)
+  pub came : c.came c.turns rows mid
+  pub closed : Ran recorder rows mid (closing c.task.asked mid) c.kept run
+
+-- so many of the course's turns were taken
+pub record IsOnTurns (c : Course) (run : Recorded) : Type 0 where
+  pub k : ℕ
+  pub within : k ≤ length c.turns
+  pub comes : c.came (take k c.turns) c.kept run
+
+-- all of them were, and so many turns of the rounds
+pub record IsOnRounds (c : Course) (run : Recorded) : Type 0 where
+  pub mid : Recorded
+  pub rows : Option (List Row)
+  pub came : c.came c.turns rows mid
+  pub k : ℕ
+  pub within : k ≤ length (closing c.task.asked mid)
+  pub ran : Ran recorder rows mid (take k (closing c.task.asked mid)) c.kept run
+
+-- some of the turns were taken
+abbrev pub IsOn : Course → Recorded → Type 0
+IsOn c run = IsOnTurns c run ⊎ IsOnRounds c run
+
+-- a turn of the rounds met a keeper's fault
+pub record IsCutInRounds (c : Course) (run : Recorded) : Type 0 where
+  pub mid : Recorded
+  pub rows : Option (List Row)
+  pub came : c.came c.turns rows mid
+  pub cut : IsCut (λ ts at. Ran recorder rows mid ts c.kept at) (closing c.task.asked mid) run
+
+-- one of the turns met a keeper's fault
+abbrev pub WasCut : Course → Recorded → Type 0
+WasCut c run = IsCut (λ ts at. c.came ts c.kept at) c.turns run ⊎ IsCutInRounds c run
 
 -- all turns were taken, and the report is written whole
 pub record IsWritten (c : Course) (out err : End) (refused : Bool) : Type 0 where
   pub run : Recorded
-  pub comes : c.came c.turns run
+  pub whole : IsWhole c run
   pub on_out : Takes out (answer_of c.task c.names run).out
   pub on_err : Takes err (answer_of c.task c.names run).err
   pub is_refused : refused ≡ (answer_of c.task c.names run).is_refused
@@ -30,37 +72,35 @@ pub record IsWritten (c : Course) (out err : End) (refused : Bool) : Type 0 wher
 -- all turns were taken, and err failed, before anything was written on out
 pub record ErrFails (c : Course) (out err : End) : Type 0 where
   pub run : Recorded
-  pub comes : c.came c.turns run
+  pub whole : IsWhole c run
   pub on_err : FailsIn err (answer_of c.task c.names run).err
   pub on_out : Takes out []
 
 -- all turns were taken, and out failed behind err
 pub record OutFails (c : Course) (out err : End) : Type 0 where
   pub run : Recorded
-  pub comes : c.came c.turns run
+  pub whole : IsWhole c run
   pub on_err : Takes err (answer_of c.task c.names run).err
   pub on_out : FailsIn out (answer_of c.task c.names run).out
 
 -- the keeper failed; what is left of a run is written
 pub record KeeperFails (c : Course) (out err : End) : Type 0 where
   pub run : Recorded
-  pub cut : IsCut c.came c.turns run
+  pub cut : WasCut c run
   pub on_err : Takes err []
   pub on_out : Takes out (cut_text c.task.asked c.names run)
 
 -- the keeper failed, and so did out
 pub record BothFail (c : Course) (out err : End) : Type 0 where
   pub run : Recorded
-  pub cut : IsCut c.came c.turns run
+  pub cut : WasCut c run
   pub on_err : Takes err []
   pub on_out : FailsIn out (cut_text c.task.asked c.names run)
 
 -- memory ran out behind some turns
 pub record MemoryFails (c : Course) (out err : End) : Type 0 where
-  pub k : ℕ
-  pub within : k ≤ length c.turns
   pub run : Recorded
-  pub comes : c.came (take k c.turns) run
+  pub on : IsOn c run
   pub on_err : Takes err []
   pub on_out : TakesFront out (cut_text c.task.asked c.names run)
 
@@ -85,7 +125,7 @@ NeverBegan w out err ends.Keeper = IsIdle w out err
 NeverBegan w out err ends.Memory = IsIdle w out err
 
 abbrev pub course_of : Work → Course
-course_of w = record { task = w.task; names = names_of w.scenario; turns = turns_in w; came = Comes w }
+course_of w = record { task = w.task; names = names_of w.scenario; turns = turns_in w; came = Comes w; kept = w.new }
 
 -- what stands at each ending of a task
 abbrev pub Tells : Work → End → End → Ending → Type 0

@@ -1,5 +1,5 @@
 -- A task where the keeper tells its rows: what it answers is a function of the task, the scenario and the kept rows.
-use Rattle.std.specs.Prelude.{◌≡◌, ◌++◌, ℕ, List, Some, take}
+use Rattle.std.specs.Prelude.{◌≡◌, ◌++◌, ℕ, List, Option, Some, take}
 use Rattle.instance_keeper.specs.declared.row.Row.{Row}
 use Rattle.instance_keeper.specs.Rows.{changed}
 use Rattle.scenarios.specs.declared.scenario.Scenario.{Scenario}
@@ -9,6 +9,7 @@ use Rattle.orch_core.specs.Runs.{Held, Recorded, held_run, recorder}
 use Rattle.orch_core.specs.Scenarios.{start, start_changes, without_turns}
 use Rattle.tasks.specs.declared.asked.Task.{Task}
 use Rattle.tasks.specs.Asked.{turns_taken}
+use Rattle.tasks.specs.Closing.{closing}
 use Rattle.tasks.specs.Report.{Answer, answer_of, cut_text}
 use Rattle.tasks.specs.Works.{Work}
 
@@ -20,13 +21,21 @@ opened c s rows = record { rows = changed rows (start_changes s rows); state = w
 abbrev pub held_from : Task → Scenario → List Row → List Turn → Held Recorded
 held_from c s rows ts = held_run recorder (opened c s rows) ts
 
--- both after the first k of the task's turns
-abbrev pub held_after : Task → Scenario → List Row → ℕ → Held Recorded
-held_after c s rows k = held_from c s rows (take k (turns_taken c.asked s.turns))
+-- both after the scenario's turns and the command's own
+abbrev pub own_held : Task → Scenario → List Row → Held Recorded
+own_held c s rows = held_from c s rows (turns_taken c.asked s.turns)
 
--- both after all of them
+-- all turns: these, and the rounds of the job that the command began
+abbrev pub all_turns : Task → Scenario → List Row → List Turn
+all_turns c s rows = turns_taken c.asked s.turns ++ closing c.asked (own_held c s rows).state
+
+-- both after the first k of all turns
+abbrev pub held_after : Task → Scenario → List Row → ℕ → Held Recorded
+held_after c s rows k = held_from c s rows (take k (all_turns c s rows))
+
+-- both after all turns
 abbrev pub last_held : Task → Scenario → List Row → Held Recorded
-last_held c s rows = held_from c s rows (turns_taken c.asked s.turns)
+last_held c s rows = held_from c s rows (all_turns c s rows)
 
 -- what is answered
 abbrev pub task_answer : Task → Scenario → List Row → Answer
@@ -37,9 +46,9 @@ abbrev pub cut_answer : Task → Scenario → List Row → ℕ → List ℕ
 cut_answer c s rows k = cut_text c.asked (names_of s) (held_after c s rows k).state
 
 -- these turns lead to one run, and to one list of kept rows
-pub record IsFixed (w : Work) (rows : List Row) (ts : List Turn) (run : Recorded) : Type 0 where
+pub record IsFixed (w : Work) (rows : List Row) (ts : List Turn) (kept : Option (List Row)) (run : Recorded) : Type 0 where
   pub run_is : run ≡ (held_from w.task w.scenario rows ts).state
-  pub rows_are : w.new ≡ Some (held_from w.task w.scenario rows ts).rows
+  pub rows_are : kept ≡ Some (held_from w.task w.scenario rows ts).rows
 
 -- one text begins another
 pub record Begins (front text : List ℕ) : Type 0 where

@@ -1,4 +1,5 @@
 pub mod Asked
+pub mod Closing
 pub mod Endings
 pub mod Known
 pub mod Progress

@@ -1,5 +1,5 @@
 -- A run's report on its way, turn by turn.
-use Rattle.std.specs.Prelude.{◌≡◌, ℕ, ◌<◌, ◌≤◌, ◌||◌, List, [], false, length, take, slice_get, Option, Some}
+use Rattle.std.specs.Prelude.{◌≡◌, ℕ, ◌<◌, ◌≤◌, ◌||◌, ◌⊎◌, List, [], false, length, take, slice_get, Option, Some}
 use Rattle.orch_base.specs.Names.{HostPort}
 use Rattle.instance_keeper.specs.declared.row.Row.{Row}
 use Rattle.turns.specs.declared.turn.Reply.{Reply}
@@ -12,13 +12,12 @@ use Rattle.orch_core.specs.Scenarios.{without_turns}
 use Rattle.orch_core.specs.States.{State}
 use Rattle.tasks.specs.declared.asked.Task.{Task}
 use Rattle.tasks.specs.declared.progress.Progress.{Progress}
-use Rattle.server_model.specs.Worlds.{World}
 use Rattle.report_text.specs.Lines.{line_text}
-use Rattle.report_text.specs.Tables.{tables_text}
 use Rattle.tasks.specs.declared.ending.Ending.{Ending}
 use Rattle.tasks.specs.declared.ending.Ending.TheVariants as ends
+use Rattle.tasks.specs.Closing.{begun_by, closing_by}
 use Rattle.tasks.specs.Endings.{Course}
-use Rattle.tasks.specs.Report.{any_refused, is_refused, last_reply, replies_text}
+use Rattle.tasks.specs.Report.{any_refused, is_refused, last_reply, replies_text, tables_of}
 use Rattle.tasks.specs.Sinks.{Carries, End, FailsInRest, Joins, Taken, TakesFront, TakesRest}
 use Rattle.tasks.specs.Works.{IsCut}
 
@@ -71,7 +70,7 @@ GaveUp names from ts to e p fault.Memory = StopsBehind names from ts to e
 
 -- what a task's report is of, from a point on
 abbrev pub course_from : Task → List HostPort → List Turn → Point → Option (List Row) → Course
-course_from c names ts from kept = record { task = c; names = names; turns = ts; came = Leads from kept }
+course_from c names ts from kept = record { task = c; names = names; turns = ts; came = λ us rows run. Leads from rows us run; kept = kept }
 
 -- ---- a single command
 
@@ -82,16 +81,54 @@ pub record Replies (from : Point) (ts : List Turn) (to : Point) (reply : Reply) 
   pub state : run.state ≡ to.state
   pub last : last_reply run.journal ≡ Some reply
 
--- the turns were taken up to one that gave up
-pub record Gives (from : Point) (ts : List Turn) (kept : Option (List Row)) : Type 0 where
+-- from a run on, so many of these turns were taken
+pub record Gives (rows : Option (List Row)) (mid : Recorded) (ts : List Turn) (kept : Option (List Row)) : Type 0 where
   pub k : ℕ
   pub within : k ≤ length ts
   pub run : Recorded
-  pub ran : Leads from kept (take k ts) run
+  pub ran : Ran recorder rows mid (take k ts) kept run
+
+-- from a run on, these turns were taken up to one that gave up
+abbrev pub GivesUpOn : Option (List Row) → Recorded → List Turn → Option (List Row) → TurnFault → Type 0
+GivesUpOn rows mid ts kept fault.Keeper = (run : Recorded) × IsCut (λ us at. Ran recorder rows mid us kept at) ts run
+GivesUpOn rows mid ts kept fault.Memory = Gives rows mid ts kept
 
 abbrev pub GivesUp : Point → List Turn → Option (List Row) → TurnFault → Type 0
-GivesUp from ts kept fault.Keeper = (run : Recorded) × IsCut (Leads from kept) ts run
-GivesUp from ts kept fault.Memory = Gives from ts kept
+GivesUp from ts kept why = GivesUpOn from.kept (without_turns from.state) ts kept why
+
+-- behind a run that ended with this reply: the rounds of the job that it began, if it did, led to another point, and the last
+-- reply of the command is then this one
+pub record Closes (rows : Option (List Row)) (mid : Recorded) (reply : Reply) (to : Point) (told : Reply) : Type 0 where
+  pub run : Recorded
+  pub ran : Ran recorder rows mid (closing_by (begun_by reply) mid.state) to.kept run
+  pub state : run.state ≡ to.state
+  pub last : last_reply run.journal ≡ Some told
+
+-- so it is behind every run at this point that ended with this reply
+abbrev pub ClosesEach : Point → Reply → Point → Reply → Type 0
+ClosesEach from reply to told = (mid : Recorded) → mid.state ≡ from.state → last_reply mid.journal ≡ Some reply → Closes from.kept mid reply to told
+
+-- and so behind every run at this point the rounds gave up
+abbrev pub GivesUpEach : Point → Reply → Option (List Row) → TurnFault → Type 0
+GivesUpEach from reply kept why = (mid : Recorded) → mid.state ≡ from.state → GivesUpOn from.kept mid (closing_by (begun_by reply) mid.state) kept why
+
+-- all turns of a single command were taken, its rounds too, and its last reply is this one
+pub record Answers (from : Point) (ts : List Turn) (to : Point) (told : Reply) : Type 0 where
+  pub at : Point
+  pub reply : Reply
+  pub replies : Replies from ts at reply
+  pub closes : Closes at.kept replies.run reply to told
+
+-- its rounds gave up
+pub record StopsInRounds (from : Point) (ts : List Turn) (kept : Option (List Row)) (why : TurnFault) : Type 0 where
+  pub at : Point
+  pub reply : Reply
+  pub replies : Replies from ts at reply
+  pub gives : GivesUpOn at.kept replies.run (closing_by (begun_by reply) replies.run.state) kept why
+
+-- one of its turns gave up
+abbrev pub Stops : Point → List Turn → Option (List Row) → TurnFault → Type 0
+Stops from ts kept why = GivesUp from ts kept why ⊎ StopsInRounds from ts kept why
 
 -- ---- steps of a report on its way, between two moments of out
 
@@ -101,11 +138,11 @@ pub record Adds (names : List HostPort) (number : ℕ) (t : Turn) (r : Reply) (p
   pub is_refused : p'.is_refused ≡ (p.is_refused || is_refused r)
 
 -- how a report ends behind all turns: with the tables
-abbrev pub EndsWhole : World → Progress → Taken → Taken → Ending → Type 0
-EndsWhole w p old new (ends.Written refused) = TakesRest (tables_text w) p.pieces old new × (refused ≡ p.is_refused)
-EndsWhole w p old new ends.Unwritten = FailsInRest (tables_text w) p.pieces old new
-EndsWhole w p old new ends.Keeper = ⊥
-EndsWhole w p old new ends.Memory = new ≡ old
+abbrev pub EndsWhole : State → Progress → Taken → Taken → Ending → Type 0
+EndsWhole s p old new (ends.Written refused) = TakesRest (tables_of s) p.pieces old new × (refused ≡ p.is_refused)
+EndsWhole s p old new ends.Unwritten = FailsInRest (tables_of s) p.pieces old new
+EndsWhole s p old new ends.Keeper = ⊥
+EndsWhole s p old new ends.Memory = new ≡ old
 
 -- how a report ends that a keeper's fault cut
 abbrev pub EndsCut : Progress → Taken → Taken → Ending → Type 0

@@ -1,14 +1,14 @@
 -- What a task answers: a function of the task and of the last state of its run.
-use Rattle.std.specs.Prelude.{ℕ, List, [], ◌∷◌, ◌++◌, Bool, true, false, if◌then◌else◌, Option, Some, None}
+use Rattle.std.specs.Prelude.{ℕ, List, [], ◌∷◌, ◌++◌, Bool, true, false, if◌then◌else◌, map, Option, Some, None}
 use Rattle.std.specs.List.{list_any}
 use Rattle.orch_base.specs.Names.{HostPort}
 use Rattle.commands.specs.declared.refusal.Refusal.TheVariants.{UnknownInstance}
-use Rattle.server_model.specs.Worlds.{World}
 use Rattle.turns.specs.declared.turn.Reply.{Reply}
 use Rattle.turns.specs.declared.turn.Reply.TheVariants as answered
 use Rattle.turns.specs.declared.turn.Turn.{Turn}
 use Rattle.turns.specs.declared.turn.Turn.TheVariants as turn
 use Rattle.orch_core.specs.Runs.{Recorded}
+use Rattle.orch_core.specs.States.{State}
 use Rattle.report_text.specs.Lines.{lines_text, plain_text_of}
 use Rattle.report_text.specs.Tables.{tables_text}
 use Rattle.tasks.specs.declared.asked.Asked.{Asked}
@@ -25,9 +25,13 @@ pub record Answer : Type 0 where
 abbrev pub replies_text : List HostPort → Recorded → List ℕ
 replies_text names run = lines_text names 1 run.journal
 
+-- the tables of a state
+abbrev pub tables_of : State → List ℕ
+tables_of s = tables_text s.world (map (λ j. j.id) s.jobs)
+
 -- the lines of all replies, then the tables
 abbrev pub report_text : List HostPort → Recorded → List ℕ
-report_text names run = replies_text names run ++ tables_text run.state.world
+report_text names run = replies_text names run ++ tables_of run.state
 
 -- a command or a job is refused or fails, an exchange and a poll never
 abbrev pub is_refused : Reply → Bool
@@ -58,9 +62,9 @@ abbrev pub run_answer : List HostPort → Recorded → Answer
 run_answer names run = record { out = report_text names run; err = []; is_refused = any_refused run }
 
 -- a single command: its lines, or its refusal on err; and the tables where they are asked for
-abbrev pub told_answer : Bool → List HostPort → World → Reply → Answer
-told_answer tables names w r = record {
-  out = (if is_refused r then [] else plain_text_of names r) ++ (if tables then tables_text w else []);
+abbrev pub told_answer : Bool → List HostPort → State → Reply → Answer
+told_answer tables names s r = record {
+  out = (if is_refused r then [] else plain_text_of names r) ++ (if tables then tables_of s else []);
   err = if is_refused r then plain_text_of names r else [];
   is_refused = is_refused r;
 }
@@ -97,16 +101,16 @@ last_reply (e ∷ es) = or_reply (last_reply es) e
 abbrev pub no_answer : Answer
 no_answer = record { out = []; err = []; is_refused = false }
 
-abbrev pub own_answer : Bool → List HostPort → World → Option Reply → Answer
-own_answer tables names w None = no_answer
-own_answer tables names w (Some r) = told_answer tables names w r
+abbrev pub own_answer : Bool → List HostPort → State → Option Reply → Answer
+own_answer tables names s None = no_answer
+own_answer tables names s (Some r) = told_answer tables names s r
 
 -- what is answered to each thing that words ask, by the last state; tables follow where they are asked for, but not where no turn
 -- of the command's own was taken
 abbrev pub asked_answer : Asked → Bool → List HostPort → Recorded → Answer
 asked_answer asked.Run tables names run = run_answer names run
-asked_answer (asked.Turn t) tables names run = own_answer tables names run.state.world (last_reply run.journal)
-asked_answer asked.Unknown tables names run = told_answer false names run.state.world (answered.Refused UnknownInstance)
+asked_answer (asked.Turn t) tables names run = own_answer tables names run.state (last_reply run.journal)
+asked_answer asked.Unknown tables names run = told_answer false names run.state (answered.Refused UnknownInstance)
 asked_answer asked.Nothing tables names run = no_answer
 
 abbrev pub answer_of : Task → List HostPort → Recorded → Answer

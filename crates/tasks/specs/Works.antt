@@ -17,16 +17,16 @@ pub record Work : Type 0 where
   pub old : Option (List Row)
   pub new : Option (List Row)
 
--- all turns that are taken
+-- the scenario's turns, and behind them the command's own
 abbrev pub turns_in : Work → List Turn
 turns_in w = turns_taken w.task.asked w.scenario.turns
 
--- The opening and then these turns lead to this state, and to the kept rows after: by the kept rows, where the keeper tells
--- them, and by some rows at the opening and at each turn where it doesn't.
-pub record Comes (w : Work) (ts : List Turn) (run : Recorded) : Type 0 where
+-- The opening and then these turns lead to these kept rows and to this state: by the kept rows, where the keeper tells them, and by
+-- some rows at the opening and at each turn where it doesn't.
+pub record Comes (w : Work) (ts : List Turn) (kept : Option (List Row)) (run : Recorded) : Type 0 where
   pub begun : State
   pub opens : StartsBy w.old w.scenario w.task.waits begun
-  pub ran : Ran recorder (kept_at_start true w.old w.scenario) (without_turns begun) ts w.new run
+  pub ran : Ran recorder (kept_at_start true w.old w.scenario) (without_turns begun) ts kept run
 
 -- A run stands before one of these turns, which met a keeper's fault: a turn that calls the keeper.
 pub record IsCut (came : List Turn → Recorded → Type 0) (ts : List Turn) (run : Recorded) : Type 0 where

@@ -6,11 +6,11 @@ ghost use Rattle.tasks.specs.Asked.{IsTaken, asked_about, asked_named, asked_of,
 
 use command_line::Places;
 use commands::{Command, CommandName, CommandTurn, Found, Keys};
-use orch_base::{Label, Memory, Name, ServerNo};
+use orch_base::{Memory, Name, OwnedText, ServerNo};
 use scenario_turns::{found, printed_names};
 use scenario_values::ReadFault;
 use std::alloc::Global;
-use turns::HeldCommand;
+use turns::BoxedCommand;
 
 /// What words ask for.
 #[derive(Drop)]
@@ -18,7 +18,7 @@ pub enum Asked {
     /// `run`: the scenario's own turns.
     Run,
     /// A command: this turn behind the scenario's.
-    Turn(HeldCommand),
+    Turn(BoxedCommand),
     /// A command that uses an instance or a destination that no server is: it takes no turn of its own.
     Unknown,
     /// Neither `run` nor a command: words that are taken never ask this.
@@ -70,7 +70,11 @@ fn used<T: Copy>(uses: bool, given: Option<T>) -> Option<T>
 }
 
 // A text, where it is given and the command uses it.
-fn text_used(alloc: Global, uses: bool, given: &Option<Label>) -> Result<Option<Label>, Memory>
+fn text_used(
+    alloc: Global,
+    uses: bool,
+    given: &Option<OwnedText>,
+) -> Result<Option<OwnedText>, Memory>
     ensures { IfOk result (λ text. text ≡ used uses given.now) }
 {
     match given {
@@ -84,7 +88,7 @@ fn pattern_for(
     alloc: Global,
     names: &[Name],
     uses: bool,
-    given: &Option<Label>,
+    given: &Option<OwnedText>,
 ) -> Result<Option<Found>, Memory>
     requires { IfSome given.now (λ text. is_pattern text ≡ true) }
     ensures { IfOk result (λ p. p ≡ pattern_for names.now (used uses given.now)) }
@@ -140,7 +144,7 @@ fn asked_about(
     match (i, d) {
         (Some(i), Some(d)) => {
             let turn = turn_for(alloc, places, names, name, i, d)?;
-            Ok(Asked::Turn(HeldCommand::new(alloc, turn)?))
+            Ok(Asked::Turn(BoxedCommand::new(alloc, turn)?))
         }
         (None, _) | (Some(_), None) => Ok(Asked::Unknown),
     }

@@ -2,24 +2,37 @@
 
 ghost use Rattle.std.specs.Prelude.{◌≡◌, ◌++◌, [], OnOk, OnErr, false};
 ghost use Rattle.report_text.specs.Lines.{line_text};
-ghost use Rattle.report_text.specs.Tables.{tables_text};
+ghost use Rattle.tasks.specs.Report.{tables_of};
 ghost use Rattle.tasks.specs.Sinks.{Joins, Stays, taken};
 
-use orch_base::{Memory, Name, Sink, write_all};
-use report_text::{reply_text, tables};
-use server_model::World;
+use orch_base::{Memory, Sink, write_all};
+use orch_core::Engine;
+use report_text::{PrintedNames, reply_text_by, tables};
 use std::alloc::Global;
 use turns::{Reply, Turn};
 
 /// A piece is handed over once it has so many bytes: 64 KiB.
 const PIECE: usize = 65_536;
 
-/// A text on its way to a sink in pieces: what the sink hasn't been given yet, and whether the sink failed. What is added behind a
-/// fault is dropped.
+/// Appends the tables of the state that it is now, with its unended jobs; or nothing at want of memory.
+pub(crate) fn add_tables(engine: &Engine, out: &mut Vec<u8>) -> Result<(), Memory>
+    ensures ok { OnOk result (out.new.items ≡ out.old.items ++ tables_of engine.now) }
+    ensures err { OnErr result (out.new.items ≡ out.old.items) }
+{
+    let mut jobs = Vec::new(*out.allocator());
+    for job in engine.open_jobs() {
+        jobs.push(job.id())?;
+    }
+    tables(engine.world(), &jobs, out)
+}
+
+/// A text on its way to a sink in pieces: what the sink hasn't been given yet, whether the sink failed, and room for a
+/// line. What is added behind a fault is dropped.
 #[derive(Drop)]
 pub(crate) struct Pieces {
     held: Vec<u8>,
     failed: bool,
+    line: Vec<u8>,
 }
 
 impl Pieces {
@@ -31,6 +44,7 @@ impl Pieces {
         Pieces {
             held: Vec::new(alloc),
             failed: false,
+            line: Vec::new(alloc),
         }
     }
 
@@ -44,7 +58,8 @@ impl Pieces {
     /// Hands over what is held.
     pub(crate) fn hand_over<O: Sink>(&mut self, out: &mut O)
         ensures stays { Stays self.old self.new
-            (taken (O.written out.old) (O.faults out.old)) (taken (O.written out.new) (O.faults out.new)) }
+            (taken (O.written out.old) (O.faults out.old))
+            (taken (O.written out.new) (O.faults out.new)) }
         ensures held { self.new.failed ≡ false → self.new.held.items ≡ [] }
     {
         if self.failed {
@@ -61,30 +76,33 @@ impl Pieces {
         number: u64,
         t: &Turn,
         r: &Reply,
-        names: &[Name],
+        names: &PrintedNames<'_>,
         out: &mut O,
     ) -> Result<(), Memory>
         ensures ok { OnOk result (Joins (line_text names.now number t.now r.now) self.old self.new
-            (taken (O.written out.old) (O.faults out.old)) (taken (O.written out.new) (O.faults out.new))) }
+            (taken (O.written out.old) (O.faults out.old))
+            (taken (O.written out.new) (O.faults out.new))) }
         ensures err { OnErr result (Stays self.old self.new
-            (taken (O.written out.old) (O.faults out.old)) (taken (O.written out.new) (O.faults out.new))) }
+            (taken (O.written out.old) (O.faults out.old))
+            (taken (O.written out.new) (O.faults out.new))) }
     {
         if self.failed {
             return Ok(());
         }
-        reply_text(number, t, r, names, &mut self.held)?;
+        reply_text_by(number, t, r, names, &mut self.line, &mut self.held)?;
         if self.held.len() >= PIECE {
             self.hand_over(out);
         }
         Ok(())
     }
 
-    /// Adds the tables. Want of memory leaves the text as it was.
-    pub(crate) fn add_tables(&mut self, world: &World) -> Result<(), Memory>
-        ensures ok { OnOk result (self.new.held.items ≡ self.old.held.items ++ tables_text world.now) }
+    /// Adds the tables of the state that it is now. Want of memory leaves the text as it was.
+    pub(crate) fn add_tables(&mut self, engine: &Engine) -> Result<(), Memory>
+        ensures ok { OnOk result (self.new.held.items
+            ≡ self.old.held.items ++ tables_of engine.now) }
         ensures err { OnErr result (self.new.held.items ≡ self.old.held.items) }
         ensures failed { self.new.failed ≡ self.old.failed }
     {
-        tables(world, &mut self.held)
+        add_tables(engine, &mut self.held)
     }
 }

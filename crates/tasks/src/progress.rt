@@ -15,7 +15,7 @@ use crate::refused::is_refused;
 use instance_keeper::Keeper;
 use orch_base::{Memory, Name, Sink};
 use orch_core::{Engine, TurnFault};
-use server_model::World;
+use report_text::PrintedNames;
 use std::alloc::Global;
 use turns::{Reply, Turn};
 
@@ -42,13 +42,15 @@ impl Progress {
         number: u64,
         t: &Turn,
         r: &Reply,
-        names: &[Name],
+        names: &PrintedNames<'_>,
         out: &mut O,
     ) -> Result<(), Memory>
         ensures ok { OnOk result (Adds names.now number t.now r.now self.old self.new
-            (taken (O.written out.old) (O.faults out.old)) (taken (O.written out.new) (O.faults out.new))) }
+            (taken (O.written out.old) (O.faults out.old))
+            (taken (O.written out.new) (O.faults out.new))) }
         ensures err { OnErr result (Stays self.old.pieces self.new.pieces
-            (taken (O.written out.old) (O.faults out.old)) (taken (O.written out.new) (O.faults out.new))) }
+            (taken (O.written out.old) (O.faults out.old))
+            (taken (O.written out.new) (O.faults out.new))) }
     {
         self.pieces.add_reply(number, t, r, names, out)?;
         self.is_refused = self.is_refused || is_refused(r);
@@ -56,10 +58,11 @@ impl Progress {
     }
 
     // The ending behind all turns: the tables are written, and what is left of the report.
-    fn end<O: Sink>(mut self, world: &World, out: &mut O) -> Ending
-        ensures { EndsWhole world.now self (taken (O.written out.old) (O.faults out.old)) (taken (O.written out.new) (O.faults out.new)) result }
+    fn end<O: Sink>(mut self, engine: &Engine, out: &mut O) -> Ending
+        ensures { EndsWhole engine.now self (taken (O.written out.old) (O.faults out.old))
+            (taken (O.written out.new) (O.faults out.new)) result }
     {
-        let Ok(()) = self.pieces.add_tables(world) else {
+        let Ok(()) = self.pieces.add_tables(engine) else {
             return Ending::Memory;
         };
         self.pieces.hand_over(out);
@@ -72,7 +75,8 @@ impl Progress {
 
     // The ending after a keeper's fault: what is left of the replies is written.
     fn cut<O: Sink>(mut self, out: &mut O) -> Ending
-        ensures { EndsCut self (taken (O.written out.old) (O.faults out.old)) (taken (O.written out.new) (O.faults out.new)) result }
+        ensures { EndsCut self (taken (O.written out.old) (O.faults out.old))
+            (taken (O.written out.new) (O.faults out.new)) result }
     {
         self.pieces.hand_over(out);
         if self.pieces.has_failed() {
@@ -89,16 +93,20 @@ fn take_turns<O: Sink, K: Keeper>(
     keeper: &mut K,
     engine: &mut Engine,
     turns: &[Turn],
-    names: &[Name],
+    names: &PrintedNames<'_>,
     out: &mut O,
     progress: &mut Progress,
 ) -> Result<(), TurnFault>
     requires turns { All (IsTurn (length engine.old.world.servers)) turns.now }
     requires fresh { IsFresh progress.old }
-    ensures ok { OnOk result (Follows names.now (point (K.kept keeper.old) engine.old) turns.now (point (K.kept keeper.new) engine.new)
-        (between (taken (O.written out.old) (O.faults out.old)) (taken (O.written out.new) (O.faults out.new))) progress.new) }
-    ensures err { IfErr result (GaveUp names.now (point (K.kept keeper.old) engine.old) turns.now (point (K.kept keeper.new) engine.new)
-        (between (taken (O.written out.old) (O.faults out.old)) (taken (O.written out.new) (O.faults out.new))) progress.new) }
+    ensures ok { OnOk result (Follows names.now (point (K.kept keeper.old) engine.old) turns.now
+        (point (K.kept keeper.new) engine.new)
+        (between (taken (O.written out.old) (O.faults out.old))
+        (taken (O.written out.new) (O.faults out.new))) progress.new) }
+    ensures err { IfErr result (GaveUp names.now (point (K.kept keeper.old) engine.old) turns.now
+        (point (K.kept keeper.new) engine.new)
+        (between (taken (O.written out.old) (O.faults out.old))
+        (taken (O.written out.new) (O.faults out.new))) progress.new) }
     ensures cause { HasTurnCause (K.faults keeper.old) (K.faults keeper.new) result }
 {
     for (i, t) in turns.iter().enumerate() {
@@ -106,6 +114,31 @@ fn take_turns<O: Sink, K: Keeper>(
         progress.add(i as u64 + 1, t, &reply, names, out)?;
     }
     Ok(())
+}
+
+// The run's report, by the printed names.
+fn printed_report<O: Sink, K: Keeper>(
+    alloc: Global,
+    keeper: &mut K,
+    engine: &mut Engine,
+    turns: &[Turn],
+    names: &PrintedNames<'_>,
+    out: &mut O,
+) -> Ending
+    requires { All (IsTurn (length engine.old.world.servers)) turns.now }
+    ensures stands { (task : ATask) (err : Taken) → task.asked ≡ asks.Run
+        → Stands (course_from task names.now turns.now (point (K.kept keeper.old) engine.old)
+        (K.kept keeper.new))
+        (between (taken (O.written out.old) (O.faults out.old))
+        (taken (O.written out.new) (O.faults out.new))) (between err err) result }
+    ensures cause { HasKeepersCause (K.faults keeper.old) (K.faults keeper.new) result }
+{
+    let mut progress = Progress::new(alloc);
+    match take_turns(alloc, keeper, engine, turns, names, out, &mut progress) {
+        Ok(()) => progress.end(engine, out),
+        Err(TurnFault::Keeper) => progress.cut(out),
+        Err(TurnFault::Memory) => Ending::Memory,
+    }
 }
 
 /// Takes the turns and writes each reply's line on out as it comes, in pieces, and behind the last one the tables. Where out fails
@@ -120,14 +153,14 @@ pub(crate) fn run_report<O: Sink, K: Keeper>(
 ) -> Ending
     requires { All (IsTurn (length engine.old.world.servers)) turns.now }
     ensures stands { (task : ATask) (err : Taken) → task.asked ≡ asks.Run
-        → Stands (course_from task names.now turns.now (point (K.kept keeper.old) engine.old) (K.kept keeper.new))
-        (between (taken (O.written out.old) (O.faults out.old)) (taken (O.written out.new) (O.faults out.new))) (between err err) result }
+        → Stands (course_from task names.now turns.now (point (K.kept keeper.old) engine.old)
+        (K.kept keeper.new))
+        (between (taken (O.written out.old) (O.faults out.old))
+        (taken (O.written out.new) (O.faults out.new))) (between err err) result }
     ensures cause { HasKeepersCause (K.faults keeper.old) (K.faults keeper.new) result }
 {
-    let mut progress = Progress::new(alloc);
-    match take_turns(alloc, keeper, engine, turns, names, out, &mut progress) {
-        Ok(()) => progress.end(engine.world(), out),
-        Err(TurnFault::Keeper) => progress.cut(out),
-        Err(TurnFault::Memory) => Ending::Memory,
+    match PrintedNames::new(alloc, names) {
+        Ok(names) => printed_report(alloc, keeper, engine, turns, &names, out),
+        Err(_) => Ending::Memory,
     }
 }

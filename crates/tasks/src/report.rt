@@ -31,9 +31,12 @@ fn asked_report<O: Sink, E: Sink, K: Keeper>(
 ) -> Ending
     requires turns { All (IsTurn (length engine.old.world.servers)) turns.now }
     requires asked { IsAsked (length engine.old.world.servers) task.now.asked }
-    ensures stands { Stands (course_from task.now names.now (turns_taken task.now.asked turns.now) (point (K.kept keeper.old) engine.old) (K.kept keeper.new))
-        (between (taken (O.written out.old) (O.faults out.old)) (taken (O.written out.new) (O.faults out.new)))
-        (between (taken (E.written err.old) (E.faults err.old)) (taken (E.written err.new) (E.faults err.new))) result }
+    ensures stands { Stands (course_from task.now names.now (turns_taken task.now.asked turns.now)
+        (point (K.kept keeper.old) engine.old) (K.kept keeper.new))
+        (between (taken (O.written out.old) (O.faults out.old))
+        (taken (O.written out.new) (O.faults out.new)))
+        (between (taken (E.written err.old) (E.faults err.old))
+        (taken (E.written err.new) (E.faults err.new))) result }
     ensures cause { HasKeepersCause (K.faults keeper.old) (K.faults keeper.new) result }
     ensures later { E.faults err.old ≤ E.faults err.new }
 {
@@ -74,9 +77,16 @@ pub fn task_report<O: Sink, E: Sink, K: Keeper>(
     requires scenario { IsScenario scenario.now }
     requires names { names.now ≡ names_of scenario.now }
     requires asked { IsAsked (length scenario.now.opening.servers) task.now.asked }
-    ensures tells { Tells (record { task = task.now; scenario = scenario.now; old = K.kept keeper.old; new = K.kept keeper.new })
-        (between (taken (O.written out.old) (O.faults out.old)) (taken (O.written out.new) (O.faults out.new)))
-        (between (taken (E.written err.old) (E.faults err.old)) (taken (E.written err.new) (E.faults err.new))) result }
+    ensures tells { Tells (record {
+      task = task.now;
+      scenario = scenario.now;
+      old = K.kept keeper.old;
+      new = K.kept keeper.new;
+    })
+        (between (taken (O.written out.old) (O.faults out.old))
+        (taken (O.written out.new) (O.faults out.new)))
+        (between (taken (E.written err.old) (E.faults err.old))
+        (taken (E.written err.new) (E.faults err.new))) result }
     ensures cause { HasKeepersCause (K.faults keeper.old) (K.faults keeper.new) result }
     ensures later { E.faults err.old ≤ E.faults err.new }
 {

@@ -3,10 +3,10 @@
 ghost use Rattle.std.specs.Prelude.{◌≡◌, ◌≤◌, ◌++◌, ◌∷◌, [], All, IfOk, IfErr, OnOk, length, if◌then◌else◌};
 ghost use Rattle.scenarios.specs.Turns.{IsCommand, IsTurn};
 ghost use Rattle.orch_core.specs.Keeping.{HasTurnCause};
-ghost use Rattle.report_text.specs.Tables.{tables_text};
+ghost use Rattle.tasks.specs.Closing.{begun_by};
 ghost use Rattle.tasks.specs.Endings.{HasKeepersCause, Stands};
-ghost use Rattle.tasks.specs.Progress.{GivesUp, Replies, course_from, point};
-ghost use Rattle.tasks.specs.Report.{told_answer};
+ghost use Rattle.tasks.specs.Progress.{Answers, ClosesEach, GivesUp, GivesUpEach, Replies, Stops, course_from, point};
+ghost use Rattle.tasks.specs.Report.{tables_of, told_answer};
 ghost use Rattle.tasks.specs.Singles.{Writes, view};
 ghost use Rattle.tasks.specs.Sinks.{Taken, between, taken};
 ghost use Rattle.tasks.specs.declared.asked.Task.{Task as ATask};
@@ -14,15 +14,15 @@ ghost use Rattle.tasks.specs.declared.asked.Asked.TheVariants as asks;
 ghost use Rattle.turns.specs.declared.turn.Turn.TheVariants as turning;
 
 use crate::Ending;
+use crate::pieces::add_tables;
 use crate::refused::is_refused;
 use commands::Refusal;
 use instance_keeper::Keeper;
 use orch_base::{Memory, Name, Sink, write_all};
 use orch_core::{Engine, TurnFault};
-use report_text::{plain_text, tables};
-use server_model::World;
+use report_text::plain_text;
 use std::alloc::Global;
-use turns::{HeldCommand, Reply, Turn};
+use turns::{BoxedCommand, Reply, Turn};
 
 // What out and err are to take, and whether the reply is refused or failed.
 #[derive(Drop)]
@@ -33,12 +33,12 @@ struct Report {
 }
 
 // The tables, where they are asked for.
-fn some_tables(alloc: Global, asked: bool, world: &World) -> Result<Vec<u8>, Memory>
-    ensures { IfOk result (λ v. v.items ≡ (if asked then tables_text world.now else [])) }
+fn some_tables(alloc: Global, asked: bool, engine: &Engine) -> Result<Vec<u8>, Memory>
+    ensures { IfOk result (λ v. v.items ≡ (if asked then tables_of engine.now else [])) }
 {
     let mut text = Vec::new(alloc);
     if asked {
-        tables(world, &mut text)?;
+        add_tables(engine, &mut text)?;
     }
     Ok(text)
 }
@@ -48,14 +48,14 @@ fn told_report(
     alloc: Global,
     asked: bool,
     names: &[Name],
-    world: &World,
+    engine: &Engine,
     reply: &Reply,
 ) -> Result<Report, Memory>
-    ensures { IfOk result (λ r. view r ≡ told_answer asked names.now world.now reply.now) }
+    ensures { IfOk result (λ r. view r ≡ told_answer asked names.now engine.now reply.now) }
 {
     let mut told = Vec::new(alloc);
     plain_text(reply, names, &mut told)?;
-    let mut tables = some_tables(alloc, asked, world)?;
+    let mut tables = some_tables(alloc, asked, engine)?;
     if is_refused(reply) {
         return Ok(Report {
             out: tables,
@@ -73,8 +73,11 @@ fn told_report(
 
 // Writes a report: what err is to take, then what out is.
 fn write_report<O: Sink, E: Sink>(out: &mut O, err: &mut E, report: &Report) -> Ending
-    ensures writes { Writes (view report.now) (between (taken (O.written out.old) (O.faults out.old)) (taken (O.written out.new) (O.faults out.new)))
-        (between (taken (E.written err.old) (E.faults err.old)) (taken (E.written err.new) (E.faults err.new))) result }
+    ensures writes { Writes (view report.now)
+        (between (taken (O.written out.old) (O.faults out.old))
+        (taken (O.written out.new) (O.faults out.new)))
+        (between (taken (E.written err.old) (E.faults err.old))
+        (taken (E.written err.new) (E.faults err.new))) result }
     ensures later { E.faults err.old ≤ E.faults err.new }
 {
     if write_all(err, &report.err).is_err() || write_all(out, &report.out).is_err() {
@@ -88,17 +91,19 @@ fn write_told<O: Sink, E: Sink>(
     alloc: Global,
     asked: bool,
     names: &[Name],
-    world: &World,
+    engine: &Engine,
     reply: &Reply,
     out: &mut O,
     err: &mut E,
 ) -> Ending
-    ensures writes { Writes (told_answer asked names.now world.now reply.now)
-        (between (taken (O.written out.old) (O.faults out.old)) (taken (O.written out.new) (O.faults out.new)))
-        (between (taken (E.written err.old) (E.faults err.old)) (taken (E.written err.new) (E.faults err.new))) result }
+    ensures writes { Writes (told_answer asked names.now engine.now reply.now)
+        (between (taken (O.written out.old) (O.faults out.old))
+        (taken (O.written out.new) (O.faults out.new)))
+        (between (taken (E.written err.old) (E.faults err.old))
+        (taken (E.written err.new) (E.faults err.new))) result }
     ensures later { E.faults err.old ≤ E.faults err.new }
 {
-    match told_report(alloc, asked, names, world, reply) {
+    match told_report(alloc, asked, names, engine, reply) {
         Ok(report) => write_report(out, err, &report),
         Err(_) => Ending::Memory,
     }
@@ -110,12 +115,14 @@ fn own_reply<K: Keeper>(
     keeper: &mut K,
     engine: &mut Engine,
     turns: &[Turn],
-    own: &HeldCommand,
+    own: &BoxedCommand,
 ) -> Result<Reply, TurnFault>
     requires turns { All (IsTurn (length engine.old.world.servers)) turns.now }
     requires own { IsCommand (length engine.old.world.servers) own.now }
-    ensures ok { IfOk result (Replies (point (K.kept keeper.old) engine.old) (turns.now ++ turning.Command own.now ∷ []) (point (K.kept keeper.new) engine.new)) }
-    ensures err { IfErr result (GivesUp (point (K.kept keeper.old) engine.old) (turns.now ++ turning.Command own.now ∷ []) (K.kept keeper.new)) }
+    ensures ok { IfOk result (Replies (point (K.kept keeper.old) engine.old)
+        (turns.now ++ turning.Command own.now ∷ []) (point (K.kept keeper.new) engine.new)) }
+    ensures err { IfErr result (GivesUp (point (K.kept keeper.old) engine.old)
+        (turns.now ++ turning.Command own.now ∷ []) (K.kept keeper.new)) }
     ensures cause { HasTurnCause (K.faults keeper.old) (K.faults keeper.new) result }
 {
     engine.run(alloc, keeper, turns)?;
@@ -124,14 +131,81 @@ fn own_reply<K: Keeper>(
     Ok(reply)
 }
 
-/// Takes the scenario's turns and then the command's own, and writes what its reply says: its lines on out, or its refusal on err,
-/// and the tables where they are asked for. After a keeper's fault nothing is written.
+// The job that a reply tells to have begun.
+fn begun_by(reply: &Reply) -> Option<u64>
+    ensures { result ≡ begun_by reply.now }
+{
+    match reply {
+        Reply::Begun(job) => Some(*job),
+        Reply::Write(_)
+        | Reply::Fetch(_)
+        | Reply::Apply(_)
+        | Reply::Done
+        | Reply::Rotate(_)
+        | Reply::Now(_)
+        | Reply::Read(_)
+        | Reply::ReadUnreachable(_)
+        | Reply::Unknown
+        | Reply::Stored
+        | Reply::Old(_)
+        | Reply::Nothing
+        | Reply::Told(_)
+        | Reply::Refused(_)
+        | Reply::Going
+        | Reply::Failed(_)
+        | Reply::NoJob => None,
+    }
+}
+
+// Takes the rounds of the job that this reply of the command began, if it did, and answers the command's last reply.
+fn finish<K: Keeper>(
+    alloc: Global,
+    keeper: &mut K,
+    engine: &mut Engine,
+    reply: Reply,
+) -> Result<Reply, TurnFault>
+    ensures ok { IfOk result (ClosesEach (point (K.kept keeper.old) engine.old) reply
+        (point (K.kept keeper.new) engine.new)) }
+    ensures err { IfErr result (GivesUpEach (point (K.kept keeper.old) engine.old) reply
+        (K.kept keeper.new)) }
+    ensures cause { HasTurnCause (K.faults keeper.old) (K.faults keeper.new) result }
+{
+    let Some(job) = begun_by(&reply) else {
+        return Ok(reply);
+    };
+    let told = engine.finish(alloc, keeper, job)?;
+    Ok(told.unwrap_or(reply))
+}
+
+// Takes all turns of a single command: the scenario's, its own and the rounds of its job; and answers its last reply.
+fn last_reply<K: Keeper>(
+    alloc: Global,
+    keeper: &mut K,
+    engine: &mut Engine,
+    turns: &[Turn],
+    own: &BoxedCommand,
+) -> Result<Reply, TurnFault>
+    requires turns { All (IsTurn (length engine.old.world.servers)) turns.now }
+    requires own { IsCommand (length engine.old.world.servers) own.now }
+    ensures ok { IfOk result (Answers (point (K.kept keeper.old) engine.old)
+        (turns.now ++ turning.Command own.now ∷ []) (point (K.kept keeper.new) engine.new)) }
+    ensures err { IfErr result (Stops (point (K.kept keeper.old) engine.old)
+        (turns.now ++ turning.Command own.now ∷ []) (K.kept keeper.new)) }
+    ensures cause { HasTurnCause (K.faults keeper.old) (K.faults keeper.new) result }
+{
+    let reply = own_reply(alloc, keeper, engine, turns, own)?;
+    finish(alloc, keeper, engine, reply)
+}
+
+/// Takes the scenario's turns, the command's own and the rounds of the job that it began, and writes what its last reply says: its
+/// lines on out, or its refusal or the failed job's cause on err, and the tables where they are asked for. After a keeper's fault
+/// nothing is written.
 pub(crate) fn command_report<O: Sink, E: Sink, K: Keeper>(
     alloc: Global,
     keeper: &mut K,
     engine: &mut Engine,
     turns: &[Turn],
-    own: &HeldCommand,
+    own: &BoxedCommand,
     tables: bool,
     names: &[Name],
     out: &mut O,
@@ -140,14 +214,17 @@ pub(crate) fn command_report<O: Sink, E: Sink, K: Keeper>(
     requires turns { All (IsTurn (length engine.old.world.servers)) turns.now }
     requires own { IsCommand (length engine.old.world.servers) own.now }
     ensures stands { (task : ATask) → task.asked ≡ asks.Turn own.now → task.tables ≡ tables
-        → Stands (course_from task names.now (turns.now ++ turning.Command own.now ∷ []) (point (K.kept keeper.old) engine.old) (K.kept keeper.new))
-        (between (taken (O.written out.old) (O.faults out.old)) (taken (O.written out.new) (O.faults out.new)))
-        (between (taken (E.written err.old) (E.faults err.old)) (taken (E.written err.new) (E.faults err.new))) result }
+        → Stands (course_from task names.now (turns.now ++ turning.Command own.now ∷ [])
+        (point (K.kept keeper.old) engine.old) (K.kept keeper.new))
+        (between (taken (O.written out.old) (O.faults out.old))
+        (taken (O.written out.new) (O.faults out.new)))
+        (between (taken (E.written err.old) (E.faults err.old))
+        (taken (E.written err.new) (E.faults err.new))) result }
     ensures cause { HasKeepersCause (K.faults keeper.old) (K.faults keeper.new) result }
     ensures later { E.faults err.old ≤ E.faults err.new }
 {
-    match own_reply(alloc, keeper, engine, turns, own) {
-        Ok(reply) => write_told(alloc, tables, names, engine.world(), &reply, out, err),
+    match last_reply(alloc, keeper, engine, turns, own) {
+        Ok(reply) => write_told(alloc, tables, names, engine, &reply, out, err),
         Err(TurnFault::Keeper) => Ending::Keeper,
         Err(TurnFault::Memory) => Ending::Memory,
     }
@@ -165,16 +242,19 @@ pub(crate) fn unknown_report<O: Sink, E: Sink, K: Keeper>(
 ) -> Ending
     requires { All (IsTurn (length engine.old.world.servers)) turns.now }
     ensures stands { (task : ATask) → task.asked ≡ asks.Unknown
-        → Stands (course_from task names.now turns.now (point (K.kept keeper.old) engine.old) (K.kept keeper.new))
-        (between (taken (O.written out.old) (O.faults out.old)) (taken (O.written out.new) (O.faults out.new)))
-        (between (taken (E.written err.old) (E.faults err.old)) (taken (E.written err.new) (E.faults err.new))) result }
+        → Stands (course_from task names.now turns.now (point (K.kept keeper.old) engine.old)
+        (K.kept keeper.new))
+        (between (taken (O.written out.old) (O.faults out.old))
+        (taken (O.written out.new) (O.faults out.new)))
+        (between (taken (E.written err.old) (E.faults err.old))
+        (taken (E.written err.new) (E.faults err.new))) result }
     ensures cause { HasKeepersCause (K.faults keeper.old) (K.faults keeper.new) result }
     ensures later { E.faults err.old ≤ E.faults err.new }
 {
     match engine.run(alloc, keeper, turns) {
         Ok(()) => {
             let reply = Reply::Refused(Refusal::UnknownInstance);
-            write_told(alloc, false, names, engine.world(), &reply, out, err)
+            write_told(alloc, false, names, engine, &reply, out, err)
         }
         Err(TurnFault::Keeper) => Ending::Keeper,
         Err(TurnFault::Memory) => Ending::Memory,

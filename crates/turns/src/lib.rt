@@ -7,4 +7,4 @@ mod turn;
 
 /// Want of memory.
 pub use orch_base::Memory;
-pub use turn::{HeldCause, HeldCommand, Reply, Turn};
+pub use turn::{BoxedCause, BoxedCommand, Reply, Turn};

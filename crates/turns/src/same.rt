@@ -2,11 +2,11 @@
 
 ghost use Rattle.std.specs.Prelude.{◌≡◌, ◌↔◌, IsTrue};
 
-use crate::{HeldCommand, Turn};
+use crate::{BoxedCommand, Turn};
 
-impl HeldCommand {
+impl BoxedCommand {
     /// Whether the turns are equal. It takes no memory.
-    pub fn is_same(&self, other: &HeldCommand) -> bool
+    pub fn is_same(&self, other: &BoxedCommand) -> bool
         ensures { IsTrue result ↔ (self.now ≡ other.now) }
     {
         self.as_turn().is_same(other.as_turn())

@@ -12,11 +12,11 @@ use std::mem::size_of;
 
 /// A command turn on the heap, which contracts see as that turn.
 #[derive(Drop)]
-pub struct HeldCommand {
+pub struct BoxedCommand {
     turn: Box<CommandTurn>,
 }
 
-impl Model for HeldCommand {
+impl Model for BoxedCommand {
     ghost use Rattle.std.specs.Prelude.{box_value};
     ghost use Rattle.commands.specs.declared.turn.CommandTurn.{CommandTurn as ATurn};
 
@@ -25,12 +25,12 @@ impl Model for HeldCommand {
     ghost view = { λ c. box_value c.turn };
 }
 
-impl HeldCommand {
+impl BoxedCommand {
     /// This turn.
-    pub fn new(alloc: Global, turn: CommandTurn) -> Result<HeldCommand, Memory>
+    pub fn new(alloc: Global, turn: CommandTurn) -> Result<BoxedCommand, Memory>
         ensures { IfOk result (λ c. c ≡ turn) }
     {
-        Ok(HeldCommand {
+        Ok(BoxedCommand {
             turn: Box::new(alloc, turn)?,
         })
     }
@@ -43,20 +43,20 @@ impl HeldCommand {
     }
 
     /// The same turn once more.
-    pub fn copy(&self, alloc: Global) -> Result<HeldCommand, Memory>
+    pub fn copy(&self, alloc: Global) -> Result<BoxedCommand, Memory>
         ensures { IfOk result (λ c. c ≡ self.now) }
     {
-        HeldCommand::new(alloc, self.turn.copy(alloc)?)
+        BoxedCommand::new(alloc, self.turn.copy(alloc)?)
     }
 }
 
 /// The cause of a failed job on the heap, which contracts see as that cause.
 #[derive(Drop)]
-pub struct HeldCause {
+pub struct BoxedCause {
     cause: Box<Cause>,
 }
 
-impl Model for HeldCause {
+impl Model for BoxedCause {
     ghost use Rattle.std.specs.Prelude.{box_value};
     ghost use Rattle.commands.specs.declared.cause.Cause.{Cause as ACause};
 
@@ -65,12 +65,12 @@ impl Model for HeldCause {
     ghost view = { λ c. box_value c.cause };
 }
 
-impl HeldCause {
+impl BoxedCause {
     /// This cause.
-    pub fn new(alloc: Global, cause: Cause) -> Result<HeldCause, Memory>
+    pub fn new(alloc: Global, cause: Cause) -> Result<BoxedCause, Memory>
         ensures { IfOk result (λ c. c ≡ cause) }
     {
-        Ok(HeldCause {
+        Ok(BoxedCause {
             cause: Box::new(alloc, cause)?,
         })
     }
@@ -83,10 +83,10 @@ impl HeldCause {
     }
 
     /// The same cause once more.
-    pub fn copy(&self, alloc: Global) -> Result<HeldCause, Memory>
+    pub fn copy(&self, alloc: Global) -> Result<BoxedCause, Memory>
         ensures { IfOk result (λ c. c ≡ self.now) }
     {
-        HeldCause::new(alloc, self.cause.copy(alloc)?)
+        BoxedCause::new(alloc, self.cause.copy(alloc)?)
     }
 }
 
@@ -116,7 +116,7 @@ pub enum Turn {
     /// What this poller, 0 to 63, has in its slot is stored.
     PollStore(u32),
     /// A command, with what it is given.
-    Command(HeldCommand),
+    Command(BoxedCommand),
     /// The job of this number does what is due.
     Job(u64),
     /// Orchestrator analyses its instances, and begins the recoveries that are due.
@@ -182,7 +182,7 @@ pub enum Reply {
     /// The job isn't done.
     Going,
     /// The job failed.
-    Failed(HeldCause),
+    Failed(BoxedCause),
     /// There is no such job that hasn't ended.
     NoJob,
 }

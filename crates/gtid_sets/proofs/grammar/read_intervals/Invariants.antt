@@ -8,7 +8,7 @@ abbrev pub invariant-intervals : goal.invariant-intervals
 invariant-intervals l = record {
   each : All IsInterval l.found.items;
   within : l.from ≤ length l.text;
-  same : behind l.fn.found.items (intervals_at l.uuid l.place (pieces is_colon l.text)) ≡ behind l.found.items (intervals_at l.uuid (l.place + l.from) (pieces is_colon (drop l.from l.text)));
+  same : behind l.fn.found.items (intervals_at l.uuid l.offset (pieces is_colon l.text)) ≡ behind l.found.items (intervals_at l.uuid (l.offset + l.from) (pieces is_colon (drop l.from l.text)));
 }
 
 abbrev pub decreases-intervals : goal.decreases-intervals

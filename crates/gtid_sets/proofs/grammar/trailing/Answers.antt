@@ -2,11 +2,11 @@ use Rattle.std.proofs.Common.{◌≡◌, length, reverse, not, ap, sym, ◌∙�
 use Rattle.std.specs.Prelude.{unwrap_or, position}
 use Rattle.std.proofs.lemmas.List.{length-reverse}
 use Rattle.gtid_sets.specs.Grammar.{is_blank, trailing}
-use Rattle.gtid_sets.proofs.Pieces.{place_or_len, place_within}
+use Rattle.gtid_sets.proofs.Pieces.{position_is, length_within}
 use Rattle.gtid_sets.proofs.grammar.trailing.Goals as goal
 
 pub returns : goal.returns
 returns c =
     let is : c.unwrap_or.result ≡ trailing c.args.text.now = c.unwrap_or.ensures ∙ (ap (λ o. unwrap_or o (length c.args.text.now)) c.last_filled.ensures
-    ∙ (ap (λ n. unwrap_or (position (λ b. not (is_blank b)) (reverse c.args.text.now)) n) (sym (length-reverse c.args.text.now)) ∙ place_or_len (λ b. not (is_blank b)) (reverse c.args.text.now))) in
-    record { is = is; within = omega (arith, place_within (λ b. not (is_blank b)) (reverse c.args.text.now), length-reverse c.args.text.now) }
+    ∙ (ap (λ n. unwrap_or (position (λ b. not (is_blank b)) (reverse c.args.text.now)) n) (sym (length-reverse c.args.text.now)) ∙ position_is (λ b. not (is_blank b)) (reverse c.args.text.now))) in
+    record { is = is; within = omega (arith, length_within (λ b. not (is_blank b)) (reverse c.args.text.now), length-reverse c.args.text.now) }

@@ -3,7 +3,7 @@ use Rattle.std.specs.Prelude.{◌-◌}
 use Rattle.std.specs.List.{All, AllWithin}
 use Rattle.gtid_sets.specs.declared.interval.Interval.{Interval}
 use Rattle.gtid_sets.specs.Adding.{touches_first}
-use Rattle.gtid_sets.specs.Sets.{place, high, IsInterval}
+use Rattle.gtid_sets.specs.Sets.{point, high, IsInterval}
 use Rattle.gtid_sets.proofs.Inserts.{IsOnTheWay-first, IsOnTheWay-next, IsOnTheWay-last, touches-there}
 use Rattle.gtid_sets.proofs.reserved.insert_gtid.Goals as goal
 
@@ -17,8 +17,8 @@ absorb-init c =
     record {
       way = IsOnTheWay-first u n at items c.requires.set c.requires.one
           (subst (λ (xs : List Interval). at ≤ length xs) slice c.first_reaching-at.ensures.within)
-          (subst (λ (xs : List Interval). AllWithin (λ s. high s < place u (n - 1)) xs 0 at) slice c.first_reaching-at.ensures.below)
-          (subst (λ (xs : List Interval). AllWithin (λ s. place u (n - 1) ≤ high s) xs at (length xs)) slice c.first_reaching-at.ensures.above);
+          (subst (λ (xs : List Interval). AllWithin (λ s. high s < point u (n - 1)) xs 0 at) slice c.first_reaching-at.ensures.below)
+          (subst (λ (xs : List Interval). AllWithin (λ s. point u (n - 1) ≤ high s) xs at (length xs)) slice c.first_reaching-at.ensures.above);
       room = search rules;
     }
 

@@ -1,34 +1,34 @@
 use Rattle.std.proofs.Common.{◌≡◌, Bool, sym, ap, ◌∙◌, arith}
 use Rattle.std.specs.Prelude.{◌||◌}
 use Rattle.std.proofs.lemmas.Bool.{ltb-true}
-use Rattle.gtid_sets.specs.Sets.{place, low, on_line}
-use Rattle.gtid_sets.proofs.Search.{same_place}
+use Rattle.gtid_sets.specs.Sets.{point, low, on_line}
+use Rattle.gtid_sets.proofs.Search.{same_point}
 use Rattle.gtid_sets.proofs.Sweep.{gap_is, gap_test}
 use Rattle.gtid_sets.proofs.set.append_gap.Goals as goal
 
 pub append-requires-clause-next : goal.append-requires-clause-next
 append-requires-clause-next c =
-    let at : place c.start.result.uuid c.start.result.n ≡ low c.args.that.now = same_place c.start.ensures.uuid c.start.ensures.n in
+    let at : point c.start.result.uuid c.start.result.n ≡ low c.args.that.now = same_point c.start.ensures.uuid c.start.ensures.n in
     let less = ltb-true _ _ (sym c.is_before.ensures ∙ c.if-is_before.true) in
     (gap_is c.args.this.now c.args.that.now c.args.start.uuid c.args.start.n c.requires.this c.requires.that (search arith) c.requires.from (omega arith) c.requires.meets).is
 
 pub append-requires-clause-order : goal.append-requires-clause-order
 append-requires-clause-order c =
-    let at : place c.start.result.uuid c.start.result.n ≡ low c.args.that.now = same_place c.start.ensures.uuid c.start.ensures.n in
+    let at : point c.start.result.uuid c.start.result.n ≡ low c.args.that.now = same_point c.start.ensures.uuid c.start.ensures.n in
     let less = ltb-true _ _ (sym c.is_before.ensures ∙ c.if-is_before.true) in
     let gap = gap_is c.args.this.now c.args.that.now c.args.start.uuid c.args.start.n c.requires.this c.requires.that (search arith) c.requires.from (omega arith) c.requires.meets in
     λ k d h. let o = c.requires.order k d h in let b = gap.begins in omega arith
 
 pub returns-in_ok-append-clause-has : goal.returns-in_ok-append-clause-has
 returns-in_ok-append-clause-has c =
-    let at : place c.start.result.uuid c.start.result.n ≡ low c.args.that.now = same_place c.start.ensures.uuid c.start.ensures.n in
+    let at : point c.start.result.uuid c.start.result.n ≡ low c.args.that.now = same_point c.start.ensures.uuid c.start.ensures.n in
     let less = ltb-true _ _ (sym c.is_before.ensures ∙ c.if-is_before.true) in
     let gap = gap_is c.args.this.now c.args.that.now c.args.start.uuid c.args.start.n c.requires.this c.requires.that (search arith) c.requires.from (omega arith) c.requires.meets in
     λ x. c.in_ok-append.ensures.has x ∙ ap (λ (b : Bool). on_line c.args.rest.now x || b) (gap_test _ _ _ _ x gap.begins gap.ends)
 
 pub returns-in_ok-append-clause-order : goal.returns-in_ok-append-clause-order
 returns-in_ok-append-clause-order c =
-    let at : place c.start.result.uuid c.start.result.n ≡ low c.args.that.now = same_place c.start.ensures.uuid c.start.ensures.n in
+    let at : point c.start.result.uuid c.start.result.n ≡ low c.args.that.now = same_point c.start.ensures.uuid c.start.ensures.n in
     let less = ltb-true _ _ (sym c.is_before.ensures ∙ c.if-is_before.true) in
     let gap = gap_is c.args.this.now c.args.that.now c.args.start.uuid c.args.start.n c.requires.this c.requires.that (search arith) c.requires.from (omega arith) c.requires.meets in
     λ bound h. c.in_ok-append.ensures.order bound (let b = gap.begins in omega arith)

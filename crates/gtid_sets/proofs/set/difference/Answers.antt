@@ -2,9 +2,9 @@ use Rattle.std.proofs.Common.{◌≡◌, ◌+◌, ◌<◌, ◌≤◌, get_or, le
 use Rattle.std.specs.Prelude.{◌||◌, ◌&&◌}
 use Rattle.std.proofs.lemmas.Bool.{ltb-true, ltb-false}
 use Rattle.gtid_sets.specs.declared.interval.Interval.{Interval}
-use Rattle.gtid_sets.specs.Sets.{place, low, high, on_line}
-use Rattle.gtid_sets.proofs.Line.{low_high, place_behind}
-use Rattle.gtid_sets.proofs.Search.{same_place, ends_before}
+use Rattle.gtid_sets.specs.Sets.{point, low, high, on_line}
+use Rattle.gtid_sets.proofs.Line.{low_high, point_behind}
+use Rattle.gtid_sets.proofs.Search.{same_point, ends_before}
 use Rattle.gtid_sets.proofs.Sweep.{whole_piece, gap_piece, settled, none_before, part_is, part_low, past_more}
 use Rattle.gtid_sets.proofs.set.difference.Goals as goal
 
@@ -28,7 +28,7 @@ sweep-preserved-then-ends_before c =
       i_in = omega arith;
       j_in = c.sweep.invariant.j_in;
       has = c.sweep.invariant.has;
-      these = ends_before c.args.these.now c.sweep.i d (place c.sweep.front.uuid c.sweep.front.n) c.requires.these c.sweep-test.true (omega (arith, c.start_from-start.ensures));
+      these = ends_before c.args.these.now c.sweep.i d (point c.sweep.front.uuid c.sweep.front.n) c.requires.these c.sweep-test.true (omega (arith, c.start_from-start.ensures));
       those = c.sweep.invariant.those;
       order = c.sweep.invariant.order;
     }
@@ -53,13 +53,13 @@ sweep-preserved-then-is_clear c =
     let d : Interval = record { uuid = 0; first = 0; last = 0 } in
     let these = c.args.these.now in
     let s = get_or these c.sweep.i d in
-    let f = place c.sweep.front.uuid c.sweep.front.n in
-    let from = place c.start_from-start.result.uuid c.start_from-start.result.n in
-    let g = place c.behind-front.result.uuid c.behind-front.result.n in
+    let f = point c.sweep.front.uuid c.sweep.front.n in
+    let from = point c.start_from-start.result.uuid c.start_from-start.result.n in
+    let g = point c.behind-front.result.uuid c.behind-front.result.n in
     let not_less : from ≤ high s = ltb-false _ _ (sym c.ends_before.ensures ∙ c.if-ends_before.false) in
     let is_from : from ≡ max f (low s) = c.start_from-start.ensures in
     let at = part_low s c.start_from-start.result.uuid c.start_from-start.result.n (c.requires.these.each c.sweep.i d c.sweep-test.true) (search arith) (omega arith) not_less in
-    let is_g : g ≡ high s + 1 = same_place c.behind-front.ensures.uuid c.behind-front.ensures.n ∙ place_behind s.uuid s.last in
+    let is_g : g ≡ high s + 1 = same_point c.behind-front.ensures.uuid c.behind-front.ensures.n ∙ point_behind s.uuid s.last in
     record {
       i_in = omega arith;
       j_in = c.sweep.invariant.j_in;
@@ -78,13 +78,13 @@ sweep-preserved c =
     let those = c.args.those.now in
     let s = get_or these c.sweep.i d in
     let t = get_or those c.sweep.j d in
-    let f = place c.sweep.front.uuid c.sweep.front.n in
-    let from = place c.start_from-start.result.uuid c.start_from-start.result.n in
-    let g = place c.later-front.result.uuid c.later-front.result.n in
+    let f = point c.sweep.front.uuid c.sweep.front.n in
+    let from = point c.start_from-start.result.uuid c.start_from-start.result.n in
+    let g = point c.later-front.result.uuid c.later-front.result.n in
     let within : c.sweep.j < length those = c.if-is_clear.ensures.some in
     let not_less : from ≤ high s = ltb-false _ _ (sym c.ends_before.ensures ∙ c.if-ends_before.false) in
     let is_from : from ≡ max f (low s) = c.start_from-start.ensures in
-    let behind : place c.behind.result.uuid c.behind.result.n ≡ high t + 1 = same_place c.behind.ensures.uuid c.behind.ensures.n ∙ place_behind t.uuid t.last in
+    let behind : point c.behind.result.uuid c.behind.result.n ≡ high t + 1 = same_point c.behind.ensures.uuid c.behind.ensures.n ∙ point_behind t.uuid t.last in
     let is_g : g ≡ max from (high t + 1) = c.later-front.ensures ∙ ap (max from) behind in
     record {
       i_in = c.sweep.invariant.i_in;

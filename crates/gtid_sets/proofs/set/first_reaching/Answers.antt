@@ -1,6 +1,6 @@
 use Rattle.std.proofs.Common.{◌+◌, ◌-◌, ◌/◌, sym, ◌∙◌, arith}
 use Rattle.std.proofs.lemmas.Bool.{ltb-true, ltb-false}
-use Rattle.gtid_sets.specs.Sets.{place}
+use Rattle.gtid_sets.specs.Sets.{point}
 use Rattle.gtid_sets.specs.declared.interval.Interval.{Interval}
 use Rattle.gtid_sets.proofs.Search.{ends_before, ends_behind}
 use Rattle.gtid_sets.proofs.set.first_reaching.Goals as goal
@@ -11,7 +11,7 @@ halves-preserved-then-ends_before c =
     record {
       rises = omega arith;
       within = c.halves.invariant.within;
-      below = ends_before c.args.intervals.now (c.halves.from + (c.halves.to - c.halves.from) / 2) d (place c.args.gtid.uuid c.args.gtid.n) c.requires (omega arith) (ltb-true _ _ (sym c.ends_before.ensures ∙ c.if-ends_before.true));
+      below = ends_before c.args.intervals.now (c.halves.from + (c.halves.to - c.halves.from) / 2) d (point c.args.gtid.uuid c.args.gtid.n) c.requires (omega arith) (ltb-true _ _ (sym c.ends_before.ensures ∙ c.if-ends_before.true));
       above = c.halves.invariant.above;
     }
 
@@ -22,5 +22,5 @@ halves-preserved c =
       rises = omega arith;
       within = omega arith;
       below = c.halves.invariant.below;
-      above = ends_behind c.args.intervals.now (c.halves.from + (c.halves.to - c.halves.from) / 2) d (place c.args.gtid.uuid c.args.gtid.n) c.requires (omega arith) (ltb-false _ _ (sym c.ends_before.ensures ∙ c.if-ends_before.false));
+      above = ends_behind c.args.intervals.now (c.halves.from + (c.halves.to - c.halves.from) / 2) d (point c.args.gtid.uuid c.args.gtid.n) c.requires (omega arith) (ltb-false _ _ (sym c.ends_before.ensures ∙ c.if-ends_before.false));
     }

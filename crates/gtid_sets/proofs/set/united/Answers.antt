@@ -2,7 +2,7 @@ use Rattle.std.proofs.Common.{◌+◌, ◌<◌, ◌≤◌, length, get_or, arith
 use Rattle.std.specs.List.{AllWithin}
 use Rattle.gtid_sets.specs.declared.interval.Interval.{Interval}
 use Rattle.gtid_sets.specs.Sets.{low}
-use Rattle.gtid_sets.proofs.Places.{first_more, second_more, order_more, rises, rises_past}
+use Rattle.gtid_sets.proofs.Points.{first_more, second_more, order_more, rises, rises_past}
 use Rattle.gtid_sets.proofs.set.united.Goals as goal
 
 pub merge-preserved-then-is_next : goal.merge-preserved-then-is_next

@@ -1,11 +1,11 @@
-use Rattle.instance_keeper.specs.Rows.{place}
+use Rattle.instance_keeper.specs.Rows.{sort_key}
 use Rattle.instance_keeper.proofs.LookUps.{row_in-put, row_in-remove, row_in-changed, changed_rising}
 use Rattle.instance_keeper.proofs.laws.rows_are_a_map.Goals as goal
 
 pub returns : goal.returns
 returns c = record {
-  put = λ rows r t k. row_in-put rows r (place t k);
-  remove = λ rows u t l k. row_in-remove rows u l (place t k);
-  changed = λ rows changes t k. row_in-changed rows changes (place t k);
+  put = λ rows r t k. row_in-put rows r (sort_key t k);
+  remove = λ rows u t l k. row_in-remove rows u l (sort_key t k);
+  changed = λ rows changes t k. row_in-changed rows changes (sort_key t k);
   rising = changed_rising;
 }

@@ -1,16 +1,26 @@
-use Rattle.tasks.specs.Progress.{point}
-use Rattle.tasks.specs.Sinks.{taken}
-use Rattle.tasks.proofs.Stands.{cut_stands, gave_keeper, whole_stands}
+use Rattle.std.proofs.Common.{List, refl, arith, subst}
+use Rattle.orch_base.specs.Names.{HostPort}
+use Rattle.orch_core.specs.declared.fault.TurnFault.TheVariants as fault
+use Rattle.orch_core.specs.Runs.{recorder}
+use Rattle.orch_core.specs.Scenarios.{without_turns}
+use Rattle.orch_core.proofs.Runs.{Ran-nil}
+use Rattle.tasks.specs.Endings.{Stands}
+use Rattle.tasks.specs.Progress.{course_from, point}
+use Rattle.tasks.specs.Sinks.{between, taken}
+use Rattle.tasks.proofs.Stands.{memory_stands}
 use Rattle.tasks.proofs.progress.run_report.Goals as goal
+
+pub returns-in-Err-clause-stands : goal.returns-in-Err-clause-stands
+returns-in-Err-clause-stands g c = λ task err is.
+    let kept = g.K.Keeper.kept c.args.keeper.now in
+    let out = taken (g.O.Sink.written c.args.out.now) (g.O.Sink.faults c.args.out.now) in
+    memory_stands task c.args.names.now c.args.turns.now (point kept c.args.engine.now) kept out err fault.Memory refl
+    (record { k = 0; within = omega arith; run = without_turns c.args.engine.now; ran = Ran-nil recorder kept (without_turns c.args.engine.now) })
 
 pub returns-in-Ok-clause-stands : goal.returns-in-Ok-clause-stands
 returns-in-Ok-clause-stands g c = λ task err is.
-    whole_stands task c.args.names.now c.args.turns.now (point (g.K.Keeper.kept c.args.keeper.now) c.args.engine.now) (point (g.K.Keeper.kept c.take_turns.new.keeper) c.take_turns.new.engine)
-    (taken (g.O.Sink.written c.args.out.now) (g.O.Sink.faults c.args.out.now)) (taken (g.O.Sink.written c.take_turns.new.out) (g.O.Sink.faults c.take_turns.new.out)) _ err c.take_turns.new.progress is _ _ c.world.ensures c.in-Ok.ensures.ok c.end.ensures
-
-pub returns-in-Err-Keeper-clause-stands : goal.returns-in-Err-Keeper-clause-stands
-returns-in-Err-Keeper-clause-stands g c = λ task err is.
-    let from = point (g.K.Keeper.kept c.args.keeper.now) c.args.engine.now in
-    let to = point (g.K.Keeper.kept c.take_turns.new.keeper) c.take_turns.new.engine in
-    cut_stands task c.args.names.now c.args.turns.now from to (taken (g.O.Sink.written c.args.out.now) (g.O.Sink.faults c.args.out.now)) (taken (g.O.Sink.written c.take_turns.new.out) (g.O.Sink.faults c.take_turns.new.out)) _ err
-    c.take_turns.new.progress is _ (gave_keeper c.args.names.now from to c.args.turns.now _ c.take_turns.new.progress c.in-Err-Keeper.field-0 c.in-Err-Keeper.field-0-is c.in-Err-Keeper.ensures.err) c.cut.ensures
+    let kept = g.K.Keeper.kept c.args.keeper.now in
+    let before = taken (g.O.Sink.written c.args.out.now) (g.O.Sink.faults c.args.out.now) in
+    let after = taken (g.O.Sink.written c.printed_report.new.out) (g.O.Sink.faults c.printed_report.new.out) in
+    subst (λ (ns : List HostPort). Stands (course_from task ns c.args.turns.now (point kept c.args.engine.now) (g.K.Keeper.kept c.printed_report.new.keeper)) (between before after) (between err err) c.printed_report.result)
+    c.in-Ok.ensures (c.printed_report.ensures.stands task err is)

@@ -5,7 +5,7 @@ use Rattle.tasks.proofs.single.unknown_report.Goals as goal
 
 pub returns-in-Ok-clause-stands : goal.returns-in-Ok-clause-stands
 returns-in-Ok-clause-stands g c = λ task is.
-    unknown_stands task c.args.names.now c.args.turns.now (point (g.K.Keeper.kept c.args.keeper.now) c.args.engine.now) (g.K.Keeper.kept c.run.new.keeper) c.run.new.self _ _ _ _ is c.world.ensures
+    unknown_stands task c.args.names.now c.args.turns.now (point (g.K.Keeper.kept c.args.keeper.now) c.args.engine.now) (g.K.Keeper.kept c.run.new.keeper) c.run.new.self _ _ _ is
     (recorded _ _ _ _ c.args.turns.now c.in-Ok.ensures.ok) c.write_told.ensures.writes
 
 pub returns-in-Err-Keeper-clause-stands : goal.returns-in-Err-Keeper-clause-stands

@@ -1,19 +1,54 @@
-use Rattle.std.proofs.Common.{◌∙◌, length, sym, ap, subst}
+use Rattle.std.proofs.Common.{◌≡◌, ◌∙◌, ℕ, ◌<◌, ◌^◌, length, sym, ap, subst, true}
 use Rattle.commands.specs.declared.turn.CommandTurn.{CommandTurn}
+use Rattle.commands.specs.Turns.{is_within}
 use Rattle.scenarios.specs.Turns.{IsCommand}
-use Rattle.orch_core.specs.Commands.{IsUpdate, Outcome, outcome_of}
+use Rattle.orch_core.specs.Commands.{IsUpdate, Outcome, last_job_updated, outcome_of}
+use Rattle.orch_core.specs.declared.command.Numbers.{Numbers}
 use Rattle.orch_core.specs.declared.command.Update.{Update}
+use Rattle.orch_core.specs.Polls.{command_outcome, numbers_of}
 use Rattle.orch_core.specs.States.{State}
 use Rattle.orch_core.specs.EngineBy.{state_of}
-use Rattle.orch_core.proofs.Outcomes.{IsState-command, outcome-fits}
+use Rattle.orch_core.proofs.Outcomes.{IsNext, IsState-command, destination-within, given-within, outcome-fits, outcome-next}
 use Rattle.orch_core.proofs.engine.Engine.command.Goals as goal
 
-pub invariant_of-self : goal.invariant_of-self
-invariant_of-self g c = IsState-command (state_of c.self.inside) c.in_ok-outcome.outcome.book _ _ c.self.invariant c.update_book.ensures
-
-pub update_book-requires : goal.update_book-requires
-update_book-requires g c =
+pub outcome_of-requires-clause-i : goal.outcome_of-requires-clause-i
+outcome_of-requires-clause-i g c =
+    let before = state_of c.self.inside in
     let command = subst (λ (s : State). IsCommand (length s.world.servers) c.args.t.now) (sym c.self.view_is) c.requires in
-    let same = c.in_ok-outcome.ensures ∙ ap (λ (t : CommandTurn). outcome_of c.self.inside.world c.self.inside.book c.self.inside.reads c.self.inside.moment.0 t) c.as_turn.ensures in
-    let fit = (outcome-fits (state_of c.self.inside) c.args.t.now c.self.invariant command).book in
-    subst (λ (u : Update). IsUpdate (length c.self.inside.book.names) u) (sym (ap (λ (o : Outcome). o.book) same)) fit
+    let over = subst (λ (n : ℕ). IsCommand n c.args.t.now) (sym c.self.invariant.names) command in
+    subst (λ (t : CommandTurn). is_within (length before.book.names) t.command.i ≡ true) (sym c.as_turn.ensures) (given-within (length before.book.names) c.args.t.now over)
+
+pub outcome_of-requires-clause-d : goal.outcome_of-requires-clause-d
+outcome_of-requires-clause-d g c =
+    let before = state_of c.self.inside in
+    let command = subst (λ (s : State). IsCommand (length s.world.servers) c.args.t.now) (sym c.self.view_is) c.requires in
+    let over = subst (λ (n : ℕ). IsCommand n c.args.t.now) (sym c.self.invariant.names) command in
+    subst (λ (t : CommandTurn). is_within (length before.book.names) t.command.d ≡ true) (sym c.as_turn.ensures) (destination-within (length before.book.names) c.args.t.now over)
+
+pub keep_and_update-requires : goal.keep_and_update-requires
+keep_and_update-requires g c =
+    let before = state_of c.self.inside in
+    let command = subst (λ (s : State). IsCommand (length s.world.servers) c.args.t.now) (sym c.self.view_is) c.requires in
+    let same =
+    c.in_ok-outcome.ensures
+    ∙ ap (λ (t : CommandTurn). outcome_of before.world before.book c.numbers-numbers.result t) c.as_turn.ensures
+    ∙ ap (λ (n : Numbers). outcome_of before.world before.book n c.args.t.now) (c.numbers-numbers.ensures ∙ ap numbers_of (sym c.self.view_is)) in
+    let fit = (outcome-fits before c.args.t.now c.self.invariant c.servers.ensures.holds command).book in
+    subst (λ (u : Update). IsUpdate before.book u) (sym (ap (λ (o : Outcome). o.book) same)) fit
+
+pub invariant_of-self-2 : goal.invariant_of-self-2
+invariant_of-self-2 g c =
+    let before = state_of c.self.inside in
+    let command = subst (λ (s : State). IsCommand (length s.world.servers) c.args.t.now) (sym c.self.view_is) c.requires in
+    let same =
+    c.in_ok-outcome.ensures
+    ∙ ap (λ (t : CommandTurn). outcome_of before.world before.book c.numbers-numbers.result t) c.as_turn.ensures
+    ∙ ap (λ (n : Numbers). outcome_of before.world before.book n c.args.t.now) (c.numbers-numbers.ensures ∙ ap numbers_of (sym c.self.view_is)) in
+    let update = c.in_ok-outcome.outcome.book in
+    let updates : update ≡ (command_outcome before c.args.t.now).book = ap (λ (o : Outcome). o.book) same in
+    let last = c.in_ok-keep_and_update.ensures.last in
+    let wait : before.configuration.wait < 2 ^ 32 = subst (λ (n : ℕ). n < 2 ^ 32) (ap (λ (n : Numbers). n.wait) (c.numbers-numbers.ensures ∙ ap numbers_of (sym c.self.view_is))) c.is_bound.ensures in
+    let few = subst (λ (n : ℕ). n < 2 ^ 64) (last ∙ ap (last_job_updated before.last_job) updates) c.is_number.ensures in
+    let next = outcome-next before c.args.t.now c.self.invariant c.servers.ensures.holds wait command few in
+    IsState-command before update c.in_ok-outcome.outcome.reads c.keep_and_update.new.book c.keep_and_update.new.jobs.items c.keep_and_update.new.last_job c.self.invariant
+    c.in_ok-keep_and_update.ensures.book c.in_ok-keep_and_update.ensures.jobs last (subst (IsNext (length before.world.servers) before.last_job) (sym updates) next)

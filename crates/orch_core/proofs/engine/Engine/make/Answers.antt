@@ -26,7 +26,7 @@ pub invariant_of-result : goal.invariant_of-result
 invariant_of-result g c =
     let world = world_made c.args.s.now c.in_ok-world.world c.room.result c.flushes.result c.in_ok-world.ensures.world c.room.ensures.room c.flushes.ensures.flushes in
     let servers : c.len.result ≡ length c.in_ok-settings.settings.items = let h = c.len.ensures in omega (arith, h, c.in_ok-settings.settings.ok) in
-    let opening : IsOpening c.args.s.now c.in_ok-world.world c.in_ok-settings.settings.items c.in_ok-rows.rows.items c.latest_moment-moment.result c.in_ok-book.book c.in_ok-book-2.book c.in_ok-slots.slots.items c.last_read.result c.args.wait c.in_ok-configuration.configuration = record {
+    let opening : IsOpening c.args.s.now c.in_ok-world.world c.in_ok-settings.settings.items c.in_ok-rows.rows.items c.latest_moment-moment.result c.in_ok-book.book c.in_ok-book-2.book c.in_ok-slots.slots.items c.last_read.result c.new.result.items c.args.wait c.in_ok-configuration.configuration = record {
       world = world;
       settings_made = c.in_ok-settings.ensures ∙ ap (λ (is : List ServerInit). map (λ i. i.settings) is) c.servers.ensures.value;
       moment_made = search rules;
@@ -34,16 +34,17 @@ invariant_of-result g c =
       completes = search rules;
       empty = c.in_ok-slots.ensures;
       read = search rules;
+      idle = c.new.ensures.items;
       configured = c.in_ok-configuration.ensures;
       some = subst (λ (n : ℕ). (rows : List Row) × (c.in_ok-rows.rows.items ≡ counted n rows)) servers c.in_ok-rows.ensures.some;
     } in
-    IsState-made _ _ _ _ _ _ _ _ _ _ _ opening c.requires
+    IsState-made _ _ _ _ _ _ _ _ _ _ _ _ opening c.requires
 
 pub returns-clause-ok : goal.returns-clause-ok
 returns-clause-ok g c =
     let world = world_made c.args.s.now c.in_ok-world.world c.room.result c.flushes.result c.in_ok-world.ensures.world c.room.ensures.room c.flushes.ensures.flushes in
     let servers : c.len.result ≡ length c.in_ok-settings.settings.items = let h = c.len.ensures in omega (arith, h, c.in_ok-settings.settings.ok) in
-    let opening : IsOpening c.args.s.now c.in_ok-world.world c.in_ok-settings.settings.items c.in_ok-rows.rows.items c.latest_moment-moment.result c.in_ok-book.book c.in_ok-book-2.book c.in_ok-slots.slots.items c.last_read.result c.args.wait c.in_ok-configuration.configuration = record {
+    let opening : IsOpening c.args.s.now c.in_ok-world.world c.in_ok-settings.settings.items c.in_ok-rows.rows.items c.latest_moment-moment.result c.in_ok-book.book c.in_ok-book-2.book c.in_ok-slots.slots.items c.last_read.result c.new.result.items c.args.wait c.in_ok-configuration.configuration = record {
       world = world;
       settings_made = c.in_ok-settings.ensures ∙ ap (λ (is : List ServerInit). map (λ i. i.settings) is) c.servers.ensures.value;
       moment_made = search rules;
@@ -51,17 +52,18 @@ returns-clause-ok g c =
       completes = search rules;
       empty = c.in_ok-slots.ensures;
       read = search rules;
+      idle = c.new.ensures.items;
       configured = c.in_ok-configuration.ensures;
       some = subst (λ (n : ℕ). (rows : List Row) × (c.in_ok-rows.rows.items ≡ counted n rows)) servers c.in_ok-rows.ensures.some;
     } in
-    StartsBy-made _ _ _ _ _ _ _ _ _ _ _ opening (g.K.Keeper.kept c.args.keeper.now)
+    StartsBy-made _ _ _ _ _ _ _ _ _ _ _ _ opening (g.K.Keeper.kept c.args.keeper.now)
     (subst (λ (n : ℕ). IfSome (g.K.Keeper.kept c.args.keeper.now) (λ rows. c.in_ok-rows.rows.items ≡ counted n rows)) servers c.in_ok-rows.ensures.told)
 
 pub returns-clause-kept : goal.returns-clause-kept
 returns-clause-kept g c =
     let world = world_made c.args.s.now c.in_ok-world.world c.room.result c.flushes.result c.in_ok-world.ensures.world c.room.ensures.room c.flushes.ensures.flushes in
     let servers : c.len.result ≡ length c.in_ok-settings.settings.items = let h = c.len.ensures in omega (arith, h, c.in_ok-settings.settings.ok) in
-    let opening : IsOpening c.args.s.now c.in_ok-world.world c.in_ok-settings.settings.items c.in_ok-rows.rows.items c.latest_moment-moment.result c.in_ok-book.book c.in_ok-book-2.book c.in_ok-slots.slots.items c.last_read.result c.args.wait c.in_ok-configuration.configuration = record {
+    let opening : IsOpening c.args.s.now c.in_ok-world.world c.in_ok-settings.settings.items c.in_ok-rows.rows.items c.latest_moment-moment.result c.in_ok-book.book c.in_ok-book-2.book c.in_ok-slots.slots.items c.last_read.result c.new.result.items c.args.wait c.in_ok-configuration.configuration = record {
       world = world;
       settings_made = c.in_ok-settings.ensures ∙ ap (λ (is : List ServerInit). map (λ i. i.settings) is) c.servers.ensures.value;
       moment_made = search rules;
@@ -69,8 +71,9 @@ returns-clause-kept g c =
       completes = search rules;
       empty = c.in_ok-slots.ensures;
       read = search rules;
+      idle = c.new.ensures.items;
       configured = c.in_ok-configuration.ensures;
       some = subst (λ (n : ℕ). (rows : List Row) × (c.in_ok-rows.rows.items ≡ counted n rows)) servers c.in_ok-rows.ensures.some;
     } in
-    search rules ∙ kept_made _ _ _ _ _ _ _ _ _ _ _ opening (g.K.Keeper.kept c.args.keeper.now)
+    search rules ∙ kept_made _ _ _ _ _ _ _ _ _ _ _ _ opening (g.K.Keeper.kept c.args.keeper.now)
     (subst (λ (n : ℕ). IfSome (g.K.Keeper.kept c.args.keeper.now) (λ rows. c.in_ok-rows.rows.items ≡ counted n rows)) servers c.in_ok-rows.ensures.told)

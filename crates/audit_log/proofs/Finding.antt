@@ -1,0 +1,84 @@
+-- Recoveries are looked up.
+use Rattle.std.proofs.Common.{◌≡◌, ℕ, ◌+◌, ◌-◌, ◌<◌, ◌≤◌, Bool, true, false, cond, List, [], ◌∷◌, length, get_or, refl, sym, ◌∙◌, ap, subst, Some, None, Result, Ok, Err, inl, inr, ◌⊎◌, arith}
+use Rattle.std.specs.Prelude.{◌==◌, All, AllPairs, find, reverse}
+use Rattle.std.specs.List.{AllWithin}
+use Rattle.std.specs.List.Sorted.{IsBinarySearchResult, IsSearchInRange, IsSortedBy}
+use Rattle.std.specs.Ordering.{is_lt, nat_cmp}
+use Rattle.std.specs.Result.{result_ok}
+use Rattle.std.specs.declared.cmp.Ordering.TheVariants.{Less, Equal, Greater}
+use Rattle.std.proofs.lemmas.Bool.{cases_lt, ne_eqb}
+use Rattle.std.proofs.lemmas.Bool.Decides.{nat_tests}
+use Rattle.std.proofs.lemmas.Cmp.{nat_cmp_total, ranked}
+use Rattle.std.proofs.lemmas.List.{get_or-reverse, length-reverse}
+use Rattle.std.proofs.lemmas.List.Elements.{All-nil, All-cons, All-head, All-tail}
+use Rattle.std.proofs.lemmas.List.Sorted.{searchable_from_sorted}
+use Rattle.std.proofs.lemmas.Option.{same_Some}
+use Rattle.instance_keeper.specs.declared.recovery.Recovery.{Recovery}
+use Rattle.audit_log.specs.Audits.{StandsAt}
+
+-- ---- what holds of a list holds of it from its end on
+
+pub All-reverse : {X : Type 0} (P : X → Type 0) (xs : List X) → All P xs → All P (reverse xs)
+All-reverse P xs all k d within =
+    let short : k < length xs = omega (arith, within, length-reverse xs) in
+    subst P (sym (get_or-reverse xs k d short)) (all (length xs - 1 - k) d (omega (arith, short)))
+
+pub All-reversed : {X : Type 0} (P : X → Type 0) (xs : List X) → All P (reverse xs) → All P xs
+All-reversed P xs all k d within =
+    let back : length xs - 1 - k < length xs = omega (arith, within) in
+    let index : length xs - 1 - (length xs - 1 - k) ≡ k = omega (arith, within) in
+    subst P (get_or-reverse xs (length xs - 1 - k) d back ∙ ap (λ i. get_or xs i d) index) (all (length xs - 1 - k) d (omega (arith, back, length-reverse xs)))
+
+module _ {X : Type 0} (p : X → Bool) where
+  -- what is found is one of the list
+  pub All-found : (P : X → Type 0) (xs : List X) (y : X) → All P xs → find p xs ≡ Some y → P y
+  All-found P [] y all e = cc
+  All-found P (x ∷ xs) y all e = go (p x) e (All-found P xs y (All-tail P x xs all))
+    where
+      go : (b : Bool) → cond b (Some x) (find p xs) ≡ Some y → (find p xs ≡ Some y → P y) → P y
+      go true g rest = subst P (same_Some x y g) (All-head P x xs all)
+      go false g rest = rest g
+
+  pub found-passes : (xs : List X) (y : X) → find p xs ≡ Some y → p y ≡ true
+  found-passes [] y e = cc
+  found-passes (x ∷ xs) y e = go (p x) refl e (found-passes xs y)
+    where
+      go : (b : Bool) → p x ≡ b → cond b (Some x) (find p xs) ≡ Some y → (find p xs ≡ Some y → p y ≡ true) → p y ≡ true
+      go true f g rest = ap p (sym (same_Some x y g)) ∙ f
+      go false f g rest = rest g
+
+  pub none-passes : (xs : List X) → find p xs ≡ None → All (λ x. p x ≡ false) xs
+  none-passes [] e = All-nil (λ x. p x ≡ false)
+  none-passes (x ∷ xs) e = go (p x) refl e (none-passes xs)
+    where
+      go : (b : Bool) → p x ≡ b → cond b (Some x) (find p xs) ≡ None → (find p xs ≡ None → All (λ y. p y ≡ false) xs) → All (λ y. p y ≡ false) (x ∷ xs)
+      go true f g rest = cc
+      go false f g rest = All-cons (λ y. p y ≡ false) x xs f (rest g)
+
+  pub none-found : (xs : List X) → All (λ x. p x ≡ false) xs → find p xs ≡ None
+  none-found [] all = refl
+  none-found (x ∷ xs) all =
+      ap (λ b. cond b (Some x) (find p xs)) (All-head (λ y. p y ≡ false) x xs all) ∙ none-found xs (All-tail (λ y. p y ≡ false) x xs all)
+
+-- ---- by halves
+
+rising-sorted : (xs : List Recovery) → AllPairs (λ (x y : Recovery). x.id < y.id) xs → IsSortedBy (λ (a b : Recovery). is_lt (nat_cmp a.id b.id)) xs
+rising-sorted xs rising k d low within = later (get_or xs k d).id (get_or xs (k + 1) d).id (rising k (k + 1) d (omega arith) within)
+  where
+    later : (m n : ℕ) → m < n → is_lt (nat_cmp n m) ≡ false
+    later m n less = grind (arith, nat_tests)
+
+-- by where the search ended, none has the id
+none-there : (id : ℕ) (xs : List Recovery) (i k : ℕ) (d : Recovery) → k < length xs → (k < i) ⊎ (i ≤ k)
+    → AllWithin (λ (y : Recovery). nat_cmp y.id id ≡ Less) xs 0 i → AllWithin (λ (y : Recovery). nat_cmp y.id id ≡ Greater) xs i (length xs) → ((get_or xs k d).id == id) ≡ false
+none-there id xs i k d short (inl before) less greater =
+    ne_eqb (get_or xs k d).id id (λ e. let h = ranked (get_or xs k d).id id Less (sym (less k d (omega arith) before)) in absurd (omega (arith, h, e)))
+none-there id xs i k d short (inr behind) less greater =
+    ne_eqb (get_or xs k d).id id (λ e. let h = ranked (get_or xs k d).id id Greater (sym (greater k d behind short)) in absurd (omega (arith, h, e)))
+
+pub stands : (id : ℕ) (xs : List Recovery) (r : Result ℕ ℕ) → AllPairs (λ (x y : Recovery). x.id < y.id) xs → IsSearchInRange r (length xs)
+    → IsBinarySearchResult (λ (y : Recovery). nat_cmp y.id id) xs r → StandsAt id xs (result_ok r)
+stands id xs (Ok i) rising within is = (within, λ d. ranked (get_or xs i d).id id Equal (sym (is d)))
+stands id xs (Err i) rising within is =
+    let parts = is (searchable_from_sorted nat_cmp_total (λ (y : Recovery). y.id) xs id (rising-sorted xs rising)) in
+    λ k d short. none-there id xs i k d short (cases_lt k i) parts.0 parts.1

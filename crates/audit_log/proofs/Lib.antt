@@ -1,0 +1,5 @@
+pub mod Changes
+pub mod Finding
+pub mod Kept
+pub mod Parting
+pub mod Loaded

@@ -1,0 +1,256 @@
+-- Recoveries of a cluster are apart.
+use Rattle.std.proofs.Common.{◌≡◌, ℕ, ◌+◌, ◌-◌, ◌≤◌, Bool, true, false, cond, not, ◌&&◌, List, [], ◌∷◌, ◌++◌, get_or, map, zero, refl, sym, ◌∙◌, ap, subst, Option, Some, None, Result, Ok, Err, ◌⊎◌, inl, inr, arith}
+use Rattle.std.specs.Prelude.{◌==◌, All, Any, Contains, nat_eq, nat_lt, reverse}
+use Rattle.std.specs.Cmp.Lexicographic.{nat_list_eq_equiv, pointwise, same_text}
+use Rattle.std.proofs.lemmas.Bool.{and_parts, false≢true, le-ltb, ltb-false}
+use borrow.Author.Tests.{ltb-true}
+use Rattle.std.proofs.lemmas.List.Elements.{All-head, All-tail, All-contains_itself, All-map, All-weaker}
+use Rattle.std.proofs.lemmas.List.Sums.{sum_by-cons, sum_by_push}
+use Rattle.orch_base.specs.declared.recovery.Ending.{Ending}
+use Rattle.orch_base.specs.declared.recovery.Ending.TheVariants as ending
+use Rattle.orch_base.specs.declared.server.Moment.{Moment}
+use Rattle.instance_keeper.specs.declared.recovery.Recovery.{Recovery}
+use Rattle.audit_log.specs.declared.held.Held.{Held}
+use Rattle.audit_log.specs.declared.held.Held.TheVariants as held
+use Rattle.audit_log.specs.Apart.{count_unended, IsApart, IsClear, IsHeldBack, MayBegin}
+use Rattle.audit_log.specs.Audits.{acknowledged, acknowledged_for, begun, closed, ended, ended_so, held_by, interrupted, is_blocking, is_of, is_open, is_unended, last_blocking, may_begin, unended_of, AuditState, IsAudit}
+use Rattle.audit_log.proofs.Changes.{IsAudit-begun, IsAudit-map}
+use Rattle.audit_log.proofs.Finding.{All-found, All-reverse, All-reversed, found-passes, none-found, none-passes}
+use Rattle.audit_log.proofs.Kept.{acknowledged-id, interrupted-id}
+
+-- ---- clusters are told apart by their texts
+
+of-cluster : (cluster : List ℕ) (r : Recovery) → is_of cluster r ≡ true → r.cluster ≡ cluster
+of-cluster cluster r e = same_text r.cluster cluster (sym e)
+
+cluster-of : (cluster : List ℕ) (r : Recovery) → r.cluster ≡ cluster → is_of cluster r ≡ true
+cluster-of cluster r e = subst (λ (c : List ℕ). pointwise nat_eq r.cluster c ≡ true) e (nat_list_eq_equiv.refl r.cluster)
+
+-- ---- a begin
+
+module _ (cluster : List ℕ) (now block : ℕ) where
+  abbrev open-one : Recovery → Bool
+  open-one r = is_of cluster r && is_unended r
+
+  abbrev blocking-one : Recovery → Bool
+  blocking-one r = is_of cluster r && is_blocking now block r
+
+  clear-of : (r : Recovery) → open-one r ≡ false → blocking-one r ≡ false → IsClear cluster now block r
+  clear-of r u b here = (sym (ap (λ x. x && is_unended r) same) ∙ u, acked r.acked (nat_lt (now - r.begun.0) block) refl (sym (ap (λ x. x && is_blocking now block r) same) ∙ b))
+    where
+      same : is_of cluster r ≡ true
+      same = cluster-of cluster r here
+
+      acked : (x y : Bool) → nat_lt (now - r.begun.0) block ≡ y → (not x && y) ≡ false → (x ≡ true) ⊎ (block ≤ now - r.begun.0)
+      acked true y f h = inl refl
+      acked false true f h = absurd (false≢true (sym h))
+      acked false false f h = inr (ltb-false (now - r.begun.0) block f)
+
+  clear-closed : (r : Recovery) → IsClear cluster now block r → open-one r ≡ false
+  clear-closed r clear = go (is_of cluster r) refl
+    where
+      go : (b : Bool) → is_of cluster r ≡ b → (b && is_unended r) ≡ false
+      go true f = (clear (of-cluster cluster r f)).0
+      go false f = refl
+
+  clear-free : (r : Recovery) → IsClear cluster now block r → blocking-one r ≡ false
+  clear-free r clear = go (is_of cluster r) refl
+    where
+      by : (x : Bool) → r.acked ≡ x → ((r.acked ≡ true) ⊎ (block ≤ now - r.begun.0)) → (not x && nat_lt (now - r.begun.0) block) ≡ false
+      by true f h = refl
+      by false f (inl h) = absurd (false≢true (sym f ∙ h))
+      by false f (inr h) = le-ltb (now - r.begun.0) block h
+
+      go : (b : Bool) → is_of cluster r ≡ b → (b && is_blocking now block r) ≡ false
+      go true f = by r.acked refl (clear (of-cluster cluster r f)).1
+      go false f = refl
+
+  both : (xs : List Recovery) → All (λ r. open-one r ≡ false) xs → All (λ r. blocking-one r ≡ false) xs → All (IsClear cluster now block) xs
+  both xs us bs k d within = clear-of (get_or xs k d) (us k d within) (bs k d within)
+
+  pub apart-begins : (a : AuditState) (id : ℕ) → may_begin a cluster now block ≡ Ok id → (id ≡ a.next) × All (IsClear cluster now block) a.recoveries
+  apart-begins a id h = go (unended_of a cluster) refl (last_blocking a cluster now block) refl h
+    where
+      number : (x : Result ℕ Held) → ℕ
+      number (Ok n) = n
+      number (Err e) = 0
+
+      go : (u : Option Recovery) → unended_of a cluster ≡ u → (l : Option Recovery) → last_blocking a cluster now block ≡ l → held_by a block u l ≡ Ok id
+          → (id ≡ a.next) × All (IsClear cluster now block) a.recoveries
+      go (Some r) f l g h = cc
+      go None f (Some r) g h = cc
+      go None f None g h =
+          (sym (ap number h), both a.recoveries (none-passes open-one a.recoveries f) (All-reversed (λ r. blocking-one r ≡ false) a.recoveries (none-passes blocking-one (reverse a.recoveries) g)))
+
+  pub begins-apart : (a : AuditState) → All (IsClear cluster now block) a.recoveries → may_begin a cluster now block ≡ Ok a.next
+  begins-apart a all =
+      ap (λ u. held_by a block u (last_blocking a cluster now block))
+      (none-found open-one a.recoveries (All-weaker (IsClear cluster now block) (λ r. open-one r ≡ false) clear-closed a.recoveries all))
+      ∙ ap (held_by a block None)
+      (none-found blocking-one (reverse a.recoveries)
+      (All-reverse (λ r. blocking-one r ≡ false) a.recoveries (All-weaker (IsClear cluster now block) (λ r. blocking-one r ≡ false) clear-free a.recoveries all)))
+
+  -- who holds others back is one of the list
+  among : (P : Recovery → Type 0) (xs : List Recovery) (r : Recovery) → Contains xs r → P r → Any P xs
+  among P xs r (k, within, at) h = (k, r, within, at, h)
+
+  abbrev why : Result ℕ Held → Held
+  why (Ok n) = held.Unended n
+  why (Err h) = h
+
+  open-holds : (r : Recovery) → open-one r ≡ true → IsHeldBack cluster now block (held.Unended r.id) r
+  open-holds r e =
+      let parts = and_parts (is_of cluster r) (is_unended r) e in
+      (of-cluster cluster r parts.0, refl, parts.1)
+
+  not-true : (b : Bool) → not b ≡ true → b ≡ false
+  not-true true e = absurd (false≢true e)
+  not-true false e = refl
+
+  blocking-holds : (r : Recovery) → blocking-one r ≡ true → IsHeldBack cluster now block (held.Blocked r.id (record { 0 = r.begun.0 + block })) r
+  blocking-holds r e =
+      let parts = and_parts (is_of cluster r) (is_blocking now block r) e in
+      let two = and_parts (not r.acked) (nat_lt (now - r.begun.0) block) parts.1 in
+      (of-cluster cluster r parts.0, refl, refl, not-true r.acked two.0, ltb-true (now - r.begun.0) block two.1)
+
+  pub held-back : (a : AuditState) (h : Held) → may_begin a cluster now block ≡ Err h → Any (IsHeldBack cluster now block h) a.recoveries
+  held-back a h e = go (unended_of a cluster) refl (last_blocking a cluster now block) refl e
+    where
+      go : (u : Option Recovery) → unended_of a cluster ≡ u → (l : Option Recovery) → last_blocking a cluster now block ≡ l → held_by a block u l ≡ Err h
+          → Any (IsHeldBack cluster now block h) a.recoveries
+      go (Some r) f l g e =
+          among (IsHeldBack cluster now block h) a.recoveries r (All-found open-one (Contains a.recoveries) a.recoveries r (All-contains_itself a.recoveries) f)
+          (subst (λ (x : Held). IsHeldBack cluster now block x r) (ap why e) (open-holds r (found-passes open-one a.recoveries r f)))
+      go None f (Some r) g e =
+          among (IsHeldBack cluster now block h) a.recoveries r
+          (All-found blocking-one (Contains a.recoveries) (reverse a.recoveries) r (All-reverse (Contains a.recoveries) a.recoveries (All-contains_itself a.recoveries)) g)
+          (subst (λ (x : Held). IsHeldBack cluster now block x r) (ap why e) (blocking-holds r (found-passes blocking-one (reverse a.recoveries) r g)))
+      go None f None g e = cc
+
+-- ---- what stays apart
+
+-- how much one recovery adds
+abbrev tick : List ℕ → Recovery → ℕ
+tick cluster r = cond (is_of cluster r && is_unended r) 1 0
+
+none-unended : (cluster : List ℕ) (now block : ℕ) (xs : List Recovery) → All (IsClear cluster now block) xs → count_unended cluster xs ≡ 0
+none-unended cluster now block [] all = refl
+none-unended cluster now block (x ∷ xs) all =
+    let here : tick cluster x ≡ 0 = ap (λ b. cond b 1 0) (clear-closed cluster now block x (All-head (IsClear cluster now block) x xs all)) in
+    let rest = none-unended cluster now block xs (All-tail (IsClear cluster now block) x xs all) in
+    let sum = sum_by-cons (tick cluster) x xs in
+    omega (arith, here, rest, sum)
+
+small : (cluster : List ℕ) (r : Recovery) → tick cluster r ≤ 1
+small cluster r = go (is_of cluster r && is_unended r)
+  where
+    go : (b : Bool) → cond b 1 0 ≤ 1
+    go true = omega arith
+    go false = omega arith
+
+pub begun-apart : (a : AuditState) (r : Recovery) → MayBegin a r → IsApart a → IsApart (begun a r)
+begun-apart a r may apart = record {
+  one = λ cluster. go cluster (is_of cluster r) refl;
+  audit = IsAudit-begun a r parts.0 apart.audit;
+}
+  where
+    parts : (r.id ≡ a.next) × All (IsClear r.cluster r.begun.0 may.block) a.recoveries
+    parts = apart-begins r.cluster r.begun.0 may.block a r.id may.answered
+
+    go : (cluster : List ℕ) (b : Bool) → is_of cluster r ≡ b → count_unended cluster (a.recoveries ++ r ∷ []) ≤ 1
+    go cluster true e =
+        let none : count_unended cluster a.recoveries ≡ 0 =
+        subst (λ (c : List ℕ). count_unended c a.recoveries ≡ 0) (of-cluster cluster r e) (none-unended r.cluster r.begun.0 may.block a.recoveries parts.1) in
+        let push = sum_by_push (tick cluster) a.recoveries r in
+        let most = small cluster r in
+        omega (arith, none, push, most)
+    go cluster false e =
+        let none : tick cluster r ≡ 0 = ap (λ b. cond (b && is_unended r) 1 0) e in
+        let push = sum_by_push (tick cluster) a.recoveries r in
+        let old = apart.one cluster in
+        omega (arith, none, push, old)
+
+-- a change that keeps ids and clusters, and after which none is unended that was ended
+module _ (f : Recovery → Recovery) (same : (r : Recovery) → (f r).id ≡ r.id) (cluster-same : (r : Recovery) → (f r).cluster ≡ r.cluster)
+    (stays : (r : Recovery) → is_unended (f r) ≡ true → is_unended r ≡ true) where
+  less : (cluster : List ℕ) (r : Recovery) → tick cluster (f r) ≤ tick cluster r
+  less cluster r =
+      let of : is_of cluster (f r) ≡ is_of cluster r = ap (λ c. pointwise nat_eq c cluster) (cluster-same r) in
+      subst (λ b. cond (b && is_unended (f r)) 1 0 ≤ tick cluster r) (sym of) (go (is_of cluster r) (is_unended (f r)) (is_unended r) (stays r))
+    where
+      go : (b x y : Bool) → (x ≡ true → y ≡ true) → cond (b && x) 1 0 ≤ cond (b && y) 1 0
+      go false x y h = omega arith
+      go true false y h = omega arith
+      go true true y h = subst (λ z. cond true 1 0 ≤ cond z 1 0) (sym (h refl)) (omega arith)
+
+  fewer : (cluster : List ℕ) (xs : List Recovery) → count_unended cluster (map f xs) ≤ count_unended cluster xs
+  fewer cluster [] = omega arith
+  fewer cluster (x ∷ xs) =
+      let here = less cluster x in
+      let rest = fewer cluster xs in
+      let new = sum_by-cons (tick cluster) (f x) (map f xs) in
+      let old = sum_by-cons (tick cluster) x xs in
+      omega (arith, here, rest, new, old)
+
+  changed-apart : (a : AuditState) → IsApart a → IsApart (record a { recoveries = map f a.recoveries })
+  changed-apart a apart = record {
+    one = λ cluster. let x = fewer cluster a.recoveries in let y = apart.one cluster in omega (arith, x, y);
+    audit = IsAudit-map f same a apart.audit;
+  }
+
+pub ended-apart : (a : AuditState) (id : ℕ) (at : Moment) (outcome : Ending) → is_open outcome ≡ false → IsApart a → IsApart (ended a id at outcome)
+ended-apart a id at outcome closes apart =
+    changed-apart (λ r. cond (r.id == id) (ended_so at outcome r) r) (λ r. ids r (r.id == id)) (λ r. clusters r (r.id == id)) (λ r. opens r (r.id == id)) a apart
+  where
+    ids : (r : Recovery) (b : Bool) → (cond b (ended_so at outcome r) r).id ≡ r.id
+    ids r true = refl
+    ids r false = refl
+
+    clusters : (r : Recovery) (b : Bool) → (cond b (ended_so at outcome r) r).cluster ≡ r.cluster
+    clusters r true = refl
+    clusters r false = refl
+
+    opens : (r : Recovery) (b : Bool) → is_unended (cond b (ended_so at outcome r) r) ≡ true → is_unended r ≡ true
+    opens r true h = absurd (false≢true (sym closes ∙ h))
+    opens r false h = h
+
+pub acknowledged-apart : (a : AuditState) (cluster : List ℕ) → IsApart a → IsApart (acknowledged a cluster)
+acknowledged-apart a cluster apart =
+    changed-apart (acknowledged_for cluster) (acknowledged-id cluster) (λ r. clusters r (is_of cluster r)) (λ r. opens r (is_of cluster r)) a apart
+  where
+    clusters : (r : Recovery) (b : Bool) → (cond b (record r { acked = true }) r).cluster ≡ r.cluster
+    clusters r true = refl
+    clusters r false = refl
+
+    opens : (r : Recovery) (b : Bool) → is_unended (cond b (record r { acked = true }) r) ≡ true → is_unended r ≡ true
+    opens r true h = h
+    opens r false h = h
+
+interrupted-ends : (at : Moment) (r : Recovery) → is_unended (interrupted at r) ≡ false
+interrupted-ends at r = go (is_unended r) refl
+  where
+    go : (b : Bool) → is_unended r ≡ b → is_unended (cond b (ended_so at ending.Interrupted r) r) ≡ false
+    go true e = refl
+    go false e = e
+
+pub closed-ends : (a : AuditState) (at : Moment) → All (λ r. is_unended r ≡ false) (closed a at).recoveries
+closed-ends a at =
+    All-map (λ (r : Recovery). is_unended r ≡ false) (interrupted at) a.recoveries (λ k d within. interrupted-ends at (get_or a.recoveries k d))
+
+none-open : (cluster : List ℕ) (xs : List Recovery) → All (λ r. is_unended r ≡ false) xs → count_unended cluster xs ≡ 0
+none-open cluster [] all = refl
+none-open cluster (x ∷ xs) all =
+    let here = tick-none (is_of cluster x) (is_unended x) (All-head (λ (r : Recovery). is_unended r ≡ false) x xs all) in
+    let rest = none-open cluster xs (All-tail (λ (r : Recovery). is_unended r ≡ false) x xs all) in
+    let sum = sum_by-cons (tick cluster) x xs in
+    omega (arith, here, rest, sum)
+  where
+    tick-none : (b x : Bool) → x ≡ false → cond (b && x) 1 0 ≡ zero
+    tick-none true x e = ap (λ y. cond y 1 0) e
+    tick-none false x e = refl
+
+pub closed-apart : (a : AuditState) (at : Moment) → IsAudit a → IsApart (closed a at)
+closed-apart a at is = record {
+  one = λ cluster. let none = none-open cluster (closed a at).recoveries (closed-ends a at) in omega (arith, none);
+  audit = IsAudit-map (interrupted at) (interrupted-id at) a is;
+}

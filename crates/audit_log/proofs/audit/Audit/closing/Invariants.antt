@@ -1,0 +1,7 @@
+use Rattle.std.proofs.Common.{◌≡◌, map, take}
+use Rattle.std.specs.Prelude.{filter}
+use Rattle.audit_log.specs.Audits.{interrupted, is_unended}
+use Rattle.audit_log.proofs.audit.Audit.closing.Given as goal
+
+abbrev pub invariant-loop-recovery : goal.invariant-loop-recovery
+invariant-loop-recovery l = l.list.items ≡ map (interrupted l.at) (filter is_unended (take l.recovery-index l.self.audit.recoveries))

@@ -1,0 +1,6 @@
+use Rattle.std.proofs.Common.{◌≡◌, take}
+use Rattle.audit_log.specs.Loading.{recoveries_in}
+use Rattle.audit_log.proofs.loading.recoveries_in.Given as goal
+
+abbrev pub invariant-loop-row : goal.invariant-loop-row
+invariant-loop-row l = l.recoveries.items ≡ recoveries_in (take l.row-index l.rows)

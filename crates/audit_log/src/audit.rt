@@ -1,0 +1,264 @@
+//! The recoveries that were begun (orchestrator's documentation, "Topology recovery", "Blocking, acknowledgements,
+//! anti-flapping").
+
+ghost use Rattle.std.specs.Prelude.{◌≡◌, ◌<◌, ◌≤◌, ◌^◌, ◌+◌, ◌-◌, ◌&&◌, ◌==◌, All, count_by, if◌then◌else◌, IfOk, IsSomeAnd, OnErr, OnOk, length, map, true, vec_len, vec_capacity};
+ghost use Rattle.std.specs.Option.{option_copied};
+ghost use Rattle.instance_keeper.specs.declared.recovery.Recovery.{Recovery as ARecovery};
+ghost use Rattle.audit_log.specs.Apart.{MayBegin};
+ghost use Rattle.audit_log.specs.Audits.{acknowledged, acknowledged_for, begun, closed, closing, count_new, ended, ended_so, interrupted, is_blocking, is_new, is_of, is_unended, last_blocking, may_begin, recovery_at, unended_of, IsAudit, StandsAt};
+
+use crate::Memory;
+use crate::held::Held;
+use instance_keeper::Recovery;
+use orch_base::{Ending, Moment};
+use std::alloc::Global;
+use std::marker::Model;
+
+fn is_of(recovery: &Recovery, cluster: &str) -> bool
+    ensures { result ≡ is_of cluster.now recovery.now }
+{
+    recovery.cluster.as_str().as_bytes() == cluster.as_bytes()
+}
+
+/// Whether a recovery isn't ended: it has no moment of its end, or no outcome. It takes no memory.
+pub fn is_unended(recovery: &Recovery) -> bool
+    ensures { result ≡ is_unended recovery.now }
+{
+    recovery.ended.is_none() || recovery.outcome == Ending::Unended
+}
+
+fn is_blocking(recovery: &Recovery, now: Moment, block: u64) -> bool
+    ensures { result ≡ is_blocking now.0 block recovery.now }
+{
+    !recovery.acked && now.0.saturating_sub(recovery.begun.0) < block
+}
+
+// Ends a recovery.
+fn end_so(recovery: &mut Recovery, at: Moment, outcome: Ending)
+    ensures { recovery.new ≡ ended_so at outcome recovery.old }
+{
+    recovery.ended = Some(at);
+    recovery.outcome = outcome;
+}
+
+// Ends a recovery that a restart interrupts.
+fn interrupt(recovery: &mut Recovery, at: Moment)
+    ensures { recovery.new ≡ interrupted at recovery.old }
+{
+    if is_unended(recovery) {
+        end_so(recovery, at, Ending::Interrupted);
+    }
+}
+
+fn interrupt_all(recoveries: &mut [Recovery], at: Moment)
+    ensures { recoveries.new ≡ map (interrupted at) recoveries.old }
+{
+    for recovery in recoveries.iter_mut() {
+        interrupt(recovery, at);
+    }
+}
+
+// Acknowledges a recovery of the cluster, and counts it where it wasn't acknowledged before.
+fn acknowledge(recovery: &mut Recovery, cluster: &str) -> u64
+    ensures after { recovery.new ≡ acknowledged_for cluster.now recovery.old }
+    ensures count { result ≡ (if is_new cluster.now recovery.old then 1 else 0) }
+{
+    if is_of(recovery, cluster) && !recovery.acked {
+        recovery.acked = true;
+        1
+    } else {
+        0
+    }
+}
+
+fn acknowledge_all(recoveries: &mut [Recovery], cluster: &str) -> u64
+    ensures after { recoveries.new ≡ map (acknowledged_for cluster.now) recoveries.old }
+    ensures count { result ≡ count_by (is_new cluster.now) recoveries.old }
+{
+    let mut count = 0;
+    for recovery in recoveries.iter_mut() {
+        count += acknowledge(recovery, cluster);
+    }
+    count
+}
+
+/// The recoveries that were begun, by rising id, and the next id.
+#[derive(Drop)]
+pub struct Audit {
+    recoveries: Vec<Recovery>,
+    next: u64,
+}
+
+impl Model for Audit {
+    ghost use Rattle.std.specs.Prelude.{◌-◌, vec_capacity, vec_len};
+    ghost use Rattle.audit_log.specs.Audits.{AuditRoom, IsAudit};
+
+    ghost Value = { AuditRoom };
+
+    ghost view = { λ a. record { audit = record { recoveries = a.recoveries.items; next = a.next }; spare = vec_capacity a.recoveries - vec_len a.recoveries } };
+
+    ghost invariant = { λ a. IsAudit (record { recoveries = a.recoveries.items; next = a.next }) };
+}
+
+impl Audit {
+    /// The audit of these recoveries, by rising id from 1 on, and of the next id, which is above theirs. It takes
+    /// no memory.
+    pub fn make(list: Vec<Recovery>, next: u64) -> Audit
+        requires { IsAudit (record { recoveries = list.items; next = next }) }
+        ensures { result.audit ≡ record { recoveries = list.items; next = next } }
+    {
+        Audit {
+            recoveries: list,
+            next,
+        }
+    }
+
+    /// The recoveries by rising id.
+    pub fn recoveries(&self) -> &[Recovery]
+        ensures list { result.now ≡ self.now.audit.recoveries }
+        ensures holds { IsAudit self.now.audit }
+    {
+        &self.recoveries
+    }
+
+    /// The id that the next recovery gets.
+    pub fn next(&self) -> u64
+        ensures { result ≡ self.now.audit.next }
+    {
+        self.next
+    }
+
+    /// The same audit once more.
+    pub fn copy(&self, alloc: Global) -> Result<Audit, Memory>
+        ensures { IfOk result (λ a. a.audit ≡ self.now.audit) }
+    {
+        let mut recoveries = Vec::with_capacity(alloc, self.recoveries.len())?;
+        for recovery in &self.recoveries {
+            recoveries.push(recovery.copy(alloc)?)?;
+        }
+        Ok(Audit {
+            recoveries,
+            next: self.next,
+        })
+    }
+
+    /// The recovery of an id. The time is logarithmic in their number.
+    pub fn recovery(&self, id: u64) -> Option<&Recovery>
+        ensures { option_copied result ≡ recovery_at self.now.audit id }
+    {
+        match self.index_of(id) {
+            Some(index) => Some(&self.recoveries[index]),
+            None => None,
+        }
+    }
+
+    // Where the recovery of an id stands.
+    fn index_of(&self, id: u64) -> Option<usize>
+        ensures { StandsAt id self.now.audit.recoveries result }
+    {
+        self.recoveries.binary_search_by_key(&id, |r| r.id).ok()
+    }
+
+    // The cluster's recovery that isn't ended.
+    fn unended_of(&self, cluster: &str) -> Option<&Recovery>
+        ensures { option_copied result ≡ unended_of self.now.audit cluster.now }
+    {
+        self.recoveries
+            .iter()
+            .find(|r| is_of(r, cluster) && is_unended(r))
+    }
+
+    // The cluster's last recovery that blocks.
+    fn last_blocking(&self, cluster: &str, now: Moment, block: u64) -> Option<&Recovery>
+        ensures { option_copied result ≡ last_blocking self.now.audit cluster.now now.0 block }
+    {
+        self.recoveries
+            .iter()
+            .rev()
+            .find(|r| is_of(r, cluster) && is_blocking(r, now, block))
+    }
+
+    /// The id of a recovery of a cluster that begins now. `Unended` names the cluster's recovery that isn't ended; else
+    /// `Blocked` names its last one that isn't acknowledged and began less than `block` seconds ago, and the first
+    /// moment at which it no longer blocks. Moments are at most 2^63, and `block` at most 1,000,000,000. It takes no
+    /// memory.
+    pub fn may_begin(&self, cluster: &str, now: Moment, block: u64) -> Result<u64, Held>
+        requires begun { All (λ r. r.begun.0 ≤ 2 ^ 63) self.now.audit.recoveries }
+        requires block { block ≤ 1000000000 }
+        ensures { result ≡ may_begin self.now.audit cluster.now now.0 block }
+    {
+        if let Some(unended) = self.unended_of(cluster) {
+            return Err(Held::Unended(unended.id));
+        }
+        match self.last_blocking(cluster, now, block) {
+            Some(last) => Err(Held::Blocked {
+                id: last.id,
+                until: Moment(last.begun.0 + block),
+            }),
+            None => Ok(self.next),
+        }
+    }
+
+    /// Makes room for one more recovery. `Err` is want of memory.
+    pub fn reserve(&mut self) -> Result<(), Memory>
+        ensures ok { OnOk result (1 ≤ self.new.spare) }
+        ensures audit { self.new.audit ≡ self.old.audit }
+    {
+        self.recoveries.reserve(1)?;
+        Ok(())
+    }
+
+    /// Begins a recovery for which there is room. `may_begin` gave its id, which is below 2^64 - 1. It takes no memory.
+    pub fn begin(&mut self, r: Recovery)
+        requires spare { 1 ≤ self.old.spare }
+        requires may { MayBegin self.old.audit r }
+        requires room { r.id < 2 ^ 64 - 1 }
+        ensures audit { self.new.audit ≡ begun self.old.audit r }
+        ensures spare { self.new.spare + 1 ≡ self.old.spare }
+    {
+        self.next = r.id + 1;
+        self.recoveries.push_reserved(r);
+    }
+
+    /// Ends the recovery of this id, which isn't ended. It takes no memory, and the time is logarithmic in the number
+    /// of recoveries.
+    pub fn end(&mut self, id: u64, at: Moment, outcome: Ending)
+        requires { IsSomeAnd (recovery_at self.old.audit id) (λ r. is_unended r ≡ true) }
+        ensures { self.new ≡ record self.old { audit = ended self.old.audit id at outcome } }
+    {
+        if let Some(index) = self.index_of(id) {
+            end_so(&mut self.recoveries[index], at, outcome);
+        }
+    }
+
+    /// Acknowledges all recoveries of a cluster, and gives how many weren't acknowledged. It takes no memory.
+    pub fn ack(&mut self, cluster: &str) -> u64
+        ensures count { result ≡ count_new self.old.audit cluster.now }
+        ensures after { self.new ≡
+            record self.old { audit = acknowledged self.old.audit cluster.now } }
+    {
+        acknowledge_all(&mut self.recoveries, cluster)
+    }
+
+    /// The recoveries that `close` would change, as they would be then, by rising id. `Err` is want of memory.
+    pub fn closing(&self, alloc: Global, at: Moment) -> Result<Vec<Recovery>, Memory>
+        ensures { IfOk result (λ list. list.items ≡ closing self.now.audit at) }
+    {
+        let mut list = Vec::new(alloc);
+        for recovery in &self.recoveries {
+            if is_unended(recovery) {
+                let mut closed = recovery.copy(alloc)?;
+                interrupt(&mut closed, at);
+                list.push(closed)?;
+            }
+        }
+        Ok(list)
+    }
+
+    /// Ends each unended recovery as interrupted, as a restart does. It takes no memory.
+    pub fn close(&mut self, at: Moment)
+        ensures { self.new ≡ record self.old { audit = closed self.old.audit at } }
+    {
+        interrupt_all(&mut self.recoveries, at);
+    }
+}

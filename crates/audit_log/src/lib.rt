@@ -1,0 +1,17 @@
+//! The audit of recoveries, and when another recovery of a cluster may begin.
+#![tactic(auto)]
+
+mod audit;
+mod held;
+mod laws;
+mod loading;
+mod threads;
+
+pub use audit::{Audit, is_unended};
+pub use held::Held;
+pub use laws::{
+    audits_stay_apart, begins_are_apart, kept_recoveries_make_an_audit, restarts_end_recoveries,
+};
+pub use loading::recoveries_in;
+/// Want of memory.
+pub use orch_base::Memory;

@@ -1,0 +1,88 @@
+-- What each command does, and which commands are built.
+use Rattle.std.specs.Prelude.{◌≡◌, ◌⊎◌, ℕ, Bool, true, false, List, codes, Option, Some, None, if◌then◌else◌}
+use Rattle.std.specs.Str.{bytes_eq}
+use Rattle.commands.specs.declared.name.CommandName.{CommandName}
+use Rattle.commands.specs.declared.name.CommandName.TheVariants as name
+use Rattle.command_routes.specs.declared.route.Question.TheVariants as question
+use Rattle.command_routes.specs.declared.route.Planner.{Planner}
+use Rattle.command_routes.specs.declared.route.Planner.TheVariants as planner
+use Rattle.command_routes.specs.declared.route.Route.{Route}
+use Rattle.command_routes.specs.declared.route.Route.TheVariants.{Discovers, Forgets, Asks, Begins, Unbuilt}
+use Rattle.commands.specs.Names.{name_of, word_of}
+
+-- what a command does
+abbrev pub route_of : CommandName → Route
+route_of name.MoveUp = Begins planner.Coordinates
+route_of name.MoveUpReplicas = Begins planner.Coordinates
+route_of name.MoveBelow = Begins planner.Coordinates
+route_of name.Repoint = Begins planner.Coordinates
+route_of name.TakeSiblings = Begins planner.Coordinates
+route_of name.TakeMaster = Begins planner.Coordinates
+route_of name.MoveGtid = Begins planner.Gtids
+route_of name.MoveReplicasGtid = Begins planner.Gtids
+route_of name.EnableGtid = Begins planner.Gtids
+route_of name.DisableGtid = Begins planner.Gtids
+route_of name.Relocate = Unbuilt
+route_of name.RelocateReplicas = Unbuilt
+route_of name.RegroupReplicas = Unbuilt
+route_of name.DetachReplica = Begins planner.Coordinates
+route_of name.ReattachReplica = Begins planner.Coordinates
+route_of name.ResetReplica = Begins planner.Coordinates
+route_of name.StartReplica = Begins planner.Coordinates
+route_of name.StopReplica = Begins planner.Coordinates
+route_of name.RestartReplica = Begins planner.Coordinates
+route_of name.SetReadOnly = Begins planner.Coordinates
+route_of name.SetWriteable = Begins planner.Coordinates
+route_of name.Discover = Discovers
+route_of name.Forget = Forgets
+route_of name.BeginDowntime = Unbuilt
+route_of name.EndDowntime = Unbuilt
+route_of name.RegisterCandidate = Unbuilt
+route_of name.Recover = Unbuilt
+route_of name.GracefulMasterTakeover = Unbuilt
+route_of name.AckClusterRecoveries = Unbuilt
+route_of name.Topology = Asks question.Topology
+route_of name.WhichMaster = Asks question.WhichMaster
+route_of name.WhichReplicas = Asks question.WhichReplicas
+route_of name.WhichCluster = Asks question.WhichCluster
+route_of name.WhichClusterInstances = Asks question.WhichClusterInstances
+route_of name.Clusters = Asks question.Clusters
+route_of name.AllInstances = Asks question.AllInstances
+route_of name.Find = Asks question.Find
+route_of name.ReplicationAnalysis = Unbuilt
+route_of name.AuditRecoveries = Unbuilt
+route_of name.DisableGlobalRecoveries = Unbuilt
+route_of name.EnableGlobalRecoveries = Unbuilt
+route_of name.CheckGlobalRecoveries = Unbuilt
+
+abbrev pub is_built : Route → Bool
+is_built Discovers = true
+is_built Forgets = true
+is_built (Asks question) = true
+is_built (Begins planner) = true
+is_built Unbuilt = false
+
+-- which permission and plan a job goes by
+abbrev pub planner_of : Route → Option Planner
+planner_of Discovers = None
+planner_of Forgets = None
+planner_of (Asks question) = None
+planner_of (Begins planner) = Some planner
+planner_of Unbuilt = None
+
+-- there is such a command, and it is built
+abbrev pub is_built_name : Option CommandName → Bool
+is_built_name None = false
+is_built_name (Some name) = is_built (route_of name)
+
+-- run, or the word of a command that is built
+abbrev pub is_built_command : List ℕ → Bool
+is_built_command word = if bytes_eq word (codes "run") then true else is_built_name (name_of word)
+
+-- the word of a command that is built
+abbrev pub IsWordBuilt : List ℕ → CommandName → Type 0
+IsWordBuilt text name = (text ≡ word_of name) × (is_built (route_of name) ≡ true)
+
+-- run, or such a word
+abbrev pub IsBuiltWord : List ℕ → Type 0
+IsBuiltWord text = (text ≡ codes "run") ⊎ ((name : CommandName) × IsWordBuilt text name)

@@ -1,0 +1,9 @@
+//! What each command does, and which commands are built.
+#![tactic(auto)]
+
+mod laws;
+mod route;
+mod threads;
+
+pub use laws::built_words_have_routes;
+pub use route::{Planner, Question, Route, is_built_command};

@@ -1,0 +1,136 @@
+//! What a command does.
+
+ghost use Rattle.std.specs.Prelude.{◌≡◌};
+ghost use Rattle.command_routes.specs.Routes.{is_built, is_built_command, planner_of, route_of};
+
+use commands::CommandName;
+
+/// What a command asks the book.
+#[derive(Clone, Copy, Debug, PartialEq, Eq)]
+pub enum Question {
+    /// `topology`: the trees of an instance's cluster.
+    Topology,
+    /// `which-master`: an instance's source.
+    WhichMaster,
+    /// `which-replicas`: an instance's replicas.
+    WhichReplicas,
+    /// `which-cluster`: an instance's cluster.
+    WhichCluster,
+    /// `which-cluster-instances`: the instances of an instance's cluster.
+    WhichClusterInstances,
+    /// `clusters`: all clusters.
+    Clusters,
+    /// `all-instances`: all instances.
+    AllInstances,
+    /// `find`: the instances whose names have a pattern.
+    Find,
+}
+
+/// Which commands' permission and plan a job goes by.
+#[derive(Clone, Copy, Debug, PartialEq, Eq)]
+pub enum Planner {
+    /// The commands that move or change servers by binary log coordinates.
+    Coordinates,
+    /// The commands that move servers by GTIDs, or have them find their places by them.
+    Gtids,
+}
+
+/// What a command does.
+#[derive(Clone, Copy, Debug, PartialEq, Eq)]
+pub enum Route {
+    /// Reads a server, which becomes an instance.
+    Discovers,
+    /// Removes an instance.
+    Forgets,
+    /// Asks the book, and changes nothing.
+    Asks(Question),
+    /// Begins a job.
+    Begins(Planner),
+    /// It isn't built.
+    Unbuilt,
+}
+
+impl Route {
+    /// What the command does.
+    pub fn of(name: CommandName) -> Route
+        ensures { result ≡ route_of name }
+    {
+        match name {
+            CommandName::Discover => Route::Discovers,
+            CommandName::Forget => Route::Forgets,
+            CommandName::Topology => Route::Asks(Question::Topology),
+            CommandName::WhichMaster => Route::Asks(Question::WhichMaster),
+            CommandName::WhichReplicas => Route::Asks(Question::WhichReplicas),
+            CommandName::WhichCluster => Route::Asks(Question::WhichCluster),
+            CommandName::WhichClusterInstances => Route::Asks(Question::WhichClusterInstances),
+            CommandName::Clusters => Route::Asks(Question::Clusters),
+            CommandName::AllInstances => Route::Asks(Question::AllInstances),
+            CommandName::Find => Route::Asks(Question::Find),
+            CommandName::MoveUp
+            | CommandName::MoveUpReplicas
+            | CommandName::MoveBelow
+            | CommandName::Repoint
+            | CommandName::TakeSiblings
+            | CommandName::TakeMaster
+            | CommandName::DetachReplica
+            | CommandName::ReattachReplica
+            | CommandName::ResetReplica
+            | CommandName::StartReplica
+            | CommandName::StopReplica
+            | CommandName::RestartReplica
+            | CommandName::SetReadOnly
+            | CommandName::SetWriteable => Route::Begins(Planner::Coordinates),
+            CommandName::MoveGtid
+            | CommandName::MoveReplicasGtid
+            | CommandName::EnableGtid
+            | CommandName::DisableGtid => Route::Begins(Planner::Gtids),
+            CommandName::Relocate
+            | CommandName::RelocateReplicas
+            | CommandName::RegroupReplicas
+            | CommandName::BeginDowntime
+            | CommandName::EndDowntime
+            | CommandName::RegisterCandidate
+            | CommandName::Recover
+            | CommandName::GracefulMasterTakeover
+            | CommandName::AckClusterRecoveries
+            | CommandName::ReplicationAnalysis
+            | CommandName::AuditRecoveries
+            | CommandName::DisableGlobalRecoveries
+            | CommandName::EnableGlobalRecoveries
+            | CommandName::CheckGlobalRecoveries => Route::Unbuilt,
+        }
+    }
+
+    /// Whether it is built.
+    pub fn is_built(self) -> bool
+        ensures { result ≡ is_built self }
+    {
+        match self {
+            Route::Discovers | Route::Forgets | Route::Asks(_) | Route::Begins(_) => true,
+            Route::Unbuilt => false,
+        }
+    }
+
+    /// Which permission and plan the job of the command goes by: none where it begins no job.
+    pub fn planner(self) -> Option<Planner>
+        ensures { result ≡ planner_of self }
+    {
+        match self {
+            Route::Begins(planner) => Some(planner),
+            Route::Discovers | Route::Forgets | Route::Asks(_) | Route::Unbuilt => None,
+        }
+    }
+}
+
+/// Whether a command of this word is built: `run`, and each command whose route isn't `Unbuilt`. It takes no memory.
+pub fn is_built_command(word: &str) -> bool
+    ensures { result ≡ is_built_command word.now }
+{
+    if word == "run" {
+        return true;
+    }
+    match CommandName::read(word) {
+        Some(name) => Route::of(name).is_built(),
+        None => false,
+    }
+}

@@ -1,0 +1,48 @@
+//! Sets on the heap.
+
+ghost use Rattle.std.specs.Prelude.{◌≡◌, IfOk};
+
+use crate::Memory;
+use gtid_sets::GtidSet;
+use std::alloc::Global;
+use std::marker::Model;
+
+/// A GTID set on the heap, which contracts see as that set.
+#[derive(Drop)]
+pub struct BoxedSet {
+    set: Box<GtidSet>,
+}
+
+impl Model for BoxedSet {
+    ghost use Rattle.std.specs.Prelude.{List, box_value};
+    ghost use Rattle.gtid_sets.specs.declared.interval.Interval.{Interval};
+
+    ghost Value = { List Interval };
+
+    ghost view = { λ s. box_value s.set };
+}
+
+impl BoxedSet {
+    /// This set.
+    pub fn new(alloc: Global, set: GtidSet) -> Result<BoxedSet, Memory>
+        ensures { IfOk result (λ s. s ≡ set) }
+    {
+        Ok(BoxedSet {
+            set: Box::new(alloc, set)?,
+        })
+    }
+
+    /// The set.
+    pub fn as_set(&self) -> &GtidSet
+        ensures { result.now ≡ self.now }
+    {
+        &self.set
+    }
+
+    /// The same set once more.
+    pub fn copy(&self, alloc: Global) -> Result<BoxedSet, Memory>
+        ensures { IfOk result (λ s. s ≡ self.now) }
+    {
+        BoxedSet::new(alloc, self.set.copy()?)
+    }
+}

@@ -1,0 +1,80 @@
+-- Of the rows of the table exactly one applies.
+use Rattle.std.proofs.Common.{◌≡◌, ℕ, ◌≤◌, Bool, true, false, cond, List, [], ◌∷◌, Option, None, Some, refl, sym, ◌∙◌, ap, arith}
+use Rattle.std.specs.Prelude.{◌↔◌, All, count_by, find, unwrap_or}
+use Rattle.std.proofs.lemmas.Bool.{false≢true}
+use Rattle.std.proofs.lemmas.List.Elements.{All-nil, All-cons, All-head, All-tail}
+use Rattle.std.proofs.lemmas.Option.{same_Some}
+use Rattle.std.proofs.lemmas.Bool.Decides.{nat_tests}
+use Rattle.failure_analysis.specs.declared.code.Counts.{Counts}
+use Rattle.failure_analysis.specs.Table.{action_by, action_of, code_of, conditions, is_of_row, problems, AreCounts}
+use Rattle.orch_base.specs.declared.code.Code.{Code}
+use Rattle.orch_base.specs.declared.code.Code.TheVariants.{NoProblem}
+
+abbrev counts : Bool → Bool → ℕ → ℕ → ℕ → ℕ → Counts
+counts h ok n v r l = record { has_source = h; valid = ok; replicas = n; valid_replicas = v; replicating = r; lagging = l }
+
+one : (h ok : Bool) (n v r l : ℕ) → l ≤ r → r ≤ v → v ≤ n → count_by (λ b. b) (conditions (counts h ok n v r l)) ≡ 1
+one true true n v r l a b d = grind (arith, nat_tests)
+one true false n v r l a b d = grind (arith, nat_tests)
+one false true n v r l a b d = grind (arith, nat_tests)
+one false false n v r l a b d = grind (arith, nat_tests)
+
+is-code : (code : Code) (h ok : Bool) (n v r l : ℕ) → l ≤ r → r ≤ v → v ≤ n → is_of_row code (counts h ok n v r l) ≡ true → code_of (counts h ok n v r l) ≡ code
+unfolding code_of
+is-code NoProblem h ok n v r l a b d e = absurd (false≢true e)
+is-code _ true true n v r l a b d e = grind (arith, nat_tests)
+is-code _ true false n v r l a b d e = grind (arith, nat_tests)
+is-code _ false true n v r l a b d e = grind (arith, nat_tests)
+is-code _ false false n v r l a b d e = grind (arith, nat_tests)
+
+acts : (h ok : Bool) (n v r l : ℕ) → l ≤ r → r ≤ v → v ≤ n → action_of (code_of (counts h ok n v r l)) ≡ action_by (counts h ok n v r l)
+unfolding code_of
+acts true true n v r l a b d = grind (arith, nat_tests)
+acts true false n v r l a b d = grind (arith, nat_tests)
+acts false true n v r l a b d = grind (arith, nat_tests)
+acts false false n v r l a b d = grind (arith, nat_tests)
+
+-- any counts are some numbers
+pub one-row : (c : Counts) → AreCounts c → count_by (λ b. b) (conditions c) ≡ 1
+one-row c are = one c.has_source c.valid c.replicas c.valid_replicas c.replicating c.lagging are.lagging are.replicating are.valid
+
+pub row-code : (c : Counts) (code : Code) → AreCounts c → is_of_row code c ≡ true → code_of c ≡ code
+row-code c code are = is-code code c.has_source c.valid c.replicas c.valid_replicas c.replicating c.lagging are.lagging are.replicating are.valid
+
+pub action-of : (c : Counts) → AreCounts c → action_of (code_of c) ≡ action_by c
+action-of c are = acts c.has_source c.valid c.replicas c.valid_replicas c.replicating c.lagging are.lagging are.replicating are.valid
+
+-- ---- the last row
+
+module _ {X : Type 0} (p : X → Bool) where
+  found-passes : (xs : List X) (y : X) → find p xs ≡ Some y → p y ≡ true
+  found-passes [] y e = cc
+  found-passes (x ∷ xs) y e = go (p x) refl e (found-passes xs y)
+    where
+      go : (b : Bool) → p x ≡ b → cond b (Some x) (find p xs) ≡ Some y → (find p xs ≡ Some y → p y ≡ true) → p y ≡ true
+      go true f g rest = ap p (sym (same_Some x y g)) ∙ f
+      go false f g rest = rest g
+
+  none-passes : (xs : List X) → find p xs ≡ None → All (λ x. p x ≡ false) xs
+  none-passes [] e = All-nil (λ x. p x ≡ false)
+  none-passes (x ∷ xs) e = go (p x) refl e (none-passes xs)
+    where
+      go : (b : Bool) → p x ≡ b → cond b (Some x) (find p xs) ≡ None → (find p xs ≡ None → All (λ y. p y ≡ false) xs) → All (λ y. p y ≡ false) (x ∷ xs)
+      go true f g rest = cc
+      go false f g rest = All-cons (λ y. p y ≡ false) x xs f (rest g)
+
+  none-found : (xs : List X) → All (λ x. p x ≡ false) xs → find p xs ≡ None
+  none-found [] all = refl
+  none-found (x ∷ xs) all =
+      ap (λ b. cond b (Some x) (find p xs)) (All-head (λ y. p y ≡ false) x xs all) ∙ none-found xs (All-tail (λ y. p y ≡ false) x xs all)
+
+pub last-row : (c : Counts) → (code_of c ≡ NoProblem) ↔ All (λ code. is_of_row code c ≡ false) problems
+unfolding code_of
+last-row c = (
+  λ e. go (find (λ code. is_of_row code c) problems) refl e,
+  λ all. ap (λ o. unwrap_or o NoProblem) (none-found (λ code. is_of_row code c) problems all),
+)
+  where
+    go : (o : Option Code) → find (λ code. is_of_row code c) problems ≡ o → unwrap_or o NoProblem ≡ NoProblem → All (λ code. is_of_row code c ≡ false) problems
+    go None f e = none-passes (λ code. is_of_row code c) problems f
+    go (Some code) f e = absurd (false≢true (ap (λ k. is_of_row k c) (sym e) ∙ found-passes (λ k. is_of_row k c) problems code f))

@@ -1,0 +1,7 @@
+use Rattle.std.proofs.Common.{◌≡◌, take}
+use Rattle.std.specs.Prelude.{filter_map}
+use Rattle.failure_analysis.specs.Analysis.{entry_at}
+use Rattle.failure_analysis.proofs.entry.analyse.Given as goal
+
+abbrev pub invariant-loop-no : goal.invariant-loop-no
+invariant-loop-no l = l.entries.items ≡ filter_map (entry_at l.book) (take l.no-index l.order)

@@ -1,0 +1,217 @@
+-- Each turn of a run is its passages, and leaves all that is kept speaking of the servers.
+use Rattle.std.proofs.Common.{◌≡◌, ◌∙◌, ℕ, Bool, true, false, List, [], ◌∷◌, length, refl, sym, ap, Option, Some, None, zero, suc}
+use Rattle.std.specs.Prelude.{All, IfSome, is_some, nat_lt, not, replicate, slice_index_or, slice_set, if◌then◌else◌}
+use Rattle.std.specs.Option.{option_map}
+use Rattle.std.proofs.lemmas.List.{length-map, length-set}
+use Rattle.std.proofs.lemmas.List.Elements.{All-set}
+use Rattle.orch_base.specs.declared.server.Settings.{Settings}
+use Rattle.orch_base.specs.declared.server.ServerNo.{ServerNo}
+use Rattle.orch_base.specs.Memory.{next_count}
+use Rattle.instance_keeper.specs.declared.bridge.Bridge.{Bridge}
+use Rattle.instance_keeper.specs.declared.observation.Instance.{Instance}
+use Rattle.instance_keeper.specs.declared.observation.Observation.{Observation}
+use Rattle.instance_keeper.specs.declared.row.Row.{Row}
+use Rattle.instance_keeper.specs.declared.row.Row.TheVariants as row
+use Rattle.instance_keeper.specs.Book.{BookState, IsBook, after_put, after_row, empty_book, instance_at, renewed, renewed_book, row_fits, stored_over}
+use Rattle.instance_keeper.specs.Leases.{given_back}
+use Rattle.opening_book.specs.Counting.{counted, loaded}
+use Rattle.server_model.specs.Run.{run}
+use Rattle.turns.specs.declared.turn.Turn.{Turn}
+use Rattle.turns.specs.declared.turn.Turn.TheVariants as turn
+use Rattle.scenarios.specs.Turns.{IsTurn}
+use Rattle.operations.specs.Jobs.{Job}
+use Rattle.operations.specs.Turns.{Turned, is_going}
+use Rattle.job_laws.specs.Flights.{Flight, no_leases, without_leases}
+use Rattle.job_laws.specs.Leases.{leases_of}
+use Rattle.job_laws.specs.Passages as pass
+use Rattle.job_laws.specs.Passages.{AllMayPass, Passage, passing, stored_if, turned_by}
+use Rattle.job_laws.proofs.Listed.{given-leases}
+use Rattle.jobs_in_flight.specs.Jobs.{book_turned, job_at, job_exchanges, job_observation, jobs_turned, stored, with_job, without_job}
+use Rattle.orch_core.specs.Jobs.{turn_of, turned_at}
+use Rattle.orch_core.specs.Polls.{empty_slots, reading, slot_at}
+use Rattle.orch_core.specs.Runs.{step}
+use Rattle.orch_core.specs.States.{State, IsSlot}
+use Rattle.flight_laws.specs.Flights.{flight_of, moment_at, passages_of, takes, takes_over}
+use Rattle.flight_laws.specs.Ready.{Ready}
+use Rattle.flight_laws.proofs.Outcomes.{Leaves-command}
+
+-- ---- a reading that is stored
+
+leases-stored : (b : BookState) (o : Option Observation) → (stored b o).leases ≡ b.leases
+leases-stored b None = refl
+leases-stored b (Some o) = over (instance_at b o.no)
+  where
+    over : (x : Option Instance) → (stored_over b o x).leases ≡ b.leases
+    over None = refl
+    over (Some kept) = go (nat_lt o.read kept.read)
+      where
+        go : (old : Bool) → (if old then b else renewed_book b o (Some (renewed kept o))).leases ≡ b.leases
+        go true = refl
+        go false = refl
+
+-- a flight with these bridges
+abbrev with_rings : Flight → List (List Bridge) → Flight
+with_rings f rings = record f { rings = rings }
+
+stored-flown : (f : Flight) (b : BookState) (o : Option Observation) → with_rings f (stored b o).rings ≡ stored_if (takes b o) (with_rings f b.rings) o
+stored-flown f b None = refl
+stored-flown f b (Some o) = over (instance_at b o.no)
+  where
+    over : (x : Option Instance) → with_rings f (stored_over b o x).rings ≡ stored_if (takes_over x o) (with_rings f b.rings) (Some o)
+    over None = refl
+    over (Some kept) = go (nat_lt o.read kept.read)
+      where
+        go : (old : Bool) → with_rings f (if old then b else renewed_book b o (Some (renewed kept o))).rings ≡ stored_if (not old) (with_rings f b.rings) (Some o)
+        go true = refl
+        go false = refl
+
+-- ---- a poll
+
+module _ (s : State) (p : ℕ) (n : ServerNo) where
+  poll-flown : (known : Bool) → record (flight_of s) { slots = (if known then slice_set s.slots p (Some (reading s n)) else s.slots) }
+      ≡ passing (flight_of s) (if known then pass.Polling p n (next_count s.reads) (moment_at s) ∷ [] else [])
+  poll-flown true = refl
+  poll-flown false = refl
+
+  poll-may : (known : Bool) → AllMayPass (flight_of s) (if known then pass.Polling p n (next_count s.reads) (moment_at s) ∷ [] else [])
+  poll-may true = (tt, tt)
+  poll-may false = tt
+
+  pub poll-slots : (count : ℕ) (known : Bool) → IsSlot count (Some (reading s n)) → All (IsSlot count) s.slots → All (IsSlot count) (if known then slice_set s.slots p (Some (reading s n)) else s.slots)
+  poll-slots count true here all = All-set (IsSlot count) s.slots p (Some (reading s n)) here all
+  poll-slots count false here all = all
+
+  pub poll-length : (known : Bool) → length (if known then slice_set s.slots p (Some (reading s n)) else s.slots) ≡ length s.slots
+  poll-length true = length-set s.slots p (Some (reading s n))
+  poll-length false = refl
+
+-- ---- a job's turn
+
+module _ (s : State) (id : ℕ) where
+  -- what the turn leaves, by whether the job goes on
+  turn-flown : (t : Turned) (going : Bool)
+      → record (flight_of s) {
+        world = run s.world t.exchanges;
+        rings = (if going then stored s.book t.observation else Rattle.jobs_in_flight.specs.Jobs.without_leases (stored s.book t.observation) id).rings;
+        jobs = (if going then with_job s.jobs id t.job else without_job s.jobs id);
+        leases = leases_of (if going then stored s.book t.observation else Rattle.jobs_in_flight.specs.Jobs.without_leases (stored s.book t.observation) id).leases;
+      } ≡ stored_if (takes s.book t.observation) (record (flight_of s) {
+        world = run s.world t.exchanges;
+        jobs = (if going then with_job s.jobs id t.job else without_job s.jobs id);
+        leases = (if going then leases_of s.book.leases else without_leases (leases_of s.book.leases) id);
+      }) t.observation
+  turn-flown t true =
+      ap (λ (l : List (Option ℕ)). record (flight_of s) { world = run s.world t.exchanges; rings = (stored s.book t.observation).rings; jobs = with_job s.jobs id t.job; leases = leases_of l }) (leases-stored s.book t.observation)
+      ∙ stored-flown (record (flight_of s) { world = run s.world t.exchanges; jobs = with_job s.jobs id t.job }) s.book t.observation
+  turn-flown t false =
+      ap (λ (l : List (Option ℕ)). record (flight_of s) { world = run s.world t.exchanges; rings = (stored s.book t.observation).rings; jobs = without_job s.jobs id; leases = leases_of (given_back l id) }) (leases-stored s.book t.observation)
+      ∙ ap (λ (l : ℕ → Option ℕ). record (flight_of s) { world = run s.world t.exchanges; rings = (stored s.book t.observation).rings; jobs = without_job s.jobs id; leases = l }) (given-leases s.book.leases id)
+      ∙ stored-flown (record (flight_of s) { world = run s.world t.exchanges; jobs = without_job s.jobs id; leases = without_leases (leases_of s.book.leases) id }) s.book t.observation
+
+  -- by whether there is such a job
+  job-flown : (o : Option Job)
+      → record (flight_of s) {
+        world = run s.world (job_exchanges (option_map (turn_of s) o));
+        rings = (book_turned s.book id (option_map (turn_of s) o)).rings;
+        jobs = jobs_turned s.jobs id (option_map (turn_of s) o);
+        leases = leases_of (book_turned s.book id (option_map (turn_of s) o)).leases;
+      } ≡ turned_by (flight_of s) id (next_count s.reads) (moment_at s) (takes s.book (job_observation (option_map (turn_of s) o))) o
+  job-flown None = refl
+  job-flown (Some j) = turn-flown (turn_of s j) (is_going (turn_of s j).step)
+
+-- ---- a restart
+
+rings-rows : (b : BookState) (rows : List Row) → (Rattle.std.specs.Prelude.fold after_row b rows).rings ≡ b.rings
+rings-rows b [] = refl
+rings-rows b (r ∷ rows) = rings-rows (after_row b r) rows ∙ one (row_fits (length b.names) r) r
+  where
+    put : (r : Row) → (after_put b r).rings ≡ b.rings
+    put (row.Instance i) = refl
+    put (row.Downtime d) = refl
+    put (row.Candidate c) = refl
+    put (row.Recovery r) = refl
+    put (row.Switch enabled) = refl
+
+    one : (fit : Bool) (r : Row) → (if fit then after_put b r else b).rings ≡ b.rings
+    one true r = put r
+    one false r = refl
+
+leases-rows : (b : BookState) (rows : List Row) → (Rattle.std.specs.Prelude.fold after_row b rows).leases ≡ b.leases
+leases-rows b [] = refl
+leases-rows b (r ∷ rows) = leases-rows (after_row b r) rows ∙ one (row_fits (length b.names) r) r
+  where
+    put : (r : Row) → (after_put b r).leases ≡ b.leases
+    put (row.Instance i) = refl
+    put (row.Downtime d) = refl
+    put (row.Candidate c) = refl
+    put (row.Recovery r) = refl
+    put (row.Switch enabled) = refl
+
+    one : (fit : Bool) (r : Row) → (if fit then after_put b r else b).leases ≡ b.leases
+    one true r = put r
+    one false r = refl
+
+none-at : (count n : ℕ) → slice_index_or (replicate {A = Option ℕ} count None) n None ≡ None
+none-at zero n = refl
+none-at (suc count) zero = refl
+none-at (suc count) (suc n) = none-at count n
+
+none-leased : (count : ℕ) → leases_of (replicate count None) ≡ no_leases
+none-leased count = λ i n. none-at count n i
+
+pub rings-loaded : (settings : List Settings) (rows : List Row) → (loaded settings rows).rings ≡ replicate (length settings) []
+rings-loaded settings rows = rings-rows (empty_book settings) (counted (length settings) rows)
+
+pub leases-loaded : (settings : List Settings) (rows : List Row) → leases_of (loaded settings rows).leases ≡ no_leases
+leases-loaded settings rows = ap leases_of (leases-rows (empty_book settings) (counted (length settings) rows)) ∙ none-leased (length settings)
+
+-- the settings are as many as the names
+pub settings-count : (b : BookState) → IsBook b → length b.settings ≡ length b.names
+settings-count b is = sym (length-map b.settings (λ x. x.name)) ∙ sym (ap length is.named)
+
+restart-flown : (count : ℕ) (rows : List Row) (s : State) → Ready count s → flight_of (step rows s turn.Restart) ≡ passing (flight_of s) (pass.Restarting ∷ [])
+restart-flown count rows s ready =
+    let b = s.book in
+    let rings : (loaded b.settings rows).rings ≡ replicate (length b.rings) [] = rings-loaded b.settings rows ∙ ap (λ (n : ℕ). replicate n []) (settings-count b ready.book ∙ sym ready.book.rings) in
+    let slots : empty_slots ≡ replicate (length s.slots) None = ap (λ (n : ℕ). replicate n None) (sym ready.slots) in
+    ap (λ (x : List (List Bridge)). record (flight_of s) { rings = x; slots = empty_slots; jobs = []; leases = leases_of (loaded b.settings rows).leases }) rings
+    ∙ ap (λ (x : List (Option Observation)). record (flight_of s) { rings = replicate (length b.rings) []; slots = x; jobs = []; leases = leases_of (loaded b.settings rows).leases }) slots
+    ∙ ap (λ (l : ℕ → Option ℕ). record (flight_of s) { rings = replicate (length b.rings) []; slots = replicate (length s.slots) None; jobs = []; leases = l }) (leases-loaded b.settings rows)
+
+-- ---- every turn
+
+pub flown : (count : ℕ) (rows : List Row) (s : State) (t : Turn) → Ready count s → IsTurn count t → flight_of (step rows s t) ≡ passing (flight_of s) (passages_of s t)
+flown count rows s (turn.Write n size) ready is = refl
+flown count rows s (turn.Fetch n) ready is = refl
+flown count rows s (turn.Apply n) ready is = refl
+flown count rows s (turn.Fail n) ready is = refl
+flown count rows s (turn.Heal n) ready is = refl
+flown count rows s (turn.Cut n link) ready is = refl
+flown count rows s (turn.Join n link) ready is = refl
+flown count rows s (turn.Rotate n) ready is = refl
+flown count rows s (turn.Tick seconds) ready is = refl
+flown count rows s (turn.Job job) ready is = job-flown s job (job_at s.jobs job)
+flown count rows s turn.Scan ready is = refl
+flown count rows s (turn.PollRead p n) ready is = poll-flown s p n (is_some (instance_at s.book n))
+flown count rows s (turn.PollStore p) ready is =
+    ap (λ (l : List (Option ℕ)). record (flight_of s) { rings = (stored s.book (slot_at s p)).rings; slots = slice_set s.slots p None; leases = leases_of l }) (leases-stored s.book (slot_at s p))
+    ∙ ap (λ (f : Flight). record f { slots = slice_set f.slots p None }) (stored-flown (flight_of s) s.book (slot_at s p))
+flown count rows s (turn.Command c) ready is = (Leaves-command count s c ready is).flown
+flown count rows s turn.Restart ready is = restart-flown count rows s ready
+
+pub may-pass : (count : ℕ) (s : State) (t : Turn) → Ready count s → IsTurn count t → AllMayPass (flight_of s) (passages_of s t)
+may-pass count s (turn.Write n size) ready is = ((is.1, tt), tt)
+may-pass count s (turn.Fetch n) ready is = ((tt, tt), tt)
+may-pass count s (turn.Apply n) ready is = ((tt, tt), tt)
+may-pass count s (turn.Fail n) ready is = ((tt, tt), tt)
+may-pass count s (turn.Heal n) ready is = ((tt, tt), tt)
+may-pass count s (turn.Cut n link) ready is = ((tt, tt), tt)
+may-pass count s (turn.Join n link) ready is = ((tt, tt), tt)
+may-pass count s (turn.Rotate n) ready is = ((tt, tt), tt)
+may-pass count s (turn.Tick seconds) ready is = tt
+may-pass count s (turn.Job job) ready is = (tt, tt)
+may-pass count s turn.Scan ready is = tt
+may-pass count s (turn.PollRead p n) ready is = poll-may s p n (is_some (instance_at s.book n))
+may-pass count s (turn.PollStore p) ready is = (tt, tt)
+may-pass count s (turn.Command c) ready is = (Leaves-command count s c ready is).may
+may-pass count s turn.Restart ready is = (tt, tt)

@@ -1,0 +1,5 @@
+pub mod Ready
+pub mod Outcomes
+pub mod Flown
+pub mod Readiness
+pub mod Openings

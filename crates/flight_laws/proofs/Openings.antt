@@ -1,0 +1,140 @@
+-- A run begins held and sound: the bridges of an opening are those that the servers show.
+use Rattle.std.proofs.Common.{◌≡◌, ◌∙◌, ℕ, ◌+◌, Bool, true, false, List, [], ◌∷◌, length, refl, sym, ap, subst, Option, Some, None}
+use Rattle.std.specs.Prelude.{All, IfSome, ◌&&◌, fold, is_none, replicate, slice_index_or, slice_set, if◌then◌else◌}
+use Rattle.std.specs.List.{cons_option}
+use Rattle.std.proofs.lemmas.List.Elements.{All-nil, All-cons, All-head, All-tail, All-replicate, All-set}
+use Rattle.orch_base.specs.declared.server.Moment.{Moment}
+use Rattle.orch_base.specs.declared.server.ServerNo.{ServerNo}
+use Rattle.server_words.specs.declared.status.StatusFault.TheVariants as seeing
+use Rattle.instance_keeper.specs.declared.bridge.Bridge.{Bridge}
+use Rattle.instance_keeper.specs.declared.row.Change.{Change}
+use Rattle.instance_keeper.specs.declared.row.Change.TheVariants as change
+use Rattle.instance_keeper.specs.declared.row.Row.{Row}
+use Rattle.instance_keeper.specs.declared.row.Row.TheVariants as row
+use Rattle.instance_keeper.specs.Book.{BookState}
+use Rattle.instance_keeper.specs.Bridges.{bridge_in, ring_at, ringed, with_bridge}
+use Rattle.opening_book.specs.Counting.{loaded}
+use Rattle.opening_book.specs.Opening.{after_opening, missing, missing_from, opened_book, opening_instance, put_instance}
+use Rattle.opening_book.specs.Seeing.{seen_in}
+use Rattle.server_model.specs.declared.server.Server.{Server}
+use Rattle.server_model.specs.Gtids.{shown_of, status}
+use Rattle.server_model.specs.Safe.{Safe, Placed}
+use Rattle.server_model.specs.Worlds.{World, server_at}
+use Rattle.replication_laws.proofs.Keeping.{Placed-safe}
+use Rattle.opening_laws.proofs.Openings.{Safe-opened}
+use Rattle.scenarios.specs.declared.scenario.Scenario.{Scenario}
+use Rattle.scenarios.specs.Scenarios.{IsScenario, flushes_of, room_of, settings_of}
+use Rattle.scenarios.specs.Turns.{pollers}
+use Rattle.job_laws.specs.Flights.{Held, Sound, IsShown, IsShownBridged, StandsIn, no_leases}
+use Rattle.job_laws.specs.Held.{HeldJob, Spans}
+use Rattle.job_laws.specs.Leases.{HasLeases, Leases, leases_of}
+use Rattle.job_laws.specs.Sound.{AllBridged}
+use Rattle.job_laws.proofs.Bridging.{stands-by}
+use Rattle.job_laws.proofs.Lists.{All-at, All-ring}
+use Rattle.job_laws.proofs.Showing.{Shows-seen, Bridged-seen}
+use Rattle.job_laws.proofs.Spanning.{spans-by}
+use Rattle.orch_core.specs.Scenarios.{start, start_changes, start_moment, start_world}
+use Rattle.flight_laws.specs.Flights.{flight_of}
+use Rattle.flight_laws.proofs.Flown.{leases-loaded, rings-loaded}
+
+-- ---- what an opening puts
+
+-- a change of an opening puts the instance of a server that is there
+record Opens (w : World) (at : Moment) (c : Change) : Type 0 where
+  n : ℕ
+  server : Server
+  there : server_at w n ≡ Some server
+  is : c ≡ change.Put (row.Instance (opening_instance w at n server))
+
+Opens-option : (w : World) (at : Moment) (o : Option Change) (cs : List Change) → IfSome o (Opens w at) → All (Opens w at) cs → All (Opens w at) (cons_option o cs)
+Opens-option w at None cs here rest = rest
+Opens-option w at (Some c) cs here rest = All-cons (Opens w at) c cs here rest
+
+Opens-instance : (w : World) (at : Moment) (n : ℕ) (o : Option Server) → server_at w n ≡ o → IfSome (put_instance w at n o) (Opens w at)
+Opens-instance w at n None there = tt
+Opens-instance w at n (Some s) there = record { n = n; server = s; there = there; is = refl }
+
+Opens-missing : (w : World) (at : Moment) (b : BookState) (n : ℕ) (known : Bool) → IfSome (missing w at b n known) (Opens w at)
+Opens-missing w at b n known = go (known && is_none (slice_index_or b.instances n None))
+  where
+    go : (lacks : Bool) → IfSome (if lacks then put_instance w at n (server_at w n) else None) (Opens w at)
+    go true = Opens-instance w at n (server_at w n) refl
+    go false = tt
+
+Opens-from : (w : World) (at : Moment) (b : BookState) (n : ℕ) (known : List Bool) → All (Opens w at) (missing_from w at b n known)
+Opens-from w at b n [] = All-nil (Opens w at)
+Opens-from w at b n (k ∷ ks) = Opens-option w at (missing w at b n k) (missing_from w at b (n + 1) ks) (Opens-missing w at b n k) (Opens-from w at b (n + 1) ks)
+
+-- ---- the rings
+
+-- what holds of each bridge that a server shows
+module _ (w : World) (at : Moment) (P : Bridge → Type 0) (shown : (n : ServerNo) (b : Bridge) → bridge_in n (seen_in (status w n.0)) ≡ Some b → P b) where
+  ring-all : (rings : List (List Bridge)) (n : ServerNo) (o : Option Bridge) → ((b : Bridge) → o ≡ Some b → P b) → All (All P) rings → All (All P) (ringed rings n o)
+  ring-all rings n None one all = all
+  ring-all rings n (Some b) one all =
+      All-set (All P) rings n.0 (with_bridge (ring_at rings n) b) (All-ring P (ring_at rings n) b (one b refl) (All-at (All P) rings n.0 [] (All-nil P) all)) all
+
+  -- an instance that an opening puts shows what its server shows
+  put-shown : (n : ℕ) (s : Server) → server_at w n ≡ Some s → (b : Bridge) → (if s.up && s.desk then bridge_in (record { 0 = n }) (Some (shown_of w s)) else None) ≡ Some b → P b
+  put-shown n s there b h = go (s.up && s.desk) refl h
+    where
+      go : (reached : Bool) → (s.up && s.desk) ≡ reached → (if reached then bridge_in (record { 0 = n }) (Some (shown_of w s)) else None) ≡ Some b → P b
+      go true up h =
+          let answers : seen_in (status w n) ≡ Some (shown_of w s) =
+          ap (λ (o : Option Server). seen_in (Rattle.server_model.specs.Gtids.status_in w o)) there ∙ ap (λ (r : Bool). seen_in (if r then Rattle.std.specs.Prelude.Ok (shown_of w s) else Rattle.std.specs.Prelude.Err seeing.Unreachable)) up in
+          shown (record { 0 = n }) b (ap (bridge_in (record { 0 = n })) answers ∙ h)
+      go false up h = cc
+
+  opened-rings : (b : BookState) (cs : List Change) → All (Opens w at) cs → All (All P) b.rings → All (All P) (opened_book b cs).rings
+  opened-rings b [] opens all = all
+  opened-rings b (c ∷ cs) opens all =
+      let first = All-head (Opens w at) c cs opens in
+      opened-rings (after_opening b c) cs (All-tail (Opens w at) c cs opens)
+      (subst (λ (x : Change). All (All P) (after_opening b x).rings) (sym first.is)
+      (ring-all b.rings (record { 0 = first.n }) _ (put-shown first.n first.server first.there) all))
+
+opened-leases : (w : World) (at : Moment) (b : BookState) (cs : List Change) → All (Opens w at) cs → (opened_book b cs).leases ≡ b.leases
+opened-leases w at b [] opens = refl
+opened-leases w at b (c ∷ cs) opens =
+    let first = All-head (Opens w at) c cs opens in
+    opened-leases w at (after_opening b c) cs (All-tail (Opens w at) c cs opens) ∙ ap (λ (x : Change). (after_opening b x).leases) first.is
+
+-- ---- the whole state
+
+module _ (s : Scenario) (wait : ℕ) (rows : List Row) where
+  leases-start : leases_of (start s wait rows).book.leases ≡ no_leases
+  leases-start =
+      ap leases_of (opened-leases (start_world s) (start_moment s rows) (loaded (settings_of s) rows) (start_changes s rows) (Opens-from (start_world s) (start_moment s rows) (loaded (settings_of s) rows) 0 s.known))
+      ∙ leases-loaded (settings_of s) rows
+
+  rings-start : (P : Bridge → Type 0) → ((n : ServerNo) (b : Bridge) → bridge_in n (seen_in (status (start_world s) n.0)) ≡ Some b → P b) → All (All P) (start s wait rows).book.rings
+  rings-start P shown =
+      opened-rings (start_world s) (start_moment s rows) P shown (loaded (settings_of s) rows) (start_changes s rows) (Opens-from (start_world s) (start_moment s rows) (loaded (settings_of s) rows) 0 s.known)
+      (subst (All (All P)) (sym (rings-loaded (settings_of s) rows)) (All-replicate (All P) (length (settings_of s)) [] (All-nil P)))
+
+  module _ (is : IsScenario s) where
+    safe : Safe (start_world s)
+    safe = Safe-opened s.opening (room_of s) (flushes_of s) is.checked
+
+    placed : Placed (start_world s)
+    placed = Placed-safe (start_world s) safe
+
+    pub Held-start : Held (flight_of (start s wait rows))
+    Held-start = record {
+      placed = placed;
+      rings = rings-start (Spans (start_world s)) (λ n b h. spans-by (start_world s) n (seen_in (status (start_world s) n.0)) b (λ seen is. Shows-seen (start_world s) n.0 seen placed is) h);
+      slots = All-replicate (λ slot. IfSome slot (IsShown (start_world s))) pollers None tt;
+      jobs = All-nil (HeldJob (start_world s));
+      leased = record {
+        each = All-nil (HasLeases (leases_of (start s wait rows).book.leases));
+        named = λ n id h. let none : None ≡ Some id = sym (ap (λ (l : Leases). l n) leases-start) ∙ h in cc;
+      };
+    }
+
+    pub Sound-start : Sound (flight_of (start s wait rows))
+    Sound-start = record {
+      safe = safe;
+      rings = rings-start (StandsIn (start_world s)) (λ n b h. stands-by (start_world s) n (seen_in (status (start_world s) n.0)) b (λ seen is. Bridged-seen (start_world s) n.0 seen safe is) h);
+      slots = All-replicate (λ slot. IfSome slot (IsShownBridged (start_world s))) pollers None tt;
+      jobs = All-nil (λ j. AllBridged (start_world s) j.seen);
+    }

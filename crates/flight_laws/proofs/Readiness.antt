@@ -1,0 +1,217 @@
+-- Each turn leaves all that is kept speaking of the servers, and so does an opening.
+use Rattle.std.proofs.Common.{◌≡◌, ◌∙◌, ℕ, ◌<◌, Bool, true, false, List, [], ◌∷◌, length, refl, sym, ap, subst, Option, Some, None, arith}
+use Rattle.std.specs.Prelude.{All, IfSome, IsTrue, is_some, not, fold, replicate, slice_set, if◌then◌else◌}
+use Rattle.std.specs.Option.{option_map}
+use Rattle.std.proofs.lemmas.List.{length-map, length-replicate, length-set}
+use Rattle.std.proofs.lemmas.List.Elements.{All-nil, All-head, All-tail, All-filter, All-replicate, All-set}
+use Rattle.orch_base.specs.Memory.{next_count}
+use Rattle.instance_keeper.specs.declared.observation.Observation.{Observation}
+use Rattle.instance_keeper.specs.declared.row.Change.{Change}
+use Rattle.instance_keeper.specs.declared.row.Change.TheVariants as change
+use Rattle.instance_keeper.specs.declared.row.Row.{Row}
+use Rattle.instance_keeper.specs.declared.row.Row.TheVariants as row
+use Rattle.instance_keeper.specs.Book.{BookState, IsBook, fits, instance_at, shown_by}
+use Rattle.instance_keeper.proofs.Books.{change_is, put_is}
+use Rattle.opening_book.specs.Opening.{after_opening, opened_book}
+use Rattle.opening_book.specs.Counting.{loaded}
+use Rattle.opening_book.proofs.Following.{names-opening}
+use Rattle.server_model.specs.Run.{Exchange, AllAllowed, run}
+use Rattle.turns.specs.declared.turn.Turn.{Turn}
+use Rattle.turns.specs.declared.turn.Turn.TheVariants as turn
+use Rattle.scenarios.specs.declared.scenario.Scenario.{Scenario}
+use Rattle.scenarios.specs.Scenarios.{IsScenario, settings_of}
+use Rattle.scenarios.specs.Turns.{IsTurn, pollers}
+use Rattle.operations.specs.Jobs.{Job}
+use Rattle.operations.proofs.Ending.{turn-moves}
+use Rattle.operations.specs.Turns.{Turned, is_going}
+use Rattle.operations.proofs.Allowing.{turn-allowed}
+use Rattle.operations.proofs.Named.{named-after}
+use Rattle.job_laws.proofs.Lists.{All-at, All-find, All-replaced}
+use Rattle.job_laws.proofs.Observing.{turn-observes}
+use Rattle.orch_core.specs.Commands.{jobs_updated}
+use Rattle.jobs_in_flight.specs.Jobs.{book_turned, job_at, job_exchanges, jobs_turned, stored, with_job, without_job, without_leases}
+use Rattle.orch_core.specs.Jobs.{turn_of}
+use Rattle.orch_core.specs.Polls.{command_outcome, reading, slot_at}
+use Rattle.orch_core.specs.Runs.{step}
+use Rattle.orch_core.specs.Scenarios.{start, start_changes, start_moment, start_world}
+use Rattle.orch_core.specs.States.{State, IsSlot}
+use Rattle.orch_core.specs.Turns.{exchanges_of}
+use Rattle.orch_core.proofs.Servers.{servers-run, servers-start}
+use Rattle.orch_core.proofs.Sources.{sources-run}
+use Rattle.orch_core.proofs.Starts.{fits-opening, sources-start}
+use Rattle.orch_core.proofs.States.{Allowed-turn, names-loaded, names-stored, reading_known}
+use Rattle.flight_laws.proofs.Flown.{settings-count, poll-slots, poll-length}
+use Rattle.flight_laws.proofs.Outcomes.{Leaves-command}
+use Rattle.flight_laws.specs.Ready.{IsReadyJob, Ready}
+use Rattle.flight_laws.proofs.Ready.{IsBook-freed, IsBook-loaded, IsBook-observed, IsBook-ringed, IsBook-stored}
+
+-- ---- exchanges
+
+-- the servers go on, and the moment
+Ready-run : (count : ℕ) (s : State) (es : List Exchange) (moment : ℕ) → Ready count s → AllAllowed s.world es → Ready count (record s { world = run s.world es; moment = moment })
+Ready-run count s es moment ready allowed = record {
+  servers = servers-run s.world es ∙ ready.servers;
+  book = ready.book;
+  names = ready.names;
+  slots = ready.slots;
+  observed = ready.observed;
+  sources = sources-run s.world es allowed ready.sources;
+  jobs = ready.jobs;
+}
+
+Ready-turn : (count : ℕ) (s : State) (t : Turn) (moment : ℕ) → Ready count s → IsTurn count t → Ready count (record s { world = run s.world (exchanges_of t); moment = moment })
+Ready-turn count s t moment ready is = Ready-run count s (exchanges_of t) moment ready (Allowed-turn count s.world t is).0
+
+-- ---- a job's turn
+
+names-turned : (b : BookState) (o : Option Observation) (id : ℕ) (going : Bool) → (if going then stored b o else without_leases (stored b o) id).names ≡ b.names
+names-turned b o id true = names-stored b o
+names-turned b o id false = names-stored b o
+
+module _ (count : ℕ) (s : State) (id : ℕ) (ready : Ready count s) where
+  Ready-by : (t : Turned) (going : Bool) → AllAllowed s.world t.exchanges → IsReadyJob count t.job → IsBook (stored s.book t.observation) → (reads : ℕ)
+      → Ready count (record s {
+        world = run s.world t.exchanges;
+        book = (if going then stored s.book t.observation else without_leases (stored s.book t.observation) id);
+        reads = reads;
+        jobs = (if going then with_job s.jobs id t.job else without_job s.jobs id);
+      })
+  Ready-by t true allowed named book reads = record {
+    servers = servers-run s.world t.exchanges ∙ ready.servers;
+    book = book;
+    names = ap length (names-stored s.book t.observation) ∙ ready.names;
+    slots = ready.slots;
+    observed = ready.observed;
+    sources = sources-run s.world t.exchanges allowed ready.sources;
+    jobs = All-replaced (IsReadyJob count) s.jobs id t.job named ready.jobs;
+  }
+  Ready-by t false allowed named book reads = record {
+    servers = servers-run s.world t.exchanges ∙ ready.servers;
+    book = IsBook-freed (stored s.book t.observation) id book;
+    names = ap length (names-stored s.book t.observation) ∙ ready.names;
+    slots = ready.slots;
+    observed = ready.observed;
+    sources = sources-run s.world t.exchanges allowed ready.sources;
+    jobs = All-filter (λ (k : Job). not (Rattle.std.specs.Prelude.nat_eq k.id id)) (IsReadyJob count) s.jobs ready.jobs;
+  }
+
+  Ready-job : (o : Option Job) → job_at s.jobs id ≡ o → (reads : ℕ)
+      → Ready count (record s {
+        world = run s.world (job_exchanges (option_map (turn_of s) o));
+        book = book_turned s.book id (option_map (turn_of s) o);
+        reads = reads;
+        jobs = jobs_turned s.jobs id (option_map (turn_of s) o);
+      })
+  Ready-job None at reads = record {
+    servers = ready.servers;
+    book = ready.book;
+    names = ready.names;
+    slots = ready.slots;
+    observed = ready.observed;
+    sources = ready.sources;
+    jobs = ready.jobs;
+  }
+  Ready-job (Some j) at reads =
+      let is : IsReadyJob count j = All-find (IsReadyJob count) (λ (k : Job). Rattle.std.specs.Prelude.nat_eq k.id id) s.jobs j ready.jobs at in
+      Ready-by (turn_of s j) (is_going (turn_of s j).step) (turn-allowed s.world (next_count s.reads) (record { 0 = s.moment }) j)
+      (record { named = named-after count s.world (next_count s.reads) (record { 0 = s.moment }) j is.named; waited = (turn-moves s.world (next_count s.reads) (record { 0 = s.moment }) j is.waited).waited })
+      (IsBook-observed count s ready (next_count s.reads) (record { 0 = s.moment }) (turn_of s j).observation (λ x is. turn-observes s.world (next_count s.reads) (record { 0 = s.moment }) j x is))
+      reads
+
+-- ---- every turn
+
+pub Ready-step : (count : ℕ) (rows : List Row) (s : State) (t : Turn) → Ready count s → IsTurn count t → Ready count (step rows s t)
+Ready-step count rows s (turn.Write n size) ready is = Ready-turn count s (turn.Write n size) _ ready is
+Ready-step count rows s (turn.Fetch n) ready is = Ready-turn count s (turn.Fetch n) _ ready is
+Ready-step count rows s (turn.Apply n) ready is = Ready-turn count s (turn.Apply n) _ ready is
+Ready-step count rows s (turn.Fail n) ready is = Ready-turn count s (turn.Fail n) _ ready is
+Ready-step count rows s (turn.Heal n) ready is = Ready-turn count s (turn.Heal n) _ ready is
+Ready-step count rows s (turn.Cut n link) ready is = Ready-turn count s (turn.Cut n link) _ ready is
+Ready-step count rows s (turn.Join n link) ready is = Ready-turn count s (turn.Join n link) _ ready is
+Ready-step count rows s (turn.Rotate n) ready is = Ready-turn count s (turn.Rotate n) _ ready is
+Ready-step count rows s (turn.Tick seconds) ready is = Ready-turn count s (turn.Tick seconds) _ ready is
+Ready-step count rows s (turn.Job job) ready is = Ready-job count s job ready (job_at s.jobs job) refl _
+Ready-step count rows s turn.Scan ready is = Ready-turn count s turn.Scan _ ready is
+Ready-step count rows s (turn.PollRead p n) ready is =
+    let known : IsSlot count (Some (reading s n)) =
+    subst (λ (k : ℕ). IsSlot k (Some (reading s n))) ready.servers (reading_known s.world n (next_count s.reads) s.moment ready.sources (subst (λ (k : ℕ). n.0 < k) (sym ready.servers) is.1)) in
+    record {
+      servers = ready.servers;
+      book = ready.book;
+      names = ready.names;
+      slots = poll-length s p n (is_some (instance_at s.book n)) ∙ ready.slots;
+      observed = poll-slots s p n count (is_some (instance_at s.book n)) known ready.observed;
+      sources = ready.sources;
+      jobs = ready.jobs;
+    }
+Ready-step count rows s (turn.PollStore p) ready is =
+    let known : IsSlot count (slot_at s p) = All-at (IsSlot count) s.slots p None tt ready.observed in
+    record {
+      servers = ready.servers;
+      book = IsBook-stored s.book (slot_at s p) ready.book (subst (λ (k : ℕ). IsSlot k (slot_at s p)) (sym ready.names) known);
+      names = ap length (names-stored s.book (slot_at s p)) ∙ ready.names;
+      slots = length-set s.slots p None ∙ ready.slots;
+      observed = All-set (IsSlot count) s.slots p None tt ready.observed;
+      sources = ready.sources;
+      jobs = ready.jobs;
+    }
+Ready-step count rows s (turn.Command c) ready is =
+    let leaves = Leaves-command count s c ready is in
+    record {
+      servers = ready.servers;
+      book = leaves.book;
+      names = ap length leaves.names ∙ ready.names;
+      slots = ready.slots;
+      observed = ready.observed;
+      sources = ready.sources;
+      jobs = subst (λ (k : ℕ). All (IsReadyJob k) (jobs_updated s.jobs (command_outcome s c).book)) ready.names leaves.jobs;
+    }
+Ready-step count rows s turn.Restart ready is =
+    let few : length s.book.settings ≡ length s.book.names = settings-count s.book ready.book in
+    let small = ready.book.small in
+    record {
+      servers = ready.servers;
+      book = IsBook-loaded s.book.settings rows (omega (arith, few, small));
+      names = ap length (names-loaded s.book.settings rows) ∙ (length-map s.book.settings (λ x. x.name) ∙ (few ∙ ready.names));
+      slots = length-replicate {A = Option Observation} pollers None;
+      observed = All-replicate (IsSlot count) pollers None tt;
+      sources = ready.sources;
+      jobs = All-nil (IsReadyJob count);
+    }
+
+-- ---- an opening
+
+IsBook-opening : (b : BookState) (c : Change) → IsBook b → IsTrue (fits (length b.names) c) → IsBook (after_opening b c)
+IsBook-opening b (change.Remove t k) is fit = change_is b (change.Remove t k) is fit
+IsBook-opening b (change.Put (row.Instance i)) is fit = IsBook-ringed _ i.no (shown_by i) (put_is b (row.Instance i) is fit)
+IsBook-opening b (change.Put (row.Downtime d)) is fit = put_is b (row.Downtime d) is fit
+IsBook-opening b (change.Put (row.Candidate c)) is fit = put_is b (row.Candidate c) is fit
+IsBook-opening b (change.Put (row.Recovery r)) is fit = put_is b (row.Recovery r) is fit
+IsBook-opening b (change.Put (row.Switch enabled)) is fit = put_is b (row.Switch enabled) is fit
+
+names-opened : (b : BookState) (cs : List Change) → (opened_book b cs).names ≡ b.names
+names-opened b [] = refl
+names-opened b (c ∷ cs) = names-opened (after_opening b c) cs ∙ names-opening b c
+
+IsBook-opened : (b : BookState) (cs : List Change) → IsBook b → All (λ c. IsTrue (fits (length b.names) c)) cs → IsBook (opened_book b cs)
+IsBook-opened b [] is all = is
+IsBook-opened b (c ∷ cs) is all =
+    IsBook-opened (after_opening b c) cs (IsBook-opening b c is (All-head (λ x. IsTrue (fits (length b.names) x)) c cs all))
+    (subst (λ (n : ℕ). All (λ x. IsTrue (fits n x)) cs) (sym (ap length (names-opening b c))) (All-tail (λ x. IsTrue (fits (length b.names) x)) c cs all))
+
+pub Ready-start : (s : Scenario) (wait : ℕ) (rows : List Row) → IsScenario s → Ready (length s.opening.servers) (start s wait rows)
+Ready-start s wait rows is =
+    let b = loaded (settings_of s) rows in
+    let count : length (settings_of s) ≡ length s.opening.servers = length-map s.opening.servers (λ i. i.settings) in
+    let few = is.checked.listed.few in
+    let names : length b.names ≡ length s.opening.servers = ap length (names-loaded (settings_of s) rows) ∙ (length-map (settings_of s) (λ x. x.name) ∙ count) in
+    record {
+      servers = servers-start s;
+      book = IsBook-opened b (start_changes s rows) (IsBook-loaded (settings_of s) rows (omega (arith, count, few)))
+          (fits-opening (start_world s) (start_moment s rows) b s.known (sources-start s is) (names ∙ sym (servers-start s)));
+      names = ap length (names-opened b (start_changes s rows)) ∙ names;
+      slots = length-replicate {A = Option Observation} pollers None;
+      observed = All-replicate (IsSlot (length s.opening.servers)) pollers None tt;
+      sources = sources-start s is;
+      jobs = All-nil (IsReadyJob (length s.opening.servers));
+    }

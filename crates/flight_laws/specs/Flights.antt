@@ -1,0 +1,107 @@
+-- A state of a run as a flight, and each turn as passages of it.
+use Rattle.std.specs.Prelude.{ℕ, ◌+◌, ◌&&◌, nat_lt, Bool, true, false, not, is_some, if◌then◌else◌, List, [], ◌∷◌, Option, Some, None, Result, Ok, Err}
+use Rattle.orch_base.specs.Memory.{next_count}
+use Rattle.orch_base.specs.declared.server.Moment.{Moment}
+use Rattle.orch_base.specs.declared.server.ServerNo.{ServerNo}
+use Rattle.instance_keeper.specs.declared.observation.Instance.{Instance}
+use Rattle.instance_keeper.specs.declared.observation.Observation.{Observation}
+use Rattle.instance_keeper.specs.Book.{BookState, instance_at}
+use Rattle.commands.specs.declared.refusal.Refusal.{Refusal}
+use Rattle.command_routes.specs.declared.route.Planner.{Planner}
+use Rattle.command_jobs.specs.Jobs.{leases_by, leases_with, plan_by, plan_with, planner_for, refusal_by}
+use Rattle.commands.specs.declared.turn.Command.{Command}
+use Rattle.asking_commands.specs.Answers.{permitted}
+use Rattle.server_words.specs.declared.changes.Event.TheVariants as event
+use Rattle.server_model.specs.Run.{Write, Fetch, Apply, Befall, Rotate}
+use Rattle.turns.specs.declared.turn.Turn.{Turn}
+use Rattle.turns.specs.declared.turn.Turn.TheVariants as turn
+use Rattle.operations.specs.Jobs.{Job, job_with}
+use Rattle.job_laws.specs.Flights.{Flight}
+use Rattle.job_laws.specs.Leases.{leases_of}
+use Rattle.job_laws.specs.Passages.{Passage}
+use Rattle.job_laws.specs.Passages as pass
+use Rattle.orch_core.specs.Commands.{reads_server, removes}
+use Rattle.jobs_in_flight.specs.Jobs.{job_observation}
+use Rattle.orch_core.specs.Jobs.{turned_at}
+use Rattle.orch_core.specs.Polls.{reading, slot_at}
+use Rattle.orch_core.specs.States.{State}
+
+-- what is kept beside the instances: the servers, the bridges, the slots, the jobs, and who has each lease
+abbrev pub flight_of : State → Flight
+flight_of s = record { world = s.world; rings = s.book.rings; slots = s.slots; jobs = s.jobs; leases = leases_of s.book.leases }
+
+-- ---- which readings the book takes
+
+-- of an instance that it has, unless it is older than the kept one
+abbrev pub takes_over : Option Instance → Observation → Bool
+takes_over None o = false
+takes_over (Some kept) o = not (nat_lt o.read kept.read)
+
+abbrev pub takes : BookState → Option Observation → Bool
+takes b None = false
+takes b (Some o) = takes_over (instance_at b o.no) o
+
+-- a discovery that reached its server also of an instance that it lacks
+abbrev pub takes_first : Option Instance → Observation → Bool
+takes_first None o = true
+takes_first (Some kept) o = not (nat_lt o.read kept.read)
+
+abbrev pub discovers : BookState → Observation → Bool
+discovers b o = is_some o.seen && takes_first (instance_at b o.no) o
+
+-- ---- the passages of each turn
+
+abbrev pub moment_at : State → Moment
+moment_at s = record { 0 = s.moment }
+
+-- a poll that reads a server which the book knows
+abbrev pub by_poll : State → ℕ → ServerNo → List Passage
+by_poll s p n = if is_some (instance_at s.book n) then pass.Polling p n (next_count s.reads) (moment_at s) ∷ [] else []
+
+abbrev pub by_discovery : State → ServerNo → List Passage
+by_discovery s i = if discovers s.book (reading s i) then pass.Discovering i (next_count s.reads) (moment_at s) ∷ [] else []
+
+abbrev pub by_removal : Result Unit Refusal → ServerNo → List Passage
+by_removal (Ok permit) i = pass.Forgetting i ∷ []
+by_removal (Err r) i = []
+
+-- discover, forget, and the commands that only ask
+abbrev pub by_instance : State → Command → Option ServerNo → List Passage
+by_instance s c None = []
+by_instance s c (Some i) = if reads_server c.name then by_discovery s i else (if removes c.name then by_removal (permitted s.book c) i else [])
+
+-- the job that a command begins, by its planner
+abbrev pub job_by : State → Command → Planner → Job
+job_by s c p = job_with (s.last_job + 1) s.configuration.wait (plan_by s.world s.book c p)
+
+-- the job that a command begins, and the servers of which that job takes the leases
+abbrev pub job_begun : State → Command → Job
+job_begun s c = job_with (s.last_job + 1) s.configuration.wait (plan_with s.world s.book c (planner_for c.name))
+
+abbrev pub leases_begun : State → Command → List ServerNo
+leases_begun s c = leases_with s.book c (planner_for c.name)
+
+abbrev pub by_permission : State → Command → Planner → Option Refusal → List Passage
+by_permission s c p None = pass.Beginning (leases_by s.book c p) (job_by s c p) ∷ []
+by_permission s c p (Some r) = []
+
+abbrev pub by_command : State → Command → Option Planner → List Passage
+by_command s c None = by_instance s c c.i
+by_command s c (Some p) = by_permission s c p (refusal_by s.world s.book c p)
+
+abbrev pub passages_of : State → Turn → List Passage
+passages_of s (turn.Write n size) = pass.Exchanging (Write n.0 size) ∷ []
+passages_of s (turn.Fetch n) = pass.Exchanging (Fetch n.0) ∷ []
+passages_of s (turn.Apply n) = pass.Exchanging (Apply n.0) ∷ []
+passages_of s (turn.Fail n) = pass.Exchanging (Befall n.0 event.Fail) ∷ []
+passages_of s (turn.Heal n) = pass.Exchanging (Befall n.0 event.Heal) ∷ []
+passages_of s (turn.Cut n link) = pass.Exchanging (Befall n.0 (event.Cut link)) ∷ []
+passages_of s (turn.Join n link) = pass.Exchanging (Befall n.0 (event.Join link)) ∷ []
+passages_of s (turn.Rotate n) = pass.Exchanging (Rotate n.0) ∷ []
+passages_of s (turn.Tick seconds) = []
+passages_of s (turn.Job job) = pass.Turning job (next_count s.reads) (moment_at s) (takes s.book (job_observation (turned_at s job))) ∷ []
+passages_of s turn.Scan = []
+passages_of s (turn.PollRead p n) = by_poll s p n
+passages_of s (turn.PollStore p) = pass.Storing p (takes s.book (slot_at s p)) ∷ []
+passages_of s (turn.Command c) = by_command s c.command (planner_for c.command.name)
+passages_of s turn.Restart = pass.Restarting ∷ []

@@ -1,0 +1,93 @@
+-- Unended jobs: how one is found, what its turn leaves of the jobs and the book, and what it answers.
+use Rattle.std.specs.Prelude.{ℕ, ◌+◌, ◌≤◌, ◌<◌, ◌==◌, Bool, not, is_some, if◌then◌else◌, List, [], ◌∷◌, find, filter, map, Option, Some, None}
+use Rattle.std.specs.Option.{option_map, option_and_then}
+use Rattle.orch_base.specs.Memory.{next_count}
+use Rattle.instance_keeper.specs.declared.observation.Observation.{Observation}
+use Rattle.instance_keeper.specs.Book.{BookState, after_store}
+use Rattle.instance_keeper.specs.Leases.{given_back}
+use Rattle.job_plans.specs.declared.act.Look.{Look}
+use Rattle.job_plans.specs.Acts.{foretold}
+use Rattle.operations.specs.declared.step.JobStep.{JobStep}
+use Rattle.operations.specs.declared.step.JobStep.TheVariants as step
+use Rattle.operations.specs.Ending.{turns_left}
+use Rattle.operations.specs.Jobs.{Job}
+use Rattle.operations.specs.Turns.{Turned, is_going}
+use Rattle.server_model.specs.Run.{Exchange}
+use Rattle.turns.specs.declared.turn.Reply.{Reply}
+use Rattle.turns.specs.declared.turn.Reply.TheVariants as answered
+
+-- the numbers of jobs rise, above the first number and up to the last
+abbrev pub Rise : ℕ → List Job → ℕ → Type 0
+Rise low [] high = low ≤ high
+Rise low (j ∷ jobs) high = (low < j.id) × Rise j.id jobs high
+
+-- the unended job of a number
+abbrev pub job_at : List Job → ℕ → Option Job
+job_at jobs id = find (λ j. j.id == id) jobs
+
+abbrev pub is_open : List Job → ℕ → Bool
+is_open jobs id = is_some (job_at jobs id)
+
+-- a job in place of the one with its number
+abbrev pub with_job : List Job → ℕ → Job → List Job
+with_job jobs id j = map (λ k. if k.id == id then j else k) jobs
+
+abbrev pub without_job : List Job → ℕ → List Job
+without_job jobs id = filter (λ k. not (k.id == id)) jobs
+
+-- how many turns the job of a number takes at most: those that it has left, and one in which it ends
+abbrev pub most_turns_by : Option Job → ℕ
+most_turns_by None = 0
+most_turns_by (Some j) = turns_left j + 1
+
+abbrev pub most_turns : List Job → ℕ → ℕ
+most_turns jobs id = most_turns_by (job_at jobs id)
+
+-- ---- the turn that was looked up for a job
+
+-- none where there is no such job
+abbrev pub turn_by : List Job → ℕ → Look → Option Turned
+turn_by jobs id look = option_map (λ j. foretold j look) (job_at jobs id)
+
+-- ---- what is left after it
+
+abbrev pub job_exchanges : Option Turned → List Exchange
+job_exchanges None = []
+job_exchanges (Some t) = t.exchanges
+
+abbrev pub job_observation : Option Turned → Option Observation
+job_observation t = option_and_then (λ turned. turned.observation) t
+
+-- a reading takes the next read number
+abbrev pub reads_with : ℕ → Option Observation → ℕ
+reads_with reads o = if is_some o then next_count reads else reads
+
+-- a reading is stored by the rule of stored readings
+abbrev pub stored : BookState → Option Observation → BookState
+stored b None = b
+stored b (Some o) = after_store b o
+
+-- the leases of a job that is ended are free
+abbrev pub without_leases : BookState → ℕ → BookState
+without_leases b id = record b { leases = given_back b.leases id }
+
+abbrev pub book_turned : BookState → ℕ → Option Turned → BookState
+book_turned b id None = b
+book_turned b id (Some t) = if is_going t.step then stored b t.observation else without_leases (stored b t.observation) id
+
+-- a job that goes on takes its place, and one that is ended is dropped
+abbrev pub jobs_turned : List Job → ℕ → Option Turned → List Job
+jobs_turned jobs id None = jobs
+jobs_turned jobs id (Some t) = if is_going t.step then with_job jobs id t.job else without_job jobs id
+
+-- ---- what it answers
+
+-- whether a job goes on, is done with its lines, or failed for a cause
+abbrev pub step_reply : JobStep → Reply
+step_reply step.Going = answered.Going
+step_reply (step.Done lines) = answered.Told lines
+step_reply (step.Failed cause) = answered.Failed cause
+
+abbrev pub job_reply : Option Turned → Reply
+job_reply None = answered.NoJob
+job_reply (Some t) = step_reply t.step

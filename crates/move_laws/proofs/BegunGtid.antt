@@ -1,0 +1,96 @@
+-- Permitted commands by GTIDs begin with operations that are held, over servers that are free.
+use Rattle.std.proofs.Common.{◌≡◌, ℕ, true, not, List, [], ◌∷◌, ◌++◌, refl, Option, Some, None}
+use Rattle.std.specs.Prelude.{map}
+use Rattle.std.specs.Option.{option_to_list}
+use Rattle.orch_base.specs.declared.server.ServerNo.{ServerNo}
+use Rattle.commands.specs.declared.line.Line.TheVariants.{Follows, Server}
+use Rattle.commands.specs.declared.refusal.Refusal.TheVariants as refusal
+use Rattle.commands.specs.declared.turn.Command.{Command}
+use Rattle.instance_keeper.specs.Book.{BookState}
+use Rattle.server_model.specs.Worlds.{World}
+use Rattle.operations.specs.Jobs.{Job, job_with}
+use Rattle.operations.specs.Plans.{again, auto, finished}
+use Rattle.job_laws.specs.Footing.{footing}
+use Rattle.job_laws.specs.Leases.{Begins, leases_of}
+use Rattle.job_laws.proofs.Planned.{again-held, auto-held, finished-held}
+use Rattle.permission.specs.Checks.{busy, first_refusal, refusal_by, unknown_in, without_log}
+use Rattle.permission.specs.Lists.{first_about, only_if}
+use Rattle.permission.specs.Replicas.{replicas_but}
+use Rattle.permission.specs.Views.{source_of}
+use Rattle.plan_parts.specs.Parts.{again_auto, autos, following}
+use Rattle.moves_gtid.specs.Commands.{gtid_command}
+use Rattle.moves_gtid.specs.Permits.{case_of, leased_about, leased_by, leased_in, list_of, refusal_about, refusal_in, refusal_of, row_of}
+use Rattle.moves_gtid.specs.Plans.{disabled, enabled, moved, ops_of, plan_about, plan_in, plan_of, replicas_moved}
+use Rattle.moves_gtid.specs.declared.command.GtidCommand.{GtidCommand}
+use Rattle.moves_gtid.specs.declared.command.GtidCommand.TheVariants as command
+use Rattle.move_laws.proofs.Beginning.{begins-with, logging}
+use Rattle.move_laws.proofs.Firsts.{each-none, neither, not-false, test-false}
+use Rattle.move_laws.proofs.Lists.{again-listed, again_auto-held, again_auto-listed, among-before, among-first, auto-listed, autos-held, autos-listed, finished-listed}
+
+module _ (w : World) (b : BookState) (jobs : List Job) (id wait : ℕ) where
+  -- the check of the mode
+  used : only_if (not w.gtid) refusal.GtidOff ≡ None → w.gtid ≡ true
+  used h = not-false w.gtid (test-false (not w.gtid) refusal.GtidOff h)
+
+  moved-begins : (i : ServerNo) (d : Option ServerNo) → w.gtid ≡ true → first_about (without_log w) (option_to_list d) ≡ None
+      → first_about (busy b) (i ∷ option_to_list d) ≡ None → Begins w jobs (leases_of b.leases) (i ∷ option_to_list d) (job_with id wait (moved i d))
+  moved-begins i None gtid logs free = begins-with w b jobs (i ∷ []) id wait [] refl refl free
+  moved-begins i (Some d) gtid logs free =
+      begins-with w b jobs (i ∷ d ∷ []) id wait (finished (auto i d) (Follows i d ∷ []))
+      (finished-held (footing w []) (auto i d) (Follows i d ∷ []) (auto-held (footing w []) i d gtid (logging w b d [] logs)))
+      (finished-listed (i ∷ d ∷ []) (auto i d) (Follows i d ∷ []) (auto-listed (i ∷ d ∷ []) i d (among-first i (d ∷ [])))) free
+
+  replicas-begin : (rs : List ServerNo) (d : Option ServerNo) → w.gtid ≡ true → first_about (without_log w) (option_to_list d) ≡ None
+      → first_about (busy b) (rs ++ option_to_list d) ≡ None
+      → Begins w jobs (leases_of b.leases) (rs ++ option_to_list d) (job_with id wait (replicas_moved rs d))
+  replicas-begin rs None gtid logs free = begins-with w b jobs (rs ++ []) id wait [] refl refl free
+  replicas-begin rs (Some d) gtid logs free =
+      begins-with w b jobs (rs ++ d ∷ []) id wait (finished (autos rs d) (following rs d))
+      (finished-held (footing w []) (autos rs d) (following rs d) (autos-held (footing w []) rs d gtid (logging w b d [] logs)))
+      (finished-listed (rs ++ d ∷ []) (autos rs d) (following rs d) (autos-listed (rs ++ d ∷ []) rs d (among-before rs (d ∷ [])))) free
+
+  enabled-begins : (i : ServerNo) (x : Option ServerNo) → w.gtid ≡ true → first_about (busy b) (i ∷ option_to_list x) ≡ None
+      → Begins w jobs (leases_of b.leases) (i ∷ option_to_list x) (job_with id wait (enabled i x))
+  enabled-begins i None gtid free = begins-with w b jobs (i ∷ []) id wait [] refl refl free
+  enabled-begins i (Some x) gtid free =
+      begins-with w b jobs (i ∷ x ∷ []) id wait (finished (again_auto i x) (Server i ∷ []))
+      (finished-held (footing w []) (again_auto i x) (Server i ∷ []) (again_auto-held (footing w []) i x gtid))
+      (finished-listed (i ∷ x ∷ []) (again_auto i x) (Server i ∷ []) (again_auto-listed (i ∷ x ∷ []) i x (among-first i (x ∷ [])))) free
+
+  disabled-begins : (i : ServerNo) (x : Option ServerNo) → first_about (busy b) (i ∷ []) ≡ None
+      → Begins w jobs (leases_of b.leases) (i ∷ []) (job_with id wait (disabled i x))
+  disabled-begins i None free = begins-with w b jobs (i ∷ []) id wait [] refl refl free
+  disabled-begins i (Some x) free =
+      begins-with w b jobs (i ∷ []) id wait (finished (again i x) (Server i ∷ []))
+      (finished-held (footing w []) (again i x) (Server i ∷ []) (again-held (footing w []) i x))
+      (finished-listed (i ∷ []) (again i x) (Server i ∷ []) (again-listed (i ∷ []) i x (among-first i []))) free
+
+  -- a command's job begins, where each check of its row passes
+  about : (c : GtidCommand) (i : ServerNo) (d : Option ServerNo) → first_refusal w b (case_of b c i d) (row_of c) ≡ None
+      → Begins w jobs (leases_of b.leases) (list_of b c i d) (job_with id wait (ops_of b c i d))
+  about command.MoveGtid i d h =
+      let t = each-none (map (refusal_by w b (case_of b command.MoveGtid i d)) (row_of command.MoveGtid)) h in
+      moved-begins i d (used t.1.1.1.1.1.1.1.1.0) t.1.1.1.1.1.0 t.1.0
+  about command.MoveReplicasGtid i d h =
+      let t = each-none (map (refusal_by w b (case_of b command.MoveReplicasGtid i d)) (row_of command.MoveReplicasGtid)) h in
+      replicas-begin (replicas_but b i d) d (used t.1.1.1.1.1.1.1.1.0) t.1.1.1.1.1.0 t.1.0
+  about command.EnableGtid i d h =
+      let t = each-none (map (refusal_by w b (case_of b command.EnableGtid i d)) (row_of command.EnableGtid)) h in
+      enabled-begins i (source_of b i) (used t.1.1.1.1.0) t.0
+  about command.DisableGtid i d h =
+      let t = each-none (map (refusal_by w b (case_of b command.DisableGtid i d)) (row_of command.DisableGtid)) h in
+      disabled-begins i (source_of b i) t.0
+
+pub permitted-begin : (w : World) (b : BookState) (jobs : List Job) (given : Command) (id wait : ℕ) → refusal_of w b given ≡ None
+    → Begins w jobs (leases_of b.leases) (leased_by b given) (job_with id wait (plan_of b given))
+permitted-begin w b jobs given id wait h = go (gtid_command given.name) h
+  where
+    with_i : (c : GtidCommand) (o : Option ServerNo) → refusal_about w b c o given.d ≡ None
+        → Begins w jobs (leases_of b.leases) (leased_about b c o given.d) (job_with id wait (plan_about b c o given.d))
+    with_i c None h = begins-with w b jobs [] id wait [] refl refl refl
+    with_i c (Some i) h = about w b jobs id wait c i given.d h
+
+    go : (c : Option GtidCommand) → refusal_in w b given c ≡ None
+        → Begins w jobs (leases_of b.leases) (leased_in b given c) (job_with id wait (plan_in b given c))
+    go None h = begins-with w b jobs [] id wait [] refl refl refl
+    go (Some c) h = with_i c given.i (neither (unknown_in b given) (refusal_about w b c given.i given.d) h).1

@@ -1,0 +1,149 @@
+-- Plans of several servers, one after another: they are held and listed where each part is.
+use Rattle.std.proofs.Common.{◌≡◌, ℕ, Bool, true, false, List, [], ◌∷◌, ◌++◌, refl, ◌∙◌, ap, Option, Some, None, ◌||◌}
+use Rattle.std.specs.Prelude.{◌==◌, All}
+use Rattle.std.specs.List.{flat_map, list_any}
+use Rattle.std.specs.Option.{option_or}
+use Rattle.std.proofs.lemmas.Bool.{and_parts, eq-eqb}
+use Rattle.std.proofs.lemmas.List.Elements.{All-cons, All-head, All-nil, All-tail, All-weaker}
+use Rattle.std.proofs.lemmas.List.Folds.{list_any-append}
+use Rattle.orch_base.specs.declared.server.ServerNo.{ServerNo}
+use Rattle.commands.specs.declared.line.Line.{Line}
+use Rattle.operations.specs.Changes.{change_of}
+use Rattle.operations.specs.Deeds.{deed_of}
+use Rattle.operations.specs.Plans.{again, auto, finished, swap, under, up}
+use Rattle.operations.specs.declared.op.Op.{Op}
+use Rattle.operations.specs.declared.op.Op.TheVariants.{Finish}
+use Rattle.operations.proofs.Tests.{both}
+use Rattle.plan_parts.specs.Parts.{again_auto, autos, unders, ups}
+use Rattle.permission.specs.Lists.{first_about}
+use Rattle.job_laws.specs.Footing.{Footing, SameBase, are_held}
+use Rattle.job_laws.specs.Leases.{are_listed, is_in}
+use Rattle.job_laws.proofs.Planned.{auto-held, held-append, under-held, up-held}
+
+self : (n : ℕ) → (n == n) ≡ true
+self n = eq-eqb n n refl
+
+any-true : (b : Bool) → (b || true) ≡ true
+any-true true = refl
+any-true false = refl
+
+or-left : (a b : Bool) → a ≡ true → (a || b) ≡ true
+or-left true b h = refl
+or-left false b h = cc
+
+-- ---- a server of a list
+
+abbrev pub Among : List ServerNo → ServerNo → Type 0
+Among list n = list_any (λ (k : ServerNo). k.0 == n.0) list ≡ true
+
+pub among-more : (k n : ServerNo) (list : List ServerNo) → Among list n → Among (k ∷ list) n
+among-more k n list h = ap (λ b. (k.0 == n.0) || b) h ∙ any-true (k.0 == n.0)
+
+pub among-first : (n : ServerNo) (list : List ServerNo) → Among (n ∷ list) n
+among-first n list = or-left (n.0 == n.0) (list_any (λ (k : ServerNo). k.0 == n.0) list) (self n.0)
+
+-- each server of a list is one of it
+pub all-among : (list : List ServerNo) → All (Among list) list
+all-among [] = All-nil (Among [])
+all-among (k ∷ ks) =
+    All-cons (Among (k ∷ ks)) k ks (among-first k ks) (All-weaker (Among ks) (Among (k ∷ ks)) (λ n h. among-more k n ks h) ks (all-among ks))
+
+-- and one of the list with others in front
+pub among-behind : (k : ServerNo) (list : List ServerNo) → All (Among (k ∷ list)) list
+among-behind k list = All-weaker (Among list) (Among (k ∷ list)) (λ n h. among-more k n list h) list (all-among list)
+
+-- and with others behind it
+pub among-before : (list others : List ServerNo) → All (Among (list ++ others)) list
+among-before list others =
+    All-weaker (Among list) (Among (list ++ others))
+    (λ n h. list_any-append (λ (k : ServerNo). k.0 == n.0) list others
+    ∙ or-left (list_any (λ (k : ServerNo). k.0 == n.0) list) (list_any (λ (k : ServerNo). k.0 == n.0) others) h)
+    list (all-among list)
+
+-- ---- operations that are listed
+
+module _ (list : List ServerNo) where
+  listed-append : (ps qs : List Op) → are_listed list ps ≡ true → are_listed list qs ≡ true → are_listed list (ps ++ qs) ≡ true
+  listed-append [] qs first last = last
+  listed-append (p ∷ ps) qs first last =
+      let parts = and_parts (is_in list (change_of (deed_of p))) (are_listed list ps) first in
+      both (is_in list (change_of (deed_of p))) (are_listed list (ps ++ qs)) parts.0 (listed-append ps qs parts.1 last)
+
+  pub finished-listed : (ops : List Op) (lines : List Line) → are_listed list ops ≡ true → are_listed list (finished ops lines) ≡ true
+  finished-listed ops lines listed = listed-append ops (Finish lines ∷ []) listed refl
+
+  each-listed : (part : ServerNo → List Op) → ((r : ServerNo) → Among list r → are_listed list (part r) ≡ true) → (rs : List ServerNo) → All (Among list) rs
+      → are_listed list (flat_map part rs) ≡ true
+  each-listed part listed [] among = refl
+  each-listed part listed (r ∷ rs) among =
+      listed-append (part r) (flat_map part rs) (listed r (All-head (Among list) r rs among)) (each-listed part listed rs (All-tail (Among list) r rs among))
+
+  pub up-listed : (i x g : ServerNo) → Among list i → Among list x → are_listed list (up i x g) ≡ true
+  up-listed i x g at_i at_x = simp (at_i, at_x) refl
+
+  pub under-listed : (i d s : ServerNo) → Among list i → Among list d → are_listed list (under i d s) ≡ true
+  under-listed i d s at_i at_d = simp (at_i, at_d) refl
+
+  pub again-listed : (i x : ServerNo) → Among list i → are_listed list (again i x) ≡ true
+  again-listed i x at_i = simp (at_i) refl
+
+  pub auto-listed : (r d : ServerNo) → Among list r → are_listed list (auto r d) ≡ true
+  auto-listed r d at_r = simp (at_r) refl
+
+  pub again_auto-listed : (i x : ServerNo) → Among list i → are_listed list (again_auto i x) ≡ true
+  again_auto-listed i x at_i = simp (at_i) refl
+
+  pub swap-listed : (i x g : ServerNo) → Among list i → Among list x → are_listed list (swap i x g) ≡ true
+  swap-listed i x g at_i at_x = simp (at_i, at_x) refl
+
+  pub ups-listed : (rs : List ServerNo) (i x : ServerNo) → All (Among list) rs → Among list i → are_listed list (ups rs i x) ≡ true
+  ups-listed rs i x among at_i = each-listed (λ r. up r i x) (λ r at_r. up-listed r i x at_r at_i) rs among
+
+  pub unders-listed : (rs : List ServerNo) (d s : ServerNo) → All (Among list) rs → Among list d → are_listed list (unders rs d s) ≡ true
+  unders-listed rs d s among at_d = each-listed (λ r. under r d s) (λ r at_r. under-listed r d s at_r at_d) rs among
+
+  pub autos-listed : (rs : List ServerNo) (d : ServerNo) → All (Among list) rs → are_listed list (autos rs d) ≡ true
+  autos-listed rs d among = each-listed (λ r. auto r d) (λ r at_r. auto-listed r d at_r) rs among
+
+-- ---- operations that are held
+
+base-self : (f : Footing) → SameBase f f
+base-self f = record { gtid = λ e. e; logs = λ n e. e }
+
+base-trans : (f g h : Footing) → SameBase f g → SameBase g h → SameBase f h
+base-trans f g h p q = record { gtid = λ e. q.gtid (p.gtid e); logs = λ n e. q.logs n (p.logs n e) }
+
+-- where each part is held whatever was read before it
+each-held : (P : ServerNo → Type 0) (part : ServerNo → List Op) (f : Footing) (rs : List ServerNo)
+    → ((g : Footing) (r : ServerNo) → SameBase f g → P r → are_held g (part r) ≡ true) → All P rs → are_held f (flat_map part rs) ≡ true
+each-held P part f [] held all = refl
+each-held P part f (r ∷ rs) held all =
+    held-append f (part r) (flat_map part rs) (held f r (base-self f) (All-head P r rs all))
+    (λ g base. each-held P part g rs (λ h n more at. held h n (base-trans f g h base more) at) (All-tail P r rs all))
+
+pub ups-held : (f : Footing) (rs : List ServerNo) (i x : ServerNo) → All (λ r. (r.0 == i.0) ≡ false) rs → are_held f (ups rs i x) ≡ true
+ups-held f rs i x apart = each-held (λ r. (r.0 == i.0) ≡ false) (λ r. up r i x) f rs (λ g r base at. up-held g r i x at) apart
+
+every : (rs : List ServerNo) → All (λ (r : ServerNo). Unit {0}) rs
+every [] = All-nil (λ (r : ServerNo). Unit {0})
+every (r ∷ rs) = All-cons (λ (r : ServerNo). Unit {0}) r rs tt (every rs)
+
+pub unders-held : (f : Footing) (rs : List ServerNo) (d s : ServerNo) → f.logs d.0 ≡ true → are_held f (unders rs d s) ≡ true
+unders-held f rs d s logs = each-held (λ r. Unit {0}) (λ r. under r d s) f rs (λ g r base at. under-held g r d s (base.logs d.0 logs)) (every rs)
+
+pub autos-held : (f : Footing) (rs : List ServerNo) (d : ServerNo) → f.gtid ≡ true → f.logs d.0 ≡ true → are_held f (autos rs d) ≡ true
+autos-held f rs d gtid logs = each-held (λ r. Unit {0}) (λ r. auto r d) f rs (λ g r base at. auto-held g r d (base.gtid gtid) (base.logs d.0 logs)) (every rs)
+
+pub again_auto-held : (f : Footing) (i x : ServerNo) → f.gtid ≡ true → are_held f (again_auto i x) ≡ true
+again_auto-held f i x gtid = simp (self, gtid) refl
+
+-- ---- the first of two lists
+
+pub first-append : {A B : Type 0} (about : A → Option B) (xs ys : List A) → first_about about (xs ++ ys) ≡ None → (first_about about xs ≡ None) × (first_about about ys ≡ None)
+first-append about [] ys h = (refl, h)
+first-append {B = B} about (x ∷ xs) ys h = go (about x) h (first-append about xs ys)
+  where
+    go : (o : Option B) → option_or o (first_about about (xs ++ ys)) ≡ None → (first_about about (xs ++ ys) ≡ None → (first_about about xs ≡ None) × (first_about about ys ≡ None))
+        → (option_or o (first_about about xs) ≡ None) × (first_about about ys ≡ None)
+    go None h rest = rest h
+    go (Some r) h rest = cc

@@ -1,0 +1,30 @@
+//! The plans of permitted commands by GTIDs.
+
+ghost use Rattle.std.specs.Prelude.{◌≡◌, ◌∷◌, [], Some, None};
+ghost use Rattle.orch_base.specs.declared.server.ServerNo.{ServerNo as Number};
+ghost use Rattle.commands.specs.declared.line.Line.TheVariants.{Follows, Server};
+ghost use Rattle.commands.specs.declared.name.CommandName.TheVariants.{DisableGtid, EnableGtid, MoveGtid, MoveReplicasGtid};
+ghost use Rattle.instance_keeper.specs.Book.{BookState};
+ghost use Rattle.move_laws.specs.Given.{given};
+ghost use Rattle.moves_gtid.specs.Permits.{refusal_of};
+ghost use Rattle.moves_gtid.specs.Plans.{plan_of};
+ghost use Rattle.operations.specs.Plans.{again, auto, finished};
+ghost use Rattle.permission.specs.Replicas.{replicas_but};
+ghost use Rattle.permission.specs.Views.{source_of};
+ghost use Rattle.plan_parts.specs.Parts.{again_auto, autos, following};
+ghost use Rattle.server_model.specs.Worlds.{World};
+
+/// A permitted command by GTIDs has its whole plan: the instance, or each of its replicas but the destination, goes
+/// below the destination; or the instance finds its place under its source by GTIDs, or goes on there by coordinates.
+pub fn permitted_gtid_moves_have_plans()
+    ensures auto { (b : BookState) (i d : Number) →
+        plan_of b (given MoveGtid i (Some d)) ≡ finished (auto i d) (Follows i d ∷ []) }
+    ensures autos { (b : BookState) (i d : Number) → let rs = replicas_but b i (Some d) in
+        plan_of b (given MoveReplicasGtid i (Some d)) ≡ finished (autos rs d) (following rs d) }
+    ensures enabled { (w : World) (b : BookState) (i : Number) → refusal_of w b (given EnableGtid i None) ≡ None →
+        (x : Number) × (source_of b i ≡ Some x) ×
+        (plan_of b (given EnableGtid i None) ≡ finished (again_auto i x) (Server i ∷ [])) }
+    ensures disabled { (w : World) (b : BookState) (i : Number) → refusal_of w b (given DisableGtid i None) ≡ None →
+        (x : Number) × (source_of b i ≡ Some x) ×
+        (plan_of b (given DisableGtid i None) ≡ finished (again i x) (Server i ∷ [])) }
+{}

@@ -1,0 +1,53 @@
+-- The plans of these commands.
+use Rattle.std.specs.Prelude.{List, [], ◌∷◌, Option, Some, None}
+use Rattle.orch_base.specs.declared.server.ServerNo.{ServerNo}
+use Rattle.commands.specs.declared.line.Line.TheVariants.{Follows, Server}
+use Rattle.commands.specs.declared.turn.Command.{Command}
+use Rattle.instance_keeper.specs.Book.{BookState}
+use Rattle.operations.specs.declared.op.Op.{Op}
+use Rattle.operations.specs.Plans.{again, auto, finished}
+use Rattle.permission.specs.Replicas.{replicas_but}
+use Rattle.permission.specs.Views.{source_of}
+use Rattle.plan_parts.specs.Parts.{again_auto, autos, following}
+use Rattle.moves_gtid.specs.declared.command.GtidCommand.{GtidCommand}
+use Rattle.moves_gtid.specs.declared.command.GtidCommand.TheVariants as command
+use Rattle.moves_gtid.specs.Commands.{gtid_command}
+
+-- i goes below d
+abbrev pub moved : ServerNo → Option ServerNo → List Op
+moved i None = []
+moved i (Some d) = finished (auto i d) (Follows i d ∷ [])
+
+-- replicas go below d, one after another
+abbrev pub replicas_moved : List ServerNo → Option ServerNo → List Op
+replicas_moved replicas None = []
+replicas_moved replicas (Some d) = finished (autos replicas d) (following replicas d)
+
+-- i, which is below x, finds its place there by GTIDs
+abbrev pub enabled : ServerNo → Option ServerNo → List Op
+enabled i None = []
+enabled i (Some x) = finished (again_auto i x) (Server i ∷ [])
+
+-- i, which is below x, goes on there by coordinates
+abbrev pub disabled : ServerNo → Option ServerNo → List Op
+disabled i None = []
+disabled i (Some x) = finished (again i x) (Server i ∷ [])
+
+-- a command's operations, by the instance and the destination that is given
+abbrev pub ops_of : BookState → GtidCommand → ServerNo → Option ServerNo → List Op
+ops_of b command.MoveGtid i d = moved i d
+ops_of b command.MoveReplicasGtid i d = replicas_moved (replicas_but b i d) d
+ops_of b command.EnableGtid i d = enabled i (source_of b i)
+ops_of b command.DisableGtid i d = disabled i (source_of b i)
+
+abbrev pub plan_about : BookState → GtidCommand → Option ServerNo → Option ServerNo → List Op
+plan_about b c None d = []
+plan_about b c (Some i) d = ops_of b c i d
+
+abbrev pub plan_in : BookState → Command → Option GtidCommand → List Op
+plan_in b given None = []
+plan_in b given (Some c) = plan_about b c given.i given.d
+
+-- the operations of one of these commands, where nothing refuses it
+abbrev pub plan_of : BookState → Command → List Op
+plan_of b given = plan_in b given (gtid_command given.name)

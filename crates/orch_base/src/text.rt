@@ -1,0 +1,61 @@
+//! Texts that contracts see as their bytes.
+
+use crate::Memory;
+use std::alloc::Global;
+use std::marker::Model;
+
+/// A text, as a cluster's label, which contracts see as the list of its bytes.
+#[derive(Drop)]
+pub struct OwnedText {
+    text: String,
+}
+
+impl Model for OwnedText {
+    ghost use Rattle.std.specs.Prelude.{ℕ, List, string_bytes};
+
+    ghost Value = { List ℕ };
+
+    ghost view = { λ l. string_bytes l.text };
+}
+
+impl OwnedText {
+    ghost use Rattle.std.specs.Prelude.{◌≡◌, ◌↔◌, IfOk, IsTrue, nat_eq, string_bytes};
+    ghost use Rattle.std.specs.Cmp.Lexicographic.{pointwise};
+
+    /// The label of this text. It takes no memory.
+    pub fn new(text: String) -> OwnedText
+        ensures { result ≡ string_bytes text }
+    {
+        OwnedText { text }
+    }
+
+    /// The text.
+    pub fn as_str(&self) -> &str
+        ensures { result.now ≡ self.now }
+    {
+        &self.text
+    }
+
+    /// The same label once more.
+    pub fn copy(&self, alloc: Global) -> Result<OwnedText, Memory>
+        ensures { IfOk result (λ l. l ≡ self.now) }
+    {
+        let text = String::from_str(alloc, self.text.as_str())?;
+        Ok(OwnedText { text })
+    }
+
+    /// Whether the texts are the same, byte for byte.
+    pub fn is_same(&self, other: &OwnedText) -> bool
+        ensures same { result ≡ pointwise nat_eq self.now other.now }
+        ensures equal { IsTrue result ↔ (self.now ≡ other.now) }
+    {
+        self.text.as_bytes() == other.text.as_bytes()
+    }
+
+    /// Gives the text back. It takes no memory.
+    pub fn into_string(self) -> String
+        ensures { string_bytes result ≡ self }
+    {
+        self.text
+    }
+}

@@ -1,0 +1,53 @@
+//! The parts of several replicas, one after another.
+
+ghost use Rattle.std.specs.Prelude.{◌≡◌, IfOk};
+ghost use Rattle.plan_parts.specs.Parts.{autos, unders, ups};
+
+use crate::Memory;
+use crate::parts::{auto, under, up};
+use operations::Op;
+use orch_base::ServerNo;
+use std::alloc::Global;
+
+/// Replicas of `i`, which is below `x`, go to `x`.
+pub fn ups(
+    alloc: Global,
+    replicas: &[ServerNo],
+    i: ServerNo,
+    x: ServerNo,
+) -> Result<Vec<Op>, Memory>
+    ensures { IfOk result (λ ops. ops.items ≡ ups replicas.now i x) }
+{
+    let mut ops = Vec::new(alloc);
+    for r in replicas {
+        ops.append(&mut up(alloc, *r, i, x)?)?;
+    }
+    Ok(ops)
+}
+
+/// Siblings of `d`, all below `s`, go below `d`.
+pub fn unders(
+    alloc: Global,
+    siblings: &[ServerNo],
+    d: ServerNo,
+    s: ServerNo,
+) -> Result<Vec<Op>, Memory>
+    ensures { IfOk result (λ ops. ops.items ≡ unders siblings.now d s) }
+{
+    let mut ops = Vec::new(alloc);
+    for r in siblings {
+        ops.append(&mut under(alloc, *r, d, s)?)?;
+    }
+    Ok(ops)
+}
+
+/// Replicas go below `d`, by what was executed.
+pub fn autos(alloc: Global, replicas: &[ServerNo], d: ServerNo) -> Result<Vec<Op>, Memory>
+    ensures { IfOk result (λ ops. ops.items ≡ autos replicas.now d) }
+{
+    let mut ops = Vec::new(alloc);
+    for r in replicas {
+        ops.append(&mut auto(alloc, *r, d)?)?;
+    }
+    Ok(ops)
+}

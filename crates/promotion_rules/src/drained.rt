@@ -1,0 +1,19 @@
+//! Replicas that were drained.
+
+use binlog_coords::Coord;
+use orch_base::{Rule, ServerNo};
+
+/// A replica of a failed server that has executed what it had received, as it was seen then.
+#[derive(Clone, Copy, Debug, PartialEq, Eq)]
+pub struct Drained {
+    /// The replica.
+    pub no: ServerNo,
+    /// How far it has executed the failed server's log.
+    pub exec: Coord,
+    /// The end of its own binary log: none where it doesn't log.
+    pub own_end: Option<Coord>,
+    /// Its rule of promotion.
+    pub rule: Rule,
+    /// Whether it writes a binary log.
+    pub logs: bool,
+}

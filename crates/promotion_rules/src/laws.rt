@@ -1,0 +1,37 @@
+//! What the choices are, over their definitions alone.
+
+ghost use Rattle.std.specs.Prelude.{◌≡◌, ◌↔◌, All, List, None, Some, false};
+ghost use Rattle.std.specs.Cmp.{IsTotalOrder};
+ghost use Rattle.orch_base.specs.Names.{HostPort};
+ghost use Rattle.orch_base.specs.declared.rule.Rule.{Rule as ARule};
+ghost use Rattle.orch_base.specs.declared.server.ServerNo.{ServerNo as Number};
+ghost use Rattle.promotion_rules.specs.Choice.{advance_order, better, is_better, is_eligible, most_advanced, nearer_order};
+ghost use Rattle.promotion_rules.specs.Chosen.{HasExecutedMost, IsChoice};
+ghost use Rattle.promotion_rules.specs.declared.drained.Drained.{Drained as ADrained};
+
+/// The most advanced is one of the drained replicas that log and may be promoted, and none of these stands before it,
+/// so none of them has executed more. There is none exactly where none of them logs and may be promoted.
+pub fn most_advanced_is_the_first()
+    ensures chosen { (names : List HostPort) (list : List ADrained) (n : Number) →
+        most_advanced names list ≡ Some n → IsChoice (advance_order names) is_eligible list n }
+    ensures executed { (names : List HostPort) (list : List ADrained) (n : Number) →
+        most_advanced names list ≡ Some n → HasExecutedMost is_eligible list n }
+    ensures none { (names : List HostPort) (list : List ADrained) →
+        (most_advanced names list ≡ None) ↔ All (λ d. is_eligible d ≡ false) list }
+{}
+
+/// The better one is one of the followers that log and have a strictly better rule, and none of these stands before it.
+/// There is none exactly where none of them logs and has a strictly better rule.
+pub fn better_is_the_first()
+    ensures chosen { (names : List HostPort) (of : ARule) (followers : List ADrained) (n : Number) →
+        better names of followers ≡ Some n →
+        IsChoice (nearer_order names) (is_better of) followers n }
+    ensures none { (names : List HostPort) (of : ARule) (followers : List ADrained) →
+        (better names of followers ≡ None) ↔ All (λ d. is_better of d ≡ false) followers }
+{}
+
+/// Of any two drained replicas one stands first, whatever their names.
+pub fn orders_are_total()
+    ensures advance { (names : List HostPort) → IsTotalOrder (advance_order names) }
+    ensures nearer { (names : List HostPort) → IsTotalOrder (nearer_order names) }
+{}

@@ -1,0 +1,10 @@
+pub mod Shapes
+pub mod Ready
+pub mod Choosing
+pub mod Deciding
+pub mod Taking
+pub mod Sounding
+pub mod Leasing
+pub mod Begun
+pub mod Ringed
+pub mod Ended

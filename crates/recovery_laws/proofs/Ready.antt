@@ -1,0 +1,168 @@
+-- What is ready to be gone by stays ready: whatever is read beside, and whatever is done to servers.
+use Rattle.std.proofs.Common.{◌≡◌, ℕ, Bool, true, false, cond, List, [], ◌∷◌, refl, sym, ◌∙◌, ap, subst, Option, Some, None}
+use Rattle.std.specs.Prelude.{◌==◌, is_some, IfSome}
+use Rattle.std.specs.List.{All}
+use Rattle.std.proofs.lemmas.Bool.{false≢true}
+use Rattle.std.proofs.lemmas.Option.{same_Some}
+use Rattle.std.proofs.lemmas.List.Elements.{All-nil, All-cons, All-head, All-tail, All-weaker}
+use Rattle.binlog_coords.specs.declared.Coord.{Coord}
+use Rattle.orch_base.specs.declared.server.ServerNo.{ServerNo}
+use Rattle.orch_base.specs.declared.server.Settings.{Settings}
+use Rattle.server_words.specs.declared.status.Status.{Status}
+use Rattle.server_model.specs.Attach.{IsTarget}
+use Rattle.server_model.specs.Run.{Exchange, run, AllAllowed}
+use Rattle.server_model.specs.Safe.{Placed}
+use Rattle.server_model.specs.Showing.{Shows}
+use Rattle.server_model.specs.Worlds.{World}
+use Rattle.replication_laws.proofs.Keeping.{at_or_before-refl}
+use Rattle.replication_laws.proofs.Runs.{Grows-run}
+use Rattle.instance_keeper.specs.declared.bridge.Bridge.{Bridge}
+use Rattle.operations.specs.declared.sight.Sight.{Sight}
+use Rattle.operations.specs.Jobs.{seen_of, with_seen}
+use Rattle.operations.specs.Targets.{logs_by}
+use Rattle.job_laws.specs.Footing.{logs_at}
+use Rattle.job_laws.specs.Held.{AllShow, Spans}
+use Rattle.job_laws.proofs.Modes.{gtid-run}
+use Rattle.job_laws.proofs.Showing.{Spans-run, logs-on}
+use Rattle.job_laws.proofs.Turns.{with-one}
+use Rattle.recovery_plans.specs.declared.outcome.Stopped.{Stopped}
+use Rattle.recovery_plans.specs.declared.stage.Stage.{Stage}
+use Rattle.recovery_plans.specs.declared.stage.Stage.TheVariants as stage
+use Rattle.recovery_plans.specs.declared.task.Task.{Task}
+use Rattle.recovery_plans.specs.declared.task.Task.TheVariants as task
+use Rattle.recovery_plans.specs.declared.task.Way.{Way}
+use Rattle.recovery_plans.specs.declared.task.Way.TheVariants as way
+use Rattle.recovery_plans.specs.Recoveries.{sight_of}
+use Rattle.recovery_plans.specs.Stages.{with_bridge, with_way}
+use Rattle.recovery_laws.specs.HeldRecoveries.{IsAutoSource, IsReadyWay, IsReady, IsReadyStage, IsStopped, IsLead, bridge_at}
+use Rattle.recovery_laws.proofs.Shapes.{StaysRead, saw-read}
+
+-- ---- a bridge as a reading
+
+target-logs : (w : World) (m : ℕ) (c : Coord) → IsTarget w m c → logs_at w m ≡ true
+target-logs w m c t = ap logs_by t.there ∙ t.logs
+
+pub spans-logs : (w : World) (b : Bridge) → Spans w b → logs_at w b.no.0 ≡ true
+spans-logs w b s = target-logs w b.no.0 b.own s.own
+
+-- a bridge is a reading that its server once showed
+pub sight-shown : (w : World) (b : Bridge) → Spans w b → Shows w b.no.0 (sight_of b)
+sight-shown w b s = record {
+  own = λ c h. subst (λ (x : Coord). IsTarget w b.no.0 x) (same_Some b.own c h) s.own;
+  logs = λ t h l. (b.own, refl);
+  under = λ m h. subst (λ (x : ℕ). IsTarget w x b.exec) (same_Some b.source.0 m h) s.exec;
+  read = λ m h. subst (λ (x : ℕ). IsTarget w x b.exec) (same_Some b.source.0 m h) s.exec;
+  order = λ m h. at_or_before-refl b.exec;
+  set = record { server = s.own.target; there = s.own.there; within = λ uuid k h. absurd (false≢true h) };
+}
+
+pub bridge-shown : (w : World) (xs : List Sight) (b : Bridge) → AllShow w xs → Spans w b → AllShow w (with_bridge xs b)
+bridge-shown w xs b shown s = with-one (Shows w) xs b.no (sight_of b) shown (sight-shown w b s)
+
+-- ---- with more that was read
+
+pub way-read : (xs : List Sight) (by : Way) → StaysRead xs (with_way xs by)
+way-read xs (way.Down b) = saw-read xs b.no (sight_of b)
+way-read xs (way.Up b) = saw-read xs b.no (sight_of b)
+way-read xs (way.Auto to exec) = λ n h. h
+
+module _ (w : World) (xs ys : List Sight) (more : StaysRead xs ys) where
+  ready-way-more : (by : Way) → IsReadyWay w xs by → IsReadyWay w ys by
+  ready-way-more (way.Down b) h = h
+  ready-way-more (way.Up b) h = h
+  ready-way-more (way.Auto to exec) h = record { gtid = h.gtid; logs = h.logs; read = more to.0 h.read }
+
+  ready-more : (t : Task) → IsReady w xs t → IsReady w ys t
+  ready-more (task.Moving n by) h = ready-way-more by h
+  ready-more (task.Reading n) h = tt
+  ready-more (task.Draining n) h = tt
+  ready-more task.Choosing h = tt
+  ready-more task.Handing h = tt
+  ready-more task.Sorting h = tt
+  ready-more (task.Expelling n) h = tt
+  ready-more (task.Releasing n) h = tt
+  ready-more (task.Trailing n) h = tt
+  ready-more task.Yielding h = tt
+
+  pub queue-more : (ts : List Task) → All (IsReady w xs) ts → All (IsReady w ys) ts
+  queue-more ts all = All-weaker (IsReady w xs) (IsReady w ys) ready-more ts all
+
+  pub stopped-more : (f : ServerNo) (ds : List Stopped) → All (IsStopped w xs f) ds → All (IsStopped w ys f) ds
+  stopped-more f ds all =
+      All-weaker (IsStopped w xs f) (IsStopped w ys f) (λ d h. record { server = h.server; there = h.there; read = more d.no.0 h.read; logs = h.logs; spans = h.spans }) ds all
+
+-- ---- over exchanges
+
+module _ (w : World) (es : List Exchange) (placed : Placed w) (allowed : AllAllowed w es) where
+  logs-run : (n : ℕ) → logs_at w n ≡ true → logs_at (run w es) n ≡ true
+  logs-run n h = logs-on w (run w es) n (Grows-run w es placed allowed) h
+
+  spans-run : (b : Bridge) → Spans w b → Spans (run w es) b
+  spans-run b s = Spans-run w es b placed allowed s
+
+  ready-way-run : (xs : List Sight) (by : Way) → IsReadyWay w xs by → IsReadyWay (run w es) xs by
+  ready-way-run xs (way.Down b) h = spans-run b h
+  ready-way-run xs (way.Up b) h = spans-run b h
+  ready-way-run xs (way.Auto to exec) h = record { gtid = gtid-run w es ∙ h.gtid; logs = logs-run to.0 h.logs; read = h.read }
+
+  ready-run : (xs : List Sight) (t : Task) → IsReady w xs t → IsReady (run w es) xs t
+  ready-run xs (task.Moving n by) h = ready-way-run xs by h
+  ready-run xs (task.Reading n) h = tt
+  ready-run xs (task.Draining n) h = tt
+  ready-run xs task.Choosing h = tt
+  ready-run xs task.Handing h = tt
+  ready-run xs task.Sorting h = tt
+  ready-run xs (task.Expelling n) h = tt
+  ready-run xs (task.Releasing n) h = tt
+  ready-run xs (task.Trailing n) h = tt
+  ready-run xs task.Yielding h = tt
+
+  pub queue-run : (xs : List Sight) (ts : List Task) → All (IsReady w xs) ts → All (IsReady (run w es) xs) ts
+  queue-run xs ts all = All-weaker (IsReady w xs) (IsReady (run w es) xs) (ready-run xs) ts all
+
+  pub stopped-run : (xs : List Sight) (f : ServerNo) (ds : List Stopped) → All (IsStopped w xs f) ds → All (IsStopped (run w es) xs f) ds
+  stopped-run xs f ds all =
+      All-weaker (IsStopped w xs f) (IsStopped (run w es) xs f) (λ d h.
+      let on = Grows-run w es placed allowed d.no.0 h.server h.there in
+      record {
+        server = on.0;
+        there = on.1;
+        read = h.read;
+        logs = λ l. h.logs (sym (ap (λ (x : Settings). x.logs) on.2.settings) ∙ l);
+        spans = λ own e. spans-run (bridge_at f d own) (h.spans own e);
+      }) ds all
+
+  pub lead-run : (f : ServerNo) (o : Option Bridge) → IfSome o (IsLead w f) → IfSome o (IsLead (run w es) f)
+  lead-run f None h = h
+  lead-run f (Some b) h = record { spans = spans-run b h.spans; below = h.below }
+
+  pub stage-run : (s : Stage) → IsReadyStage w s → IsReadyStage (run w es) s
+  stage-run (stage.Look n b) h = spans-run b h
+  stage-run (stage.Looked n b) h = spans-run b h
+  stage-run (stage.Trail n b) h = spans-run b h
+  stage-run (stage.Halted n b) h = spans-run b h
+  stage-run stage.Idle h = tt
+  stage-run stage.Check h = tt
+  stage-run (stage.Read n) h = tt
+  stage-run (stage.Drain n) h = tt
+  stage-run (stage.Judged n) h = tt
+  stage-run (stage.Move n by) h = tt
+  stage-run (stage.Join n p) h = tt
+  stage-run (stage.Expel n) h = tt
+  stage-run (stage.Expelled n) h = tt
+  stage-run (stage.Release n) h = tt
+  stage-run (stage.Level p q) h = tt
+  stage-run (stage.Swap p q) h = tt
+  stage-run (stage.Swapped p q) h = tt
+  stage-run (stage.Return p q) h = tt
+  stage-run (stage.Resume p q) h = tt
+  stage-run (stage.Crown n) h = tt
+  stage-run (stage.Open n) h = tt
+  stage-run (stage.Opened n) h = tt
+  stage-run (stage.Meet m d) h = tt
+  stage-run (stage.Shut m d) h = tt
+  stage-run (stage.Gather m d) h = tt
+  stage-run (stage.Yield m d) h = tt
+  stage-run (stage.Switch m d) h = tt
+  stage-run (stage.Switched m d) h = tt
+  stage-run (stage.Close lines) h = tt

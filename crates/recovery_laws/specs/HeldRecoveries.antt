@@ -1,0 +1,116 @@
+-- What holds of a recovery in every world, quiet or not.
+use Rattle.std.specs.Prelude.{◌≡◌, true, List, Option, Some, IfSome, All, is_some}
+use Rattle.binlog_coords.specs.declared.Coord.{Coord}
+use Rattle.orch_base.specs.declared.server.ServerNo.{ServerNo}
+use Rattle.server_model.specs.Run.{run, AllAllowed}
+use Rattle.server_model.specs.declared.server.Server.{Server}
+use Rattle.server_model.specs.Worlds.{World, server_at}
+use Rattle.instance_keeper.specs.declared.bridge.Bridge.{Bridge}
+use Rattle.operations.specs.declared.sight.Sight.{Sight}
+use Rattle.operations.specs.Jobs.{Job, seen_of}
+use Rattle.operations.specs.Turns.{is_going}
+use Rattle.job_laws.specs.Footing.{logs_at}
+use Rattle.job_laws.specs.Held.{HeldJob, Spans}
+use Rattle.recovery_plans.specs.declared.outcome.Stopped.{Stopped}
+use Rattle.recovery_plans.specs.declared.stage.Stage.{Stage}
+use Rattle.recovery_plans.specs.declared.stage.Stage.TheVariants as stage
+use Rattle.recovery_plans.specs.declared.task.Task.{Task}
+use Rattle.recovery_plans.specs.declared.task.Task.TheVariants as task
+use Rattle.recovery_plans.specs.declared.task.Way.{Way}
+use Rattle.recovery_plans.specs.declared.task.Way.TheVariants as way
+use Rattle.recovery_plans.specs.Recoveries.{Recovery}
+use Rattle.recovery_plans.specs.Taking.{Taken}
+use Rattle.recovery_laws.specs.Shapes.{Fits}
+
+-- GTIDs are used, and the server logs and was read
+pub record IsAutoSource (w : World) (seen : List Sight) (n : ServerNo) : Type 0 where
+  pub gtid : w.gtid ≡ true
+  pub logs : logs_at w n.0 ≡ true
+  pub read : is_some (seen_of seen n.0) ≡ true
+
+-- a way can be tried: both ends of its bridge have places, or its new source is one by GTIDs
+abbrev pub IsReadyWay : World → List Sight → Way → Type 0
+IsReadyWay w seen (way.Down b) = Spans w b
+IsReadyWay w seen (way.Up b) = Spans w b
+IsReadyWay w seen (way.Auto to exec) = IsAutoSource w seen to
+
+abbrev pub IsReady : World → List Sight → Task → Type 0
+IsReady w seen (task.Moving n by) = IsReadyWay w seen by
+IsReady w seen (task.Reading n) = Unit {0}
+IsReady w seen (task.Draining n) = Unit {0}
+IsReady w seen task.Choosing = Unit {0}
+IsReady w seen task.Handing = Unit {0}
+IsReady w seen task.Sorting = Unit {0}
+IsReady w seen (task.Expelling n) = Unit {0}
+IsReady w seen (task.Releasing n) = Unit {0}
+IsReady w seen (task.Trailing n) = Unit {0}
+IsReady w seen task.Yielding = Unit {0}
+
+-- the bridge that a stopped replica shows, where its own log ended there
+abbrev pub bridge_at : ServerNo → Stopped → Coord → Bridge
+bridge_at f s own = record { no = s.no; source = f; own = own; exec = s.exec }
+
+-- a replica that was stopped below the failed server: it was read; where it logs its own end was seen; and where that
+-- was seen both ends have places
+pub record IsStopped (w : World) (seen : List Sight) (f : ServerNo) (s : Stopped) : Type 0 where
+  pub server : Server
+  pub there : server_at w s.no.0 ≡ Some server
+  pub read : is_some (seen_of seen s.no.0) ≡ true
+  pub logs : server.settings.logs ≡ true → (own : Coord) × (s.own_end ≡ Some own)
+  pub spans : (own : Coord) → s.own_end ≡ Some own → Spans w (bridge_at f s own)
+
+-- where a designated replica stopped below its master
+pub record IsLead (w : World) (f : ServerNo) (b : Bridge) : Type 0 where
+  pub spans : Spans w b
+  pub below : b.source.0 ≡ f.0
+
+-- the bridge by which a stage goes has places
+abbrev pub IsReadyStage : World → Stage → Type 0
+IsReadyStage w (stage.Look n b) = Spans w b
+IsReadyStage w (stage.Looked n b) = Spans w b
+IsReadyStage w (stage.Trail n b) = Spans w b
+IsReadyStage w (stage.Halted n b) = Spans w b
+IsReadyStage w stage.Idle = Unit {0}
+IsReadyStage w stage.Check = Unit {0}
+IsReadyStage w (stage.Read n) = Unit {0}
+IsReadyStage w (stage.Drain n) = Unit {0}
+IsReadyStage w (stage.Judged n) = Unit {0}
+IsReadyStage w (stage.Move n by) = Unit {0}
+IsReadyStage w (stage.Join n p) = Unit {0}
+IsReadyStage w (stage.Expel n) = Unit {0}
+IsReadyStage w (stage.Expelled n) = Unit {0}
+IsReadyStage w (stage.Release n) = Unit {0}
+IsReadyStage w (stage.Level p q) = Unit {0}
+IsReadyStage w (stage.Swap p q) = Unit {0}
+IsReadyStage w (stage.Swapped p q) = Unit {0}
+IsReadyStage w (stage.Return p q) = Unit {0}
+IsReadyStage w (stage.Resume p q) = Unit {0}
+IsReadyStage w (stage.Crown n) = Unit {0}
+IsReadyStage w (stage.Open n) = Unit {0}
+IsReadyStage w (stage.Opened n) = Unit {0}
+IsReadyStage w (stage.Meet m d) = Unit {0}
+IsReadyStage w (stage.Shut m d) = Unit {0}
+IsReadyStage w (stage.Gather m d) = Unit {0}
+IsReadyStage w (stage.Yield m d) = Unit {0}
+IsReadyStage w (stage.Switch m d) = Unit {0}
+IsReadyStage w (stage.Switched m d) = Unit {0}
+IsReadyStage w (stage.Close lines) = Unit {0}
+
+-- of a job at a stage, with what is still to do of a failed server, what is drained, and where a replica stopped: the
+-- operations that are left are held and are the stage's, and what is gone by later has places
+pub record HeldParts (w : World) (j : Job) (s : Stage) (ts : List Task) (f : ServerNo) (ds : List Stopped) (o : Option Bridge) : Type 0 where
+  pub core : HeldJob w j
+  pub stage : IsReadyStage w s
+  pub fits : Fits s j.ops
+  pub queue : All (IsReady w j.seen) ts
+  pub drained : All (IsStopped w j.seen f) ds
+  pub lead : IfSome o (IsLead w f)
+
+-- a recovery under way
+abbrev pub HeldRecovery : World → Recovery → Type 0
+HeldRecovery w r = HeldParts w r.core r.stage r.queue r.failed r.drained r.lead
+
+-- a turn makes exchanges that are allowed, and leaves a recovery that goes on held
+pub record KeepsRecovery (w : World) (t : Taken) : Type 0 where
+  pub allowed : AllAllowed w t.exchanges
+  pub held : is_going t.step ≡ true → HeldRecovery (run w t.exchanges) t.recovery

@@ -1,0 +1,90 @@
+-- What holds of a recovery in a quiet world beside.
+use Rattle.std.specs.Prelude.{◌≡◌, true, List, Option, Some, IfSome, All}
+use Rattle.binlog_coords.specs.declared.Coord.{Coord}
+use Rattle.orch_base.specs.declared.server.ServerNo.{ServerNo}
+use Rattle.server_model.specs.Run.{run, AllJoinWell}
+use Rattle.server_model.specs.Worlds.{World}
+use Rattle.instance_keeper.specs.declared.bridge.Bridge.{Bridge}
+use Rattle.operations.specs.declared.sight.Sight.{Sight}
+use Rattle.operations.specs.Turns.{is_going}
+use Rattle.job_laws.specs.Flights.{StandsIn}
+use Rattle.job_laws.specs.Sound.{AllBridged}
+use Rattle.recovery_plans.specs.declared.outcome.Stopped.{Stopped}
+use Rattle.recovery_plans.specs.declared.stage.Stage.{Stage}
+use Rattle.recovery_plans.specs.declared.stage.Stage.TheVariants as stage
+use Rattle.recovery_plans.specs.declared.task.Task.{Task}
+use Rattle.recovery_plans.specs.declared.task.Task.TheVariants as task
+use Rattle.recovery_plans.specs.declared.task.Way.{Way}
+use Rattle.recovery_plans.specs.declared.task.Way.TheVariants as way
+use Rattle.recovery_plans.specs.Recoveries.{Recovery}
+use Rattle.recovery_plans.specs.Taking.{Taken}
+use Rattle.recovery_laws.specs.HeldRecoveries.{bridge_at}
+
+abbrev pub IsSoundWay : World → Way → Type 0
+IsSoundWay w (way.Down b) = StandsIn w b
+IsSoundWay w (way.Up b) = StandsIn w b
+IsSoundWay w (way.Auto to exec) = Unit {0}
+
+abbrev pub IsSoundTask : World → Task → Type 0
+IsSoundTask w (task.Moving n by) = IsSoundWay w by
+IsSoundTask w (task.Reading n) = Unit {0}
+IsSoundTask w (task.Draining n) = Unit {0}
+IsSoundTask w task.Choosing = Unit {0}
+IsSoundTask w task.Handing = Unit {0}
+IsSoundTask w task.Sorting = Unit {0}
+IsSoundTask w (task.Expelling n) = Unit {0}
+IsSoundTask w (task.Releasing n) = Unit {0}
+IsSoundTask w (task.Trailing n) = Unit {0}
+IsSoundTask w task.Yielding = Unit {0}
+
+-- the bridge that a stopped replica shows stands
+abbrev pub IsSoundStop : World → ServerNo → Stopped → Type 0
+IsSoundStop w f s = (own : Coord) → s.own_end ≡ Some own → StandsIn w (bridge_at f s own)
+
+-- the bridge by which a stage goes stands
+abbrev pub IsSoundStage : World → Stage → Type 0
+IsSoundStage w (stage.Look n b) = StandsIn w b
+IsSoundStage w (stage.Looked n b) = StandsIn w b
+IsSoundStage w (stage.Trail n b) = StandsIn w b
+IsSoundStage w (stage.Halted n b) = StandsIn w b
+IsSoundStage w stage.Idle = Unit {0}
+IsSoundStage w stage.Check = Unit {0}
+IsSoundStage w (stage.Read n) = Unit {0}
+IsSoundStage w (stage.Drain n) = Unit {0}
+IsSoundStage w (stage.Judged n) = Unit {0}
+IsSoundStage w (stage.Move n by) = Unit {0}
+IsSoundStage w (stage.Join n p) = Unit {0}
+IsSoundStage w (stage.Expel n) = Unit {0}
+IsSoundStage w (stage.Expelled n) = Unit {0}
+IsSoundStage w (stage.Release n) = Unit {0}
+IsSoundStage w (stage.Level p q) = Unit {0}
+IsSoundStage w (stage.Swap p q) = Unit {0}
+IsSoundStage w (stage.Swapped p q) = Unit {0}
+IsSoundStage w (stage.Return p q) = Unit {0}
+IsSoundStage w (stage.Resume p q) = Unit {0}
+IsSoundStage w (stage.Crown n) = Unit {0}
+IsSoundStage w (stage.Open n) = Unit {0}
+IsSoundStage w (stage.Opened n) = Unit {0}
+IsSoundStage w (stage.Meet m d) = Unit {0}
+IsSoundStage w (stage.Shut m d) = Unit {0}
+IsSoundStage w (stage.Gather m d) = Unit {0}
+IsSoundStage w (stage.Yield m d) = Unit {0}
+IsSoundStage w (stage.Switch m d) = Unit {0}
+IsSoundStage w (stage.Switched m d) = Unit {0}
+IsSoundStage w (stage.Close lines) = Unit {0}
+
+-- each reading and bridge that is gone by, now or later, shows one point of two logs
+pub record SoundParts (w : World) (seen : List Sight) (s : Stage) (ts : List Task) (f : ServerNo) (ds : List Stopped) (o : Option Bridge) : Type 0 where
+  pub core : AllBridged w seen
+  pub stage : IsSoundStage w s
+  pub queue : All (IsSoundTask w) ts
+  pub drained : All (IsSoundStop w f) ds
+  pub lead : IfSome o (StandsIn w)
+
+abbrev pub SoundRecovery : World → Recovery → Type 0
+SoundRecovery w r = SoundParts w r.core.seen r.stage r.queue r.failed r.drained r.lead
+
+-- in a safe world each attachment joins well, and a recovery that goes on is sound
+pub record KeepsSoundRecovery (w : World) (t : Taken) : Type 0 where
+  pub joins : AllJoinWell w t.exchanges
+  pub sound : is_going t.step ≡ true → SoundRecovery (run w t.exchanges) t.recovery

@@ -1,0 +1,30 @@
+//! Recoveries end.
+
+ghost use Rattle.std.specs.Prelude.{◌≡◌, ◌<◌, ℕ, List, true};
+ghost use Rattle.orch_base.specs.declared.server.Moment.{Moment as AMoment};
+ghost use Rattle.orch_base.specs.declared.server.ServerNo.{ServerNo as Number};
+ghost use Rattle.instance_keeper.specs.Book.{BookState};
+ghost use Rattle.operations.specs.Turns.{is_going};
+ghost use Rattle.server_model.specs.Safe.{Placed};
+ghost use Rattle.server_model.specs.Worlds.{World};
+ghost use Rattle.recovery_plans.specs.declared.purpose.Purpose.{Purpose as APurpose};
+ghost use Rattle.recovery_plans.specs.Beginning.{begun_recovery};
+ghost use Rattle.recovery_plans.specs.Recoveries.{Recovery};
+ghost use Rattle.recovery_plans.specs.Taking.{taken};
+ghost use Rattle.recovery_laws.specs.Ends.{IsCalm, turns_to_end};
+ghost use Rattle.recovery_laws.specs.HeldRecoveries.{HeldRecovery};
+ghost use Rattle.recovery_laws.specs.Rings.{HeldRings};
+
+/// A turn after which a recovery goes on leaves it fewer turns: it has ended an operation, or was one more of a limited
+/// number of waits.
+pub fn recoveries_end()
+    ensures begun { (u : APurpose) (id wait : ℕ) (f : Number) (replicas order : List Number) →
+        IsCalm (begun_recovery u id wait f replicas order) }
+    ensures calm { (w : World) (b : BookState) (read : ℕ) (now : AMoment) (r : Recovery) →
+        Placed w → HeldRings w b.rings → HeldRecovery w r → IsCalm r →
+        is_going (taken w b read now r).step ≡ true → IsCalm (taken w b read now r).recovery }
+    ensures fewer { (w : World) (b : BookState) (read : ℕ) (now : AMoment) (r : Recovery) →
+        Placed w → HeldRings w b.rings → HeldRecovery w r → IsCalm r →
+        is_going (taken w b read now r).step ≡ true →
+        turns_to_end (taken w b read now r).recovery < turns_to_end r }
+{}

@@ -1,0 +1,25 @@
+//! Recoveries leave operations that are held.
+
+ghost use Rattle.std.specs.Prelude.{◌≡◌, ℕ, List};
+ghost use Rattle.orch_base.specs.declared.server.Moment.{Moment as AMoment};
+ghost use Rattle.instance_keeper.specs.Book.{BookState};
+ghost use Rattle.server_model.specs.Run.{Exchange, run, AllAllowed};
+ghost use Rattle.server_model.specs.Safe.{Placed};
+ghost use Rattle.server_model.specs.Worlds.{World};
+ghost use Rattle.recovery_plans.specs.Recoveries.{Recovery};
+ghost use Rattle.recovery_plans.specs.Deciding.{decided};
+ghost use Rattle.recovery_plans.specs.Taking.{taken};
+ghost use Rattle.recovery_laws.specs.Rings.{HeldRings};
+ghost use Rattle.recovery_laws.specs.HeldRecoveries.{HeldRecovery, KeepsRecovery};
+
+/// What is decided at the beginning of a turn leaves a recovery held; so does its turn, whose exchanges are allowed, and
+/// whatever others do meanwhile.
+pub fn recoveries_stay_held()
+    ensures decided { (w : World) (b : BookState) (now : AMoment) (r : Recovery) →
+        HeldRings w b.rings → HeldRecovery w r → HeldRecovery w (decided w b now r) }
+    ensures taken { (w : World) (b : BookState) (read : ℕ) (now : AMoment) (r : Recovery) →
+        Placed w → HeldRings w b.rings → HeldRecovery w r →
+        KeepsRecovery w (taken w b read now r) }
+    ensures others { (w : World) (es : List Exchange) (r : Recovery) → Placed w →
+        AllAllowed w es → HeldRecovery w r → HeldRecovery (run w es) r }
+{}

@@ -1,0 +1,20 @@
+//! The bridges of a book stand in their own servers' rings.
+
+ghost use Rattle.std.specs.Prelude.{◌≡◌, ℕ, List, Option, [], IfSome, replicate, slice_set};
+ghost use Rattle.orch_base.specs.declared.server.ServerNo.{ServerNo as Number};
+ghost use Rattle.server_words.specs.declared.status.Status.{Status as Showed};
+ghost use Rattle.instance_keeper.specs.declared.bridge.Bridge.{Bridge as ABridge};
+ghost use Rattle.instance_keeper.specs.Bridges.{bridge_in, ringed};
+ghost use Rattle.recovery_laws.specs.Rings.{AreOwn};
+
+/// Each server's ring has bridges of that server, from empty rings on: where a bridge that was shown of a server is
+/// kept, and where an instance is forgotten.
+pub fn rings_stay_own()
+    ensures empty { (count : ℕ) → AreOwn (replicate count []) }
+    ensures kept { (rings : List (List ABridge)) (n : Number) (o : Option ABridge) →
+        IfSome o (λ b. b.no.0 ≡ n.0) → AreOwn rings → AreOwn (ringed rings n o) }
+    ensures shown { (n : Number) (seen : Option Showed) →
+        IfSome (bridge_in n seen) (λ b. b.no.0 ≡ n.0) }
+    ensures forgotten { (rings : List (List ABridge)) (n : Number) → AreOwn rings →
+        AreOwn (slice_set rings n.0 []) }
+{}

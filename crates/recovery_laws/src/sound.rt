@@ -1,0 +1,23 @@
+//! Recoveries keep a safe world safe.
+
+ghost use Rattle.std.specs.Prelude.{ℕ, List};
+ghost use Rattle.orch_base.specs.declared.server.Moment.{Moment as AMoment};
+ghost use Rattle.instance_keeper.specs.Book.{BookState};
+ghost use Rattle.server_model.specs.Run.{Exchange, run, AllAllowed};
+ghost use Rattle.server_model.specs.Safe.{Placed, Safe};
+ghost use Rattle.server_model.specs.Worlds.{World};
+ghost use Rattle.recovery_plans.specs.Recoveries.{Recovery};
+ghost use Rattle.recovery_plans.specs.Taking.{taken};
+ghost use Rattle.recovery_laws.specs.Rings.{HeldRings, SoundRings};
+ghost use Rattle.recovery_laws.specs.HeldRecoveries.{HeldRecovery};
+ghost use Rattle.recovery_laws.specs.SoundRecoveries.{SoundRecovery, KeepsSoundRecovery};
+
+/// In a safe world, where the bridges of the book stand, each attachment that a turn makes joins well, and the recovery
+/// stays sound; so it does whatever others do meanwhile.
+pub fn recoveries_stay_sound()
+    ensures taken { (w : World) (b : BookState) (read : ℕ) (now : AMoment) (r : Recovery) →
+        Safe w → Placed w → HeldRings w b.rings → SoundRings w b.rings → HeldRecovery w r →
+        SoundRecovery w r → KeepsSoundRecovery w (taken w b read now r) }
+    ensures others { (w : World) (es : List Exchange) (r : Recovery) → Placed w →
+        AllAllowed w es → SoundRecovery w r → SoundRecovery (run w es) r }
+{}

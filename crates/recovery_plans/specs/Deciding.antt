@@ -1,0 +1,277 @@
+-- What is decided at the beginning of a turn, by the servers' settings, what was drained and the book of that turn.
+use Rattle.std.specs.Prelude.{Bool, true, false, ◌==◌, ◌&&◌, not, if◌then◌else◌, List, [], ◌∷◌, ◌++◌, map, filter, find, Option, Some, None, is_some, option_map, unwrap_or}
+use Rattle.binlog_coords.specs.declared.Coord.{Coord}
+use Rattle.orch_base.specs.declared.server.Moment.{Moment}
+use Rattle.orch_base.specs.declared.server.ServerNo.{ServerNo}
+use Rattle.server_model.specs.Worlds.{World, server_at}
+use Rattle.commands.specs.declared.line.Lost.{Lost}
+use Rattle.commands.specs.declared.line.Lost.TheVariants as lost
+use Rattle.instance_keeper.specs.declared.bridge.Bridge.{Bridge}
+use Rattle.instance_keeper.specs.Book.{BookState, rule_at}
+use Rattle.instance_keeper.specs.Bridges.{has_own, latest_that, ring_at}
+use Rattle.operations.specs.declared.op.Crossing.TheVariants as cross
+use Rattle.operations.specs.declared.op.Op.{Op}
+use Rattle.operations.specs.declared.op.Op.TheVariants as op
+use Rattle.operations.specs.declared.sight.Sight.{Sight}
+use Rattle.operations.specs.Jobs.{seen_of}
+use Rattle.operations.specs.Targets.{logs_by}
+use Rattle.promotion_rules.specs.declared.drained.Drained.{Drained}
+use Rattle.promotion_rules.specs.Choice.{better, is_eligible, most_advanced}
+use Rattle.replica_groups.specs.declared.groups.Group.{Group}
+use Rattle.replica_groups.specs.declared.groups.Group.TheVariants as group
+use Rattle.replica_groups.specs.Groups.{group_of}
+use Rattle.recovery_plans.specs.declared.outcome.LostReplica.{LostReplica}
+use Rattle.recovery_plans.specs.declared.outcome.Stopped.{Stopped}
+use Rattle.recovery_plans.specs.declared.purpose.Purpose.{Purpose}
+use Rattle.recovery_plans.specs.declared.purpose.Purpose.TheVariants as purpose
+use Rattle.recovery_plans.specs.declared.stage.Stage.TheVariants as stage
+use Rattle.recovery_plans.specs.declared.task.Task.{Task}
+use Rattle.recovery_plans.specs.declared.task.Task.TheVariants as task
+use Rattle.recovery_plans.specs.declared.task.Way.{Way}
+use Rattle.recovery_plans.specs.declared.task.Way.TheVariants as way
+use Rattle.recovery_plans.specs.Recoveries.{Recovery, working, loses}
+use Rattle.recovery_plans.specs.Stages.{drain, level, move, with_bridge, with_way}
+use Rattle.recovery_plans.specs.Telling.{told}
+
+-- ---- which is promoted
+
+abbrev pub logs_at : World → ServerNo → Bool
+logs_at w n = logs_by (server_at w n.0)
+
+-- a drained replica as the choice looks at it, with its rule at this moment
+abbrev pub drained_of : World → BookState → Moment → Stopped → Drained
+drained_of w b now s = record { no = s.no; exec = s.exec; own_end = s.own_end; rule = rule_at b s.no now; logs = logs_at w s.no }
+
+-- a server that may take the promoted one's place; at its coordinates nobody looks
+abbrev pub follower_of : World → BookState → Moment → ServerNo → Drained
+follower_of w b now n = record { no = n; exec = record { file = 1; pos = 4 }; own_end = None; rule = rule_at b n now; logs = logs_at w n }
+
+abbrev pub stopped_in : List Stopped → Option ServerNo → Option Stopped
+stopped_in xs None = None
+stopped_in xs (Some n) = find (λ s. s.no.0 == n.0) xs
+
+abbrev pub may_lead : World → BookState → Moment → Stopped → Bool
+may_lead w b now s = is_eligible (drained_of w b now s)
+
+abbrev pub chosen_of : World → BookState → Moment → List Stopped → Option Stopped
+chosen_of w b now xs = stopped_in xs (most_advanced b.names (map (drained_of w b now) xs))
+
+abbrev pub better_of : World → BookState → Moment → ServerNo → List ServerNo → Option ServerNo
+better_of w b now p qs = better b.names (rule_at b p now) (map (follower_of w b now) qs)
+
+-- ---- where the others go
+
+-- a drained replica goes some way, or is lost
+pub data Lot : Type 0 where
+  Goes : (by : Way) → Lot
+  Stays : (why : Lost) → Lot
+
+-- below the chosen one, from where it stands under their source
+abbrev pub lot_by_group : ServerNo → ServerNo → Stopped → Group → Lot
+lot_by_group p f s (group.Follow at) = Goes (way.Down (record { no = p; source = f; own = at; exec = s.exec }))
+lot_by_group p f s group.Ahead = Stays (lost.Ahead s.exec)
+lot_by_group p f s group.Behind = Stays (lost.Behind s.exec)
+
+-- the chosen one logs, so that its own end was seen
+abbrev pub own_end_of : Stopped → Coord
+own_end_of p = unwrap_or p.own_end p.exec
+
+abbrev pub lot_of : World → BookState → ServerNo → Stopped → Stopped → Lot
+lot_of w b f p s =
+    if w.gtid then Goes (way.Auto p.no s.exec)
+    else lot_by_group p.no f s (group_of b.rings p.no (own_end_of p) p.exec f s.exec)
+
+abbrev pub move_of : Stopped → Lot → List Task
+move_of s (Goes by) = task.Moving s.no by ∷ []
+move_of s (Stays why) = []
+
+abbrev pub loss_of : Stopped → Lot → List LostReplica
+loss_of s (Goes by) = []
+loss_of s (Stays why) = record { no = s.no; why = why; detached = false } ∷ []
+
+abbrev pub moves_in : (Stopped → Lot) → List Stopped → List Task
+moves_in lot [] = []
+moves_in lot (s ∷ ss) = move_of s (lot s) ++ moves_in lot ss
+
+abbrev pub losses_in : (Stopped → Lot) → List Stopped → List LostReplica
+losses_in lot [] = []
+losses_in lot (s ∷ ss) = loss_of s (lot s) ++ losses_in lot ss
+
+abbrev pub without_stopped : List Stopped → ServerNo → List Stopped
+without_stopped xs p = filter (λ s. not (s.no.0 == p.0)) xs
+
+abbrev pub choose_by : Recovery → ServerNo → (Stopped → Lot) → List Stopped → Recovery
+choose_by r p lot others = record r {
+  queue = moves_in lot others ++ r.queue;
+  drained = [];
+  chosen = Some p;
+  outcome = record { promoted = Some p; followers = r.outcome.followers; lost = r.outcome.lost ++ losses_in lot others };
+}
+
+-- where none may be promoted, each drained one is lost
+abbrev pub unfit : World → Stopped → LostReplica
+unfit w s = record { no = s.no; why = if logs_at w s.no then lost.MustNot else lost.NotLogging; detached = false }
+
+-- nothing is left to do, and there is no new source
+abbrev pub stuck : Recovery → Recovery
+stuck r = record r { queue = []; chosen = None }
+
+abbrev pub choose : World → BookState → Moment → Recovery → Option Stopped → Recovery
+choose w b now r None = record (stuck r) {
+  drained = [];
+  outcome = record { promoted = None; followers = r.outcome.followers; lost = r.outcome.lost ++ map (unfit w) r.drained };
+}
+choose w b now r (Some p) =
+    choose_by (record r { eligible = filter (may_lead w b now) r.drained }) p.no (lot_of w b r.failed p) (without_stopped r.drained p.no)
+
+-- a move begins: what it goes by was seen
+abbrev pub moving : Recovery → ServerNo → Way → Recovery
+moving r n by =
+    working (record r { core = record r.core { seen = with_way r.core.seen by } }) (stage.Move n by) (move by n ∷ op.Start n ∷ [])
+
+-- below a successor that logs and was read, as it is and was; by its GTIDs
+abbrev pub way_by_set : World → List Sight → ServerNo → Stopped → Option Way
+way_by_set w seen s d = if is_some (seen_of seen s.0) && logs_at w s then Some (way.Auto s d.exec) else None
+
+-- below the successor: by its GTIDs, or by the latest kept bridge of the failed server under it where the replica stands
+abbrev pub way_below : World → BookState → List Sight → ServerNo → ServerNo → Stopped → Option Way
+way_below w b seen x s d =
+    if w.gtid then way_by_set w seen s d else option_map way.Up (latest_that (has_own s d.exec) (ring_at b.rings x))
+
+-- with the others still to be handed over, or without a way
+abbrev pub hand_by : Recovery → Stopped → List Stopped → Option Way → Recovery → Recovery
+hand_by r d ds None without = without
+hand_by r d ds (Some by) without = moving (record r { queue = task.Handing ∷ r.queue; drained = ds }) d.no by
+
+abbrev pub hand : World → BookState → ServerNo → Recovery → List Stopped → Recovery
+hand w b s r [] = record r { drained = [] }
+hand w b s r (d ∷ ds) = hand_by r d ds (way_below w b r.core.seen r.failed s d) (hand w b s (loses r d.no (lost.Behind d.exec)) ds)
+
+abbrev pub hand_over : World → BookState → Recovery → Option ServerNo → Recovery
+hand_over w b r None = r
+hand_over w b r (Some s) = hand w b s r r.drained
+
+-- ---- what becomes of the lost
+
+abbrev pub why_of : List LostReplica → ServerNo → Option Lost
+why_of xs n = option_map (λ l. l.why) (find (λ l. l.no.0 == n.0) xs)
+
+-- a lost one that executed what the new source didn't, or less, is detached
+abbrev pub is_apart : Option Lost → Bool
+is_apart None = false
+is_apart (Some (lost.Ahead c)) = true
+is_apart (Some (lost.Behind c)) = true
+is_apart (Some lost.Unreachable) = false
+is_apart (Some (lost.Moved s)) = false
+is_apart (Some lost.NotLogging) = false
+is_apart (Some lost.MustNot) = false
+
+-- a lost one that stands elsewhere
+abbrev pub is_elsewhere : Option Lost → Bool
+is_elsewhere None = false
+is_elsewhere (Some (lost.Ahead c)) = false
+is_elsewhere (Some (lost.Behind c)) = false
+is_elsewhere (Some lost.Unreachable) = false
+is_elsewhere (Some (lost.Moved s)) = true
+is_elsewhere (Some lost.NotLogging) = false
+is_elsewhere (Some lost.MustNot) = false
+
+-- a lost one that was reached
+abbrev pub is_reached : Option Lost → Bool
+is_reached None = false
+is_reached (Some (lost.Ahead c)) = true
+is_reached (Some (lost.Behind c)) = true
+is_reached (Some lost.Unreachable) = false
+is_reached (Some (lost.Moved s)) = true
+is_reached (Some lost.NotLogging) = true
+is_reached (Some lost.MustNot) = true
+
+abbrev pub expels : Purpose → Option Lost → Bool
+expels purpose.Regroup why = false
+expels purpose.Master why = is_apart why
+expels (purpose.Intermediate s) why = is_apart why
+expels (purpose.Takeover d) why = false
+
+abbrev pub releases : Purpose → Option Lost → Bool
+releases purpose.Regroup why = is_reached why
+releases purpose.Master why = is_elsewhere why
+releases (purpose.Intermediate s) why = is_elsewhere why
+releases (purpose.Takeover d) why = false
+
+abbrev pub sort : Recovery → Recovery
+sort r = record r {
+  queue = map task.Expelling (filter (λ n. expels r.purpose (why_of r.outcome.lost n)) r.replicas)
+      ++ (map task.Releasing (filter (λ n. releases r.purpose (why_of r.outcome.lost n)) r.replicas) ++ r.queue);
+}
+
+-- ---- what comes last
+
+-- nothing more is changed: these operations, and the lines
+abbrev pub closing : Recovery → List Op → Recovery
+closing r ops = working r (stage.Close (told r)) (ops ++ op.Finish (told r) ∷ [])
+
+abbrev pub swap_by : Recovery → ServerNo → Option ServerNo → Recovery
+swap_by r p None = r
+swap_by r p (Some q) = working r (stage.Level p q) (level p q)
+
+abbrev pub swap : World → BookState → Moment → Recovery → Option ServerNo → Recovery
+swap w b now r None = r
+swap w b now r (Some p) = swap_by r p (better_of w b now p (map (λ x. x.no) r.outcome.followers))
+
+abbrev pub crown : Recovery → Option ServerNo → Recovery
+crown r None = r
+crown r (Some p) = working r (stage.Crown p) (op.Reset p ∷ op.ReadOnly p false ∷ [])
+
+-- a better one is looked for once, and then the chosen one is crowned
+abbrev pub swap_or_crown : World → BookState → Moment → Recovery → Bool → Recovery
+swap_or_crown w b now r true = swap w b now (record r { swaps = false }) r.chosen
+swap_or_crown w b now r false = crown r r.chosen
+
+-- the chosen one is started
+abbrev pub rejoin : Recovery → Option ServerNo → Recovery
+rejoin r None = r
+rejoin r (Some p) = closing r (op.Start p ∷ [])
+
+abbrev pub at_last : World → BookState → Moment → Recovery → Purpose → Recovery
+at_last w b now r purpose.Regroup = rejoin r r.chosen
+at_last w b now r purpose.Master = swap_or_crown w b now r r.swaps
+at_last w b now r (purpose.Intermediate s) = closing r []
+at_last w b now r (purpose.Takeover d) = r
+
+-- ---- what is next
+
+-- the replica is read, and comes to where the designated one stopped
+abbrev pub look_at : Recovery → ServerNo → Option Bridge → Recovery
+look_at r n None = stuck r
+look_at r n (Some b) = working r (stage.Look n b) (op.Status n None ∷ [])
+
+abbrev pub yield : Recovery → Option Bridge → Recovery
+yield r None = stuck r
+yield r (Some b) =
+    working (record r { core = record r.core { seen = with_bridge r.core.seen b } }) (stage.Yield r.failed b.no)
+    (op.Reset b.no ∷ op.Cross cross.About r.failed b.no ∷ [])
+
+abbrev pub by_task : World → BookState → Moment → Recovery → Task → Recovery
+by_task w b now r (task.Reading n) = working r (stage.Read n) (op.Status n None ∷ [])
+by_task w b now r (task.Draining n) = working r (stage.Drain n) (drain n)
+by_task w b now r task.Choosing = choose w b now r (chosen_of w b now r.drained)
+by_task w b now r task.Handing = hand_over w b r r.chosen
+by_task w b now r (task.Moving n by) = moving r n by
+by_task w b now r task.Sorting = sort r
+by_task w b now r (task.Expelling n) = working r (stage.Expel n) (op.Detach n ∷ [])
+by_task w b now r (task.Releasing n) = working r (stage.Release n) (op.Start n ∷ [])
+by_task w b now r (task.Trailing n) = look_at r n r.lead
+by_task w b now r task.Yielding = yield r r.lead
+
+abbrev pub by_queue : World → BookState → Moment → Recovery → List Op → List Task → Recovery
+by_queue w b now r (x ∷ xs) ts = r
+by_queue w b now r [] [] = at_last w b now r r.purpose
+by_queue w b now r [] (t ∷ ts) = by_task w b now (record r { queue = ts }) t
+
+-- the next task, where no operation is left
+abbrev pub once : World → BookState → Moment → Recovery → Recovery
+once w b now r = by_queue w b now r r.core.ops r.queue
+
+-- at most four decisions stand one behind another
+abbrev pub decided : World → BookState → Moment → Recovery → Recovery
+decided w b now r = once w b now (once w b now (once w b now (once w b now r)))

@@ -1,0 +1,6 @@
+pub mod Recoveries
+pub mod Stages
+pub mod Telling
+pub mod Deciding
+pub mod Taking
+pub mod Beginning

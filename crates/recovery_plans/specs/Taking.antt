@@ -1,0 +1,395 @@
+-- The turn of a recovery, as a function.
+use Rattle.std.specs.Prelude.{ℕ, Bool, true, false, ◌==◌, not, if◌then◌else◌, List, [], ◌∷◌, ◌++◌, map, Option, Some, None}
+use Rattle.std.specs.Option.{option_to_list}
+use Rattle.binlog_coords.specs.declared.Coord.{Coord}
+use Rattle.binlog_coords.specs.Log.{same_coord}
+use Rattle.orch_base.specs.declared.server.Moment.{Moment}
+use Rattle.orch_base.specs.declared.server.ServerNo.{ServerNo}
+use Rattle.orch_base.specs.declared.server.SourceState.{SourceState}
+use Rattle.orch_base.specs.declared.server.SourceState.TheVariants.{Without, Attached, Detached}
+use Rattle.server_words.specs.declared.attach.Spot.{Spot}
+use Rattle.server_words.specs.declared.attach.Spot.TheVariants as spot
+use Rattle.server_words.specs.declared.changes.Ask.TheVariants as asking
+use Rattle.server_words.specs.declared.status.Status.{Status}
+use Rattle.server_model.specs.declared.server.Server.{Server}
+use Rattle.server_model.specs.Attach.{spot_below}
+use Rattle.server_model.specs.Run.{Exchange, Request}
+use Rattle.server_model.specs.Worlds.{World, has_source, server_at, source_no}
+use Rattle.commands.specs.declared.cause.Cause.{Cause}
+use Rattle.commands.specs.declared.cause.Cause.TheVariants as cause
+use Rattle.commands.specs.declared.line.Lost.{Lost}
+use Rattle.commands.specs.declared.line.Lost.TheVariants as lost
+use Rattle.instance_keeper.specs.declared.bridge.Bridge.{Bridge}
+use Rattle.instance_keeper.specs.declared.observation.Observation.{Observation}
+use Rattle.instance_keeper.specs.Book.{BookState}
+use Rattle.instance_keeper.specs.Bridges.{bridge_in}
+use Rattle.operations.specs.declared.op.Crossing.TheVariants as cross
+use Rattle.operations.specs.declared.op.Op.{Op}
+use Rattle.operations.specs.declared.op.Op.TheVariants as op
+use Rattle.operations.specs.declared.sight.Sight.{Sight}
+use Rattle.operations.specs.declared.step.JobStep.{JobStep}
+use Rattle.operations.specs.declared.step.JobStep.TheVariants as step
+use Rattle.operations.specs.Deeds.{deed_of}
+use Rattle.operations.specs.Jobs.{Job, seen_of}
+use Rattle.operations.specs.Turns as attempt
+use Rattle.operations.specs.Turns.{Attempt, by_deed, crossing_of, ended, restarts}
+use Rattle.recovery_plans.specs.declared.outcome.LostReplica.{LostReplica}
+use Rattle.recovery_plans.specs.declared.purpose.Purpose.{Purpose}
+use Rattle.recovery_plans.specs.declared.purpose.Purpose.TheVariants as purpose
+use Rattle.recovery_plans.specs.declared.stage.Stage.{Stage}
+use Rattle.recovery_plans.specs.declared.stage.Stage.TheVariants as stage
+use Rattle.recovery_plans.specs.declared.task.Way.{Way}
+use Rattle.recovery_plans.specs.declared.task.Way.TheVariants as way
+use Rattle.recovery_plans.specs.Recoveries.{Recovery, follows, follows_no_more, loses, working}
+use Rattle.recovery_plans.specs.Stages.{ends, gather, leaver, moved, trail, with_bridge}
+use Rattle.recovery_plans.specs.Deciding.{closing, decided, moving}
+
+-- What a turn comes to, what it observed for the book, the exchanges that changed servers, and the recovery after it.
+pub record Taken : Type 0 where
+  pub step : JobStep
+  pub observation : Option Observation
+  pub exchanges : List Exchange
+  pub recovery : Recovery
+
+-- ---- where a server stands
+
+-- where a server was seen
+abbrev pub spot_seen : SourceState → Coord → Spot
+spot_seen Without c = spot.Nowhere
+spot_seen (Attached m) c = spot.At m c
+spot_seen (Detached m) c = spot.At m c
+
+-- where a server is
+abbrev pub spot_by : Option Server → Spot
+spot_by None = spot.Nowhere
+spot_by (Some s) = spot_below s s.source
+
+-- how far a server has executed its source's log
+abbrev pub exec_by : Option Server → Coord
+exec_by None = record { file = 1; pos = 4 }
+exec_by (Some s) = s.exec
+
+abbrev pub is_source : Option ℕ → ServerNo → Bool
+is_source None f = false
+is_source (Some m) f = m == f.0
+
+abbrev pub is_below : Status → ServerNo → Bool
+is_below s f = is_source (source_no s.source) f
+
+-- ---- a stage that is done
+
+-- a replica that was stopped is drained where its source is the failed server; else it is lost
+abbrev pub judged : Recovery → ServerNo → Option Status → Recovery
+judged r n None = loses r n lost.Unreachable
+judged r n (Some s) =
+    if is_below s r.failed then record r { drained = r.drained ++ record { no = n; exec = s.exec; own_end = s.own_end } ∷ [] }
+    else loses r n (lost.Moved (spot_seen s.source s.exec))
+
+-- a lost one is marked as detached
+abbrev pub marked : ServerNo → LostReplica → LostReplica
+marked n l = if l.no.0 == n.0 then record l { detached = true } else l
+
+abbrev pub expelled : Recovery → ServerNo → Recovery
+expelled r n = record r { outcome = record r.outcome { lost = map (marked n) r.outcome.lost } }
+
+-- the better one takes the promoted one's place
+abbrev pub swapped : Recovery → ServerNo → ServerNo → Recovery
+swapped r p q = record (follows r p q) { outcome = record (follows r p q).outcome { promoted = Some q } }
+
+-- what was seen of the designated replica, where it is below the master
+abbrev pub lead_under : ServerNo → Option Bridge → Option Bridge
+lead_under m None = None
+lead_under m (Some b) = if b.source.0 == m.0 then Some b else None
+
+abbrev pub gathered : Recovery → ServerNo → Recovery
+gathered r d = record r { lead = lead_under r.failed (bridge_in d (seen_of r.core.seen d.0)) }
+
+abbrev pub idle : Recovery → Recovery
+idle r = record r { stage = stage.Idle }
+
+-- a lost one is started at once
+abbrev pub frees : Recovery → ServerNo → Lost → Recovery
+frees r n why = working (loses r n why) (stage.Release n) (op.Start n ∷ [])
+
+-- a replica of the master goes to where the designated one stopped; one that stands elsewhere is lost
+abbrev pub looked : Recovery → ServerNo → Bridge → Option Status → Recovery
+looked r n b None = idle (loses r n lost.Unreachable)
+looked r n b (Some s) =
+    if is_below s r.failed then working (record r { core = record r.core { seen = with_bridge r.core.seen b } }) (stage.Trail n b) (trail n b.no)
+    else idle (loses r n (lost.Moved (spot_seen s.source s.exec)))
+
+-- one that stands there goes below the designated one; another is behind
+abbrev pub halted : Recovery → ServerNo → Bridge → Option Status → Recovery
+halted r n b None = frees r n lost.Unreachable
+halted r n b (Some s) = if same_coord s.exec b.exec then moving r n (way.Down b) else frees r n (lost.Behind s.exec)
+
+-- the last readings, before the lines
+abbrev pub last_looks : Recovery → Purpose → ServerNo → List Op
+last_looks r purpose.Regroup n = op.Status n None ∷ []
+last_looks r purpose.Master n = op.Status n None ∷ []
+last_looks r (purpose.Intermediate s) n = op.Status n None ∷ []
+last_looks r (purpose.Takeover d) n = op.Status r.failed None ∷ op.Status n None ∷ []
+
+abbrev pub completed : Recovery → Stage → Recovery
+completed r stage.Idle = idle r
+completed r stage.Check = idle r
+completed r (stage.Read n) = idle r
+completed r (stage.Drain n) = idle r
+completed r (stage.Judged n) = idle (judged r n (seen_of r.core.seen n.0))
+completed r (stage.Move n by) = idle r
+completed r (stage.Join n p) = idle (follows r n p)
+completed r (stage.Expel n) = idle r
+completed r (stage.Expelled n) = idle (expelled r n)
+completed r (stage.Release n) = idle r
+completed r (stage.Level p q) = idle r
+completed r (stage.Swap p q) = idle r
+completed r (stage.Swapped p q) = working (swapped r p q) (stage.Open q) (op.Start p ∷ op.ReadOnly q false ∷ [])
+completed r (stage.Return p q) = idle r
+completed r (stage.Resume p q) = idle (follows r q p)
+completed r (stage.Crown n) = idle r
+completed r (stage.Open n) = idle r
+completed r (stage.Opened n) = closing r (last_looks r r.purpose n)
+completed r (stage.Meet m d) = working r (stage.Shut m d) (op.ReadOnly m true ∷ gather m d)
+completed r (stage.Shut m d) = idle r
+completed r (stage.Gather m d) = idle (gathered r d)
+completed r (stage.Look n b) = idle r
+completed r (stage.Looked n b) = looked r n b (seen_of r.core.seen n.0)
+completed r (stage.Trail n b) = idle r
+completed r (stage.Halted n b) = halted r n b (seen_of r.core.seen n.0)
+completed r (stage.Yield m d) = idle r
+completed r (stage.Switch m d) = idle r
+completed r (stage.Switched m d) = working (follows r m d) (stage.Open d) (op.ReadOnly d false ∷ [])
+completed r (stage.Close lines) = idle r
+
+abbrev pub entered : Recovery → Stage → Recovery
+entered r s = record (follows_no_more r (leaver s)) { stage = s }
+
+abbrev pub stepped : Recovery → Op → Recovery
+stepped r o = if ends r.stage (deed_of o) then entered r (moved r.stage) else r
+
+abbrev pub at_end : Recovery → List Op → Recovery
+at_end r [] = completed r r.stage
+at_end r (x ∷ xs) = r
+
+-- an operation is done, or it is one more wait
+abbrev pub progressed : Recovery → Op → Bool → Recovery
+progressed r o true = r
+progressed r o false = let s = stepped r o in at_end s s.core.ops
+
+-- ---- an operation that fails
+
+pub data Fate : Type 0 where
+  -- the recovery fails
+  Fails : Fate
+  -- nothing more is done with the server
+  Drops : Fate
+  -- the replica is lost; or it is started, too
+  Loses : (n : ServerNo) (why : Lost) → Fate
+  Frees : (n : ServerNo) (why : Lost) → Fate
+  -- another stage takes its place
+  Goes : (s : Stage) (ops : List Op) → Fate
+
+abbrev pub fate_of_drain : ServerNo → Cause → Fate
+fate_of_drain n (cause.Unreachable m) = Loses n lost.Unreachable
+fate_of_drain n (cause.WaitSpent m) = Fails
+fate_of_drain n (cause.Interfered m expected found) = Fails
+fate_of_drain n (cause.Running m) = Fails
+fate_of_drain n (cause.Loop m) = Fails
+fate_of_drain n (cause.Errant m set) = Fails
+fate_of_drain n (cause.Moved m source) = Fails
+fate_of_drain n (cause.Reachable m) = Fails
+fate_of_drain n cause.NoCandidate = Fails
+
+-- a replica that comes to where another stopped: one that takes too long is behind, where it stands
+abbrev pub fate_of_trail : World → ServerNo → Cause → Fate
+fate_of_trail w n (cause.Unreachable m) = Frees n lost.Unreachable
+fate_of_trail w n (cause.WaitSpent m) = Frees n (lost.Behind (exec_by (server_at w n.0)))
+fate_of_trail w n (cause.Interfered m expected found) = Fails
+fate_of_trail w n (cause.Running m) = Fails
+fate_of_trail w n (cause.Loop m) = Fails
+fate_of_trail w n (cause.Errant m set) = Fails
+fate_of_trail w n (cause.Moved m source) = Fails
+fate_of_trail w n (cause.Reachable m) = Fails
+fate_of_trail w n cause.NoCandidate = Fails
+
+-- a replica that is lost on its way is started at once in a takeover, and is looked after later else
+abbrev pub lost_on_way : Purpose → ServerNo → Lost → Fate
+lost_on_way purpose.Regroup n why = Loses n why
+lost_on_way purpose.Master n why = Loses n why
+lost_on_way (purpose.Intermediate s) n why = Loses n why
+lost_on_way (purpose.Takeover d) n why = Frees n why
+
+-- only an attachment by GTIDs may find transactions that the new source lacks
+abbrev pub fate_of_errant : Purpose → ServerNo → Way → Fate
+fate_of_errant u n (way.Auto to exec) = lost_on_way u n (lost.Ahead exec)
+fate_of_errant u n (way.Down b) = Fails
+fate_of_errant u n (way.Up b) = Fails
+
+abbrev pub fate_of_move : World → Purpose → ServerNo → Way → Cause → Fate
+fate_of_move w u n by (cause.Unreachable m) = lost_on_way u n lost.Unreachable
+fate_of_move w u n by (cause.Running m) = lost_on_way u n (lost.Moved (spot_by (server_at w n.0)))
+fate_of_move w u n by (cause.Interfered m expected found) = lost_on_way u n (lost.Moved found)
+fate_of_move w u n by (cause.Errant m set) = fate_of_errant u n by
+fate_of_move w u n by (cause.WaitSpent m) = Fails
+fate_of_move w u n by (cause.Loop m) = Fails
+fate_of_move w u n by (cause.Moved m source) = Fails
+fate_of_move w u n by (cause.Reachable m) = Fails
+fate_of_move w u n by cause.NoCandidate = Fails
+
+abbrev pub fate : World → Purpose → Stage → Cause → Fate
+fate w u (stage.Drain n) c = fate_of_drain n c
+fate w u (stage.Move n by) c = fate_of_move w u n by c
+fate w u (stage.Join n p) c = Loses n lost.Unreachable
+fate w u (stage.Look n b) c = fate_of_trail w n c
+fate w u (stage.Trail n b) c = fate_of_trail w n c
+fate w u stage.Check c = Drops
+fate w u (stage.Expel n) c = Drops
+fate w u (stage.Release n) c = Drops
+fate w u (stage.Level p q) c = Goes (stage.Release q) (op.Start q ∷ [])
+fate w u (stage.Swap p q) c = Goes (stage.Return p q) (op.Cross cross.Back q p ∷ op.Start q ∷ [])
+fate w u stage.Idle c = Fails
+fate w u (stage.Read n) c = Fails
+fate w u (stage.Judged n) c = Fails
+fate w u (stage.Expelled n) c = Fails
+fate w u (stage.Swapped p q) c = Fails
+fate w u (stage.Return p q) c = Fails
+fate w u (stage.Resume p q) c = Fails
+fate w u (stage.Crown n) c = Fails
+fate w u (stage.Open n) c = Fails
+fate w u (stage.Opened n) c = Fails
+fate w u (stage.Meet m d) c = Fails
+fate w u (stage.Shut m d) c = Fails
+fate w u (stage.Gather m d) c = Fails
+fate w u (stage.Looked n b) c = Fails
+fate w u (stage.Halted n b) c = Fails
+fate w u (stage.Yield m d) c = Fails
+fate w u (stage.Switch m d) c = Fails
+fate w u (stage.Switched m d) c = Fails
+fate w u (stage.Close lines) c = Fails
+
+-- ---- the way back of a takeover that fails
+
+abbrev pub takes_writes : ServerNo → List Exchange
+takes_writes m = Request m.0 (asking.SetReadOnly false) ∷ []
+
+-- the designated replica goes back below its master and is started; what is refused changes nothing
+abbrev pub goes_back : List Sight → ServerNo → ServerNo → List Exchange
+goes_back seen m d = option_to_list (crossing_of seen cross.Back d m) ++ (Request d.0 asking.Start ∷ takes_writes m)
+
+-- a master that was made to refuse writes takes them again, until its replica is to take its place
+abbrev pub way_back : List Sight → ServerNo → Stage → List Exchange
+way_back seen m (stage.Meet k d) = []
+way_back seen m (stage.Shut k d) = []
+way_back seen m (stage.Switch k d) = goes_back seen k d
+way_back seen m (stage.Switched k d) = []
+way_back seen m (stage.Open n) = []
+way_back seen m (stage.Opened n) = []
+way_back seen m (stage.Close lines) = []
+way_back seen m stage.Idle = takes_writes m
+way_back seen m stage.Check = takes_writes m
+way_back seen m (stage.Read n) = takes_writes m
+way_back seen m (stage.Drain n) = takes_writes m
+way_back seen m (stage.Judged n) = takes_writes m
+way_back seen m (stage.Move n by) = takes_writes m
+way_back seen m (stage.Join n p) = takes_writes m
+way_back seen m (stage.Expel n) = takes_writes m
+way_back seen m (stage.Expelled n) = takes_writes m
+way_back seen m (stage.Release n) = takes_writes m
+way_back seen m (stage.Level p q) = takes_writes m
+way_back seen m (stage.Swap p q) = takes_writes m
+way_back seen m (stage.Swapped p q) = takes_writes m
+way_back seen m (stage.Return p q) = takes_writes m
+way_back seen m (stage.Resume p q) = takes_writes m
+way_back seen m (stage.Crown n) = takes_writes m
+way_back seen m (stage.Gather k d) = takes_writes m
+way_back seen m (stage.Look n b) = takes_writes m
+way_back seen m (stage.Looked n b) = takes_writes m
+way_back seen m (stage.Trail n b) = takes_writes m
+way_back seen m (stage.Halted n b) = takes_writes m
+way_back seen m (stage.Yield k d) = takes_writes m
+
+abbrev pub undone : Purpose → List Sight → ServerNo → Stage → List Exchange
+undone purpose.Regroup seen f s = []
+undone purpose.Master seen f s = []
+undone (purpose.Intermediate k) seen f s = []
+undone (purpose.Takeover d) seen f s = way_back seen f s
+
+-- a recovery that fails goes its way back, and starts each server that it stopped and hasn't started
+abbrev pub last_exchanges : Recovery → List Exchange
+last_exchanges r = undone r.purpose r.core.seen r.failed r.stage ++ restarts r.core.hands
+
+abbrev pub fails : Recovery → Cause → Option Observation → Taken
+fails r c o = record { step = step.Failed c; observation = o; exchanges = last_exchanges r; recovery = record r { core = ended r.core } }
+
+abbrev pub goes_on : Option Observation → List Exchange → Recovery → Taken
+goes_on o es r = record { step = step.Going; observation = o; exchanges = es; recovery = r }
+
+abbrev pub met : Recovery → Cause → Option Observation → Fate → Taken
+met r c o Fails = fails r c o
+met r c o Drops = goes_on o [] (working r stage.Idle [])
+met r c o (Loses n why) = goes_on o [] (working (loses r n why) stage.Idle [])
+met r c o (Frees n why) = goes_on o [] (frees r n why)
+met r c o (Goes s ops) = goes_on o [] (working r s ops)
+
+-- ---- a turn
+
+abbrev pub is_waiting : Job → Bool
+is_waiting j = not (j.waited == 0)
+
+-- a master that is to give up its place has no source
+abbrev pub source_cause : ServerNo → Option Status → Option Cause
+source_cause m None = None
+source_cause m (Some s) = if has_source s.source then Some (cause.Moved m s.source) else None
+
+-- what is seen may end the recovery: a failed server that is reached hasn't failed
+abbrev pub barred_by : Stage → ServerNo → List Sight → Option Cause
+barred_by stage.Check f seen = Some (cause.Reachable f)
+barred_by (stage.Meet m d) f seen = source_cause m (seen_of seen m.0)
+barred_by stage.Idle f seen = None
+barred_by (stage.Read n) f seen = None
+barred_by (stage.Drain n) f seen = None
+barred_by (stage.Judged n) f seen = None
+barred_by (stage.Move n by) f seen = None
+barred_by (stage.Join n p) f seen = None
+barred_by (stage.Expel n) f seen = None
+barred_by (stage.Expelled n) f seen = None
+barred_by (stage.Release n) f seen = None
+barred_by (stage.Level p q) f seen = None
+barred_by (stage.Swap p q) f seen = None
+barred_by (stage.Swapped p q) f seen = None
+barred_by (stage.Return p q) f seen = None
+barred_by (stage.Resume p q) f seen = None
+barred_by (stage.Crown n) f seen = None
+barred_by (stage.Open n) f seen = None
+barred_by (stage.Opened n) f seen = None
+barred_by (stage.Shut m d) f seen = None
+barred_by (stage.Gather m d) f seen = None
+barred_by (stage.Look n b) f seen = None
+barred_by (stage.Looked n b) f seen = None
+barred_by (stage.Trail n b) f seen = None
+barred_by (stage.Halted n b) f seen = None
+barred_by (stage.Yield m d) f seen = None
+barred_by (stage.Switch m d) f seen = None
+barred_by (stage.Switched m d) f seen = None
+barred_by (stage.Close lines) f seen = None
+
+abbrev pub on_going : Recovery → Op → Option Observation → List Exchange → Job → Option Cause → Taken
+on_going r o ob es j None = goes_on ob es (progressed (record r { core = j }) o (is_waiting j))
+on_going r o ob es j (Some c) = fails r c ob
+
+abbrev pub attempted : World → Recovery → Op → Attempt → Taken
+attempted w r o (attempt.Goes ob es j) = on_going r o ob es j (barred_by r.stage r.failed j.seen)
+attempted w r o (attempt.Stops c ob) = met r c ob (fate w r.purpose r.stage c)
+attempted w r o (attempt.Ends lines) = record { step = step.Done lines; observation = None; exchanges = []; recovery = record r { core = ended r.core } }
+
+-- without an operation there is no new source
+abbrev pub acted : World → ℕ → Moment → Recovery → List Op → Taken
+acted w read now r [] = fails r cause.NoCandidate None
+acted w read now r (o ∷ rest) = attempted w r o (by_deed w read now r.core rest (deed_of o))
+
+abbrev pub settled : World → ℕ → Moment → Recovery → Taken
+settled w read now r = acted w read now r r.core.ops
+
+-- one turn, on a world and a book, with the read number and the moment of what it observes
+abbrev pub taken : World → BookState → ℕ → Moment → Recovery → Taken
+taken w b read now r = settled w read now (decided w b now r)

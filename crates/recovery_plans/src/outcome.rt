@@ -1,0 +1,36 @@
+//! What becomes of replicas.
+
+use binlog_coords::Coord;
+use commands::Lost;
+use orch_base::ServerNo;
+
+/// A replica that was stopped below its source, as it was seen then.
+#[derive(Clone, Copy, Debug, PartialEq, Eq)]
+pub struct Stopped {
+    /// The replica.
+    pub no: ServerNo,
+    /// How far it has executed its source's log.
+    pub exec: Coord,
+    /// The end of its own binary log: none where it doesn't log.
+    pub own_end: Option<Coord>,
+}
+
+/// A replica and the source below which it was put.
+#[derive(Clone, Copy, Debug, PartialEq, Eq)]
+pub struct Follower {
+    /// The replica.
+    pub no: ServerNo,
+    /// Its source.
+    pub source: ServerNo,
+}
+
+/// A replica that isn't below the new source.
+#[derive(Clone, Copy, Debug, PartialEq, Eq)]
+pub struct LostReplica {
+    /// The replica.
+    pub no: ServerNo,
+    /// Why it was left.
+    pub why: Lost,
+    /// Whether it was detached from its source.
+    pub detached: bool,
+}

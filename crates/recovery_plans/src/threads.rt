@@ -1,0 +1,15 @@
+//! The types of this crate can be moved between threads, and shared by them.
+
+use crate::{Follower, LostReplica, Purpose, Stage, Stopped, Task, Way};
+
+fn crosses_threads<T: Send + Sync>() {}
+
+fn all_cross_threads() {
+    crosses_threads::<Purpose>();
+    crosses_threads::<Stopped>();
+    crosses_threads::<Follower>();
+    crosses_threads::<LostReplica>();
+    crosses_threads::<Way>();
+    crosses_threads::<Task>();
+    crosses_threads::<Stage>();
+}

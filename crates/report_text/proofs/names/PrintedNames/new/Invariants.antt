@@ -1,0 +1,6 @@
+use Rattle.std.proofs.Common.{◌≡◌, map, take}
+use Rattle.orch_base.specs.Names.{printed}
+use Rattle.report_text.proofs.names.PrintedNames.new.Given as goal
+
+abbrev pub invariant-loop-name : goal.invariant-loop-name
+invariant-loop-name l = map (λ t. t.items) l.texts.items ≡ map printed (take l.name-index l.names)

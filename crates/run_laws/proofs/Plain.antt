@@ -1,0 +1,148 @@
+-- A job's turn makes neither writes nor new files.
+use Rattle.std.proofs.Common.{◌≡◌, ℕ, ◌+◌, Bool, true, false, cond, List, [], ◌∷◌, refl, ap, subst, Option, Some, None, Ok, Err, Result, arith}
+use Rattle.std.specs.Prelude.{All, count_by, nat_lt}
+use Rattle.std.proofs.lemmas.List.Elements.{All-nil, All-cons, All-head, All-tail}
+use Rattle.std.proofs.lemmas.List.Sums.{sum_by-cons}
+use Rattle.std.proofs.lemmas.Option.{same_Some}
+use Rattle.orch_base.specs.declared.server.Moment.{Moment}
+use Rattle.orch_base.specs.declared.server.ServerNo.{ServerNo}
+use Rattle.orch_base.specs.declared.server.SourceState.{SourceState}
+use Rattle.orch_base.specs.declared.server.SourceState.TheVariants.{Without, Attached, Detached}
+use Rattle.binlog_coords.specs.declared.Coord.{Coord}
+use Rattle.instance_keeper.specs.declared.bridge.Bridge.{Bridge}
+use Rattle.instance_keeper.specs.declared.observation.Observation.{Observation}
+use Rattle.instance_keeper.specs.Bridges.{bridge_in}
+use Rattle.server_words.specs.declared.answers.Unreachable.{Unreachable}
+use Rattle.server_words.specs.declared.attach.AttachFault.{AttachFault}
+use Rattle.server_words.specs.declared.attach.Spot.TheVariants as spot
+use Rattle.server_words.specs.declared.changes.Ask.{Ask}
+use Rattle.server_words.specs.declared.changes.Ask.TheVariants as asking
+use Rattle.server_words.specs.declared.status.Status.{Status}
+use Rattle.opening_book.specs.Seeing.{seen_in}
+use Rattle.server_model.specs.Desk.{desk_answer}
+use Rattle.server_model.specs.Gtids.{status}
+use Rattle.server_model.specs.Run.{Exchange, Attach, AttachAuto, Request, is_rotate, is_write}
+use Rattle.server_model.specs.Worlds.{World, server_at}
+use Rattle.commands.specs.declared.cause.Cause.TheVariants as cause
+use Rattle.operations.specs.declared.op.Op.{Op}
+use Rattle.operations.specs.declared.op.Crossing.{Crossing}
+use Rattle.operations.specs.declared.op.Crossing.TheVariants as cross
+use Rattle.operations.specs.Deeds as deed
+use Rattle.operations.specs.Deeds.{Deed, deed_of}
+use Rattle.operations.specs.Jobs.{Job, seen_of}
+use Rattle.operations.specs.Targets.{can_attach}
+use Rattle.operations.specs.Turns.{Turned, Goes, Stops, settled, next, saw, restarts, observed, is_moved, after_status, after_look, after_ask, aim_of, attached_anew, is_reached, until_by, after_until, after_wait_by, after_wait, holds_seen, settles, read_by, crossed, same_again, by_set, attach_answer_of, after_answer, after_attach, by_deed, by_ops, turned}
+
+-- an exchange that adds neither a transaction of a client nor a file
+pub record IsPlain (e : Exchange) : Type 0 where
+  pub writes_not : is_write e ≡ false
+  pub rotates_not : is_rotate e ≡ false
+
+request-plain : (n : ServerNo) (a : Ask) → IsPlain (Request n.0 a)
+request-plain n a = record { writes_not = refl; rotates_not = refl }
+
+restarts-plain : (hands : List ServerNo) → All IsPlain (restarts hands)
+restarts-plain [] = All-nil IsPlain
+restarts-plain (n ∷ ns) = All-cons IsPlain (Request n.0 asking.Start) (restarts ns) (request-plain n asking.Start) (restarts-plain ns)
+
+one-plain : (e : Exchange) → IsPlain e → All IsPlain (e ∷ [])
+one-plain e is = All-cons IsPlain e [] is (All-nil IsPlain)
+
+-- ---- what attaches
+
+crossed-plain : (c : Crossing) (a : ServerNo) (o : Option Bridge) (e : Exchange) → crossed c a o ≡ Some e → IsPlain e
+crossed-plain c a None e h = cc
+crossed-plain cross.Up a (Some b) e h = subst IsPlain (same_Some (Attach a.0 (spot.At b.no b.own) b.source b.exec) e h) (record { writes_not = refl; rotates_not = refl })
+crossed-plain cross.Down a (Some b) e h = subst IsPlain (same_Some (Attach a.0 (spot.At b.source b.exec) b.no b.own) e h) (record { writes_not = refl; rotates_not = refl })
+crossed-plain cross.About a (Some b) e h = subst IsPlain (same_Some (Attach a.0 (spot.OwnEnd b.exec) b.no b.own) e h) (record { writes_not = refl; rotates_not = refl })
+crossed-plain cross.Back a (Some b) e h = subst IsPlain (same_Some (Attach a.0 (spot.OwnEnd b.own) b.source b.exec) e h) (record { writes_not = refl; rotates_not = refl })
+
+anew-plain : (n : ServerNo) (exec : Coord) (s : SourceState) (e : Exchange) → attached_anew n exec s ≡ Some e → IsPlain e
+anew-plain n exec Without e h = cc
+anew-plain n exec (Attached m) e h = subst IsPlain (same_Some (Attach n.0 (spot.At m exec) m exec) e h) (record { writes_not = refl; rotates_not = refl })
+anew-plain n exec (Detached m) e h = subst IsPlain (same_Some (Attach n.0 (spot.At m exec) m exec) e h) (record { writes_not = refl; rotates_not = refl })
+
+same-plain : (n : ServerNo) (o : Option Status) (e : Exchange) → same_again n o ≡ Some e → IsPlain e
+same-plain n None e h = cc
+same-plain n (Some s) e h = anew-plain n s.exec s.source e h
+
+set-plain : (n m : ServerNo) (o : Option Status) (e : Exchange) → by_set n m o ≡ Some e → IsPlain e
+set-plain n m None e h = cc
+set-plain n m (Some s) e h = subst IsPlain (same_Some (AttachAuto n.0 s.set m) e h) (record { writes_not = refl; rotates_not = refl })
+
+-- ---- each operation
+
+module _ (w : World) (j : Job) (rest : List Op) where
+  abbrev ArePlain : Turned → Type 0
+  ArePlain t = All IsPlain t.exchanges
+
+  look-plain : (n : ServerNo) (from : Option ServerNo) (o : Observation) (r : Option Status) → ArePlain (settled j (after_look j rest n from o r))
+  look-plain n from o None = restarts-plain j.hands
+  look-plain n from o (Some s) = go (is_moved from s.source)
+    where
+      go : (b : Bool) → ArePlain (settled j (after_status j rest n from o s b))
+      go true = restarts-plain j.hands
+      go false = All-nil IsPlain
+
+  ask-plain : (n : ServerNo) (a : Ask) (r : Result (Unit {0}) Unreachable) → ArePlain (settled j (after_ask j rest n a r))
+  ask-plain n a (Ok t) = one-plain (Request n.0 a) (request-plain n a)
+  ask-plain n a (Err e) = restarts-plain j.hands
+
+  until-plain : (n : ServerNo) (o : Option Coord) → ArePlain (settled j (after_until w j rest n o))
+  until-plain n None = All-nil IsPlain
+  until-plain n (Some to) = ask-plain n (asking.StartUntil to) (desk_answer (server_at w n.0))
+
+  wait-plain : (n : ServerNo) (reached : Status → Bool) (r : Option Status) → ArePlain (settled j (after_wait j rest n reached r))
+  wait-plain n reached None = restarts-plain j.hands
+  wait-plain n reached (Some s) = go (reached s)
+    where
+      more : (b : Bool) → ArePlain (settled j (cond b (Goes None [] (record (saw j n s) { waited = j.waited + 1 })) (Stops (cause.WaitSpent n) None)))
+      more true = All-nil IsPlain
+      more false = restarts-plain j.hands
+
+      go : (b : Bool) → ArePlain (settled j (after_wait_by j rest n s b))
+      go true = All-nil IsPlain
+      go false = more (nat_lt (j.waited + 1) j.wait)
+
+  attach-plain : (n : ServerNo) (o : Option Exchange) → ((e : Exchange) → o ≡ Some e → IsPlain e) → ArePlain (settled j (after_attach w j rest n o))
+  attach-plain n None plain = All-nil IsPlain
+  attach-plain n (Some e) plain = by (can_attach w e)
+    where
+      go : (r : Result (Unit {0}) AttachFault) → ArePlain (settled j (after_answer j rest n e r))
+      go (Ok t) = one-plain e (plain e refl)
+      go (Err f) = restarts-plain j.hands
+
+      by : (b : Bool) → ArePlain (settled j (cond b (after_answer j rest n e (attach_answer_of w e)) (Goes None [] (next j rest))))
+      by true = go (attach_answer_of w e)
+      by false = All-nil IsPlain
+
+  deed-plain : (read : ℕ) (now : Moment) (d : Deed) → ArePlain (settled j (by_deed w read now j rest d))
+  deed-plain read now (deed.Look n from) = look-plain n from (observed w read now n) (seen_in (status w n.0))
+  deed-plain read now (deed.Request n a) = ask-plain n a (desk_answer (server_at w n.0))
+  deed-plain read now (deed.Until n to) = until-plain n (until_by (seen_of j.seen n.0) (aim_of j.seen to))
+  deed-plain read now (deed.Await n to) = wait-plain n (λ s. is_reached (aim_of j.seen to) s.exec) (seen_in (status w n.0))
+  deed-plain read now (deed.AwaitSet n m) = wait-plain n (holds_seen (seen_of j.seen m.0)) (seen_in (status w n.0))
+  deed-plain read now (deed.Settle n) = wait-plain n (settles j) (seen_in (status w n.0))
+  deed-plain read now (deed.Cross c a b) = attach-plain a (crossed c a (bridge_in (read_by c a b) (seen_of j.seen (read_by c a b).0))) (crossed-plain c a (bridge_in (read_by c a b) (seen_of j.seen (read_by c a b).0)))
+  deed-plain read now (deed.Same n) = attach-plain n (same_again n (seen_of j.seen n.0)) (same-plain n (seen_of j.seen n.0))
+  deed-plain read now (deed.Auto n m) = attach-plain n (by_set n m (seen_of j.seen m.0)) (set-plain n m (seen_of j.seen m.0))
+  deed-plain read now (deed.Finish lines) = All-nil IsPlain
+
+pub turn-plain : (w : World) (read : ℕ) (now : Moment) (j : Job) → All IsPlain (turned w read now j).exchanges
+turn-plain w read now j = go j.ops
+  where
+    go : (ops : List Op) → All IsPlain (settled j (by_ops w read now j ops)).exchanges
+    go [] = All-nil IsPlain
+    go (op ∷ rest) = deed-plain w j rest read now (deed_of op)
+
+abbrev tick : Bool → ℕ
+tick b = cond b 1 0
+
+-- none of them counts
+pub none-counts : (test : Exchange → Bool) → ((e : Exchange) → IsPlain e → test e ≡ false) → (es : List Exchange) → All IsPlain es → count_by test es ≡ 0
+none-counts test not_plain [] all = refl
+none-counts test not_plain (e ∷ es) all =
+    let here : tick (test e) ≡ 0 = ap tick (not_plain e (All-head IsPlain e es all)) in
+    let rest : count_by test es ≡ 0 = none-counts test not_plain es (All-tail IsPlain e es all) in
+    let sum : count_by test (e ∷ es) ≡ tick (test e) + count_by test es = sum_by-cons (λ x. tick (test x)) e es in
+    omega (arith, here, rest, sum)

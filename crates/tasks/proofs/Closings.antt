@@ -1,0 +1,196 @@
+-- The rounds behind a single command's own turn, with their journal.
+use Rattle.std.proofs.Common.{◌≡◌, ◌∙◌, ℕ, zero, suc, ◌<◌, ◌≤◌, Bool, true, false, cond, List, [], ◌∷◌, ◌++◌, refl, sym, ap, subst, arith, append_assoc, Option, Some, None}
+use Rattle.std.specs.Prelude.{All}
+use Rattle.std.specs.List.{flat_map}
+use Rattle.std.specs.Option.{unwrap_or}
+use Rattle.std.proofs.lemmas.Bool.{false≢true}
+use Rattle.std.proofs.lemmas.List.{append-nil}
+use Rattle.std.proofs.lemmas.List.Elements.{All-append, All-cons, All-head, All-nil, All-tail}
+use Rattle.std.proofs.lemmas.List.Sums.{fold-append}
+use Rattle.orch_base.specs.declared.server.ServerNo.{ServerNo}
+use Rattle.instance_keeper.specs.declared.row.Row.{Row}
+use Rattle.name_order.specs.NameOrder.{by_name}
+use Rattle.turns.specs.declared.turn.Reply.{Reply}
+use Rattle.turns.specs.declared.turn.Turn.{Turn}
+use Rattle.turns.specs.declared.turn.Turn.TheVariants as turn
+use Rattle.jobs_in_flight.specs.Jobs.{is_open, most_turns}
+use Rattle.orch_core.specs.Keeping.{Ran, asks}
+use Rattle.orch_core.specs.Replies.{reply_of}
+use Rattle.orch_core.specs.declared.fault.TurnFault.{TurnFault}
+use Rattle.orch_core.specs.Rounds.{FinishedBy, IsFinish, WasCutShort, after_rounds, after_turns, round_of, times, told_in}
+use Rattle.jobs_in_flight.specs.Rounds.{polls, replicates, round_over}
+use Rattle.orch_core.specs.Runs.{Held, engine, LeadsTo, Recorded, held_run, held_step, record_turn, recorder, run_turns, step, turns_of}
+use Rattle.orch_core.specs.States.{State}
+use Rattle.orch_core.proofs.Finishing.{AsksNothing, asks-round, step-any}
+use Rattle.orch_core.proofs.Runs.{Ran-nil}
+use Rattle.tasks.specs.Closing.{begun_by, closing_by, rounds_of, rounds_while}
+use Rattle.tasks.specs.Progress.{ClosesEach, GivesUpEach, GivesUpOn, Point}
+use Rattle.tasks.specs.Report.{is_commands, last_reply, or_reply}
+use Rattle.tasks.proofs.Courses.{gave_up_on, recorded_at}
+
+-- ---- so many rounds
+
+module _ (round : List Turn) (job : ℕ) where
+  -- behind so many rounds the job is open
+  abbrev Open : State → ℕ → Type 0
+  Open s i = is_open (after_turns s (times i round)).jobs job ≡ true
+
+  next : (s : State) (i : ℕ) → Open s (suc i) → Open (after_turns s round) i
+  next s i h = ap (λ (u : State). is_open u.jobs job) (sym (fold-append (step []) s round (times i round))) ∙ h
+
+  -- so many rounds come first
+  pub while_begins : (s : State) (n k : ℕ) → ((i : ℕ) → i < k → Open s i) → k ≤ n → (rest : List Turn) × (rounds_while round n s job ≡ times k round ++ rest)
+  while_begins s n zero goes_on within = (rounds_while round n s job, refl)
+  while_begins s zero (suc k) goes_on within = absurd (omega (arith, within))
+  while_begins s (suc n) (suc k) goes_on within =
+      let rest = while_begins (after_turns s round) n k (λ i less. next s i (goes_on (suc i) (omega (arith, less)))) (omega (arith, within)) in
+      (rest.0, opened (is_open s.jobs job) (goes_on 0 (omega arith)) (rounds_while round n (after_turns s round) job) rest.0 rest.1)
+    where
+      opened : (b : Bool) → b ≡ true → (us rest : List Turn) → us ≡ times k round ++ rest → cond b (round ++ us) [] ≡ times (suc k) round ++ rest
+      opened true h us rest is = ap (λ (x : List Turn). round ++ x) is ∙ sym (append_assoc round (times k round) rest)
+      opened false h us rest is = absurd (false≢true h)
+
+  -- and no more, where the job isn't open then
+  pub while_is : (s : State) (n k : ℕ) → ((i : ℕ) → i < k → Open s i) → is_open (after_turns s (times k round)).jobs job ≡ false → k ≤ n → rounds_while round n s job ≡ times k round
+  while_is s zero zero goes_on ended within = refl
+  while_is s (suc n) zero goes_on ended within = ap (λ b. cond b (round ++ rounds_while round n (after_turns s round) job) []) ended
+  while_is s zero (suc k) goes_on ended within = absurd (omega (arith, within))
+  while_is s (suc n) (suc k) goes_on ended within =
+      let rest = while_is (after_turns s round) n k (λ i less. next s i (goes_on (suc i) (omega (arith, less)))) (ap (λ (u : State). is_open u.jobs job) (sym (fold-append (step []) s round (times k round))) ∙ ended) (omega (arith, within)) in
+      ap (λ b. cond b (round ++ rounds_while round n (after_turns s round) job) []) (goes_on 0 (omega arith)) ∙ ap (λ (x : List Turn). round ++ x) rest
+
+pub rounds_are : (s : State) (job k : ℕ) → IsFinish s job k → rounds_of s job ≡ times k (round_of s job)
+unfolding rounds_of
+rounds_are s job k finish = while_is (round_of s job) job s (most_turns s.jobs job) k finish.goes_on finish.ended finish.within
+
+pub rounds_begin : (s : State) (job k : ℕ) → ((i : ℕ) → i < k → is_open (after_rounds s job i).jobs job ≡ true) → k ≤ most_turns s.jobs job → (rest : List Turn) × (rounds_of s job ≡ times k (round_of s job) ++ rest)
+unfolding rounds_of
+rounds_begin s job k goes_on within = while_begins (round_of s job) job s (most_turns s.jobs job) k goes_on within
+
+-- ---- the last reply of a journal
+
+last-quiet : (xs ys : List (Turn × Reply)) → last_reply ys ≡ None → last_reply (xs ++ ys) ≡ last_reply xs
+last-quiet [] ys h = h
+last-quiet (x ∷ xs) ys h = ap (λ (o : Option Reply). or_reply o x) (last-quiet xs ys h)
+
+last-told : (xs ys : List (Turn × Reply)) (r : Reply) → last_reply ys ≡ Some r → last_reply (xs ++ ys) ≡ Some r
+last-told [] ys r h = h
+last-told (x ∷ xs) ys r h = ap (λ (o : Option Reply). or_reply o x) (last-told xs ys r h)
+
+-- ---- the journal of turns that ask for no rows
+
+abbrev replies_along : State → List Turn → List (Turn × Reply)
+replies_along s [] = []
+replies_along s (t ∷ ts) = (t, reply_of s t) ∷ replies_along (step [] s t) ts
+
+along-append : (s : State) (ts us : List Turn) → replies_along s (ts ++ us) ≡ replies_along s ts ++ replies_along (after_turns s ts) us
+along-append s [] us = refl
+along-append s (t ∷ ts) us = ap (λ (js : List (Turn × Reply)). (t, reply_of s t) ∷ js) (along-append (step [] s t) ts us)
+
+run_along : (r : Recorded) (xs : List (List Row × Turn)) → AsksNothing (turns_of xs) → (run_turns recorder r xs).journal ≡ r.journal ++ replies_along r.state (turns_of xs)
+run_along r [] none = sym (append-nil r.journal)
+run_along r (x ∷ xs) none =
+    let entry : Turn × Reply = (x.1, reply_of r.state x.1) in
+    run_along (record_turn x.0 r x.1) xs (All-tail (λ u. asks u ≡ false) x.1 (turns_of xs) none)
+    ∙ ap (λ (s : State). (r.journal ++ entry ∷ []) ++ replies_along s (turns_of xs)) (step-any x.0 r.state x.1 (All-head (λ u. asks u ≡ false) x.1 (turns_of xs) none))
+    ∙ append_assoc r.journal (entry ∷ []) (replies_along (step [] r.state x.1) (turns_of xs))
+
+held_along : (h : Held Recorded) (ts : List Turn) → AsksNothing ts → (held_run recorder h ts).state.journal ≡ h.state.journal ++ replies_along h.state.state ts
+held_along h [] none = sym (append-nil h.state.journal)
+held_along h (t ∷ ts) none =
+    let entry : Turn × Reply = (t, reply_of h.state.state t) in
+    held_along (held_step recorder h t) ts (All-tail (λ u. asks u ≡ false) t ts none)
+    ∙ ap (λ (s : State). (h.state.journal ++ entry ∷ []) ++ replies_along s ts) (step-any h.rows h.state.state t (All-head (λ u. asks u ≡ false) t ts none))
+    ∙ append_assoc h.state.journal (entry ∷ []) (replies_along (step [] h.state.state t) ts)
+
+journal_along : (kept : Option (List Row)) (mid run : Recorded) (ts : List Turn) → AsksNothing ts → LeadsTo recorder kept mid ts run → run.journal ≡ mid.journal ++ replies_along mid.state ts
+journal_along None mid run ts none leads =
+    ap (λ (r : Recorded). r.journal) leads.2 ∙ run_along mid leads.0 (subst AsksNothing (sym leads.1) none) ∙ ap (λ us. mid.journal ++ replies_along mid.state us) leads.1
+journal_along (Some rows) mid run ts none leads = ap (λ (r : Recorded). r.journal) leads ∙ held_along (record { rows = rows; state = mid }) ts none
+
+-- ---- the last reply of a job's rounds
+
+quiet : (s : State) (ts : List Turn) → All (λ t. is_commands t ≡ false) ts → last_reply (replies_along s ts) ≡ None
+quiet s [] all = refl
+quiet s (t ∷ ts) all =
+    ap (λ (o : Option Reply). or_reply o (t, reply_of s t)) (quiet (step [] s t) ts (All-tail (λ u. is_commands u ≡ false) t ts all))
+    ∙ ap (λ b. cond b (Some (reply_of s t)) None) (All-head (λ t. is_commands t ≡ false) t ts all)
+
+quiet-replicates : (servers : List ServerNo) → All (λ t. is_commands t ≡ false) (flat_map replicates servers)
+quiet-replicates [] = All-nil (λ t. is_commands t ≡ false)
+quiet-replicates (n ∷ ns) = All-cons (λ t. is_commands t ≡ false) (turn.Fetch n) (turn.Apply n ∷ flat_map replicates ns) refl (All-cons (λ t. is_commands t ≡ false) (turn.Apply n) (flat_map replicates ns) refl (quiet-replicates ns))
+
+quiet-polls : (servers : List ServerNo) → All (λ t. is_commands t ≡ false) (flat_map polls servers)
+quiet-polls [] = All-nil (λ t. is_commands t ≡ false)
+quiet-polls (n ∷ ns) = All-cons (λ t. is_commands t ≡ false) (turn.PollRead 0 n) (turn.PollStore 0 ∷ flat_map polls ns) refl (All-cons (λ t. is_commands t ≡ false) (turn.PollStore 0) (flat_map polls ns) refl (quiet-polls ns))
+
+module _ (servers : List ServerNo) (job : ℕ) where
+  abbrev round : List Turn
+  round = round_over servers job
+
+  abbrev others : List Turn
+  others = flat_map replicates servers ++ flat_map polls servers
+
+  round-told : (s : State) → last_reply (replies_along s round) ≡ Some (reply_of s (turn.Job job))
+  round-told s =
+      ap (λ (o : Option Reply). or_reply o (turn.Job job, reply_of s (turn.Job job)))
+      (quiet (step [] s (turn.Job job)) others (All-append (λ t. is_commands t ≡ false) (flat_map replicates servers) (flat_map polls servers) (quiet-replicates servers) (quiet-polls servers)))
+
+  -- what the job answers in the last of some rounds
+  rounds-told : (k : ℕ) (s : State) → last_reply (replies_along s (times (suc k) round)) ≡ Some (reply_of (after_turns s (times k round)) (turn.Job job))
+  rounds-told zero s = ap (λ us. last_reply (replies_along s us)) (append-nil round) ∙ round-told s
+  rounds-told (suc k) s =
+      ap last_reply (along-append s round (times (suc k) round))
+      ∙ last-told (replies_along s round) (replies_along (after_turns s round) (times (suc k) round)) _ (rounds-told k (after_turns s round))
+      ∙ ap (λ (u : State). Some (reply_of u (turn.Job job))) (sym (fold-append (step []) s round (times k round)))
+
+asks-times : (k : ℕ) (ts : List Turn) → AsksNothing ts → AsksNothing (times k ts)
+asks-times zero ts none = All-nil (λ t. asks t ≡ false)
+asks-times (suc k) ts none = All-append (λ t. asks t ≡ false) ts (times k ts) none (asks-times k ts none)
+
+-- ---- what is left of a single command
+
+-- no job was begun
+pub nothing_left : (from : Point) (reply : Reply) → begun_by reply ≡ None → ClosesEach from reply from reply
+nothing_left from reply none = λ mid at last. record {
+  run = mid;
+  ran = subst (λ (o : Option ℕ). Ran recorder from.kept mid (closing_by o mid.state) from.kept mid) (sym none) (Ran-nil recorder from.kept mid);
+  state = at;
+  last = last;
+}
+
+module _ (from : Point) (reply : Reply) (job : ℕ) (begun : begun_by reply ≡ Some job) where
+  rounds_behind : (mid : Recorded) → mid.state ≡ from.state → closing_by (begun_by reply) mid.state ≡ rounds_of from.state job
+  rounds_behind mid at = ap (λ (o : Option ℕ). closing_by o mid.state) begun ∙ ap (λ (s : State). rounds_of s job) at
+
+  last_of : (mid run : Recorded) (kept : Option (List Row)) (k : ℕ) → mid.state ≡ from.state → last_reply mid.journal ≡ Some reply → LeadsTo recorder kept mid (times k (round_of from.state job)) run
+      → last_reply run.journal ≡ Some (unwrap_or (told_in from.state job k) reply)
+  last_of mid run kept k at last leads =
+      let servers = by_name from.state.book.names in
+      let joined = journal_along kept mid run (times k (round_over servers job)) (asks-times k (round_over servers job) (asks-round servers job)) leads in
+      ap last_reply joined ∙ at_end k
+    where
+      at_end : (k : ℕ) → last_reply (mid.journal ++ replies_along mid.state (times k (round_of from.state job))) ≡ Some (unwrap_or (told_in from.state job k) reply)
+      at_end zero = ap last_reply (append-nil mid.journal) ∙ last
+      at_end (suc j) =
+          last-told mid.journal (replies_along mid.state (times (suc j) (round_of from.state job))) _ (rounds-told (by_name from.state.book.names) job j mid.state)
+          ∙ ap (λ (s : State). Some (reply_of (after_turns s (times j (round_of from.state job))) (turn.Job job))) at
+
+  -- the rounds of the job led to its end
+  pub rounds_left : (to : Point) (told : Option Reply) → FinishedBy from.kept from.state job to.kept to.state told → ClosesEach from reply to (unwrap_or told reply)
+  rounds_left to told by = λ mid at last.
+      let fin = by.finished in
+      let rec = recorded_at from.kept to.kept mid from.state to.state (times fin.k (round_of from.state job)) at fin.ran in
+      record {
+        run = rec.run;
+        ran = subst (λ us. Ran recorder from.kept mid us to.kept rec.run) (sym (rounds_behind mid at ∙ rounds_are from.state job fin.k fin.rounds)) rec.ran;
+        state = rec.state;
+        last = last_of mid rec.run from.kept fin.k at last rec.ran.state ∙ ap (λ (o : Option Reply). Some (unwrap_or o reply)) (sym by.answer);
+      }
+
+  -- or were cut short
+  pub rounds_cut : (kept : Option (List Row)) (now : State) (why : TurnFault) → WasCutShort engine (λ s. s) from.kept from.state job kept now why → GivesUpEach from reply kept why
+  rounds_cut kept now why short = λ mid at.
+      let rest = rounds_begin from.state job short.k short.goes_on short.within in
+      subst (λ us. GivesUpOn from.kept mid us kept why) (sym (rounds_behind mid at ∙ rest.1))
+      (gave_up_on from.kept kept mid from.state now (times short.k (round_of from.state job)) rest.0 why at short.cut)

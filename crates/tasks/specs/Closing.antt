@@ -1,0 +1,58 @@
+-- What is taken behind a single command's own turn: the rounds of the job that it began.
+use Rattle.std.specs.Prelude.{ℕ, zero, suc, List, [], ◌++◌, if◌then◌else◌, Option, Some, None}
+use Rattle.std.specs.Option.{option_and_then}
+use Rattle.turns.specs.declared.turn.Reply.{Reply}
+use Rattle.turns.specs.declared.turn.Reply.TheVariants as answered
+use Rattle.turns.specs.declared.turn.Turn.{Turn}
+use Rattle.jobs_in_flight.specs.Jobs.{is_open, most_turns}
+use Rattle.orch_core.specs.Rounds.{after_turns, round_of}
+use Rattle.orch_core.specs.Runs.{Recorded}
+use Rattle.orch_core.specs.States.{State}
+use Rattle.tasks.specs.declared.asked.Asked.{Asked}
+use Rattle.tasks.specs.declared.asked.Asked.TheVariants as asked
+use Rattle.tasks.specs.Report.{last_reply}
+
+-- these turns again and again while the job is open, at most so many times
+abbrev pub rounds_while : List Turn → ℕ → State → ℕ → List Turn
+rounds_while round zero s job = []
+rounds_while round (suc n) s job = if is_open s.jobs job then round ++ rounds_while round n (after_turns s round) job else []
+
+-- the rounds of a job, until it has ended
+unfoldable pub rounds_of : State → ℕ → List Turn
+rounds_of s job = rounds_while (round_of s job) (most_turns s.jobs job) s job
+
+-- the job that a reply tells to have begun
+abbrev pub begun_by : Reply → Option ℕ
+begun_by (answered.Begun job) = Some job
+begun_by (answered.Write a) = None
+begun_by (answered.Fetch a) = None
+begun_by (answered.Apply a) = None
+begun_by answered.Done = None
+begun_by (answered.Rotate a) = None
+begun_by (answered.Now t) = None
+begun_by (answered.Read n) = None
+begun_by (answered.ReadUnreachable n) = None
+begun_by answered.Unknown = None
+begun_by answered.Stored = None
+begun_by (answered.Old n) = None
+begun_by answered.Nothing = None
+begun_by (answered.Told lines) = None
+begun_by (answered.Refused r) = None
+begun_by answered.Going = None
+begun_by (answered.Failed cause) = None
+begun_by answered.NoJob = None
+
+-- the job that the command's own turn began, which comes last in this run
+abbrev pub own_job : Asked → Recorded → Option ℕ
+own_job asked.Run run = None
+own_job (asked.Turn t) run = option_and_then begun_by (last_reply run.journal)
+own_job asked.Unknown run = None
+own_job asked.Nothing run = None
+
+abbrev pub closing_by : Option ℕ → State → List Turn
+closing_by None s = []
+closing_by (Some job) s = rounds_of s job
+
+-- the turns that follow the scenario's and the command's own, by the run that those led to
+abbrev pub closing : Asked → Recorded → List Turn
+closing a run = closing_by (own_job a run) run.state
