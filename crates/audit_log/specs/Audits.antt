@@ -95,6 +95,10 @@ acknowledged a cluster = record a { recoveries = map (acknowledged_for cluster) 
 abbrev pub is_new : List ℕ → Recovery → Bool
 is_new cluster r = is_of cluster r && not r.acked
 
+-- those of a cluster that aren't acknowledged, as they are once they are
+abbrev pub acking : AuditState → List ℕ → List Recovery
+acking a cluster = map (acknowledged_for cluster) (filter (is_new cluster) a.recoveries)
+
 -- how many of a cluster aren't acknowledged
 abbrev pub count_new : AuditState → List ℕ → ℕ
 count_new a cluster = count_by (is_new cluster) a.recoveries

@@ -5,7 +5,7 @@ ghost use Rattle.std.specs.Prelude.{◌≡◌, ◌<◌, ◌≤◌, ◌^◌, ◌+
 ghost use Rattle.std.specs.Option.{option_copied};
 ghost use Rattle.instance_keeper.specs.declared.recovery.Recovery.{Recovery as ARecovery};
 ghost use Rattle.audit_log.specs.Apart.{MayBegin};
-ghost use Rattle.audit_log.specs.Audits.{acknowledged, acknowledged_for, begun, closed, closing, count_new, ended, ended_so, interrupted, is_blocking, is_new, is_of, is_unended, last_blocking, may_begin, recovery_at, unended_of, IsAudit, StandsAt};
+ghost use Rattle.audit_log.specs.Audits.{acking, acknowledged, acknowledged_for, begun, closed, closing, count_new, ended, ended_so, interrupted, is_blocking, is_new, is_of, is_unended, last_blocking, may_begin, recovery_at, unended_of, IsAudit, StandsAt};
 
 use crate::Memory;
 use crate::held::Held;
@@ -58,12 +58,18 @@ fn interrupt_all(recoveries: &mut [Recovery], at: Moment)
     }
 }
 
+fn is_new(recovery: &Recovery, cluster: &str) -> bool
+    ensures { result ≡ is_new cluster.now recovery.now }
+{
+    is_of(recovery, cluster) && !recovery.acked
+}
+
 // Acknowledges a recovery of the cluster, and counts it where it wasn't acknowledged before.
 fn acknowledge(recovery: &mut Recovery, cluster: &str) -> u64
     ensures after { recovery.new ≡ acknowledged_for cluster.now recovery.old }
     ensures count { result ≡ (if is_new cluster.now recovery.old then 1 else 0) }
 {
-    if is_of(recovery, cluster) && !recovery.acked {
+    if is_new(recovery, cluster) {
         recovery.acked = true;
         1
     } else {
@@ -238,6 +244,21 @@ impl Audit {
             record self.old { audit = acknowledged self.old.audit cluster.now } }
     {
         acknowledge_all(&mut self.recoveries, cluster)
+    }
+
+    /// The recoveries that `ack` would change, as they would be then, by rising id. `Err` is want of memory.
+    pub fn acking(&self, alloc: Global, cluster: &str) -> Result<Vec<Recovery>, Memory>
+        ensures { IfOk result (λ list. list.items ≡ acking self.now.audit cluster.now) }
+    {
+        let mut list = Vec::new(alloc);
+        for recovery in &self.recoveries {
+            if is_new(recovery, cluster) {
+                let mut acked = recovery.copy(alloc)?;
+                acknowledge(&mut acked, cluster);
+                list.push(acked)?;
+            }
+        }
+        Ok(list)
     }
 
     /// The recoveries that `close` would change, as they would be then, by rising id. `Err` is want of memory.

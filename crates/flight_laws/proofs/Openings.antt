@@ -15,7 +15,7 @@ use Rattle.instance_keeper.specs.Book.{BookState}
 use Rattle.instance_keeper.specs.Bridges.{bridge_in, ring_at, ringed, with_bridge}
 use Rattle.opening_book.specs.Counting.{loaded}
 use Rattle.opening_book.specs.Opening.{after_opening, missing, missing_from, opened_book, opening_instance, put_instance}
-use Rattle.opening_book.specs.Seeing.{seen_in}
+use Rattle.instance_keeper.specs.Seeing.{seen_in}
 use Rattle.server_model.specs.declared.server.Server.{Server}
 use Rattle.server_model.specs.Gtids.{shown_of, status}
 use Rattle.server_model.specs.Safe.{Safe, Placed}

@@ -21,10 +21,10 @@ use Rattle.instance_keeper.proofs.SortKeys.{put_middle, remove_middle}
 use Rattle.instance_keeper.proofs.Books.{both_true, head_known}
 use Rattle.instance_keeper.proofs.BookRows.{rows_low, rows_high, rows_rise, table_put, table_remove}
 
-abbrev Low : ℕ → List Row → Type 0
+abbrev pub Low : ℕ → List Row → Type 0
 Low p rows = All (λ r. p ≤ sort_key_of r) rows
 
-abbrev High : ℕ → List Row → Type 0
+abbrev pub High : ℕ → List Row → Type 0
 High p rows = All (λ r. sort_key_of r < p) rows
 
 low_less : (p q : ℕ) (rows : List Row) → q ≤ p → Low p rows → Low q rows
@@ -51,7 +51,7 @@ abbrev Before : Row → Row → Type 0
 Before x y = sort_key_of x < sort_key_of y
 
 module _ (b : BookState) (is : IsBook b) where
-  abbrev first : List Row
+  abbrev pub first : List Row
   first = filter_map (option_map row.Instance) b.instances
 
   abbrev pub second : List Row
@@ -85,7 +85,7 @@ module _ (b : BookState) (is : IsBook b) where
   last_at None = All-nil (λ r. sort_key_of r ≡ 5 * 2 ^ 65 + (2 ^ 32 + 2 ^ 64))
   last_at (Some e) = All-cons (λ r. sort_key_of r ≡ 5 * 2 ^ 65 + (2 ^ 32 + 2 ^ 64)) (row.Switch e) [] refl (All-nil (λ r. sort_key_of r ≡ 5 * 2 ^ 65 + (2 ^ 32 + 2 ^ 64)))
 
-  last_low : (p : ℕ) → p ≤ 5 * 2 ^ 65 + (2 ^ 32 + 2 ^ 64) → Low p last
+  pub last_low : (p : ℕ) → p ≤ 5 * 2 ^ 65 + (2 ^ 32 + 2 ^ 64) → Low p last
   last_low p e = All-weaker (λ r. sort_key_of r ≡ 5 * 2 ^ 65 + (2 ^ 32 + 2 ^ 64)) (λ r. p ≤ sort_key_of r) (λ r g. omega (arith, e, g)) last (last_at b.switch)
 
   after_second : Low (3 * 2 ^ 65) (third ++ last)
@@ -97,7 +97,7 @@ module _ (b : BookState) (is : IsBook b) where
   to_second : High (2 * 2 ^ 65 + 2 ^ 32) (first ++ second)
   to_second = high_both (2 * 2 ^ 65 + 2 ^ 32) first second (high_more (1 * 2 ^ 65 + 2 ^ 32) (2 * 2 ^ 65 + 2 ^ 32) first (omega arith) first_high) second_high
 
-  to_third : High (3 * 2 ^ 65 + 2 ^ 32) ((first ++ second) ++ third)
+  pub to_third : High (3 * 2 ^ 65 + 2 ^ 32) ((first ++ second) ++ third)
   to_third = high_both (3 * 2 ^ 65 + 2 ^ 32) (first ++ second) third (high_more (2 * 2 ^ 65 + 2 ^ 32) (3 * 2 ^ 65 + 2 ^ 32) (first ++ second) (omega arith) to_second) third_high
 
   last_rise : (x : Option Bool) → AllPairs (λ a b. sort_key_of a < sort_key_of b) (option_to_list (option_map row.Switch x))

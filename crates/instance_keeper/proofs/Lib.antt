@@ -12,3 +12,5 @@ pub mod Leasing
 pub mod Ringed
 pub mod Cleared
 pub mod InstanceRows
+pub mod HadRows
+pub mod NoRecovery

@@ -18,19 +18,19 @@ use Rattle.instance_keeper.specs.Book.{renewal}
 use Rattle.instance_keeper.specs.Same.{same_bool, same_coord, same_end, same_source, same_io, same_interval, same_set, same_place, same_threads, same_seen, same_instance}
 use Rattle.instance_keeper.proofs.Books.{both_true}
 
-eq_refl : (n : ℕ) → (n == n) ≡ true
+pub eq_refl : (n : ℕ) → (n == n) ≡ true
 eq_refl n = grind arith
 
 bool_refl : (b : Bool) → same_bool b b ≡ true
 bool_refl true = refl
 bool_refl false = refl
 
-bool_is : (a b : Bool) → same_bool a b ≡ true → a ≡ b
+pub bool_is : (a b : Bool) → same_bool a b ≡ true → a ≡ b
 bool_is true b h = sym h
 bool_is false true h = absurd (false≢true h)
 bool_is false false h = refl
 
-eq_is : (a b : ℕ) → (a == b) ≡ true → a ≡ b
+pub eq_is : (a b : ℕ) → (a == b) ≡ true → a ≡ b
 eq_is a b h = grind arith
 
 -- records are their fields
@@ -49,10 +49,10 @@ no_eta : (a : ServerNo) → no_of a.0 ≡ a
 unfolding no_of
 no_eta a = refl
 
-moment_of : ℕ → Moment
+pub moment_of : ℕ → Moment
 moment_of n = record { 0 = n }
 
-moment_eta : (a : Moment) → moment_of a.0 ≡ a
+pub moment_eta : (a : Moment) → moment_of a.0 ≡ a
 unfolding moment_of
 moment_eta a = refl
 
@@ -103,7 +103,7 @@ source_refl source.Without = refl
 source_refl (source.Attached n) = eq_refl n.0
 source_refl (source.Detached n) = eq_refl n.0
 
-no_is : (m n : ServerNo) → (m.0 == n.0) ≡ true → m ≡ n
+pub no_is : (m n : ServerNo) → (m.0 == n.0) ≡ true → m ≡ n
 no_is m n h = let e = eq_is m.0 n.0 h in cc (no_eta m, no_eta n)
 
 source_is : (a b : SourceState) → same_source a b ≡ true → a ≡ b

@@ -7,3 +7,5 @@ pub mod Ranges
 pub mod ServerLists
 pub mod Bridges
 pub mod Leases
+pub mod Had
+pub mod Seeing

@@ -5,6 +5,7 @@ ghost use Rattle.std.specs.Option.{option_copied};
 ghost use Rattle.indexmap.specs.IndexMap.{values};
 ghost use Rattle.name_order.specs.NameOrder.{by_name, rank_of, IsOrder};
 ghost use Rattle.instance_keeper.specs.Bridges.{bridge_in, has_exec, has_own, latest_that, ring_at, ringed};
+ghost use Rattle.instance_keeper.specs.Had.{candidate_kept, downtime_kept};
 ghost use Rattle.instance_keeper.specs.Leases.{first_busy, given_back, taken};
 ghost use Rattle.instance_keeper.specs.SortKeys.{CountsUp};
 ghost use Rattle.instance_keeper.specs.Book.{are_known, source_servers, observed_servers, ending_servers, servers_of, key_servers, row_fits, fits, empty_book, after_put, after_bridge, after_removal, after_change, lease_at, lease_result, after_row, book_made, instance_at, renewed, store_answer, after_store, shown_by, after_addition, after_discovery, renewal, store_change, downtime_at, rule_at, IsBook};
@@ -389,6 +390,29 @@ impl Book {
         ensures { option_copied result ≡ instance_at self.now no }
     {
         instance_in(&self.instances, no.0)
+    }
+
+    /// A server's downtime as it is kept, whether or not it still lasts.
+    pub(crate) fn kept_downtime(&self, no: ServerNo) -> Option<&Downtime>
+        requires { no.0 < length self.now.names }
+        ensures { option_copied result ≡ downtime_kept self.now no }
+    {
+        self.downtimes[no.0 as usize].as_ref()
+    }
+
+    /// A server's registration as it is kept, whether or not it still lasts.
+    pub(crate) fn kept_candidate(&self, no: ServerNo) -> Option<Candidate>
+        requires { no.0 < length self.now.names }
+        ensures { result ≡ candidate_kept self.now no }
+    {
+        self.candidates[no.0 as usize]
+    }
+
+    /// The switch as it is kept: none without a row.
+    pub(crate) fn kept_switch(&self) -> Option<bool>
+        ensures { result ≡ self.now.switch }
+    {
+        self.switch
     }
 
     /// Whether recoveries are enabled, as they are where no row says otherwise.

@@ -10,7 +10,8 @@ ghost use Rattle.orch_base.specs.declared.server.ServerNo.{ServerNo};
 ghost use Rattle.instance_keeper.specs.declared.row.Row.TheVariants as row;
 ghost use Rattle.instance_keeper.specs.declared.row.Table.TheVariants as table;
 ghost use Rattle.instance_keeper.specs.declared.row.Key.TheVariants as key;
-ghost use Rattle.instance_keeper.specs.Book.{BookState, IsBook, fits, after_change, book_rows, instance_at};
+ghost use Rattle.instance_keeper.specs.Book.{BookState, IsBook, fits, after_change, after_put, book_rows, instance_at};
+ghost use Rattle.instance_keeper.specs.Had.{has_row};
 ghost use Rattle.instance_keeper.specs.Rows.{changed_by, sort_key, sort_key_of, row_at, put, remove, changed, map_of, row_after, last_at, IsRising};
 
 /// Kept rows are a finite map. A row that is put stands at its table and key, one that is removed doesn't, and all
@@ -34,6 +35,11 @@ pub fn rows_follow_the_book()
     ensures rising { (b : BookState) → IsBook b → IsRising (book_rows b) }
     ensures changed { (b : BookState) (c : Change) → IsBook b → fits (length b.names) c ≡ true → IsInRange c → book_rows (after_change b c) ≡ changed_by (book_rows b) c }
     ensures book { (b : BookState) (c : Change) → IsBook b → fits (length b.names) c ≡ true → IsBook (after_change b c) }
+{}
+
+/// A row that a book has changes nothing of it.
+pub fn had_rows_change_nothing()
+    ensures { (b : BookState) (r : Row) → has_row b r ≡ true → after_put b r ≡ b }
 {}
 
 /// Rows in rising order are told by their look-ups: two such lists with the same row at every table and key are equal.

@@ -4,6 +4,7 @@
 
 mod book;
 mod bridge;
+mod had;
 mod keeper;
 mod laws;
 mod lease;
@@ -18,8 +19,8 @@ pub use book::{Book, StoreAnswer};
 pub use bridge::{Bridge, bridge_in};
 pub use keeper::{Keeper, KeeperFault};
 pub use laws::{
-    instances_are_rows, last_row_stands, rows_are_a_map, rows_follow_the_book,
-    same_look_ups_same_rows, sort_keys_differ,
+    had_rows_change_nothing, instances_are_rows, last_row_stands, rows_are_a_map,
+    rows_follow_the_book, same_look_ups_same_rows, sort_keys_differ,
 };
 pub use lease::LeaseFault;
 pub use memory::{MemKeeper, row_map};

@@ -2,7 +2,7 @@
 
 ghost use Rattle.std.specs.Prelude.{◌≡◌, ℕ, List, Some};
 ghost use Rattle.server_words.specs.declared.status.Status.{Status as Reading};
-ghost use Rattle.opening_book.specs.Seeing.{seen_in};
+ghost use Rattle.instance_keeper.specs.Seeing.{seen_in};
 ghost use Rattle.server_model.specs.Gtids.{status};
 ghost use Rattle.server_model.specs.Run.{Exchange, run, AllAllowed};
 ghost use Rattle.server_model.specs.Safe.{Safe, Placed};

@@ -61,6 +61,17 @@ Fits w j (act.Ask n a) = (n.0 < length w.servers) × (0 < length j.ops)
 Fits w j (act.Attach n expect to at) = (n.0 < length w.servers) × IsTarget w to.0 at × (0 < length j.ops)
 Fits w j (act.Auto n m) = (n.0 < length w.servers) × IsAutoTarget w m.0 × (0 < length j.ops) × (is_some (seen_of j.seen m.0) ≡ true)
 
+-- an operation is due, and a wait is one of those that are left
+abbrev pub CanFollow : Job → Act → Type 0
+CanFollow j act.Fail = Unit {0}
+CanFollow j act.End = Unit {0}
+CanFollow j act.Pass = 0 < length j.ops
+CanFollow j (act.Keep x) = 0 < length j.ops
+CanFollow j (act.Wait x) = j.waited + 1 < j.wait
+CanFollow j (act.Ask n a) = 0 < length j.ops
+CanFollow j (act.Attach n expect to at) = 0 < length j.ops
+CanFollow j (act.Auto n m) = 0 < length j.ops
+
 -- after an operation is looked up where one is due
 abbrev pub IsNext : Job → Option Op → Type 0
 IsNext j None = j.ops ≡ []

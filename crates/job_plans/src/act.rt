@@ -8,7 +8,7 @@ use server_words::{Ask, Spot};
 
 /// What a turn does to servers and to its job.
 #[derive(Drop)]
-pub(crate) enum Act {
+pub enum Act {
     /// The job ends, and each server in its hands is started.
     Fail,
     /// The job ends.
@@ -34,5 +34,6 @@ pub struct Look {
     pub step: JobStep,
     /// What the turn observes for the book, if it reads a status.
     pub observation: Option<Observation>,
-    pub(crate) act: Act,
+    /// What it does to servers and to its job.
+    pub act: Act,
 }

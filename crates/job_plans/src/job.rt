@@ -3,7 +3,7 @@
 ghost use Rattle.std.specs.Prelude.{◌≡◌, ◌<◌, ◌+◌, ◌↔◌, [], Some, None, IfOk, OnOk, OnErr, IsTrue, length, All, true, is_some};
 ghost use Rattle.std.specs.Option.{option_copied};
 ghost use Rattle.instance_keeper.specs.Bridges.{bridge_in as bridge_of};
-ghost use Rattle.opening_book.specs.Seeing.{seen_in};
+ghost use Rattle.instance_keeper.specs.Seeing.{seen_in};
 ghost use Rattle.server_model.specs.Gtids.{status as status_of, IsAutoTarget};
 ghost use Rattle.server_model.specs.Run.{Request as Requesting, after, run};
 ghost use Rattle.operations.specs.Deeds.{deed_of};
@@ -11,10 +11,11 @@ ghost use Rattle.operations.specs.Ending.{turns_left};
 ghost use Rattle.operations.specs.Jobs.{job_with, seen_of as latest_of};
 ghost use Rattle.operations.specs.Named.{IsNamed, IsOneOf, is_named};
 ghost use Rattle.operations.specs.Turns.{settled, next, saw, ended, hands_after, aim_of, turned, by_deed, after_until, until_by, after_wait_by, after_wait, is_reached as reaches, holds_seen as holds_all, settles, after_attach, crossing_of, same_again, by_set};
-ghost use Rattle.job_plans.specs.Acts.{foretold, exchanges_of, rest_of, CanTurn, IsNext, MayLook, Tells};
+ghost use Rattle.job_plans.specs.Acts.{foretold, exchanges_of, job_after, rest_of, CanFollow, CanTurn, IsNext, MayLook, Tells};
 
 use crate::Look;
 use crate::act::Act;
+use crate::copies::{copy_ops, copy_servers, copy_sights};
 use crate::looks::{
     cause_by, done, failed, going, holds_seen, is_reached, is_settled, latest, look_ask,
     look_attach, look_bridge, look_status, passed, read_by, takes_sets, watch,
@@ -81,8 +82,8 @@ impl Job {
         self.id
     }
 
-    // The operations that are left.
-    fn left(&self) -> &[Op]
+    /// The operations that are left.
+    pub fn left(&self) -> &[Op]
         ensures { result.now ≡ self.now.ops }
     {
         &self.ops[self.done..]
@@ -112,8 +113,8 @@ impl Job {
         self.left().first()
     }
 
-    // The latest that was seen of a server.
-    fn sight(&self, no: ServerNo) -> Option<&Status>
+    /// The latest that was seen of a server.
+    pub fn sight(&self, no: ServerNo) -> Option<&Status>
         ensures { option_copied result ≡ latest_of self.now.seen no.0 }
     {
         latest(&self.seen, no)
@@ -399,12 +400,26 @@ impl Job {
         Ok(())
     }
 
-    // The job is ended.
-    fn end(&mut self)
+    /// Ends the job: no operation is left, and nothing is in its hands.
+    pub fn end(&mut self)
         ensures { self.new ≡ ended self.old }
     {
         self.done = self.ops.len();
         self.hands.clear();
+    }
+
+    // The job after this was asked of a server.
+    fn follow_asking(&mut self, no: ServerNo, ask: Ask) -> Result<(), Memory>
+        requires { 0 < length self.old.ops }
+        ensures ok { OnOk result (self.new ≡ record (next self.old (rest_of self.old))
+            { hands = hands_after self.old.hands no ask }) }
+        ensures err { OnErr result (self.new ≡ self.old) }
+    {
+        self.hands.reserve(1)?;
+        change_hands(&mut self.hands, no, ask);
+        self.done += 1;
+        self.waited = 0;
+        Ok(())
     }
 
     // Asks this of a server.
@@ -416,11 +431,8 @@ impl Job {
         ensures world { OnOk result (world.new ≡ after world.old (Requesting no.0 ask)) }
         ensures err { OnErr result ((self.new ≡ self.old) × (world.new ≡ world.old)) }
     {
-        self.hands.reserve(1)?;
+        self.follow_asking(no, ask)?;
         let _ = world.ask(no, ask);
-        change_hands(&mut self.hands, no, ask);
-        self.done += 1;
-        self.waited = 0;
         Ok(())
     }
 
@@ -496,5 +508,76 @@ impl Job {
             Act::Auto(no, to) => self.pass_by_set(alloc, world, no, to)?,
         }
         Ok((step, observation))
+    }
+}
+
+// What an owner of the job does with it beside its turns.
+impl Job {
+    /// The same job once more.
+    pub fn copy(&self, alloc: Global) -> Result<Job, Memory>
+        ensures { IfOk result (λ j. j ≡ self.now) }
+    {
+        let ops = copy_ops(alloc, self.left())?;
+        let seen = copy_sights(alloc, &self.seen, ops.len())?;
+        Ok(Job {
+            id: self.id,
+            wait: self.wait,
+            ops,
+            done: 0,
+            seen,
+            waited: self.waited,
+            hands: copy_servers(alloc, &self.hands)?,
+        })
+    }
+
+    /// How many waits the operation that is due has had.
+    pub fn waited(&self) -> u32
+        ensures { result ≡ self.now.waited }
+    {
+        self.waited
+    }
+
+    /// The servers that the job stopped and hasn't started.
+    pub fn hands(&self) -> &[ServerNo]
+        ensures { result.now ≡ self.now.hands }
+    {
+        &self.hands
+    }
+
+    /// These operations are left, and none of them has had a wait.
+    pub fn begin(&mut self, ops: Vec<Op>) -> Result<(), Memory>
+        ensures ok { OnOk result (self.new ≡ record self.old { ops = ops.items; waited = 0 }) }
+        ensures err { OnErr result (self.new ≡ self.old) }
+    {
+        self.seen.reserve(ops.len())?;
+        self.ops = ops;
+        self.done = 0;
+        self.waited = 0;
+        Ok(())
+    }
+
+    /// This is the latest that was seen of a server.
+    pub fn see(&mut self, sight: Sight) -> Result<(), Memory>
+        ensures ok { OnOk result (self.new ≡ saw self.old sight.no sight.seen) }
+        ensures err { OnErr result (self.new ≡ self.old) }
+    {
+        self.seen.reserve(self.ops.len() - self.done + 1)?;
+        keep(&mut self.seen, sight);
+        Ok(())
+    }
+
+    /// The job after what was looked up on it; nothing is done to servers.
+    pub fn follow(&mut self, act: Act) -> Result<(), Memory>
+        requires { CanFollow self.old act }
+        ensures ok { OnOk result (self.new ≡ job_after self.old act) }
+    {
+        match act {
+            Act::Fail | Act::End => self.end(),
+            Act::Pass | Act::Attach(_, _, _, _) | Act::Auto(_, _) => self.pass(),
+            Act::Keep(sight) => self.pass_with(sight),
+            Act::Wait(sight) => self.wait_with(sight)?,
+            Act::Ask(no, ask) => self.follow_asking(no, ask)?,
+        }
+        Ok(())
     }
 }

@@ -2,14 +2,16 @@
 #![tactic(auto)]
 
 mod act;
+mod copies;
 mod job;
 mod looks;
 mod threads;
 mod turns;
 
-pub use act::Look;
+pub use act::{Act, Look};
 pub use commands::{Cause, Command, CommandName, Refusal};
 pub use job::Job;
+pub use looks::has_place;
 pub use operations::{Aim, Crossing, JobStep, Op, Sight};
 /// Want of memory.
 pub use orch_base::Memory;

@@ -2,7 +2,7 @@
 
 ghost use Rattle.std.specs.Prelude.{◌≡◌, ◌<◌, ◌&&◌, Some, None, IfOk, IsTrue, length, All};
 ghost use Rattle.std.specs.Option.{option_copied};
-ghost use Rattle.opening_book.specs.Seeing.{seen_in};
+ghost use Rattle.instance_keeper.specs.Seeing.{seen_in};
 ghost use Rattle.server_model.specs.Attach.{IsTarget};
 ghost use Rattle.server_model.specs.Desk.{desk_answer};
 ghost use Rattle.server_model.specs.Gtids.{status as status_of, IsAutoTarget};
@@ -191,8 +191,8 @@ pub(crate) fn look_ask(world: &World, no: ServerNo, ask: Ask) -> Look
     }
 }
 
-// Whether a server is there and logs, and the coordinate has a place in its log.
-fn has_place(world: &World, to: ServerNo, at: Coord) -> bool
+/// Whether a server is there and logs, and the coordinate has a place in its log.
+pub fn has_place(world: &World, to: ServerNo, at: Coord) -> bool
     ensures value { result ≡ places_by (server_at world.now to.0) at }
     ensures target { IsTrue result → IsTarget world.now to.0 at }
 {

@@ -25,7 +25,8 @@ pub struct FoundJob {
 /// Where the job of a number stands among jobs by rising number, found by halves.
 pub fn find(jobs: &[Job], id: u64) -> Option<usize>
     requires { (high : ℕ) × Rise 0 jobs.now high }
-    ensures { MatchOption result (job_at jobs.now id ≡ None) (λ at. (at < length jobs.now) × (job_at jobs.now id ≡ slice_get jobs.now at)) }
+    ensures { MatchOption result (job_at jobs.now id ≡ None)
+        (λ at. (at < length jobs.now) × (job_at jobs.now id ≡ slice_get jobs.now at)) }
 {
     let at = jobs.partition_point(|job| job.id() < id);
     if at == jobs.len() {
@@ -56,7 +57,8 @@ fn is_going(step: &JobStep) -> bool
 
 // What the job observed takes the next read number, and is stored.
 fn store(book: &mut Book, reads: &mut u64, observation: Option<Observation>)
-    requires { IfSome observation (λ o. are_known (length book.old.names) (observed_servers o) ≡ true) }
+    requires { IfSome observation (λ o.
+        are_known (length book.old.names) (observed_servers o) ≡ true) }
     ensures book { book.new ≡ stored book.old observation }
     ensures reads { reads.new ≡ reads_with reads.old observation }
 {
@@ -69,8 +71,10 @@ fn store(book: &mut Book, reads: &mut u64, observation: Option<Observation>)
 // A job that is ended is dropped, and its leases are free.
 fn drop_ended(jobs: &mut Vec<Job>, book: &mut Book, at: usize, id: u64, step: &JobStep)
     requires { at < length jobs.old.items }
-    ensures going { is_going step.now ≡ true → (jobs.new.items ≡ jobs.old.items) × (book.new ≡ book.old) }
-    ensures ended { is_going step.now ≡ false → (jobs.new.items ≡ remove jobs.old.items at) × (book.new ≡ without_leases book.old id) }
+    ensures going { is_going step.now ≡ true → (jobs.new.items ≡ jobs.old.items)
+        × (book.new ≡ book.old) }
+    ensures ended { is_going step.now ≡ false → (jobs.new.items ≡ remove jobs.old.items at)
+        × (book.new ≡ without_leases book.old id) }
 {
     if !is_going(step) {
         let _ = jobs.remove(at);
@@ -94,11 +98,16 @@ pub fn take_turn(
     requires id { job_at jobs.old.items found.id ≡ slice_get jobs.old.items found.at }
     requires rising { (high : ℕ) × Rise 0 jobs.old.items high }
     requires can { IfSome (job_at jobs.old.items found.id) (λ j. CanTurn world.old j look) }
-    requires known { IfSome look.observation (λ o. are_known (length book.old.names) (observed_servers o) ≡ true) }
-    ensures jobs { OnOk result (jobs.new.items ≡ jobs_turned jobs.old.items found.id (turn_by jobs.old.items found.id look)) }
-    ensures world { OnOk result (world.new ≡ run world.old (job_exchanges (turn_by jobs.old.items found.id look))) }
-    ensures book { OnOk result (book.new ≡ book_turned book.old found.id (turn_by jobs.old.items found.id look)) }
-    ensures reads { OnOk result (reads.new ≡ reads_with reads.old (job_observation (turn_by jobs.old.items found.id look))) }
+    requires known { IfSome look.observation
+        (λ o. are_known (length book.old.names) (observed_servers o) ≡ true) }
+    ensures jobs { OnOk result (jobs.new.items ≡ jobs_turned jobs.old.items found.id
+        (turn_by jobs.old.items found.id look)) }
+    ensures world { OnOk result (world.new ≡ run world.old
+        (job_exchanges (turn_by jobs.old.items found.id look))) }
+    ensures book { OnOk result (book.new ≡ book_turned book.old found.id
+        (turn_by jobs.old.items found.id look)) }
+    ensures reads { OnOk result (reads.new ≡ reads_with reads.old
+        (job_observation (turn_by jobs.old.items found.id look))) }
     ensures err { OnErr result ((jobs.new.items ≡ jobs.old.items) × (world.new ≡ world.old)) }
     ensures still { OnErr result ((book.new ≡ book.old) × (reads.new ≡ reads.old)) }
     ensures memory { OnErr result (look.observation ≡ None) }

@@ -12,7 +12,8 @@ use turns::Turn;
 const POLLER: u32 = 0;
 
 fn add_replication(turns: &mut Vec<Turn>, servers: &[ServerNo]) -> Result<(), Memory>
-    ensures { IfOk result (λ t. turns.new.items ≡ turns.old.items ++ flat_map replicates servers.now) }
+    ensures { IfOk result (λ t. turns.new.items ≡ turns.old.items ++ flat_map replicates
+        servers.now) }
 {
     for no in servers {
         turns.push(Turn::Fetch(*no))?;
@@ -33,7 +34,8 @@ fn add_polls(turns: &mut Vec<Turn>, servers: &[ServerNo]) -> Result<(), Memory>
 
 /// What follows the job's turn in a round: fetch and apply on each of the servers, then a poll of each, in their order.
 pub fn others_over(alloc: Global, servers: &[ServerNo]) -> Result<Vec<Turn>, Memory>
-    ensures { IfOk result (λ turns. turns.items ≡ flat_map replicates servers.now ++ flat_map polls servers.now) }
+    ensures { IfOk result (λ turns.
+        turns.items ≡ flat_map replicates servers.now ++ flat_map polls servers.now) }
 {
     let mut turns = Vec::new(alloc);
     add_replication(&mut turns, servers)?;

@@ -1,4 +1,3 @@
 pub mod Counting
-pub mod Seeing
 pub mod Opening
 pub mod Following

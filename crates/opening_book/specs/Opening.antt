@@ -10,11 +10,11 @@ use Rattle.instance_keeper.specs.declared.row.Change.TheVariants as change
 use Rattle.instance_keeper.specs.Book.{BookState, after_addition, after_put, after_removal}
 use Rattle.server_model.specs.declared.server.Server.{Server}
 use Rattle.server_model.specs.Worlds.{World, server_at}
-use Rattle.opening_book.specs.Seeing.{would_show}
+use Rattle.server_model.specs.Gtids.{shown_of}
 
 -- a server as it is known at the opening: valid where orchestrator reaches it
 abbrev pub opening_instance : World → Moment → ℕ → Server → Instance
-opening_instance w at n s = record { no = record { 0 = n }; read = 0; moment = at; valid = s.up && s.desk; seen = would_show w s }
+opening_instance w at n s = record { no = record { 0 = n }; read = 0; moment = at; valid = s.up && s.desk; seen = shown_of w s }
 
 abbrev pub put_instance : World → Moment → ℕ → Option Server → Option Change
 put_instance w at n None = None

@@ -14,7 +14,7 @@ use Rattle.instance_keeper.specs.Rows.{changed}
 use Rattle.instance_keeper.specs.declared.row.Row.TheVariants as row
 use Rattle.instance_keeper.specs.Book.{BookState, are_known, observed_servers, seen_servers, source_servers, row_fits, empty_book, after_put, after_row, book_made, instance_at, renewed, renewed_book, stored_over}
 use Rattle.opening_book.specs.Counting.{counted, loaded}
-use Rattle.opening_book.specs.Seeing.{seen_in}
+use Rattle.instance_keeper.specs.Seeing.{seen_in}
 use Rattle.server_model.specs.declared.server.Server.{Server}
 use Rattle.server_words.specs.declared.status.Status.{Status}
 use Rattle.server_words.specs.declared.status.StatusFault.{StatusFault}

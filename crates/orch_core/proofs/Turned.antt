@@ -15,7 +15,7 @@ use Rattle.job_plans.specs.declared.act.Look.{Look}
 use Rattle.job_plans.specs.Acts.{foretold}
 use Rattle.turns.specs.declared.turn.Turn.TheVariants as turn
 use Rattle.instance_keeper.specs.Bridges.{bridge_in}
-use Rattle.opening_book.specs.Seeing.{seen_in}
+use Rattle.instance_keeper.specs.Seeing.{seen_in}
 use Rattle.server_words.specs.declared.answers.Unreachable.{Unreachable}
 use Rattle.server_words.specs.declared.attach.AttachFault.{AttachFault}
 use Rattle.server_words.specs.declared.changes.Ask.{Ask}

@@ -4,7 +4,7 @@ use Rattle.orch_base.specs.declared.server.ServerNo.{ServerNo}
 use Rattle.instance_keeper.specs.Book.{BookState}
 use Rattle.server_model.specs.Gtids.{status}
 use Rattle.server_model.specs.Worlds.{World}
-use Rattle.opening_book.specs.Seeing.{seen_in}
+use Rattle.instance_keeper.specs.Seeing.{seen_in}
 use Rattle.commands.specs.declared.line.Line.{Line}
 use Rattle.commands.specs.declared.refusal.Refusal.{Refusal}
 use Rattle.commands.specs.declared.refusal.Refusal.TheVariants.{Unreachable}

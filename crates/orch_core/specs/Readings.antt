@@ -2,7 +2,7 @@
 use Rattle.std.specs.Prelude.{ℕ}
 use Rattle.orch_base.specs.declared.server.ServerNo.{ServerNo}
 use Rattle.instance_keeper.specs.declared.observation.Observation.{Observation}
-use Rattle.opening_book.specs.Seeing.{seen_in}
+use Rattle.instance_keeper.specs.Seeing.{seen_in}
 use Rattle.server_model.specs.Gtids.{status}
 use Rattle.server_model.specs.Worlds.{World}
 

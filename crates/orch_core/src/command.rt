@@ -180,7 +180,8 @@ fn told_with(
 // holds.
 fn discovery_change(book: &Book, o: &Observation, seen: &Seen) -> Result<Option<Change>, Memory>
     requires { o.now.no.0 < length book.now.names }
-    ensures { IfOk result (λ c. c ≡ discovery_change (instance_at book.now o.now.no) o.now seen.now) }
+    ensures { IfOk result (λ c. c ≡ discovery_change
+        (instance_at book.now o.now.no) o.now seen.now) }
 {
     if book.instance(o.no).is_some() {
         return book.change_by(o);
@@ -216,7 +217,9 @@ fn discover(
 ) -> Result<Outcome, Memory>
     requires world { no.0 < length world.now.servers }
     requires book { no.0 < length book.now.names }
-    ensures { IfOk result (λ out. outcome out ≡ discovered book.now reads (reading_by world.now no (next_count reads) moment.0) (reading_by world.now no (next_count reads) moment.0).seen) }
+    ensures { IfOk result (λ out. outcome out ≡ discovered book.now reads
+        (reading_by world.now no (next_count reads) moment.0)
+        (reading_by world.now no (next_count reads) moment.0).seen) }
 {
     let o = read_server(alloc, world, no, reads.saturating_add(1), moment)?;
     discovered(alloc, book, reads, o)
@@ -252,7 +255,8 @@ fn forget(
 fn ask(alloc: Global, book: &Book, reads: u64, t: &CommandTurn) -> Result<Outcome, Memory>
     requires i { IsTrue (is_within (length book.now.names) t.now.command.i) }
     requires d { IsTrue (is_within (length book.now.names) t.now.command.d) }
-    ensures { IfOk result (λ out. outcome out ≡ asked reads (permitted book.now t.now.command) (lines_of book.now t.now t.now.command.name)) }
+    ensures { IfOk result (λ out. outcome out ≡ asked reads (permitted book.now t.now.command)
+        (lines_of book.now t.now t.now.command.name)) }
 {
     match answer(alloc, book, t) {
         Ok(lines) => Ok(Outcome {
@@ -276,7 +280,8 @@ fn begin_by(
     planner: Planner,
 ) -> Result<Outcome, Memory>
     requires { planner_for command.name ≡ Some planner }
-    ensures { IfOk result (λ out. outcome out ≡ begun_by world.now book.now numbers command planner) }
+    ensures { IfOk result (λ out. outcome out ≡ begun_by world.now book.now numbers command
+        planner) }
 {
     let forest = book_forest(alloc, book)?;
     match permit_job(
@@ -319,7 +324,8 @@ fn outcome_by(
     requires servers { length book.now.names ≡ length world.now.servers }
     requires i { IsTrue (is_within (length book.now.names) t.now.command.i) }
     requires d { IsTrue (is_within (length book.now.names) t.now.command.d) }
-    ensures { IfOk result (λ out. outcome out ≡ outcome_by world.now book.now reads moment.0 t.now t.now.command.i) }
+    ensures { IfOk result (λ out. outcome out ≡ outcome_by world.now book.now reads moment.0 t.now
+        t.now.command.i) }
 {
     match t.command.i {
         Some(no) if reads_server(t.command.name) => {

@@ -230,8 +230,10 @@ fn complete<K: Keeper>(
     requires known { length known.now ≡ length world.now.servers }
     requires names { length book.names ≡ length world.now.servers }
     requires sources { All (HasKnownSource (length world.now.servers)) world.now.servers }
-    ensures book { IfOk result (λ b. b ≡ opened_book book (opening_changes world.now moment book known.now)) }
-    ensures kept { K.kept keeper.new ≡ kept_if (is_ok result) (K.kept keeper.old) (opening_changes world.now moment book known.now) }
+    ensures book { IfOk result (λ b.
+        b ≡ opened_book book (opening_changes world.now moment book known.now)) }
+    ensures kept { K.kept keeper.new ≡ kept_if (is_ok result) (K.kept keeper.old)
+        (opening_changes world.now moment book known.now) }
     ensures cause { HasTurnCause (K.faults keeper.old) (K.faults keeper.new) result }
     ensures idle { opening_changes world.now moment book known.now ≡ [] → keeper.new ≡ keeper.old }
 {
@@ -346,10 +348,13 @@ impl Engine {
         ensures plain { IfOk result (λ r. is_plain r ≡ true) }
         ensures ok { OnOk result (self.new ≡ step [] self.old (Turn.PollStore poller)) }
         ensures err { OnErr result (self.new ≡ self.old) }
-        ensures kept { K.kept keeper.new ≡ kept_if (is_ok result) (K.kept keeper.old) (changes_of [] self.old (Turn.PollStore poller)) }
+        ensures kept { K.kept keeper.new ≡ kept_if (is_ok result) (K.kept keeper.old)
+            (changes_of [] self.old (Turn.PollStore poller)) }
         ensures cause { HasTurnCause (K.faults keeper.old) (K.faults keeper.new) result }
-        ensures idle { changes_of [] self.old (Turn.PollStore poller) ≡ [] → keeper.new ≡ keeper.old }
-        ensures calls { result ≡ Err TurnFault.Keeper → changes_of [] self.old (Turn.PollStore poller) ≢ [] }
+        ensures idle { changes_of [] self.old (Turn.PollStore poller) ≡ []
+            → keeper.new ≡ keeper.old }
+        ensures calls { result ≡ Err TurnFault.Keeper
+            → changes_of [] self.old (Turn.PollStore poller) ≢ [] }
     {
         keep_store(alloc, keeper, &self.book, &self.slots[poller as usize])?;
         let slot = self.slots[poller as usize].take();
@@ -359,7 +364,8 @@ impl Engine {
     fn restart<K: Keeper>(&mut self, alloc: Global, keeper: &mut K) -> Result<Reply, TurnFault>
         ensures reply { IfOk result (λ r. r ≡ reply_of self.old Turn.Restart) }
         ensures plain { IfOk result (λ r. is_plain r ≡ true) }
-        ensures ok { OnOk result (StepsTo engine (K.kept keeper.old) self.old Turn.Restart self.new) }
+        ensures ok { OnOk result (StepsTo engine
+            (K.kept keeper.old) self.old Turn.Restart self.new) }
         ensures err { OnErr result (self.new ≡ self.old) }
         ensures kept { K.kept keeper.new ≡ K.kept keeper.old }
         ensures cause { HasTurnCause (K.faults keeper.old) (K.faults keeper.new) result }
@@ -394,7 +400,8 @@ impl Engine {
         ensures reply { IfOk result (λ r. AreReply written (reply_of self.old (Turn.Job id)) r) }
         ensures ok { OnOk result (self.new ≡ step [] self.old (Turn.Job id)) }
         ensures err { OnErr result (self.new ≡ self.old) }
-        ensures kept { K.kept keeper.new ≡ kept_if (is_ok result) (K.kept keeper.old) (changes_of [] self.old (Turn.Job id)) }
+        ensures kept { K.kept keeper.new ≡ kept_if (is_ok result) (K.kept keeper.old)
+            (changes_of [] self.old (Turn.Job id)) }
         ensures cause { HasTurnCause (K.faults keeper.old) (K.faults keeper.new) result }
         ensures idle { changes_of [] self.old (Turn.Job id) ≡ [] → keeper.new ≡ keeper.old }
         ensures calls { result ≡ Err TurnFault.Keeper → changes_of [] self.old (Turn.Job id) ≢ [] }
@@ -415,13 +422,16 @@ impl Engine {
     ) -> Result<Replies, TurnFault>
         requires at { found.at < length self.old.jobs }
         requires id { job_at self.old.jobs found.id ≡ slice_get self.old.jobs found.at }
-        ensures reply { IfOk result (λ r. AreReply written (reply_of self.old (Turn.Job found.id)) r) }
+        ensures reply { IfOk result
+            (λ r. AreReply written (reply_of self.old (Turn.Job found.id)) r) }
         ensures ok { OnOk result (self.new ≡ step [] self.old (Turn.Job found.id)) }
         ensures err { OnErr result (self.new ≡ self.old) }
-        ensures kept { K.kept keeper.new ≡ kept_if (is_ok result) (K.kept keeper.old) (changes_of [] self.old (Turn.Job found.id)) }
+        ensures kept { K.kept keeper.new ≡ kept_if (is_ok result) (K.kept keeper.old)
+            (changes_of [] self.old (Turn.Job found.id)) }
         ensures cause { HasTurnCause (K.faults keeper.old) (K.faults keeper.new) result }
         ensures idle { changes_of [] self.old (Turn.Job found.id) ≡ [] → keeper.new ≡ keeper.old }
-        ensures calls { result ≡ Err TurnFault.Keeper → changes_of [] self.old (Turn.Job found.id) ≢ [] }
+        ensures calls { result ≡ Err TurnFault.Keeper
+            → changes_of [] self.old (Turn.Job found.id) ≢ [] }
         ensures servers { length self.new.world.servers ≡ length self.old.world.servers }
     {
         // shows the proof that a job's numbers stay in their ranges
@@ -452,13 +462,16 @@ impl Engine {
         written: bool,
     ) -> Result<Replies, TurnFault>
         requires { IsCommand (length self.old.world.servers) t.now }
-        ensures reply { IfOk result (λ r. AreReply written (reply_of self.old (Turn.Command t.now)) r) }
+        ensures reply { IfOk result
+            (λ r. AreReply written (reply_of self.old (Turn.Command t.now)) r) }
         ensures ok { OnOk result (self.new ≡ step [] self.old (Turn.Command t.now)) }
         ensures err { OnErr result (self.new ≡ self.old) }
-        ensures kept { K.kept keeper.new ≡ kept_if (is_ok result) (K.kept keeper.old) (changes_of [] self.old (Turn.Command t.now)) }
+        ensures kept { K.kept keeper.new ≡ kept_if (is_ok result) (K.kept keeper.old)
+            (changes_of [] self.old (Turn.Command t.now)) }
         ensures cause { HasTurnCause (K.faults keeper.old) (K.faults keeper.new) result }
         ensures idle { changes_of [] self.old (Turn.Command t.now) ≡ [] → keeper.new ≡ keeper.old }
-        ensures calls { result ≡ Err TurnFault.Keeper → changes_of [] self.old (Turn.Command t.now) ≢ [] }
+        ensures calls { result ≡ Err TurnFault.Keeper
+            → changes_of [] self.old (Turn.Command t.now) ≢ [] }
     {
         // shows the proof what holds of the book
         let _ = self.book.servers();
@@ -543,9 +556,11 @@ impl Engine {
         ensures reply { IfOk result (λ r. AreReply written (reply_of self.old t.now) r) }
         ensures ok { OnOk result (StepsTo engine (K.kept keeper.old) self.old t.now self.new) }
         ensures err { OnErr result (self.new ≡ self.old) }
-        ensures kept { K.kept keeper.new ≡ kept_by engine (is_ok result) (K.kept keeper.old) self.old t.now }
+        ensures kept { K.kept keeper.new ≡ kept_by engine (is_ok result)
+            (K.kept keeper.old) self.old t.now }
         ensures cause { HasTurnCause (K.faults keeper.old) (K.faults keeper.new) result }
-        ensures idle { asks t.now ≡ false → changes_of [] self.old t.now ≡ [] → keeper.new ≡ keeper.old }
+        ensures idle { asks t.now ≡ false → changes_of [] self.old t.now ≡ []
+            → keeper.new ≡ keeper.old }
         ensures calls { result ≡ Err TurnFault.Keeper → Calls engine self.old t.now }
         ensures servers { length self.new.world.servers ≡ length self.old.world.servers }
     {
@@ -581,9 +596,11 @@ impl Engine {
         ensures reply { IfOk result (λ r. r ≡ reply_of self.old t.now) }
         ensures ok { OnOk result (StepsTo engine (K.kept keeper.old) self.old t.now self.new) }
         ensures err { OnErr result (self.new ≡ self.old) }
-        ensures kept { K.kept keeper.new ≡ kept_by engine (is_ok result) (K.kept keeper.old) self.old t.now }
+        ensures kept { K.kept keeper.new ≡ kept_by engine (is_ok result)
+            (K.kept keeper.old) self.old t.now }
         ensures cause { HasTurnCause (K.faults keeper.old) (K.faults keeper.new) result }
-        ensures idle { asks t.now ≡ false → changes_of [] self.old t.now ≡ [] → keeper.new ≡ keeper.old }
+        ensures idle { asks t.now ≡ false → changes_of [] self.old t.now ≡ []
+            → keeper.new ≡ keeper.old }
         ensures calls { result ≡ Err TurnFault.Keeper → Calls engine self.old t.now }
         ensures servers { length self.new.world.servers ≡ length self.old.world.servers }
     {
@@ -601,8 +618,11 @@ impl Engine {
         turns: &[Turn],
     ) -> Result<(), TurnFault>
         requires { All (IsTurn (length self.old.world.servers)) turns.now }
-        ensures ok { OnOk result (Ran engine (K.kept keeper.old) self.old turns.now (K.kept keeper.new) self.new) }
-        ensures err { IfErr result (λ e. WasCutOff engine (K.kept keeper.old) self.old turns.now (K.kept keeper.new) self.new e) }
+        ensures ok { OnOk result (Ran engine (K.kept keeper.old) self.old turns.now
+            (K.kept keeper.new) self.new) }
+        ensures err { IfErr result (λ e.
+            WasCutOff engine (K.kept keeper.old) self.old turns.now
+            (K.kept keeper.new) self.new e) }
         ensures cause { HasTurnCause (K.faults keeper.old) (K.faults keeper.new) result }
         ensures servers { length self.new.world.servers ≡ length self.old.world.servers }
     {
@@ -622,8 +642,11 @@ impl Engine {
     ) -> Result<Reply, TurnFault>
         requires { All (IsTurn (length self.old.world.servers)) others.now }
         ensures reply { IfOk result (λ r. r ≡ reply_of self.old (Turn.Job job)) }
-        ensures ok { OnOk result (Ran engine (K.kept keeper.old) self.old (Turn.Job job ∷ others.now) (K.kept keeper.new) self.new) }
-        ensures err { IfErr result (λ e. WasCutOff engine (K.kept keeper.old) self.old (Turn.Job job ∷ others.now) (K.kept keeper.new) self.new e) }
+        ensures ok { OnOk result (Ran engine (K.kept keeper.old) self.old
+            (Turn.Job job ∷ others.now) (K.kept keeper.new) self.new) }
+        ensures err { IfErr result (λ e.
+            WasCutOff engine (K.kept keeper.old) self.old (Turn.Job job ∷ others.now)
+            (K.kept keeper.new) self.new e) }
         ensures cause { HasTurnCause (K.faults keeper.old) (K.faults keeper.new) result }
         ensures servers { length self.new.world.servers ≡ length self.old.world.servers }
     {
@@ -642,8 +665,11 @@ impl Engine {
         keeper: &mut K,
         job: u64,
     ) -> Result<Option<Reply>, TurnFault>
-        ensures ok { IfOk result (FinishedBy (K.kept keeper.old) self.old job (K.kept keeper.new) self.new) }
-        ensures err { IfErr result (λ e. WasCutShort engine (λ s. s) (K.kept keeper.old) self.old job (K.kept keeper.new) self.new e) }
+        ensures ok { IfOk result (FinishedBy (K.kept keeper.old) self.old job
+            (K.kept keeper.new) self.new) }
+        ensures err { IfErr result (λ e.
+            WasCutShort engine (λ s. s) (K.kept keeper.old) self.old job
+            (K.kept keeper.new) self.new e) }
         ensures cause { HasTurnCause (K.faults keeper.old) (K.faults keeper.new) result }
         ensures servers { length self.new.world.servers ≡ length self.old.world.servers }
     {

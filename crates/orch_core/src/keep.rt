@@ -23,7 +23,8 @@ pub(crate) fn keep_store<K: Keeper>(
     slot: &Option<Observation>,
 ) -> Result<(), TurnFault>
     requires { IfSome slot.now (λ o. o.no.0 < length book.now.names) }
-    ensures kept { K.kept keeper.new ≡ kept_if (is_ok result) (K.kept keeper.old) (changes_by book.now slot.now) }
+    ensures kept { K.kept keeper.new ≡ kept_if (is_ok result) (K.kept keeper.old)
+        (changes_by book.now slot.now) }
     ensures cause { HasTurnCause (K.faults keeper.old) (K.faults keeper.new) result }
     ensures idle { changes_by book.now slot.now ≡ [] → keeper.new ≡ keeper.old }
     ensures calls { result ≡ Err TurnFault.Keeper → changes_by book.now slot.now ≢ [] }
@@ -103,7 +104,8 @@ pub(crate) fn counted_rows<K: Keeper>(
     names: &[Name],
     servers: u32,
 ) -> Result<Vec<Row>, TurnFault>
-    ensures told { IfSome (K.kept keeper.old) (λ rows. IfOk result (λ r. r.items ≡ counted servers rows)) }
+    ensures told { IfSome (K.kept keeper.old)
+        (λ rows. IfOk result (λ r. r.items ≡ counted servers rows)) }
     ensures some { IfOk result (λ r. (rows : List ARow) × (r.items ≡ counted servers rows)) }
     ensures kept { K.kept keeper.new ≡ K.kept keeper.old }
     ensures cause { HasTurnCause (K.faults keeper.old) (K.faults keeper.new) result }

@@ -55,7 +55,8 @@ impl Orch {
         ensures journal { IfOk result (λ o. o.journal ≡ []) }
         ensures kept { K.kept keeper.new ≡ kept_at_start (is_ok result) (K.kept keeper.old) s.now }
         ensures cause { HasTurnCause (K.faults keeper.old) (K.faults keeper.new) result }
-        ensures servers { IfOk result (λ o. length o.state.world.servers ≡ length s.now.opening.servers) }
+        ensures servers { IfOk result
+            (λ o. length o.state.world.servers ≡ length s.now.opening.servers) }
     {
         let engine = Engine::make(alloc, s, keeper, wait)?;
         Ok(Orch {
@@ -78,11 +79,14 @@ impl Orch {
         ensures reply { IfOk result (λ r. r ≡ reply_of self.old.state t) }
         ensures ok { OnOk result (StepsTo recorder (K.kept keeper.old) self.old t self.new) }
         ensures err { OnErr result (self.new ≡ self.old) }
-        ensures kept { K.kept keeper.new ≡ kept_by recorder (is_ok result) (K.kept keeper.old) self.old t }
+        ensures kept { K.kept keeper.new ≡ kept_by recorder (is_ok result)
+            (K.kept keeper.old) self.old t }
         ensures cause { HasTurnCause (K.faults keeper.old) (K.faults keeper.new) result }
-        ensures idle { asks t ≡ false → changes_of [] self.old.state t ≡ [] → keeper.new ≡ keeper.old }
+        ensures idle { asks t ≡ false → changes_of [] self.old.state t ≡ []
+            → keeper.new ≡ keeper.old }
         ensures calls { result ≡ Err TurnFault.Keeper → Calls recorder self.old t }
-        ensures servers { length self.new.state.world.servers ≡ length self.old.state.world.servers }
+        ensures servers { length self.new.state.world.servers ≡ length
+            self.old.state.world.servers }
     {
         self.journal.reserve(1)?;
         let replies = self.engine.replies(alloc, keeper, &t, true)?;
@@ -100,10 +104,14 @@ impl Orch {
         turns: &[Turn],
     ) -> Result<(), TurnFault>
         requires { All (IsTurn (length self.old.state.world.servers)) turns.now }
-        ensures ok { OnOk result (Ran recorder (K.kept keeper.old) self.old turns.now (K.kept keeper.new) self.new) }
-        ensures err { IfErr result (λ e. WasCutOff recorder (K.kept keeper.old) self.old turns.now (K.kept keeper.new) self.new e) }
+        ensures ok { OnOk result (Ran recorder (K.kept keeper.old) self.old turns.now
+            (K.kept keeper.new) self.new) }
+        ensures err { IfErr result (λ e.
+            WasCutOff recorder (K.kept keeper.old) self.old turns.now
+            (K.kept keeper.new) self.new e) }
         ensures cause { HasTurnCause (K.faults keeper.old) (K.faults keeper.new) result }
-        ensures servers { length self.new.state.world.servers ≡ length self.old.state.world.servers }
+        ensures servers { length self.new.state.world.servers ≡ length
+            self.old.state.world.servers }
     {
         for t in turns {
             self.turn(alloc, keeper, t.copy(alloc)?)?;
@@ -118,10 +126,14 @@ impl Orch {
         keeper: &mut K,
         job: u64,
     ) -> Result<(), TurnFault>
-        ensures ok { OnOk result (Finished recorder (λ r. r.state) (K.kept keeper.old) self.old job (K.kept keeper.new) self.new) }
-        ensures err { IfErr result (λ e. WasCutShort recorder (λ r. r.state) (K.kept keeper.old) self.old job (K.kept keeper.new) self.new e) }
+        ensures ok { OnOk result (Finished recorder (λ r. r.state) (K.kept keeper.old) self.old job
+            (K.kept keeper.new) self.new) }
+        ensures err { IfErr result (λ e.
+            WasCutShort recorder (λ r. r.state) (K.kept keeper.old) self.old job
+            (K.kept keeper.new) self.new e) }
         ensures cause { HasTurnCause (K.faults keeper.old) (K.faults keeper.new) result }
-        ensures servers { length self.new.state.world.servers ≡ length self.old.state.world.servers }
+        ensures servers { length self.new.state.world.servers ≡ length
+            self.old.state.world.servers }
     {
         if !self.is_open(job) {
             return Ok(());

@@ -18,7 +18,7 @@ use Rattle.server_words.specs.declared.attach.Spot.TheVariants as spot
 use Rattle.server_words.specs.declared.changes.Ask.{Ask}
 use Rattle.server_words.specs.declared.changes.Ask.TheVariants as asking
 use Rattle.server_words.specs.declared.status.Status.{Status}
-use Rattle.opening_book.specs.Seeing.{seen_in}
+use Rattle.instance_keeper.specs.Seeing.{seen_in}
 use Rattle.server_model.specs.Desk.{desk_answer}
 use Rattle.server_model.specs.Gtids.{status}
 use Rattle.server_model.specs.Run.{Exchange, Attach, AttachAuto, Request, is_rotate, is_write}

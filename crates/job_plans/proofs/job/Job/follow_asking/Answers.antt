@@ -4,7 +4,7 @@ use Rattle.operations.specs.Jobs.{Job}
 use Rattle.operations.specs.Turns.{hands_after}
 use Rattle.job_plans.specs.JobsBy.{job_of}
 use Rattle.job_plans.proofs.Views.{hands-view}
-use Rattle.job_plans.proofs.job.Job.pass_asking.Goals as goal
+use Rattle.job_plans.proofs.job.Job.follow_asking.Goals as goal
 
 pub returns-clause-ok : goal.returns-clause-ok
 returns-clause-ok c =

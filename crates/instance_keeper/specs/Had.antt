@@ -1,0 +1,52 @@
+-- Rows that a book has, as the code tells it.
+use Rattle.std.specs.Prelude.{◌==◌, ◌&&◌, Bool, true, false, if◌then◌else◌, nat_eq, slice_index_or, Option, None, Some}
+use Rattle.std.specs.Cmp.Lexicographic.{pointwise}
+use Rattle.orch_base.specs.declared.rule.Rule.{Rule}
+use Rattle.orch_base.specs.declared.rule.Rule.TheVariants as rule
+use Rattle.orch_base.specs.declared.server.ServerNo.{ServerNo}
+use Rattle.instance_keeper.specs.declared.row.Candidate.{Candidate}
+use Rattle.instance_keeper.specs.declared.row.Change.{Change}
+use Rattle.instance_keeper.specs.declared.row.Change.TheVariants as change
+use Rattle.instance_keeper.specs.declared.row.Downtime.{Downtime}
+use Rattle.instance_keeper.specs.declared.row.Row.{Row}
+use Rattle.instance_keeper.specs.declared.row.Row.TheVariants as row
+use Rattle.instance_keeper.specs.Book.{BookState, instance_at}
+use Rattle.instance_keeper.specs.Same.{same_bool, same_instance}
+
+abbrev pub same_downtime : Downtime → Downtime → Bool
+same_downtime a b =
+    (a.no.0 == b.no.0) && ((a.begun.0 == b.begun.0) && ((a.until.0 == b.until.0) && (pointwise nat_eq a.owner b.owner && pointwise nat_eq a.reason b.reason)))
+
+abbrev pub same_rule : Rule → Rule → Bool
+same_rule rule.Prefer rule.Prefer = true
+same_rule rule.Neutral rule.Neutral = true
+same_rule rule.PreferNot rule.PreferNot = true
+same_rule rule.MustNot rule.MustNot = true
+same_rule _ _ = false
+
+abbrev pub same_candidate : Candidate → Candidate → Bool
+same_candidate a b = (a.no.0 == b.no.0) && (same_rule a.rule b.rule && (a.until.0 == b.until.0))
+
+-- a server's downtime and its registration as they are kept, whether or not they still last
+abbrev pub downtime_kept : BookState → ServerNo → Option Downtime
+downtime_kept b n = slice_index_or b.downtimes n.0 None
+
+abbrev pub candidate_kept : BookState → ServerNo → Option Candidate
+candidate_kept b n = slice_index_or b.candidates n.0 None
+
+-- what is kept is equal to this
+abbrev pub had : {A : Type 0} → (A → A → Bool) → Option A → A → Bool
+had same None x = false
+had same (Some kept) x = same kept x
+
+-- the book has this very row
+abbrev pub has_row : BookState → Row → Bool
+has_row b (row.Instance i) = had same_instance (instance_at b i.no) i
+has_row b (row.Downtime d) = had same_downtime (downtime_kept b d.no) d
+has_row b (row.Candidate c) = had same_candidate (candidate_kept b c.no) c
+has_row b (row.Recovery r) = false
+has_row b (row.Switch enabled) = had same_bool b.switch enabled
+
+-- the change by which the book gets a row: none where it has it
+abbrev pub put_change : BookState → Row → Option Change
+put_change b r = if has_row b r then None else Some (change.Put r)
