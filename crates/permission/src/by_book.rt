@@ -92,7 +92,8 @@ pub fn source_above(book: &Book, no: ServerNo) -> Option<ServerNo>
     }
 }
 
-fn is_valid(book: &Book, no: ServerNo) -> bool
+/// Whether a server is an instance whose last reading reached it.
+pub fn is_valid(book: &Book, no: ServerNo) -> bool
     ensures { result ≡ is_valid book.now no }
 {
     match instance(book, no) {

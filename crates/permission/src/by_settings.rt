@@ -31,13 +31,15 @@ fn label(world: &World, no: ServerNo) -> &str
     }
 }
 
-fn same_label(world: &World, one: ServerNo, other: ServerNo) -> bool
+/// Whether two servers have the same cluster's label.
+pub fn same_label(world: &World, one: ServerNo, other: ServerNo) -> bool
     ensures { result ≡ same_label world.now one other }
 {
     label(world, one) == label(world, other)
 }
 
-fn has_log(world: &World, no: ServerNo) -> bool
+/// Whether a server writes a binary log.
+pub fn has_log(world: &World, no: ServerNo) -> bool
     ensures { result ≡ has_log world.now no }
 {
     match settings(world, no) {

@@ -8,7 +8,8 @@ mod case;
 mod replicas;
 mod row;
 
-pub use by_book::{attached_to, is_auto, is_before, is_below, source, source_above};
+pub use by_book::{attached_to, is_auto, is_before, is_below, is_valid, source, source_above};
+pub use by_settings::{has_log, same_label};
 pub use case::{Case, Check, Move, moves_to, one_or_none};
 /// Want of memory.
 pub use orch_base::Memory;
