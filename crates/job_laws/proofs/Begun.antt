@@ -52,7 +52,7 @@ leases-weaker L M j f has = record {
 
 -- ---- a job that ends frees its leases and no others
 
-freed-others : (L : Leases) (id k n : ℕ) → (k == id) ≡ false → L n ≡ Some k → without_leases L id n ≡ Some k
+pub freed-others : (L : Leases) (id k n : ℕ) → (k == id) ≡ false → L n ≡ Some k → without_leases L id n ≡ Some k
 freed-others L id k n apart h = ap (λ o. cond (is_of o id) None o) h ∙ ap (λ b. cond b None (Some k)) apart
 
 freed-back : (L : Leases) (id k n : ℕ) → without_leases L id n ≡ Some k → (L n ≡ Some k) × (k ≡ id → ⊥)
@@ -112,7 +112,7 @@ leased-replaced L jobs id t keeps are = record {
 -- ---- a turn of a job
 
 module _ (f : Flight) (id : ℕ) (t : Turned) (held : Held f) (keeps : KeepsHeld f.world t) (leases : KeepsLeases f.leases id t) where
-  held-after : Held (after_turn f id t)
+  pub held-after : Held (after_turn f id t)
   held-after = go (is_going t.step)
     where
       later : All (HeldJob (run f.world t.exchanges)) f.jobs
@@ -134,7 +134,7 @@ module _ (f : Flight) (id : ℕ) (t : Turned) (held : Held f) (keeps : KeepsHeld
         leased = leased-without f.leases f.jobs id held.leased;
       }
 
-  sound-after : Sound f → KeepsSound f.world t → IsQuiet (run f.world t.exchanges) → Sound (after_turn f id t)
+  pub sound-after : Sound f → KeepsSound f.world t → IsQuiet (run f.world t.exchanges) → Sound (after_turn f id t)
   sound-after sound also quiet = go (is_going t.step)
     where
       later : All (λ j. AllBridged (run f.world t.exchanges) j.seen) f.jobs
@@ -213,7 +213,7 @@ module _ (f : Flight) (list : List ServerNo) (j : Job) (b : Begins f.world f.job
   taken : Leases
   taken = leased_to f.leases list j.id
 
-  kept-leases : (k n : ℕ) → IsLeased f.leases k n → IsLeased (leased_to f.leases list j.id) k n
+  pub kept-leases : (k n : ℕ) → IsLeased f.leases k n → IsLeased (leased_to f.leases list j.id) k n
   kept-leases k n h = go (list_any (λ (m : ServerNo). m.0 == n) list) refl
     where
       go : (c : Bool) → list_any (λ (m : ServerNo). m.0 == n) list ≡ c → cond c (Some j.id) (f.leases n) ≡ Some k

@@ -68,21 +68,22 @@ look-observes j rest n from o (Some s) = go (is_moved from s.source)
 none-some : (o : Option Observation) (x : Observation) (A : Type 0) → o ≡ None → o ≡ Some x → A
 none-some o x A none some = let e : None ≡ Some x = sym none ∙ some in cc
 
+-- by whatever operation is due
+pub deed-observes : (w : World) (read : ℕ) (now : Moment) (j : Job) (rest : List Op) (d : Deed) (o : Observation) → (settled j (by_deed w read now j rest d)).observation ≡ Some o → (n : ServerNo) × (o ≡ observed w read now n)
+deed-observes w read now j rest (deed.Look n from) o h = (n, same_Some o (observed w read now n) (sym h ∙ look-observes j rest n from (observed w read now n) (seen_in (status w n.0))))
+deed-observes w read now j rest (deed.Request n a) o h = none-some _ o _ (ask-observes j rest n a (desk_answer (server_at w n.0))) h
+deed-observes w read now j rest (deed.Until n to) o h = none-some _ o _ (until-observes w j rest n (until_by (seen_of j.seen n.0) (aim_of j.seen to))) h
+deed-observes w read now j rest (deed.Await n to) o h = none-some _ o _ (wait-observes j rest n (λ s. is_reached (aim_of j.seen to) s.exec) (seen_in (status w n.0))) h
+deed-observes w read now j rest (deed.AwaitSet n m) o h = none-some _ o _ (wait-observes j rest n (holds_seen (seen_of j.seen m.0)) (seen_in (status w n.0))) h
+deed-observes w read now j rest (deed.Settle n) o h = none-some _ o _ (wait-observes j rest n (settles j) (seen_in (status w n.0))) h
+deed-observes w read now j rest (deed.Cross c a b) o h = none-some _ o _ (attach-observes w j rest a (crossed c a (bridge_in (read_by c a b) (seen_of j.seen (read_by c a b).0)))) h
+deed-observes w read now j rest (deed.Same n) o h = none-some _ o _ (attach-observes w j rest n (same_again n (seen_of j.seen n.0))) h
+deed-observes w read now j rest (deed.Auto n m) o h = none-some _ o _ (attach-observes w j rest n (by_set n m (seen_of j.seen m.0))) h
+deed-observes w read now j rest (deed.Finish lines) o h = cc
+
 pub turn-observes : (w : World) (read : ℕ) (now : Moment) (j : Job) (o : Observation) → (turned w read now j).observation ≡ Some o → (n : ServerNo) × (o ≡ observed w read now n)
 turn-observes w read now j o h = go j.ops h
   where
-    by : (rest : List Op) (d : Deed) → (settled j (by_deed w read now j rest d)).observation ≡ Some o → (n : ServerNo) × (o ≡ observed w read now n)
-    by rest (deed.Look n from) h = (n, same_Some o (observed w read now n) (sym h ∙ look-observes j rest n from (observed w read now n) (seen_in (status w n.0))))
-    by rest (deed.Request n a) h = none-some _ o _ (ask-observes j rest n a (desk_answer (server_at w n.0))) h
-    by rest (deed.Until n to) h = none-some _ o _ (until-observes w j rest n (until_by (seen_of j.seen n.0) (aim_of j.seen to))) h
-    by rest (deed.Await n to) h = none-some _ o _ (wait-observes j rest n (λ s. is_reached (aim_of j.seen to) s.exec) (seen_in (status w n.0))) h
-    by rest (deed.AwaitSet n m) h = none-some _ o _ (wait-observes j rest n (holds_seen (seen_of j.seen m.0)) (seen_in (status w n.0))) h
-    by rest (deed.Settle n) h = none-some _ o _ (wait-observes j rest n (settles j) (seen_in (status w n.0))) h
-    by rest (deed.Cross c a b) h = none-some _ o _ (attach-observes w j rest a (crossed c a (bridge_in (read_by c a b) (seen_of j.seen (read_by c a b).0)))) h
-    by rest (deed.Same n) h = none-some _ o _ (attach-observes w j rest n (same_again n (seen_of j.seen n.0))) h
-    by rest (deed.Auto n m) h = none-some _ o _ (attach-observes w j rest n (by_set n m (seen_of j.seen m.0))) h
-    by rest (deed.Finish lines) h = cc
-
     go : (ops : List Op) → (settled j (by_ops w read now j ops)).observation ≡ Some o → (n : ServerNo) × (o ≡ observed w read now n)
     go [] h = cc
-    go (op ∷ rest) h = by rest (deed_of op) h
+    go (op ∷ rest) h = deed-observes w read now j rest (deed_of op) o h

@@ -6,14 +6,14 @@ use Rattle.server_model.specs.Safe.{IsQuiet}
 use Rattle.server_model.specs.Worlds.{World}
 use Rattle.replication_laws.proofs.Runs.{quiet-run}
 use Rattle.operations.specs.Jobs.{Job}
-use Rattle.operations.specs.Turns.{observed, turned}
+use Rattle.operations.specs.Turns.{Turned, observed, turned}
 use Rattle.job_laws.specs.Leases.{job_at}
 use Rattle.job_laws.specs.Flights.{Flight, Held, Sound, IsShown, IsShownBridged, after_turn, job_turned}
 use Rattle.job_laws.specs.Passages as pass
-use Rattle.job_laws.specs.Passages.{Passage, stored_if, slot_of, turned_by, passed, MayPass, passing, AllMayPass}
+use Rattle.job_laws.specs.Passages.{MayTake, Passage, stored_if, slot_of, turned_by, passed, MayPass, passing, AllMayPass}
 use Rattle.job_laws.proofs.Lists.{All-at}
 use Rattle.job_laws.proofs.Passing.{Held-on, Sound-on, observed-shown, observed-bridged, Held-slotted, Sound-slotted, Held-stored, Sound-stored, Held-forgotten, Sound-forgotten, Held-restarted, Sound-restarted}
-use Rattle.job_laws.proofs.Begun.{Held-turned, Sound-turned, Held-begun, Sound-begun, turn-shown, turn-bridged, held-of}
+use Rattle.job_laws.proofs.Begun.{Held-turned, Sound-turned, Held-begun, Sound-begun, held-after, sound-after, turn-shown, turn-bridged, held-of}
 
 held-stored_if : (keeps : Bool) (f : Flight) (o : Option Observation) → ((x : Observation) → o ≡ Some x → IsShown f.world x) → Held f → Held (stored_if keeps f o)
 held-stored_if keeps f None shown held = held
@@ -26,10 +26,16 @@ sound-stored_if true f (Some o) shown sound = Sound-stored f o (shown o refl) so
 sound-stored_if false f (Some o) shown sound = sound
 
 -- what is stored leaves the servers as they are
-world-stored_if : (keeps : Bool) (f : Flight) (o : Option Observation) → (stored_if keeps f o).world ≡ f.world
+pub world-stored_if : (keeps : Bool) (f : Flight) (o : Option Observation) → (stored_if keeps f o).world ≡ f.world
 world-stored_if keeps f None = refl
 world-stored_if true f (Some o) = refl
 world-stored_if false f (Some o) = refl
+
+-- and the leases
+pub leases-stored_if : (keeps : Bool) (f : Flight) (o : Option Observation) → (stored_if keeps f o).leases ≡ f.leases
+leases-stored_if keeps f None = refl
+leases-stored_if true f (Some o) = refl
+leases-stored_if false f (Some o) = refl
 
 in-slot : (P : Observation → Type 0) (o : Option Observation) → IfSome o P → (x : Observation) → o ≡ Some x → P x
 in-slot P o h x is = subst (λ (y : Option Observation). IfSome y P) is h
@@ -62,6 +68,20 @@ sound-turned_by f id read now keeps held sound quiet = go (job_at f.jobs id) ref
         (λ x is. turn-bridged f.world read now j x sound.safe held.placed (held-of f id j held at) is)
         (after (ap (λ (w : World). w.errant) (sym same) ∙ quiet))
 
+-- a turn that was decided otherwise
+
+held-taken : (f : Flight) (id : ℕ) (t : Turned) (keeps : Bool) → MayTake f id t → Held f → Held (stored_if keeps (after_turn f id t) t.observation)
+held-taken f id t keeps may held =
+    held-stored_if keeps (after_turn f id t) t.observation (in-slot (IsShown (after_turn f id t).world) t.observation may.shown)
+    (held-after f id t held may.held may.leases)
+
+sound-taken : (f : Flight) (id : ℕ) (t : Turned) (keeps : Bool) → MayTake f id t → Held f → Sound f → IsQuiet (stored_if keeps (after_turn f id t) t.observation).world
+    → Sound (stored_if keeps (after_turn f id t) t.observation)
+sound-taken f id t keeps may held sound quiet =
+    let same = world-stored_if keeps (after_turn f id t) t.observation in
+    sound-stored_if keeps (after_turn f id t) t.observation (in-slot (IsShownBridged (after_turn f id t).world) t.observation (may.bridged sound))
+    (sound-after f id t held may.held may.leases sound (may.sound sound) (ap (λ (w : World). w.errant) (sym same) ∙ quiet))
+
 pub Held-passed : (f : Flight) (p : Passage) → MayPass f p → Held f → Held (passed f p)
 Held-passed f (pass.Exchanging e) may held = Held-on f (e ∷ []) (may.0, tt) held
 Held-passed f (pass.Polling p n read now) may held = Held-slotted f p (Some (observed f.world read now n)) (observed-shown f.world read now n held.placed) held
@@ -72,6 +92,7 @@ Held-passed f (pass.Forgetting n) may held = Held-forgotten f n held
 Held-passed f pass.Restarting may held = Held-restarted f held
 Held-passed f (pass.Beginning list j) may held = Held-begun f list j may held
 Held-passed f (pass.Turning id read now keeps) may held = held-turned_by f id read now keeps held
+Held-passed f (pass.Taking id t keeps) may held = held-taken f id t keeps may held
 
 pub Sound-passed : (f : Flight) (p : Passage) → MayPass f p → IsQuiet (passed f p).world → Held f → Sound f → Sound (passed f p)
 Sound-passed f (pass.Exchanging e) may quiet held sound = Sound-on f (e ∷ []) (may.0, tt) (may.1, tt) quiet held sound
@@ -83,6 +104,7 @@ Sound-passed f (pass.Forgetting n) may quiet held sound = Sound-forgotten f n so
 Sound-passed f pass.Restarting may quiet held sound = Sound-restarted f sound
 Sound-passed f (pass.Beginning list j) may quiet held sound = Sound-begun f list j may sound
 Sound-passed f (pass.Turning id read now keeps) may quiet held sound = sound-turned_by f id read now keeps held sound quiet
+Sound-passed f (pass.Taking id t keeps) may quiet held sound = sound-taken f id t keeps may held sound quiet
 
 -- ---- the count of errant writes never falls
 
@@ -101,6 +123,8 @@ quiet-back f (pass.Forgetting n) q = q
 quiet-back f pass.Restarting q = q
 quiet-back f (pass.Beginning list j) q = q
 quiet-back f (pass.Turning id read now keeps) q = quiet-turned f id read now keeps (job_at f.jobs id) q
+quiet-back f (pass.Taking id t keeps) q =
+    quiet-run f.world t.exchanges (ap (λ (w : World). w.errant) (sym (world-stored_if keeps (after_turn f id t) t.observation)) ∙ q)
 
 quiet-start : (f : Flight) (ps : List Passage) → IsQuiet (passing f ps).world → IsQuiet f.world
 quiet-start f [] q = q

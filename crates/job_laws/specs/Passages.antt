@@ -1,17 +1,20 @@
 -- Runs of turns over servers with jobs in flight.
-use Rattle.std.specs.Prelude.{ℕ, Bool, if◌then◌else◌, List, [], ◌∷◌, slice_index_or, Option, Some, None}
+use Rattle.std.specs.Prelude.{ℕ, Bool, if◌then◌else◌, List, [], ◌∷◌, slice_index_or, Option, Some, None, IfSome}
 use Rattle.orch_base.specs.declared.server.Moment.{Moment}
 use Rattle.orch_base.specs.declared.server.ServerNo.{ServerNo}
 use Rattle.instance_keeper.specs.declared.observation.Observation.{Observation}
-use Rattle.server_model.specs.Run.{Exchange, Allowed, JoinsWell}
+use Rattle.server_model.specs.Run.{Exchange, Allowed, JoinsWell, run}
 use Rattle.operations.specs.Jobs.{Job}
-use Rattle.operations.specs.Turns.{observed, turned}
-use Rattle.job_laws.specs.Leases.{Begins, job_at}
-use Rattle.job_laws.specs.Flights.{Flight, exchanged, slotted, stored, forgotten, restarted, begun, after_turn}
+use Rattle.operations.specs.Turns.{Turned, observed, turned}
+use Rattle.job_laws.specs.Held.{KeepsHeld}
+use Rattle.job_laws.specs.Sound.{KeepsSound}
+use Rattle.job_laws.specs.Leases.{Begins, KeepsLeases, job_at}
+use Rattle.job_laws.specs.Flights.{Flight, IsShown, IsShownBridged, Sound, exchanged, slotted, stored, forgotten, restarted, begun, after_turn}
 
 -- What a turn does: an exchange that is no job's; a poll that reads a server into its slot; a slot's reading that is
 -- stored or passed over; a server that is read and stored at once; an instance that is forgotten; a restart; a job
--- that begins; and a job's turn, whose reading is stored or passed over.
+-- that begins; a job's turn by its operations, and one that was decided otherwise, each with a reading that is stored or
+-- passed over.
 pub data Passage : Type 0 where
   Exchanging : (e : Exchange) → Passage
   Polling : (p : ℕ) (n : ServerNo) (read : ℕ) (now : Moment) → Passage
@@ -21,6 +24,7 @@ pub data Passage : Type 0 where
   Restarting : Passage
   Beginning : (list : List ServerNo) (j : Job) → Passage
   Turning : (id read : ℕ) (now : Moment) (keeps : Bool) → Passage
+  Taking : (id : ℕ) (t : Turned) (keeps : Bool) → Passage
 
 -- a reading is stored, where there is one and the book takes it
 abbrev pub stored_if : Bool → Flight → Option Observation → Flight
@@ -43,9 +47,20 @@ passed f (Forgetting n) = forgotten f n
 passed f Restarting = restarted f
 passed f (Beginning list j) = begun f list j
 passed f (Turning id read now keeps) = turned_by f id read now keeps (job_at f.jobs id)
+passed f (Taking id t keeps) = stored_if keeps (after_turn f id t) t.observation
 
--- an exchange that is no job's is allowed and joins well, and a job begins with held operations over servers that are
--- free
+-- a turn that was decided otherwise makes allowed exchanges with servers that are leased to the job, and leaves it held
+-- and leased; what it observed is shown; where the flight is sound, its attachments join well, and each bridge that
+-- the job saw or that it observed stands
+pub record MayTake (f : Flight) (id : ℕ) (t : Turned) : Type 0 where
+  pub held : KeepsHeld f.world t
+  pub leases : KeepsLeases f.leases id t
+  pub shown : IfSome t.observation (IsShown (run f.world t.exchanges))
+  pub sound : Sound f → KeepsSound f.world t
+  pub bridged : Sound f → IfSome t.observation (IsShownBridged (run f.world t.exchanges))
+
+-- an exchange that is no job's is allowed and joins well, a job begins with held operations over servers that are free,
+-- and a turn that was decided otherwise keeps what a job's own turn does
 abbrev pub MayPass : Flight → Passage → Type 0
 MayPass f (Exchanging e) = Allowed f.world e × JoinsWell f.world e
 MayPass f (Beginning list j) = Begins f.world f.jobs f.leases list j
@@ -55,6 +70,7 @@ MayPass f (Discovering n read now) = Unit {0}
 MayPass f (Forgetting n) = Unit {0}
 MayPass f Restarting = Unit {0}
 MayPass f (Turning id read now keeps) = Unit {0}
+MayPass f (Taking id t keeps) = MayTake f id t
 
 abbrev pub passing : Flight → List Passage → Flight
 passing f [] = f

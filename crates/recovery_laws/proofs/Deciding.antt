@@ -1,6 +1,6 @@
 -- What is decided at the beginning of a turn leaves a recovery held.
-use Rattle.std.proofs.Common.{◌≡◌, ℕ, Bool, true, false, cond, List, [], ◌∷◌, ◌++◌, map, refl, sym, ◌∙◌, ap, subst, Option, Some, None, ◌||◌, ◌&&◌}
-use Rattle.std.specs.Prelude.{◌==◌, IfSome, filter, is_some, option_map}
+use Rattle.std.proofs.Common.{◌≡◌, Bool, true, false, cond, List, [], ◌∷◌, ◌++◌, map, refl, ◌∙◌, ap, subst, Option, Some, None, ◌||◌, ◌&&◌}
+use Rattle.std.specs.Prelude.{IfSome, filter, is_some, option_map}
 use Rattle.std.specs.List.{All}
 use Rattle.std.proofs.lemmas.Bool.{and_parts, eq-eqb}
 use Rattle.std.proofs.lemmas.List.Elements.{All-nil, All-cons, All-head, All-tail, All-append}
@@ -16,7 +16,7 @@ use Rattle.operations.specs.declared.op.Op.{Op}
 use Rattle.operations.specs.declared.op.Op.TheVariants as op
 use Rattle.operations.specs.declared.sight.Sight.{Sight}
 use Rattle.operations.specs.Deeds.{deed_of}
-use Rattle.operations.specs.Jobs.{seen_of, with_seen}
+use Rattle.operations.specs.Jobs.{seen_of}
 use Rattle.operations.proofs.Tests.{both}
 use Rattle.job_laws.specs.Footing.{Footing, footing, finds, are_held, is_under, source_shown}
 use Rattle.job_laws.specs.Held.{Spans}
@@ -34,13 +34,15 @@ use Rattle.recovery_plans.specs.declared.task.Way.TheVariants as way
 use Rattle.recovery_plans.specs.Recoveries.{Recovery, loses, sight_of, working}
 use Rattle.recovery_plans.specs.Stages.{drain, level, move, with_bridge, with_way}
 use Rattle.recovery_plans.specs.Telling.{told}
-use Rattle.recovery_plans.specs.Deciding.{logs_at, chosen_of, better_of, lot_of, moves_in, without_stopped, choose, stuck, moving, way_below, way_by_set, hand_by, hand, hand_over, why_of, expels, releases, sort, closing, swap_by, swap, crown, swap_or_crown, rejoin, at_last, look_at, yield, by_task, by_queue, once, decided}
+use Rattle.recovery_plans.specs.Deciding.{logs_at, chosen_of, better_of, lot_of, moves_in, without_stopped, choose, stuck, moving, way_below, way_by_set, hand_by, hand, hand_over, why_of, expels, releases, sort, swap_by, swap, crown, swap_or_crown, rejoin, at_last, look_at, yield, by_task, by_queue, once, decided}
 use Rattle.recovery_laws.specs.Rings.{HeldRings}
-use Rattle.recovery_laws.specs.Shapes.{Fits}
+use Rattle.recovery_ends.specs.Shapes.{Fits}
 use Rattle.recovery_laws.specs.HeldRecoveries.{IsReadyWay, IsReady, IsReadyStage, IsStopped, IsLead, HeldRecovery}
-use Rattle.recovery_laws.proofs.Choosing.{self, All-latest, chosen-logs, All-chosen, All-better, moves-ready, lot-ready}
+use Rattle.recovery_laws.proofs.Choosing.{self, All-latest, moves-ready, lot-ready}
+use Rattle.recovery_plans.proofs.Choices.{All-chosen, All-better, chosen-logs}
 use Rattle.recovery_laws.proofs.Ready.{spans-logs, bridge-shown, way-read, queue-more, stopped-more}
-use Rattle.recovery_laws.proofs.Shapes.{front-fits, saw-read, tail-fits}
+use Rattle.recovery_ends.proofs.Shapes.{front-fits, tail-fits}
+use Rattle.recovery_laws.proofs.StaysRead.{saw-read}
 
 or-true : (b : Bool) → (b || true) ≡ true
 or-true true = refl

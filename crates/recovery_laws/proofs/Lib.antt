@@ -1,4 +1,4 @@
-pub mod Shapes
+pub mod StaysRead
 pub mod Ready
 pub mod Choosing
 pub mod Deciding
@@ -7,4 +7,6 @@ pub mod Sounding
 pub mod Leasing
 pub mod Begun
 pub mod Ringed
-pub mod Ended
+pub mod Observing
+pub mod Passing
+pub mod Beside

@@ -1,14 +1,13 @@
 -- What is ready to be gone by stays ready: whatever is read beside, and whatever is done to servers.
-use Rattle.std.proofs.Common.{◌≡◌, ℕ, Bool, true, false, cond, List, [], ◌∷◌, refl, sym, ◌∙◌, ap, subst, Option, Some, None}
-use Rattle.std.specs.Prelude.{◌==◌, is_some, IfSome}
+use Rattle.std.proofs.Common.{◌≡◌, ℕ, true, List, refl, sym, ◌∙◌, ap, subst, Option, Some, None}
+use Rattle.std.specs.Prelude.{IfSome}
 use Rattle.std.specs.List.{All}
 use Rattle.std.proofs.lemmas.Bool.{false≢true}
 use Rattle.std.proofs.lemmas.Option.{same_Some}
-use Rattle.std.proofs.lemmas.List.Elements.{All-nil, All-cons, All-head, All-tail, All-weaker}
+use Rattle.std.proofs.lemmas.List.Elements.{All-weaker}
 use Rattle.binlog_coords.specs.declared.Coord.{Coord}
 use Rattle.orch_base.specs.declared.server.ServerNo.{ServerNo}
 use Rattle.orch_base.specs.declared.server.Settings.{Settings}
-use Rattle.server_words.specs.declared.status.Status.{Status}
 use Rattle.server_model.specs.Attach.{IsTarget}
 use Rattle.server_model.specs.Run.{Exchange, run, AllAllowed}
 use Rattle.server_model.specs.Safe.{Placed}
@@ -18,7 +17,6 @@ use Rattle.replication_laws.proofs.Keeping.{at_or_before-refl}
 use Rattle.replication_laws.proofs.Runs.{Grows-run}
 use Rattle.instance_keeper.specs.declared.bridge.Bridge.{Bridge}
 use Rattle.operations.specs.declared.sight.Sight.{Sight}
-use Rattle.operations.specs.Jobs.{seen_of, with_seen}
 use Rattle.operations.specs.Targets.{logs_by}
 use Rattle.job_laws.specs.Footing.{logs_at}
 use Rattle.job_laws.specs.Held.{AllShow, Spans}
@@ -34,8 +32,8 @@ use Rattle.recovery_plans.specs.declared.task.Way.{Way}
 use Rattle.recovery_plans.specs.declared.task.Way.TheVariants as way
 use Rattle.recovery_plans.specs.Recoveries.{sight_of}
 use Rattle.recovery_plans.specs.Stages.{with_bridge, with_way}
-use Rattle.recovery_laws.specs.HeldRecoveries.{IsAutoSource, IsReadyWay, IsReady, IsReadyStage, IsStopped, IsLead, bridge_at}
-use Rattle.recovery_laws.proofs.Shapes.{StaysRead, saw-read}
+use Rattle.recovery_laws.specs.HeldRecoveries.{IsReadyWay, IsReady, IsReadyStage, IsStopped, IsLead, bridge_at}
+use Rattle.recovery_laws.proofs.StaysRead.{StaysRead, saw-read}
 
 -- ---- a bridge as a reading
 

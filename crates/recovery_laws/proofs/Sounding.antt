@@ -1,8 +1,7 @@
 -- In a safe world a recovery's attachments join well, and what it goes by stands.
 use Rattle.std.proofs.Common.{◌≡◌, ℕ, Bool, true, false, cond, List, [], ◌∷◌, ◌++◌, map, refl, sym, ◌∙◌, ap, subst, Option, Some, None}
-use Rattle.std.specs.Prelude.{◌==◌, IfSome, filter, is_some, option_map}
+use Rattle.std.specs.Prelude.{◌==◌, IfSome, filter, option_map}
 use Rattle.std.specs.List.{All}
-use Rattle.std.specs.Option.{option_to_list}
 use Rattle.std.proofs.lemmas.Bool.{false≢true, and_parts, eqb-true}
 use Rattle.std.proofs.lemmas.Option.{same_Some}
 use Rattle.std.proofs.lemmas.List.Elements.{All-nil, All-cons, All-head, All-tail, All-append, All-push, All-weaker}
@@ -33,16 +32,16 @@ use Rattle.operations.specs.declared.op.Op.TheVariants as op
 use Rattle.operations.specs.declared.sight.Sight.{Sight}
 use Rattle.operations.specs.Deeds.{deed_of}
 use Rattle.operations.specs.Jobs.{Job, seen_of}
+use Rattle.operations.specs.Targets.{can_attach}
 use Rattle.operations.specs.Turns as attempt
 use Rattle.operations.specs.Turns.{Attempt, by_deed, crossing_of, restarts}
 use Rattle.job_laws.specs.Flights.{StandsIn}
 use Rattle.job_laws.specs.Footing.{footing, finds, are_held}
-use Rattle.job_laws.specs.Held.{AllShow, KeepsHeld, Spans}
+use Rattle.job_laws.specs.Held.{KeepsHeld}
 use Rattle.job_laws.specs.Sound.{IsBridged, AllBridged, KeepsSound}
 use Rattle.job_laws.proofs.Bridging.{crossing-joins, stands-by}
 use Rattle.job_laws.proofs.Lists.{All-at}
 use Rattle.job_laws.proofs.Turns.{with-one, deed-kept, deed-sound, restarts-join, AllBridged-run}
-use Rattle.replica_groups.specs.declared.groups.Group.{Group}
 use Rattle.replica_groups.specs.declared.groups.Group.TheVariants as group
 use Rattle.replica_groups.specs.Groups.{by_bridge, group_of}
 use Rattle.recovery_plans.specs.declared.outcome.Stopped.{Stopped}
@@ -60,12 +59,13 @@ use Rattle.recovery_plans.specs.Telling.{told}
 use Rattle.recovery_plans.specs.Deciding as deciding
 use Rattle.recovery_plans.specs.Deciding.{Lot, chosen_of, better_of, lot_by_group, own_end_of, lot_of, move_of, moves_in, without_stopped, choose, moving, way_below, way_by_set, hand_by, hand, hand_over, why_of, expels, releases, sort, swap_by, swap, crown, swap_or_crown, rejoin, at_last, look_at, yield, logs_at, by_task, by_queue, once, decided}
 use Rattle.recovery_plans.specs.Taking as taking
-use Rattle.recovery_plans.specs.Taking.{Fate, is_below, judged, lead_under, idle, frees, looked, halted, completed, entered, stepped, at_end, progressed, fate_of_drain, fate_of_trail, lost_on_way, fate_of_errant, fate_of_move, fate, takes_writes, goes_back, way_back, undone, last_exchanges, met, is_waiting, barred_by, on_going, attempted, acted, taken}
+use Rattle.recovery_plans.specs.Taking.{Fate, is_below, judged, lead_under, idle, frees, looked, halted, completed, entered, stepped, at_end, progressed, fate_of_drain, fate_of_trail, lost_on_way, fate_of_errant, fate_of_move, fate, that_can, takes_writes, goes_back, way_back, undone, last_exchanges, met, is_waiting, barred_by, on_going, attempted, acted, taken}
 use Rattle.recovery_laws.specs.Rings.{HeldRings, SoundRings}
-use Rattle.recovery_laws.specs.Shapes.{Fits}
+use Rattle.recovery_ends.specs.Shapes.{Fits}
 use Rattle.recovery_laws.specs.HeldRecoveries.{IsReady, IsStopped, bridge_at, HeldRecovery}
 use Rattle.recovery_laws.specs.SoundRecoveries.{IsSoundWay, IsSoundTask, IsSoundStop, IsSoundStage, SoundRecovery, KeepsSoundRecovery}
-use Rattle.recovery_laws.proofs.Choosing.{All-latest, All-chosen, chosen-logs, own-is}
+use Rattle.recovery_laws.proofs.Choosing.{All-latest, own-is}
+use Rattle.recovery_plans.proofs.Choices.{All-chosen, chosen-logs}
 use Rattle.recovery_laws.proofs.Deciding.{decided-held, once-held}
 use Rattle.recovery_laws.proofs.Taking.{due, source-is}
 
@@ -427,14 +427,19 @@ append-join w [] fs one other = other
 append-join w (e ∷ es) fs one other = (one.0, append-join (after w e) es fs one.1 other)
 
 -- the designated replica goes back by the reading by which the master was to go below it
-back-joins : (w : World) (seen : List Sight) (m d : ServerNo) → Safe w → AllBridged w seen → finds (footing w seen) (deed_of (op.Cross cross.Back d m)) ≡ true → AllJoinWell w (goes_back seen m d)
-back-joins w seen m d safe all found = go (crossing_of seen cross.Back d m) refl
+back-joins : (w : World) (seen : List Sight) (m d : ServerNo) → Safe w → AllBridged w seen → finds (footing w seen) (deed_of (op.Cross cross.Back d m)) ≡ true → AllJoinWell w (goes_back w seen m d)
+back-joins w seen m d safe all found =
+    append-join w (that_can w (crossing_of seen cross.Back d m)) (Request d.0 asking.Start ∷ takes_writes m) (go (crossing_of seen cross.Back d m) refl) (tt, (tt, tt))
   where
-    go : (o : Option Exchange) → crossing_of seen cross.Back d m ≡ o → AllJoinWell w (option_to_list o ++ (Request d.0 asking.Start ∷ takes_writes m))
-    go None e = (tt, (tt, tt))
-    go (Some x) e = (crossing-joins w seen safe all cross.Back d m x found e, (tt, (tt, tt)))
+    go : (o : Option Exchange) → crossing_of seen cross.Back d m ≡ o → AllJoinWell w (that_can w o)
+    go None e = tt
+    go (Some x) e = at (can_attach w x)
+      where
+        at : (b : Bool) → AllJoinWell w (cond b (x ∷ []) [])
+        at true = (crossing-joins w seen safe all cross.Back d m x found e, tt)
+        at false = tt
 
-way-back-joins : (w : World) (j : Job) (f : ServerNo) (x : Stage) → Safe w → AllBridged w j.seen → are_held (footing w j.seen) j.ops ≡ true → Fits x j.ops → AllJoinWell w (way_back j.seen f x)
+way-back-joins : (w : World) (j : Job) (f : ServerNo) (x : Stage) → Safe w → AllBridged w j.seen → are_held (footing w j.seen) j.ops ≡ true → Fits x j.ops → AllJoinWell w (way_back w j.seen f x)
 way-back-joins w j f (stage.Switch m d) safe all left fits =
     let is : j.ops ≡ op.Cross cross.About m d ∷ [] = fits.is ∙ ap (λ xs. xs ++ op.Cross cross.About m d ∷ []) (fits.due refl) in
     let found = and_parts (finds (footing w j.seen) (deed_of (op.Cross cross.About m d))) true (sym (ap (are_held (footing w j.seen)) is) ∙ left) in
@@ -447,21 +452,21 @@ way-back-joins w j f (stage.Opened n) safe all left fits = tt
 way-back-joins w j f (stage.Close lines) safe all left fits = tt
 way-back-joins w j f x safe all left fits = (tt, tt)
 
-undone-joins : (w : World) (u : Purpose) (r : Recovery) → Safe w → HeldRecovery w r → AllBridged w r.core.seen → AllJoinWell w (undone u r.core.seen r.failed r.stage)
+undone-joins : (w : World) (u : Purpose) (r : Recovery) → Safe w → HeldRecovery w r → AllBridged w r.core.seen → AllJoinWell w (undone w u r.core.seen r.failed r.stage)
 undone-joins w purpose.Regroup r safe held all = tt
 undone-joins w purpose.Master r safe held all = tt
 undone-joins w (purpose.Intermediate k) r safe held all = tt
 undone-joins w (purpose.Takeover d) r safe held all = way-back-joins w r.core r.failed r.stage safe all held.core.left held.fits
 
-last-joins : (w : World) (r : Recovery) → Safe w → HeldRecovery w r → AllBridged w r.core.seen → AllJoinWell w (last_exchanges r)
+last-joins : (w : World) (r : Recovery) → Safe w → HeldRecovery w r → AllBridged w r.core.seen → AllJoinWell w (last_exchanges w r)
 last-joins w r safe held all =
-    append-join w (undone r.purpose r.core.seen r.failed r.stage) (restarts r.core.hands) (undone-joins w r.purpose r safe held all)
-    (restarts-join (run w (undone r.purpose r.core.seen r.failed r.stage)) r.core.hands)
+    append-join w (undone w r.purpose r.core.seen r.failed r.stage) (restarts r.core.hands) (undone-joins w r.purpose r safe held all)
+    (restarts-join (run w (undone w r.purpose r.core.seen r.failed r.stage)) r.core.hands)
 
 -- ---- a turn
 
 module _ (w : World) (r : Recovery) (safe : Safe w) (placed : Placed w) (held : HeldRecovery w r) (s : SoundRecovery w r) where
-  fails-sound : (c : Cause) (ob : Option Observation) → KeepsSoundRecovery w (taking.fails r c ob)
+  fails-sound : (c : Cause) (ob : Option Observation) → KeepsSoundRecovery w (taking.fails w r c ob)
   fails-sound c ob = record { joins = last-joins w r safe held s.core; sound = λ h. absurd (false≢true h) }
 
   abbrev IsSoundFate : Fate → Type 0
@@ -507,7 +512,7 @@ module _ (w : World) (r : Recovery) (safe : Safe w) (placed : Placed w) (held : 
   fate-sound u (stage.Trail n b) c = trail-sound n c
   fate-sound u x c = tt
 
-  met-sound : (c : Cause) (ob : Option Observation) (f : Fate) → IsSoundFate f → KeepsSoundRecovery w (met r c ob f)
+  met-sound : (c : Cause) (ob : Option Observation) (f : Fate) → IsSoundFate f → KeepsSoundRecovery w (met w r c ob f)
   met-sound c ob taking.Fails fine = fails-sound c ob
   met-sound c ob taking.Drops fine = record { joins = tt; sound = λ h. begun-sound w r stage.Idle [] s tt }
   met-sound c ob (taking.Loses n why) fine = record { joins = tt; sound = λ h. begun-sound w (loses r n why) stage.Idle [] s tt }
@@ -520,7 +525,7 @@ module _ (w : World) (r : Recovery) (safe : Safe w) (placed : Placed w) (held : 
       later : SoundRecovery (run w es) (record r { core = j })
       later = let on = others-sound w es placed kept.allowed r s in record { core = sound.bridged; stage = on.stage; queue = on.queue; drained = on.drained; lead = on.lead }
 
-      go : (c : Option Cause) → KeepsSoundRecovery w (on_going r o ob es j c)
+      go : (c : Option Cause) → KeepsSoundRecovery w (on_going w r o ob es j c)
       go None = record { joins = sound.joins; sound = λ h. progressed-sound (run w es) (record r { core = j }) o (is_waiting j) later }
       go (Some c) = fails-sound c ob
   attempted-sound o rest (attempt.Stops c ob) kept sound = met-sound c ob (fate w r.purpose r.stage c) (fate-sound r.purpose r.stage c)

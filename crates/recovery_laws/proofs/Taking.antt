@@ -1,17 +1,13 @@
 -- A turn of a recovery leaves it held.
 use Rattle.std.proofs.Common.{◌≡◌, ℕ, Bool, true, false, cond, List, [], ◌∷◌, ◌++◌, refl, sym, ◌∙◌, ap, subst, Option, Some, None, ◌⊎◌, inl, inr, ◌||◌, ◌&&◌}
 use Rattle.std.specs.Prelude.{◌==◌, IfSome, is_some}
-use Rattle.std.specs.List.{All}
-use Rattle.std.specs.Option.{option_to_list}
 use Rattle.std.proofs.lemmas.Bool.{false≢true, eqb-true}
 use Rattle.std.proofs.lemmas.List.Elements.{All-push}
 use Rattle.binlog_coords.specs.Log.{same_coord}
-use Rattle.binlog_coords.specs.declared.Coord.{Coord}
 use Rattle.orch_base.specs.declared.server.Moment.{Moment}
 use Rattle.orch_base.specs.declared.server.ServerNo.{ServerNo}
-use Rattle.server_words.specs.declared.changes.Ask.TheVariants as asking
 use Rattle.server_words.specs.declared.status.Status.{Status}
-use Rattle.server_model.specs.Run.{Exchange, Request, after, run, Allowed, AllAllowed}
+use Rattle.server_model.specs.Run.{Exchange, run, AllAllowed}
 use Rattle.server_model.specs.Safe.{Placed}
 use Rattle.server_model.specs.Worlds.{World, source_no}
 use Rattle.commands.specs.declared.cause.Cause.{Cause}
@@ -30,20 +26,16 @@ use Rattle.operations.specs.Deeds.{deed_of}
 use Rattle.operations.specs.Jobs.{Job, seen_of}
 use Rattle.operations.specs.Turns as attempt
 use Rattle.operations.specs.Turns.{Attempt, by_deed, crossing_of, going, is_going, restarts}
-use Rattle.operations.proofs.Allowing.{restarts-allowed}
 use Rattle.operations.proofs.Tests.{both}
 use Rattle.job_laws.specs.Footing.{Footing, footing, finds, are_held}
-use Rattle.job_laws.specs.Held.{AllShow, HeldJob, KeepsHeld, IsDue, Spans}
-use Rattle.job_laws.proofs.Bridging.{crossing-allowed}
+use Rattle.job_laws.specs.Held.{HeldJob, KeepsHeld, IsDue, Spans}
 use Rattle.job_laws.proofs.Sights.{seen-at}
 use Rattle.job_laws.proofs.Spanning.{seen-spans}
 use Rattle.job_laws.proofs.Turns.{Held-run, deed-kept, due-of}
-use Rattle.recovery_plans.specs.declared.outcome.Stopped.{Stopped}
 use Rattle.recovery_plans.specs.declared.purpose.Purpose.{Purpose}
 use Rattle.recovery_plans.specs.declared.purpose.Purpose.TheVariants as purpose
 use Rattle.recovery_plans.specs.declared.stage.Stage.{Stage}
 use Rattle.recovery_plans.specs.declared.stage.Stage.TheVariants as stage
-use Rattle.recovery_plans.specs.declared.task.Task.{Task}
 use Rattle.recovery_plans.specs.declared.task.Way.{Way}
 use Rattle.recovery_plans.specs.declared.task.Way.TheVariants as way
 use Rattle.recovery_plans.specs.Recoveries.{Recovery, follows, follows_no_more, loses, sight_of, working}
@@ -51,14 +43,16 @@ use Rattle.recovery_plans.specs.Stages.{ends, gather, leaver, moved, tail_of, tr
 use Rattle.recovery_plans.specs.Telling.{told}
 use Rattle.recovery_plans.specs.Deciding.{closing, decided, moving}
 use Rattle.recovery_plans.specs.Taking as taking
-use Rattle.recovery_plans.specs.Taking.{Taken, Fate, is_source, is_below, judged, swapped, lead_under, gathered, idle, frees, looked, halted, last_looks, completed, entered, stepped, at_end, progressed, fate_of_drain, fate_of_trail, lost_on_way, fate_of_errant, fate_of_move, fate, takes_writes, goes_back, way_back, undone, last_exchanges, fails, met, is_waiting, barred_by, on_going, attempted, acted, taken}
+use Rattle.recovery_plans.specs.Taking.{Taken, Fate, is_source, is_below, judged, swapped, lead_under, gathered, idle, frees, looked, halted, last_looks, completed, entered, stepped, at_end, progressed, fate_of_drain, fate_of_trail, lost_on_way, fate_of_errant, fate_of_move, fate, that_can, takes_writes, goes_back, way_back, undone, last_exchanges, fails, met, is_waiting, barred_by, on_going, attempted, acted, taken}
+use Rattle.recovery_plans.proofs.Allowed.{last-allowed}
 use Rattle.recovery_laws.specs.Rings.{HeldRings}
-use Rattle.recovery_laws.specs.Shapes.{Fits}
-use Rattle.recovery_laws.specs.HeldRecoveries.{IsReady, IsReadyStage, IsStopped, IsLead, bridge_at, HeldRecovery, KeepsRecovery}
-use Rattle.recovery_laws.proofs.Choosing.{self, same-no}
+use Rattle.recovery_ends.specs.Shapes.{Fits}
+use Rattle.recovery_laws.specs.HeldRecoveries.{IsReadyStage, IsStopped, IsLead, HeldRecovery, KeepsRecovery}
+use Rattle.recovery_laws.proofs.Choosing.{self}
 use Rattle.recovery_laws.proofs.Deciding.{decided-held, moving-held, working-held}
 use Rattle.recovery_laws.proofs.Ready.{bridge-shown, queue-more, stopped-more, queue-run, stopped-run, lead-run, stage-run}
-use Rattle.recovery_laws.proofs.Shapes.{Went, WentOn, deed-went, saw-read, same-head, fits-step, moved-fits, front-fits, tail-fits}
+use Rattle.recovery_ends.proofs.Shapes.{Went, WentOn, deed-went, same-head, fits-step, moved-fits, front-fits, tail-fits}
+use Rattle.recovery_laws.proofs.StaysRead.{Reads, StaysRead, deed-reads, saw-read}
 
 -- ---- what others do
 
@@ -218,40 +212,6 @@ module _ (w : World) where
   at-end-held r [] is held = completed-held r held is
   at-end-held r (x ∷ xs) is held = held
 
--- ---- exchanges of a turn that fails
-
-append-allowed : (w : World) (es fs : List Exchange) → AllAllowed w es → AllAllowed (run w es) fs → AllAllowed w (es ++ fs)
-append-allowed w [] fs one other = other
-append-allowed w (e ∷ es) fs one other = (one.0, append-allowed (after w e) es fs one.1 other)
-
-back-allowed : (w : World) (seen : List Sight) (m d : ServerNo) → AllShow w seen → AllAllowed w (goes_back seen m d)
-back-allowed w seen m d shown = go (crossing_of seen cross.Back d m) refl
-  where
-    go : (o : Option Exchange) → crossing_of seen cross.Back d m ≡ o → AllAllowed w (option_to_list o ++ (Request d.0 asking.Start ∷ takes_writes m))
-    go None e = (tt, (tt, tt))
-    go (Some x) e = (crossing-allowed w seen shown cross.Back d m x e, (tt, (tt, tt)))
-
-way-back-allowed : (w : World) (seen : List Sight) (m : ServerNo) (s : Stage) → AllShow w seen → AllAllowed w (way_back seen m s)
-way-back-allowed w seen m (stage.Switch k d) shown = back-allowed w seen k d shown
-way-back-allowed w seen m (stage.Meet k d) shown = tt
-way-back-allowed w seen m (stage.Shut k d) shown = tt
-way-back-allowed w seen m (stage.Switched k d) shown = tt
-way-back-allowed w seen m (stage.Open n) shown = tt
-way-back-allowed w seen m (stage.Opened n) shown = tt
-way-back-allowed w seen m (stage.Close lines) shown = tt
-way-back-allowed w seen m s shown = (tt, tt)
-
-undone-allowed : (w : World) (u : Purpose) (seen : List Sight) (f : ServerNo) (s : Stage) → AllShow w seen → AllAllowed w (undone u seen f s)
-undone-allowed w purpose.Regroup seen f s shown = tt
-undone-allowed w purpose.Master seen f s shown = tt
-undone-allowed w (purpose.Intermediate k) seen f s shown = tt
-undone-allowed w (purpose.Takeover d) seen f s shown = way-back-allowed w seen f s shown
-
-pub last-allowed : (w : World) (r : Recovery) → AllShow w r.core.seen → AllAllowed w (last_exchanges r)
-last-allowed w r shown =
-    append-allowed w (undone r.purpose r.core.seen r.failed r.stage) (restarts r.core.hands) (undone-allowed w r.purpose r.core.seen r.failed r.stage shown)
-    (restarts-allowed (run w (undone r.purpose r.core.seen r.failed r.stage)) r.core.hands)
-
 -- ---- a turn
 
 module _ (w : World) (read : ℕ) (now : Moment) (r : Recovery) (o : Op) (rest : List Op) (placed : Placed w) (held : HeldRecovery w r) (is : r.core.ops ≡ o ∷ rest) where
@@ -261,12 +221,12 @@ module _ (w : World) (read : ℕ) (now : Moment) (r : Recovery) (o : Op) (rest :
   pub fits : Fits r.stage (o ∷ rest)
   fits = subst (λ (ops : List Op). Fits r.stage ops) is held.fits
 
-  fails-kept : (c : Cause) (ob : Option Observation) → KeepsRecovery w (fails r c ob)
-  fails-kept c ob = record { allowed = last-allowed w r held.core.shown; held = λ h. absurd (false≢true h) }
+  fails-kept : (c : Cause) (ob : Option Observation) → KeepsRecovery w (fails w r c ob)
+  fails-kept c ob = record { allowed = last-allowed w r; held = λ h. absurd (false≢true h) }
 
   -- ---- it goes on
 
-  module _ (es : List Exchange) (j : Job) (allowed : AllAllowed w es) (job : HeldJob (run w es) j) (went : WentOn r.core rest es j) where
+  module _ (es : List Exchange) (j : Job) (allowed : AllAllowed w es) (job : HeldJob (run w es) j) (went : WentOn r.core rest es j) (reads : StaysRead r.core.seen j.seen) where
     abbrev later : Recovery
     later = record r { core = j }
 
@@ -276,8 +236,8 @@ module _ (w : World) (read : ℕ) (now : Moment) (r : Recovery) (o : Op) (rest :
       core = job;
       stage = stage-run w es placed allowed s ready;
       fits = f;
-      queue = queue-more (run w es) r.core.seen j.seen went.read r.queue (queue-run w es placed allowed r.core.seen r.queue held.queue);
-      drained = stopped-more (run w es) r.core.seen j.seen went.read r.failed r.drained (stopped-run w es placed allowed r.core.seen r.failed r.drained held.drained);
+      queue = queue-more (run w es) r.core.seen j.seen reads r.queue (queue-run w es placed allowed r.core.seen r.queue held.queue);
+      drained = stopped-more (run w es) r.core.seen j.seen reads r.failed r.drained (stopped-run w es placed allowed r.core.seen r.failed r.drained held.drained);
       lead = lead-run w es placed allowed r.failed r.lead held.lead;
     }
 
@@ -307,7 +267,7 @@ module _ (w : World) (read : ℕ) (now : Moment) (r : Recovery) (o : Op) (rest :
     progressed-held true e = later-held r.stage held.stage (subst (λ (ops : List Op). Fits r.stage ops) (sym (went.waits e).0) held.fits)
     progressed-held false e = at-end-held (run w es) (stepped later o) (stepped later o).core.ops refl (stepped-held (went.done e))
 
-    goes-kept : (ob : Option Observation) (c : Option Cause) → KeepsRecovery w (on_going r o ob es j c)
+    goes-kept : (ob : Option Observation) (c : Option Cause) → KeepsRecovery w (on_going w r o ob es j c)
     goes-kept ob None = record { allowed = allowed; held = λ h. progressed-held (is_waiting j) refl }
     goes-kept ob (Some c) = fails-kept c ob
 
@@ -320,7 +280,7 @@ module _ (w : World) (read : ℕ) (now : Moment) (r : Recovery) (o : Op) (rest :
   IsFine (taking.Frees n why) = Unit {0}
   IsFine (taking.Goes s ops) = (are_held (footing w r.core.seen) ops ≡ true) × Fits s ops × IsReadyStage w s
 
-  met-kept : (c : Cause) (ob : Option Observation) (x : Fate) → IsFine x → KeepsRecovery w (met r c ob x)
+  met-kept : (c : Cause) (ob : Option Observation) (x : Fate) → IsFine x → KeepsRecovery w (met w r c ob x)
   met-kept c ob taking.Fails fine = fails-kept c ob
   met-kept c ob taking.Drops fine = record { allowed = tt; held = λ h. working-held w r stage.Idle [] held tt refl (tail-fits stage.Idle) }
   met-kept c ob (taking.Loses n why) fine = record { allowed = tt; held = λ h. working-held w (loses r n why) stage.Idle [] held tt refl (tail-fits stage.Idle) }
@@ -372,16 +332,16 @@ module _ (w : World) (read : ℕ) (now : Moment) (r : Recovery) (o : Op) (rest :
   fate-fine (stage.Swap p q) at c = swap-fine p q at
   fate-fine s at c = tt
 
-  attempted-kept : (a : Attempt) → KeepsHeld w (attempt.settled r.core a) → Went r.core rest a → KeepsRecovery w (attempted w r o a)
-  attempted-kept (attempt.Goes ob es j) kept went = goes-kept es j kept.allowed kept.held went ob (barred_by r.stage r.failed j.seen)
-  attempted-kept (attempt.Stops c ob) kept went = met-kept c ob (fate w r.purpose r.stage c) (fate-fine r.stage refl c)
-  attempted-kept (attempt.Ends lines) kept went = record { allowed = tt; held = λ h. absurd (false≢true h) }
+  attempted-kept : (a : Attempt) → KeepsHeld w (attempt.settled r.core a) → Went r.core rest a → Reads r.core a → KeepsRecovery w (attempted w r o a)
+  attempted-kept (attempt.Goes ob es j) kept went reads = goes-kept es j kept.allowed kept.held went reads ob (barred_by r.stage r.failed j.seen)
+  attempted-kept (attempt.Stops c ob) kept went reads = met-kept c ob (fate w r.purpose r.stage c) (fate-fine r.stage refl c)
+  attempted-kept (attempt.Ends lines) kept went reads = record { allowed = tt; held = λ h. absurd (false≢true h) }
 
 acted-kept : (w : World) (read : ℕ) (now : Moment) (r : Recovery) → Placed w → HeldRecovery w r → (ops : List Op) → r.core.ops ≡ ops → KeepsRecovery w (acted w read now r ops)
-acted-kept w read now r placed held [] is = record { allowed = last-allowed w r held.core.shown; held = λ h. absurd (false≢true h) }
+acted-kept w read now r placed held [] is = record { allowed = last-allowed w r; held = λ h. absurd (false≢true h) }
 acted-kept w read now r placed held (o ∷ rest) is =
     attempted-kept w read now r o rest placed held is (by_deed w read now r.core rest (deed_of o))
-    (deed-kept w read now r.core rest (deed_of o) placed held.core.shown (due w read now r o rest placed held is)) (deed-went r.core rest w read now (deed_of o))
+    (deed-kept w read now r.core rest (deed_of o) placed held.core.shown (due w read now r o rest placed held is)) (deed-went r.core rest w read now (deed_of o)) (deed-reads r.core rest w read now (deed_of o))
 
 pub taken-held : (w : World) (b : BookState) (read : ℕ) (now : Moment) (r : Recovery) → Placed w → HeldRings w b.rings → HeldRecovery w r → KeepsRecovery w (taken w b read now r)
 taken-held w b read now r placed rings held = acted-kept w read now (decided w b now r) placed (decided-held w b now r rings held) (decided w b now r).core.ops refl

@@ -20,7 +20,7 @@ use Rattle.recovery_plans.specs.declared.task.Way.{Way}
 use Rattle.recovery_plans.specs.declared.task.Way.TheVariants as way
 use Rattle.recovery_plans.specs.Recoveries.{Recovery}
 use Rattle.recovery_plans.specs.Taking.{Taken}
-use Rattle.recovery_laws.specs.Shapes.{Fits}
+use Rattle.recovery_ends.specs.Shapes.{Fits}
 
 -- GTIDs are used, and the server logs and was read
 pub record IsAutoSource (w : World) (seen : List Sight) (n : ServerNo) : Type 0 where

@@ -1,6 +1,6 @@
 pub mod Rings
-pub mod Shapes
 pub mod HeldRecoveries
 pub mod SoundRecoveries
 pub mod LeasedRecoveries
-pub mod Ends
+pub mod Passing
+pub mod Staying

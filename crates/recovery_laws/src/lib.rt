@@ -2,15 +2,17 @@
 #![tactic(auto)]
 
 mod begins;
-mod ends;
 mod held;
 mod leases;
+mod passes;
 mod rings;
 mod sound;
+mod staying;
 
 pub use begins::recoveries_begin;
-pub use ends::recoveries_end;
 pub use held::recoveries_stay_held;
 pub use leases::recoveries_keep_to_their_leases;
+pub use passes::recoveries_pass;
 pub use rings::rings_stay_own;
 pub use sound::recoveries_stay_sound;
+pub use staying::recoveries_stay_in_flight;

@@ -4,3 +4,4 @@ pub mod Telling
 pub mod Deciding
 pub mod Taking
 pub mod Beginning
+pub mod Named

@@ -31,6 +31,7 @@ use Rattle.operations.specs.declared.step.JobStep.{JobStep}
 use Rattle.operations.specs.declared.step.JobStep.TheVariants as step
 use Rattle.operations.specs.Deeds.{deed_of}
 use Rattle.operations.specs.Jobs.{Job, seen_of}
+use Rattle.operations.specs.Targets.{can_attach}
 use Rattle.operations.specs.Turns as attempt
 use Rattle.operations.specs.Turns.{Attempt, by_deed, crossing_of, ended, restarts}
 use Rattle.recovery_plans.specs.declared.outcome.LostReplica.{LostReplica}
@@ -272,64 +273,69 @@ fate w u (stage.Close lines) c = Fails
 abbrev pub takes_writes : ServerNo → List Exchange
 takes_writes m = Request m.0 (asking.SetReadOnly false) ∷ []
 
+-- a change of source that can be made
+abbrev pub that_can : World → Option Exchange → List Exchange
+that_can w None = []
+that_can w (Some e) = if can_attach w e then e ∷ [] else []
+
 -- the designated replica goes back below its master and is started; what is refused changes nothing
-abbrev pub goes_back : List Sight → ServerNo → ServerNo → List Exchange
-goes_back seen m d = option_to_list (crossing_of seen cross.Back d m) ++ (Request d.0 asking.Start ∷ takes_writes m)
+abbrev pub goes_back : World → List Sight → ServerNo → ServerNo → List Exchange
+goes_back w seen m d = that_can w (crossing_of seen cross.Back d m) ++ (Request d.0 asking.Start ∷ takes_writes m)
 
 -- a master that was made to refuse writes takes them again, until its replica is to take its place
-abbrev pub way_back : List Sight → ServerNo → Stage → List Exchange
-way_back seen m (stage.Meet k d) = []
-way_back seen m (stage.Shut k d) = []
-way_back seen m (stage.Switch k d) = goes_back seen k d
-way_back seen m (stage.Switched k d) = []
-way_back seen m (stage.Open n) = []
-way_back seen m (stage.Opened n) = []
-way_back seen m (stage.Close lines) = []
-way_back seen m stage.Idle = takes_writes m
-way_back seen m stage.Check = takes_writes m
-way_back seen m (stage.Read n) = takes_writes m
-way_back seen m (stage.Drain n) = takes_writes m
-way_back seen m (stage.Judged n) = takes_writes m
-way_back seen m (stage.Move n by) = takes_writes m
-way_back seen m (stage.Join n p) = takes_writes m
-way_back seen m (stage.Expel n) = takes_writes m
-way_back seen m (stage.Expelled n) = takes_writes m
-way_back seen m (stage.Release n) = takes_writes m
-way_back seen m (stage.Level p q) = takes_writes m
-way_back seen m (stage.Swap p q) = takes_writes m
-way_back seen m (stage.Swapped p q) = takes_writes m
-way_back seen m (stage.Return p q) = takes_writes m
-way_back seen m (stage.Resume p q) = takes_writes m
-way_back seen m (stage.Crown n) = takes_writes m
-way_back seen m (stage.Gather k d) = takes_writes m
-way_back seen m (stage.Look n b) = takes_writes m
-way_back seen m (stage.Looked n b) = takes_writes m
-way_back seen m (stage.Trail n b) = takes_writes m
-way_back seen m (stage.Halted n b) = takes_writes m
-way_back seen m (stage.Yield k d) = takes_writes m
+abbrev pub way_back : World → List Sight → ServerNo → Stage → List Exchange
+way_back w seen m (stage.Meet k d) = []
+way_back w seen m (stage.Shut k d) = []
+way_back w seen m (stage.Switch k d) = goes_back w seen k d
+way_back w seen m (stage.Switched k d) = []
+way_back w seen m (stage.Open n) = []
+way_back w seen m (stage.Opened n) = []
+way_back w seen m (stage.Close lines) = []
+way_back w seen m stage.Idle = takes_writes m
+way_back w seen m stage.Check = takes_writes m
+way_back w seen m (stage.Read n) = takes_writes m
+way_back w seen m (stage.Drain n) = takes_writes m
+way_back w seen m (stage.Judged n) = takes_writes m
+way_back w seen m (stage.Move n by) = takes_writes m
+way_back w seen m (stage.Join n p) = takes_writes m
+way_back w seen m (stage.Expel n) = takes_writes m
+way_back w seen m (stage.Expelled n) = takes_writes m
+way_back w seen m (stage.Release n) = takes_writes m
+way_back w seen m (stage.Level p q) = takes_writes m
+way_back w seen m (stage.Swap p q) = takes_writes m
+way_back w seen m (stage.Swapped p q) = takes_writes m
+way_back w seen m (stage.Return p q) = takes_writes m
+way_back w seen m (stage.Resume p q) = takes_writes m
+way_back w seen m (stage.Crown n) = takes_writes m
+way_back w seen m (stage.Gather k d) = takes_writes m
+way_back w seen m (stage.Look n b) = takes_writes m
+way_back w seen m (stage.Looked n b) = takes_writes m
+way_back w seen m (stage.Trail n b) = takes_writes m
+way_back w seen m (stage.Halted n b) = takes_writes m
+way_back w seen m (stage.Yield k d) = takes_writes m
 
-abbrev pub undone : Purpose → List Sight → ServerNo → Stage → List Exchange
-undone purpose.Regroup seen f s = []
-undone purpose.Master seen f s = []
-undone (purpose.Intermediate k) seen f s = []
-undone (purpose.Takeover d) seen f s = way_back seen f s
+abbrev pub undone : World → Purpose → List Sight → ServerNo → Stage → List Exchange
+undone w purpose.Regroup seen f s = []
+undone w purpose.Master seen f s = []
+undone w (purpose.Intermediate k) seen f s = []
+undone w (purpose.Takeover d) seen f s = way_back w seen f s
 
 -- a recovery that fails goes its way back, and starts each server that it stopped and hasn't started
-abbrev pub last_exchanges : Recovery → List Exchange
-last_exchanges r = undone r.purpose r.core.seen r.failed r.stage ++ restarts r.core.hands
+abbrev pub last_exchanges : World → Recovery → List Exchange
+last_exchanges w r = undone w r.purpose r.core.seen r.failed r.stage ++ restarts r.core.hands
 
-abbrev pub fails : Recovery → Cause → Option Observation → Taken
-fails r c o = record { step = step.Failed c; observation = o; exchanges = last_exchanges r; recovery = record r { core = ended r.core } }
+abbrev pub fails : World → Recovery → Cause → Option Observation → Taken
+fails w r c o = record { step = step.Failed c; observation = o; exchanges = last_exchanges w r; recovery = record r { core = ended r.core } }
 
 abbrev pub goes_on : Option Observation → List Exchange → Recovery → Taken
 goes_on o es r = record { step = step.Going; observation = o; exchanges = es; recovery = r }
 
-abbrev pub met : Recovery → Cause → Option Observation → Fate → Taken
-met r c o Fails = fails r c o
-met r c o Drops = goes_on o [] (working r stage.Idle [])
-met r c o (Loses n why) = goes_on o [] (working (loses r n why) stage.Idle [])
-met r c o (Frees n why) = goes_on o [] (frees r n why)
-met r c o (Goes s ops) = goes_on o [] (working r s ops)
+abbrev pub met : World → Recovery → Cause → Option Observation → Fate → Taken
+met w r c o Fails = fails w r c o
+met w r c o Drops = goes_on o [] (working r stage.Idle [])
+met w r c o (Loses n why) = goes_on o [] (working (loses r n why) stage.Idle [])
+met w r c o (Frees n why) = goes_on o [] (frees r n why)
+met w r c o (Goes s ops) = goes_on o [] (working r s ops)
 
 -- ---- a turn
 
@@ -373,18 +379,18 @@ barred_by (stage.Switch m d) f seen = None
 barred_by (stage.Switched m d) f seen = None
 barred_by (stage.Close lines) f seen = None
 
-abbrev pub on_going : Recovery → Op → Option Observation → List Exchange → Job → Option Cause → Taken
-on_going r o ob es j None = goes_on ob es (progressed (record r { core = j }) o (is_waiting j))
-on_going r o ob es j (Some c) = fails r c ob
+abbrev pub on_going : World → Recovery → Op → Option Observation → List Exchange → Job → Option Cause → Taken
+on_going w r o ob es j None = goes_on ob es (progressed (record r { core = j }) o (is_waiting j))
+on_going w r o ob es j (Some c) = fails w r c ob
 
 abbrev pub attempted : World → Recovery → Op → Attempt → Taken
-attempted w r o (attempt.Goes ob es j) = on_going r o ob es j (barred_by r.stage r.failed j.seen)
-attempted w r o (attempt.Stops c ob) = met r c ob (fate w r.purpose r.stage c)
+attempted w r o (attempt.Goes ob es j) = on_going w r o ob es j (barred_by r.stage r.failed j.seen)
+attempted w r o (attempt.Stops c ob) = met w r c ob (fate w r.purpose r.stage c)
 attempted w r o (attempt.Ends lines) = record { step = step.Done lines; observation = None; exchanges = []; recovery = record r { core = ended r.core } }
 
 -- without an operation there is no new source
 abbrev pub acted : World → ℕ → Moment → Recovery → List Op → Taken
-acted w read now r [] = fails r cause.NoCandidate None
+acted w read now r [] = fails w r cause.NoCandidate None
 acted w read now r (o ∷ rest) = attempted w r o (by_deed w read now r.core rest (deed_of o))
 
 abbrev pub settled : World → ℕ → Moment → Recovery → Taken

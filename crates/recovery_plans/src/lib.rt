@@ -2,12 +2,14 @@
 //! (orchestrator's documentation, "Topology recovery").
 #![tactic(auto)]
 
+mod laws;
 mod outcome;
 mod purpose;
 mod stage;
 mod task;
 mod threads;
 
+pub use laws::{recoveries_are_allowed, recoveries_stay_named};
 pub use outcome::{Follower, LostReplica, Stopped};
 pub use purpose::Purpose;
 pub use stage::Stage;

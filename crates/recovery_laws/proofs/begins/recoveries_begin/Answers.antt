@@ -1,4 +1,5 @@
-use Rattle.recovery_laws.proofs.Begun.{begun-held, begun-sound, begun-leased}
+use Rattle.recovery_laws.proofs.Begun.{begun-held, begun-sound}
+use Rattle.recovery_laws.proofs.Leasing.{begun-leased}
 use Rattle.recovery_laws.proofs.begins.recoveries_begin.Goals as goal
 
 pub returns-clause-held : goal.returns-clause-held

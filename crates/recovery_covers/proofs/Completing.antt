@@ -1,0 +1,432 @@
+-- A stage that is done covers the replicas as far as before.
+use Rattle.std.proofs.Common.{◌≡◌, ℕ, ◌+◌, Bool, true, false, cond, List, [], ◌∷◌, ◌++◌, map, refl, sym, ◌∙◌, ap, subst, Option, Some, None, inl, inr, arith}
+use Rattle.std.specs.Prelude.{◌==◌, IfSome}
+use Rattle.std.specs.List.{All, Contains}
+use Rattle.std.proofs.lemmas.Bool.{false≢true, eqb-true}
+use Rattle.std.proofs.lemmas.Option.{same_Some}
+use Rattle.std.proofs.lemmas.List.Elements.{All-nil, All-cons, All-head, All-tail, All-push, All-weaker, Contains-push}
+use Rattle.binlog_coords.specs.Log.{same_coord}
+use Rattle.orch_base.specs.declared.server.ServerNo.{ServerNo}
+use Rattle.orch_base.specs.declared.server.SourceState.{SourceState}
+use Rattle.orch_base.specs.declared.server.SourceState.TheVariants.{Without, Attached, Detached}
+use Rattle.server_words.specs.declared.status.Status.{Status}
+use Rattle.server_model.specs.Worlds.{World, source_no, has_source}
+use Rattle.commands.specs.declared.line.Lost.{Lost}
+use Rattle.commands.specs.declared.line.Lost.TheVariants as lost
+use Rattle.instance_keeper.specs.declared.bridge.Bridge.{Bridge}
+use Rattle.instance_keeper.specs.Bridges.{bridge_in}
+use Rattle.operations.specs.declared.op.Op.{Op}
+use Rattle.operations.specs.declared.op.Op.TheVariants as op
+use Rattle.operations.specs.Jobs.{Job, seen_of}
+use Rattle.job_laws.proofs.Spanning.{bridge-parts}
+use Rattle.recovery_plans.specs.declared.outcome.Follower.{Follower}
+use Rattle.recovery_plans.specs.declared.outcome.LostReplica.{LostReplica}
+use Rattle.recovery_plans.specs.declared.outcome.Stopped.{Stopped}
+use Rattle.recovery_plans.specs.declared.purpose.Purpose.{Purpose}
+use Rattle.recovery_plans.specs.declared.purpose.Purpose.TheVariants as purpose
+use Rattle.recovery_plans.specs.declared.stage.Stage.{Stage}
+use Rattle.recovery_plans.specs.declared.stage.Stage.TheVariants as stage
+use Rattle.recovery_plans.specs.declared.task.Way.TheVariants as way
+use Rattle.recovery_plans.specs.Beginning.{first_source}
+use Rattle.recovery_plans.specs.Recoveries.{Recovery, follows, loses, working}
+use Rattle.recovery_plans.specs.Stages.{tail_of, trail, with_bridge}
+use Rattle.recovery_plans.specs.Telling.{told}
+use Rattle.recovery_plans.specs.Deciding.{closing, expels, moving}
+use Rattle.recovery_plans.specs.Taking.{spot_seen, is_source, is_below, judged, marked, expelled, swapped, lead_under, gathered, idle, frees, looked, halted, last_looks, completed}
+use Rattle.recovery_plans.proofs.Choices.{same-no}
+use Rattle.recovery_ends.specs.Shapes.{Fits}
+use Rattle.standing_laws.specs.Standing.{IsUnder, IsSourced, IsApart}
+use Rattle.recovery_covers.specs.Covers.{times, lost_nos, listed, leader, crowns}
+use Rattle.recovery_covers.specs.SoFar.{of_stage, chooses, is_takeover, is_late, Leads, FollowsBy, IsLast, IsPromoted, OldFollows, Stands, CoversAt, CoversSoFar}
+use Rattle.recovery_covers.proofs.Times.{one, times-push}
+use Rattle.recovery_covers.proofs.Covering.{queue-as, master-crowns, takeover-crowns, crowned-leader, giving-on, restaged}
+use Rattle.recovery_covers.proofs.Changing.{old-master}
+use Rattle.recovery_covers.proofs.Decided.{so-far, at-rest}
+
+-- a stage whose last operation is still to come has something left
+not-ended : (s : Stage) (x : Op) (xs : List Op) → tail_of s ≡ x ∷ xs → Fits s [] → ⊥
+not-ended s x xs t f = go f.front (f.is ∙ ap (λ ys. f.front ++ ys) t)
+  where
+    go : (front : List Op) → [] ≡ front ++ x ∷ xs → ⊥
+    go [] h = cc
+    go (y ∷ ys) h = cc
+
+-- a server whose source shows has one
+pub below-sourced : (x : SourceState) (f : ServerNo) → is_source (source_no x) f ≡ true → has_source x ≡ true
+below-sourced Without f h = h
+below-sourced (Attached m) f h = refl
+below-sourced (Detached m) f h = refl
+
+module _ (w : World) where
+  early : (r r' : Recovery) (s s' : Stage) → is_late s ≡ false → Leads r s → r'.outcome.promoted ≡ r.outcome.promoted → r'.chosen ≡ r.chosen → Leads r' s'
+  early r r' s s' late (inl e) p ch = inl (p ∙ e ∙ sym ch)
+  early r r' s s' late (inr x) p ch = absurd (false≢true (sym late ∙ x.0))
+
+  -- ---- one more is lost
+
+  pub lose-covers : (r : Recovery) (s s' : Stage) (n : ServerNo) (why : Lost) (core : Job) → CoversAt w r s → of_stage s ≡ n ∷ [] → of_stage s' ≡ [] → is_late s ≡ false
+      → (expels r.purpose (Some why) ≡ true → IsSourced w n.0) → Stands w (record (loses r n why) { stage = s'; core = core }) s' → CoversAt w (record (loses r n why) { stage = s'; core = core }) s'
+  lose-covers r s s' n why core c same none late sourced stands = record {
+    replicas = c.replicas;
+    once = λ k.
+        let e = c.once k in
+        let b : times k (of_stage s) ≡ one k n + 0 = ap (times k) same in
+        let d : times k (of_stage s') ≡ 0 = ap (times k) none in
+        let p = times-push (λ (l : LostReplica). l.no) k r.outcome.lost (record { no = n; why = why; detached = false }) in
+        omega (arith, e, b, d, p);
+    order = c.order;
+    unchosen = c.unchosen;
+    undrained = c.undrained;
+    named = c.named;
+    lead = c.lead;
+    leads = early r (record (loses r n why) { stage = s'; core = core }) s s' late c.leads refl refl;
+    drained = c.drained;
+    queue =
+        queue-as w r (record (loses r n why) { stage = s'; core = core })
+        (record {
+          purpose = refl;
+          chosen = refl;
+          lost = λ k h. let p = times-push (λ (l : LostReplica). l.no) k r.outcome.lost (record { no = n; why = why; detached = false }) in omega (arith, p, h);
+        }) r.queue c.queue;
+    stage = stands;
+    attached = c.attached;
+    follow = c.follow;
+    sourced = All-push (λ (l : LostReplica). expels r.purpose (Some l.why) ≡ true → IsSourced w l.no.0) r.outcome.lost _ c.sourced sourced;
+    apart = All-push (λ (l : LostReplica). l.detached ≡ true → IsApart w l.no.0) r.outcome.lost _ c.apart (λ h. absurd (false≢true h));
+  }
+
+  -- it is left, or started
+  pub left-covers : (r : Recovery) (s : Stage) (n : ServerNo) (why : Lost) → CoversAt w r s → of_stage s ≡ n ∷ [] → is_late s ≡ false → (expels r.purpose (Some why) ≡ true → IsSourced w n.0)
+      → CoversSoFar w (idle (loses r n why))
+  left-covers r s n why c same late sourced = at-rest w (idle (loses r n why)) refl (lose-covers r s stage.Idle n why r.core c same refl late sourced tt)
+
+  pub freed-covers : (r : Recovery) (s : Stage) (n : ServerNo) (why : Lost) → CoversAt w r s → of_stage s ≡ n ∷ [] → is_late s ≡ false → (expels r.purpose (Some why) ≡ true → IsSourced w n.0)
+      → CoversSoFar w (frees r n why)
+  freed-covers r s n why c same late sourced =
+      so-far w (frees r n why) (stage.Release n) (op.Start n) [] refl refl (λ m by h. cc)
+      (lose-covers r s (stage.Release n) n why (record r.core { ops = op.Start n ∷ []; waited = 0 }) c same refl late sourced tt)
+
+  expels-unreachable : (u : Purpose) → expels u (Some lost.Unreachable) ≡ false
+  expels-unreachable purpose.Regroup = refl
+  expels-unreachable purpose.Master = refl
+  expels-unreachable (purpose.Intermediate s) = refl
+  expels-unreachable (purpose.Takeover d) = refl
+
+  expels-moved : (u : Purpose) (x : _) → expels u (Some (lost.Moved x)) ≡ false
+  expels-moved purpose.Regroup x = refl
+  expels-moved purpose.Master x = refl
+  expels-moved (purpose.Intermediate s) x = refl
+  expels-moved (purpose.Takeover d) x = refl
+
+  pub unreached : (u : Purpose) (n : ℕ) → expels u (Some lost.Unreachable) ≡ true → IsSourced w n
+  unreached u n h = absurd (false≢true (sym (expels-unreachable u) ∙ h))
+
+  pub elsewhere : (u : Purpose) (x : _) (n : ℕ) → expels u (Some (lost.Moved x)) ≡ true → IsSourced w n
+  elsewhere u x n h = absurd (false≢true (sym (expels-moved u x) ∙ h))
+
+  -- ---- a replica that was stopped and read
+
+  judge-covers : (r : Recovery) (n : ServerNo) → CoversAt w r (stage.Judged n) → CoversSoFar w (idle (judged r n (seen_of r.core.seen n.0)))
+  judge-covers r n c = go (seen_of r.core.seen n.0) refl
+    where
+      go : (o : Option Status) → seen_of r.core.seen n.0 ≡ o → CoversSoFar w (idle (judged r n o))
+      go None e = left-covers r (stage.Judged n) n lost.Unreachable c refl refl (unreached r.purpose n.0)
+      go (Some s) e = at (is_below s r.failed) refl
+        where
+          stopped : Stopped
+          stopped = record { no = n; exec = s.exec; own_end = s.own_end }
+
+          new : Recovery
+          new = idle (record r { drained = r.drained ++ stopped ∷ [] })
+
+          at : (b : Bool) → is_below s r.failed ≡ b → CoversSoFar w (idle (cond b (record r { drained = r.drained ++ stopped ∷ [] }) (loses r n (lost.Moved (spot_seen s.source s.exec)))))
+          at true f =
+              at-rest w new refl (record {
+                replicas = c.replicas;
+                once = λ k.
+                    let x = c.once k in
+                    let p = times-push (λ (d : Stopped). d.no) k r.drained stopped in
+                    omega (arith, x, p);
+                order = c.order;
+                unchosen = c.unchosen;
+                undrained = λ h. absurd (false≢true (sym h ∙ c.stage.0));
+                named = c.named;
+                lead = c.lead;
+                leads = early r new (stage.Judged n) stage.Idle refl c.leads refl refl;
+                drained = All-push (λ (d : Stopped). IsSourced w d.no.0) r.drained _ c.drained (c.stage.1 s e (below-sourced s.source r.failed f));
+                queue = queue-as w r new (record { purpose = refl; chosen = refl; lost = λ k h. h }) r.queue c.queue;
+                stage = tt;
+                attached = c.attached;
+                follow = c.follow;
+                sourced = c.sourced;
+                apart = c.apart;
+              })
+          at false f = left-covers r (stage.Judged n) n (lost.Moved (spot_seen s.source s.exec)) c refl refl (elsewhere r.purpose (spot_seen s.source s.exec) n.0)
+
+  -- ---- one more follows
+
+  follow-covers : (r : Recovery) (s s' : Stage) (n p : ServerNo) (core : Job) → CoversAt w r s → of_stage s ≡ n ∷ [] → of_stage s' ≡ [] → is_late s ≡ false → r.chosen ≡ Some p → IsUnder w n.0 p.0
+      → Stands w (record (follows r n p) { stage = s'; core = core }) s' → CoversAt w (record (follows r n p) { stage = s'; core = core }) s'
+  follow-covers r s s' n p core c same none late chosen under stands = record {
+    replicas = c.replicas;
+    once = λ k.
+        let e = c.once k in
+        let b : times k (of_stage s) ≡ one k n + 0 = ap (times k) same in
+        let d : times k (of_stage s') ≡ 0 = ap (times k) none in
+        let x = times-push (λ (y : Follower). y.no) k r.outcome.followers (record { no = n; source = p }) in
+        omega (arith, e, b, d, x);
+    order = c.order;
+    unchosen = c.unchosen;
+    undrained = c.undrained;
+    named = c.named;
+    lead = c.lead;
+    leads = early r (record (follows r n p) { stage = s'; core = core }) s s' late c.leads refl refl;
+    drained = c.drained;
+    queue = queue-as w r (record (follows r n p) { stage = s'; core = core }) (record { purpose = refl; chosen = refl; lost = λ k h. h }) r.queue c.queue;
+    stage = stands;
+    attached = All-push (λ (x : Follower). IsUnder w x.no.0 x.source.0) r.outcome.followers _ c.attached under;
+    follow = All-push (FollowsBy r.chosen r.outcome.promoted) r.outcome.followers _ c.follow (inl chosen);
+    sourced = c.sourced;
+    apart = c.apart;
+  }
+
+  joined : (r : Recovery) (s : Stage) (n p : ServerNo) → CoversAt w r s → of_stage s ≡ n ∷ [] → is_late s ≡ false → r.chosen ≡ Some p → IsUnder w n.0 p.0 → CoversSoFar w (idle (follows r n p))
+  joined r s n p c same late chosen under = at-rest w (idle (follows r n p)) refl (follow-covers r s stage.Idle n p r.core c same refl late chosen under tt)
+
+  -- ---- a lost one is detached
+
+  marked-times : (k : ℕ) (n : ServerNo) (xs : List LostReplica) → times k (lost_nos (map (marked n) xs)) ≡ times k (lost_nos xs)
+  marked-times k n [] = refl
+  marked-times k n (l ∷ ls) = go (l.no.0 == n.0) (marked-times k n ls)
+    where
+      go : (b : Bool) → times k (lost_nos (map (marked n) ls)) ≡ times k (lost_nos ls)
+          → one k (cond b (record l { detached = true }) l).no + times k (lost_nos (map (marked n) ls)) ≡ one k l.no + times k (lost_nos ls)
+      go true h = ap (λ x. one k l.no + x) h
+      go false h = ap (λ x. one k l.no + x) h
+
+  marked-all : (P Q : LostReplica → Type 0) (n : ServerNo) (xs : List LostReplica) → All P xs → ((l : LostReplica) → P l → (l.no.0 == n.0) ≡ false → Q l)
+      → ((l : LostReplica) → P l → (l.no.0 == n.0) ≡ true → Q (record l { detached = true })) → All Q (map (marked n) xs)
+  marked-all P Q n [] all f g = All-nil Q
+  marked-all P Q n (l ∷ ls) all f g = All-cons Q (marked n l) (map (marked n) ls) (go (l.no.0 == n.0) refl) (marked-all P Q n ls (All-tail P l ls all) f g)
+    where
+      go : (b : Bool) → (l.no.0 == n.0) ≡ b → Q (cond b (record l { detached = true }) l)
+      go true e = g l (All-head P l ls all) e
+      go false e = f l (All-head P l ls all) e
+
+  expelled-covers : (r : Recovery) (n : ServerNo) → CoversAt w r (stage.Expelled n) → CoversAt w (idle (expelled r n)) stage.Idle
+  expelled-covers r n c = record {
+    replicas = c.replicas;
+    once = λ k. let e = c.once k in let m = marked-times k n r.outcome.lost in omega (arith, e, m);
+    order = c.order;
+    unchosen = c.unchosen;
+    undrained = c.undrained;
+    named = c.named;
+    lead = c.lead;
+    leads = early r (idle (expelled r n)) (stage.Expelled n) stage.Idle refl c.leads refl refl;
+    drained = c.drained;
+    queue =
+        queue-as w r (idle (expelled r n)) (record { purpose = refl; chosen = refl; lost = λ k h. let m = marked-times k n r.outcome.lost in omega (arith, m, h) }) r.queue c.queue;
+    stage = tt;
+    attached = c.attached;
+    follow = c.follow;
+    sourced =
+        marked-all (λ (l : LostReplica). expels r.purpose (Some l.why) ≡ true → IsSourced w l.no.0) (λ (l : LostReplica). expels r.purpose (Some l.why) ≡ true → IsSourced w l.no.0) n
+        r.outcome.lost c.sourced (λ l h e. h) (λ l h e. h);
+    apart =
+        marked-all (λ (l : LostReplica). l.detached ≡ true → IsApart w l.no.0) (λ (l : LostReplica). l.detached ≡ true → IsApart w l.no.0) n r.outcome.lost c.apart (λ l h e. h)
+        (λ l h e d. subst (λ (m : ℕ). IsApart w m) (sym (eqb-true l.no.0 n.0 e)) c.stage.1);
+  }
+
+  -- ---- the better one takes the promoted one's place
+
+  swapped-covers : (r : Recovery) (p q : ServerNo) (core : Job) → CoversAt w r (stage.Swapped p q) → CoversAt w (record (swapped r p q) { stage = stage.Open q; core = core }) (stage.Open q)
+  swapped-covers r p q core c = record {
+    replicas = c.replicas;
+    once = λ k.
+        let e = c.once k in
+        let b : times k (leader r.purpose r.outcome.promoted) ≡ one k p + 0 = ap (times k) (crowned-leader r.purpose r.outcome.promoted crowned) ∙ ap (λ o. times k (listed o)) last.promoted in
+        let d : times k (leader r.purpose (Some q)) ≡ one k q + 0 = ap (times k) (crowned-leader r.purpose (Some q) crowned) in
+        let x = times-push (λ (y : Follower). y.no) k r.outcome.followers (record { no = p; source = q }) in
+        omega (arith, e, b, d, x);
+    order = c.order;
+    unchosen = λ h. absurd (false≢true (sym (ap chooses last.queue) ∙ h));
+    undrained = c.undrained;
+    named = c.named;
+    lead = c.lead;
+    leads = inr (
+      refl,
+      record { was = p; is = q; chosen = last.chosen; promoted = refl; master = c.stage.0; follows = Contains-push r.outcome.followers (record { no = p; source = q }) },
+    );
+    drained = c.drained;
+    queue = queue-as w r new (record { purpose = refl; chosen = refl; lost = λ k h. h }) r.queue c.queue;
+    stage = (
+      record {
+        promoted = record { promoted = refl; queue = last.queue; drained = last.drained; old = old-master r.purpose r.failed _ c.stage.0 };
+        crowns = crowned;
+      },
+      c.stage.2,
+    );
+    attached = All-push (λ (x : Follower). IsUnder w x.no.0 x.source.0) r.outcome.followers _ c.attached c.stage.3;
+    follow =
+        All-push (FollowsBy r.chosen (Some q)) r.outcome.followers _
+        (All-weaker (FollowsBy r.chosen r.outcome.promoted) (FollowsBy r.chosen (Some q)) on r.outcome.followers c.follow) (inr (last.chosen, refl));
+    sourced = c.sourced;
+    apart = c.apart;
+  }
+    where
+      last : IsLast r p
+      last = c.stage.1
+
+      crowned : crowns r.purpose ≡ true
+      crowned = master-crowns r.purpose c.stage.0
+
+      new : Recovery
+      new = record (swapped r p q) { stage = stage.Open q; core = core }
+
+      on : (x : Follower) → FollowsBy r.chosen r.outcome.promoted x → FollowsBy r.chosen (Some q) x
+      on x (inl e) = inl e
+      on x (inr e) = inl (last.chosen ∙ sym last.promoted ∙ e.1)
+
+  -- ---- the old master follows the designated one
+
+  old-given : (u : Purpose) (f m d : ServerNo) (chosen : Option ServerNo) (xs : List Follower) → is_takeover u ≡ true → f ≡ m → chosen ≡ Some d → IfSome (first_source u) (λ n. chosen ≡ Some n)
+      → Contains xs (record { no = m; source = d }) → OldFollows u f xs
+  old-given purpose.Regroup f m d chosen xs u same is named has = tt
+  old-given purpose.Master f m d chosen xs u same is named has = tt
+  old-given (purpose.Intermediate s) f m d chosen xs u same is named has = tt
+  old-given (purpose.Takeover e) f m d chosen xs u same is named has =
+      subst (λ (n : ServerNo). Contains xs (record { no = n; source = e })) (sym same)
+      (subst (λ (n : ServerNo). Contains xs (record { no = m; source = n })) (same_Some d e (sym is ∙ named)) has)
+
+  switched-covers : (r : Recovery) (m d : ServerNo) (core : Job) → CoversAt w r (stage.Switched m d) → CoversAt w (record (follows r m d) { stage = stage.Open d; core = core }) (stage.Open d)
+  switched-covers r m d core c =
+      follow-covers r (stage.Switched m d) (stage.Open d) m d core c refl refl refl c.stage.1.chosen c.stage.3 (
+        record {
+          promoted = record {
+            promoted = c.stage.1.promoted;
+            queue = c.stage.1.queue;
+            drained = c.stage.1.drained;
+            old =
+                old-given r.purpose r.failed m d r.chosen _ c.stage.0.takeover c.stage.0.failed c.stage.0.chosen c.named (Contains-push r.outcome.followers (record { no = m; source = d }));
+          };
+          crowns = takeover-crowns r.purpose c.stage.0.takeover;
+        },
+        c.stage.2,
+      )
+
+  -- ---- a designated replica has come to its master's end
+
+  gather-covers : (r : Recovery) (m d : ServerNo) → CoversAt w r (stage.Gather m d) → CoversAt w (idle (gathered r d)) stage.Idle
+  gather-covers r m d c = record {
+    replicas = c.replicas;
+    once = c.once;
+    order = c.order;
+    unchosen = c.unchosen;
+    undrained = c.undrained;
+    named = c.named;
+    lead = go (bridge_in d (seen_of r.core.seen d.0)) refl;
+    leads = early r (idle (gathered r d)) (stage.Gather m d) stage.Idle refl c.leads refl refl;
+    drained = c.drained;
+    queue = queue-as w r (idle (gathered r d)) (record { purpose = refl; chosen = refl; lost = λ k h. h }) r.queue c.queue;
+    stage = tt;
+    attached = c.attached;
+    follow = c.follow;
+    sourced = c.sourced;
+    apart = c.apart;
+  }
+    where
+      go : (o : Option Bridge) → bridge_in d (seen_of r.core.seen d.0) ≡ o → IfSome (lead_under r.failed o) (λ b. r.chosen ≡ Some b.no)
+      go None e = tt
+      go (Some b) e = at (b.source.0 == r.failed.0)
+        where
+          at : (a : Bool) → IfSome (cond a (Some b) None) (λ x. r.chosen ≡ Some x.no)
+          at true = c.stage.chosen ∙ ap Some (same-no d b.no (bridge-parts d (seen_of r.core.seen d.0) b e).no)
+          at false = tt
+
+  -- ---- a replica that comes to where the designated one stopped
+
+  look-covers : (r : Recovery) (n : ServerNo) (b : Bridge) → CoversAt w r (stage.Looked n b) → CoversSoFar w (looked r n b (seen_of r.core.seen n.0))
+  look-covers r n b c = go (seen_of r.core.seen n.0) refl
+    where
+      go : (o : Option Status) → seen_of r.core.seen n.0 ≡ o → CoversSoFar w (looked r n b o)
+      go None e = left-covers r (stage.Looked n b) n lost.Unreachable c refl refl (unreached r.purpose n.0)
+      go (Some s) e = at (is_below s r.failed) refl
+        where
+          at : (a : Bool) → is_below s r.failed ≡ a
+              → CoversSoFar w (cond a (working (record r { core = record r.core { seen = with_bridge r.core.seen b } }) (stage.Trail n b) (trail n b.no)) (idle (loses r n (lost.Moved (spot_seen s.source s.exec)))))
+          at true f =
+              so-far w (working (record r { core = record r.core { seen = with_bridge r.core.seen b } }) (stage.Trail n b) (trail n b.no)) (stage.Trail n b) _ _ refl refl (λ m by h. cc)
+              (restaged w r (stage.Looked n b) (stage.Trail n b) _ c refl (λ h. h) (c.stage.0, c.stage.1 s e (below-sourced s.source r.failed f)))
+          at false f = left-covers r (stage.Looked n b) n (lost.Moved (spot_seen s.source s.exec)) c refl refl (elsewhere r.purpose (spot_seen s.source s.exec) n.0)
+
+  halt-covers : (r : Recovery) (n : ServerNo) (b : Bridge) → CoversAt w r (stage.Halted n b) → (o : Option Status) → CoversSoFar w (halted r n b o)
+  halt-covers r n b c None = freed-covers r (stage.Halted n b) n lost.Unreachable c refl refl (unreached r.purpose n.0)
+  halt-covers r n b c (Some s) = at (same_coord s.exec b.exec)
+    where
+      at : (a : Bool) → CoversSoFar w (cond a (moving r n (way.Down b)) (frees r n (lost.Behind s.exec)))
+      at true = record {
+        at = restaged w r (stage.Halted n b) (stage.Move n (way.Down b)) _ c refl (λ h. h) (c.stage.0, c.stage.1, tt);
+        rests = λ h. cc;
+        moves = λ m x h. ap tail_of h;
+      }
+      at false = freed-covers r (stage.Halted n b) n (lost.Behind s.exec) c refl refl (λ h. c.stage.1)
+
+  -- ---- the promoted one takes writes
+
+  opened-covers : (r : Recovery) (n : ServerNo) → CoversAt w r (stage.Opened n) → CoversSoFar w (closing r (last_looks r r.purpose n))
+  opened-covers r n c = record {
+    at = restaged w r (stage.Opened n) (stage.Close (told r)) _ c refl (λ h. refl) (
+      record {
+        no = n;
+        promoted = record { promoted = one.promoted; queue = one.queue; drained = one.drained; old = one.old };
+        rules = λ h. c.stage.1;
+      },
+      refl,
+    );
+    rests = λ h. absurd (some (last_looks r r.purpose n) h);
+    moves = λ m by h. cc;
+  }
+    where
+      one : IsPromoted r n
+      one = c.stage.0.promoted
+
+      some : (xs : List Op) → xs ++ op.Finish (told r) ∷ [] ≡ [] → ⊥
+      some [] h = cc
+      some (x ∷ xs) h = cc
+
+  -- ---- any stage
+
+  rests-covers : (r : Recovery) (s : Stage) → CoversAt w r s → of_stage s ≡ [] → is_late s ≡ false → CoversSoFar w (idle r)
+  rests-covers r s c none late = at-rest w (idle r) refl (restaged w r s stage.Idle r.core c (sym none) (λ h. absurd (false≢true (sym late ∙ h))) tt)
+
+  pub completed-covers : (r : Recovery) (s : Stage) → Fits s [] → CoversAt w r s → CoversSoFar w (completed r s)
+  completed-covers r stage.Idle f c = rests-covers r stage.Idle c refl refl
+  completed-covers r stage.Check f c = rests-covers r stage.Check c refl refl
+  completed-covers r (stage.Read n) f c = rests-covers r (stage.Read n) c refl refl
+  completed-covers r (stage.Release n) f c = rests-covers r (stage.Release n) c refl refl
+  completed-covers r (stage.Judged n) f c = judge-covers r n c
+  completed-covers r (stage.Join n p) f c = joined r (stage.Join n p) n p c refl refl c.stage.0 c.stage.1
+  completed-covers r (stage.Expelled n) f c = at-rest w (idle (expelled r n)) refl (expelled-covers r n c)
+  completed-covers r (stage.Swapped p q) f c = so-far w _ (stage.Open q) _ _ refl refl (λ m by h. cc) (swapped-covers r p q _ c)
+  completed-covers r (stage.Resume p q) f c = joined r (stage.Resume p q) q p c refl refl c.stage.1.chosen c.stage.2
+  completed-covers r (stage.Opened n) f c = opened-covers r n c
+  completed-covers r (stage.Meet m d) f c =
+      so-far w _ (stage.Shut m d) _ _ refl refl (λ n by h. cc) (restaged w r (stage.Meet m d) (stage.Shut m d) _ c refl (λ h. h) (giving-on r (stage.Shut m d) _ m d c.stage))
+  completed-covers r (stage.Gather m d) f c = at-rest w (idle (gathered r d)) refl (gather-covers r m d c)
+  completed-covers r (stage.Looked n b) f c = look-covers r n b c
+  completed-covers r (stage.Halted n b) f c = halt-covers r n b c (seen_of r.core.seen n.0)
+  completed-covers r (stage.Switched m d) f c = so-far w _ (stage.Open d) _ _ refl refl (λ n by h. cc) (switched-covers r m d _ c)
+  completed-covers r (stage.Drain n) f c = absurd (not-ended (stage.Drain n) _ _ refl f)
+  completed-covers r (stage.Move n by) f c = absurd (not-ended (stage.Move n by) _ _ refl f)
+  completed-covers r (stage.Expel n) f c = absurd (not-ended (stage.Expel n) _ _ refl f)
+  completed-covers r (stage.Level p q) f c = absurd (not-ended (stage.Level p q) _ _ refl f)
+  completed-covers r (stage.Swap p q) f c = absurd (not-ended (stage.Swap p q) _ _ refl f)
+  completed-covers r (stage.Return p q) f c = absurd (not-ended (stage.Return p q) _ _ refl f)
+  completed-covers r (stage.Crown n) f c = absurd (not-ended (stage.Crown n) _ _ refl f)
+  completed-covers r (stage.Open n) f c = absurd (not-ended (stage.Open n) _ _ refl f)
+  completed-covers r (stage.Shut m d) f c = absurd (not-ended (stage.Shut m d) _ _ refl f)
+  completed-covers r (stage.Look n b) f c = absurd (not-ended (stage.Look n b) _ _ refl f)
+  completed-covers r (stage.Trail n b) f c = absurd (not-ended (stage.Trail n b) _ _ refl f)
+  completed-covers r (stage.Yield m d) f c = absurd (not-ended (stage.Yield m d) _ _ refl f)
+  completed-covers r (stage.Switch m d) f c = absurd (not-ended (stage.Switch m d) _ _ refl f)
+  completed-covers r (stage.Close lines) f c = absurd (not-ended (stage.Close lines) _ _ refl f)

@@ -1,0 +1,186 @@
+-- What is decided covers the replicas as far as before: how the next drained one goes below a successor.
+use Rattle.std.proofs.Common.{◌≡◌, Bool, true, false, cond, List, [], ◌∷◌, refl, sym, ◌∙◌, ap, subst, Option, Some, None, ◌&&◌, inl, inr, arith}
+use Rattle.std.specs.Prelude.{◌==◌, is_some, option_map}
+use Rattle.std.specs.List.{All}
+use Rattle.std.proofs.lemmas.Bool.{false≢true, and_parts, eqb-true, eq-eqb}
+use Rattle.std.proofs.lemmas.Option.{same_Some}
+use Rattle.std.proofs.lemmas.List.Elements.{All-nil, All-cons, All-head, All-tail, All-push}
+use Rattle.binlog_coords.specs.Log.{same_coord}
+use Rattle.orch_base.specs.declared.server.ServerNo.{ServerNo}
+use Rattle.server_model.specs.Worlds.{World}
+use Rattle.commands.specs.declared.line.Lost.TheVariants as lost
+use Rattle.instance_keeper.specs.declared.bridge.Bridge.{Bridge}
+use Rattle.instance_keeper.specs.Book.{BookState}
+use Rattle.instance_keeper.specs.Bridges.{has_own, latest_that, ring_at}
+use Rattle.operations.specs.declared.sight.Sight.{Sight}
+use Rattle.operations.specs.Jobs.{seen_of}
+use Rattle.job_laws.specs.Footing.{source_shown}
+use Rattle.job_laws.proofs.Sights.{seen-at}
+use Rattle.recovery_plans.specs.declared.outcome.LostReplica.{LostReplica}
+use Rattle.recovery_plans.specs.declared.outcome.Stopped.{Stopped}
+use Rattle.recovery_plans.specs.declared.stage.Stage.{Stage}
+use Rattle.recovery_plans.specs.declared.stage.Stage.TheVariants as stage
+use Rattle.recovery_plans.specs.declared.task.Task.TheVariants as task
+use Rattle.recovery_plans.specs.declared.task.Way.{Way}
+use Rattle.recovery_plans.specs.declared.task.Way.TheVariants as way
+use Rattle.recovery_plans.specs.Deciding.{expels, logs_at, moving, way_by_set, way_below, hand_by, hand}
+use Rattle.recovery_plans.specs.Recoveries.{Recovery, loses, sight_of}
+use Rattle.recovery_plans.specs.Stages.{tail_of, target, with_way}
+use Rattle.recovery_plans.proofs.Choices.{same-no}
+use Rattle.recovery_laws.proofs.Choosing.{All-latest}
+use Rattle.standing_laws.specs.Standing.{IsSourced, IsApart, Reads}
+use Rattle.recovery_covers.specs.SoFar.{in_order, Leads, Awaits, CoversAt, CoversSoFar}
+use Rattle.recovery_covers.proofs.Covering.{queue-as}
+use Rattle.recovery_covers.proofs.Times.{times-push}
+
+-- ---- ways
+
+-- by what it goes was seen
+pub way-reads : (xs : List Sight) (by : Way) → Reads (with_way xs by) by
+way-reads xs (way.Down b) = tt
+way-reads xs (way.Up b) =
+    ap source_shown (seen-at xs b.no (sight_of b) b.no.0 ∙ ap (λ (x : Bool). cond x (Some (sight_of b)) (seen_of xs b.no.0)) (eq-eqb b.no.0 b.no.0 refl))
+way-reads xs (way.Auto to exec) = tt
+
+-- a way below the successor leads there
+pub way-leads : (w : World) (b : BookState) (xs : List Sight) (x s : ServerNo) (d : Stopped) (by : Way) → way_below w b xs x s d ≡ Some by → target by ≡ s
+way-leads w b xs x s d by h = go w.gtid h
+  where
+    units : (ys : List Bridge) → All (λ (y : Bridge). Unit {0}) ys
+    units [] = All-nil (λ (y : Bridge). Unit {0})
+    units (y ∷ ys) = All-cons (λ (z : Bridge). Unit {0}) y ys tt (units ys)
+
+    by-set : (a : Bool) → cond a (Some (way.Auto s d.exec)) None ≡ Some by → target by ≡ s
+    by-set true e = sym (ap target (same_Some (way.Auto s d.exec) by e))
+    by-set false e = cc
+
+    by-log : (o : Option Bridge) → latest_that (has_own s d.exec) (ring_at b.rings x) ≡ o → option_map way.Up o ≡ Some by → target by ≡ s
+    by-log None f e = cc
+    by-log (Some y) f e =
+        let passes = (All-latest (λ (z : Bridge). Unit {0}) (has_own s d.exec) (ring_at b.rings x) y (units (ring_at b.rings x)) f).1 in
+        sym (ap target (same_Some (way.Up y) by e)) ∙ same-no y.source s (eqb-true y.source.0 s.0 (and_parts (y.source.0 == s.0) (same_coord y.own d.exec) passes).0)
+
+    go : (g : Bool) → cond g (way_by_set w xs s d) (option_map way.Up (latest_that (has_own s d.exec) (ring_at b.rings x))) ≡ Some by → target by ≡ s
+    go true e = by-set (is_some (seen_of xs s.0) && logs_at w s) e
+    go false e = by-log (latest_that (has_own s d.exec) (ring_at b.rings x)) refl e
+
+-- ---- one after another
+
+module _ (w : World) (b : BookState) (s : ServerNo) where
+  abbrev Hands : Recovery → List Stopped → Type 0
+  Hands r ds = CoversAt w (record r { queue = task.Handing ∷ r.queue; drained = ds }) stage.Idle
+
+  -- nobody is left
+  handed : (r : Recovery) → Hands r [] → CoversAt w (record r { drained = [] }) stage.Idle
+  handed r c = record {
+    replicas = c.replicas;
+    once = c.once;
+    order = (and_parts _ (in_order r.queue) c.order).1;
+    unchosen = c.unchosen;
+    undrained = λ h. refl;
+    named = c.named;
+    lead = c.lead;
+    leads = first c.leads;
+    drained = All-nil (λ (d : Stopped). IsSourced w d.no.0);
+    queue =
+        queue-as w (record r { queue = task.Handing ∷ r.queue; drained = [] }) (record r { drained = [] }) (record { purpose = refl; chosen = refl; lost = λ n h. h }) r.queue
+        (All-tail (Awaits w (record r { queue = task.Handing ∷ r.queue; drained = [] })) task.Handing r.queue c.queue);
+    stage = tt;
+    attached = c.attached;
+    follow = c.follow;
+    sourced = c.sourced;
+    apart = c.apart;
+  }
+    where
+      first : Leads (record r { queue = task.Handing ∷ r.queue; drained = [] }) stage.Idle → Leads (record r { drained = [] }) stage.Idle
+      first (inl e) = inl e
+      first (inr x) = absurd (false≢true x.0)
+
+  -- the next one has no way
+  stays : (r : Recovery) (d : Stopped) (ds : List Stopped) → Hands r (d ∷ ds) → Hands (loses r d.no (lost.Behind d.exec)) ds
+  stays r d ds c = record {
+    replicas = c.replicas;
+    once = λ n.
+        let e = c.once n in
+        let p = times-push (λ (l : LostReplica). l.no) n r.outcome.lost (record { no = d.no; why = lost.Behind d.exec; detached = false }) in
+        omega (arith, e, p);
+    order = c.order;
+    unchosen = c.unchosen;
+    undrained = λ h. absurd (false≢true (sym h));
+    named = c.named;
+    lead = c.lead;
+    leads = first c.leads;
+    drained = All-tail (λ (x : Stopped). IsSourced w x.no.0) d ds c.drained;
+    queue =
+        queue-as w (record r { queue = task.Handing ∷ r.queue; drained = d ∷ ds }) new
+        (record {
+          purpose = refl;
+          chosen = refl;
+          lost = λ n h.
+              let p = times-push (λ (l : LostReplica). l.no) n r.outcome.lost (record { no = d.no; why = lost.Behind d.exec; detached = false }) in
+              omega (arith, p, h);
+        }) (task.Handing ∷ r.queue) c.queue;
+    stage = tt;
+    attached = c.attached;
+    follow = c.follow;
+    sourced =
+        All-push (λ (l : LostReplica). expels r.purpose (Some l.why) ≡ true → IsSourced w l.no.0) r.outcome.lost _ c.sourced
+        (λ e. All-head (λ (x : Stopped). IsSourced w x.no.0) d ds c.drained);
+    apart = All-push (λ (l : LostReplica). l.detached ≡ true → IsApart w l.no.0) r.outcome.lost _ c.apart (λ h. absurd (false≢true h));
+  }
+    where
+      new : Recovery
+      new = record (loses r d.no (lost.Behind d.exec)) { queue = task.Handing ∷ r.queue; drained = ds }
+
+      first : Leads (record r { queue = task.Handing ∷ r.queue; drained = d ∷ ds }) stage.Idle → Leads new stage.Idle
+      first (inl e) = inl e
+      first (inr x) = absurd (false≢true x.0)
+
+  -- or it goes there
+  goes : (r : Recovery) (d : Stopped) (ds : List Stopped) (by : Way) → r.chosen ≡ Some (target by) → Hands r (d ∷ ds)
+      → CoversSoFar w (moving (record r { queue = task.Handing ∷ r.queue; drained = ds }) d.no by)
+  goes r d ds by leads c = record {
+    at = record {
+      replicas = c.replicas;
+      once = λ n. let e = c.once n in omega (arith, e);
+      order = c.order;
+      unchosen = c.unchosen;
+      undrained = λ h. absurd (false≢true (sym h));
+      named = c.named;
+      lead = c.lead;
+      leads = first c.leads;
+      drained = All-tail (λ (x : Stopped). IsSourced w x.no.0) d ds c.drained;
+      queue =
+          queue-as w (record r { queue = task.Handing ∷ r.queue; drained = d ∷ ds }) new (record { purpose = refl; chosen = refl; lost = λ n h. h }) (task.Handing ∷ r.queue) c.queue;
+      stage = (leads, All-head (λ (x : Stopped). IsSourced w x.no.0) d ds c.drained, way-reads r.core.seen by);
+      attached = c.attached;
+      follow = c.follow;
+      sourced = c.sourced;
+      apart = c.apart;
+    };
+    rests = λ h. cc;
+    moves = λ n x h. same n x h;
+  }
+    where
+      new : Recovery
+      new = moving (record r { queue = task.Handing ∷ r.queue; drained = ds }) d.no by
+
+      same : (n : ServerNo) (x : Way) → stage.Move d.no by ≡ stage.Move n x → new.core.ops ≡ tail_of (stage.Move n x)
+      same n x h = ap tail_of h
+
+      first : Leads (record r { queue = task.Handing ∷ r.queue; drained = d ∷ ds }) stage.Idle → Leads new (stage.Move d.no by)
+      first (inl e) = inl e
+      first (inr x) = absurd (false≢true x.0)
+
+  pub hand-covers : (ds : List Stopped) (r : Recovery) → r.stage ≡ stage.Idle → r.chosen ≡ Some s → Hands r ds → CoversSoFar w (hand w b s r ds)
+  hand-covers [] r idle chosen c = record {
+    at = subst (λ (x : Stage). CoversAt w (record r { drained = [] }) x) (sym idle) (handed r c);
+    rests = λ h. idle;
+    moves = λ n by h. let bad : stage.Idle ≡ stage.Move n by = sym idle ∙ h in cc;
+  }
+  hand-covers (d ∷ ds) r idle chosen c = go (way_below w b r.core.seen r.failed s d) refl (hand-covers ds (loses r d.no (lost.Behind d.exec)) idle chosen (stays r d ds c))
+    where
+      go : (o : Option Way) → way_below w b r.core.seen r.failed s d ≡ o → CoversSoFar w (hand w b s (loses r d.no (lost.Behind d.exec)) ds)
+          → CoversSoFar w (hand_by r d ds o (hand w b s (loses r d.no (lost.Behind d.exec)) ds))
+      go None e rest = rest
+      go (Some by) e rest = goes r d ds by (chosen ∙ ap Some (sym (way-leads w b r.core.seen r.failed s d by e))) c

@@ -1,0 +1,9 @@
+pub mod Times
+pub mod Covering
+pub mod Changing
+pub mod Chosen
+pub mod Handed
+pub mod Decided
+pub mod Completing
+pub mod Turning
+pub mod Begun

@@ -1,0 +1,343 @@
+-- A turn of a recovery covers the replicas as far as before.
+use Rattle.std.proofs.Common.{◌≡◌, ℕ, Bool, true, false, cond, List, [], ◌∷◌, ◌++◌, refl, sym, ◌∙◌, ap, subst, Option, Some, None, ◌||◌, ◌⊎◌, inl, inr}
+use Rattle.std.proofs.lemmas.Bool.{false≢true}
+use Rattle.orch_base.specs.declared.server.Moment.{Moment}
+use Rattle.orch_base.specs.declared.server.ServerNo.{ServerNo}
+use Rattle.server_model.specs.Run.{Exchange, run}
+use Rattle.server_model.specs.Safe.{Placed}
+use Rattle.server_model.specs.Worlds.{World, server_at}
+use Rattle.commands.specs.declared.cause.Cause.{Cause}
+use Rattle.commands.specs.declared.cause.Cause.TheVariants as cause
+use Rattle.commands.specs.declared.line.Lost.{Lost}
+use Rattle.commands.specs.declared.line.Lost.TheVariants as lost
+use Rattle.instance_keeper.specs.declared.observation.Observation.{Observation}
+use Rattle.operations.specs.declared.op.Crossing.TheVariants as cross
+use Rattle.operations.specs.declared.op.Op.{Op}
+use Rattle.operations.specs.declared.op.Op.TheVariants as op
+use Rattle.operations.specs.Deeds.{deed_of}
+use Rattle.operations.specs.Jobs.{Job}
+use Rattle.operations.specs.Turns as attempt
+use Rattle.operations.specs.Turns.{Attempt, by_deed, is_going}
+use Rattle.job_laws.specs.Footing.{footing, finds}
+use Rattle.recovery_plans.specs.declared.purpose.Purpose.{Purpose}
+use Rattle.recovery_plans.specs.declared.purpose.Purpose.TheVariants as purpose
+use Rattle.recovery_plans.specs.declared.stage.Stage.{Stage}
+use Rattle.recovery_plans.specs.declared.stage.Stage.TheVariants as stage
+use Rattle.recovery_plans.specs.declared.task.Way.{Way}
+use Rattle.recovery_plans.specs.declared.task.Way.TheVariants as way
+use Rattle.recovery_plans.specs.Recoveries.{Recovery, follows_no_more, working}
+use Rattle.recovery_plans.specs.Stages.{ends, leaver, move, moved, moves, tail_of, target}
+use Rattle.recovery_plans.specs.Deciding.{expels}
+use Rattle.recovery_plans.specs.Taking as taking
+use Rattle.recovery_plans.specs.Taking.{Fate, completed, entered, stepped, at_end, progressed, fate_of_drain, fate_of_trail, lost_on_way, fate_of_errant, fate_of_move, fate, exec_by, spot_by, met, is_waiting, barred_by, on_going, attempted, acted}
+use Rattle.recovery_laws.specs.HeldRecoveries.{HeldRecovery}
+use Rattle.recovery_ends.specs.Shapes.{Fits}
+use Rattle.recovery_ends.proofs.Shapes.{Went, WentOn, deed-went, same-head, fits-step, moved-fits}
+use Rattle.recovery_laws.proofs.Taking.{due, fits}
+use Rattle.standing_laws.specs.Standing.{IsApart, IsFree, IsSourced, IsWritable, KeepsSource, Stays, IsSourcedAsSeen}
+use Rattle.recovery_covers.specs.SoFar.{of_stage, is_late, is_takeover, Stands, CoversAt, CoversSoFar}
+use Rattle.standing_laws.proofs.Standing.{Stays-same}
+use Rattle.standing_laws.proofs.Effects.{After, IsMoved, IsOnce, Reads-true, deed-still, way-moves, way-once, about-moves, back-moves, detach-moves, reset-moves, shut-moves, open-moves, status-reads}
+use Rattle.recovery_covers.proofs.Covering.{is_seen, last-on, restaged, stage-on}
+use Rattle.recovery_covers.proofs.Changing.{AllButOne, move-covers, expel-covers, swap-covers, return-covers, crown-covers, open-covers, shut-covers, yield-covers, switch-covers, level-covers}
+use Rattle.recovery_covers.proofs.Decided.{at-rest}
+use Rattle.recovery_covers.proofs.Completing.{lose-covers, unreached, completed-covers}
+
+-- ---- moves
+
+abbrev is_move : Stage → Bool
+is_move (stage.Move n by) = true
+is_move s = false
+
+-- no stage's change begins a move
+moved-still : (s : Stage) → is_move (moved s) ≡ false
+moved-still (stage.Move n by) = refl
+moved-still s = refl
+
+no-move : (s : Stage) → is_move s ≡ false → (n : ServerNo) (by : Way) → s ≡ stage.Move n by → ⊥
+no-move s still n by e = false≢true (sym still ∙ ap is_move e)
+
+way-moving : (by : Way) (n : ServerNo) → moves (deed_of (move by n)) ≡ true
+way-moving (way.Down b) n = refl
+way-moving (way.Up b) n = refl
+way-moving (way.Auto to exec) n = refl
+
+-- ---- a stage with an operation left isn't done, and one without is
+
+at-end-covers : (w : World) (r : Recovery) (ops : List Op) → r.core.ops ≡ ops → Fits r.stage r.core.ops → is_move r.stage ≡ false → CoversAt w r r.stage → CoversSoFar w (at_end r ops)
+at-end-covers w r [] is f still c = completed-covers w r r.stage (subst (λ (xs : List Op). Fits r.stage xs) is f) c
+at-end-covers w r (x ∷ xs) is f still c = record {
+  at = c;
+  rests = λ h. let bad : [] ≡ x ∷ xs = sym h ∙ is in cc;
+  moves = λ n by h. absurd (no-move r.stage still n by h);
+}
+
+-- the job goes with the recovery into the next stage
+entered-core : (r : Recovery) (s : Stage) → (entered r s).core ≡ r.core
+entered-core r s = go (leaver s)
+  where
+    go : (o : Option ServerNo) → (follows_no_more r o).core ≡ r.core
+    go None = refl
+    go (Some n) = refl
+
+takeover-leaves : (u : Purpose) (why : Lost) → is_takeover u ≡ true → expels u (Some why) ≡ false
+takeover-leaves purpose.Regroup why h = absurd (false≢true h)
+takeover-leaves purpose.Master why h = absurd (false≢true h)
+takeover-leaves (purpose.Intermediate s) why h = absurd (false≢true h)
+takeover-leaves (purpose.Takeover d) why h = refl
+
+module _ (w : World) (read : ℕ) (now : Moment) (r : Recovery) (o : Op) (rest : List Op) (placed : Placed w) (held : HeldRecovery w r) (c : CoversSoFar w r) (is : r.core.ops ≡ o ∷ rest) where
+  abbrev by : Op → Attempt
+  by x = by_deed w read now r.core rest (deed_of x)
+
+  found : finds (footing w r.core.seen) (deed_of o) ≡ true
+  found = (due w read now r o rest placed held is).found
+
+  found-as : (x : Op) → o ≡ x → finds (footing w r.core.seen) (deed_of x) ≡ true
+  found-as x same = subst (λ (y : Op). finds (footing w r.core.seen) (deed_of y) ≡ true) same found
+
+  -- a stage that rests on what was seen is due, or a move
+  not-seen : ((n : ServerNo) (by' : Way) → o ≡ move by' n → ⊥) → (s : Stage) → r.stage ≡ s → Fits s (o ∷ rest) → is_seen s ≡ true → ⊥
+  not-seen nowhere (stage.Judged n) at f h = let e : o ∷ rest ≡ [] = f.is ∙ ap (λ xs. xs ++ []) (f.due refl) in cc
+  not-seen nowhere (stage.Looked n b) at f h = let e : o ∷ rest ≡ [] = f.is ∙ ap (λ xs. xs ++ []) (f.due refl) in cc
+  not-seen nowhere (stage.Move n by') at f h = nowhere n by' (same-head o (move by' n) rest _ (sym is ∙ c.moves n by' at))
+  not-seen nowhere s at f h = false≢true h
+
+  -- ---- it goes on
+
+  module _ (ob : Option Observation) (es : List Exchange) (k : Job) (e : by_deed w read now r.core rest (deed_of o) ≡ attempt.Goes ob es k) (went : WentOn r.core rest es k) where
+    abbrev w' : World
+    w' = run w es
+
+    abbrev later : Recovery
+    later = record r { core = k }
+
+    after : (Q : World → Type 0) → After w (by o) Q → Q w'
+    after Q h = subst (λ (a : Attempt). After w a Q) e h
+
+    -- an operation of the stage, and what it does
+    after-as : (x : Op) (Q : World → Type 0) → o ≡ x → After w (by x) Q → Q w'
+    after-as x Q same h = after Q (subst (λ (y : Op). After w (by y) Q) (sym same) h)
+
+    still-covers : ((n : ℕ) → Stays w w' n) → (is_seen r.stage ≡ true → ⊥) → CoversAt w' later r.stage
+    still-covers stays unseen = stage-on w w' r k (λ n h. stays n) r.stage c.at (λ h. absurd (unseen h))
+
+    -- ---- the operation that ends the stage
+
+    reads-as : (n : ServerNo) → o ≡ op.Status n None → (es ≡ []) × IsSourcedAsSeen w k.seen n
+    reads-as n same =
+        subst (λ (a : Attempt). Reads-true w read now r.core rest held.core.shown n a) e
+        (subst (λ (y : Op). Reads-true w read now r.core rest held.core.shown n (by y)) (sym same) (status-reads w read now r.core rest held.core.shown n))
+
+    unchanged : (s : Stage) → es ≡ [] → CoversAt w (record r { stage = s; core = k }) s → CoversAt w' (record r { stage = s; core = k }) s
+    unchanged s none at = subst (λ (xs : List Exchange). CoversAt (run w xs) (record r { stage = s; core = k }) s) (sym none) at
+
+    change-covers : (s : Stage) → o ∷ rest ≡ tail_of s → CoversAt w r s → CoversAt w' (entered later (moved s)) (moved s)
+    change-covers (stage.Drain n) t at =
+        let x = reads-as n (same-head o _ rest _ t) in
+        unchanged (stage.Judged n) x.0 (restaged w r (stage.Drain n) (stage.Judged n) k at refl (λ h. h) (at.stage, x.1))
+    change-covers (stage.Look n b) t at =
+        let x = reads-as n (same-head o _ rest _ t) in
+        unchanged (stage.Looked n b) x.0 (restaged w r (stage.Look n b) (stage.Looked n b) k at refl (λ h. h) (at.stage.1, x.1))
+    change-covers (stage.Trail n b) t at =
+        let x = reads-as n (same-head o _ rest _ t) in
+        unchanged (stage.Halted n b) x.0 (restaged w r (stage.Trail n b) (stage.Halted n b) k at refl (λ h. h) at.stage)
+    change-covers (stage.Move n by') t at =
+        let same = same-head o (move by' n) rest _ t in
+        move-covers w w' r k n by' at
+        (after-as (move by' n) (λ x. IsMoved w x n.0 (target by').0) same (way-moves w read now r.core rest held.core.shown by' n at.stage.2 (found-as (move by' n) same)))
+    change-covers (stage.Expel n) t at =
+        let x = after-as (op.Detach n) (λ x. IsApart x n.0 × AllButOne w x n.0) (same-head o _ rest _ t) (detach-moves w read now r.core rest held.core.shown n at.stage.1) in
+        expel-covers w w' r k n at x.0 x.1
+    change-covers (stage.Level p q) t at =
+        let x = after-as (op.Reset q) (λ x. IsFree x q.0 × AllButOne w x q.0) (same-head o _ rest _ t) (reset-moves w read now r.core rest held.core.shown q) in
+        level-covers w w' r k p q at x.0 x.1
+    change-covers (stage.Swap p q) t at =
+        let same = same-head o (op.Cross cross.About p q) rest _ t in
+        swap-covers w w' r k p q at
+        (after-as (op.Cross cross.About p q) (λ x. IsMoved w x p.0 q.0) same (about-moves w read now r.core rest held.core.shown p q (found-as (op.Cross cross.About p q) same)))
+    change-covers (stage.Return p q) t at =
+        let same = same-head o (op.Cross cross.Back q p) rest _ t in
+        return-covers w w' r k p q at
+        (after-as (op.Cross cross.Back q p) (λ x. IsMoved w x q.0 p.0) same (back-moves w read now r.core rest held.core.shown q p (found-as (op.Cross cross.Back q p) same)))
+    change-covers (stage.Crown n) t at =
+        let x = after-as (op.Reset n) (λ x. IsFree x n.0 × AllButOne w x n.0) (same-head o _ rest _ t) (reset-moves w read now r.core rest held.core.shown n) in
+        crown-covers w w' r k n at x.0 x.1
+    change-covers (stage.Open n) t at =
+        let x = after-as (op.ReadOnly n false) (λ x. IsWritable x n.0 × ((i : ℕ) → KeepsSource w x i)) (same-head o _ rest _ t) (open-moves w read now r.core rest held.core.shown n) in
+        open-covers w w' r k n at x.0 x.1
+    change-covers (stage.Shut m d) t at =
+        let x = after-as (op.ReadOnly m true) (λ x. (i : ℕ) → KeepsSource w x i) (same-head o _ rest _ t) (shut-moves w read now r.core rest held.core.shown m) in
+        shut-covers w w' r k m d at x
+    change-covers (stage.Yield m d) t at =
+        let x = after-as (op.Reset d) (λ x. IsFree x d.0 × AllButOne w x d.0) (same-head o _ rest _ t) (reset-moves w read now r.core rest held.core.shown d) in
+        yield-covers w w' r k m d at x.0 x.1
+    change-covers (stage.Switch m d) t at =
+        let same = same-head o (op.Cross cross.About m d) rest _ t in
+        switch-covers w w' r k m d at
+        (after-as (op.Cross cross.About m d) (λ x. IsMoved w x m.0 d.0) same (about-moves w read now r.core rest held.core.shown m d (found-as (op.Cross cross.About m d) same)))
+    change-covers (stage.Close lines) t at =
+        let bad : attempt.Ends lines ≡ attempt.Goes ob es k = sym (ap by (same-head o (op.Finish lines) rest _ t)) ∙ e in cc
+    change-covers stage.Idle t at = cc
+    change-covers stage.Check t at = cc
+    change-covers (stage.Read n) t at = cc
+    change-covers (stage.Judged n) t at = cc
+    change-covers (stage.Join n p) t at = cc
+    change-covers (stage.Expelled n) t at = cc
+    change-covers (stage.Release n) t at = cc
+    change-covers (stage.Swapped p q) t at = cc
+    change-covers (stage.Resume p q) t at = cc
+    change-covers (stage.Opened n) t at = cc
+    change-covers (stage.Meet m d) t at = cc
+    change-covers (stage.Gather m d) t at = cc
+    change-covers (stage.Looked n b) t at = cc
+    change-covers (stage.Halted n b) t at = cc
+    change-covers (stage.Switched m d) t at = cc
+
+    -- ---- any operation
+
+    record Good (x : Recovery) : Type 0 where
+      at : CoversAt w' x x.stage
+      fits : Fits x.stage x.core.ops
+      still : is_move x.stage ≡ false
+
+    not-moves : (a b : Bool) → (a || b) ≡ false → a ≡ false
+    not-moves true b h = absurd (false≢true (sym h))
+    not-moves false b h = refl
+
+    -- an operation that doesn't end the stage is no move
+    unmoved : ends r.stage (deed_of o) ≡ false → (n : ServerNo) (by' : Way) → o ≡ move by' n → ⊥
+    unmoved h n by' same =
+        false≢true (sym (not-moves (moves (deed_of o)) _ h) ∙ ap (λ (y : Op). moves (deed_of y)) same ∙ way-moving by' n)
+
+    not-move : ((n : ServerNo) (by' : Way) → o ≡ move by' n → ⊥) → (s : Stage) → r.stage ≡ s → is_move s ≡ false
+    not-move nowhere (stage.Move n by') at = absurd (nowhere n by' (same-head o (move by' n) rest _ (sym is ∙ c.moves n by' at)))
+    not-move nowhere s at = refl
+
+    stepped-covers : is_waiting k ≡ false → Good (stepped later o)
+    stepped-covers done = go (fits-step r.stage o rest (fits w read now r o rest placed held is))
+      where
+        go : ((ends r.stage (deed_of o) ≡ false) × Fits r.stage rest) ⊎ (o ∷ rest ≡ tail_of r.stage) → Good (stepped later o)
+        go (inl p) =
+            subst (λ (b : Bool). Good (cond b (entered later (moved r.stage)) later)) (sym p.0)
+            (record {
+              at =
+                  still-covers (λ n. after (λ x. Stays w x n) (deed-still w r.core rest n read now (deed_of o) (not-moves (moves (deed_of o)) _ p.0)))
+                  (not-seen (unmoved p.0) r.stage refl (fits w read now r o rest placed held is));
+              fits = subst (λ (ops : List Op). Fits r.stage ops) (sym (went.done done)) p.1;
+              still = not-move (unmoved p.0) r.stage refl;
+            })
+        go (inr t) =
+            let m = moved-fits r.stage o rest t in
+            subst (λ (b : Bool). Good (cond b (entered later (moved r.stage)) later)) (sym m.0)
+            (record {
+              at = change-covers r.stage t c.at;
+              fits = subst (λ (j : Job). Fits (moved r.stage) j.ops) (sym (entered-core later (moved r.stage))) (subst (λ (ops : List Op). Fits (moved r.stage) ops) (sym (went.done done)) m.1);
+              still = moved-still r.stage;
+            })
+
+    -- a move is no wait
+    unwaiting : is_waiting k ≡ true → (n : ServerNo) (by' : Way) → o ≡ move by' n → ⊥
+    unwaiting waits n by' same =
+        let once = way-once w read now r.core rest held.core.shown by' n (found-as (move by' n) same) in
+        let mine : is_waiting k ≡ false =
+        subst (λ (a : Attempt). IsOnce w read now r.core rest held.core.shown a) e (subst (λ (y : Op). IsOnce w read now r.core rest held.core.shown (by y)) (sym same) once) in
+        false≢true (sym mine ∙ waits)
+
+    progressed-covers : (b : Bool) → is_waiting k ≡ b → CoversSoFar w' (progressed later o b)
+    progressed-covers true waits =
+        let x = went.waits waits in
+        record {
+          at =
+              still-covers (λ n. Stays-same w w' n (ap (λ xs. server_at (run w xs) n) x.1))
+              (not-seen (unwaiting waits) r.stage refl (fits w read now r o rest placed held is));
+          rests = λ h. let bad : [] ≡ o ∷ rest = sym h ∙ x.0 ∙ is in cc;
+          moves = λ n by' h. x.0 ∙ c.moves n by' h;
+        }
+    progressed-covers false done =
+        let good = stepped-covers done in
+        at-end-covers w' (stepped later o) (stepped later o).core.ops refl good.fits good.still good.at
+
+    goes-covers : (x : Option Cause) → is_going (on_going w r o ob es k x).step ≡ true → CoversSoFar (run w (on_going w r o ob es k x).exchanges) (on_going w r o ob es k x).recovery
+    goes-covers None g = progressed-covers (is_waiting k) refl
+    goes-covers (Some x) g = absurd (false≢true g)
+
+  -- ---- it stops
+
+  abbrev IsFine : Stage → Fate → Type 0
+  IsFine s taking.Fails = Unit {0}
+  IsFine s taking.Drops = (of_stage s ≡ []) × (is_late s ≡ false)
+  IsFine s (taking.Loses n why) = (of_stage s ≡ n ∷ []) × (is_late s ≡ false) × (expels r.purpose (Some why) ≡ true → IsSourced w n.0)
+  IsFine s (taking.Frees n why) = (of_stage s ≡ n ∷ []) × (is_late s ≡ false) × (expels r.purpose (Some why) ≡ true → IsSourced w n.0)
+  IsFine s (taking.Goes x ops) =
+      (of_stage x ≡ of_stage s) × (is_late s ≡ false) × Stands w (record r { stage = x; core = record r.core { ops = ops; waited = 0 } }) x × (ops ≡ [] → ⊥) × (is_move x ≡ false)
+
+  met-covers : (s : Stage) → CoversAt w r s → (x : Cause) (ob : Option Observation) (f : Fate) → IsFine s f → is_going (met w r x ob f).step ≡ true → CoversSoFar (run w (met w r x ob f).exchanges) (met w r x ob f).recovery
+  met-covers s at x ob taking.Fails fine g = absurd (false≢true g)
+  met-covers s at x ob taking.Drops fine g =
+      at-rest w (working r stage.Idle []) refl (restaged w r s stage.Idle (record r.core { ops = []; waited = 0 }) at (sym fine.0) (λ h. absurd (false≢true (sym fine.1 ∙ h))) tt)
+  met-covers s at x ob (taking.Loses n why) fine g =
+      at-rest w _ refl (lose-covers w r s stage.Idle n why (record r.core { ops = []; waited = 0 }) at fine.0 refl fine.1 fine.2 tt)
+  met-covers s at x ob (taking.Frees n why) fine g = record {
+    at = lose-covers w r s (stage.Release n) n why (record r.core { ops = op.Start n ∷ []; waited = 0 }) at fine.0 refl fine.1 fine.2 tt;
+    rests = λ h. cc;
+    moves = λ m by' h. cc;
+  }
+  met-covers s at x ob (taking.Goes y ops) fine g = record {
+    at = restaged w r s y (record r.core { ops = ops; waited = 0 }) at fine.0 (λ h. absurd (false≢true (sym fine.1 ∙ h))) fine.2;
+    rests = λ h. absurd (fine.3 h);
+    moves = λ m by' h. absurd (no-move y fine.4 m by' h);
+  }
+
+  drain-fine : (n : ServerNo) (x : Cause) → IsFine (stage.Drain n) (fate_of_drain n x)
+  drain-fine n (cause.Unreachable m) = (refl, refl, unreached w r.purpose n.0)
+  drain-fine n x = tt
+
+  trail-fine : (s : Stage) (n : ServerNo) → of_stage s ≡ n ∷ [] → is_late s ≡ false → (expels r.purpose (Some (lost.Behind (exec_by (server_at w n.0)))) ≡ true → IsSourced w n.0) → (x : Cause) → IsFine s (fate_of_trail w n x)
+  trail-fine s n same late behind (cause.Unreachable m) = (same, late, unreached w r.purpose n.0)
+  trail-fine s n same late behind (cause.WaitSpent m) = (same, late, behind)
+  trail-fine s n same late behind x = tt
+
+  lost-fine : (u : Purpose) (n : ServerNo) (by' : Way) (why : Lost) → CoversAt w r (stage.Move n by') → IsFine (stage.Move n by') (lost_on_way u n why)
+  lost-fine purpose.Regroup n by' why at = (refl, refl, λ h. at.stage.1)
+  lost-fine purpose.Master n by' why at = (refl, refl, λ h. at.stage.1)
+  lost-fine (purpose.Intermediate s) n by' why at = (refl, refl, λ h. at.stage.1)
+  lost-fine (purpose.Takeover d) n by' why at = (refl, refl, λ h. at.stage.1)
+
+  errant-fine : (u : Purpose) (n : ServerNo) (by' : Way) → CoversAt w r (stage.Move n by') → IsFine (stage.Move n by') (fate_of_errant u n by')
+  errant-fine u n (way.Auto to exec) at = lost-fine u n (way.Auto to exec) (lost.Ahead exec) at
+  errant-fine u n (way.Down b) at = tt
+  errant-fine u n (way.Up b) at = tt
+
+  move-fine : (u : Purpose) (n : ServerNo) (by' : Way) → CoversAt w r (stage.Move n by') → (x : Cause) → IsFine (stage.Move n by') (fate_of_move w u n by' x)
+  move-fine u n by' at (cause.Unreachable m) = lost-fine u n by' lost.Unreachable at
+  move-fine u n by' at (cause.Running m) = lost-fine u n by' (lost.Moved (spot_by (server_at w n.0))) at
+  move-fine u n by' at (cause.Interfered m expected there) = lost-fine u n by' (lost.Moved there) at
+  move-fine u n by' at (cause.Errant m set) = errant-fine u n by' at
+  move-fine u n by' at x = tt
+
+  fate-fine : (s : Stage) → CoversAt w r s → (x : Cause) → IsFine s (fate w r.purpose s x)
+  fate-fine (stage.Drain n) at x = drain-fine n x
+  fate-fine (stage.Move n by') at x = move-fine r.purpose n by' at x
+  fate-fine (stage.Join n p) at x = (refl, refl, unreached w r.purpose n.0)
+  fate-fine (stage.Look n b) at x =
+      trail-fine (stage.Look n b) n refl refl (λ h. absurd (false≢true (sym (takeover-leaves r.purpose (lost.Behind (exec_by (server_at w n.0))) at.stage.0) ∙ h))) x
+  fate-fine (stage.Trail n b) at x = trail-fine (stage.Trail n b) n refl refl (λ h. at.stage.1) x
+  fate-fine stage.Check at x = (refl, refl)
+  fate-fine (stage.Expel n) at x = (refl, refl)
+  fate-fine (stage.Release n) at x = (refl, refl)
+  fate-fine (stage.Level p q) at x = (refl, refl, tt, λ h. cc, refl)
+  fate-fine (stage.Swap p q) at x = (refl, refl, (at.stage.0, last-on r (stage.Return p q) _ p at.stage.1), λ h. cc, refl)
+  fate-fine s at x = tt
+
+  attempted-covers : (a : Attempt) → by_deed w read now r.core rest (deed_of o) ≡ a → Went r.core rest a → is_going (attempted w r o a).step ≡ true
+      → CoversSoFar (run w (attempted w r o a).exchanges) (attempted w r o a).recovery
+  attempted-covers (attempt.Goes ob es k) e went g = goes-covers ob es k e went (barred_by r.stage r.failed k.seen) g
+  attempted-covers (attempt.Stops x ob) e went g = met-covers r.stage c.at x ob (fate w r.purpose r.stage x) (fate-fine r.stage c.at x) g
+  attempted-covers (attempt.Ends lines) e went g = absurd (false≢true g)
+
+pub acted-covers : (w : World) (read : ℕ) (now : Moment) (r : Recovery) → Placed w → HeldRecovery w r → CoversSoFar w r → (ops : List Op) → r.core.ops ≡ ops → is_going (acted w read now r ops).step ≡ true
+    → CoversSoFar (run w (acted w read now r ops).exchanges) (acted w read now r ops).recovery
+acted-covers w read now r placed held c [] is g = absurd (false≢true g)
+acted-covers w read now r placed held c (o ∷ rest) is g =
+    attempted-covers w read now r o rest placed held c is (by_deed w read now r.core rest (deed_of o)) refl (deed-went r.core rest w read now (deed_of o)) g

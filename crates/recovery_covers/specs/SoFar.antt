@@ -1,0 +1,322 @@
+-- How far a recovery has come in covering its replicas.
+use Rattle.std.specs.Prelude.{◌≡◌, ℕ, ◌+◌, ◌<◌, Bool, true, false, ◌&&◌, ◌||◌, not, List, [], ◌∷◌, ◌++◌, map, Option, Some, None, IfSome, All, Contains, ◌⊎◌}
+use Rattle.orch_base.specs.declared.server.ServerNo.{ServerNo}
+use Rattle.server_model.specs.Worlds.{World}
+use Rattle.recovery_plans.specs.declared.outcome.Follower.{Follower}
+use Rattle.recovery_plans.specs.declared.outcome.Stopped.{Stopped}
+use Rattle.recovery_plans.specs.declared.purpose.Purpose.{Purpose}
+use Rattle.recovery_plans.specs.declared.purpose.Purpose.TheVariants as purpose
+use Rattle.recovery_plans.specs.declared.stage.Stage.{Stage}
+use Rattle.recovery_plans.specs.declared.stage.Stage.TheVariants as stage
+use Rattle.recovery_plans.specs.declared.task.Task.{Task}
+use Rattle.recovery_plans.specs.declared.task.Task.TheVariants as task
+use Rattle.recovery_plans.specs.declared.task.Way.{Way}
+use Rattle.recovery_plans.specs.Beginning.{first_source, is_master}
+use Rattle.recovery_plans.specs.Deciding.{expels}
+use Rattle.recovery_plans.specs.Recoveries.{Recovery}
+use Rattle.recovery_plans.specs.Stages.{tail_of, target}
+use Rattle.recovery_plans.specs.Telling.{told}
+use Rattle.standing_laws.specs.Standing.{IsUnder, IsSourced, IsApart, IsFree, IsRuling, IsSourcedAsSeen, Reads}
+use Rattle.recovery_covers.specs.Covers.{times, follower_nos, lost_nos, owed, leader, crowns, AreReplicas, HasSwapped}
+
+-- ---- the places
+
+abbrev pub stopped_nos : List Stopped → List ServerNo
+stopped_nos xs = map (λ s. s.no) xs
+
+-- the server that a task is to place: of a replica, or of a master that gives up its place
+abbrev pub of_task : ServerNo → Task → List ServerNo
+of_task f (task.Reading n) = []
+of_task f (task.Draining n) = n ∷ []
+of_task f task.Choosing = []
+of_task f task.Handing = []
+of_task f (task.Moving n by) = n ∷ []
+of_task f task.Sorting = []
+of_task f (task.Expelling n) = []
+of_task f (task.Releasing n) = []
+of_task f (task.Trailing n) = n ∷ []
+of_task f task.Yielding = f ∷ []
+
+abbrev pub of_queue : ServerNo → List Task → List ServerNo
+of_queue f [] = []
+of_queue f (t ∷ ts) = of_task f t ++ of_queue f ts
+
+-- the server that a stage is placing
+abbrev pub of_stage : Stage → List ServerNo
+of_stage (stage.Drain n) = n ∷ []
+of_stage (stage.Judged n) = n ∷ []
+of_stage (stage.Move n by) = n ∷ []
+of_stage (stage.Join n p) = n ∷ []
+of_stage (stage.Look n b) = n ∷ []
+of_stage (stage.Looked n b) = n ∷ []
+of_stage (stage.Trail n b) = n ∷ []
+of_stage (stage.Halted n b) = n ∷ []
+of_stage (stage.Swap p q) = q ∷ []
+of_stage (stage.Swapped p q) = q ∷ []
+of_stage (stage.Return p q) = q ∷ []
+of_stage (stage.Resume p q) = q ∷ []
+of_stage (stage.Yield m d) = m ∷ []
+of_stage (stage.Switch m d) = m ∷ []
+of_stage (stage.Switched m d) = m ∷ []
+of_stage stage.Idle = []
+of_stage stage.Check = []
+of_stage (stage.Read n) = []
+of_stage (stage.Expel n) = []
+of_stage (stage.Expelled n) = []
+of_stage (stage.Release n) = []
+of_stage (stage.Level p q) = []
+of_stage (stage.Crown n) = []
+of_stage (stage.Open n) = []
+of_stage (stage.Opened n) = []
+of_stage (stage.Meet m d) = []
+of_stage (stage.Shut m d) = []
+of_stage (stage.Gather m d) = []
+of_stage (stage.Close lines) = []
+
+-- how often a server is being placed by the stage, to be placed, drained, promoted, a follower and lost
+abbrev pub total : ℕ → Recovery → Stage → ℕ
+total n r s =
+    times n (of_stage s)
+    + (times n (of_queue r.failed r.queue)
+    + (times n (stopped_nos r.drained)
+    + (times n (leader r.purpose r.outcome.promoted) + (times n (follower_nos r.outcome.followers) + times n (lost_nos r.outcome.lost)))))
+
+-- ---- the order of what is to do
+
+abbrev pub is_draining : Task → Bool
+is_draining (task.Draining n) = true
+is_draining (task.Reading n) = false
+is_draining task.Choosing = false
+is_draining task.Handing = false
+is_draining (task.Moving n by) = false
+is_draining task.Sorting = false
+is_draining (task.Expelling n) = false
+is_draining (task.Releasing n) = false
+is_draining (task.Trailing n) = false
+is_draining task.Yielding = false
+
+abbrev pub is_choosing : Task → Bool
+is_choosing task.Choosing = true
+is_choosing (task.Reading n) = false
+is_choosing (task.Draining n) = false
+is_choosing task.Handing = false
+is_choosing (task.Moving n by) = false
+is_choosing task.Sorting = false
+is_choosing (task.Expelling n) = false
+is_choosing (task.Releasing n) = false
+is_choosing (task.Trailing n) = false
+is_choosing task.Yielding = false
+
+-- what becomes of the drained ones is decided
+abbrev pub is_deciding : Task → Bool
+is_deciding task.Choosing = true
+is_deciding task.Handing = true
+is_deciding (task.Reading n) = false
+is_deciding (task.Draining n) = false
+is_deciding (task.Moving n by) = false
+is_deciding task.Sorting = false
+is_deciding (task.Expelling n) = false
+is_deciding (task.Releasing n) = false
+is_deciding (task.Trailing n) = false
+is_deciding task.Yielding = false
+
+abbrev pub chooses : List Task → Bool
+chooses [] = false
+chooses (t ∷ ts) = is_choosing t || chooses ts
+
+abbrev pub decides : List Task → Bool
+decides [] = false
+decides (t ∷ ts) = is_deciding t || decides ts
+
+abbrev pub is_nil : List Task → Bool
+is_nil [] = true
+is_nil (t ∷ ts) = false
+
+-- what a task needs of those behind it: a drained one's decision comes, there is one decision, and nothing is left once
+-- a master gives up its place
+abbrev pub is_before : Task → List Task → Bool
+is_before (task.Draining n) ts = decides ts
+is_before task.Choosing ts = not (decides ts)
+is_before task.Handing ts = not (decides ts)
+is_before task.Yielding ts = is_nil ts
+is_before (task.Reading n) ts = true
+is_before (task.Moving n by) ts = true
+is_before task.Sorting ts = true
+is_before (task.Expelling n) ts = true
+is_before (task.Releasing n) ts = true
+is_before (task.Trailing n) ts = true
+
+abbrev pub in_order : List Task → Bool
+in_order [] = true
+in_order (t ∷ ts) = is_before t ts && in_order ts
+
+-- ---- the new source
+
+abbrev pub is_takeover : Purpose → Bool
+is_takeover purpose.Regroup = false
+is_takeover purpose.Master = false
+is_takeover (purpose.Intermediate s) = false
+is_takeover (purpose.Takeover d) = true
+
+abbrev pub is_intermediate : Purpose → Bool
+is_intermediate purpose.Regroup = false
+is_intermediate purpose.Master = false
+is_intermediate (purpose.Intermediate s) = true
+is_intermediate (purpose.Takeover d) = false
+
+-- the stages behind a swap
+abbrev pub is_late : Stage → Bool
+is_late (stage.Open n) = true
+is_late (stage.Opened n) = true
+is_late (stage.Close lines) = true
+is_late stage.Idle = false
+is_late stage.Check = false
+is_late (stage.Read n) = false
+is_late (stage.Drain n) = false
+is_late (stage.Judged n) = false
+is_late (stage.Move n by) = false
+is_late (stage.Join n p) = false
+is_late (stage.Expel n) = false
+is_late (stage.Expelled n) = false
+is_late (stage.Release n) = false
+is_late (stage.Level p q) = false
+is_late (stage.Swap p q) = false
+is_late (stage.Swapped p q) = false
+is_late (stage.Return p q) = false
+is_late (stage.Resume p q) = false
+is_late (stage.Crown n) = false
+is_late (stage.Meet m d) = false
+is_late (stage.Shut m d) = false
+is_late (stage.Gather m d) = false
+is_late (stage.Look n b) = false
+is_late (stage.Looked n b) = false
+is_late (stage.Trail n b) = false
+is_late (stage.Halted n b) = false
+is_late (stage.Yield m d) = false
+is_late (stage.Switch m d) = false
+is_late (stage.Switched m d) = false
+
+-- the chosen one is promoted, or was
+abbrev pub Leads : Recovery → Stage → Type 0
+Leads r s = (r.outcome.promoted ≡ r.chosen) ⊎ ((is_late s ≡ true) × HasSwapped r)
+
+-- a follower is attached to the chosen server, or is that one
+abbrev pub FollowsBy : Option ServerNo → Option ServerNo → Follower → Type 0
+FollowsBy chosen promoted x = (chosen ≡ Some x.source) ⊎ ((chosen ≡ Some x.no) × (promoted ≡ Some x.source))
+
+-- ---- how servers stand
+
+abbrev pub IsLost : Recovery → ServerNo → Type 0
+IsLost r n = 0 < times n.0 (lost_nos r.outcome.lost)
+
+-- what each task may count on
+abbrev pub Awaits : World → Recovery → Task → Type 0
+Awaits w r (task.Moving n by) = (r.chosen ≡ Some (target by)) × IsSourced w n.0
+Awaits w r (task.Expelling n) = IsLost r n × IsSourced w n.0
+Awaits w r task.Handing = is_intermediate r.purpose ≡ true
+Awaits w r (task.Trailing n) = is_takeover r.purpose ≡ true
+Awaits w r task.Yielding = is_takeover r.purpose ≡ true
+Awaits w r (task.Reading n) = Unit {0}
+Awaits w r (task.Draining n) = Unit {0}
+Awaits w r task.Choosing = Unit {0}
+Awaits w r task.Sorting = Unit {0}
+Awaits w r (task.Releasing n) = Unit {0}
+
+-- the chosen one is promoted, and nothing else is left to do
+pub record IsLast (r : Recovery) (p : ServerNo) : Type 0 where
+  pub chosen : r.chosen ≡ Some p
+  pub promoted : r.outcome.promoted ≡ Some p
+  pub queue : r.queue ≡ []
+  pub drained : r.drained ≡ []
+
+-- in a takeover the old master follows the designated one
+abbrev pub OldFollows : Purpose → ServerNo → List Follower → Type 0
+OldFollows purpose.Regroup f xs = Unit {0}
+OldFollows purpose.Master f xs = Unit {0}
+OldFollows (purpose.Intermediate s) f xs = Unit {0}
+OldFollows (purpose.Takeover d) f xs = Contains xs (record { no = f; source = d })
+
+-- a server is promoted, and nothing else is left to do
+pub record IsPromoted (r : Recovery) (n : ServerNo) : Type 0 where
+  pub promoted : r.outcome.promoted ≡ Some n
+  pub queue : r.queue ≡ []
+  pub drained : r.drained ≡ []
+  pub old : OldFollows r.purpose r.failed r.outcome.followers
+
+-- in a master's place
+pub record IsCrowned (r : Recovery) (n : ServerNo) : Type 0 where
+  pub promoted : IsPromoted r n
+  pub crowns : crowns r.purpose ≡ true
+
+-- at the end
+pub record IsClosed (w : World) (r : Recovery) : Type 0 where
+  pub no : ServerNo
+  pub promoted : IsPromoted r no
+  pub rules : crowns r.purpose ≡ true → IsRuling w no.0
+
+-- the designated one is to take this master's place
+pub record IsGiving (r : Recovery) (m d : ServerNo) : Type 0 where
+  pub takeover : is_takeover r.purpose ≡ true
+  pub failed : r.failed ≡ m
+  pub chosen : r.chosen ≡ Some d
+
+-- how a stage's servers stand
+abbrev pub Stands : World → Recovery → Stage → Type 0
+Stands w r stage.Idle = Unit {0}
+Stands w r stage.Check = Unit {0}
+Stands w r (stage.Read n) = Unit {0}
+Stands w r (stage.Drain n) = decides r.queue ≡ true
+Stands w r (stage.Judged n) = (decides r.queue ≡ true) × IsSourcedAsSeen w r.core.seen n
+Stands w r (stage.Move n by) = (r.chosen ≡ Some (target by)) × IsSourced w n.0 × Reads r.core.seen by
+Stands w r (stage.Join n p) = (r.chosen ≡ Some p) × IsUnder w n.0 p.0
+Stands w r (stage.Expel n) = IsLost r n × IsSourced w n.0
+Stands w r (stage.Expelled n) = IsLost r n × IsApart w n.0
+Stands w r (stage.Release n) = Unit {0}
+Stands w r (stage.Level p q) = (is_master r.purpose ≡ true) × IsLast r p × (0 < times q.0 (follower_nos r.outcome.followers))
+Stands w r (stage.Swap p q) = (is_master r.purpose ≡ true) × IsLast r p × IsFree w q.0
+Stands w r (stage.Swapped p q) = (is_master r.purpose ≡ true) × IsLast r p × IsFree w q.0 × IsUnder w p.0 q.0
+Stands w r (stage.Return p q) = (is_master r.purpose ≡ true) × IsLast r p
+Stands w r (stage.Resume p q) = (is_master r.purpose ≡ true) × IsLast r p × IsUnder w q.0 p.0
+Stands w r (stage.Crown n) = (is_master r.purpose ≡ true) × IsLast r n
+Stands w r (stage.Open n) = IsCrowned r n × IsFree w n.0
+Stands w r (stage.Opened n) = IsCrowned r n × IsRuling w n.0
+Stands w r (stage.Meet m d) = IsGiving r m d
+Stands w r (stage.Shut m d) = IsGiving r m d
+Stands w r (stage.Gather m d) = IsGiving r m d
+Stands w r (stage.Look n b) = (is_takeover r.purpose ≡ true) × (r.chosen ≡ Some b.no)
+Stands w r (stage.Looked n b) = (r.chosen ≡ Some b.no) × IsSourcedAsSeen w r.core.seen n
+Stands w r (stage.Trail n b) = (r.chosen ≡ Some b.no) × IsSourced w n.0
+Stands w r (stage.Halted n b) = (r.chosen ≡ Some b.no) × IsSourced w n.0
+Stands w r (stage.Yield m d) = IsGiving r m d × IsLast r d
+Stands w r (stage.Switch m d) = IsGiving r m d × IsLast r d × IsFree w d.0
+Stands w r (stage.Switched m d) = IsGiving r m d × IsLast r d × IsFree w d.0 × IsUnder w m.0 d.0
+Stands w r (stage.Close lines) = IsClosed w r × (lines ≡ told r)
+
+-- ---- so far
+
+-- A recovery at a stage covers its replicas so far: each has one place. The choice comes before anybody leads, and
+-- nobody is drained without a decision to come; the new source is the one that was named, and so is the one whose stop
+-- was seen. Who is to move or to be detached has a source; followers are attached to their sources; and the lost stand
+-- as told.
+pub record CoversAt (w : World) (r : Recovery) (s : Stage) : Type 0 where
+  pub replicas : AreReplicas r.purpose r.failed r.replicas
+  pub once : (n : ℕ) → total n r s ≡ times n (owed r.purpose r.failed r.replicas)
+  pub order : in_order r.queue ≡ true
+  pub unchosen : chooses r.queue ≡ true → (r.chosen ≡ None) × (r.outcome.promoted ≡ None)
+  pub undrained : decides r.queue ≡ false → r.drained ≡ []
+  pub named : IfSome (first_source r.purpose) (λ n. r.chosen ≡ Some n)
+  pub lead : IfSome r.lead (λ b. r.chosen ≡ Some b.no)
+  pub leads : Leads r s
+  pub drained : All (λ d. IsSourced w d.no.0) r.drained
+  pub queue : All (Awaits w r) r.queue
+  pub stage : Stands w r s
+  pub attached : All (λ x. IsUnder w x.no.0 x.source.0) r.outcome.followers
+  pub follow : All (FollowsBy r.chosen r.outcome.promoted) r.outcome.followers
+  pub sourced : All (λ l. expels r.purpose (Some l.why) ≡ true → IsSourced w l.no.0) r.outcome.lost
+  pub apart : All (λ l. l.detached ≡ true → IsApart w l.no.0) r.outcome.lost
+
+-- a recovery under way does; where it has no operation it has no stage, and a move is made before anything else
+pub record CoversSoFar (w : World) (r : Recovery) : Type 0 where
+  pub at : CoversAt w r r.stage
+  pub rests : r.core.ops ≡ [] → r.stage ≡ stage.Idle
+  pub moves : (n : ServerNo) (by : Way) → r.stage ≡ stage.Move n by → r.core.ops ≡ tail_of (stage.Move n by)

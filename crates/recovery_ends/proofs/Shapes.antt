@@ -1,0 +1,202 @@
+-- The operations that an attempt leaves of a stage.
+use Rattle.std.proofs.Common.{◌≡◌, ℕ, ◌+◌, Bool, true, false, cond, not, List, [], ◌∷◌, ◌++◌, refl, sym, ◌∙◌, ap, subst, Option, Some, None, Ok, Err, Result, ◌⊎◌, inl, inr, arith}
+use Rattle.std.specs.Prelude.{◌==◌, nat_lt, slice_index_or}
+use Rattle.std.proofs.lemmas.Bool.{false≢true, and_parts, ne_eqb}
+use Rattle.binlog_coords.specs.declared.Coord.{Coord}
+use Rattle.orch_base.specs.declared.server.Moment.{Moment}
+use Rattle.orch_base.specs.declared.server.ServerNo.{ServerNo}
+use Rattle.instance_keeper.specs.declared.observation.Observation.{Observation}
+use Rattle.instance_keeper.specs.Bridges.{bridge_in}
+use Rattle.instance_keeper.specs.Seeing.{seen_in}
+use Rattle.server_words.specs.declared.answers.Unreachable.{Unreachable}
+use Rattle.server_words.specs.declared.attach.AttachFault.{AttachFault}
+use Rattle.server_words.specs.declared.changes.Ask.{Ask}
+use Rattle.server_words.specs.declared.changes.Ask.TheVariants as asking
+use Rattle.server_words.specs.declared.status.Status.{Status}
+use Rattle.server_model.specs.Desk.{desk_answer}
+use Rattle.server_model.specs.Gtids.{status}
+use Rattle.server_model.specs.Run.{Exchange}
+use Rattle.server_model.specs.Worlds.{World, server_at}
+use Rattle.commands.specs.declared.cause.Cause.TheVariants as cause
+use Rattle.operations.specs.declared.op.Crossing.TheVariants as cross
+use Rattle.operations.specs.declared.op.Op.{Op}
+use Rattle.operations.specs.declared.op.Op.TheVariants as op
+use Rattle.operations.specs.Deeds as deed
+use Rattle.operations.specs.Deeds.{Deed, deed_of}
+use Rattle.operations.specs.Jobs.{Job, seen_of}
+use Rattle.operations.specs.Targets.{can_attach}
+use Rattle.operations.specs.Turns.{Attempt, Goes, Stops, Ends, next, saw, observed, is_moved, after_status, after_look, after_ask, aim_of, is_reached, until_by, after_until, after_wait_by, after_wait, holds_seen, settles, read_by, crossed, same_again, by_set, attach_answer_of, after_answer, after_attach, by_deed}
+use Rattle.recovery_plans.specs.declared.stage.Stage.{Stage}
+use Rattle.recovery_plans.specs.declared.stage.Stage.TheVariants as stage
+use Rattle.recovery_plans.specs.declared.task.Way.TheVariants as way
+use Rattle.recovery_plans.specs.Stages.{ends, gather, moved, tail_of}
+use Rattle.recovery_plans.specs.Taking.{is_waiting}
+use Rattle.recovery_ends.specs.Shapes.{Fits, are_still, is_due}
+
+-- ---- an attempt that goes on
+
+pub record WentOn (j : Job) (rest : List Op) (es : List Exchange) (k : Job) : Type 0 where
+  pub done : is_waiting k ≡ false → k.ops ≡ rest
+  pub waits : is_waiting k ≡ true → (k.ops ≡ j.ops) × (es ≡ [])
+
+abbrev pub Went : Job → List Op → Attempt → Type 0
+Went j rest (Goes o es k) = WentOn j rest es k
+Went j rest (Stops c o) = Unit {0}
+Went j rest (Ends lines) = Unit {0}
+
+module _ (j : Job) (rest : List Op) where
+  done-went : (es : List Exchange) (k : Job) → k.ops ≡ rest → k.waited ≡ 0 → WentOn j rest es k
+  done-went es k same none = record {
+    done = λ h. same;
+    waits = λ h. absurd (false≢true (sym (ap (λ n. not (n == 0)) none) ∙ h));
+  }
+
+  look-went : (n : ServerNo) (from : Option ServerNo) (o : Observation) (r : Option Status) → Went j rest (after_look j rest n from o r)
+  look-went n from o None = tt
+  look-went n from o (Some s) = go (is_moved from s.source)
+    where
+      go : (b : Bool) → Went j rest (after_status j rest n from o s b)
+      go true = tt
+      go false = done-went [] (next (saw j n s) rest) refl refl
+
+  ask-went : (n : ServerNo) (a : Ask) (r : Result (Unit {0}) Unreachable) → Went j rest (after_ask j rest n a r)
+  ask-went n a (Ok t) = done-went _ _ refl refl
+  ask-went n a (Err e) = tt
+
+  until-went : (w : World) (n : ServerNo) (o : Option Coord) → Went j rest (after_until w j rest n o)
+  until-went w n None = done-went [] (next j rest) refl refl
+  until-went w n (Some to) = ask-went n (asking.StartUntil to) (desk_answer (server_at w n.0))
+
+  wait-went : (n : ServerNo) (reached : Status → Bool) (r : Option Status) → Went j rest (after_wait j rest n reached r)
+  wait-went n reached None = tt
+  wait-went n reached (Some s) = go (reached s)
+    where
+      more : (b : Bool) → Went j rest (cond b (Goes None [] (record (saw j n s) { waited = j.waited + 1 })) (Stops (cause.WaitSpent n) None))
+      more true = record {
+        done = λ h. absurd (false≢true (sym h ∙ ap not (ne_eqb (j.waited + 1) 0 (λ e. omega (arith, e)))));
+        waits = λ h. (refl, refl);
+      }
+      more false = tt
+
+      go : (b : Bool) → Went j rest (after_wait_by j rest n s b)
+      go true = done-went [] (next (saw j n s) rest) refl refl
+      go false = more (nat_lt (j.waited + 1) j.wait)
+
+  attach-went : (w : World) (n : ServerNo) (o : Option Exchange) → Went j rest (after_attach w j rest n o)
+  attach-went w n None = done-went [] (next j rest) refl refl
+  attach-went w n (Some e) = by (can_attach w e)
+    where
+      go : (r : Result (Unit {0}) AttachFault) → Went j rest (after_answer j rest n e r)
+      go (Ok t) = done-went (e ∷ []) (next j rest) refl refl
+      go (Err f) = tt
+
+      by : (b : Bool) → Went j rest (cond b (after_answer j rest n e (attach_answer_of w e)) (Goes None [] (next j rest)))
+      by true = go (attach_answer_of w e)
+      by false = done-went [] (next j rest) refl refl
+
+  pub deed-went : (w : World) (read : ℕ) (now : Moment) (d : Deed) → Went j rest (by_deed w read now j rest d)
+  deed-went w read now (deed.Look n from) = look-went n from (observed w read now n) (seen_in (status w n.0))
+  deed-went w read now (deed.Request n a) = ask-went n a (desk_answer (server_at w n.0))
+  deed-went w read now (deed.Until n to) = until-went w n (until_by (seen_of j.seen n.0) (aim_of j.seen to))
+  deed-went w read now (deed.Await n to) = wait-went n (λ s. is_reached (aim_of j.seen to) s.exec) (seen_in (status w n.0))
+  deed-went w read now (deed.AwaitSet n m) = wait-went n (holds_seen (seen_of j.seen m.0)) (seen_in (status w n.0))
+  deed-went w read now (deed.Settle n) = wait-went n (settles j) (seen_in (status w n.0))
+  deed-went w read now (deed.Cross c a b) = attach-went w a (crossed c a (bridge_in (read_by c a b) (seen_of j.seen (read_by c a b).0)))
+  deed-went w read now (deed.Same n) = attach-went w n (same_again n (seen_of j.seen n.0))
+  deed-went w read now (deed.Auto n m) = attach-went w n (by_set n m (seen_of j.seen m.0))
+  deed-went w read now (deed.Finish lines) = tt
+
+-- ---- the operations of a stage
+
+pub same-head : (o x : Op) (os xs : List Op) → o ∷ os ≡ x ∷ xs → o ≡ x
+same-head o x os xs h = ap (λ l. slice_index_or l 0 o) h
+
+pub same-tail : (o x : Op) (os xs : List Op) → o ∷ os ≡ x ∷ xs → os ≡ xs
+same-tail o x os xs h = ap tail h
+  where
+    tail : List Op → List Op
+    tail [] = []
+    tail (y ∷ ys) = ys
+
+-- the first operation of a stage doesn't end it, or it is the one that does
+pub fits-step : (s : Stage) (o : Op) (rest : List Op) → Fits s (o ∷ rest) → ((ends s (deed_of o) ≡ false) × Fits s rest) ⊎ (o ∷ rest ≡ tail_of s)
+fits-step s o rest fits = go fits.front fits.still fits.is fits.due
+  where
+    not-false : (b : Bool) → not b ≡ true → b ≡ false
+    not-false true h = absurd (false≢true h)
+    not-false false h = refl
+
+    go : (front : List Op) → are_still s front ≡ true → o ∷ rest ≡ front ++ tail_of s → (is_due s ≡ true → front ≡ [])
+        → ((ends s (deed_of o) ≡ false) × Fits s rest) ⊎ (o ∷ rest ≡ tail_of s)
+    go [] still is due = inr is
+    go (x ∷ xs) still is due =
+        let parts = and_parts (not (ends s (deed_of x))) (are_still s xs) still in
+        let same : o ≡ x = same-head o x rest (xs ++ tail_of s) is in
+        inl (
+          ap (λ y. ends s (deed_of y)) same ∙ not-false (ends s (deed_of x)) parts.0,
+          record { front = xs; still = parts.1; is = same-tail o x rest (xs ++ tail_of s) is; due = λ h. let e : x ∷ xs ≡ [] = due h in cc },
+        )
+
+-- what ends a stage is all that is left of it
+pub tail-fits : (s : Stage) → Fits s (tail_of s)
+tail-fits s = record { front = []; still = refl; is = refl; due = λ h. refl }
+
+nil-right : (xs : List Op) → xs ≡ xs ++ []
+nil-right [] = refl
+nil-right (x ∷ xs) = ap (λ l. x ∷ l) (nil-right xs)
+
+-- operations of a stage that nothing ends
+pub front-fits : (s : Stage) (ops : List Op) → tail_of s ≡ [] → is_due s ≡ false → are_still s ops ≡ true → Fits s ops
+front-fits s ops none due still = record {
+  front = ops;
+  still = still;
+  is = nil-right ops ∙ ap (λ xs. ops ++ xs) (sym none);
+  due = λ h. absurd (false≢true (sym due ∙ h));
+}
+
+-- once the operation that ends a stage is done, what is left is the next stage's
+moved-by : (s : Stage) (x : Op) (xs : List Op) (o : Op) (rest : List Op) → o ∷ rest ≡ x ∷ xs → ends s (deed_of x) ≡ true → Fits (moved s) xs → (ends s (deed_of o) ≡ true) × Fits (moved s) rest
+moved-by s x xs o rest h e f = (
+  ap (λ y. ends s (deed_of y)) (same-head o x rest xs h) ∙ e,
+  subst (λ (ys : List Op). Fits (moved s) ys) (sym (same-tail o x rest xs h)) f,
+)
+
+pub moved-fits : (s : Stage) (o : Op) (rest : List Op) → o ∷ rest ≡ tail_of s → (ends s (deed_of o) ≡ true) × Fits (moved s) rest
+moved-fits (stage.Drain n) o rest h = moved-by (stage.Drain n) (op.Status n None) [] o rest h refl (tail-fits (stage.Judged n))
+moved-fits (stage.Look n b) o rest h = moved-by (stage.Look n b) (op.Status n None) [] o rest h refl (tail-fits (stage.Looked n b))
+moved-fits (stage.Trail n b) o rest h = moved-by (stage.Trail n b) (op.Status n None) [] o rest h refl (tail-fits (stage.Halted n b))
+moved-fits (stage.Move n (way.Down b)) o rest h =
+    moved-by (stage.Move n (way.Down b)) (op.Cross cross.Down n b.no) (op.Start n ∷ []) o rest h refl (front-fits (stage.Join n b.no) (op.Start n ∷ []) refl refl refl)
+moved-fits (stage.Move n (way.Up b)) o rest h =
+    moved-by (stage.Move n (way.Up b)) (op.Cross cross.Up n b.no) (op.Start n ∷ []) o rest h refl (front-fits (stage.Join n b.source) (op.Start n ∷ []) refl refl refl)
+moved-fits (stage.Move n (way.Auto to exec)) o rest h =
+    moved-by (stage.Move n (way.Auto to exec)) (op.Auto n to) (op.Start n ∷ []) o rest h refl (front-fits (stage.Join n to) (op.Start n ∷ []) refl refl refl)
+moved-fits (stage.Expel n) o rest h = moved-by (stage.Expel n) (op.Detach n) [] o rest h refl (tail-fits (stage.Expelled n))
+moved-fits (stage.Level p q) o rest h =
+    moved-by (stage.Level p q) (op.Reset q) (op.Cross cross.About p q ∷ []) o rest h refl (tail-fits (stage.Swap p q))
+moved-fits (stage.Swap p q) o rest h = moved-by (stage.Swap p q) (op.Cross cross.About p q) [] o rest h refl (tail-fits (stage.Swapped p q))
+moved-fits (stage.Return p q) o rest h =
+    moved-by (stage.Return p q) (op.Cross cross.Back q p) (op.Start q ∷ []) o rest h refl (front-fits (stage.Resume p q) (op.Start q ∷ []) refl refl refl)
+moved-fits (stage.Crown n) o rest h = moved-by (stage.Crown n) (op.Reset n) (op.ReadOnly n false ∷ []) o rest h refl (tail-fits (stage.Open n))
+moved-fits (stage.Open n) o rest h = moved-by (stage.Open n) (op.ReadOnly n false) [] o rest h refl (tail-fits (stage.Opened n))
+moved-fits (stage.Shut m d) o rest h =
+    moved-by (stage.Shut m d) (op.ReadOnly m true) (gather m d) o rest h refl (front-fits (stage.Gather m d) (gather m d) refl refl refl)
+moved-fits (stage.Yield m d) o rest h =
+    moved-by (stage.Yield m d) (op.Reset d) (op.Cross cross.About m d ∷ []) o rest h refl (tail-fits (stage.Switch m d))
+moved-fits (stage.Switch m d) o rest h = moved-by (stage.Switch m d) (op.Cross cross.About m d) [] o rest h refl (tail-fits (stage.Switched m d))
+moved-fits (stage.Close lines) o rest h = moved-by (stage.Close lines) (op.Finish lines) [] o rest h refl (tail-fits stage.Idle)
+moved-fits stage.Idle o rest h = cc
+moved-fits stage.Check o rest h = cc
+moved-fits (stage.Read n) o rest h = cc
+moved-fits (stage.Judged n) o rest h = cc
+moved-fits (stage.Join n p) o rest h = cc
+moved-fits (stage.Expelled n) o rest h = cc
+moved-fits (stage.Release n) o rest h = cc
+moved-fits (stage.Swapped p q) o rest h = cc
+moved-fits (stage.Resume p q) o rest h = cc
+moved-fits (stage.Opened n) o rest h = cc
+moved-fits (stage.Meet m d) o rest h = cc
+moved-fits (stage.Gather m d) o rest h = cc
+moved-fits (stage.Looked n b) o rest h = cc
+moved-fits (stage.Halted n b) o rest h = cc
+moved-fits (stage.Switched m d) o rest h = cc

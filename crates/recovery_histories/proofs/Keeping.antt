@@ -1,0 +1,295 @@
+-- What each that might have been chosen had when it was drained is a beginning of what the promoted server has.
+use Rattle.std.proofs.Common.{◌≡◌, ℕ, ◌≤◌, true, List, [], ◌∷◌, ◌++◌, length, take, drop, get_or, refl, sym, ◌∙◌, ap, subst, Option, Some, None, ◌⊎◌, inl, inr, arith}
+use Rattle.std.specs.Prelude.{filter, not}
+use Rattle.std.specs.List.{All}
+use Rattle.std.proofs.lemmas.Bool.{and_parts}
+use Rattle.std.proofs.lemmas.Option.{same_Some}
+use Rattle.std.proofs.lemmas.List.{length-take, length-take-le, take-append-drop, take-append-le}
+use Rattle.std.proofs.lemmas.List.Elements.{All-nil, All-tail, All-weaker, All-filter, All-contains, filter_passes}
+use Rattle.binlog_coords.specs.declared.Coord.{Coord}
+use Rattle.binlog_coords.specs.Log.{place, is_at_or_before}
+use Rattle.binlog_coords.proofs.Places.{place-monotone}
+use Rattle.orch_base.specs.declared.server.Moment.{Moment}
+use Rattle.orch_base.specs.declared.server.ServerNo.{ServerNo}
+use Rattle.orch_base.specs.declared.server.SourceState.{SourceState}
+use Rattle.orch_base.specs.declared.server.SourceState.TheVariants.{Without, Attached, Detached}
+use Rattle.orch_base.specs.declared.server.Txn.{Txn}
+use Rattle.server_model.specs.declared.server.Server.{Server}
+use Rattle.server_model.specs.Bridges.{Stands}
+use Rattle.server_model.specs.Run.{Exchange, run, AllAllowed}
+use Rattle.server_model.specs.Safe.{Safe, Placed}
+use Rattle.server_model.specs.Worlds.{World, source_no}
+use Rattle.replication_laws.specs.Growth.{Grows}
+use Rattle.replication_laws.proofs.Runs.{Grows-run}
+use Rattle.commands.specs.declared.line.Line.{Line}
+use Rattle.instance_keeper.specs.declared.bridge.Bridge.{Bridge}
+use Rattle.instance_keeper.specs.Book.{BookState, rule_at}
+use Rattle.operations.specs.Targets.{logs_by}
+use Rattle.operations.specs.declared.op.Op.{Op}
+use Rattle.promotion_rules.specs.Choice.{is_barred}
+use Rattle.recovery_plans.specs.declared.outcome.Follower.{Follower}
+use Rattle.recovery_plans.specs.declared.outcome.Stopped.{Stopped}
+use Rattle.recovery_plans.specs.declared.purpose.Purpose.{Purpose}
+use Rattle.recovery_plans.specs.declared.purpose.Purpose.TheVariants as purpose
+use Rattle.recovery_plans.specs.declared.task.Task.{Task}
+use Rattle.recovery_plans.specs.declared.task.Task.TheVariants as task
+use Rattle.recovery_plans.specs.Beginning.{begun_recovery}
+use Rattle.recovery_plans.specs.Recoveries.{Recovery}
+use Rattle.recovery_plans.specs.Deciding.{logs_at, chosen_of, may_lead, choose, look_at, yield, at_last, by_task, by_queue, once, decided}
+use Rattle.recovery_plans.specs.Taking.{taken}
+use Rattle.recovery_plans.proofs.Choices.{All-chosen, chosen-logs}
+use Rattle.recovery_laws.specs.HeldRecoveries.{IsReady, IsStopped, HeldRecovery}
+use Rattle.recovery_laws.specs.Rings.{HeldRings, SoundRings}
+use Rattle.recovery_laws.specs.SoundRecoveries.{IsSoundTask, IsSoundStop, SoundRecovery}
+use Rattle.recovery_laws.proofs.Deciding.{once-held}
+use Rattle.recovery_laws.proofs.Sounding.{once-sound}
+use Rattle.recovery_laws.proofs.Taking.{taken-held}
+use Rattle.recovery_covers.specs.Covers.{times, HasSwapped, IsAsNamed, IsTold}
+use Rattle.standing_laws.specs.Standing.{attached_no, IsUnder}
+use Rattle.recovery_covers.specs.SoFar.{stopped_nos, CoversSoFar}
+use Rattle.recovery_covers.proofs.Decided.{IsStuck, once-covers}
+use Rattle.recovery_histories.specs.Kept.{Keeps, KeptByChosen, IsBeginning}
+use Rattle.recovery_histories.proofs.Ordering.{chosen-most}
+use Rattle.recovery_histories.proofs.Staying.{SameChoice, acted-choice, last-choice, over-choice}
+
+-- ---- beginnings
+
+-- the beginning of a list that goes on
+take-prefix : (k : ℕ) (xs ys : List Txn) → take (length xs) ys ≡ xs → k ≤ length xs → take k ys ≡ take k xs
+take-prefix k xs ys p le =
+    let parts : xs ++ drop (length xs) ys ≡ ys = ap (λ front. front ++ drop (length xs) ys) (sym p) ∙ take-append-drop (length xs) ys in
+    ap (take k) (sym parts) ∙ take-append-le k xs (drop (length xs) ys) le
+
+length-prefix : (xs ys : List Txn) → take (length xs) ys ≡ xs → length xs ≤ length ys
+length-prefix xs ys p = omega (arith, ap length p, length-take (length xs) ys)
+
+-- a beginning of a beginning that two share
+shared : (k m : ℕ) (xs ys : List Txn) → k ≤ m → m ≤ length xs → m ≤ length ys → take m xs ≡ take m ys → take k xs ≡ take k ys
+shared k m xs ys le long_x long_y same =
+    let len : length (take m ys) ≡ m = length-take-le m ys long_y in
+    take-prefix k (take m ys) xs (ap (λ i. take i xs) len ∙ same) (omega (arith, le, len))
+    ∙ sym (take-prefix k (take m ys) ys (ap (λ i. take i ys) len) (omega (arith, le, len)))
+
+-- what goes on keeps what it kept
+Keeps-run : (w : World) (es : List Exchange) (f : ℕ) (at : Coord) (n : ℕ) → Placed w → AllAllowed w es → Keeps w f at n → Keeps (run w es) f at n
+Keeps-run w es f at n placed allowed k =
+    let grows : Grows w (run w es) = Grows-run w es placed allowed in
+    let s = grows f k.source k.source_at in
+    let x = grows n k.server k.server_at_n in
+    record {
+      source = s.0;
+      server = x.0;
+      source_at = s.1;
+      server_at_n = x.1;
+      count = k.count;
+      place_at = s.2.places at k.count k.place_at;
+      within = omega (arith, k.within, length-prefix k.server.history.txns x.0.history.txns x.2.prefix);
+      source_within = omega (arith, k.source_within, length-prefix k.source.history.txns s.0.history.txns s.2.prefix);
+      alike =
+          take-prefix k.count k.server.history.txns x.0.history.txns x.2.prefix k.within ∙ k.alike
+          ∙ sym (take-prefix k.count k.source.history.txns s.0.history.txns s.2.prefix k.source_within);
+    }
+
+-- two that stood below one server: the one that executed more has what the other had
+behind-keeps : (w : World) (p d f : ℕ) (own_p own_d at_p at_d : Coord) → is_at_or_before at_d at_p ≡ true → Stands w p f own_p at_p → Stands w d f own_d at_d → Keeps w f at_d p
+behind-keeps w p d f own_p own_d at_p at_d le sp sd =
+    let same : sd.source ≡ sp.source = same_Some sd.source sp.source (sym sd.source_at ∙ sp.source_at) in
+    let place_d : place sp.source.log.log at_d ≡ Some sd.bridges.count = ap (λ (s : Server). place s.log.log at_d) (sym same) ∙ sd.bridges.exec_place in
+    let less : sd.bridges.count ≤ sp.bridges.count = place-monotone sp.source.log.log at_d at_p sd.bridges.count sp.bridges.count le place_d sp.bridges.exec_place in
+    record {
+      source = sp.source;
+      server = sp.replica;
+      source_at = sp.source_at;
+      server_at_n = sp.replica_at;
+      count = sd.bridges.count;
+      place_at = place_d;
+      within = omega (arith, less, sp.bridges.own_within);
+      source_within = omega (arith, less, sp.bridges.exec_within);
+      alike = shared sd.bridges.count sp.bridges.count sp.replica.history.txns sp.source.history.txns less sp.bridges.own_within sp.bridges.exec_within sp.bridges.alike;
+    }
+
+-- ---- the choice
+
+module _ (w : World) (b : BookState) (now : Moment) (r : Recovery) (held : HeldRecovery w r) (sound : SoundRecovery w r) where
+  -- a stopped one that logs stood where it was seen
+  stood : (s : Stopped) → IsStopped w r.core.seen r.failed s → IsSoundStop w r.failed s → logs_at w s.no ≡ true → (own : Coord) × Stands w s.no.0 r.failed.0 own s.exec
+  stood s stopped stands logs = let own = stopped.logs (sym (ap logs_by stopped.there) ∙ logs) in (own.0, stands own.0 own.1)
+
+  may-logs : (s : Stopped) → may_lead w b now s ≡ true → logs_at w s.no ≡ true
+  may-logs s h = (and_parts (logs_at w s.no) (not (is_barred (rule_at b s.no now))) h).0
+
+  -- the chosen one has what each that might have been chosen had
+  chosen-keeps : ((n : ℕ) → times n (stopped_nos r.drained) ≤ 1) → (p : Stopped) → chosen_of w b now r.drained ≡ Some p → All (λ s. Keeps w r.failed.0 s.exec p.no.0) (filter (may_lead w b now) r.drained)
+  chosen-keeps once p is =
+      go (filter (may_lead w b now) r.drained) (All-filter (may_lead w b now) (IsStopped w r.core.seen r.failed) r.drained held.drained)
+      (All-filter (may_lead w b now) (IsSoundStop w r.failed) r.drained sound.drained) (filter_passes (may_lead w b now) r.drained)
+      (All-filter (may_lead w b now) (λ (s : Stopped). may_lead w b now s ≡ true → is_at_or_before s.exec p.exec ≡ true) r.drained (chosen-most w b now r.drained once p is))
+    where
+      mine : (own : Coord) × Stands w p.no.0 r.failed.0 own p.exec
+      mine =
+          stood p (All-chosen w b now (IsStopped w r.core.seen r.failed) r.drained p held.drained is) (All-chosen w b now (IsSoundStop w r.failed) r.drained p sound.drained is)
+          (chosen-logs w b now r.drained p is)
+
+      go : (ys : List Stopped) → All (IsStopped w r.core.seen r.failed) ys → All (IsSoundStop w r.failed) ys → All (λ s. may_lead w b now s ≡ true) ys
+          → All (λ s. may_lead w b now s ≡ true → is_at_or_before s.exec p.exec ≡ true) ys → All (λ s. Keeps w r.failed.0 s.exec p.no.0) ys
+      go ys hs ss es os =
+          λ i d lt. let s = get_or ys i d in
+          let own = stood s (hs i d lt) (ss i d lt) (may-logs s (es i d lt)) in
+          behind-keeps w p.no.0 s.no.0 r.failed.0 mine.0 own.0 p.exec s.exec (os i d lt (es i d lt)) mine.1 own.1
+
+-- ---- a turn keeps the choice
+
+kept-by : (w : World) (r r' : Recovery) → SameChoice r r' → KeptByChosen w r → KeptByChosen w r'
+kept-by w r r' same kept p is =
+    subst (λ (f : ServerNo). All (λ s. Keeps w f.0 s.exec p.0) r'.eligible) (sym same.aim.failed)
+    (subst (λ (xs : List Stopped). All (λ s. Keeps w r.failed.0 s.exec p.0) xs) (sym same.eligible) (kept p (sym same.chosen ∙ is)))
+
+pub kept-run : (w : World) (es : List Exchange) (r : Recovery) → Placed w → AllAllowed w es → KeptByChosen w r → KeptByChosen (run w es) r
+kept-run w es r placed allowed kept p is =
+    All-weaker (λ (s : Stopped). Keeps w r.failed.0 s.exec p.0) (λ (s : Stopped). Keeps (run w es) r.failed.0 s.exec p.0)
+    (λ s h. Keeps-run w es r.failed.0 s.exec p.0 placed allowed h) r.eligible (kept p is)
+
+pub begun-kept : (w : World) (u : Purpose) (id wait : ℕ) (f : ServerNo) (ns order : List ServerNo) → KeptByChosen w (begun_recovery u id wait f ns order)
+begun-kept w u id wait f ns order p h = All-nil (λ (s : Stopped). Keeps w f.0 s.exec p.0)
+
+module _ (w : World) (b : BookState) (now : Moment) where
+  choice-kept : (r : Recovery) → HeldRecovery w r → SoundRecovery w r → ((n : ℕ) → times n (stopped_nos r.drained) ≤ 1) → (o : Option Stopped) → chosen_of w b now r.drained ≡ o → KeptByChosen w (choose w b now r o)
+  choice-kept r held sound once None e p is = cc
+  choice-kept r held sound once (Some x) e p is =
+      subst (λ (n : ServerNo). All (λ s. Keeps w r.failed.0 s.exec n.0) (filter (may_lead w b now) r.drained)) (same_Some x.no p is) (chosen-keeps w b now r held sound once x e)
+
+  look-kept : (r : Recovery) (n : ServerNo) (o : Option Bridge) → KeptByChosen w r → KeptByChosen w (look_at r n o)
+  look-kept r n None kept p is = cc
+  look-kept r n (Some x) kept p is = kept p is
+
+  yield-kept : (r : Recovery) (o : Option Bridge) → KeptByChosen w r → KeptByChosen w (yield r o)
+  yield-kept r None kept p is = cc
+  yield-kept r (Some x) kept p is = kept p is
+
+  task-kept : (r : Recovery) (t : Task) → HeldRecovery w r → SoundRecovery w r → ((n : ℕ) → times n (stopped_nos r.drained) ≤ 1) → KeptByChosen w r → KeptByChosen w (by_task w b now r t)
+  task-kept r task.Choosing held sound once kept = choice-kept r held sound once (chosen_of w b now r.drained) refl
+  task-kept r task.Handing held sound once kept = kept-by w r (by_task w b now r task.Handing) (over-choice w b now r r.chosen) kept
+  task-kept r (task.Trailing n) held sound once kept = look-kept r n r.lead kept
+  task-kept r task.Yielding held sound once kept = yield-kept r r.lead kept
+  task-kept r (task.Reading n) held sound once kept = kept
+  task-kept r (task.Draining n) held sound once kept = kept
+  task-kept r (task.Moving n by) held sound once kept = kept
+  task-kept r task.Sorting held sound once kept = kept
+  task-kept r (task.Expelling n) held sound once kept = kept
+  task-kept r (task.Releasing n) held sound once kept = kept
+
+  -- nobody is drained twice
+  drained-once : (r : Recovery) → CoversSoFar w r → (n : ℕ) → times n (stopped_nos r.drained) ≤ 1
+  drained-once r c n = let e = c.at.once n in let most = c.at.replicas.distinct n in omega (arith, e, most)
+
+  once-kept : (r : Recovery) → HeldRecovery w r → SoundRecovery w r → CoversSoFar w r ⊎ IsStuck r → KeptByChosen w r → KeptByChosen w (once w b now r)
+  once-kept r held sound fine kept = go r.core.ops r.queue refl held.queue sound.queue
+    where
+      go : (ops : List Op) (ts : List Task) → r.queue ≡ ts → All (IsReady w r.core.seen) ts → All (IsSoundTask w) ts → KeptByChosen w (by_queue w b now r ops ts)
+      go (x ∷ xs) ts q hs ss = kept
+      go [] [] q hs ss = kept-by w r (at_last w b now r r.purpose) (last-choice w b now r r.purpose) kept
+      go [] (t ∷ ts) q hs ss =
+          task-kept (record r { queue = ts }) t
+          (record {
+            core = held.core;
+            stage = held.stage;
+            fits = held.fits;
+            queue = All-tail (IsReady w r.core.seen) t ts hs;
+            drained = held.drained;
+            lead = held.lead;
+          })
+          (record { core = sound.core; stage = sound.stage; queue = All-tail (IsSoundTask w) t ts ss; drained = sound.drained; lead = sound.lead }) (distinct fine) kept
+        where
+          distinct : CoversSoFar w r ⊎ IsStuck r → (n : ℕ) → times n (stopped_nos r.drained) ≤ 1
+          distinct (inl c) = drained-once r c
+          distinct (inr x) = let bad : t ∷ ts ≡ [] = sym q ∙ x.queue in cc
+
+  -- held, sound, covered and kept together, over the decisions
+  decided-kept : (r : Recovery) → HeldRings w b.rings → SoundRings w b.rings → HeldRecovery w r → SoundRecovery w r → CoversSoFar w r → KeptByChosen w r → KeptByChosen w (decided w b now r)
+  decided-kept r rings stand held sound covers kept =
+      let a = once w b now r in
+      let d = once w b now a in
+      let e = once w b now d in
+      let ha = once-held w b now rings r held in
+      let sa = once-sound w b now rings stand r held sound in
+      let ca = once-covers w b now r (inl covers) in
+      let hd = once-held w b now rings a ha in
+      let sd = once-sound w b now rings stand a ha sa in
+      let cd = once-covers w b now a ca in
+      let he = once-held w b now rings d hd in
+      let se = once-sound w b now rings stand d hd sd in
+      let ce = once-covers w b now d cd in
+      once-kept e he se ce (once-kept d hd sd cd (once-kept a ha sa ca (once-kept r held sound (inl covers) kept)))
+
+-- ---- a turn
+
+pub taken-kept : (w : World) (b : BookState) (read : ℕ) (now : Moment) (r : Recovery) → Placed w → HeldRings w b.rings → SoundRings w b.rings → HeldRecovery w r → SoundRecovery w r → CoversSoFar w r
+    → KeptByChosen w r → KeptByChosen (run w (taken w b read now r).exchanges) (taken w b read now r).recovery
+taken-kept w b read now r placed rings stand held sound covers kept =
+    kept-run w (taken w b read now r).exchanges (taken w b read now r).recovery placed (taken-held w b read now r placed rings held).allowed
+    (kept-by w (decided w b now r) (taken w b read now r).recovery (acted-choice w read now (decided w b now r) (decided w b now r).core.ops)
+    (decided-kept w b now r rings stand held sound covers kept))
+
+-- ---- the promoted one
+
+under-source : (x : SourceState) (m : ℕ) → attached_no x ≡ Some m → source_no x ≡ Some m
+under-source Without m h = h
+under-source (Attached k) m h = h
+under-source (Detached k) m h = cc
+
+-- what an attached server has executed is a beginning of what its source has
+pub under-begins : (w : World) (p q : ℕ) → Safe w → IsUnder w p q → IsBeginning w p q
+under-begins w p q safe u =
+    let from = under-source u.server.source q u.under in
+    let source = safe.logging p q u.server u.there from in
+    record { first = u.server; second = source.0; first_at = u.there; second_at = source.1; prefix = (safe.well p q u.server source.0 u.there from source.1).prefix }
+
+-- what a replica keeps its source keeps
+source-keeps : (w : World) (f : ℕ) (at : Coord) (p q : ℕ) → IsBeginning w p q → Keeps w f at p → Keeps w f at q
+source-keeps w f at p q x k =
+    let same : x.first ≡ k.server = same_Some x.first k.server (sym x.first_at ∙ k.server_at_n) in
+    let prefix : take (length k.server.history.txns) x.second.history.txns ≡ k.server.history.txns =
+    subst (λ (s : Server). take (length s.history.txns) x.second.history.txns ≡ s.history.txns) same x.prefix in
+    record {
+      source = k.source;
+      server = x.second;
+      source_at = k.source_at;
+      server_at_n = x.second_at;
+      count = k.count;
+      place_at = k.place_at;
+      within = omega (arith, k.within, length-prefix k.server.history.txns x.second.history.txns prefix);
+      source_within = k.source_within;
+      alike = take-prefix k.count k.server.history.txns x.second.history.txns prefix k.within ∙ k.alike;
+    }
+
+-- at the end the promoted one keeps what the chosen one keeps
+pub promoted-keeps : (w : World) (r : Recovery) (lines : List Line) (n : ServerNo) → Safe w → KeptByChosen w r → IsTold w r lines → r.outcome.promoted ≡ Some n
+    → All (λ s. Keeps w r.failed.0 s.exec n.0) r.eligible
+promoted-keeps w r lines n safe kept told is = go told.leads
+  where
+    go : (r.outcome.promoted ≡ r.chosen) ⊎ HasSwapped r → All (λ s. Keeps w r.failed.0 s.exec n.0) r.eligible
+    go (inl e) = kept n (sym e ∙ is)
+    go (inr l) =
+        let under = All-contains (λ (x : Follower). IsUnder w x.no.0 x.source.0) r.outcome.followers (record { no = l.was; source = l.is }) told.covers.attached l.follows in
+        All-weaker (λ (s : Stopped). Keeps w r.failed.0 s.exec l.was.0) (λ (s : Stopped). Keeps w r.failed.0 s.exec n.0)
+        (λ s h. subst (λ (m : ServerNo). Keeps w r.failed.0 s.exec m.0) (same_Some l.is n (sym l.promoted ∙ is))
+        (source-keeps w r.failed.0 s.exec l.was.0 l.is.0 (under-begins w l.was.0 l.is.0 safe under) h)) r.eligible (kept l.was l.chosen)
+
+-- the old master of a takeover follows the designated one
+pub old-begins : (w : World) (r : Recovery) (lines : List Line) (d : ServerNo) → Safe w → IsTold w r lines → r.purpose ≡ purpose.Takeover d → IsBeginning w r.failed.0 d.0
+old-begins w r lines d safe told is = under-begins w r.failed.0 d.0 safe (go r.purpose is told.covers.named)
+  where
+    go : (u : Purpose) → u ≡ purpose.Takeover d → IsAsNamed u r.failed r.outcome → IsUnder w r.failed.0 d.0
+    go purpose.Regroup e h = cc
+    go purpose.Master e h = cc
+    go (purpose.Intermediate s) e h = cc
+    go (purpose.Takeover x) e h =
+        let same : x ≡ d = ap of-takeover e in
+        subst (λ (n : ServerNo). IsUnder w r.failed.0 n.0) same
+        (All-contains (λ (y : Follower). IsUnder w y.no.0 y.source.0) r.outcome.followers (record { no = r.failed; source = x }) told.covers.attached h.1)
+      where
+        of-takeover : Purpose → ServerNo
+        of-takeover purpose.Regroup = d
+        of-takeover purpose.Master = d
+        of-takeover (purpose.Intermediate s) = s
+        of-takeover (purpose.Takeover y) = y

@@ -1,0 +1,15 @@
+-- Passages that are no turn of a recovery.
+use Rattle.std.specs.Prelude.{◌≡◌, ℕ, ⊤}
+use Rattle.job_laws.specs.Passages.{Passage, Exchanging, Polling, Storing, Discovering, Forgetting, Restarting, Beginning, Turning, Taking}
+
+-- a passage leaves the job of this number, which isn't that of a turn; a restart leaves none
+abbrev pub Spares : ℕ → Passage → Type 0
+Spares id (Exchanging e) = ⊤
+Spares id (Polling p n read now) = ⊤
+Spares id (Storing p keeps) = ⊤
+Spares id (Discovering n read now) = ⊤
+Spares id (Forgetting n) = ⊤
+Spares id Restarting = ⊥
+Spares id (Beginning list j) = ⊤
+Spares id (Turning k read now keeps) = k ≡ id → ⊥
+Spares id (Taking k t keeps) = k ≡ id → ⊥

@@ -1,0 +1,23 @@
+//! Recoveries among other jobs.
+
+ghost use Rattle.std.specs.Prelude.{ℕ};
+ghost use Rattle.orch_base.specs.declared.server.Moment.{Moment as AMoment};
+ghost use Rattle.instance_keeper.specs.Book.{BookState};
+ghost use Rattle.job_laws.specs.Flights.{Flight, Held, Sound};
+ghost use Rattle.job_laws.specs.Passages.{MayTake};
+ghost use Rattle.recovery_plans.specs.Recoveries.{Recovery};
+ghost use Rattle.recovery_plans.specs.Taking.{taken};
+ghost use Rattle.recovery_laws.specs.HeldRecoveries.{HeldRecovery};
+ghost use Rattle.recovery_laws.specs.LeasedRecoveries.{LeasedRecovery};
+ghost use Rattle.recovery_laws.specs.Passing.{as_turn};
+ghost use Rattle.recovery_laws.specs.Rings.{HeldRings, SoundRings};
+ghost use Rattle.recovery_laws.specs.SoundRecoveries.{SoundRecovery};
+
+/// The turn of a recovery is one that servers with jobs in flight may take: it keeps what the turn of a job by its
+/// operations does.
+pub fn recoveries_pass()
+    ensures { (f : Flight) (b : BookState) (id read : ℕ) (now : AMoment) (r : Recovery) →
+        Held f → HeldRings f.world b.rings → HeldRecovery f.world r → LeasedRecovery f.leases id r →
+        (Sound f → SoundRings f.world b.rings × SoundRecovery f.world r) →
+        MayTake f id (as_turn id (taken f.world b read now r)) }
+{}

@@ -1,0 +1,288 @@
+-- A recovery that is done covers its replicas.
+use Rattle.std.proofs.Common.{◌≡◌, ℕ, ◌+◌, Bool, true, false, cond, List, [], ◌∷◌, refl, sym, ◌∙◌, ap, subst, Option, Some, None, Ok, Err, Result, ◌&&◌, ◌||◌, ◌⊎◌, inl, inr, arith}
+use Rattle.std.specs.Prelude.{IfSome, nat_lt}
+use Rattle.std.specs.List.{Contains}
+use Rattle.std.proofs.lemmas.Bool.{false≢true}
+use Rattle.std.proofs.lemmas.Option.{same_Some}
+use Rattle.std.proofs.lemmas.List.Elements.{All-weaker}
+use Rattle.binlog_coords.specs.declared.Coord.{Coord}
+use Rattle.orch_base.specs.declared.server.Moment.{Moment}
+use Rattle.orch_base.specs.declared.server.ServerNo.{ServerNo}
+use Rattle.server_words.specs.declared.answers.Unreachable.{Unreachable}
+use Rattle.server_words.specs.declared.attach.AttachFault.{AttachFault}
+use Rattle.server_words.specs.declared.changes.Ask.{Ask}
+use Rattle.server_words.specs.declared.changes.Ask.TheVariants as asking
+use Rattle.server_words.specs.declared.status.Status.{Status}
+use Rattle.server_model.specs.Desk.{desk_answer}
+use Rattle.server_model.specs.Gtids.{status}
+use Rattle.server_model.specs.Run.{Exchange, run}
+use Rattle.server_model.specs.Safe.{Placed}
+use Rattle.server_model.specs.Worlds.{World, server_at}
+use Rattle.commands.specs.declared.cause.Cause.{Cause}
+use Rattle.commands.specs.declared.cause.Cause.TheVariants as cause
+use Rattle.commands.specs.declared.line.Line.{Line}
+use Rattle.instance_keeper.specs.declared.observation.Observation.{Observation}
+use Rattle.instance_keeper.specs.Seeing.{seen_in}
+use Rattle.operations.specs.declared.op.Crossing.TheVariants as cross
+use Rattle.operations.specs.declared.op.Op.{Op}
+use Rattle.operations.specs.declared.op.Op.TheVariants as op
+use Rattle.operations.specs.declared.step.JobStep.{JobStep}
+use Rattle.operations.specs.declared.step.JobStep.TheVariants as step
+use Rattle.operations.specs.Deeds as deed
+use Rattle.operations.specs.Deeds.{Deed, deed_of}
+use Rattle.operations.specs.Jobs.{Job, seen_of}
+use Rattle.operations.specs.Targets.{can_attach}
+use Rattle.operations.specs.Turns as attempt
+use Rattle.operations.specs.Turns.{Attempt, next, saw, observed, is_moved, after_status, after_look, after_ask, aim_of, is_reached, until_by, after_until, after_wait_by, after_wait, holds_seen, settles, crossing_of, same_again, by_set, attach_answer_of, after_answer, after_attach, by_deed, ended}
+use Rattle.recovery_plans.specs.declared.outcome.Follower.{Follower}
+use Rattle.recovery_plans.specs.declared.purpose.Purpose.{Purpose}
+use Rattle.recovery_plans.specs.declared.purpose.Purpose.TheVariants as purpose
+use Rattle.recovery_plans.specs.declared.stage.Stage.{Stage}
+use Rattle.recovery_plans.specs.declared.stage.Stage.TheVariants as stage
+use Rattle.recovery_plans.specs.declared.task.Way.TheVariants as way
+use Rattle.recovery_plans.specs.Beginning.{first_source, is_master}
+use Rattle.recovery_plans.specs.Recoveries.{Outcome, Recovery}
+use Rattle.recovery_plans.specs.Stages.{ends, reads_last, tail_of}
+use Rattle.recovery_plans.specs.Taking as taking
+use Rattle.recovery_plans.specs.Taking.{Fate, fate, met, barred_by, on_going, attempted, acted, taken}
+use Rattle.instance_keeper.specs.Book.{BookState}
+use Rattle.recovery_laws.specs.Rings.{HeldRings}
+use Rattle.recovery_laws.proofs.Deciding.{decided-held}
+use Rattle.recovery_plans.specs.Deciding.{decided}
+use Rattle.recovery_covers.proofs.Decided.{IsStuck, decided-covers}
+use Rattle.recovery_laws.specs.HeldRecoveries.{HeldRecovery}
+use Rattle.recovery_ends.specs.Shapes.{Fits}
+use Rattle.recovery_ends.proofs.Shapes.{same-head, fits-step}
+use Rattle.recovery_laws.proofs.Taking.{fits}
+use Rattle.recovery_covers.specs.Covers.{times, Follows, HasSwapped, IsAsNamed, Covers, IsTold}
+use Rattle.recovery_covers.proofs.Covering.{swapped-on}
+use Rattle.recovery_covers.specs.SoFar.{of_queue, stopped_nos, Leads, FollowsBy, OldFollows, CoversAt, CoversSoFar}
+
+-- ---- only the last operation ends a job well
+
+abbrev is_end : Attempt → Bool
+is_end (attempt.Goes o es k) = false
+is_end (attempt.Stops c o) = false
+is_end (attempt.Ends lines) = true
+
+module _ (j : Job) (rest : List Op) where
+  look-on : (n : ServerNo) (from : Option ServerNo) (o : Observation) (r : Option Status) → is_end (after_look j rest n from o r) ≡ false
+  look-on n from o None = refl
+  look-on n from o (Some s) = go (is_moved from s.source)
+    where
+      go : (b : Bool) → is_end (after_status j rest n from o s b) ≡ false
+      go true = refl
+      go false = refl
+
+  ask-on : (n : ServerNo) (a : Ask) (r : Result (Unit {0}) Unreachable) → is_end (after_ask j rest n a r) ≡ false
+  ask-on n a (Ok t) = refl
+  ask-on n a (Err e) = refl
+
+  until-on : (w : World) (n : ServerNo) (o : Option Coord) → is_end (after_until w j rest n o) ≡ false
+  until-on w n None = refl
+  until-on w n (Some to) = ask-on n (asking.StartUntil to) (desk_answer (server_at w n.0))
+
+  wait-on : (n : ServerNo) (reached : Status → Bool) (r : Option Status) → is_end (after_wait j rest n reached r) ≡ false
+  wait-on n reached None = refl
+  wait-on n reached (Some s) = go (reached s)
+    where
+      more : (b : Bool) → is_end (cond b (attempt.Goes None [] (record (saw j n s) { waited = j.waited + 1 })) (attempt.Stops (cause.WaitSpent n) None)) ≡ false
+      more true = refl
+      more false = refl
+
+      go : (b : Bool) → is_end (after_wait_by j rest n s b) ≡ false
+      go true = refl
+      go false = more (nat_lt (j.waited + 1) j.wait)
+
+  attach-on : (w : World) (n : ServerNo) (o : Option Exchange) → is_end (after_attach w j rest n o) ≡ false
+  attach-on w n None = refl
+  attach-on w n (Some e) = by (can_attach w e)
+    where
+      go : (r : Result (Unit {0}) AttachFault) → is_end (after_answer j rest n e r) ≡ false
+      go (Ok t) = refl
+      go (Err f) = refl
+
+      by : (b : Bool) → is_end (cond b (after_answer j rest n e (attach_answer_of w e)) (attempt.Goes None [] (next j rest))) ≡ false
+      by true = go (attach_answer_of w e)
+      by false = refl
+
+  finish-of : (w : World) (read : ℕ) (now : Moment) (d : Deed) (lines : List Line) → by_deed w read now j rest d ≡ attempt.Ends lines → d ≡ deed.Finish lines
+  finish-of w read now d lines h = go d (ap is_end h) h
+    where
+      not-end : (b : Bool) (A : Type 0) → b ≡ false → b ≡ true → A
+      not-end b A f t = absurd (false≢true (sym f ∙ t))
+
+      lines-of : Attempt → List Line
+      lines-of (attempt.Goes o es k) = []
+      lines-of (attempt.Stops c o) = []
+      lines-of (attempt.Ends xs) = xs
+
+      go : (x : Deed) → is_end (by_deed w read now j rest x) ≡ true → by_deed w read now j rest x ≡ attempt.Ends lines → x ≡ deed.Finish lines
+      go (deed.Look n from) g e = not-end _ _ (look-on n from (observed w read now n) (seen_in (status w n.0))) g
+      go (deed.Request n a) g e = not-end _ _ (ask-on n a (desk_answer (server_at w n.0))) g
+      go (deed.Until n to) g e = not-end _ _ (until-on w n (until_by (seen_of j.seen n.0) (aim_of j.seen to))) g
+      go (deed.Await n to) g e = not-end _ _ (wait-on n (λ s. is_reached (aim_of j.seen to) s.exec) (seen_in (status w n.0))) g
+      go (deed.AwaitSet n m) g e = not-end _ _ (wait-on n (holds_seen (seen_of j.seen m.0)) (seen_in (status w n.0))) g
+      go (deed.Settle n) g e = not-end _ _ (wait-on n (settles j) (seen_in (status w n.0))) g
+      go (deed.Cross c a b) g e = not-end _ _ (attach-on w a (crossing_of j.seen c a b)) g
+      go (deed.Same n) g e = not-end _ _ (attach-on w n (same_again n (seen_of j.seen n.0))) g
+      go (deed.Auto n m) g e = not-end _ _ (attach-on w n (by_set n m (seen_of j.seen m.0))) g
+      go (deed.Finish ls) g e = ap (λ (a : Attempt). deed.Finish (lines-of a)) e
+
+-- ---- what is covered then
+
+-- the new source that was named leads, since only a master's recovery swaps
+named-by : (u : Purpose) (f : ServerNo) (o : Outcome) (chosen : Option ServerNo) → (o.promoted ≡ chosen) ⊎ (is_master u ≡ true) → IfSome (first_source u) (λ n. chosen ≡ Some n)
+    → OldFollows u f o.followers → IsAsNamed u f o
+named-by purpose.Regroup f o chosen leads named old = tt
+named-by purpose.Master f o chosen leads named old = tt
+named-by (purpose.Intermediate s) f o chosen (inl e) named old = e ∙ named
+named-by (purpose.Intermediate s) f o chosen (inr e) named old = absurd (false≢true e)
+named-by (purpose.Takeover d) f o chosen (inl e) named old = (e ∙ named, old)
+named-by (purpose.Takeover d) f o chosen (inr e) named old = absurd (false≢true e)
+
+module _ (w : World) (r : Recovery) (lines : List Line) (c : CoversAt w r (stage.Close lines)) where
+  follows-on : (x : Follower) → FollowsBy r.chosen r.outcome.promoted x → Follows r.purpose r.outcome x
+  follows-on x f = go c.leads f
+    where
+      go : Leads r (stage.Close lines) → FollowsBy r.chosen r.outcome.promoted x → Follows r.purpose r.outcome x
+      go (inl e) (inl g) = inl (e ∙ g)
+      go (inl e) (inr g) = inl g.1
+      go (inr l) (inr g) = inl g.1
+      go (inr l) (inl g) =
+          let same : l.1.was ≡ x.source = same_Some l.1.was x.source (sym l.1.chosen ∙ g) in
+          inr (l.1.is, l.1.promoted, l.1.master, subst (λ (m : ServerNo). Contains r.outcome.followers (record { no = m; source = l.1.is })) same l.1.follows)
+
+  close-covers : Covers w r.purpose r.failed r.replicas r.outcome
+  close-covers = record {
+    promoted = c.stage.0.no;
+    is_promoted = c.stage.0.promoted.promoted;
+    rules = c.stage.0.rules;
+    replicas = c.replicas;
+    once = λ k.
+        let e = c.once k in
+        let q : times k (of_queue r.failed r.queue) ≡ 0 = ap (λ ts. times k (of_queue r.failed ts)) c.stage.0.promoted.queue in
+        let d : times k (stopped_nos r.drained) ≡ 0 = ap (λ ds. times k (stopped_nos ds)) c.stage.0.promoted.drained in
+        omega (arith, e, q, d);
+    attached = c.attached;
+    follow = All-weaker (FollowsBy r.chosen r.outcome.promoted) (Follows r.purpose r.outcome) follows-on r.outcome.followers c.follow;
+    apart = c.apart;
+    named = named-by r.purpose r.failed r.outcome r.chosen (leads c.leads) c.named c.stage.0.promoted.old;
+  }
+    where
+      leads : Leads r (stage.Close lines) → (r.outcome.promoted ≡ r.chosen) ⊎ (is_master r.purpose ≡ true)
+      leads (inl e) = inl e
+      leads (inr x) = inr x.1.master
+
+module _ (w : World) (read : ℕ) (now : Moment) (r : Recovery) (o : Op) (rest : List Op) (placed : Placed w) (held : HeldRecovery w r) (c : CoversSoFar w r) (is : r.core.ops ≡ o ∷ rest) (lines : List Line) where
+  abbrev ends-so : Op → Type 0
+  ends-so x = deed_of x ≡ deed.Finish lines
+
+  finishing : ends-so o → (s : Stage) → o ∷ rest ≡ tail_of s → CoversAt w r s → IsTold w r lines
+  finishing d s e at = go s e at
+    where
+      first : (x : Op) (xs : List Op) → o ∷ rest ≡ x ∷ xs → ends-so x
+      first x xs h = sym (ap deed_of (same-head o x rest xs h)) ∙ d
+
+      lines-of : Deed → List Line
+      lines-of (deed.Finish xs) = xs
+      lines-of y = []
+
+      leader-of : (ls : List Line) → Leads r (stage.Close ls) → (r.outcome.promoted ≡ r.chosen) ⊎ HasSwapped r
+      leader-of ls (inl l) = inl l
+      leader-of ls (inr l) = inr l.1
+
+      go : (x : Stage) → o ∷ rest ≡ tail_of x → CoversAt w r x → IsTold w r lines
+      go (stage.Close ls) t a = record { covers = close-covers w r ls a; told = sym (ap lines-of (first (op.Finish ls) [] t)) ∙ a.stage.1; leads = leader-of ls a.leads }
+      go (stage.Drain n) t a = let bad = first (op.Status n None) _ t in cc
+      go (stage.Look n b) t a = let bad = first (op.Status n None) _ t in cc
+      go (stage.Trail n b) t a = let bad = first (op.Status n None) _ t in cc
+      go (stage.Move n (way.Down b)) t a = let bad = first (op.Cross cross.Down n b.no) _ t in cc
+      go (stage.Move n (way.Up b)) t a = let bad = first (op.Cross cross.Up n b.no) _ t in cc
+      go (stage.Move n (way.Auto to exec)) t a = let bad = first (op.Auto n to) _ t in cc
+      go (stage.Expel n) t a = let bad = first (op.Detach n) _ t in cc
+      go (stage.Level p q) t a = let bad = first (op.Reset q) _ t in cc
+      go (stage.Swap p q) t a = let bad = first (op.Cross cross.About p q) _ t in cc
+      go (stage.Return p q) t a = let bad = first (op.Cross cross.Back q p) _ t in cc
+      go (stage.Crown n) t a = let bad = first (op.Reset n) _ t in cc
+      go (stage.Open n) t a = let bad = first (op.ReadOnly n false) _ t in cc
+      go (stage.Shut m d) t a = let bad = first (op.ReadOnly m true) _ t in cc
+      go (stage.Yield m d) t a = let bad = first (op.Reset d) _ t in cc
+      go (stage.Switch m d) t a = let bad = first (op.Cross cross.About m d) _ t in cc
+      go stage.Idle t a = cc
+      go stage.Check t a = cc
+      go (stage.Read n) t a = cc
+      go (stage.Judged n) t a = cc
+      go (stage.Join n p) t a = cc
+      go (stage.Expelled n) t a = cc
+      go (stage.Release n) t a = cc
+      go (stage.Swapped p q) t a = cc
+      go (stage.Resume p q) t a = cc
+      go (stage.Opened n) t a = cc
+      go (stage.Meet m d) t a = cc
+      go (stage.Gather m d) t a = cc
+      go (stage.Looked n b) t a = cc
+      go (stage.Halted n b) t a = cc
+      go (stage.Switched m d) t a = cc
+
+  at-finish : ends-so o → IsTold w r lines
+  at-finish d = go (fits-step r.stage o rest (fits w read now r o rest placed held is))
+    where
+      or-true : (b : Bool) → ((b && false) || true) ≡ true
+      or-true true = refl
+      or-true false = refl
+
+      go : ((ends r.stage (deed_of o) ≡ false) × Fits r.stage rest) ⊎ (o ∷ rest ≡ tail_of r.stage) → IsTold w r lines
+      go (inl p) = absurd (false≢true (sym p.0 ∙ ap (ends r.stage) d ∙ or-true (reads_last r.stage)))
+      go (inr e) = finishing d r.stage e c.at
+
+  attempted-done : (a : Attempt) → by_deed w read now r.core rest (deed_of o) ≡ a → (attempted w r o a).step ≡ step.Done lines
+      → IsTold (run w (attempted w r o a).exchanges) (attempted w r o a).recovery lines
+  attempted-done (attempt.Goes ob es k) e h = go (barred_by r.stage r.failed k.seen) h
+    where
+      go : (x : Option Cause) → (on_going w r o ob es k x).step ≡ step.Done lines → IsTold (run w (on_going w r o ob es k x).exchanges) (on_going w r o ob es k x).recovery lines
+      go None h = cc
+      go (Some x) h = cc
+  attempted-done (attempt.Stops x ob) e h = go (fate w r.purpose r.stage x) h
+    where
+      go : (f : Fate) → (met w r x ob f).step ≡ step.Done lines → IsTold (run w (met w r x ob f).exchanges) (met w r x ob f).recovery lines
+      go taking.Fails h = cc
+      go taking.Drops h = cc
+      go (taking.Loses n why) h = cc
+      go (taking.Frees n why) h = cc
+      go (taking.Goes s ops) h = cc
+  attempted-done (attempt.Ends ls) e h =
+      let same : ls ≡ lines = lines-by (step.Done ls) (step.Done lines) h in
+      let told = at-finish (finish-of r.core rest w read now (deed_of o) lines (e ∙ ap attempt.Ends same)) in
+      record { covers = told.covers; told = told.told; leads = ended-leads told.leads }
+    where
+      ended-leads : (r.outcome.promoted ≡ r.chosen) ⊎ HasSwapped r → (r.outcome.promoted ≡ r.chosen) ⊎ HasSwapped (record r { core = ended r.core })
+      ended-leads (inl l) = inl l
+      ended-leads (inr l) = inr (swapped-on r r.stage (ended r.core) l)
+
+      lines-in : JobStep → List Line
+      lines-in step.Going = []
+      lines-in (step.Done xs) = xs
+      lines-in (step.Failed x) = []
+
+      lines-by : (a b : JobStep) → a ≡ b → lines-in a ≡ lines-in b
+      lines-by a b f = ap lines-in f
+
+pub acted-done : (w : World) (read : ℕ) (now : Moment) (r : Recovery) → Placed w → HeldRecovery w r → CoversSoFar w r → (ops : List Op) → r.core.ops ≡ ops → (lines : List Line) → (acted w read now r ops).step ≡ step.Done lines
+    → IsTold (run w (acted w read now r ops).exchanges) (acted w read now r ops).recovery lines
+acted-done w read now r placed held c [] is lines h = cc
+acted-done w read now r placed held c (o ∷ rest) is lines h = attempted-done w read now r o rest placed held c is lines (by_deed w read now r.core rest (deed_of o)) refl h
+
+-- ---- a whole turn
+
+pub turn-done : (w : World) (b : BookState) (read : ℕ) (now : Moment) (r : Recovery) → Placed w → HeldRings w b.rings → HeldRecovery w r → CoversSoFar w r → (lines : List Line) → (taken w b read now r).step ≡ step.Done lines
+    → IsTold (run w (taken w b read now r).exchanges) (taken w b read now r).recovery lines
+turn-done w b read now r placed rings held c lines = go (decided-covers w b now r c)
+  where
+    stuck : (x : Recovery) → IsStuck x → (acted w read now x x.core.ops).step ≡ step.Done lines → IsTold (run w (acted w read now x x.core.ops).exchanges) (acted w read now x x.core.ops).recovery lines
+    stuck x s =
+        subst (λ ops. (acted w read now x ops).step ≡ step.Done lines → IsTold (run w (acted w read now x ops).exchanges) (acted w read now x ops).recovery lines) (sym s.ops) (λ h. cc)
+
+    go : CoversSoFar w (decided w b now r) ⊎ IsStuck (decided w b now r) → (taken w b read now r).step ≡ step.Done lines → IsTold (run w (taken w b read now r).exchanges) (taken w b read now r).recovery lines
+    go (inl x) h = acted-done w read now (decided w b now r) placed (decided-held w b now r rings held) x (decided w b now r).core.ops refl lines h
+    go (inr s) h = stuck (decided w b now r) s h

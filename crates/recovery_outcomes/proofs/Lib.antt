@@ -1,0 +1,5 @@
+pub mod Done
+pub mod Running
+pub mod Placing
+pub mod Examples
+pub mod Telling

@@ -1,0 +1,35 @@
+//! What an outcome that covers its replicas says of each.
+
+ghost use Rattle.std.specs.Prelude.{◌≡◌, ◌<◌, ◌⊎◌, ℕ, List, All, Contains, Some, true};
+ghost use Rattle.orch_base.specs.declared.server.ServerNo.{ServerNo as Number};
+ghost use Rattle.server_model.specs.Worlds.{World};
+ghost use Rattle.recovery_plans.specs.declared.outcome.Follower.{Follower as AFollower};
+ghost use Rattle.recovery_plans.specs.declared.purpose.Purpose.{Purpose as APurpose};
+ghost use Rattle.recovery_plans.specs.Recoveries.{Outcome};
+ghost use Rattle.recovery_plans.specs.Telling.{told_by};
+ghost use Rattle.recovery_covers.specs.Covers.{Covers, HasOnePlace, owed, times};
+ghost use Rattle.recovery_covers.specs.SoFar.{is_takeover};
+ghost use Rattle.recovery_outcomes.specs.Told.{IsToldOf, leader_line};
+
+/// Where an outcome covers its replicas each of them is promoted, follows once or is lost once, and only one of these;
+/// and the followers are replicas, or the old master of a takeover.
+pub fn covered_replicas_have_one_place()
+    ensures replica { (w : World) (u : APurpose) (f : Number) (replicas : List Number)
+        (o : Outcome) →
+        Covers w u f replicas o → (n : ℕ) → 0 < times n replicas → HasOnePlace u o n }
+    ensures follower { (w : World) (u : APurpose) (f : Number) (replicas : List Number)
+        (o : Outcome) →
+        Covers w u f replicas o → (x : AFollower) → Contains o.followers x →
+        (0 < times x.no.0 replicas) ⊎ ((is_takeover u ≡ true) × (x.no.0 ≡ f.0)) }
+{}
+
+/// Where an outcome covers its replicas its lines tell of each server that was placed, in whatever order they are told
+/// that names it: as the promoted one, with its source, or with why it is lost and whether it was detached.
+pub fn placed_servers_are_told()
+    ensures leader { (u : APurpose) (o : Outcome) (order : List Number) (n : Number) →
+        o.promoted ≡ Some n → Contains (told_by u o order) (leader_line u n) }
+    ensures servers { (w : World) (u : APurpose) (f : Number) (replicas : List Number)
+        (o : Outcome) →
+        Covers w u f replicas o → (order : List Number) →
+        All (λ n. 0 < times n.0 (owed u f replicas) → IsToldOf u o (told_by u o order) n) order }
+{}

@@ -1,0 +1,263 @@
+//! What is decided of drained replicas, by the servers' settings and the book.
+
+ghost use Rattle.std.specs.Prelude.{◌≡◌, ◌<◌, ◌==◌, All, IfOk, find, length, map};
+ghost use Rattle.std.specs.Option.{option_copied};
+ghost use Rattle.recovery_plans.specs.Deciding.{better_of, chosen_of, drained_of, expels, follower_of, is_apart, is_elsewhere, is_reached, logs_at, lot_of, may_lead, releases, stopped_in, unfit, way_below};
+ghost use Rattle.recovery_plans.specs.declared.outcome.Follower.{Follower as AFollower};
+ghost use Rattle.recovery_parts.specs.Lots.{by_lot};
+
+use binlog_coords::Coord;
+use commands::Lost;
+use instance_keeper::{Book, Bridge};
+use job_plans::Job;
+use orch_base::{Memory, Moment, Rule, ServerNo};
+use promotion_rules::{Drained, better, most_advanced};
+use recovery_plans::{Follower, LostReplica, Purpose, Stopped, Way};
+use replica_groups::{Group, Lines, group_of};
+use server_model::World;
+use std::alloc::Global;
+
+/// What a decision goes by: the servers' settings, the book, and the moment at which rules of promotion are looked up.
+#[derive(Clone, Copy)]
+pub struct Ground<'a> {
+    /// Their settings are read, and whether they use GTIDs.
+    pub world: &'a World,
+    /// Of the servers of this world.
+    pub book: &'a Book,
+    /// The moment of the turn.
+    pub moment: Moment,
+}
+
+// Whether a server writes a binary log.
+fn logs_at(world: &World, no: ServerNo) -> bool
+    ensures { result ≡ logs_at world.now no }
+{
+    no.0 < world.servers() && world.settings(no).logs
+}
+
+// A drained replica as the choice looks at it.
+fn drained_of(by: &Ground<'_>, replica: &Stopped) -> Drained
+    requires { replica.now.no.0 < length by.now.book.now.names }
+    ensures { result ≡ drained_of by.now.world.now by.now.book.now by.now.moment replica.now }
+{
+    Drained {
+        no: replica.no,
+        exec: replica.exec,
+        own_end: replica.own_end,
+        rule: by.book.rule(replica.no, by.moment),
+        logs: logs_at(by.world, replica.no),
+    }
+}
+
+fn drained_all(alloc: Global, by: &Ground<'_>, list: &[Stopped]) -> Result<Vec<Drained>, Memory>
+    requires { All (λ s. s.no.0 < length by.now.book.now.names) list.now }
+    ensures { IfOk result (λ all. all.items
+        ≡ map (drained_of by.now.world.now by.now.book.now by.now.moment) list.now) }
+{
+    let mut all = Vec::with_capacity(alloc, list.len())?;
+    for replica in list {
+        all.push(drained_of(by, replica))?;
+    }
+    Ok(all)
+}
+
+fn stopped_at(list: &[Stopped], no: ServerNo) -> Option<&Stopped>
+    ensures { option_copied result ≡ find (λ s. s.no.0 == no.0) list.now }
+{
+    list.iter().find(|s| s.no.0 == no.0)
+}
+
+fn stopped_in(list: &[Stopped], no: Option<ServerNo>) -> Option<Stopped>
+    ensures { result ≡ stopped_in list.now no }
+{
+    stopped_at(list, no?).copied()
+}
+
+/// The drained replica that is promoted.
+pub fn chosen_of(
+    alloc: Global,
+    by: &Ground<'_>,
+    list: &[Stopped],
+) -> Result<Option<Stopped>, Memory>
+    requires { All (λ s. s.no.0 < length by.now.book.now.names) list.now }
+    ensures { IfOk result (λ o. o ≡ chosen_of by.now.world.now by.now.book.now by.now.moment list.now) }
+{
+    let all = drained_all(alloc, by, list)?;
+    Ok(stopped_in(list, most_advanced(&all, by.book.names())))
+}
+
+/// Whether a drained replica might have been chosen.
+pub(crate) fn may_lead(by: &Ground<'_>, replica: &Stopped) -> bool
+    requires { replica.now.no.0 < length by.now.book.now.names }
+    ensures { result ≡ may_lead by.now.world.now by.now.book.now by.now.moment replica.now }
+{
+    let drained = drained_of(by, replica);
+    drained.logs && drained.rule != Rule::MustNot
+}
+
+// A follower as the choice of a better one looks at it.
+fn follower_of(by: &Ground<'_>, no: ServerNo) -> Drained
+    requires { no.0 < length by.now.book.now.names }
+    ensures { result ≡ follower_of by.now.world.now by.now.book.now by.now.moment no }
+{
+    Drained {
+        no,
+        exec: Coord { file: 1, pos: 4 },
+        own_end: None,
+        rule: by.book.rule(no, by.moment),
+        logs: logs_at(by.world, no),
+    }
+}
+
+fn followers_all(alloc: Global, by: &Ground<'_>, list: &[Follower]) -> Result<Vec<Drained>, Memory>
+    requires { All (λ x. x.no.0 < length by.now.book.now.names) list.now }
+    ensures { IfOk result (λ all. all.items ≡ map (λ (x : AFollower).
+        follower_of by.now.world.now by.now.book.now by.now.moment x.no) list.now) }
+{
+    let mut all = Vec::with_capacity(alloc, list.len())?;
+    for follower in list {
+        all.push(follower_of(by, follower.no))?;
+    }
+    Ok(all)
+}
+
+/// The follower that takes the promoted one's place.
+pub fn better_of(
+    alloc: Global,
+    by: &Ground<'_>,
+    promoted: ServerNo,
+    list: &[Follower],
+) -> Result<Option<ServerNo>, Memory>
+    requires promoted { promoted.0 < length by.now.book.now.names }
+    requires followers { All (λ x. x.no.0 < length by.now.book.now.names) list.now }
+    ensures { IfOk result (λ o. o ≡ better_of by.now.world.now by.now.book.now by.now.moment promoted
+        (map (λ (x : AFollower). x.no) list.now)) }
+{
+    let all = followers_all(alloc, by, list)?;
+    let rule = by.book.rule(promoted, by.moment);
+    Ok(better(rule, &all, by.book.names()))
+}
+
+/// How a drained replica goes below the chosen one; `Err` is why it is left.
+pub fn lot_of(
+    by: &Ground<'_>,
+    failed: ServerNo,
+    chosen: &Stopped,
+    replica: &Stopped,
+) -> Result<Way, Lost>
+    requires { chosen.now.no.0 < length by.now.book.now.names }
+    ensures { result ≡ by_lot (lot_of by.now.world.now by.now.book.now failed chosen.now replica.now) }
+{
+    let (no, exec) = (chosen.no, replica.exec);
+    if by.world.gtid() {
+        return Ok(Way::Auto { to: no, exec });
+    }
+    let lines = Lines {
+        book: by.book,
+        own_end: chosen.own_end.unwrap_or(chosen.exec),
+        exec: chosen.exec,
+    };
+    match group_of(no, &lines, exec, failed) {
+        Group::Follow(own) => Ok(Way::Down(Bridge {
+            no,
+            source: failed,
+            own,
+            exec,
+        })),
+        Group::Ahead => Err(Lost::Ahead(exec)),
+        Group::Behind => Err(Lost::Behind(exec)),
+    }
+}
+
+/// A replica that is left where none may be promoted.
+pub(crate) fn unfit(world: &World, replica: &Stopped) -> LostReplica
+    ensures { result ≡ unfit world.now replica.now }
+{
+    LostReplica {
+        no: replica.no,
+        why: if logs_at(world, replica.no) {
+            Lost::MustNot
+        } else {
+            Lost::NotLogging
+        },
+        detached: false,
+    }
+}
+
+/// How a drained replica of a server goes below the successor, as the job has seen it.
+pub fn way_below(
+    by: &Ground<'_>,
+    job: &Job,
+    failed: ServerNo,
+    successor: ServerNo,
+    replica: &Stopped,
+) -> Option<Way>
+    requires { failed.0 < length by.now.book.now.names }
+    ensures { result ≡ way_below by.now.world.now by.now.book.now job.now.seen failed successor replica.now }
+{
+    if by.world.gtid() {
+        let was_read = job.sight(successor).is_some();
+        return (was_read && logs_at(by.world, successor)).then_some(Way::Auto {
+            to: successor,
+            exec: replica.exec,
+        });
+    }
+    let bridge = by.book.bridge_by_own(failed, successor, replica.exec)?;
+    Some(Way::Up(bridge))
+}
+
+// Whether a lost one executed what the new source didn't, or less.
+fn is_apart(why: Option<Lost>) -> bool
+    ensures { result ≡ is_apart why }
+{
+    match why {
+        Some(Lost::Ahead(_) | Lost::Behind(_)) => true,
+        Some(Lost::Unreachable | Lost::Moved(_) | Lost::NotLogging | Lost::MustNot) | None => false,
+    }
+}
+
+// Whether a lost one stands elsewhere.
+fn is_elsewhere(why: Option<Lost>) -> bool
+    ensures { result ≡ is_elsewhere why }
+{
+    match why {
+        Some(Lost::Moved(_)) => true,
+        Some(
+            Lost::Ahead(_) | Lost::Behind(_) | Lost::Unreachable | Lost::NotLogging | Lost::MustNot,
+        )
+        | None => false,
+    }
+}
+
+// Whether a lost one was reached.
+fn is_reached(why: Option<Lost>) -> bool
+    ensures { result ≡ is_reached why }
+{
+    match why {
+        Some(
+            Lost::Ahead(_) | Lost::Behind(_) | Lost::Moved(_) | Lost::NotLogging | Lost::MustNot,
+        ) => true,
+        Some(Lost::Unreachable) | None => false,
+    }
+}
+
+/// Whether a replica that is lost so is detached.
+pub fn expels(purpose: Purpose, why: Option<Lost>) -> bool
+    ensures { result ≡ expels purpose why }
+{
+    match purpose {
+        Purpose::Master | Purpose::Intermediate(_) => is_apart(why),
+        Purpose::Regroup | Purpose::Takeover(_) => false,
+    }
+}
+
+/// Whether a replica that is lost so is started.
+pub fn releases(purpose: Purpose, why: Option<Lost>) -> bool
+    ensures { result ≡ releases purpose why }
+{
+    match purpose {
+        Purpose::Regroup => is_reached(why),
+        Purpose::Master | Purpose::Intermediate(_) => is_elsewhere(why),
+        Purpose::Takeover(_) => false,
+    }
+}

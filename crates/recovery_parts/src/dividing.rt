@@ -1,0 +1,78 @@
+//! Drained replicas divided by where they go.
+
+ghost use Rattle.std.specs.Prelude.{◌≡◌, ◌<◌, ◌++◌, All, IfOk, OnOk, filter, length, map};
+ghost use Rattle.recovery_plans.specs.Deciding.{losses_in, lot_of, may_lead, moves_in, unfit, without_stopped};
+
+use crate::choices::{Ground, lot_of, may_lead, unfit};
+use orch_base::{Memory, ServerNo};
+use recovery_plans::{LostReplica, Stopped, Task};
+use server_model::World;
+use std::alloc::Global;
+
+/// The drained replicas that might be chosen.
+pub fn leaders(alloc: Global, by: &Ground<'_>, list: &[Stopped]) -> Result<Vec<Stopped>, Memory>
+    requires { All (λ s. s.no.0 < length by.now.book.now.names) list.now }
+    ensures { IfOk result (λ v. v.items
+        ≡ filter (may_lead by.now.world.now by.now.book.now by.now.moment) list.now) }
+{
+    let mut leaders = Vec::new(alloc);
+    for replica in list {
+        if may_lead(by, replica) {
+            leaders.push(*replica)?;
+        }
+    }
+    Ok(leaders)
+}
+
+/// The others beside one of them.
+pub fn without(alloc: Global, list: &[Stopped], no: ServerNo) -> Result<Vec<Stopped>, Memory>
+    ensures { IfOk result (λ v. v.items ≡ without_stopped list.now no) }
+{
+    let mut others = Vec::new(alloc);
+    for replica in list {
+        if replica.no.0 != no.0 {
+            others.push(*replica)?;
+        }
+    }
+    Ok(others)
+}
+
+/// Where the others go beside the chosen one: their moves, and those that are lost behind the ones that are.
+pub fn divide(
+    alloc: Global,
+    by: &Ground<'_>,
+    failed: ServerNo,
+    chosen: &Stopped,
+    others: &[Stopped],
+    lost: &mut Vec<LostReplica>,
+) -> Result<Vec<Task>, Memory>
+    requires { chosen.now.no.0 < length by.now.book.now.names }
+    ensures moves { IfOk result (λ v. v.items ≡ moves_in (lot_of by.now.world.now
+        by.now.book.now failed chosen.now) others.now) }
+    ensures lost { OnOk result (lost.new.items ≡ lost.old.items ++ losses_in (lot_of
+        by.now.world.now by.now.book.now failed chosen.now) others.now) }
+{
+    let mut moves = Vec::new(alloc);
+    for replica in others {
+        let no = replica.no;
+        match lot_of(by, failed, chosen, replica) {
+            Ok(way) => moves.push(Task::Moving(no, way))?,
+            Err(why) => lost.push(LostReplica {
+                no,
+                why,
+                detached: false,
+            })?,
+        }
+    }
+    Ok(moves)
+}
+
+/// Each is lost where none may be promoted.
+pub fn lose_all(world: &World, list: &[Stopped], lost: &mut Vec<LostReplica>) -> Result<(), Memory>
+    ensures { OnOk result (lost.new.items ≡ lost.old.items ++ map (unfit world.now) list.now) }
+{
+    for replica in list {
+        lost.push(unfit(world, replica))?;
+    }
+    Ok(())
+}

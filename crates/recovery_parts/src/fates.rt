@@ -1,0 +1,156 @@
+//! What becomes of a stage whose operation fails.
+
+ghost use Rattle.std.specs.Prelude.{◌≡◌};
+ghost use Rattle.server_model.specs.Worlds.{server_at};
+ghost use Rattle.recovery_plans.specs.Taking.{exec_by, fate, fate_of_drain, fate_of_move, fate_of_trail, lost_on_way, spot_by, spot_seen};
+ghost use Rattle.recovery_parts.specs.Fates.{fate_told};
+
+use binlog_coords::Coord;
+use commands::{Cause, Lost};
+use orch_base::{ServerNo, SourceState};
+use recovery_plans::{Purpose, Stage, Way};
+use server_model::World;
+use server_words::Spot;
+
+/// What becomes of a stage whose operation fails.
+#[derive(Clone, Copy)]
+pub enum Fate {
+    /// The recovery fails.
+    Fails,
+    /// Nothing more is done with the server.
+    Drops,
+    /// The replica is lost; or it is started, too.
+    Loses(ServerNo, Lost),
+    Frees(ServerNo, Lost),
+    /// The better one is started where it stands.
+    Releases(ServerNo),
+    /// The second goes back below the first.
+    Returns(ServerNo, ServerNo),
+}
+
+/// Where a server was seen.
+pub fn spot_seen(source: SourceState, exec: Coord) -> Spot
+    ensures { result ≡ spot_seen source exec }
+{
+    match source {
+        SourceState::Without => Spot::Nowhere,
+        SourceState::Attached(no) | SourceState::Detached(no) => Spot::At(no, exec),
+    }
+}
+
+// Where a server is.
+fn spot_at(world: &World, no: ServerNo) -> Spot
+    ensures { result ≡ spot_by (server_at world.now no.0) }
+{
+    if world.servers() <= no.0 {
+        return Spot::Nowhere;
+    }
+    let plain = world.plain(no);
+    spot_seen(plain.source, plain.exec)
+}
+
+// How far a server has executed its source's log.
+fn exec_at(world: &World, no: ServerNo) -> Coord
+    ensures { result ≡ exec_by (server_at world.now no.0) }
+{
+    if world.servers() <= no.0 {
+        return Coord { file: 1, pos: 4 };
+    }
+    world.plain(no).exec
+}
+
+fn of_drain(no: ServerNo, cause: &Cause) -> Fate
+    ensures { fate_told result ≡ fate_of_drain no cause.now }
+{
+    match cause {
+        Cause::Unreachable(_) => Fate::Loses(no, Lost::Unreachable),
+        Cause::WaitSpent(_)
+        | Cause::Interfered { .. }
+        | Cause::Running(_)
+        | Cause::Loop(_)
+        | Cause::Errant(_, _)
+        | Cause::Moved(_, _)
+        | Cause::Reachable(_)
+        | Cause::NoCandidate => Fate::Fails,
+    }
+}
+
+// One that takes too long is behind, where it stands.
+fn of_trail(world: &World, no: ServerNo, cause: &Cause) -> Fate
+    ensures { fate_told result ≡ fate_of_trail world.now no cause.now }
+{
+    match cause {
+        Cause::Unreachable(_) => Fate::Frees(no, Lost::Unreachable),
+        Cause::WaitSpent(_) => Fate::Frees(no, Lost::Behind(exec_at(world, no))),
+        Cause::Interfered { .. }
+        | Cause::Running(_)
+        | Cause::Loop(_)
+        | Cause::Errant(_, _)
+        | Cause::Moved(_, _)
+        | Cause::Reachable(_)
+        | Cause::NoCandidate => Fate::Fails,
+    }
+}
+
+// A replica that is lost on its way is started at once in a takeover, and is looked after later else.
+fn on_way(purpose: Purpose, no: ServerNo, why: Lost) -> Fate
+    ensures { fate_told result ≡ lost_on_way purpose no why }
+{
+    match purpose {
+        Purpose::Regroup | Purpose::Master | Purpose::Intermediate(_) => Fate::Loses(no, why),
+        Purpose::Takeover(_) => Fate::Frees(no, why),
+    }
+}
+
+fn of_move(world: &World, purpose: Purpose, no: ServerNo, way: Way, cause: &Cause) -> Fate
+    ensures { fate_told result ≡ fate_of_move world.now purpose no way cause.now }
+{
+    match cause {
+        Cause::Unreachable(_) => on_way(purpose, no, Lost::Unreachable),
+        Cause::Running(_) => on_way(purpose, no, Lost::Moved(spot_at(world, no))),
+        Cause::Interfered { found, .. } => on_way(purpose, no, Lost::Moved(*found)),
+        Cause::Errant(_, _) => match way {
+            Way::Auto { exec, .. } => on_way(purpose, no, Lost::Ahead(exec)),
+            Way::Down(_) | Way::Up(_) => Fate::Fails,
+        },
+        Cause::WaitSpent(_)
+        | Cause::Loop(_)
+        | Cause::Moved(_, _)
+        | Cause::Reachable(_)
+        | Cause::NoCandidate => Fate::Fails,
+    }
+}
+
+/// What becomes of a stage whose operation fails for a cause.
+pub fn fate_of(world: &World, purpose: Purpose, stage: &Stage, cause: &Cause) -> Fate
+    ensures { fate_told result ≡ fate world.now purpose stage.now cause.now }
+{
+    match stage {
+        Stage::Drain(n) => of_drain(*n, cause),
+        Stage::Move(n, way) => of_move(world, purpose, *n, *way, cause),
+        Stage::Join(n, _) => Fate::Loses(*n, Lost::Unreachable),
+        Stage::Look(n, _) | Stage::Trail(n, _) => of_trail(world, *n, cause),
+        Stage::Check | Stage::Expel(_) | Stage::Release(_) => Fate::Drops,
+        Stage::Level(_, q) => Fate::Releases(*q),
+        Stage::Swap(p, q) => Fate::Returns(*p, *q),
+        Stage::Idle
+        | Stage::Read(_)
+        | Stage::Judged(_)
+        | Stage::Expelled(_)
+        | Stage::Swapped(_, _)
+        | Stage::Return(_, _)
+        | Stage::Resume(_, _)
+        | Stage::Crown(_)
+        | Stage::Open(_)
+        | Stage::Opened(_)
+        | Stage::Meet(_, _)
+        | Stage::Shut(_, _)
+        | Stage::Gather(_, _)
+        | Stage::Looked(_, _)
+        | Stage::Halted(_, _)
+        | Stage::Yield(_, _)
+        | Stage::Switch(_, _)
+        | Stage::Switched(_, _)
+        | Stage::Close(_) => Fate::Fails,
+    }
+}

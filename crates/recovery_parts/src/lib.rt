@@ -1,0 +1,22 @@
+//! The parts of a recovery's turn: the operations of its stages, which replica is promoted and where the others go, what
+//! becomes of a stage whose operation fails, and changes of servers.
+#![tactic(auto)]
+
+mod choices;
+mod copies;
+mod dividing;
+mod doing;
+mod fates;
+mod ops;
+mod stages;
+mod threads;
+
+pub use choices::{Ground, better_of, chosen_of, expels, lot_of, releases, way_below};
+pub use copies::copy_stage;
+pub use dividing::{divide, leaders, lose_all, without};
+pub use doing::{Change, Doing, doing_of, only, perform, then_starts};
+pub use fates::{Fate, fate_of, spot_seen};
+pub use ops::{drain, level, moving, one, shut, sight_of, trail, two};
+/// Want of memory.
+pub use orch_base::Memory;
+pub use stages::{ends, leaver, moved};

@@ -1,0 +1,11 @@
+//! The types of this crate can be moved between threads, and shared by them.
+
+use crate::{Change, Doing, Fate};
+
+fn crosses_threads<T: Send + Sync>() {}
+
+fn all_cross_threads() {
+    crosses_threads::<Change>();
+    crosses_threads::<Doing>();
+    crosses_threads::<Fate>();
+}

@@ -1,0 +1,38 @@
+//! What a turn of a recovery leaves of what the next one requires.
+
+ghost use Rattle.std.specs.Prelude.{◌≡◌, ◌<◌, ℕ, All, List, true};
+ghost use Rattle.orch_base.specs.declared.server.Moment.{Moment as AMoment};
+ghost use Rattle.orch_base.specs.declared.server.ServerNo.{ServerNo as Number};
+ghost use Rattle.instance_keeper.specs.Book.{BookState};
+ghost use Rattle.operations.specs.Turns.{is_going};
+ghost use Rattle.server_model.specs.Run.{AllAllowed};
+ghost use Rattle.server_model.specs.Worlds.{World};
+ghost use Rattle.recovery_plans.specs.Beginning.{begun_recovery};
+ghost use Rattle.recovery_plans.specs.Named.{IsListOf, IsNamedRecovery};
+ghost use Rattle.recovery_plans.specs.Recoveries.{Recovery};
+ghost use Rattle.recovery_plans.specs.Taking.{taken};
+ghost use Rattle.recovery_plans.specs.declared.purpose.Purpose.{Purpose as APurpose};
+
+/// A recovery names servers that are there, from its beginning on, through each turn after which it goes on.
+pub fn recoveries_stay_named()
+    ensures begun { (count : ℕ) (u : APurpose) (id wait : ℕ) (f : Number)
+        (replicas order : List Number) →
+        All (λ n. n.0 < count) replicas → f.0 < count →
+        IsListOf (λ n. n < count) (λ n. n < count) u f →
+        IsNamedRecovery count (begun_recovery u id wait f replicas order) }
+    ensures turn { (count : ℕ) (w : World) (b : BookState) (read : ℕ) (now : AMoment)
+        (r : Recovery) →
+        IsNamedRecovery count r → is_going (taken w b read now r).step ≡ true →
+        IsNamedRecovery count (taken w b read now r).recovery }
+    ensures number { (count : ℕ) (w : World) (b : BookState) (read : ℕ) (now : AMoment)
+        (r : Recovery) →
+        IsNamedRecovery count r → is_going (taken w b read now r).step ≡ true →
+        (taken w b read now r).recovery.core.id ≡ r.core.id }
+{}
+
+/// Each exchange of a turn is allowed in the world to which those before it led, whatever the recovery saw and however
+/// the servers stand: an attachment's coordinate has a place in the log of its new source.
+pub fn recoveries_are_allowed()
+    ensures { (w : World) (b : BookState) (read : ℕ) (now : AMoment) (r : Recovery) →
+        AllAllowed w (taken w b read now r).exchanges }
+{}

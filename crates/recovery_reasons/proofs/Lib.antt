@@ -1,0 +1,5 @@
+pub mod Causing
+pub mod Sights
+pub mod Speaking
+pub mod Coordinates
+pub mod Reasoning

@@ -1,0 +1,97 @@
+-- An operation reads no server but the one that it speaks with.
+use Rattle.std.proofs.Common.{◌≡◌, ℕ, ◌+◌, Bool, true, false, cond, List, [], refl, sym, ◌∙◌, ap, Option, Some, None, Ok, Err, Result}
+use Rattle.std.specs.Prelude.{nat_lt}
+use Rattle.std.proofs.lemmas.Bool.{ne_eqb}
+use Rattle.std.proofs.lemmas.Option.{same_Some}
+use Rattle.binlog_coords.specs.declared.Coord.{Coord}
+use Rattle.orch_base.specs.declared.server.Moment.{Moment}
+use Rattle.orch_base.specs.declared.server.ServerNo.{ServerNo}
+use Rattle.server_words.specs.declared.answers.Unreachable.{Unreachable}
+use Rattle.server_words.specs.declared.attach.AttachFault.{AttachFault}
+use Rattle.server_words.specs.declared.changes.Ask.{Ask}
+use Rattle.server_words.specs.declared.changes.Ask.TheVariants as asking
+use Rattle.server_words.specs.declared.status.Status.{Status}
+use Rattle.server_model.specs.Desk.{desk_answer}
+use Rattle.server_model.specs.Gtids.{status}
+use Rattle.server_model.specs.Run.{Exchange}
+use Rattle.server_model.specs.Worlds.{World, server_at}
+use Rattle.commands.specs.declared.cause.Cause.TheVariants as cause
+use Rattle.instance_keeper.specs.declared.observation.Observation.{Observation}
+use Rattle.instance_keeper.specs.Seeing.{seen_in}
+use Rattle.operations.specs.declared.op.Op.{Op}
+use Rattle.operations.specs.Deeds as deed
+use Rattle.operations.specs.Deeds.{Deed}
+use Rattle.operations.specs.Jobs.{Job, seen_of, with_seen}
+use Rattle.operations.specs.Targets.{can_attach}
+use Rattle.operations.specs.Turns as attempt
+use Rattle.operations.specs.Turns.{Attempt, next, saw, observed, is_moved, after_status, after_look, after_ask, aim_of, is_reached, until_by, after_until, after_wait_by, after_wait, holds_seen, settles, crossing_of, same_again, by_set, attach_answer_of, after_answer, after_attach, by_deed}
+use Rattle.job_laws.proofs.Sights.{seen-at}
+use Rattle.recovery_plans.specs.Named.{spoken_to}
+
+-- what was seen of a server stays
+abbrev pub SeesOnly : Job → ℕ → Attempt → Type 0
+SeesOnly j m (attempt.Goes o es k) = seen_of k.seen m ≡ seen_of j.seen m
+SeesOnly j m (attempt.Stops c o) = Unit {0}
+SeesOnly j m (attempt.Ends lines) = Unit {0}
+
+module _ (j : Job) (rest : List Op) (n : ServerNo) (m : ℕ) (apart : m ≡ n.0 → ⊥) where
+  saw-other : (s : Status) → seen_of (with_seen j.seen n s) m ≡ seen_of j.seen m
+  saw-other s = seen-at j.seen n s m ∙ ap (λ (b : Bool). cond b (Some s) (seen_of j.seen m)) (ne_eqb n.0 m (λ same. apart (sym same)))
+
+  look-sees : (from : Option ServerNo) (o : Observation) (r : Option Status) → SeesOnly j m (after_look j rest n from o r)
+  look-sees from o None = tt
+  look-sees from o (Some s) = go (is_moved from s.source)
+    where
+      go : (b : Bool) → SeesOnly j m (after_status j rest n from o s b)
+      go true = tt
+      go false = saw-other s
+
+  ask-sees : (a : Ask) (r : Result (Unit {0}) Unreachable) → SeesOnly j m (after_ask j rest n a r)
+  ask-sees a (Ok t) = refl
+  ask-sees a (Err e) = tt
+
+  until-sees : (w : World) (o : Option Coord) → SeesOnly j m (after_until w j rest n o)
+  until-sees w None = refl
+  until-sees w (Some to) = ask-sees (asking.StartUntil to) (desk_answer (server_at w n.0))
+
+  wait-sees : (reached : Status → Bool) (r : Option Status) → SeesOnly j m (after_wait j rest n reached r)
+  wait-sees reached None = tt
+  wait-sees reached (Some s) = go (reached s)
+    where
+      more : (b : Bool) → SeesOnly j m (cond b (attempt.Goes None [] (record (saw j n s) { waited = j.waited + 1 })) (attempt.Stops (cause.WaitSpent n) None))
+      more true = saw-other s
+      more false = tt
+
+      go : (b : Bool) → SeesOnly j m (after_wait_by j rest n s b)
+      go true = saw-other s
+      go false = more (nat_lt (j.waited + 1) j.wait)
+
+  attach-sees : (w : World) (o : Option Exchange) → SeesOnly j m (after_attach w j rest n o)
+  attach-sees w None = refl
+  attach-sees w (Some e) = by (can_attach w e)
+    where
+      go : (r : Result (Unit {0}) AttachFault) → SeesOnly j m (after_answer j rest n e r)
+      go (Ok t) = refl
+      go (Err f) = tt
+
+      by : (b : Bool) → SeesOnly j m (cond b (after_answer j rest n e (attach_answer_of w e)) (attempt.Goes None [] (next j rest)))
+      by true = go (attach_answer_of w e)
+      by false = refl
+
+pub deed-sees : (w : World) (read : ℕ) (now : Moment) (j : Job) (rest : List Op) (d : Deed) (n : ServerNo) (m : ℕ) → spoken_to d ≡ Some n → (m ≡ n.0 → ⊥) → SeesOnly j m (by_deed w read now j rest d)
+deed-sees w read now j rest d n m on apart = go d on
+  where
+    off : (k : ServerNo) → Some k ≡ Some n → m ≡ k.0 → ⊥
+    off k e same = apart (same ∙ ap (λ (x : ServerNo). x.0) (same_Some k n e))
+
+    go : (x : Deed) → spoken_to x ≡ Some n → SeesOnly j m (by_deed w read now j rest x)
+    go (deed.Look k from) e = look-sees j rest k m (off k e) from (observed w read now k) (seen_in (status w k.0))
+    go (deed.Request k a) e = ask-sees j rest k m (off k e) a (desk_answer (server_at w k.0))
+    go (deed.Until k to) e = until-sees j rest k m (off k e) w (until_by (seen_of j.seen k.0) (aim_of j.seen to))
+    go (deed.Await k to) e = wait-sees j rest k m (off k e) (λ s. is_reached (aim_of j.seen to) s.exec) (seen_in (status w k.0))
+    go (deed.AwaitSet k i) e = wait-sees j rest k m (off k e) (holds_seen (seen_of j.seen i.0)) (seen_in (status w k.0))
+    go (deed.Settle k) e = wait-sees j rest k m (off k e) (settles j) (seen_in (status w k.0))
+    go (deed.Cross c a b) e = attach-sees j rest a m (off a e) w (crossing_of j.seen c a b)
+    go (deed.Same k) e = attach-sees j rest k m (off k e) w (same_again k (seen_of j.seen k.0))
+    go (deed.Auto k i) e = attach-sees j rest k m (off k e) w (by_set k i (seen_of j.seen i.0))
+    go (deed.Finish lines) e = tt

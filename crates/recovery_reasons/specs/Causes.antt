@@ -1,0 +1,36 @@
+-- What a job's cause says of the world in which an operation stopped it.
+use Rattle.std.specs.Prelude.{◌≡◌, ℕ, true, false, ◌||◌, List, Some, Err}
+use Rattle.orch_base.specs.declared.server.ServerNo.{ServerNo}
+use Rattle.gtid_sets.specs.declared.interval.Interval.{Interval}
+use Rattle.server_words.specs.declared.attach.AttachFault.TheVariants as attaching
+use Rattle.server_words.specs.declared.status.Status.{Status}
+use Rattle.instance_keeper.specs.Seeing.{seen_in}
+use Rattle.server_model.specs.declared.server.Server.{Server}
+use Rattle.server_model.specs.Attach.{live_spot, same_spot}
+use Rattle.server_model.specs.Desk.{desk_answer}
+use Rattle.server_model.specs.Gtids.{status, attach_auto_answer}
+use Rattle.server_model.specs.Worlds.{World, server_at}
+use Rattle.commands.specs.declared.cause.Cause.{Cause}
+use Rattle.commands.specs.declared.cause.Cause.TheVariants as cause
+
+abbrev pub IsUnreached : World → ℕ → Type 0
+IsUnreached w n = desk_answer (server_at w n) ≡ Err (record {})
+
+-- the server is there, and a thread of it is on
+pub record IsRunning (w : World) (n : ℕ) : Type 0 where
+  pub server : Server
+  pub there : server_at w n ≡ Some server
+  pub running : (server.receiver || server.applier) ≡ true
+
+-- what the cause of an operation that spoke with server n says
+abbrev pub IsTrueOf : World → ServerNo → Cause → Type 0
+IsTrueOf w n (cause.Unreachable m) = (m ≡ n) × IsUnreached w n.0
+IsTrueOf w n (cause.WaitSpent m) = (m ≡ n) × ((s : Status) × (seen_in (status w n.0) ≡ Some s))
+IsTrueOf w n (cause.Interfered m expected found) =
+    (m ≡ n) × ((s : Server) × (server_at w n.0 ≡ Some s) × (found ≡ live_spot s expected) × (same_spot expected (live_spot s expected) ≡ false))
+IsTrueOf w n (cause.Running m) = (m ≡ n) × IsRunning w n.0
+IsTrueOf w n (cause.Loop m) = m ≡ n
+IsTrueOf w n (cause.Errant m set) = (m ≡ n) × ((observed : List Interval) × (to : ServerNo) × (attach_auto_answer w n.0 observed to.0 (server_at w n.0) ≡ Err (attaching.Errant set)))
+IsTrueOf w n (cause.Moved m source) = (m ≡ n) × ((s : Status) × (seen_in (status w n.0) ≡ Some s) × (s.source ≡ source))
+IsTrueOf w n (cause.Reachable m) = ⊥
+IsTrueOf w n cause.NoCandidate = ⊥

@@ -1,0 +1,4 @@
+pub mod Chosen
+pub mod Lists
+pub mod Sights
+pub mod Turned

@@ -1,0 +1,129 @@
+-- What a look at a recovery's job tells of the recovery.
+use Rattle.std.proofs.Common.{◌≡◌, ℕ, ◌<◌, Bool, true, false, cond, List, [], ◌∷◌, length, Option, Some, None, IfSome, refl, sym, ◌∙◌, ap, subst}
+use Rattle.std.specs.Prelude.{Result, Ok, Err, IfOk}
+use Rattle.std.specs.List.{All}
+use Rattle.std.proofs.lemmas.Bool.{lt-ltb}
+use Rattle.std.proofs.lemmas.List.Elements.{All-head, All-tail}
+use Rattle.orch_base.specs.declared.server.Moment.{Moment}
+use Rattle.commands.specs.declared.cause.Cause.{Cause}
+use Rattle.server_model.specs.Worlds.{World}
+use Rattle.operations.specs.declared.op.Op.{Op}
+use Rattle.operations.specs.Deeds as deed
+use Rattle.operations.specs.Deeds.{Deed, deed_of}
+use Rattle.operations.specs.Named.{is_named, are_named, IsNamed}
+use Rattle.operations.specs.Turns as attempt
+use Rattle.operations.specs.Turns.{Attempt, by_deed, by_ops, turned}
+use Rattle.operations.proofs.Tests.{both}
+use Rattle.job_plans.specs.declared.act.Look.{Look}
+use Rattle.job_plans.specs.Acts.{foretold}
+use Rattle.instance_keeper.specs.Book.{BookState}
+use Rattle.server_model.specs.Run.{AllAllowed}
+use Rattle.operations.specs.Changes.{server_of}
+use Rattle.recovery_plans.specs.declared.task.Task.{Task}
+use Rattle.recovery_plans.specs.Deciding.{decided, once}
+use Rattle.recovery_plans.specs.Named.{IsNamedRecovery, IsOpOf, IsTaskOf, spoken_to}
+use Rattle.recovery_plans.specs.Recoveries.{Recovery}
+use Rattle.recovery_plans.specs.Stages.{ends, moved}
+use Rattle.recovery_plans.specs.Taking.{acted, at_end, attempted, barred_by, entered, goes_on, is_waiting, on_going, progressed, settled, taken, Taken}
+use Rattle.recovery_plans.proofs.Allowed.{taken-allowed}
+use Rattle.recovery_plans.proofs.Naming.{decided-of, once-of, renumbered, taken-of}
+use Rattle.recovery_turns.specs.declared.look.RecoveryLook.{RecoveryLook}
+use Rattle.recovery_turns.specs.Looks.{CanTake, IsSpare, foretold as look_told}
+use Rattle.recovery_turns.specs.Steps.{progressed_by, stepped_by}
+use Rattle.recovery_turns.specs.Turnings.{going_unless, looked_by, turned_by}
+
+progress-is : (r : Recovery) (o : Op) (b : Bool) → progressed_by r (ends r.stage (deed_of o)) b ≡ progressed r o b
+progress-is r o true = refl
+progress-is r o false = go (ends r.stage (deed_of o))
+  where
+    go : (e : Bool) → at_end (stepped_by r e) (stepped_by r e).core.ops ≡ at_end (cond e (entered r (moved r.stage)) r) (cond e (entered r (moved r.stage)) r).core.ops
+    go true = refl
+    go false = refl
+
+attempt-is : (w : World) (r : Recovery) (o : Op) (a : Attempt) → turned_by w r (ends r.stage (deed_of o)) (attempt.settled r.core a) ≡ attempted w r o a
+attempt-is w r o (attempt.Goes ob es j) = go (barred_by r.stage r.failed j.seen)
+  where
+    go : (c : Option Cause) → going_unless w r (ends r.stage (deed_of o)) ob es j c ≡ on_going w r o ob es j c
+    go None = ap (goes_on ob es) (progress-is (record r { core = j }) o (is_waiting j))
+    go (Some c) = refl
+attempt-is w r o (attempt.Stops c ob) = refl
+attempt-is w r o (attempt.Ends lines) = refl
+
+-- what the look tells of an operation that is due is what the turn makes of it
+pub look-is : (w : World) (read : ℕ) (now : Moment) (r : Recovery) (o : Op) (rest : List Op) (l : Look) → r.core.ops ≡ o ∷ rest → foretold r.core l ≡ turned w read now r.core
+    → looked_by w r (ends r.stage (deed_of o)) l ≡ settled w read now r
+look-is w read now r o rest l due told =
+    ap (turned_by w r (ends r.stage (deed_of o))) (told ∙ ap (λ (ops : List Op). attempt.settled r.core (by_ops w read now r.core ops)) due)
+    ∙ attempt-is w r o (by_deed w read now r.core rest (deed_of o))
+    ∙ sym (ap (acted w read now r) due)
+
+-- ---- names
+
+deed-named : (count : ℕ) (d : Deed) → IfSome (spoken_to d) (λ n. n.0 < count) → is_named count d ≡ true
+deed-named count (deed.Look n from) h = lt-ltb n.0 count h
+deed-named count (deed.Request n a) h = lt-ltb n.0 count h
+deed-named count (deed.Until n to) h = lt-ltb n.0 count h
+deed-named count (deed.Await n to) h = lt-ltb n.0 count h
+deed-named count (deed.AwaitSet n m) h = lt-ltb n.0 count h
+deed-named count (deed.Settle n) h = lt-ltb n.0 count h
+deed-named count (deed.Cross c a b) h = lt-ltb a.0 count h
+deed-named count (deed.Same n) h = lt-ltb n.0 count h
+deed-named count (deed.Auto n m) h = lt-ltb n.0 count h
+deed-named count (deed.Finish lines) h = refl
+
+ops-named : (count : ℕ) (ops : List Op) → All (IsOpOf (λ n. n < count) (λ n. n < count)) ops → are_named count ops ≡ true
+ops-named count [] h = refl
+ops-named count (o ∷ ops) h =
+    both (is_named count (deed_of o)) (are_named count ops) (deed-named count (deed_of o) (All-head (IsOpOf (λ n. n < count) (λ n. n < count)) o ops h).1)
+    (ops-named count ops (All-tail (IsOpOf (λ n. n < count) (λ n. n < count)) o ops h))
+
+-- a named recovery's job names servers that are there
+pub job-named : (count : ℕ) (r : Recovery) → IsNamedRecovery count r → IsNamed count r.core
+job-named count r has = record { ops = ops-named count r.core.ops has.ops; hands = has.hands }
+
+-- ---- recoveries of one number
+
+-- a recovery that is the same, of as many servers
+pub same-named : (m n : ℕ) (r s : Recovery) → s ≡ r → m ≡ n → IsNamedRecovery m r → IsNamedRecovery n s
+same-named m n r s same count has = subst (λ (k : ℕ). IsNamedRecovery k s) count (subst (λ (x : Recovery). IsNamedRecovery m x) (sym same) has)
+
+pub once-named : (n : ℕ) (w : World) (b : BookState) (now : Moment) (r s : Recovery) → s ≡ once w b now r → IsNamedRecovery n r → IsNamedRecovery n s
+once-named n w b now r s same has =
+    subst (λ (x : Recovery). IsNamedRecovery n x) (sym same)
+    (renumbered (λ k. k < n) (λ k. k < n) r.core.id (once w b now r) (once-of (λ k. k < n) (λ k. k < n) r.core.id (λ k h. h) w b now r has))
+
+pub decided-named : (n : ℕ) (w : World) (b : BookState) (now : Moment) (r s : Recovery) → s ≡ decided w b now r → IsNamedRecovery n r → IsNamedRecovery n s
+decided-named n w b now r s same has =
+    subst (λ (x : Recovery). IsNamedRecovery n x) (sym same)
+    (renumbered (λ k. k < n) (λ k. k < n) r.core.id (decided w b now r) (decided-of (λ k. k < n) (λ k. k < n) r.core.id (λ k h. h) w b now r has))
+
+-- without the task that begins
+pub begun-named : (n : ℕ) (r s : Recovery) (t : Task) (ts : List Task) → r.queue ≡ t ∷ ts → s ≡ record r { queue = ts } → IsNamedRecovery n r → IsNamedRecovery n s
+begun-named n r s t ts queue same has = subst (λ (x : Recovery). IsNamedRecovery n x) (sym same) (record {
+  number = has.number;
+  ops = has.ops;
+  hands = has.hands;
+  stage = has.stage;
+  queue = All-tail (IsTaskOf (λ k. k < n) (λ k. k < n) r.failed) t ts (subst (All (IsTaskOf (λ k. k < n) (λ k. k < n) r.failed)) queue has.queue);
+  failed = has.failed;
+  replicas = has.replicas;
+  drained = has.drained;
+  sources = has.sources;
+  lead = has.lead;
+  followers = has.followers;
+})
+
+-- a turn that was looked up may be taken
+pub can-take : (w : World) (b : BookState) (read : ℕ) (now : Moment) (r : Recovery) (l : RecoveryLook) → look_told l ≡ taken w b read now r → IsNamedRecovery (length w.servers) r → IsSpare l → CanTake w l
+can-take w b read now r l told named spare = record {
+  servers =
+      subst (λ (t : Taken). All (λ e. server_of e < length w.servers) t.exchanges) (sym told)
+      (taken-of (λ n. n < length w.servers) (λ n. n < length w.servers) r.core.id (λ n h. h) w b read now r named).exchanges;
+  allowed = subst (λ (t : Taken). AllAllowed w t.exchanges) (sym told) (taken-allowed w b read now r);
+  spare = spare;
+}
+
+-- what follows of a value from two facts of it
+pub both-ok : {X Y : Type 0} (r : Result X Y) (P Q R : X → Type 0) → ((x : X) → P x → Q x → R x) → IfOk r P → IfOk r Q → IfOk r R
+both-ok (Ok x) P Q R f p q = f x p q
+both-ok (Err e) P Q R f p q = q
