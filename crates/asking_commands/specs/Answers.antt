@@ -1,13 +1,14 @@
--- What a command that only asks the book answers.
+-- What a command that only asks the book or the audit answers.
 use Rattle.std.specs.Prelude.{Bool, true, false, List, [], Option, Some, None, Result, Ok, Err}
 use Rattle.orch_base.specs.declared.server.ServerNo.{ServerNo}
 use Rattle.instance_keeper.specs.Book.{BookState}
+use Rattle.instance_keeper.specs.declared.recovery.Recovery.{Recovery}
 use Rattle.commands.specs.declared.line.Line.{Line}
 use Rattle.commands.specs.declared.name.CommandName.{CommandName}
 use Rattle.command_routes.specs.declared.route.Question.{Question}
-use Rattle.command_routes.specs.declared.route.Question.TheVariants.{AllInstances, Clusters, Find, Topology, WhichCluster, WhichClusterInstances, WhichMaster, WhichReplicas}
+use Rattle.command_routes.specs.declared.route.Question.TheVariants.{AllInstances, Analysis, Clusters, Find, Recoveries, Switch, Topology, WhichCluster, WhichClusterInstances, WhichMaster, WhichReplicas}
 use Rattle.command_routes.specs.declared.route.Route.{Route}
-use Rattle.command_routes.specs.declared.route.Route.TheVariants.{Discovers, Forgets, Asks, Begins, Unbuilt}
+use Rattle.command_routes.specs.declared.route.Route.TheVariants.{Discovers, Forgets, Asks, Decides, Begins, Unbuilt}
 use Rattle.command_routes.specs.Routes.{route_of}
 use Rattle.commands.specs.declared.refusal.Refusal.{Refusal}
 use Rattle.commands.specs.declared.turn.Command.{Command}
@@ -17,7 +18,9 @@ use Rattle.commands.specs.Unknown.{unknown_of}
 use Rattle.asking_commands.specs.declared.answers.AnswerFault.{AnswerFault}
 use Rattle.asking_commands.specs.declared.answers.AnswerFault.TheVariants as fault
 use Rattle.book_views.specs.Sources.{is_instance}
-use Rattle.asking_commands.specs.Asking.{all_instances, cluster_instances, cluster_of, found, master_of, replica_lines}
+use Rattle.asking_commands.specs.Asking.{all_instances, cluster_instances, cluster_of, found, master_of, replica_lines, switch_of}
+use Rattle.asking_commands.specs.Analysis.{analysis_lines}
+use Rattle.audit_lines.specs.Lines.{recovery_lines}
 use Rattle.asking_commands.specs.Labels.{clusters_of}
 use Rattle.asking_commands.specs.Trees.{topology_of}
 
@@ -25,6 +28,7 @@ abbrev pub is_question : Route → Bool
 is_question Discovers = false
 is_question Forgets = false
 is_question (Asks question) = true
+is_question (Decides decision) = false
 is_question (Begins planner) = false
 is_question Unbuilt = false
 
@@ -58,33 +62,38 @@ abbrev pub about : (ServerNo → List Line) → Option ServerNo → List Line
 about lines None = []
 about lines (Some i) = lines i
 
-abbrev pub answer_to : BookState → CommandTurn → Question → List Line
-answer_to b t Topology = about (topology_of b) t.command.i
-answer_to b t WhichMaster = about (master_of b) t.command.i
-answer_to b t WhichReplicas = about (replica_lines b) t.command.i
-answer_to b t WhichCluster = about (cluster_of b) t.command.i
-answer_to b t WhichClusterInstances = about (cluster_instances b) t.command.i
-answer_to b t Clusters = clusters_of b
-answer_to b t AllInstances = all_instances b
-answer_to b t Find = found b (answers_of t.keys.pattern)
+abbrev pub answer_to : BookState → List Recovery → CommandTurn → Question → List Line
+answer_to b rs t Topology = about (topology_of b) t.command.i
+answer_to b rs t WhichMaster = about (master_of b) t.command.i
+answer_to b rs t WhichReplicas = about (replica_lines b) t.command.i
+answer_to b rs t WhichCluster = about (cluster_of b) t.command.i
+answer_to b rs t WhichClusterInstances = about (cluster_instances b) t.command.i
+answer_to b rs t Clusters = clusters_of b
+answer_to b rs t AllInstances = all_instances b
+answer_to b rs t Find = found b (answers_of t.keys.pattern)
+answer_to b rs t Analysis = analysis_lines b
+answer_to b rs t Recoveries = recovery_lines rs
+answer_to b rs t Switch = switch_of b
 
 -- a question is answered; what does anything else has no lines here
-abbrev pub lines_by : BookState → CommandTurn → Route → List Line
-lines_by b t (Asks question) = answer_to b t question
-lines_by b t Discovers = []
-lines_by b t Forgets = []
-lines_by b t (Begins planner) = []
-lines_by b t Unbuilt = []
+abbrev pub lines_by : BookState → List Recovery → CommandTurn → Route → List Line
+lines_by b rs t (Asks question) = answer_to b rs t question
+lines_by b rs t Discovers = []
+lines_by b rs t Forgets = []
+lines_by b rs t (Decides decision) = []
+lines_by b rs t (Begins planner) = []
+lines_by b rs t Unbuilt = []
 
-abbrev pub lines_of : BookState → CommandTurn → CommandName → List Line
-lines_of b t name = lines_by b t (route_of name)
+-- the lines of a command, by the book and the audit's recoveries
+abbrev pub lines_of : BookState → List Recovery → CommandTurn → CommandName → List Line
+lines_of b rs t name = lines_by b rs t (route_of name)
 
 abbrev pub unless_refused : Result Unit Refusal → List Line → Result (List Line) AnswerFault
 unless_refused (Err refusal) lines = Err (fault.Refused refusal)
 unless_refused (Ok permit) lines = Ok lines
 
-unfoldable pub answer_of : BookState → CommandTurn → Result (List Line) AnswerFault
-answer_of b t = unless_refused (permitted b t.command) (lines_of b t t.command.name)
+unfoldable pub answer_of : BookState → List Recovery → CommandTurn → Result (List Line) AnswerFault
+answer_of b rs t = unless_refused (permitted b t.command) (lines_of b rs t t.command.name)
 
 -- the fault of an answer, and nothing at want of memory
 abbrev pub answer_fault : AnswerFault → Option AnswerFault

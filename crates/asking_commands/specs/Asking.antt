@@ -1,5 +1,5 @@
 -- What a book tells of its instances.
-use Rattle.std.specs.Prelude.{ℕ, Bool, false, ◌&&◌, List, [], ◌∷◌, map, filter, slice_get, slice_index_or, nat_eq, Option, Some, None}
+use Rattle.std.specs.Prelude.{ℕ, Bool, false, true, ◌&&◌, List, [], ◌∷◌, map, filter, slice_get, slice_index_or, nat_eq, Option, Some, None, unwrap_or, if◌then◌else◌}
 use Rattle.std.specs.Cmp.Lexicographic.{pointwise}
 use Rattle.orch_base.specs.declared.server.ServerNo.{ServerNo}
 use Rattle.orch_base.specs.declared.server.Settings.{Settings}
@@ -55,3 +55,12 @@ cluster_of b i = line.Cluster (label_at b i) ∷ []
 
 abbrev pub cluster_instances : BookState → ServerNo → List Line
 cluster_instances b i = listed b (is_of_cluster b (label_at b i))
+
+-- ---- the switch
+
+abbrev pub switch_line : Bool → Line
+switch_line enabled = if enabled then line.Enabled else line.Disabled
+
+-- whether recoveries are enabled, as they are without a row
+abbrev pub switch_of : BookState → List Line
+switch_of b = switch_line (unwrap_or b.switch true) ∷ []

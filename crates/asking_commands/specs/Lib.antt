@@ -1,4 +1,5 @@
 pub mod Asking
 pub mod Labels
 pub mod Trees
+pub mod Analysis
 pub mod Answers

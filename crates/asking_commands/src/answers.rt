@@ -6,15 +6,18 @@ ghost use Rattle.commands.specs.Turns.{is_within};
 ghost use Rattle.asking_commands.specs.Answers.{answer_fault, answer_of, answer_to, answers_of, asks, is_known, lines_of, permitted};
 
 use crate::Memory;
+use crate::analysis::replication_analysis;
 use crate::labels::clusters;
 use crate::listing::{
-    all_instances, find, which_cluster, which_cluster_instances, which_master, which_replicas,
+    all_instances, find, global_switch, which_cluster, which_cluster_instances, which_master,
+    which_replicas,
 };
 use crate::trees::topology;
+use audit_lines::recovery_lines;
 use book_views::is_instance;
 use command_routes::{Question, Route};
 use commands::{Command, CommandName, CommandTurn, Found, Lines, Refusal, unknown_instance};
-use instance_keeper::Book;
+use instance_keeper::{Book, Recovery};
 use orch_base::ServerNo;
 use std::alloc::Global;
 
@@ -37,13 +40,14 @@ impl From<Memory> for AnswerFault {
     }
 }
 
-/// Whether a command only asks the book.
+/// Whether a command only asks the book or the audit.
 pub fn asks(name: CommandName) -> bool
     ensures { result ≡ asks name }
 {
     match Route::of(name) {
         Route::Asks(_) => true,
-        Route::Discovers | Route::Forgets | Route::Begins(_) | Route::Unbuilt => false,
+        Route::Discovers | Route::Forgets | Route::Decides(_) | Route::Begins(_) | Route::Unbuilt =>
+            false,
     }
 }
 
@@ -86,16 +90,20 @@ fn answers_of(pattern: &Option<Found>) -> &[bool]
 fn answer_to(
     alloc: Global,
     book: &Book,
+    recoveries: &[Recovery],
     turn: &CommandTurn,
     question: Question,
 ) -> Result<Lines, Memory>
     requires { IsTrue (is_within (length book.now.names) turn.now.command.i) }
-    ensures { IfOk result (λ lines. lines ≡ answer_to book.now turn.now question) }
+    ensures { IfOk result (λ lines. lines ≡ answer_to book.now recoveries.now turn.now question) }
 {
     match (question, turn.command.i) {
         (Question::Clusters, _) => clusters(alloc, book),
         (Question::AllInstances, _) => all_instances(alloc, book),
         (Question::Find, _) => find(alloc, book, answers_of(&turn.keys.pattern)),
+        (Question::Analysis, _) => replication_analysis(alloc, book),
+        (Question::Recoveries, _) => recovery_lines(alloc, recoveries),
+        (Question::Switch, _) => global_switch(alloc, book),
         (Question::Topology, Some(i)) => topology(alloc, book, i),
         (Question::WhichMaster, Some(i)) => which_master(alloc, book, i),
         (Question::WhichReplicas, Some(i)) => which_replicas(alloc, book, i),
@@ -112,28 +120,37 @@ fn answer_to(
     }
 }
 
-fn lines_of(alloc: Global, book: &Book, turn: &CommandTurn) -> Result<Lines, Memory>
+fn lines_of(
+    alloc: Global,
+    book: &Book,
+    recoveries: &[Recovery],
+    turn: &CommandTurn,
+) -> Result<Lines, Memory>
     requires { IsTrue (is_within (length book.now.names) turn.now.command.i) }
-    ensures { IfOk result (λ lines. lines ≡ lines_of book.now turn.now turn.now.command.name) }
+    ensures { IfOk result (λ lines. lines ≡ lines_of book.now recoveries.now turn.now turn.now.command.name) }
 {
     match Route::of(turn.command.name) {
-        Route::Asks(question) => answer_to(alloc, book, turn, question),
-        Route::Discovers | Route::Forgets | Route::Begins(_) | Route::Unbuilt => {
-            Ok(Lines::new(Vec::new(alloc)))
-        }
+        Route::Asks(question) => answer_to(alloc, book, recoveries, turn, question),
+        Route::Discovers | Route::Forgets | Route::Decides(_) | Route::Begins(_) | Route::Unbuilt =>
+            Ok(Lines::new(Vec::new(alloc))),
     }
 }
 
-/// The lines of a command that only asks the book, or `UnknownInstance` exactly where it uses an instance or a
-/// destination that the book hasn't. Any other command has no lines here.
+/// The lines of a command that only asks the book or the audit's recoveries, or `UnknownInstance` exactly where it uses an
+/// instance or a destination that the book hasn't. Any other command has no lines here.
 #[tactic(auto, unfolding(crate::specs::Answers::answer_of))]
-pub fn answer(alloc: Global, book: &Book, turn: &CommandTurn) -> Result<Lines, AnswerFault>
+pub fn answer(
+    alloc: Global,
+    book: &Book,
+    recoveries: &[Recovery],
+    turn: &CommandTurn,
+) -> Result<Lines, AnswerFault>
     requires i { IsTrue (is_within (length book.now.names) turn.now.command.i) }
     requires d { IsTrue (is_within (length book.now.names) turn.now.command.d) }
-    ensures { Gives (λ lines. lines) answer_fault result (answer_of book.now turn.now) }
+    ensures { Gives (λ lines. lines) answer_fault result (answer_of book.now recoveries.now turn.now) }
 {
     match permit(book, turn.command) {
-        Ok(()) => Ok(lines_of(alloc, book, turn)?),
+        Ok(()) => Ok(lines_of(alloc, book, recoveries, turn)?),
         Err(refusal) => Err(AnswerFault::Refused(refusal)),
     }
 }

@@ -1,16 +1,19 @@
-//! What the commands that only ask the book answer.
+//! What the commands that only ask the book or the audit answer.
 #![tactic(auto)]
 
+mod analysis;
 mod answers;
 mod labels;
 mod listing;
 mod threads;
 mod trees;
 
+pub use analysis::replication_analysis;
 pub use answers::{AnswerFault, answer, asks, permit};
 pub use labels::clusters;
 pub use listing::{
-    all_instances, find, which_cluster, which_cluster_instances, which_master, which_replicas,
+    all_instances, find, global_switch, switch_line, which_cluster, which_cluster_instances,
+    which_master, which_replicas,
 };
 /// Want of memory.
 pub use orch_base::Memory;

@@ -2,7 +2,7 @@
 
 ghost use Rattle.std.specs.Prelude.{◌≡◌, ◌<◌, ◌&&◌, IfOk, length, slice_index_or, false};
 ghost use Rattle.book_views.specs.Sources.{is_instance};
-ghost use Rattle.asking_commands.specs.Asking.{all_instances, cluster_instances, cluster_of, found, is_of_cluster, label_at, master_of, replica_lines, source_line};
+ghost use Rattle.asking_commands.specs.Asking.{all_instances, cluster_instances, cluster_of, found, is_of_cluster, label_at, master_of, replica_lines, source_line, switch_line, switch_of};
 
 use crate::Memory;
 use book_views::{is_instance, replicas, seen_source};
@@ -118,4 +118,24 @@ pub fn which_cluster_instances(alloc: Global, book: &Book, i: ServerNo) -> Resul
         }
     }
     Ok(Lines::new(lines))
+}
+
+/// Whether recoveries are enabled.
+pub fn global_switch(alloc: Global, book: &Book) -> Result<Lines, Memory>
+    ensures { IfOk result (λ lines. lines ≡ switch_of book.now) }
+{
+    let mut lines = Vec::new(alloc);
+    lines.push(switch_line(book.enabled()))?;
+    Ok(Lines::new(lines))
+}
+
+/// The word for whether recoveries are enabled.
+pub fn switch_line(enabled: bool) -> Line
+    ensures { result ≡ switch_line enabled }
+{
+    if enabled {
+        Line::Enabled
+    } else {
+        Line::Disabled
+    }
 }

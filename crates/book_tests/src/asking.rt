@@ -1,4 +1,4 @@
-//! What the commands that ask the book answer, by the servers' names.
+//! What the commands that ask the book or the audit answer, by the servers' names.
 
 use asking_commands::{AnswerFault, answer, asks};
 use binlog_coords::Coord;
@@ -14,17 +14,17 @@ use std::test::*;
 
 // A server, and how it was last seen where the book has it.
 #[derive(Clone, Copy)]
-struct Server<'a> {
-    name: &'a str,
-    cluster: &'a str,
-    known: bool,
-    valid: bool,
-    source: SourceState,
-    io: IoState,
-    read_only: bool,
+pub(crate) struct Server<'a> {
+    pub(crate) name: &'a str,
+    pub(crate) cluster: &'a str,
+    pub(crate) known: bool,
+    pub(crate) valid: bool,
+    pub(crate) source: SourceState,
+    pub(crate) io: IoState,
+    pub(crate) read_only: bool,
 }
 
-const MASTER: Server<'static> = Server {
+pub(crate) const MASTER: Server<'static> = Server {
     name: "m",
     cluster: "m:3306",
     known: true,
@@ -34,7 +34,7 @@ const MASTER: Server<'static> = Server {
     read_only: false,
 };
 
-fn replica(name: &str, source: u32) -> Server<'_> {
+pub(crate) fn replica(name: &str, source: u32) -> Server<'_> {
     Server {
         name,
         source: SourceState::Attached(ServerNo(source)),
@@ -100,6 +100,7 @@ fn print_name(rt: &impl Abort, book: &Book, no: ServerNo, out: &mut Vec<u8>) -> 
 }
 
 fn print_line(rt: &impl Abort, book: &Book, line: &Line, out: &mut Vec<u8>) -> Result<(), Fail> {
+    let alloc = *out.allocator();
     match line {
         Line::Server(no) => print_name(rt, book, *no, out)?,
         Line::NoMaster => out.extend_from_slice("none".as_bytes())?,
@@ -121,17 +122,42 @@ fn print_line(rt: &impl Abort, book: &Book, line: &Line, out: &mut Vec<u8>) -> R
             let access = if *read_only { " ro" } else { " rw" };
             out.extend_from_slice(access.as_bytes())?;
         }
+        Line::Analysis {
+            no,
+            code,
+            replicas,
+            valid,
+            replicating,
+            lagging,
+        } => {
+            print_name(rt, book, *no, out)?;
+            let text = format!(in alloc; " {code:?} {replicas} {valid} {replicating} {lagging}")?;
+            out.extend_from_slice(text.as_bytes())?;
+        }
+        Line::Downtime(no, until) => {
+            print_name(rt, book, *no, out)?;
+            let text = format!(in alloc; " until {}", until.0)?;
+            out.extend_from_slice(text.as_bytes())?;
+        }
+        Line::Candidate { no, rule, until } => {
+            print_name(rt, book, *no, out)?;
+            let text = format!(in alloc; " {rule:?} until {}", until.0)?;
+            out.extend_from_slice(text.as_bytes())?;
+        }
+        Line::Acknowledged(count) => {
+            let text = format!(in alloc; "acknowledged {count}")?;
+            out.extend_from_slice(text.as_bytes())?;
+        }
+        Line::Enabled => out.extend_from_slice("enabled".as_bytes())?,
+        Line::Disabled => out.extend_from_slice("disabled".as_bytes())?,
+        Line::Recovery(r) => {
+            let text = format!(in alloc; "{} {} {:?}", r.id, r.cluster.as_str(), r.outcome)?;
+            out.extend_from_slice(text.as_bytes())?;
+        }
         Line::Follows(_, _)
         | Line::Promoted(_)
         | Line::Successor(_)
         | Line::Lost { .. }
-        | Line::Analysis { .. }
-        | Line::Downtime(_, _)
-        | Line::Candidate { .. }
-        | Line::Acknowledged(_)
-        | Line::Enabled
-        | Line::Disabled
-        | Line::Recovery(_)
         | Line::Begun { .. }
         | Line::Refused { .. } => out.extend_from_slice("another line".as_bytes())?,
     }
@@ -139,7 +165,13 @@ fn print_line(rt: &impl Abort, book: &Book, line: &Line, out: &mut Vec<u8>) -> R
     Ok(())
 }
 
-fn print_lines(rt: &impl Abort, book: &Book, lines: &Lines, out: &mut Vec<u8>) -> Result<(), Fail> {
+// Each line with `;` behind it.
+pub(crate) fn print_lines(
+    rt: &impl Abort,
+    book: &Book,
+    lines: &Lines,
+    out: &mut Vec<u8>,
+) -> Result<(), Fail> {
     for line in lines.as_slice() {
         print_line(rt, book, line, out)?;
     }
@@ -177,13 +209,12 @@ fn turn(
     })
 }
 
-// Asks of the servers' book and asserts the lines, each with `;` behind it; a refusal is `refused`.
-fn assert_answers(
+// The book of these servers.
+pub(crate) fn book_of(
     rt: &impl Abort,
     alloc: Global,
     servers: &[Server<'_>],
-    asked: &[Ask],
-) -> Result<(), Fail> {
+) -> Result<Book, Fail> {
     let mut all = Vec::new(alloc);
     let mut rows = Vec::new(alloc);
     for (k, server) in servers.iter().enumerate() {
@@ -194,7 +225,17 @@ fn assert_answers(
         }
     }
     assert!(rt; all.len() <= 120);
-    let book = Book::make(alloc, &all, &rows)?;
+    Ok(Book::make(alloc, &all, &rows)?)
+}
+
+// Asks of the servers' book and asserts the lines, each with `;` behind it; a refusal is `refused`.
+fn assert_answers(
+    rt: &impl Abort,
+    alloc: Global,
+    servers: &[Server<'_>],
+    asked: &[Ask],
+) -> Result<(), Fail> {
+    let book = book_of(rt, alloc, servers)?;
     for (word, i, want) in asked {
         assert_answer(rt, alloc, &book, (*word, *i, *want))?;
     }
@@ -210,7 +251,7 @@ fn assert_answer(rt: &impl Abort, alloc: Global, book: &Book, asked: Ask) -> Res
     let turn = turn(alloc, name, i, book.servers() as usize)?;
     assert!(rt; turn.fits(book.servers()));
     let mut out = Vec::new(alloc);
-    match answer(alloc, book, &turn) {
+    match answer(alloc, book, &[], &turn) {
         Ok(lines) => print_lines(rt, book, &lines, &mut out)?,
         Err(AnswerFault::Refused(refusal)) => {
             assert!(rt; matches!(refusal, Refusal::UnknownInstance));
@@ -314,6 +355,61 @@ fn several_trees(rt: HostRuntime) -> Result<(), Fail> {
         ("find", None, "a:3306;c:3306;m:3306;"),
     ];
     assert_answers(&rt, rt.alloc(), &servers, &asked)
+}
+
+// A dead master, of whose replicas one is detached and one isn't reached; below the other a server that replicates.
+#[test]
+fn problems_are_told_in_name_order(rt: HostRuntime) -> Result<(), Fail> {
+    let dead = Server {
+        valid: false,
+        ..MASTER
+    };
+    let lost = Server {
+        valid: false,
+        ..replica("b", 0)
+    };
+    let stopped = Server {
+        io: IoState::Connecting,
+        ..replica("a", 0)
+    };
+    let detached = Server {
+        source: SourceState::Detached(ServerNo(0)),
+        ..replica("c", 0)
+    };
+    let unknown = Server {
+        known: false,
+        ..replica("d", 0)
+    };
+    let servers = [dead, lost, stopped, detached, unknown, replica("e", 2)];
+    let asked = [
+        (
+            "replication-analysis",
+            None,
+            "m:3306 DeadMasterAndSomeReplicas 2 1 0 0;",
+        ),
+        ("audit-recoveries", None, ""),
+        ("check-global-recoveries", None, "enabled;"),
+    ];
+    assert_answers(&rt, rt.alloc(), &servers, &asked)?;
+    // Of an intermediate master that replicates, the replica's receiver isn't connected.
+    let below = Server {
+        io: IoState::Connecting,
+        ..replica("e", 1)
+    };
+    let asked = [(
+        "replication-analysis",
+        Some(3),
+        "a:3306 AllIntermediateMasterReplicasNotReplicating 1 1 0 0;m:3306 UnreachableMaster 1 1 1 0;",
+    )];
+    let servers = [dead, replica("a", 0), below, unknown];
+    assert_answers(&rt, rt.alloc(), &servers, &asked)?;
+    let healthy = [MASTER, replica("a", 0)];
+    assert_answers(
+        &rt,
+        rt.alloc(),
+        &healthy,
+        &[("replication-analysis", None, "")],
+    )
 }
 
 #[test]

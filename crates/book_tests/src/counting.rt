@@ -3,7 +3,7 @@
 use binlog_coords::Coord;
 use gtid_sets::GtidSet;
 use instance_keeper::{Candidate, Downtime, Ending, Instance, Kind, Recovery, Row, Rule, Seen};
-use opening_book::{counted, last_read, latest_moment, loaded_book};
+use opening_book::{counted, last_id, last_read, latest_moment, loaded_book};
 use orch_base::{IoState, Moment, Name, OwnedText, ServerNo, Settings, SourceState, Version};
 use std::alloc::Global;
 use std::test::Fail;
@@ -118,9 +118,27 @@ fn hostile_rows_do_not_count(rt: HostRuntime) -> Result<(), Fail> {
     let alloc = rt.alloc();
     for (number, row) in hostile_rows(alloc)?.into_iter().enumerate() {
         let rows = Vec::from_array(alloc, [row])?;
-        assert!(rt; counted(alloc, 2, rows)?.is_empty(), "row {number}");
+        assert!(rt;
+            counted(alloc, 2, MOST_ID, rows)?.is_empty(),
+            "row {number}"
+        );
     }
-    assert!(rt; counted(alloc, 0, good_rows(alloc)?)?.len() == 1);
+    assert!(rt; counted(alloc, 0, MOST_ID, good_rows(alloc)?)?.len() == 1);
+    Ok(())
+}
+
+// The next id is behind each that is in range, and at a restart the ids that were given count.
+#[test]
+fn given_ids_count(rt: HostRuntime) -> Result<(), Fail> {
+    let alloc = rt.alloc();
+    let mut rows = Vec::new(alloc);
+    for id in [MOST_ID + 7, 9, 8, 0] {
+        rows.push(recovery(alloc, id, 0, None, Ending::Unended)?)?;
+    }
+    assert_eq!(rt; last_id(&rows), 9);
+    let given = counted(alloc, 2, 8, rows)?;
+    assert_eq!(rt; given.len(), 1);
+    assert!(rt; stands(&given, 0, &recovery(alloc, 8, 0, None, Ending::Unended)?));
     Ok(())
 }
 
@@ -135,7 +153,7 @@ fn stands(rows: &[Row], place: usize, row: &Row) -> bool {
 #[test]
 fn counted_rows_stand_in_order(rt: HostRuntime) -> Result<(), Fail> {
     let alloc = rt.alloc();
-    let mut rows = counted(alloc, 2, good_rows(alloc)?)?;
+    let mut rows = counted(alloc, 2, MOST_ID, good_rows(alloc)?)?;
     assert_eq!(rt; rows.len(), 7);
     // Of two rows of one server the last stands.
     let last = instance(alloc, 0, SourceState::Detached(ServerNo(1)), MOST, MOST);
@@ -177,7 +195,7 @@ fn book_is_loaded(rt: HostRuntime) -> Result<(), Fail> {
     let mut servers = Vec::new(alloc);
     servers.push(settings(alloc, "m")?)?;
     servers.push(settings(alloc, "r")?)?;
-    let rows = counted(alloc, 2, good_rows(alloc)?)?;
+    let rows = counted(alloc, 2, MOST_ID, good_rows(alloc)?)?;
     let book = loaded_book(alloc, &servers, &rows)?;
     assert_eq!(rt; book.servers(), 2);
     assert!(rt; !book.enabled());

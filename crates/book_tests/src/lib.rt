@@ -1,9 +1,11 @@
-//! Tests of the book: its rows and keepers, the rows that count, and what commands ask of it.
+//! Tests of the book: its rows and keepers, the rows that count, what commands ask of it, and what operators decide.
 #![tactic(auto)]
 
 #[cfg(test)]
 mod asking;
 #[cfg(test)]
 mod counting;
+#[cfg(test)]
+mod deciding;
 #[cfg(test)]
 mod keeping;

@@ -1,11 +1,12 @@
 -- Each planner's commands are those of its crate.
 use Rattle.std.proofs.Common.{◌≡◌, refl, Some}
-use Rattle.std.specs.Prelude.{IsSome}
+use Rattle.std.specs.Prelude.{IsSome, IsTrue}
 use Rattle.commands.specs.declared.name.CommandName.{CommandName}
 use Rattle.commands.specs.declared.name.CommandName.TheVariants as name
-use Rattle.command_routes.specs.declared.route.Planner.TheVariants.{Coordinates, Gtids}
+use Rattle.command_routes.specs.declared.route.Planner.TheVariants.{Coordinates, Gtids, Paths}
 use Rattle.moves_coords.specs.Commands.{coords_command}
 use Rattle.moves_gtid.specs.Commands.{gtid_command}
+use Rattle.regroup.specs.Commands.{has_plan, regroup_command}
 use Rattle.command_jobs.specs.Jobs.{planner_for}
 
 pub by-coordinates : (n : CommandName) → planner_for n ≡ Some Coordinates → IsSome (coords_command n)
@@ -96,4 +97,92 @@ by-gtids name.DisableGlobalRecoveries h = cc
 by-gtids name.EnableGlobalRecoveries h = cc
 by-gtids name.CheckGlobalRecoveries h = cc
 
-pub ruleset planned = (by-coordinates, by-gtids)
+pub by-paths : (n : CommandName) → planner_for n ≡ Some Paths → IsSome (regroup_command n)
+by-paths name.MoveUp h = cc
+by-paths name.MoveUpReplicas h = cc
+by-paths name.MoveBelow h = cc
+by-paths name.Repoint h = cc
+by-paths name.TakeSiblings h = cc
+by-paths name.TakeMaster h = cc
+by-paths name.MoveGtid h = cc
+by-paths name.MoveReplicasGtid h = cc
+by-paths name.EnableGtid h = cc
+by-paths name.DisableGtid h = cc
+by-paths name.Relocate h = refl
+by-paths name.RelocateReplicas h = refl
+by-paths name.RegroupReplicas h = cc
+by-paths name.DetachReplica h = cc
+by-paths name.ReattachReplica h = cc
+by-paths name.ResetReplica h = cc
+by-paths name.StartReplica h = cc
+by-paths name.StopReplica h = cc
+by-paths name.RestartReplica h = cc
+by-paths name.SetReadOnly h = cc
+by-paths name.SetWriteable h = cc
+by-paths name.Discover h = cc
+by-paths name.Forget h = cc
+by-paths name.BeginDowntime h = cc
+by-paths name.EndDowntime h = cc
+by-paths name.RegisterCandidate h = cc
+by-paths name.Recover h = cc
+by-paths name.GracefulMasterTakeover h = cc
+by-paths name.AckClusterRecoveries h = cc
+by-paths name.Topology h = cc
+by-paths name.WhichMaster h = cc
+by-paths name.WhichReplicas h = cc
+by-paths name.WhichCluster h = cc
+by-paths name.WhichClusterInstances h = cc
+by-paths name.Clusters h = cc
+by-paths name.AllInstances h = cc
+by-paths name.Find h = cc
+by-paths name.ReplicationAnalysis h = cc
+by-paths name.AuditRecoveries h = cc
+by-paths name.DisableGlobalRecoveries h = cc
+by-paths name.EnableGlobalRecoveries h = cc
+by-paths name.CheckGlobalRecoveries h = cc
+
+pub planned-paths : (n : CommandName) → planner_for n ≡ Some Paths → IsTrue (has_plan (regroup_command n))
+planned-paths name.MoveUp h = cc
+planned-paths name.MoveUpReplicas h = cc
+planned-paths name.MoveBelow h = cc
+planned-paths name.Repoint h = cc
+planned-paths name.TakeSiblings h = cc
+planned-paths name.TakeMaster h = cc
+planned-paths name.MoveGtid h = cc
+planned-paths name.MoveReplicasGtid h = cc
+planned-paths name.EnableGtid h = cc
+planned-paths name.DisableGtid h = cc
+planned-paths name.Relocate h = refl
+planned-paths name.RelocateReplicas h = refl
+planned-paths name.RegroupReplicas h = cc
+planned-paths name.DetachReplica h = cc
+planned-paths name.ReattachReplica h = cc
+planned-paths name.ResetReplica h = cc
+planned-paths name.StartReplica h = cc
+planned-paths name.StopReplica h = cc
+planned-paths name.RestartReplica h = cc
+planned-paths name.SetReadOnly h = cc
+planned-paths name.SetWriteable h = cc
+planned-paths name.Discover h = cc
+planned-paths name.Forget h = cc
+planned-paths name.BeginDowntime h = cc
+planned-paths name.EndDowntime h = cc
+planned-paths name.RegisterCandidate h = cc
+planned-paths name.Recover h = cc
+planned-paths name.GracefulMasterTakeover h = cc
+planned-paths name.AckClusterRecoveries h = cc
+planned-paths name.Topology h = cc
+planned-paths name.WhichMaster h = cc
+planned-paths name.WhichReplicas h = cc
+planned-paths name.WhichCluster h = cc
+planned-paths name.WhichClusterInstances h = cc
+planned-paths name.Clusters h = cc
+planned-paths name.AllInstances h = cc
+planned-paths name.Find h = cc
+planned-paths name.ReplicationAnalysis h = cc
+planned-paths name.AuditRecoveries h = cc
+planned-paths name.DisableGlobalRecoveries h = cc
+planned-paths name.EnableGlobalRecoveries h = cc
+planned-paths name.CheckGlobalRecoveries h = cc
+
+pub ruleset planned = (by-coordinates, by-gtids, by-paths, planned-paths)

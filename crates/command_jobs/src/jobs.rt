@@ -30,11 +30,12 @@ pub fn permit(
 ) -> Result<(), PermitFault>
     requires forest { forest.now ≡ book_forest book.now }
     requires planner { planner_for command.name ≡ Some planner }
-    ensures { Gives (λ _. tt) permit_fault result (permitted (refusal_by world.now book.now command planner)) }
+    ensures { Gives (λ _. tt) permit_fault result (permitted (refusal_by world.now book.now now command planner)) }
 {
     match planner {
         Planner::Coordinates => moves_coords::permit(alloc, book, forest, world, command, now),
         Planner::Gtids => moves_gtid::permit(alloc, book, forest, world, command, now),
+        Planner::Paths => regroup::permit(alloc, book, forest, world, command, now),
     }
 }
 
@@ -43,15 +44,19 @@ pub fn permit(
 pub fn leases(
     alloc: Global,
     book: &Book,
+    forest: &Forest,
+    world: &World,
     command: Command,
     planner: Planner,
 ) -> Result<Vec<ServerNo>, Memory>
-    requires { planner_for command.name ≡ Some planner }
-    ensures { IfOk result (λ list. list.items ≡ leases_by book.now command planner) }
+    requires forest { forest.now ≡ book_forest book.now }
+    requires planner { planner_for command.name ≡ Some planner }
+    ensures { IfOk result (λ list. list.items ≡ leases_by world.now book.now command planner) }
 {
     match planner {
         Planner::Coordinates => moves_coords::leases(alloc, book, command),
         Planner::Gtids => moves_gtid::leases(alloc, book, command),
+        Planner::Paths => regroup::leases(alloc, book, forest, world, command),
     }
 }
 
@@ -72,5 +77,6 @@ pub fn plan(
     match planner {
         Planner::Coordinates => moves_coords::plan(alloc, book, forest, world, command),
         Planner::Gtids => moves_gtid::plan(alloc, book, forest, world, command),
+        Planner::Paths => regroup::plan(alloc, book, forest, world, command),
     }
 }

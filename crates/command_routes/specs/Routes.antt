@@ -3,11 +3,12 @@ use Rattle.std.specs.Prelude.{◌≡◌, ◌⊎◌, ℕ, Bool, true, false, List
 use Rattle.std.specs.Str.{bytes_eq}
 use Rattle.commands.specs.declared.name.CommandName.{CommandName}
 use Rattle.commands.specs.declared.name.CommandName.TheVariants as name
+use Rattle.command_routes.specs.declared.route.Decision.TheVariants as decision
 use Rattle.command_routes.specs.declared.route.Question.TheVariants as question
 use Rattle.command_routes.specs.declared.route.Planner.{Planner}
 use Rattle.command_routes.specs.declared.route.Planner.TheVariants as planner
 use Rattle.command_routes.specs.declared.route.Route.{Route}
-use Rattle.command_routes.specs.declared.route.Route.TheVariants.{Discovers, Forgets, Asks, Begins, Unbuilt}
+use Rattle.command_routes.specs.declared.route.Route.TheVariants.{Discovers, Forgets, Asks, Decides, Begins, Unbuilt}
 use Rattle.commands.specs.Names.{name_of, word_of}
 
 -- what a command does
@@ -22,8 +23,8 @@ route_of name.MoveGtid = Begins planner.Gtids
 route_of name.MoveReplicasGtid = Begins planner.Gtids
 route_of name.EnableGtid = Begins planner.Gtids
 route_of name.DisableGtid = Begins planner.Gtids
-route_of name.Relocate = Unbuilt
-route_of name.RelocateReplicas = Unbuilt
+route_of name.Relocate = Begins planner.Paths
+route_of name.RelocateReplicas = Begins planner.Paths
 route_of name.RegroupReplicas = Unbuilt
 route_of name.DetachReplica = Begins planner.Coordinates
 route_of name.ReattachReplica = Begins planner.Coordinates
@@ -35,12 +36,12 @@ route_of name.SetReadOnly = Begins planner.Coordinates
 route_of name.SetWriteable = Begins planner.Coordinates
 route_of name.Discover = Discovers
 route_of name.Forget = Forgets
-route_of name.BeginDowntime = Unbuilt
-route_of name.EndDowntime = Unbuilt
-route_of name.RegisterCandidate = Unbuilt
+route_of name.BeginDowntime = Decides decision.BeginDowntime
+route_of name.EndDowntime = Decides decision.EndDowntime
+route_of name.RegisterCandidate = Decides decision.RegisterCandidate
 route_of name.Recover = Unbuilt
 route_of name.GracefulMasterTakeover = Unbuilt
-route_of name.AckClusterRecoveries = Unbuilt
+route_of name.AckClusterRecoveries = Decides decision.AckRecoveries
 route_of name.Topology = Asks question.Topology
 route_of name.WhichMaster = Asks question.WhichMaster
 route_of name.WhichReplicas = Asks question.WhichReplicas
@@ -49,16 +50,17 @@ route_of name.WhichClusterInstances = Asks question.WhichClusterInstances
 route_of name.Clusters = Asks question.Clusters
 route_of name.AllInstances = Asks question.AllInstances
 route_of name.Find = Asks question.Find
-route_of name.ReplicationAnalysis = Unbuilt
-route_of name.AuditRecoveries = Unbuilt
-route_of name.DisableGlobalRecoveries = Unbuilt
-route_of name.EnableGlobalRecoveries = Unbuilt
-route_of name.CheckGlobalRecoveries = Unbuilt
+route_of name.ReplicationAnalysis = Asks question.Analysis
+route_of name.AuditRecoveries = Asks question.Recoveries
+route_of name.DisableGlobalRecoveries = Decides decision.DisableRecoveries
+route_of name.EnableGlobalRecoveries = Decides decision.EnableRecoveries
+route_of name.CheckGlobalRecoveries = Asks question.Switch
 
 abbrev pub is_built : Route → Bool
 is_built Discovers = true
 is_built Forgets = true
 is_built (Asks question) = true
+is_built (Decides decision) = true
 is_built (Begins planner) = true
 is_built Unbuilt = false
 
@@ -67,6 +69,7 @@ abbrev pub planner_of : Route → Option Planner
 planner_of Discovers = None
 planner_of Forgets = None
 planner_of (Asks question) = None
+planner_of (Decides decision) = None
 planner_of (Begins planner) = Some planner
 planner_of Unbuilt = None
 

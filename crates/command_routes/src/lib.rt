@@ -6,4 +6,4 @@ mod route;
 mod threads;
 
 pub use laws::built_words_have_routes;
-pub use route::{Planner, Question, Route, is_built_command};
+pub use route::{Decision, Planner, Question, Route, is_built_command};

@@ -5,7 +5,7 @@ ghost use Rattle.command_routes.specs.Routes.{is_built, is_built_command, planne
 
 use commands::CommandName;
 
-/// What a command asks the book.
+/// What a command asks the book or the audit.
 #[derive(Clone, Copy, Debug, PartialEq, Eq)]
 pub enum Question {
     /// `topology`: the trees of an instance's cluster.
@@ -24,6 +24,29 @@ pub enum Question {
     AllInstances,
     /// `find`: the instances whose names have a pattern.
     Find,
+    /// `replication-analysis`: what is wrong with the instances.
+    Analysis,
+    /// `audit-recoveries`: the recoveries that were begun.
+    Recoveries,
+    /// `check-global-recoveries`: whether recoveries are enabled.
+    Switch,
+}
+
+/// What an operator decides.
+#[derive(Clone, Copy, Debug, PartialEq, Eq)]
+pub enum Decision {
+    /// `begin-downtime`: an instance's analysis begins no recovery for some time.
+    BeginDowntime,
+    /// `end-downtime`: it may again.
+    EndDowntime,
+    /// `register-candidate`: how an instance is to be promoted.
+    RegisterCandidate,
+    /// `disable-global-recoveries`: no recovery begins by itself.
+    DisableRecoveries,
+    /// `enable-global-recoveries`: recoveries may.
+    EnableRecoveries,
+    /// `ack-cluster-recoveries`: a cluster's recoveries are acknowledged, so that they block no other.
+    AckRecoveries,
 }
 
 /// Which commands' permission and plan a job goes by.
@@ -33,6 +56,8 @@ pub enum Planner {
     Coordinates,
     /// The commands that move servers by GTIDs, or have them find their places by them.
     Gtids,
+    /// The commands that take servers below another one by whatever path.
+    Paths,
 }
 
 /// What a command does.
@@ -42,8 +67,10 @@ pub enum Route {
     Discovers,
     /// Removes an instance.
     Forgets,
-    /// Asks the book, and changes nothing.
+    /// Asks the book or the audit, and changes nothing.
     Asks(Question),
+    /// Keeps what an operator decides.
+    Decides(Decision),
     /// Begins a job.
     Begins(Planner),
     /// It isn't built.
@@ -66,6 +93,15 @@ impl Route {
             CommandName::Clusters => Route::Asks(Question::Clusters),
             CommandName::AllInstances => Route::Asks(Question::AllInstances),
             CommandName::Find => Route::Asks(Question::Find),
+            CommandName::ReplicationAnalysis => Route::Asks(Question::Analysis),
+            CommandName::AuditRecoveries => Route::Asks(Question::Recoveries),
+            CommandName::CheckGlobalRecoveries => Route::Asks(Question::Switch),
+            CommandName::BeginDowntime => Route::Decides(Decision::BeginDowntime),
+            CommandName::EndDowntime => Route::Decides(Decision::EndDowntime),
+            CommandName::RegisterCandidate => Route::Decides(Decision::RegisterCandidate),
+            CommandName::DisableGlobalRecoveries => Route::Decides(Decision::DisableRecoveries),
+            CommandName::EnableGlobalRecoveries => Route::Decides(Decision::EnableRecoveries),
+            CommandName::AckClusterRecoveries => Route::Decides(Decision::AckRecoveries),
             CommandName::MoveUp
             | CommandName::MoveUpReplicas
             | CommandName::MoveBelow
@@ -84,20 +120,10 @@ impl Route {
             | CommandName::MoveReplicasGtid
             | CommandName::EnableGtid
             | CommandName::DisableGtid => Route::Begins(Planner::Gtids),
-            CommandName::Relocate
-            | CommandName::RelocateReplicas
-            | CommandName::RegroupReplicas
-            | CommandName::BeginDowntime
-            | CommandName::EndDowntime
-            | CommandName::RegisterCandidate
+            CommandName::Relocate | CommandName::RelocateReplicas => Route::Begins(Planner::Paths),
+            CommandName::RegroupReplicas
             | CommandName::Recover
-            | CommandName::GracefulMasterTakeover
-            | CommandName::AckClusterRecoveries
-            | CommandName::ReplicationAnalysis
-            | CommandName::AuditRecoveries
-            | CommandName::DisableGlobalRecoveries
-            | CommandName::EnableGlobalRecoveries
-            | CommandName::CheckGlobalRecoveries => Route::Unbuilt,
+            | CommandName::GracefulMasterTakeover => Route::Unbuilt,
         }
     }
 
@@ -106,7 +132,11 @@ impl Route {
         ensures { result ≡ is_built self }
     {
         match self {
-            Route::Discovers | Route::Forgets | Route::Asks(_) | Route::Begins(_) => true,
+            Route::Discovers
+            | Route::Forgets
+            | Route::Asks(_)
+            | Route::Decides(_)
+            | Route::Begins(_) => true,
             Route::Unbuilt => false,
         }
     }
@@ -117,7 +147,11 @@ impl Route {
     {
         match self {
             Route::Begins(planner) => Some(planner),
-            Route::Discovers | Route::Forgets | Route::Asks(_) | Route::Unbuilt => None,
+            Route::Discovers
+            | Route::Forgets
+            | Route::Asks(_)
+            | Route::Decides(_)
+            | Route::Unbuilt => None,
         }
     }
 }

@@ -29,6 +29,7 @@ use Rattle.job_laws.proofs.Listed.{given-leases}
 use Rattle.jobs_in_flight.specs.Jobs.{book_turned, job_at, job_exchanges, job_observation, jobs_turned, stored, with_job, without_job}
 use Rattle.orch_core.specs.Jobs.{turn_of, turned_at}
 use Rattle.orch_core.specs.Polls.{empty_slots, reading, slot_at}
+use Rattle.orch_core.specs.Restarts.{last_given, reloaded_book}
 use Rattle.orch_core.specs.Runs.{step}
 use Rattle.orch_core.specs.States.{State, IsSlot}
 use Rattle.flight_laws.specs.Flights.{flight_of, moment_at, passages_of, takes, takes_over}
@@ -159,11 +160,11 @@ none-at (suc count) (suc n) = none-at count n
 none-leased : (count : ℕ) → leases_of (replicate count None) ≡ no_leases
 none-leased count = λ i n. none-at count n i
 
-pub rings-loaded : (settings : List Settings) (rows : List Row) → (loaded settings rows).rings ≡ replicate (length settings) []
-rings-loaded settings rows = rings-rows (empty_book settings) (counted (length settings) rows)
+pub rings-loaded : (settings : List Settings) (last : ℕ) (rows : List Row) → (loaded settings last rows).rings ≡ replicate (length settings) []
+rings-loaded settings last rows = rings-rows (empty_book settings) (counted (length settings) last rows)
 
-pub leases-loaded : (settings : List Settings) (rows : List Row) → leases_of (loaded settings rows).leases ≡ no_leases
-leases-loaded settings rows = ap leases_of (leases-rows (empty_book settings) (counted (length settings) rows)) ∙ none-leased (length settings)
+pub leases-loaded : (settings : List Settings) (last : ℕ) (rows : List Row) → leases_of (loaded settings last rows).leases ≡ no_leases
+leases-loaded settings last rows = ap leases_of (leases-rows (empty_book settings) (counted (length settings) last rows)) ∙ none-leased (length settings)
 
 -- the settings are as many as the names
 pub settings-count : (b : BookState) → IsBook b → length b.settings ≡ length b.names
@@ -172,11 +173,11 @@ settings-count b is = sym (length-map b.settings (λ x. x.name)) ∙ sym (ap len
 restart-flown : (count : ℕ) (rows : List Row) (s : State) → Ready count s → flight_of (step rows s turn.Restart) ≡ passing (flight_of s) (pass.Restarting ∷ [])
 restart-flown count rows s ready =
     let b = s.book in
-    let rings : (loaded b.settings rows).rings ≡ replicate (length b.rings) [] = rings-loaded b.settings rows ∙ ap (λ (n : ℕ). replicate n []) (settings-count b ready.book ∙ sym ready.book.rings) in
+    let rings : (reloaded_book rows s).rings ≡ replicate (length b.rings) [] = rings-loaded b.settings (last_given s) rows ∙ ap (λ (n : ℕ). replicate n []) (settings-count b ready.book ∙ sym ready.book.rings) in
     let slots : empty_slots ≡ replicate (length s.slots) None = ap (λ (n : ℕ). replicate n None) (sym ready.slots) in
-    ap (λ (x : List (List Bridge)). record (flight_of s) { rings = x; slots = empty_slots; jobs = []; leases = leases_of (loaded b.settings rows).leases }) rings
-    ∙ ap (λ (x : List (Option Observation)). record (flight_of s) { rings = replicate (length b.rings) []; slots = x; jobs = []; leases = leases_of (loaded b.settings rows).leases }) slots
-    ∙ ap (λ (l : ℕ → Option ℕ). record (flight_of s) { rings = replicate (length b.rings) []; slots = replicate (length s.slots) None; jobs = []; leases = l }) (leases-loaded b.settings rows)
+    ap (λ (x : List (List Bridge)). record (flight_of s) { rings = x; slots = empty_slots; jobs = []; leases = leases_of (reloaded_book rows s).leases }) rings
+    ∙ ap (λ (x : List (Option Observation)). record (flight_of s) { rings = replicate (length b.rings) []; slots = x; jobs = []; leases = leases_of (reloaded_book rows s).leases }) slots
+    ∙ ap (λ (l : ℕ → Option ℕ). record (flight_of s) { rings = replicate (length b.rings) []; slots = replicate (length s.slots) None; jobs = []; leases = l }) (leases-loaded b.settings (last_given s) rows)
 
 -- ---- every turn
 

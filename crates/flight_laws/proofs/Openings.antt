@@ -1,8 +1,9 @@
 -- A run begins held and sound: the bridges of an opening are those that the servers show.
-use Rattle.std.proofs.Common.{◌≡◌, ◌∙◌, ℕ, ◌+◌, Bool, true, false, List, [], ◌∷◌, length, refl, sym, ap, subst, Option, Some, None}
+use Rattle.std.proofs.Common.{◌≡◌, ◌∙◌, ◌⊎◌, ℕ, Bool, true, false, List, [], ◌∷◌, length, refl, sym, ap, subst, Option, Some, None, inl, inr}
 use Rattle.std.specs.Prelude.{All, IfSome, ◌&&◌, fold, is_none, replicate, slice_index_or, slice_set, if◌then◌else◌}
-use Rattle.std.specs.List.{cons_option}
-use Rattle.std.proofs.lemmas.List.Elements.{All-nil, All-cons, All-head, All-tail, All-replicate, All-set}
+use Rattle.std.proofs.lemmas.List.Elements.{All-head, All-map, All-nil, All-replicate, All-set, All-tail}
+use Rattle.audit_log.specs.Audits.{closing}
+use Rattle.orch_base.specs.declared.rule.Rule.{Rule}
 use Rattle.orch_base.specs.declared.server.Moment.{Moment}
 use Rattle.orch_base.specs.declared.server.ServerNo.{ServerNo}
 use Rattle.server_words.specs.declared.status.StatusFault.TheVariants as seeing
@@ -13,8 +14,9 @@ use Rattle.instance_keeper.specs.declared.row.Row.{Row}
 use Rattle.instance_keeper.specs.declared.row.Row.TheVariants as row
 use Rattle.instance_keeper.specs.Book.{BookState}
 use Rattle.instance_keeper.specs.Bridges.{bridge_in, ring_at, ringed, with_bridge}
-use Rattle.opening_book.specs.Counting.{loaded}
-use Rattle.opening_book.specs.Opening.{after_opening, missing, missing_from, opened_book, opening_instance, put_instance}
+use Rattle.instance_keeper.specs.Had.{has_row}
+use Rattle.opening_book.specs.Counting.{greatest_id}
+use Rattle.opening_book.specs.Opening.{after_opening, missing, opened_book, opening_instance, put_instance, put_recovery, registered, registering}
 use Rattle.instance_keeper.specs.Seeing.{seen_in}
 use Rattle.server_model.specs.declared.server.Server.{Server}
 use Rattle.server_model.specs.Gtids.{shown_of, status}
@@ -33,26 +35,32 @@ use Rattle.job_laws.proofs.Bridging.{stands-by}
 use Rattle.job_laws.proofs.Lists.{All-at, All-ring}
 use Rattle.job_laws.proofs.Showing.{Shows-seen, Bridged-seen}
 use Rattle.job_laws.proofs.Spanning.{spans-by}
-use Rattle.orch_core.specs.Scenarios.{start, start_changes, start_moment, start_world}
+use Rattle.orch_core.specs.Scenarios.{loaded_audit, loaded_book, start, start_changes, start_moment, start_world}
+use Rattle.orch_core.proofs.Starts.{all-from, all-opening}
 use Rattle.flight_laws.specs.Flights.{flight_of}
 use Rattle.flight_laws.proofs.Flown.{leases-loaded, rings-loaded}
 
 -- ---- what an opening puts
 
--- a change of an opening puts the instance of a server that is there
-record Opens (w : World) (at : Moment) (c : Change) : Type 0 where
+-- the instance of a server that is there
+record Shows (w : World) (at : Moment) (c : Change) : Type 0 where
   n : ℕ
   server : Server
   there : server_at w n ≡ Some server
   is : c ≡ change.Put (row.Instance (opening_instance w at n server))
 
-Opens-option : (w : World) (at : Moment) (o : Option Change) (cs : List Change) → IfSome o (Opens w at) → All (Opens w at) cs → All (Opens w at) (cons_option o cs)
-Opens-option w at None cs here rest = rest
-Opens-option w at (Some c) cs here rest = All-cons (Opens w at) c cs here rest
+-- a change that leaves bridges and leases
+record LeavesBridges (c : Change) : Type 0 where
+  rings : (b : BookState) → (after_opening b c).rings ≡ b.rings
+  leases : (b : BookState) → (after_opening b c).leases ≡ b.leases
+
+-- a change of an opening puts such an instance, or leaves them
+abbrev Opens : World → Moment → Change → Type 0
+Opens w at c = Shows w at c ⊎ LeavesBridges c
 
 Opens-instance : (w : World) (at : Moment) (n : ℕ) (o : Option Server) → server_at w n ≡ o → IfSome (put_instance w at n o) (Opens w at)
 Opens-instance w at n None there = tt
-Opens-instance w at n (Some s) there = record { n = n; server = s; there = there; is = refl }
+Opens-instance w at n (Some s) there = inl (record { n = n; server = s; there = there; is = refl })
 
 Opens-missing : (w : World) (at : Moment) (b : BookState) (n : ℕ) (known : Bool) → IfSome (missing w at b n known) (Opens w at)
 Opens-missing w at b n known = go (known && is_none (slice_index_or b.instances n None))
@@ -61,9 +69,22 @@ Opens-missing w at b n known = go (known && is_none (slice_index_or b.instances 
     go true = Opens-instance w at n (server_at w n) refl
     go false = tt
 
-Opens-from : (w : World) (at : Moment) (b : BookState) (n : ℕ) (known : List Bool) → All (Opens w at) (missing_from w at b n known)
-Opens-from w at b n [] = All-nil (Opens w at)
-Opens-from w at b n (k ∷ ks) = Opens-option w at (missing w at b n k) (missing_from w at b (n + 1) ks) (Opens-missing w at b n k) (Opens-from w at b (n + 1) ks)
+Opens-registering : (w : World) (at : Moment) (b : BookState) (n : ℕ) (rule : Option Rule) → IfSome (registering at b n rule) (Opens w at)
+Opens-registering w at b n None = tt
+Opens-registering w at b n (Some rule) = go (has_row b (row.Candidate (registered at n rule)))
+  where
+    go : (had : Bool) → IfSome (if had then None else Some (change.Put (row.Candidate (registered at n rule)))) (Opens w at)
+    go true = tt
+    go false = inr (record { rings = λ b. refl; leases = λ b. refl })
+
+Opens-start : (s : Scenario) (rows : List Row) → All (Opens (start_world s) (start_moment s rows)) (start_changes s rows)
+Opens-start s rows =
+    let w = start_world s in
+    let at = start_moment s rows in
+    let b = loaded_book s rows in
+    let P : Change → Type 0 = Opens w at in
+    all-opening P w at b s.known s.rules (loaded_audit s rows) (all-from P (missing w at b) 0 s.known (λ n k h. Opens-missing w at b n k)) (all-from P (registering at b) 0 s.rules (λ n rule h. Opens-registering w at b n rule))
+    (All-map P put_recovery (closing (loaded_audit s rows) at) (λ k d h. inr (record { rings = λ b. refl; leases = λ b. refl })))
 
 -- ---- the rings
 
@@ -85,32 +106,37 @@ module _ (w : World) (at : Moment) (P : Bridge → Type 0) (shown : (n : ServerN
           shown (record { 0 = n }) b (ap (bridge_in (record { 0 = n })) answers ∙ h)
       go false up h = cc
 
+  opened-one : (b : BookState) (c : Change) → Opens w at c → All (All P) b.rings → All (All P) (after_opening b c).rings
+  opened-one b c (inl shows) all =
+      subst (λ (x : Change). All (All P) (after_opening b x).rings) (sym shows.is) (ring-all b.rings (record { 0 = shows.n }) _ (put-shown shows.n shows.server shows.there) all)
+  opened-one b c (inr leaves) all = subst (All (All P)) (sym (leaves.rings b)) all
+
   opened-rings : (b : BookState) (cs : List Change) → All (Opens w at) cs → All (All P) b.rings → All (All P) (opened_book b cs).rings
   opened-rings b [] opens all = all
   opened-rings b (c ∷ cs) opens all =
-      let first = All-head (Opens w at) c cs opens in
-      opened-rings (after_opening b c) cs (All-tail (Opens w at) c cs opens)
-      (subst (λ (x : Change). All (All P) (after_opening b x).rings) (sym first.is)
-      (ring-all b.rings (record { 0 = first.n }) _ (put-shown first.n first.server first.there) all))
+      opened-rings (after_opening b c) cs (All-tail (Opens w at) c cs opens) (opened-one b c (All-head (Opens w at) c cs opens) all)
+
+leases-one : (w : World) (at : Moment) (b : BookState) (c : Change) → Opens w at c → (after_opening b c).leases ≡ b.leases
+leases-one w at b c (inl shows) = ap (λ (x : Change). (after_opening b x).leases) shows.is
+leases-one w at b c (inr leaves) = leaves.leases b
 
 opened-leases : (w : World) (at : Moment) (b : BookState) (cs : List Change) → All (Opens w at) cs → (opened_book b cs).leases ≡ b.leases
 opened-leases w at b [] opens = refl
 opened-leases w at b (c ∷ cs) opens =
-    let first = All-head (Opens w at) c cs opens in
-    opened-leases w at (after_opening b c) cs (All-tail (Opens w at) c cs opens) ∙ ap (λ (x : Change). (after_opening b x).leases) first.is
+    opened-leases w at (after_opening b c) cs (All-tail (Opens w at) c cs opens) ∙ leases-one w at b c (All-head (Opens w at) c cs opens)
 
 -- ---- the whole state
 
 module _ (s : Scenario) (wait : ℕ) (rows : List Row) where
   leases-start : leases_of (start s wait rows).book.leases ≡ no_leases
   leases-start =
-      ap leases_of (opened-leases (start_world s) (start_moment s rows) (loaded (settings_of s) rows) (start_changes s rows) (Opens-from (start_world s) (start_moment s rows) (loaded (settings_of s) rows) 0 s.known))
-      ∙ leases-loaded (settings_of s) rows
+      ap leases_of (opened-leases (start_world s) (start_moment s rows) (loaded_book s rows) (start_changes s rows) (Opens-start s rows))
+      ∙ leases-loaded (settings_of s) greatest_id rows
 
   rings-start : (P : Bridge → Type 0) → ((n : ServerNo) (b : Bridge) → bridge_in n (seen_in (status (start_world s) n.0)) ≡ Some b → P b) → All (All P) (start s wait rows).book.rings
   rings-start P shown =
-      opened-rings (start_world s) (start_moment s rows) P shown (loaded (settings_of s) rows) (start_changes s rows) (Opens-from (start_world s) (start_moment s rows) (loaded (settings_of s) rows) 0 s.known)
-      (subst (All (All P)) (sym (rings-loaded (settings_of s) rows)) (All-replicate (All P) (length (settings_of s)) [] (All-nil P)))
+      opened-rings (start_world s) (start_moment s rows) P shown (loaded_book s rows) (start_changes s rows) (Opens-start s rows)
+      (subst (All (All P)) (sym (rings-loaded (settings_of s) greatest_id rows)) (All-replicate (All P) (length (settings_of s)) [] (All-nil P)))
 
   module _ (is : IsScenario s) where
     safe : Safe (start_world s)

@@ -8,7 +8,7 @@ use Rattle.orch_base.specs.Memory.{next_count}
 use Rattle.server_words.specs.declared.status.Status.{Status as Seen}
 use Rattle.instance_keeper.specs.declared.observation.Instance.{Instance}
 use Rattle.instance_keeper.specs.declared.observation.Observation.{Observation}
-use Rattle.instance_keeper.specs.Book.{BookState, IsBook, added_over, are_known, discovered_over, instance_at, observed_servers, renewed, renewed_book}
+use Rattle.instance_keeper.specs.Book.{BookState, IsBook, added_over, after_change, after_put, are_known, discovered_over, downtime_at, fits, instance_at, observed_servers, renewed, renewed_book, row_fits}
 use Rattle.instance_keeper.specs.declared.bridge.Bridge.{Bridge}
 use Rattle.instance_keeper.specs.Bridges.{bridge_in, ringed}
 use Rattle.instance_keeper.specs.Leases.{taken}
@@ -18,30 +18,49 @@ use Rattle.opening_book.proofs.Following.{names-change}
 use Rattle.commands.specs.declared.line.Line.{Line}
 use Rattle.commands.specs.declared.refusal.Refusal.{Refusal}
 use Rattle.commands.specs.declared.refusal.Refusal.TheVariants.{Unreachable}
+use Rattle.command_routes.specs.declared.route.Decision.{Decision}
+use Rattle.command_routes.specs.declared.route.Decision.TheVariants as decision
 use Rattle.command_routes.specs.declared.route.Planner.{Planner}
-use Rattle.command_routes.specs.declared.route.Planner.TheVariants.{Coordinates, Gtids}
-use Rattle.command_jobs.specs.Jobs.{leases_by, plan_by, planner_for, refusal_by}
+use Rattle.command_routes.specs.declared.route.Planner.TheVariants.{Coordinates, Gtids, Paths}
+use Rattle.command_routes.specs.declared.route.Route.{Route}
+use Rattle.command_routes.specs.declared.route.Route.TheVariants.{Discovers, Forgets, Asks, Decides, Begins, Unbuilt}
+use Rattle.command_routes.specs.Routes.{route_of}
+use Rattle.command_jobs.specs.Jobs.{leases_by, plan_by, refusal_by}
 use Rattle.command_jobs.proofs.Begun.{plan-named}
 use Rattle.commands.specs.declared.turn.Command.{Command}
 use Rattle.commands.specs.declared.turn.CommandTurn.{CommandTurn}
 use Rattle.commands.specs.Turns.{has_needed, is_within}
-use Rattle.asking_commands.specs.Answers.{lines_of, permitted}
+use Rattle.asking_commands.specs.Answers.{allowed, lines_of, permitted}
+use Rattle.audit_log.specs.Audits.{AuditState}
+use Rattle.book_commands.specs.declared.decided.Decided.{Decided}
+use Rattle.book_commands.specs.declared.decided.Effect.{Effect}
+use Rattle.book_commands.specs.declared.decided.Effect.TheVariants as effect
+use Rattle.book_commands.specs.Decisions.{about, acked, candidate_of, decided_of, downtime_begun, downtime_ended, downtime_of, downtime_removal, effect_by, registered}
+use Rattle.commands.specs.declared.turn.Keys.{Keys}
+use Rattle.orch_base.specs.declared.server.Moment.{Moment}
+use Rattle.instance_keeper.specs.Had.{has_row, put_change}
+use Rattle.instance_keeper.specs.declared.row.Change.TheVariants as change
+use Rattle.instance_keeper.specs.declared.row.Key.TheVariants as key
+use Rattle.instance_keeper.specs.declared.row.Row.{Row}
+use Rattle.instance_keeper.specs.declared.row.Row.TheVariants as row
+use Rattle.instance_keeper.specs.declared.row.Table.TheVariants as table
 use Rattle.job_laws.specs.Flights.{Flight}
-use Rattle.job_laws.specs.Leases.{Begins, leases_of}
+use Rattle.job_laws.specs.Leases.{Begins as CanBegin, leases_of}
 use Rattle.job_laws.specs.Passages as pass
 use Rattle.job_laws.specs.Passages.{AllMayPass, Passage, passing}
 use Rattle.job_laws.proofs.Listed.{taken-leases}
 use Rattle.move_laws.proofs.Begun as coords
 use Rattle.move_laws.proofs.BegunGtid as gtids
+use Rattle.path_laws.proofs.Begun as paths
 use Rattle.operations.specs.Jobs.{Job, job_with}
 use Rattle.server_model.specs.Worlds.{World}
-use Rattle.orch_core.specs.Commands.{Outcome, asked, begun, discovered, forgotten, jobs_updated, outcome_by, outcome_for, outcome_of, reads_server, refusal, removal, removes, updated}
+use Rattle.orch_core.specs.Commands.{Outcome, about as given_or, asked, begun, decided, discovered, forgotten, jobs_updated, outcome_by, outcome_of, question, refusal, removal, removal_refusal, updated}
 use Rattle.orch_core.specs.Polls.{command_outcome, numbers_of, reading}
 use Rattle.orch_core.specs.States.{State}
 use Rattle.orch_core.proofs.Beginnings.{may-take}
 use Rattle.orch_core.proofs.States.{names-over, one_known, reading_known}
 use Rattle.scenarios.specs.Turns.{IsCommand}
-use Rattle.flight_laws.specs.Flights.{by_command, by_discovery, by_instance, by_permission, by_removal, flight_of, job_by, takes_first}
+use Rattle.flight_laws.specs.Flights.{by_command, by_discovery, by_instance, by_permission, by_removal, by_route, flight_of, job_by, moment_at, takes_first}
 use Rattle.flight_laws.specs.Ready.{IsReadyJob, Ready}
 use Rattle.flight_laws.proofs.Ready.{IsBook-discovered}
 
@@ -96,11 +115,45 @@ pub length-taken : (list : List ServerNo) (leases : List (Option ℕ)) (id : ℕ
 length-taken [] leases id = refl
 length-taken (k ∷ ks) leases id = length-taken ks (slice_set leases k.0 (Some id)) id ∙ length-set leases k.0 (Some id)
 
+-- an effect leaves bridges and leases, and the book takes it
+abbrev IsStill : BookState → Effect → Type 0
+IsStill b effect.Stays = Unit {0}
+IsStill b (effect.Change c) = ((after_change b c).rings ≡ b.rings) × ((after_change b c).leases ≡ b.leases) × (fits (length b.names) c ≡ true)
+IsStill b (effect.Acks cluster) = Unit {0}
+
+module _ (b : BookState) where
+  put-still : (r : Row) → (after_put b r).rings ≡ b.rings → (after_put b r).leases ≡ b.leases → row_fits (length b.names) r ≡ true → IsStill b (effect_by (put_change b r))
+  put-still r rings leases fit = go (has_row b r)
+    where
+      go : (had : Bool) → IsStill b (effect_by (if had then None else Some (change.Put r)))
+      go true = tt
+      go false = (rings, leases, fit)
+
+  removal-still : (i : ServerNo) → i.0 < length b.names → IsStill b (effect_by (downtime_removal b i))
+  removal-still i within = go (is_some (downtime_at b i (record { 0 = 0 })))
+    where
+      go : (kept : Bool) → IsStill b (effect_by (if kept then Some (change.Remove table.Downtime (key.Server i)) else None))
+      go true = (refl, refl, one_known (length b.names) i.0 within)
+      go false = tt
+
+  about-still : (f : ServerNo → Decided) → ((i : ServerNo) → i.0 < length b.names → IsStill b (f i).effect) → (i : Option ServerNo) → is_within (length b.names) i ≡ true → IsStill b (about f i).effect
+  about-still f each None within = tt
+  about-still f each (Some i) within = each i (ltb-true i.0 (length b.names) within)
+
+  decided-still : (a : AuditState) (now : Moment) (k : Keys) (i : Option ServerNo) (d : Decision) → is_within (length b.names) i ≡ true → IsStill b (decided_of b a now k i d).effect
+  decided-still a now k i decision.BeginDowntime within = about-still (λ n. downtime_begun b (downtime_of now k n)) (λ n h. put-still (row.Downtime (downtime_of now k n)) refl refl (one_known (length b.names) n.0 h)) i within
+  decided-still a now k i decision.EndDowntime within = about-still (downtime_ended b) removal-still i within
+  decided-still a now k i decision.RegisterCandidate within = about-still (λ n. registered b (candidate_of now k n)) (λ n h. put-still (row.Candidate (candidate_of now k n)) refl refl (one_known (length b.names) n.0 h)) i within
+  decided-still a now k i decision.DisableRecoveries within = put-still (row.Switch false) refl refl refl
+  decided-still a now k i decision.EnableRecoveries within = put-still (row.Switch true) refl refl refl
+  decided-still a now k i decision.AckRecoveries within = about-still (acked b a) (λ n h. tt) i within
+
 -- the job of a command that isn't refused may begin
-permitted-begin : (w : World) (b : BookState) (js : List Job) (c : Command) (p : Planner) (id wait : ℕ) → refusal_by w b c p ≡ None
-    → Begins w js (leases_of b.leases) (leases_by b c p) (job_with id wait (plan_by w b c p))
-permitted-begin w b js c Coordinates id wait h = coords.permitted-begin w b js c id wait h
-permitted-begin w b js c Gtids id wait h = gtids.permitted-begin w b js c id wait h
+permitted-begin : (w : World) (b : BookState) (now : Moment) (js : List Job) (c : Command) (p : Planner) (id wait : ℕ) → refusal_by w b now c p ≡ None
+    → CanBegin w js (leases_of b.leases) (leases_by w b c p) (job_with id wait (plan_by w b c p))
+permitted-begin w b now js c Coordinates id wait h = coords.permitted-begin w b js c id wait h
+permitted-begin w b now js c Gtids id wait h = gtids.permitted-begin w b js c id wait h
+permitted-begin w b now js c Paths id wait h = paths.permitted-begin w b now js c id wait h
 
 module _ (s : State) (is : IsBook s.book) (jobs : All (IsReadyJob (length s.book.names)) s.jobs) where
   Leaves-refusal : (reads : ℕ) (r : Refusal) → Leaves s [] (refusal reads r)
@@ -148,18 +201,34 @@ module _ (s : State) (is : IsBook s.book) (jobs : All (IsReadyJob (length s.book
         jobs = jobs;
       }
 
+  -- a decision
+  Leaves-effect : (reads : ℕ) (a : AuditState) (lines : List Line) (e : Effect) → IsStill s.book e → Leaves s [] (decided reads a (Ok tt) (record { lines = lines; effect = e }))
+  Leaves-effect reads a lines effect.Stays still = record { flown = refl; may = tt; book = is; names = refl; jobs = jobs }
+  Leaves-effect reads a lines (effect.Change c) still = record {
+    flown = kept-same (flight_of s) _ _ _ _ still.0 still.1;
+    may = tt;
+    book = change_is s.book c is still.2;
+    names = names-change s.book c;
+    jobs = jobs;
+  }
+  Leaves-effect reads a lines (effect.Acks cluster) still = record { flown = refl; may = tt; book = is; names = refl; jobs = jobs }
+
+  Leaves-decided : (reads : ℕ) (a : AuditState) (p : Result Unit Refusal) (d : Decided) → IsStill s.book d.effect → Leaves s [] (decided reads a p d)
+  Leaves-decided reads a (Ok permit) d still = Leaves-effect reads a d.lines d.effect still
+  Leaves-decided reads a (Err r) d still = Leaves-refusal reads r
+
   -- a job begins
-  Leaves-begun : (t : CommandTurn) (p : Planner) (r : Option Refusal) → refusal_by s.world s.book t.command p ≡ r → is_within (length s.book.names) t.command.i ≡ true → is_within (length s.book.names) t.command.d ≡ true
-      → Leaves s (by_permission s t.command p r) (begun (numbers_of s) r (leases_by s.book t.command p) (plan_by s.world s.book t.command p))
+  Leaves-begun : (t : CommandTurn) (p : Planner) (r : Option Refusal) → refusal_by s.world s.book (moment_at s) t.command p ≡ r → is_within (length s.book.names) t.command.i ≡ true → is_within (length s.book.names) t.command.d ≡ true
+      → Leaves s (by_permission s t.command p r) (begun (numbers_of s) r (leases_by s.world s.book t.command p) (plan_by s.world s.book t.command p))
   Leaves-begun t p (Some why) refuses i_within d_within = Leaves-refusal s.reads why
   Leaves-begun t p None refuses i_within d_within =
-      let list = leases_by s.book t.command p in
+      let list = leases_by s.world s.book t.command p in
       let job = job_by s t.command p in
-      let free = may-take s.world s.book t.command p is i_within d_within refuses in
+      let free = may-take s.world s.book (moment_at s) t.command p is i_within d_within refuses in
       let there : All (λ k. k.0 < length s.book.leases) list = subst (λ (n : ℕ). All (λ (k : ServerNo). k.0 < n) list) (sym is.leases) free.known in
       record {
         flown = ap (λ (l : ℕ → Option ℕ). record (flight_of s) { jobs = s.jobs ++ job ∷ []; leases = l }) (taken-leases s.book.leases list job.id there);
-        may = (permitted-begin s.world s.book s.jobs t.command p job.id s.configuration.wait refuses, tt);
+        may = (permitted-begin s.world s.book (moment_at s) s.jobs t.command p job.id s.configuration.wait refuses, tt);
         book = leases_set s.book (taken s.book.leases list job.id) is (length-taken list s.book.leases job.id);
         names = refl;
         jobs = All-push (IsReadyJob (length s.book.names)) s.jobs job jobs (record { named = record { ops = plan-named s.world s.book t.command is i_within d_within p; hands = All-nil _ }; waited = omega arith });
@@ -169,30 +238,30 @@ module _ (s : State) (is : IsBook s.book) (jobs : All (IsReadyJob (length s.book
 
   module _ (t : CommandTurn) (i_within : is_within (length s.book.names) t.command.i ≡ true) (d_within : is_within (length s.book.names) t.command.d ≡ true)
       (reads : (i : ServerNo) → i.0 < length s.book.names → are_known (length s.book.names) (observed_servers (reading s i)) ≡ true) where
-    Leaves-by : (i : Option ServerNo) → is_within (length s.book.names) i ≡ true → Leaves s (by_instance s t.command i) (outcome_by s.world s.book s.reads s.moment t i)
-    Leaves-by None within = Leaves-asked s.reads (permitted s.book t.command) (lines_of s.book t t.command.name)
-    Leaves-by (Some i) within = go (reads_server t.command.name) (removes t.command.name)
-      where
-        here : i.0 < length s.book.names
-        here = ltb-true i.0 (length s.book.names) within
+    asks : Leaves s [] (question s.book s.audit s.reads t)
+    asks = Leaves-asked s.reads (permitted s.book t.command) (lines_of s.book s.audit.recoveries t t.command.name)
 
-        go : (discovers forgets : Bool) → Leaves s (if discovers then by_discovery s i else (if forgets then by_removal (permitted s.book t.command) i else []))
-            (if discovers then discovered s.book s.reads (reading s i) (reading s i).seen
-            else (if forgets then forgotten s.reads (permitted s.book t.command) i else asked s.reads (permitted s.book t.command) (lines_of s.book t t.command.name)))
-        go true forgets = Leaves-discovered i (reads i here)
-        go false true = Leaves-forgotten s.reads (permitted s.book t.command) i here
-        go false false = Leaves-asked s.reads (permitted s.book t.command) (lines_of s.book t t.command.name)
+    given : (passages : ServerNo → List Passage) (some : ServerNo → Outcome) → ((i : ServerNo) → i.0 < length s.book.names → Leaves s (passages i) (some i)) → (i : Option ServerNo) → is_within (length s.book.names) i ≡ true
+        → Leaves s (by_instance passages i) (given_or (question s.book s.audit s.reads t) some i)
+    given passages some each None within = asks
+    given passages some each (Some i) within = each i (ltb-true i.0 (length s.book.names) within)
 
-    Leaves-for : (p : Option Planner) → Leaves s (by_command s t.command p) (outcome_for s.world s.book (numbers_of s) t p)
-    Leaves-for None = Leaves-by t.command.i i_within
-    Leaves-for (Some p) = Leaves-begun t p (refusal_by s.world s.book t.command p) refl i_within d_within
+    Leaves-route : (r : Route) → Leaves s (by_route s t.command r) (outcome_by s.world s.book s.audit (numbers_of s) t r)
+    Leaves-route Discovers = given (by_discovery s) (λ i. discovered s.book s.reads (reading s i) (reading s i).seen) (λ i h. Leaves-discovered i (reads i h)) t.command.i i_within
+    Leaves-route Forgets =
+        given (by_removal (allowed (removal_refusal s.book t.command))) (forgotten s.reads (allowed (removal_refusal s.book t.command))) (Leaves-forgotten s.reads (allowed (removal_refusal s.book t.command))) t.command.i i_within
+    Leaves-route (Asks q) = asks
+    Leaves-route (Decides d) =
+        Leaves-decided s.reads s.audit (permitted s.book t.command) (decided_of s.book s.audit (moment_at s) t.keys t.command.i d) (decided-still s.book s.audit (moment_at s) t.keys t.command.i d i_within)
+    Leaves-route (Begins p) = Leaves-begun t p (refusal_by s.world s.book (moment_at s) t.command p) refl i_within d_within
+    Leaves-route Unbuilt = asks
 
 pub within-both : (count : ℕ) (c : CommandTurn) → IsCommand count c → (is_within count c.command.i ≡ true) × (is_within count c.command.d ≡ true)
 within-both count c command =
     let both = both_true (has_needed c && is_within count c.command.i) (is_within count c.command.d) command.fits in
     ((both_true (has_needed c) (is_within count c.command.i) both.0).1, both.1)
 
-pub Leaves-command : (count : ℕ) (s : State) (c : CommandTurn) → Ready count s → IsCommand count c → Leaves s (by_command s c.command (planner_for c.command.name)) (command_outcome s c)
+pub Leaves-command : (count : ℕ) (s : State) (c : CommandTurn) → Ready count s → IsCommand count c → Leaves s (by_command s c.command) (command_outcome s c)
 unfolding outcome_of
 Leaves-command count s c ready command =
     let named : All (IsReadyJob (length s.book.names)) s.jobs = subst (λ (n : ℕ). All (IsReadyJob n) s.jobs) (sym ready.names) ready.jobs in
@@ -200,4 +269,4 @@ Leaves-command count s c ready command =
     let same : length s.world.servers ≡ length s.book.names = ready.servers ∙ sym ready.names in
     let reads : (i : ServerNo) → i.0 < length s.book.names → are_known (length s.book.names) (observed_servers (reading s i)) ≡ true =
     λ i here. subst (λ (n : ℕ). are_known n (observed_servers (reading s i)) ≡ true) same (reading_known s.world i (next_count s.reads) s.moment ready.sources (subst (λ (n : ℕ). i.0 < n) (sym same) here)) in
-    Leaves-for s ready.book named c within.0 within.1 reads (planner_for c.command.name)
+    Leaves-route s ready.book named c within.0 within.1 reads (route_of c.command.name)

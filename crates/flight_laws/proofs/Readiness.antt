@@ -10,10 +10,10 @@ use Rattle.instance_keeper.specs.declared.row.Change.{Change}
 use Rattle.instance_keeper.specs.declared.row.Change.TheVariants as change
 use Rattle.instance_keeper.specs.declared.row.Row.{Row}
 use Rattle.instance_keeper.specs.declared.row.Row.TheVariants as row
-use Rattle.instance_keeper.specs.Book.{BookState, IsBook, fits, instance_at, shown_by}
+use Rattle.instance_keeper.specs.Book.{BookState, IsBook, instance_at, shown_by}
 use Rattle.instance_keeper.proofs.Books.{change_is, put_is}
-use Rattle.opening_book.specs.Opening.{after_opening, opened_book}
-use Rattle.opening_book.specs.Counting.{loaded}
+use Rattle.opening_book.specs.Opening.{after_opening, is_opening_change, opened_book}
+use Rattle.opening_book.specs.Counting.{greatest_id}
 use Rattle.opening_book.proofs.Following.{names-opening}
 use Rattle.server_model.specs.Run.{Exchange, AllAllowed, run}
 use Rattle.turns.specs.declared.turn.Turn.{Turn}
@@ -32,8 +32,9 @@ use Rattle.orch_core.specs.Commands.{jobs_updated}
 use Rattle.jobs_in_flight.specs.Jobs.{book_turned, job_at, job_exchanges, jobs_turned, stored, with_job, without_job, without_leases}
 use Rattle.orch_core.specs.Jobs.{turn_of}
 use Rattle.orch_core.specs.Polls.{command_outcome, reading, slot_at}
+use Rattle.orch_core.specs.Restarts.{last_given}
 use Rattle.orch_core.specs.Runs.{step}
-use Rattle.orch_core.specs.Scenarios.{start, start_changes, start_moment, start_world}
+use Rattle.orch_core.specs.Scenarios.{loaded_audit, loaded_book, start, start_changes, start_moment, start_world}
 use Rattle.orch_core.specs.States.{State, IsSlot}
 use Rattle.orch_core.specs.Turns.{exchanges_of}
 use Rattle.orch_core.proofs.Servers.{servers-run, servers-start}
@@ -171,8 +172,8 @@ Ready-step count rows s turn.Restart ready is =
     let small = ready.book.small in
     record {
       servers = ready.servers;
-      book = IsBook-loaded s.book.settings rows (omega (arith, few, small));
-      names = ap length (names-loaded s.book.settings rows) ∙ (length-map s.book.settings (λ x. x.name) ∙ (few ∙ ready.names));
+      book = IsBook-loaded s.book.settings (last_given s) rows (omega (arith, few, small));
+      names = ap length (names-loaded s.book.settings (last_given s) rows) ∙ (length-map s.book.settings (λ x. x.name) ∙ (few ∙ ready.names));
       slots = length-replicate {A = Option Observation} pollers None;
       observed = All-replicate (IsSlot count) pollers None tt;
       sources = ready.sources;
@@ -181,34 +182,34 @@ Ready-step count rows s turn.Restart ready is =
 
 -- ---- an opening
 
-IsBook-opening : (b : BookState) (c : Change) → IsBook b → IsTrue (fits (length b.names) c) → IsBook (after_opening b c)
+IsBook-opening : (b : BookState) (c : Change) → IsBook b → IsTrue (is_opening_change (length b.names) c) → IsBook (after_opening b c)
 IsBook-opening b (change.Remove t k) is fit = change_is b (change.Remove t k) is fit
 IsBook-opening b (change.Put (row.Instance i)) is fit = IsBook-ringed _ i.no (shown_by i) (put_is b (row.Instance i) is fit)
 IsBook-opening b (change.Put (row.Downtime d)) is fit = put_is b (row.Downtime d) is fit
 IsBook-opening b (change.Put (row.Candidate c)) is fit = put_is b (row.Candidate c) is fit
-IsBook-opening b (change.Put (row.Recovery r)) is fit = put_is b (row.Recovery r) is fit
+IsBook-opening b (change.Put (row.Recovery r)) is fit = is
 IsBook-opening b (change.Put (row.Switch enabled)) is fit = put_is b (row.Switch enabled) is fit
 
 names-opened : (b : BookState) (cs : List Change) → (opened_book b cs).names ≡ b.names
 names-opened b [] = refl
 names-opened b (c ∷ cs) = names-opened (after_opening b c) cs ∙ names-opening b c
 
-IsBook-opened : (b : BookState) (cs : List Change) → IsBook b → All (λ c. IsTrue (fits (length b.names) c)) cs → IsBook (opened_book b cs)
+IsBook-opened : (b : BookState) (cs : List Change) → IsBook b → All (λ c. IsTrue (is_opening_change (length b.names) c)) cs → IsBook (opened_book b cs)
 IsBook-opened b [] is all = is
 IsBook-opened b (c ∷ cs) is all =
-    IsBook-opened (after_opening b c) cs (IsBook-opening b c is (All-head (λ x. IsTrue (fits (length b.names) x)) c cs all))
-    (subst (λ (n : ℕ). All (λ x. IsTrue (fits n x)) cs) (sym (ap length (names-opening b c))) (All-tail (λ x. IsTrue (fits (length b.names) x)) c cs all))
+    IsBook-opened (after_opening b c) cs (IsBook-opening b c is (All-head (λ x. IsTrue (is_opening_change (length b.names) x)) c cs all))
+    (subst (λ (n : ℕ). All (λ x. IsTrue (is_opening_change n x)) cs) (sym (ap length (names-opening b c))) (All-tail (λ x. IsTrue (is_opening_change (length b.names) x)) c cs all))
 
 pub Ready-start : (s : Scenario) (wait : ℕ) (rows : List Row) → IsScenario s → Ready (length s.opening.servers) (start s wait rows)
 Ready-start s wait rows is =
-    let b = loaded (settings_of s) rows in
+    let b = loaded_book s rows in
     let count : length (settings_of s) ≡ length s.opening.servers = length-map s.opening.servers (λ i. i.settings) in
     let few = is.checked.listed.few in
-    let names : length b.names ≡ length s.opening.servers = ap length (names-loaded (settings_of s) rows) ∙ (length-map (settings_of s) (λ x. x.name) ∙ count) in
+    let names : length b.names ≡ length s.opening.servers = ap length (names-loaded (settings_of s) greatest_id rows) ∙ (length-map (settings_of s) (λ x. x.name) ∙ count) in
     record {
       servers = servers-start s;
-      book = IsBook-opened b (start_changes s rows) (IsBook-loaded (settings_of s) rows (omega (arith, count, few)))
-          (fits-opening (start_world s) (start_moment s rows) b s.known (sources-start s is) (names ∙ sym (servers-start s)));
+      book = IsBook-opened b (start_changes s rows) (IsBook-loaded (settings_of s) greatest_id rows (omega (arith, count, few)))
+          (fits-opening (start_world s) (start_moment s rows) b s.known s.rules (loaded_audit s rows) (sources-start s is) (names ∙ sym (servers-start s)) (is.rules ∙ sym (servers-start s)));
       names = ap length (names-opened b (start_changes s rows)) ∙ names;
       slots = length-replicate {A = Option Observation} pollers None;
       observed = All-replicate (IsSlot (length s.opening.servers)) pollers None tt;

@@ -40,8 +40,8 @@ IsBook-rows : (b : BookState) (rows : List Row) → IsBook b → IsBook (fold af
 IsBook-rows b [] is = is
 IsBook-rows b (r ∷ rows) is = IsBook-rows (after_row b r) rows (IsBook-row b r is)
 
-pub IsBook-loaded : (settings : List Settings) (rows : List Row) → length settings < 2 ^ 32 → IsBook (loaded settings rows)
-IsBook-loaded settings rows small = IsBook-rows (empty_book settings) (counted (length settings) rows) (empty_is settings small)
+pub IsBook-loaded : (settings : List Settings) (last : ℕ) (rows : List Row) → length settings < 2 ^ 32 → IsBook (loaded settings last rows)
+IsBook-loaded settings last rows small = IsBook-rows (empty_book settings) (counted (length settings) last rows) (empty_is settings small)
 
 seen-fits : (count : ℕ) (seen : Option Seen) (kept : Seen) → are_known count (seen_servers seen) ≡ true → are_known count (source_servers kept.source) ≡ true → are_known count (source_servers (unwrap_or seen kept).source) ≡ true
 seen-fits count None kept now before = before

@@ -8,9 +8,12 @@ use Rattle.instance_keeper.specs.declared.observation.Observation.{Observation}
 use Rattle.instance_keeper.specs.Book.{BookState, instance_at}
 use Rattle.commands.specs.declared.refusal.Refusal.{Refusal}
 use Rattle.command_routes.specs.declared.route.Planner.{Planner}
+use Rattle.command_routes.specs.declared.route.Route.{Route}
+use Rattle.command_routes.specs.declared.route.Route.TheVariants.{Discovers, Forgets, Asks, Decides, Begins, Unbuilt}
+use Rattle.command_routes.specs.Routes.{route_of}
 use Rattle.command_jobs.specs.Jobs.{leases_by, leases_with, plan_by, plan_with, planner_for, refusal_by}
 use Rattle.commands.specs.declared.turn.Command.{Command}
-use Rattle.asking_commands.specs.Answers.{permitted}
+use Rattle.asking_commands.specs.Answers.{allowed}
 use Rattle.server_words.specs.declared.changes.Event.TheVariants as event
 use Rattle.server_model.specs.Run.{Write, Fetch, Apply, Befall, Rotate}
 use Rattle.turns.specs.declared.turn.Turn.{Turn}
@@ -20,7 +23,7 @@ use Rattle.job_laws.specs.Flights.{Flight}
 use Rattle.job_laws.specs.Leases.{leases_of}
 use Rattle.job_laws.specs.Passages.{Passage}
 use Rattle.job_laws.specs.Passages as pass
-use Rattle.orch_core.specs.Commands.{reads_server, removes}
+use Rattle.orch_core.specs.Commands.{removal_refusal}
 use Rattle.jobs_in_flight.specs.Jobs.{job_observation}
 use Rattle.orch_core.specs.Jobs.{turned_at}
 use Rattle.orch_core.specs.Polls.{reading, slot_at}
@@ -65,10 +68,10 @@ abbrev pub by_removal : Result Unit Refusal → ServerNo → List Passage
 by_removal (Ok permit) i = pass.Forgetting i ∷ []
 by_removal (Err r) i = []
 
--- discover, forget, and the commands that only ask
-abbrev pub by_instance : State → Command → Option ServerNo → List Passage
-by_instance s c None = []
-by_instance s c (Some i) = if reads_server c.name then by_discovery s i else (if removes c.name then by_removal (permitted s.book c) i else [])
+-- about the instance, where one is given
+abbrev pub by_instance : (ServerNo → List Passage) → Option ServerNo → List Passage
+by_instance some None = []
+by_instance some (Some i) = some i
 
 -- the job that a command begins, by its planner
 abbrev pub job_by : State → Command → Planner → Job
@@ -79,15 +82,23 @@ abbrev pub job_begun : State → Command → Job
 job_begun s c = job_with (s.last_job + 1) s.configuration.wait (plan_with s.world s.book c (planner_for c.name))
 
 abbrev pub leases_begun : State → Command → List ServerNo
-leases_begun s c = leases_with s.book c (planner_for c.name)
+leases_begun s c = leases_with s.world s.book c (planner_for c.name)
 
 abbrev pub by_permission : State → Command → Planner → Option Refusal → List Passage
-by_permission s c p None = pass.Beginning (leases_by s.book c p) (job_by s c p) ∷ []
+by_permission s c p None = pass.Beginning (leases_by s.world s.book c p) (job_by s c p) ∷ []
 by_permission s c p (Some r) = []
 
-abbrev pub by_command : State → Command → Option Planner → List Passage
-by_command s c None = by_instance s c c.i
-by_command s c (Some p) = by_permission s c p (refusal_by s.world s.book c p)
+-- a question and a decision leave the servers and all that jobs go by
+abbrev pub by_route : State → Command → Route → List Passage
+by_route s c Discovers = by_instance (by_discovery s) c.i
+by_route s c Forgets = by_instance (by_removal (allowed (removal_refusal s.book c))) c.i
+by_route s c (Asks question) = []
+by_route s c (Decides decision) = []
+by_route s c (Begins p) = by_permission s c p (refusal_by s.world s.book (moment_at s) c p)
+by_route s c Unbuilt = []
+
+abbrev pub by_command : State → Command → List Passage
+by_command s c = by_route s c (route_of c.name)
 
 abbrev pub passages_of : State → Turn → List Passage
 passages_of s (turn.Write n size) = pass.Exchanging (Write n.0 size) ∷ []
@@ -103,5 +114,5 @@ passages_of s (turn.Job job) = pass.Turning job (next_count s.reads) (moment_at 
 passages_of s turn.Scan = []
 passages_of s (turn.PollRead p n) = by_poll s p n
 passages_of s (turn.PollStore p) = pass.Storing p (takes s.book (slot_at s p)) ∷ []
-passages_of s (turn.Command c) = by_command s c.command (planner_for c.command.name)
+passages_of s (turn.Command c) = by_command s c.command
 passages_of s turn.Restart = pass.Restarting ∷ []

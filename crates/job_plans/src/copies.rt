@@ -50,11 +50,7 @@ fn copy_sight(sight: &Sight) -> Result<Sight, Memory>
 }
 
 /// The same sights once more, with room for some more.
-pub(crate) fn copy_sights(
-    alloc: Global,
-    seen: &[Sight],
-    more: usize,
-) -> Result<Vec<Sight>, Memory>
+pub(crate) fn copy_sights(alloc: Global, seen: &[Sight], more: usize) -> Result<Vec<Sight>, Memory>
     ensures items { IfOk result (λ v. v.items ≡ seen.now) }
     ensures room { IfOk result (λ v. length seen.now + more ≤ vec_capacity v) }
 {

@@ -1,14 +1,10 @@
 -- Kept rows follow a book from its loading on, through each change.
-use Rattle.std.proofs.Common.{◌≡◌, ◌∙◌, ℕ, ◌+◌, ◌<◌, ◌^◌, Bool, true, false, List, [], ◌∷◌, length, refl, sym, ap, subst, Option, Some, None, zero, suc, arith}
-use Rattle.std.specs.Prelude.{All, IfSome, is_none, slice_index_or, ◌&&◌, ◌==◌, filter, filter_map, fold, option_map, replicate, if◌then◌else◌}
+use Rattle.std.proofs.Common.{◌≡◌, ◌∙◌, ℕ, ◌+◌, ◌<◌, ◌^◌, Bool, true, false, List, [], ◌∷◌, length, map, refl, sym, ap, subst, Option, Some, None, zero, suc, arith}
+use Rattle.std.specs.Prelude.{All, ◌&&◌, ◌==◌, filter, filter_map, fold, option_map, replicate, if◌then◌else◌}
 use Rattle.std.proofs.lemmas.List.Elements.{All-nil, All-cons, All-head, All-tail}
-use Rattle.std.specs.List.{cons_option}
-use Rattle.orch_base.specs.declared.server.Moment.{Moment}
 use Rattle.orch_base.specs.declared.server.Settings.{Settings}
 use Rattle.std.proofs.lemmas.List.{length-map, length-set}
-use Rattle.server_model.specs.declared.server.Server.{Server}
-use Rattle.server_model.specs.Worlds.{World, server_at}
-use Rattle.opening_book.specs.Opening.{after_opening, opened_book, missing, missing_from, put_instance}
+use Rattle.opening_book.specs.Opening.{after_opening, is_opening_change, opened_book, put_recovery}
 use Rattle.orch_base.specs.declared.server.ServerNo.{ServerNo}
 use Rattle.instance_keeper.specs.declared.observation.Instance.{Instance}
 use Rattle.instance_keeper.specs.declared.bridge.Bridge.{Bridge}
@@ -20,6 +16,8 @@ use Rattle.instance_keeper.specs.declared.row.Change.{Change}
 use Rattle.instance_keeper.specs.declared.row.Change.TheVariants as change
 use Rattle.instance_keeper.specs.declared.row.Table.TheVariants as table
 use Rattle.instance_keeper.specs.declared.row.Key.TheVariants as key
+use Rattle.instance_keeper.specs.declared.recovery.Recovery.{Recovery}
+use Rattle.instance_keeper.proofs.NoRecovery.{no_recovery}
 use Rattle.instance_keeper.specs.Book.{BookState, IsBook, row_fits, fits, is_of_book, are_known, servers_of, after_addition, after_put, after_row, after_change, shown_by, book_rows, empty_book}
 use Rattle.instance_keeper.specs.Ranges.{IsInRange}
 use Rattle.instance_keeper.specs.Rows.{sort_key, sort_key_of, table_of, row_in, row_after, map_of, changed, changed_by, IsRising}
@@ -27,8 +25,8 @@ use Rattle.instance_keeper.proofs.BookLaws.{book_change, book_put}
 use Rattle.instance_keeper.proofs.Books.{change_is, empty_is}
 use Rattle.instance_keeper.proofs.Lists.{pairs_head, pairs_tail}
 use Rattle.instance_keeper.proofs.LookUps.{row_in-put, row_in-changed_by, row_in-map_of, map_of_rising, changed_by_rising}
-use Rattle.opening_book.specs.Counting.{counts, is_in_range, loaded}
-use Rattle.opening_book.specs.Following.{is_for_book, IsKeptFor, Follow}
+use Rattle.opening_book.specs.Counting.{counts, greatest_id, is_in_range, loaded}
+use Rattle.opening_book.specs.Following.{is_for_book, IsIdInRange, IsKeptFor, Follow}
 
 -- the row of a sort key that passes a test
 
@@ -38,7 +36,7 @@ pick test p kept r = if test r && (sort_key_of r == p) then Some r else kept
 abbrev picked : (Row → Bool) → ℕ → Option Row → List Row → Option Row
 picked test p kept rows = fold (pick test p) kept rows
 
-abbrev passing : (Row → Bool) → Option Row → Option Row
+abbrev pub passing : (Row → Bool) → Option Row → Option Row
 passing test None = None
 passing test (Some r) = if test r then Some r else None
 
@@ -55,10 +53,10 @@ picked-above test p kept (r ∷ rows) all =
     ap (λ (k : Option Row). picked test p k rows) (unpicked (test r) (sort_key_of r == p) r kept (apart p (sort_key_of r) (All-head (λ x. p < sort_key_of x) r rows all)))
     ∙ picked-above test p kept rows (All-tail (λ x. p < sort_key_of x) r rows all)
 
-rest_rising : (r : Row) (rows : List Row) → IsRising (r ∷ rows) → IsRising rows
+pub rest_rising : (r : Row) (rows : List Row) → IsRising (r ∷ rows) → IsRising rows
 rest_rising r rows rising = record { apart = pairs_tail (λ a b. sort_key_of a < sort_key_of b) r rows rising.apart }
 
-is_eq : (a b : ℕ) → (a == b) ≡ true → a ≡ b
+pub is_eq : (a b : ℕ) → (a == b) ≡ true → a ≡ b
 is_eq a b h = grind arith
 
 picked-rising : (test : Row → Bool) (p : ℕ) (rows : List Row) → IsRising rows → picked test p None rows ≡ passing test (row_in rows p)
@@ -81,7 +79,7 @@ passing-all None = refl
 passing-all (Some r) = refl
 
 -- the map of rising rows has them
-map_of-rising : (rows : List Row) (p : ℕ) → IsRising rows → row_in (map_of rows) p ≡ row_in rows p
+pub map_of-rising : (rows : List Row) (p : ℕ) → IsRising rows → row_in (map_of rows) p ≡ row_in rows p
 map_of-rising rows p rising = row_in-map_of rows p ∙ picked-rising (λ r. true) p rows rising ∙ passing-all (row_in rows p)
 
 -- the rows of a book that is made of those that count
@@ -116,48 +114,57 @@ row_put count b r p like fit =
     let fit' = subst (λ n. row_fits n r ≡ true) (sym like.1) fit in
     ap (λ (rows : List Row). row_in rows p) (book_put b like.0 r fit') ∙ row_in-put (book_rows b) r p
 
-abbrev both : ℕ → Row → Bool
-both count r = counts count r && row_fits count r
+abbrev both : ℕ → ℕ → Row → Bool
+both count until r = counts count until r && row_fits count r
 
 -- taking rows one after another
-made-rows : (count : ℕ) (b : BookState) (rows : List Row) (p : ℕ) → IsLike count b
-    → IsLike count (fold after_row b (filter (counts count) rows)) × (row_in (book_rows (fold after_row b (filter (counts count) rows))) p ≡ picked (both count) p (row_in (book_rows b) p) rows)
-made-rows count b [] p like = (like, refl)
-made-rows count b (r ∷ rows) p like = go (λ x. made-rows count x rows p) (counts count r) (row_fits count r) refl
+made-rows : (count until : ℕ) (b : BookState) (rows : List Row) (p : ℕ) → IsLike count b
+    → IsLike count (fold after_row b (filter (counts count until) rows)) × (row_in (book_rows (fold after_row b (filter (counts count until) rows))) p ≡ picked (both count until) p (row_in (book_rows b) p) rows)
+made-rows count until b [] p like = (like, refl)
+made-rows count until b (r ∷ rows) p like = go (λ x. made-rows count until x rows p) (counts count until r) (row_fits count r) refl
   where
-    go : ((x : BookState) → IsLike count x → IsLike count (fold after_row x (filter (counts count) rows)) × (row_in (book_rows (fold after_row x (filter (counts count) rows))) p ≡ picked (both count) p (row_in (book_rows x) p) rows))
+    go : ((x : BookState) → IsLike count x → IsLike count (fold after_row x (filter (counts count until) rows)) × (row_in (book_rows (fold after_row x (filter (counts count until) rows))) p ≡ picked (both count until) p (row_in (book_rows x) p) rows))
         → (c f : Bool) → row_fits count r ≡ f
-        → IsLike count (fold after_row b (if c then r ∷ filter (counts count) rows else filter (counts count) rows))
-        × (row_in (book_rows (fold after_row b (if c then r ∷ filter (counts count) rows else filter (counts count) rows))) p ≡ picked (both count) p (if (c && f) && (sort_key_of r == p) then Some r else row_in (book_rows b) p) rows)
+        → IsLike count (fold after_row b (if c then r ∷ filter (counts count until) rows else filter (counts count until) rows))
+        × (row_in (book_rows (fold after_row b (if c then r ∷ filter (counts count until) rows else filter (counts count until) rows))) p ≡ picked (both count until) p (if (c && f) && (sort_key_of r == p) then Some r else row_in (book_rows b) p) rows)
     go more false f fit = more b like
     go more true false fit =
         let same = after_row-not count b r like fit in
         let rest = more b like in (
-          subst (λ x. IsLike count (fold after_row x (filter (counts count) rows))) (sym same) rest.0,
-          ap (λ (x : BookState). row_in (book_rows (fold after_row x (filter (counts count) rows))) p) same ∙ rest.1,
+          subst (λ x. IsLike count (fold after_row x (filter (counts count until) rows))) (sym same) rest.0,
+          ap (λ (x : BookState). row_in (book_rows (fold after_row x (filter (counts count until) rows))) p) same ∙ rest.1,
         )
     go more true true fit =
         let new = after_row-fits count b r like fit in
         let rest = more (after_put b r) (taken count b r like fit) in (
-          subst (λ x. IsLike count (fold after_row x (filter (counts count) rows))) (sym new) rest.0,
-          ap (λ (x : BookState). row_in (book_rows (fold after_row x (filter (counts count) rows))) p) new ∙ rest.1 ∙ ap (λ (x : Option Row). picked (both count) p x rows) (row_put count b r p like fit),
+          subst (λ x. IsLike count (fold after_row x (filter (counts count until) rows))) (sym new) rest.0,
+          ap (λ (x : BookState). row_in (book_rows (fold after_row x (filter (counts count until) rows))) p) new ∙ rest.1 ∙ ap (λ (x : Option Row). picked (both count until) p x rows) (row_put count b r p like fit),
         )
 
 -- a row that counts and is of a book's table is one that the book takes
-both-is : (count : ℕ) (r : Row) → both count r ≡ is_for_book count r
-both-is count r = go (is_of_book (table_of r)) (are_known count (servers_of r)) (is_in_range r)
+both-is : (count until : ℕ) (r : Row) → both count until r ≡ is_for_book count r
+both-is count until r = by r
   where
-    go : (o k i : Bool) → (k && i) && (o && k) ≡ o && (k && i)
-    go true true true = refl
-    go true true false = refl
-    go true false i = refl
-    go false true true = refl
-    go false true false = refl
-    go false false i = refl
+    same : (k i : Bool) → (k && i) && (true && k) ≡ true && (k && i)
+    same true true = refl
+    same true false = refl
+    same false i = refl
 
-kept_for : (count : ℕ) (x : Option Row) → IsKeptFor count x (passing (both count) x)
-kept_for count None = tt
-kept_for count (Some r) = go (both count r) (both-is count r)
+    neither : (k i j : Bool) → (k && i) && (false && k) ≡ false && (k && j)
+    neither true true j = refl
+    neither true false j = refl
+    neither false i j = refl
+
+    by : (r : Row) → both count until r ≡ is_for_book count r
+    by (row.Instance i) = same (are_known count (servers_of (row.Instance i))) (is_in_range until (row.Instance i))
+    by (row.Downtime d) = same (are_known count (servers_of (row.Downtime d))) (is_in_range until (row.Downtime d))
+    by (row.Candidate c) = same (are_known count (servers_of (row.Candidate c))) (is_in_range until (row.Candidate c))
+    by (row.Recovery x) = neither (are_known count (servers_of (row.Recovery x))) (is_in_range until (row.Recovery x)) (is_in_range greatest_id (row.Recovery x))
+    by (row.Switch e) = same (are_known count (servers_of (row.Switch e))) (is_in_range until (row.Switch e))
+
+kept_for : (count until : ℕ) (x : Option Row) → IsKeptFor count x (passing (both count until) x)
+kept_for count until None = tt
+kept_for count until (Some r) = go (both count until r) (both-is count until r)
   where
     go : (b : Bool) → b ≡ is_for_book count r → IsKeptFor count (Some r) (if b then Some r else None)
     go true is = refl
@@ -171,20 +178,20 @@ empty-rows : (settings : List Settings) (p : ℕ) → row_in (book_rows (empty_b
 empty-rows settings p = rw (none-filtered row.Instance (length settings), none-filtered row.Downtime (length settings), none-filtered row.Candidate (length settings)) refl
 
 -- rows follow the book that is loaded of them
-pub Follow-loaded : (settings : List Settings) (rows : List Row) → length settings < 2 ^ 32 → IsRising rows → Follow rows (loaded settings rows)
+pub Follow-loaded : (settings : List Settings) (until : ℕ) (rows : List Row) → length settings < 2 ^ 32 → IsRising rows → Follow rows (loaded settings until rows)
 unfolding IsLike
-Follow-loaded settings rows small rising =
+Follow-loaded settings until rows small rising =
     let count = length settings in
-    let made : (p : ℕ) → IsLike count (loaded settings rows) × (row_in (book_rows (loaded settings rows)) p ≡ picked (both count) p (row_in (book_rows (empty_book settings)) p) (map_of rows)) =
-    λ p. made-rows count (empty_book settings) (map_of rows) p (empty_is settings small, length-map settings (λ s. s.name)) in
-    let look : (p : ℕ) → row_in (book_rows (loaded settings rows)) p ≡ passing (both count) (row_in rows p) = λ p.
-    (made p).1 ∙ ap (λ (x : Option Row). picked (both count) p x (map_of rows)) (empty-rows settings p)
-    ∙ picked-rising (both count) p (map_of rows) (map_of_rising rows) ∙ ap (passing (both count)) (map_of-rising rows p rising) in
+    let made : (p : ℕ) → IsLike count (loaded settings until rows) × (row_in (book_rows (loaded settings until rows)) p ≡ picked (both count until) p (row_in (book_rows (empty_book settings)) p) (map_of rows)) =
+    λ p. made-rows count until (empty_book settings) (map_of rows) p (empty_is settings small, length-map settings (λ s. s.name)) in
+    let look : (p : ℕ) → row_in (book_rows (loaded settings until rows)) p ≡ passing (both count until) (row_in rows p) = λ p.
+    (made p).1 ∙ ap (λ (x : Option Row). picked (both count until) p x (map_of rows)) (empty-rows settings p)
+    ∙ picked-rising (both count until) p (map_of rows) (map_of_rising rows) ∙ ap (passing (both count until)) (map_of-rising rows p rising) in
     record {
       rising = rising;
       book = (made 0).0.0;
-      each = λ p. subst (λ n. IsKeptFor n (row_in rows p) (row_in (book_rows (loaded settings rows)) p)) (sym (made 0).0.1)
-          (subst (IsKeptFor count (row_in rows p)) (sym (look p)) (kept_for count (row_in rows p)));
+      each = λ p. subst (λ n. IsKeptFor n (row_in rows p) (row_in (book_rows (loaded settings until rows)) p)) (sym (made 0).0.1)
+          (subst (IsKeptFor count (row_in rows p)) (sym (look p)) (kept_for count until (row_in rows p)));
     }
 
 kept_changed : (count p : ℕ) (x y : Option Row) (c : Change) → IsKeptFor count x y → IsKeptFor count (row_after p x c) (row_after p y c)
@@ -263,14 +270,33 @@ Follow-addition rows b i follow fit =
     Follow-rings (changed_by rows (change.Put (row.Instance i))) (after_put b (row.Instance i)) (ringed b.rings i.no (shown_by i)) (length-ringed b.rings i.no (shown_by i) ∙ follow.book.rings)
     (Follow-change rows b (change.Put (row.Instance i)) follow fit tt)
 
+-- a recovery stands in no book
+pub Follow-recovery : (rows : List Row) (b : BookState) (r : Recovery) → r.id < 2 ^ 64 → Follow rows b → Follow (changed_by rows (put_recovery r)) b
+Follow-recovery rows b r small follow = record {
+  rising = changed_by_rising rows (put_recovery r) follow.rising;
+  book = follow.book;
+  each = λ p. subst (λ (x : Option Row). IsKeptFor (length b.names) x (row_in (book_rows b) p)) (sym (row_in-changed_by rows (put_recovery r) p)) (go p (sort_key_of (row.Recovery r) == p) refl);
+}
+  where
+    go : (p : ℕ) (e : Bool) → (sort_key_of (row.Recovery r) == p) ≡ e → IsKeptFor (length b.names) (if e then Some (row.Recovery r) else row_in rows p) (row_in (book_rows b) p)
+    go p false is = follow.each p
+    go p true is =
+        let at : sort_key_of (row.Recovery r) ≡ p = is_eq (sort_key_of (row.Recovery r)) p is in
+        subst (IsKeptFor (length b.names) (Some (row.Recovery r))) (sym (no_recovery b follow.book p (omega (arith, at)) (omega (arith, at, small)))) refl
+
+pub Follow-recoveries : (rows : List Row) (b : BookState) (rs : List Recovery) → All (λ r. r.id < 2 ^ 64) rs → Follow rows b → Follow (changed rows (map put_recovery rs)) b
+Follow-recoveries rows b [] small follow = follow
+Follow-recoveries rows b (r ∷ rs) small follow =
+    Follow-recoveries (changed_by rows (put_recovery r)) b rs (All-tail (λ (x : Recovery). x.id < 2 ^ 64) r rs small) (Follow-recovery rows b r (All-head (λ (x : Recovery). x.id < 2 ^ 64) r rs small) follow)
+
 -- and so they do after a change of the opening
-pub Follow-opening : (rows : List Row) (b : BookState) (c : Change) → Follow rows b → fits (length b.names) c ≡ true → IsInRange c → Follow (changed_by rows c) (after_opening b c)
-Follow-opening rows b (change.Remove t k) follow fit range = Follow-change rows b (change.Remove t k) follow fit range
-Follow-opening rows b (change.Put (row.Instance i)) follow fit range = Follow-addition rows b i follow fit
-Follow-opening rows b (change.Put (row.Downtime d)) follow fit range = Follow-change rows b (change.Put (row.Downtime d)) follow fit range
-Follow-opening rows b (change.Put (row.Candidate c)) follow fit range = Follow-change rows b (change.Put (row.Candidate c)) follow fit range
-Follow-opening rows b (change.Put (row.Recovery r)) follow fit range = Follow-change rows b (change.Put (row.Recovery r)) follow fit range
-Follow-opening rows b (change.Put (row.Switch enabled)) follow fit range = Follow-change rows b (change.Put (row.Switch enabled)) follow fit range
+pub Follow-opening : (rows : List Row) (b : BookState) (c : Change) → Follow rows b → is_opening_change (length b.names) c ≡ true → IsInRange c → IsIdInRange c → Follow (changed_by rows c) (after_opening b c)
+Follow-opening rows b (change.Remove t k) follow fit range id = Follow-change rows b (change.Remove t k) follow fit range
+Follow-opening rows b (change.Put (row.Instance i)) follow fit range id = Follow-addition rows b i follow fit
+Follow-opening rows b (change.Put (row.Downtime d)) follow fit range id = Follow-change rows b (change.Put (row.Downtime d)) follow fit range
+Follow-opening rows b (change.Put (row.Candidate c)) follow fit range id = Follow-change rows b (change.Put (row.Candidate c)) follow fit range
+Follow-opening rows b (change.Put (row.Recovery r)) follow fit range id = Follow-recovery rows b r id follow
+Follow-opening rows b (change.Put (row.Switch enabled)) follow fit range id = Follow-change rows b (change.Put (row.Switch enabled)) follow fit range
 
 pub names-opening : (b : BookState) (c : Change) → (after_opening b c).names ≡ b.names
 names-opening b (change.Remove t k) = names-change b (change.Remove t k)
@@ -280,32 +306,13 @@ names-opening b (change.Put (row.Candidate c)) = refl
 names-opening b (change.Put (row.Recovery r)) = refl
 names-opening b (change.Put (row.Switch enabled)) = refl
 
--- changes that a book takes
+-- changes of an opening
 abbrev pub Takes : ℕ → Change → Type 0
-Takes count c = (fits count c ≡ true) × IsInRange c
+Takes count c = (is_opening_change count c ≡ true) × IsInRange c × IsIdInRange c
 
 pub Follow-opened : (rows : List Row) (b : BookState) (cs : List Change) → Follow rows b → All (Takes (length b.names)) cs → Follow (changed rows cs) (opened_book b cs)
 Follow-opened rows b [] follow all = follow
 Follow-opened rows b (c ∷ cs) follow all =
     let here = All-head (Takes (length b.names)) c cs all in
-    Follow-opened (changed_by rows c) (after_opening b c) cs (Follow-opening rows b c follow here.0 here.1)
+    Follow-opened (changed_by rows c) (after_opening b c) cs (Follow-opening rows b c follow here.0 here.1 here.2)
     (subst (λ ns. All (Takes (length ns)) cs) (sym (names-opening b c)) (All-tail (Takes (length b.names)) c cs all))
-
-option-range : (o : Option Change) (cs : List Change) → IfSome o IsInRange → All IsInRange cs → All IsInRange (cons_option o cs)
-option-range None cs here rest = rest
-option-range (Some c) cs here rest = All-cons IsInRange c cs here rest
-
-put-range : (w : World) (at : Moment) (n : ℕ) (o : Option Server) → IfSome (put_instance w at n o) IsInRange
-put-range w at n None = tt
-put-range w at n (Some s) = tt
-
-missing-range : (w : World) (at : Moment) (b : BookState) (n : ℕ) (known : Bool) → IfSome (missing w at b n known) IsInRange
-missing-range w at b n known = go (known && is_none (slice_index_or b.instances n None))
-  where
-    go : (lacks : Bool) → IfSome (if lacks then put_instance w at n (server_at w n) else None) IsInRange
-    go true = put-range w at n (server_at w n)
-    go false = tt
-
-pub missing_from-range : (w : World) (at : Moment) (b : BookState) (n : ℕ) (known : List Bool) → All IsInRange (missing_from w at b n known)
-missing_from-range w at b n [] = All-nil IsInRange
-missing_from-range w at b n (k ∷ ks) = option-range (missing w at b n k) (missing_from w at b (n + 1) ks) (missing-range w at b n k) (missing_from-range w at b (n + 1) ks)

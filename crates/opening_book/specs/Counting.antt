@@ -11,7 +11,7 @@ use Rattle.instance_keeper.specs.Book.{BookState, are_known, servers_of, book_ma
 abbrev pub greatest : ℕ
 greatest = 2 ^ 63
 
--- ids of recoveries are at most this
+-- at an opening ids of recoveries are at most this
 abbrev pub greatest_id : ℕ
 greatest_id = 2 ^ 62
 
@@ -19,20 +19,21 @@ abbrev pub is_end_in_range : Option Moment → Bool
 is_end_in_range None = true
 is_end_in_range (Some ended) = nat_le ended.0 greatest
 
-abbrev pub is_in_range : Row → Bool
-is_in_range (row.Instance i) = nat_le i.read greatest && nat_le i.moment.0 greatest
-is_in_range (row.Downtime d) = nat_le d.begun.0 greatest && nat_le d.until.0 greatest
-is_in_range (row.Candidate c) = nat_le c.until.0 greatest
-is_in_range (row.Recovery r) = (nat_le 1 r.id && nat_le r.id greatest_id) && (nat_le r.begun.0 greatest && is_end_in_range r.ended)
-is_in_range (row.Switch enabled) = true
+-- a row's numbers are in their ranges; ids of recoveries are 1 to this last one
+abbrev pub is_in_range : ℕ → Row → Bool
+is_in_range last (row.Instance i) = nat_le i.read greatest && nat_le i.moment.0 greatest
+is_in_range last (row.Downtime d) = nat_le d.begun.0 greatest && nat_le d.until.0 greatest
+is_in_range last (row.Candidate c) = nat_le c.until.0 greatest
+is_in_range last (row.Recovery r) = (nat_le 1 r.id && nat_le r.id last) && (nat_le r.begun.0 greatest && is_end_in_range r.ended)
+is_in_range last (row.Switch enabled) = true
 
--- whether a row counts among so many servers
-abbrev pub counts : ℕ → Row → Bool
-counts servers r = are_known servers (servers_of r) && is_in_range r
+-- whether a row counts among so many servers, by the last id that counts
+abbrev pub counts : ℕ → ℕ → Row → Bool
+counts servers last r = are_known servers (servers_of r) && is_in_range last r
 
 -- the rows that count, of two with one table and key the last: by table, then key
-abbrev pub counted : ℕ → List Row → List Row
-counted servers rows = filter (counts servers) (map_of rows)
+abbrev pub counted : ℕ → ℕ → List Row → List Row
+counted servers last rows = filter (counts servers last) (map_of rows)
 
 abbrev pub end_or : ℕ → Option Moment → ℕ
 end_or now None = now
@@ -62,5 +63,5 @@ abbrev pub last_read : List Row → ℕ
 last_read rows = fold later_read 0 rows
 
 -- the book of the rows that count
-abbrev pub loaded : List Settings → List Row → BookState
-loaded settings rows = book_made settings (counted (length settings) rows)
+abbrev pub loaded : List Settings → ℕ → List Row → BookState
+loaded settings last rows = book_made settings (counted (length settings) last rows)

@@ -1,13 +1,20 @@
--- Kept rows that follow a book.
-use Rattle.std.specs.Prelude.{◌≡◌, ℕ, ◌&&◌, Bool, false, length, List, Option, None, Some, IfSome}
+-- Kept rows that follow a book and an audit.
+use Rattle.std.specs.Prelude.{◌≡◌, ℕ, ◌-◌, ◌<◌, ◌≤◌, ◌^◌, ◌&&◌, Bool, false, length, List, Option, None, Some, IfSome, ⊤}
+use Rattle.instance_keeper.specs.declared.recovery.Recovery.{Recovery}
 use Rattle.instance_keeper.specs.declared.row.Row.{Row}
 use Rattle.instance_keeper.specs.Book.{BookState, is_of_book, book_rows, IsBook}
-use Rattle.instance_keeper.specs.Rows.{table_of, row_in, IsRising}
-use Rattle.opening_book.specs.Counting.{counts}
+use Rattle.instance_keeper.specs.Rows.{table_of, row_at, row_in, IsRising}
+use Rattle.instance_keeper.specs.declared.row.Row.TheVariants as row
+use Rattle.instance_keeper.specs.declared.row.Change.{Change}
+use Rattle.instance_keeper.specs.declared.row.Change.TheVariants as change
+use Rattle.instance_keeper.specs.declared.row.Table.TheVariants as table
+use Rattle.instance_keeper.specs.declared.row.Key.TheVariants as key
+use Rattle.audit_log.specs.Audits.{AuditState, recovery_at, IsAudit}
+use Rattle.opening_book.specs.Counting.{counts, greatest_id}
 
 -- whether a row would be one of the book of so many servers
 abbrev pub is_for_book : ℕ → Row → Bool
-is_for_book servers r = is_of_book (table_of r) && counts servers r
+is_for_book servers r = is_of_book (table_of r) && counts servers greatest_id r
 
 -- the book's row is kept; where the book has none, a row that is kept is of another table or doesn't count
 abbrev pub IsKeptFor : ℕ → Option Row → Option Row → Type 0
@@ -19,3 +26,23 @@ pub record Follow (rows : List Row) (b : BookState) : Type 0 where
   pub rising : IsRising rows
   pub book : IsBook b
   pub each : (p : ℕ) → IsKeptFor (length b.names) (row_in rows p) (row_in (book_rows b) p)
+
+-- the id of a recovery that is put is in its type's range
+abbrev pub IsIdInRange : Change → Type 0
+IsIdInRange (change.Put (row.Instance i)) = ⊤
+IsIdInRange (change.Put (row.Downtime d)) = ⊤
+IsIdInRange (change.Put (row.Candidate c)) = ⊤
+IsIdInRange (change.Put (row.Recovery r)) = r.id < 2 ^ 64
+IsIdInRange (change.Put (row.Switch enabled)) = ⊤
+IsIdInRange (change.Remove t k) = ⊤
+
+-- the audit's recovery is kept; where the audit has none, a row that is kept doesn't count by the next id
+abbrev pub IsAudited : ℕ → ℕ → Option Row → Option Recovery → Type 0
+IsAudited servers next kept (Some r) = kept ≡ Some (row.Recovery r)
+IsAudited servers next kept None = IfSome kept (λ r. counts servers (next - 1) r ≡ false)
+
+-- so it is at each id
+pub record FollowAudit (servers : ℕ) (rows : List Row) (a : AuditState) : Type 0 where
+  pub audit : IsAudit a
+  pub small : a.next ≤ 2 ^ 64
+  pub each : (id : ℕ) → id < 2 ^ 64 → IsAudited servers a.next (row_at rows table.Recovery (key.Id id)) (recovery_at a id)

@@ -1,13 +1,19 @@
--- The book at an opening: that of the rows that count, and an instance of each known server that it lacks.
-use Rattle.std.specs.Prelude.{ℕ, ◌+◌, ◌&&◌, Bool, if◌then◌else◌, List, [], ◌∷◌, fold, Option, None, Some, is_none, slice_index_or}
+-- What is kept at an opening beyond the rows that count: an instance of each known server that has none, the registrations that the
+-- scenario gives, and the recoveries that it interrupts.
+use Rattle.std.specs.Prelude.{ℕ, ◌+◌, ◌&&◌, Bool, true, if◌then◌else◌, List, [], ◌∷◌, ◌++◌, fold, map, Option, None, Some, is_none, slice_index_or}
 use Rattle.std.specs.List.{cons_option}
+use Rattle.orch_base.specs.declared.rule.Rule.{Rule}
 use Rattle.orch_base.specs.declared.server.Moment.{Moment}
 use Rattle.instance_keeper.specs.declared.observation.Instance.{Instance}
+use Rattle.instance_keeper.specs.declared.recovery.Recovery.{Recovery}
+use Rattle.instance_keeper.specs.declared.row.Candidate.{Candidate}
 use Rattle.instance_keeper.specs.declared.row.Row.{Row}
 use Rattle.instance_keeper.specs.declared.row.Row.TheVariants as row
 use Rattle.instance_keeper.specs.declared.row.Change.{Change}
 use Rattle.instance_keeper.specs.declared.row.Change.TheVariants as change
-use Rattle.instance_keeper.specs.Book.{BookState, after_addition, after_put, after_removal}
+use Rattle.instance_keeper.specs.Book.{BookState, after_addition, after_put, after_removal, fits, row_fits}
+use Rattle.instance_keeper.specs.Had.{put_change}
+use Rattle.audit_log.specs.Audits.{AuditState, closing}
 use Rattle.server_model.specs.declared.server.Server.{Server}
 use Rattle.server_model.specs.Worlds.{World, server_at}
 use Rattle.server_model.specs.Gtids.{shown_of}
@@ -24,13 +30,52 @@ put_instance w at n (Some s) = Some (change.Put (row.Instance (opening_instance 
 abbrev pub missing : World → Moment → BookState → ℕ → Bool → Option Change
 missing w at b n known = if known && is_none (slice_index_or b.instances n None) then put_instance w at n (server_at w n) else None
 
-abbrev pub missing_from : World → Moment → BookState → ℕ → List Bool → List Change
-missing_from w at b n [] = []
-missing_from w at b n (known ∷ rest) = cons_option (missing w at b n known) (missing_from w at b (n + 1) rest)
+-- the changes that servers bring one after the other, from number n on
+abbrev pub changes_from : {A : Type 0} → (ℕ → A → Option Change) → ℕ → List A → List Change
+changes_from change_of n [] = []
+changes_from change_of n (x ∷ rest) = cons_option (change_of n x) (changes_from change_of (n + 1) rest)
 
--- the changes of the opening, by whether each server is known
-abbrev pub opening_changes : World → Moment → BookState → List Bool → List Change
-opening_changes w at b known = missing_from w at b 0 known
+abbrev pub missing_from : World → Moment → BookState → ℕ → List Bool → List Change
+missing_from w at b n known = changes_from (missing w at b) n known
+
+-- how long a registration of the scenario lasts, in seconds
+abbrev pub registered_for : ℕ
+registered_for = 3600
+
+-- a server's registration with a rule from the opening on
+abbrev pub registered : Moment → ℕ → Rule → Candidate
+registered at n rule = record { no = record { 0 = n }; rule = rule; until = record { 0 = at.0 + registered_for } }
+
+-- what is put for server n: its registration, where the scenario gives it a rule, unless it is kept already
+abbrev pub registering : Moment → BookState → ℕ → Option Rule → Option Change
+registering at b n None = None
+registering at b n (Some rule) = put_change b (row.Candidate (registered at n rule))
+
+abbrev pub registering_from : Moment → BookState → ℕ → List (Option Rule) → List Change
+registering_from at b n rules = changes_from (registering at b) n rules
+
+abbrev pub put_recovery : Recovery → Change
+put_recovery r = change.Put (row.Recovery r)
+
+-- the unended recoveries, as interrupted
+abbrev pub interrupting : AuditState → Moment → List Change
+interrupting a at = map put_recovery (closing a at)
+
+-- the changes of the opening, by whether each server is known, its rule, and the audit
+abbrev pub opening_changes : World → Moment → BookState → List Bool → List (Option Rule) → AuditState → List Change
+opening_changes w at b known rules a = missing_from w at b 0 known ++ (registering_from at b 0 rules ++ interrupting a at)
+
+-- a change of an opening: one that the book takes, or of a recovery, which stands in the audit
+abbrev pub is_opening_row : ℕ → Row → Bool
+is_opening_row count (row.Instance i) = row_fits count (row.Instance i)
+is_opening_row count (row.Downtime d) = row_fits count (row.Downtime d)
+is_opening_row count (row.Candidate c) = row_fits count (row.Candidate c)
+is_opening_row count (row.Recovery r) = true
+is_opening_row count (row.Switch enabled) = row_fits count (row.Switch enabled)
+
+abbrev pub is_opening_change : ℕ → Change → Bool
+is_opening_change count (change.Put r) = is_opening_row count r
+is_opening_change count (change.Remove t k) = fits count (change.Remove t k)
 
 -- a row that is put at the opening: an instance is added with the bridge that it shows where it is valid
 abbrev pub after_first : BookState → Row → BookState

@@ -12,8 +12,8 @@ use std::alloc::Global;
 /// Read numbers and moments of rows that count are at most this.
 const GREATEST: u64 = 1 << 63;
 
-/// Ids of recoveries that count are at most this.
-const GREATEST_ID: u64 = 1 << 62;
+/// Ids of recoveries that count at an opening are at most this.
+pub const GREATEST_ID: u64 = 1 << 62;
 
 fn is_end_in_range(ended: Option<Moment>) -> bool
     ensures { result ≡ is_end_in_range ended }
@@ -24,38 +24,37 @@ fn is_end_in_range(ended: Option<Moment>) -> bool
     }
 }
 
-fn is_in_range(row: &Row) -> bool
-    ensures { result ≡ is_in_range row.now }
+fn is_in_range(row: &Row, last: u64) -> bool
+    ensures { result ≡ is_in_range last row.now }
 {
     match row {
         Row::Instance(i) => i.read <= GREATEST && i.moment.0 <= GREATEST,
         Row::Downtime(d) => d.begun.0 <= GREATEST && d.until.0 <= GREATEST,
         Row::Candidate(candidate) => candidate.until.0 <= GREATEST,
         Row::Recovery(r) => {
-            (1 <= r.id && r.id <= GREATEST_ID)
-                && (r.begun.0 <= GREATEST && is_end_in_range(r.ended))
+            (1 <= r.id && r.id <= last) && (r.begun.0 <= GREATEST && is_end_in_range(r.ended))
         }
         Row::Switch(_) => true,
     }
 }
 
-// Whether a row counts among so many servers.
-fn counts(row: &Row, servers: u32) -> bool
-    ensures { result ≡ counts servers row.now }
+// Whether a row counts among so many servers, by the last id that counts.
+fn counts(row: &Row, servers: u32, last: u64) -> bool
+    ensures { result ≡ counts servers last row.now }
 {
-    row.are_servers_known(servers) && is_in_range(row)
+    row.are_servers_known(servers) && is_in_range(row, last)
 }
 
 /// The rows that count, by table, then key: of two with one table and key the last is looked at. A row counts where
 /// each server that it names is one of so many, its read number and moments are at most 2^63, and, for a recovery, its
-/// id is 1 to 2^62.
-pub fn counted(alloc: Global, servers: u32, rows: Vec<Row>) -> Result<Vec<Row>, Memory>
-    ensures { IfOk result (λ counting. counting.items ≡ counted servers rows.items) }
+/// id is 1 to this last one: `GREATEST_ID` at an opening, and at a restart the last id that was given.
+pub fn counted(alloc: Global, servers: u32, last: u64, rows: Vec<Row>) -> Result<Vec<Row>, Memory>
+    ensures { IfOk result (λ counting. counting.items ≡ counted servers last rows.items) }
 {
     let map = row_map(alloc, rows)?;
     let mut counting = Vec::new(alloc);
     'rows: for row in map {
-        if counts(&row, servers) {
+        if counts(&row, servers, last) {
             counting.push(row)?;
         }
     }

@@ -1,21 +1,47 @@
 //! What holds of kept rows and the book.
 
-ghost use Rattle.std.specs.Prelude.{◌≡◌, ◌<◌, ◌^◌, true, length, List};
+ghost use Rattle.std.specs.Prelude.{◌≡◌, ◌+◌, ◌-◌, ◌<◌, ◌≤◌, ◌^◌, ℕ, All, true, length, map, List};
+ghost use Rattle.orch_base.specs.declared.server.Moment.{Moment as AMoment};
 ghost use Rattle.orch_base.specs.declared.server.Settings.{Settings};
 ghost use Rattle.instance_keeper.specs.declared.row.Row.{Row};
 ghost use Rattle.instance_keeper.specs.declared.row.Change.{Change};
 ghost use Rattle.instance_keeper.specs.Book.{BookState, fits, after_change};
 ghost use Rattle.instance_keeper.specs.Ranges.{IsInRange};
-ghost use Rattle.instance_keeper.specs.Rows.{changed_by, IsRising};
-ghost use Rattle.opening_book.specs.Counting.{loaded};
-ghost use Rattle.opening_book.specs.Following.{Follow};
-ghost use Rattle.opening_book.specs.Opening.{after_opening};
+ghost use Rattle.instance_keeper.specs.Rows.{changed, changed_by, IsRising};
+ghost use Rattle.instance_keeper.specs.declared.recovery.Recovery.{Recovery};
+ghost use Rattle.audit_log.specs.Audits.{acking, acknowledged, closed, AuditState};
+ghost use Rattle.opening_book.specs.Audits.{audit_of, last_id};
+ghost use Rattle.opening_book.specs.Counting.{counted, greatest_id, loaded};
+ghost use Rattle.opening_book.specs.Following.{Follow, FollowAudit, IsIdInRange};
+ghost use Rattle.opening_book.specs.Opening.{after_opening, interrupting, is_opening_change, put_recovery};
 
 /// Kept rows follow the book that is loaded of them, and go on to do so after each change of both that the book takes,
 /// at the opening and later: under each table and key for which the book has a row that row is kept, and under any
 /// other of its tables only rows that don't count.
 pub fn kept_rows_follow_the_book()
-    ensures loaded { (settings : List Settings) (rows : List Row) → length settings < 2 ^ 32 → IsRising rows → Follow rows (loaded settings rows) }
+    ensures loaded { (settings : List Settings) (last : ℕ) (rows : List Row) → length settings < 2 ^ 32 → IsRising rows → Follow rows (loaded settings last rows) }
     ensures changed { (rows : List Row) (b : BookState) (c : Change) → Follow rows b → fits (length b.names) c ≡ true → IsInRange c → Follow (changed_by rows c) (after_change b c) }
-    ensures opening { (rows : List Row) (b : BookState) (c : Change) → Follow rows b → fits (length b.names) c ≡ true → IsInRange c → Follow (changed_by rows c) (after_opening b c) }
+    ensures opening { (rows : List Row) (b : BookState) (c : Change) → Follow rows b → is_opening_change (length b.names) c ≡ true → IsInRange c → IsIdInRange c → Follow (changed_by rows c) (after_opening b c) }
+{}
+
+/// Kept rows follow the audit that is loaded of them, at an opening and at a restart, and go on to do so after each
+/// change of the book that is kept, after each restart that ends the unended recoveries, and after each
+/// acknowledgement: under each id of which the audit has a recovery that recovery is kept, and under any other id only
+/// what doesn't count.
+pub fn kept_rows_follow_the_audit()
+    ensures opened { (servers : ℕ) (rows : List Row) → servers ≤ 2 ^ 32 → IsRising rows →
+        FollowAudit servers rows (audit_of (last_id rows + 1) (counted servers greatest_id rows)) }
+    ensures loaded { (servers next : ℕ) (rows : List Row) → servers ≤ 2 ^ 32 → 1 ≤ next → next ≤ 2 ^ 64 → IsRising rows →
+        FollowAudit servers rows (audit_of next (counted servers (next - 1) rows)) }
+    ensures book { (servers : ℕ) (rows : List Row) (a : AuditState) (c : Change) → servers ≤ 2 ^ 32 → FollowAudit servers rows a →
+        fits servers c ≡ true → IsInRange c → FollowAudit servers (changed_by rows c) a }
+    ensures closed { (servers : ℕ) (rows : List Row) (a : AuditState) (at : AMoment) → FollowAudit servers rows a →
+        FollowAudit servers (changed rows (interrupting a at)) (closed a at) }
+    ensures acknowledged { (servers : ℕ) (rows : List Row) (a : AuditState) (cluster : List ℕ) → FollowAudit servers rows a →
+        FollowAudit servers (changed rows (map put_recovery (acking a cluster))) (acknowledged a cluster) }
+{}
+
+/// A change of recoveries leaves the book's rows.
+pub fn recoveries_are_no_rows_of_the_book()
+    ensures { (rows : List Row) (b : BookState) (rs : List Recovery) → All (λ r. r.id < 2 ^ 64) rs → Follow rows b → Follow (changed rows (map put_recovery rs)) b }
 {}

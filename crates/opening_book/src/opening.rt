@@ -1,16 +1,19 @@
-//! The book at an opening.
+//! The book at an opening, and what is kept then.
 
-ghost use Rattle.std.specs.Prelude.{◌≡◌, ◌<◌, ◌++◌, IfOk, IfSome, OnOk, All, IsTrue, length};
+ghost use Rattle.std.specs.Prelude.{◌≡◌, ◌<◌, ◌≤◌, ◌^◌, ◌++◌, IfOk, IfSome, OnOk, All, IsTrue, length};
 ghost use Rattle.std.specs.Option.{option_to_list};
-ghost use Rattle.instance_keeper.specs.Book.{fits};
 ghost use Rattle.server_model.specs.Worlds.{server_at};
-ghost use Rattle.opening_book.specs.Opening.{after_opening, opened_book, missing, opening_changes, opening_instance};
+ghost use Rattle.opening_book.specs.Opening.{after_opening, interrupting, is_opening_change, missing, missing_from, opened_book, opening_changes, opening_instance, registered, registering, registering_from};
 
 use crate::Memory;
-use instance_keeper::{Book, Change, Instance, Row};
-use orch_base::{Moment, ServerNo};
+use audit_log::Audit;
+use instance_keeper::{Book, Candidate, Change, Instance, Row};
+use orch_base::{Moment, Rule, ServerNo};
 use server_model::World;
 use std::alloc::Global;
+
+/// How long a registration of the scenario lasts, in seconds.
+const REGISTERED_FOR: u64 = 3600;
 
 // A server as it is known at the opening.
 fn instance(alloc: Global, world: &World, moment: Moment, no: ServerNo) -> Result<Instance, Memory>
@@ -57,9 +60,8 @@ fn push_some(changes: &mut Vec<Change>, change: Option<Change>) -> Result<(), Me
     Ok(())
 }
 
-/// The changes of the opening: the instance of each known server that the book has none of, with read number 0 and this
-/// moment, valid exactly where orchestrator reaches the server, and as seen what a status would show, reached or not.
-pub fn opening_changes(
+// The instances of the known servers that the book has none of.
+fn missing_instances(
     alloc: Global,
     world: &World,
     moment: Moment,
@@ -68,7 +70,7 @@ pub fn opening_changes(
 ) -> Result<Vec<Change>, Memory>
     requires known { length known.now ≡ length world.now.servers }
     requires book { length book.now.names ≡ length world.now.servers }
-    ensures { IfOk result (λ changes. changes.items ≡ opening_changes world.now moment book.now known.now) }
+    ensures { IfOk result (λ changes. changes.items ≡ missing_from world.now moment book.now 0 known.now) }
 {
     let mut changes = Vec::new(alloc);
     for no in 0..world.servers() {
@@ -79,9 +81,89 @@ pub fn opening_changes(
     Ok(changes)
 }
 
-// Makes a change of an opening.
+fn registered(at: Moment, no: ServerNo, rule: Rule) -> Candidate
+    requires { at.0 ≤ 2 ^ 63 }
+    ensures { result ≡ registered at no.0 rule }
+{
+    Candidate {
+        no,
+        rule,
+        until: Moment(at.0 + REGISTERED_FOR),
+    }
+}
+
+// What is put for a server: its registration, where it has a rule, unless the book has it already.
+fn registering(at: Moment, book: &Book, no: ServerNo, rule: Option<Rule>) -> Option<Change>
+    requires moment { at.0 ≤ 2 ^ 63 }
+    requires server { no.0 < length book.now.names }
+    ensures { result ≡ registering at book.now no.0 rule }
+{
+    match rule {
+        Some(rule) => book.putting(Row::Candidate(registered(at, no, rule))),
+        None => None,
+    }
+}
+
+// Appends the registrations of the servers that have a rule.
+fn push_registrations(
+    changes: &mut Vec<Change>,
+    at: Moment,
+    book: &Book,
+    rules: &[Option<Rule>],
+) -> Result<(), Memory>
+    requires moment { at.0 ≤ 2 ^ 63 }
+    requires rules { length rules.now ≡ length book.now.names }
+    ensures { OnOk result (changes.new.items ≡ changes.old.items ++ registering_from at book.now 0 rules.now) }
+{
+    for no in 0..book.servers() {
+        let rule = rules[no as usize];
+        push_some(changes, registering(at, book, ServerNo(no), rule))?;
+    }
+    Ok(())
+}
+
+/// The changes by which each unended recovery of the audit is kept as interrupted.
+pub fn interrupting(alloc: Global, audit: &Audit, at: Moment) -> Result<Vec<Change>, Memory>
+    ensures { IfOk result (λ changes. changes.items ≡ interrupting audit.now.audit at) }
+{
+    let mut changes = Vec::new(alloc);
+    'closed: for recovery in audit.closing(alloc, at)? {
+        changes.push(Change::Put(Row::Recovery(recovery)))?;
+    }
+    Ok(changes)
+}
+
+/// The changes of the opening. First the instance of each known server that the book has none of, with read number 0
+/// and this moment, valid exactly where orchestrator reaches the server, and as seen what a status would show, reached
+/// or not. Then the registration of each server that has a rule, which lasts 3600 seconds from this moment, unless the
+/// book has that very registration. Then each unended recovery, as interrupted at this moment. Moments are at most 2^63.
+pub fn opening_changes(
+    alloc: Global,
+    world: &World,
+    moment: Moment,
+    book: &Book,
+    known: &[bool],
+    rules: &[Option<Rule>],
+    audit: &Audit,
+) -> Result<Vec<Change>, Memory>
+    requires moment { moment.0 ≤ 2 ^ 63 }
+    requires known { length known.now ≡ length world.now.servers }
+    requires rules { length rules.now ≡ length world.now.servers }
+    requires book { length book.now.names ≡ length world.now.servers }
+    ensures { IfOk result (λ changes. changes.items ≡
+        opening_changes world.now moment book.now known.now rules.now audit.now.audit) }
+{
+    let mut changes = missing_instances(alloc, world, moment, book, known)?;
+    push_registrations(&mut changes, moment, book, rules)?;
+    'interrupted: for change in interrupting(alloc, audit, moment)? {
+        changes.push(change)?;
+    }
+    Ok(changes)
+}
+
+// Makes a change of an opening. Recoveries stand in the audit.
 fn open(book: &mut Book, change: Change)
-    requires { IsTrue (fits (length book.old.names) change) }
+    requires { IsTrue (is_opening_change (length book.old.names) change) }
     ensures after { book.new ≡ after_opening book.old change }
     ensures names { book.new.names ≡ book.old.names }
 {
@@ -89,16 +171,16 @@ fn open(book: &mut Book, change: Change)
         Change::Put(Row::Instance(instance)) => book.add(instance),
         Change::Put(Row::Downtime(downtime)) => book.set(Change::Put(Row::Downtime(downtime))),
         Change::Put(Row::Candidate(candidate)) => book.set(Change::Put(Row::Candidate(candidate))),
-        Change::Put(Row::Recovery(recovery)) => book.set(Change::Put(Row::Recovery(recovery))),
+        Change::Put(Row::Recovery(_)) => {}
         Change::Put(Row::Switch(enabled)) => book.set(Change::Put(Row::Switch(enabled))),
         Change::Remove(table, key) => book.set(Change::Remove(table, key)),
     }
 }
 
-/// Makes these changes of an opening, one after another: the bridge that a valid instance shows goes into its ring. It
-/// takes no memory.
+/// Makes these changes of an opening, one after another: the bridge that a valid instance shows goes into its ring. A
+/// recovery isn't the book's. It takes no memory.
 pub fn open_book(book: &mut Book, changes: Vec<Change>)
-    requires { All (λ c. IsTrue (fits (length book.old.names) c)) changes.items }
+    requires { All (λ c. IsTrue (is_opening_change (length book.old.names) c)) changes.items }
     ensures book { book.new ≡ opened_book book.old changes.items }
     ensures names { book.new.names ≡ book.old.names }
 {

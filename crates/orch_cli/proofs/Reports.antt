@@ -25,7 +25,7 @@ use Rattle.tasks.proofs.Known.{cut_begins, cut_is, on_is, whole_is}
 use Rattle.tasks.proofs.Sends.{front_more, front_of_longer, nothing_is_front, rose_later, takes_more, whole_is_front}
 use Rattle.orch_cli.specs.declared.way.Way.{Way}
 use Rattle.orch_cli.specs.declared.way.Way.TheVariants as way
-use Rattle.orch_cli.specs.Ends.{AreTaken, Asks, Call, Closes, Ends, EndsBy, Idles, IsReported, Reports, status_of}
+use Rattle.orch_cli.specs.Ends.{AreTaken, Asks, Call, Closes, Ends, EndsBy, Idles, IsReported, Reports, call, status_of}
 use Rattle.orch_cli.specs.Report.{EndsAs, IsRun, KeepsRows, Report, TakesBehind, WritesErr, WritesOut, read_report, report, task_report, words_report, written_status}
 use Rattle.orch_cli.proofs.Ends.{of_done, of_five, of_four, of_one, of_six, of_three, of_two}
 
@@ -282,6 +282,10 @@ module _ (c : Call) (rows : List Row) (known : c.kept ≡ Some rows) where
 
 pub status_by : (c : Call) (rows : List Row) (status : ℕ) → c.kept ≡ Some rows → EndsBy c status → EndsAs (report c.words c.bytes rows) status
 status_by c rows status known by = subst (EndsAs (report c.words c.bytes rows)) (sym by.1) (ends_as c rows known by.0 by.2)
+
+pub status_told : (left : Option (List ℕ)) (kept kept_now : Option (List Row)) (words : List (List ℕ)) (out err : End) (status : ℕ) → IfSome left (λ bytes. EndsBy (call words bytes kept kept_now out err) status) → IfSome left (λ bytes. IfSome kept (λ rows. EndsAs (report words bytes rows) status))
+status_told left kept kept_now words out err status ended =
+    both left kept (λ bytes. EndsBy (call words bytes kept kept_now out err) status) (λ bytes rows. EndsAs (report words bytes rows) status) (λ bytes rows known by. status_by (call words bytes kept kept_now out err) rows status known by) ended
 
 pub out_by : (c : Call) (rows : List Row) (status : ℕ) → c.kept ≡ Some rows → EndsBy c status → WritesOut (report c.words c.bytes rows) status c.out
 out_by c rows status known by = subst (λ (n : ℕ). WritesOut (report c.words c.bytes rows) n c.out) (sym by.1) (on_out c rows known by.0 by.2)

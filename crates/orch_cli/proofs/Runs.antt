@@ -26,6 +26,7 @@ use Rattle.orch_core.specs.Scenarios.{StartsBy, kept_at_start, start, start_chan
 use Rattle.orch_core.specs.States.{State}
 use Rattle.flight_laws.specs.Ready.{Ready}
 use Rattle.run_laws.specs.Runs.{ComesTo}
+use Rattle.run_laws.proofs.Audits.{apart-comes}
 use Rattle.run_laws.proofs.Permissions.{answers_by_table, begun_joins, begun_leased, begun_number, refused_changes_nothing}
 use Rattle.run_laws.proofs.RunLaws.{Goes, Goes-comes}
 use Rattle.scenario_reader.proofs.Sound.{scenario_in_sound}
@@ -117,7 +118,7 @@ module _ (w : Work) (ts : List Turn) (kept : Option (List Row)) (run : Recorded)
   goes = Goes-comes w.scenario found.xs run.state comes_to
 
   holds : IsSafeState run.state
-  holds = record { placed = goes.held.placed; held = goes.held; sound = goes.sound; safe = λ q. (goes.sound q).safe }
+  holds = record { placed = goes.held.placed; held = goes.held; apart = apart-comes w.scenario found.xs run.state comes_to; sound = goes.sound; safe = λ q. (goes.sound q).safe }
 
   ready : Ready (length w.scenario.opening.servers) run.state
   ready = goes.ready

@@ -3,6 +3,7 @@
 use Rattle.std.specs.Prelude.{◌≡◌, ℕ, ◌+◌, List, [], ◌∷◌, ◌++◌, slice_get, take, Option, Some}
 use Rattle.instance_keeper.specs.declared.row.Row.{Row}
 use Rattle.server_model.specs.Safe.{Safe, Placed, IsQuiet}
+use Rattle.audit_log.specs.Apart.{IsApart}
 use Rattle.commands.specs.declared.refusal.Refusal.{Refusal}
 use Rattle.commands.specs.declared.turn.CommandTurn.{CommandTurn}
 use Rattle.turns.specs.declared.turn.Reply.TheVariants as answered
@@ -11,7 +12,7 @@ use Rattle.job_laws.specs.Flights.{Held, Sound}
 use Rattle.flight_laws.specs.Flights.{flight_of, job_begun, leases_begun}
 use Rattle.instance_keeper.specs.Leases.{taken}
 use Rattle.command_jobs.specs.Jobs.{planner_for}
-use Rattle.orch_core.specs.Permission.{IsAnswer, refusal_for}
+use Rattle.orch_core.specs.Permission.{IsAnswer, refusal_at}
 use Rattle.orch_core.specs.Polls.{changes_of}
 use Rattle.orch_core.specs.Replies.{reply_of}
 use Rattle.orch_core.specs.Runs.{Recorded, step}
@@ -20,11 +21,12 @@ use Rattle.tasks.specs.Endings.{IsOn, course_of}
 use Rattle.tasks.specs.Works.{Comes, Work, turns_in}
 use Rattle.orch_cli.specs.Ends.{IsTask}
 
--- What holds of a state with its jobs in flight: it is held, quiet or not, and its servers are placed; where it is quiet it is
--- sound, and its servers are safe.
+-- What holds of a state with its jobs in flight: it is held, quiet or not, its servers are placed, and its recoveries are apart:
+-- each cluster has at most one that isn't ended. Where it is quiet it is sound, and its servers are safe.
 pub record IsSafeState (s : State) : Type 0 where
   pub placed : Placed s.world
   pub held : Held (flight_of s)
+  pub apart : IsApart s.audit
   pub sound : IsQuiet s.world → Sound (flight_of s)
   pub safe : IsQuiet s.world → Safe s.world
 
@@ -42,7 +44,7 @@ pub record Begins (rows : List Row) (s : State) (c : CommandTurn) (job : ℕ) : 
 -- a command turn is refused exactly with the refusal of the permission table, else it begins its job or is done; a refused one
 -- changes nothing, and no kept row
 pub record Obeys (rows : List Row) (s : State) (c : CommandTurn) : Type 0 where
-  pub answer : IsAnswer (planner_for c.command.name) (refusal_for s.world s.book c.command) (reply_of s (turn.Command c))
+  pub answer : IsAnswer (planner_for c.command.name) (refusal_at s c.command) (reply_of s (turn.Command c))
   pub refused : (r : Refusal) → reply_of s (turn.Command c) ≡ answered.Refused r
       → (changes_of rows s (turn.Command c) ≡ []) × (step rows s (turn.Command c) ≡ s)
   pub begun : (job : ℕ) → reply_of s (turn.Command c) ≡ answered.Begun job → Begins rows s c job

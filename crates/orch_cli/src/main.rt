@@ -7,6 +7,8 @@ mod reading;
 #[cfg(test)]
 mod tests;
 #[cfg(test)]
+mod tests_of_audit;
+#[cfg(test)]
 mod tests_of_jobs;
 #[cfg(test)]
 mod tests_of_moves;

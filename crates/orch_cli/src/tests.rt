@@ -375,7 +375,7 @@ fn words_that_are_not_taken(rt: HostRuntime) -> Result<(), Fail> {
         &["orch", "run"],
         &["orch", "-c"],
         &["orch", "-c", "walk"],
-        &["orch", "-c", "relocate", "-i", "r", "-d", "m"],
+        &["orch", "-c", "regroup-replicas", "-i", "m"],
         &["orch", "-c", "topology"],
         &["orch", "-c", "topology", "-i", "m:0"],
         &["orch", "-c", "topology", "-i", ""],
@@ -568,7 +568,7 @@ fn keeper_fails(rt: HostRuntime) -> Result<(), Fail> {
 }
 
 // A row of a server without a source.
-fn row(alloc: Global, no: u32, read: u64) -> Row {
+pub(crate) fn row(alloc: Global, no: u32, read: u64) -> Row {
     let start = Coord { file: 1, pos: 4 };
     Row::Instance(Instance {
         no: ServerNo(no),

@@ -243,9 +243,9 @@ pub fn orch<S: Source, O: Sink, E: Sink, K: Keeper>(
         (taken (E.written err.new) (E.faults err.new)))
         → IsComplete result) }
 
-    // Every state of each run of these turns, of the report's too, is held with its jobs in flight, and every quiet one is sound and
-    // so safe, whatever rows the keeper hands back; and every command turn of such a run answers by the permission table, a refused
-    // one changing nothing.
+    // Every state of each run of these turns, of the report's too, is held with its jobs in flight, its recoveries are apart, and
+    // every quiet one is sound and so safe, whatever rows the keeper hands back; and every command turn of such a run answers by the
+    // permission table, a refused one changing nothing.
     ensures safe { IfSome (S.left scenario.old)
         (λ bytes. IsSafeRun (map (λ w. w.items) words.now) bytes) }
     ensures commands { IfSome (S.left scenario.old)

@@ -1,5 +1,6 @@
 pub mod Servers
 pub mod Sources
+pub mod Recoveries
 pub mod States
 pub mod Runs
 pub mod Starts

@@ -1,26 +1,31 @@
 -- The state with which a scenario's run begins.
-use Rattle.std.proofs.Common.{◌≡◌, ◌∙◌, ℕ, ◌+◌, ◌<◌, ◌≤◌, ◌^◌, Bool, true, false, List, [], ◌∷◌, length, get_or, refl, sym, ap, subst, Option, Some, None, arith}
-use Rattle.std.specs.Prelude.{All, IfSome, IsTrue, ◌&&◌, filter, is_none, max, nat_le, nat_lt, slice_index_or, if◌then◌else◌}
-use Rattle.std.proofs.lemmas.Bool.{leb-true}
+use Rattle.std.proofs.Common.{◌≡◌, ◌∙◌, ℕ, ◌+◌, ◌<◌, ◌≤◌, ◌^◌, Bool, true, false, List, [], ◌∷◌, ◌++◌, length, get_or, refl, sym, ap, subst, Option, Some, None, arith}
+use Rattle.std.specs.Prelude.{All, IfSome, IsTrue, ◌&&◌, is_none, nat_lt, slice_index_or, if◌then◌else◌}
 use Rattle.std.proofs.lemmas.List.Sums.{get_or-le-sum_by}
 use Rattle.std.specs.List.{cons_option}
 use Rattle.std.proofs.lemmas.List.{length-map, length-replicate}
-use Rattle.std.proofs.lemmas.List.Elements.{All-nil, All-cons, All-replicate}
+use Rattle.std.proofs.lemmas.List.Elements.{All-append, All-cons, All-map, All-nil, All-replicate}
 use Rattle.std.proofs.lemmas.Option.{slice_get-get_or, slice_get_within}
+use Rattle.orch_base.specs.declared.rule.Rule.{Rule}
 use Rattle.orch_base.specs.declared.server.Moment.{Moment}
+use Rattle.audit_log.specs.Audits.{AuditState, IsAudit, closed, closing}
+use Rattle.opening_book.proofs.Recoveries.{audit-opened, last_id-within}
+use Rattle.instance_keeper.specs.Had.{has_row}
+use Rattle.instance_keeper.specs.declared.observation.Instance.{Instance}
+use Rattle.instance_keeper.specs.declared.row.Candidate.{Candidate}
 use Rattle.instance_keeper.specs.declared.observation.Observation.{Observation}
 use Rattle.instance_keeper.specs.declared.row.Row.{Row}
 use Rattle.instance_keeper.specs.declared.row.Change.{Change}
 use Rattle.instance_keeper.specs.declared.row.Change.TheVariants as change
 use Rattle.instance_keeper.specs.declared.row.Table.TheVariants as table
 use Rattle.instance_keeper.specs.declared.row.Key.TheVariants as key
-use Rattle.instance_keeper.specs.Book.{BookState, are_known, servers_of, source_servers, fits, after_change, book_made}
-use Rattle.instance_keeper.proofs.Books.{both_true}
-use Rattle.opening_book.specs.Counting.{counted, counts, end_or, greatest, greatest_id, is_end_in_range, is_in_range, last_read, latest, loaded, raised}
-use Rattle.instance_keeper.specs.Rows.{changed, map_of}
+use Rattle.instance_keeper.specs.Book.{BookState, are_known, source_servers, after_change, book_made, row_fits}
+use Rattle.opening_book.specs.Audits.{audit_of, last_id}
+use Rattle.opening_book.specs.Counting.{counted, greatest, greatest_id, last_read, latest}
+use Rattle.instance_keeper.specs.Rows.{changed}
 use Rattle.instance_keeper.specs.declared.row.Row.TheVariants as row
 use Rattle.orch_base.specs.declared.server.Settings.{Settings}
-use Rattle.opening_book.specs.Opening.{after_opening, opened_book, missing, missing_from, opening_changes, put_instance}
+use Rattle.opening_book.specs.Opening.{after_opening, changes_from, interrupting, is_opening_change, missing, missing_from, opened_book, opening_changes, opening_instance, put_instance, put_recovery, registered, registering, registering_from}
 use Rattle.server_model.specs.declared.server.Server.{Server}
 use Rattle.openings.specs.Listed.{transactions}
 use Rattle.openings.specs.Servers.{parts_of}
@@ -36,7 +41,7 @@ use Rattle.scenarios.specs.Scenarios.{IsScenario, room_of, flushes_of, settings_
 use Rattle.scenarios.specs.Turns.{pollers}
 use Rattle.scenarios.proofs.Rooms.{longest-at}
 use Rattle.orch_core.specs.declared.configuration.Configuration.{Configuration}
-use Rattle.orch_core.specs.Scenarios.{configuration_of, start_world, start_rows, start_moment, start_changes, start, StartsBy, kept_at_start}
+use Rattle.orch_core.specs.Scenarios.{configuration_of, loaded_audit, loaded_book, start_world, start_rows, start_moment, start_changes, start, StartsBy, kept_at_start}
 use Rattle.operations.specs.Jobs.{Job}
 use Rattle.operations.specs.Named.{IsInRange}
 use Rattle.orch_core.specs.States.{HasKnownSource, IsSlot, IsState, State}
@@ -44,7 +49,8 @@ use Rattle.jobs_in_flight.specs.Jobs.{Rise}
 use Rattle.orch_core.proofs.Servers.{servers-start}
 use Rattle.orch_core.proofs.Sources.{KnowsSources, source-at}
 use Rattle.opening_book.proofs.Following.{names-opening}
-use Rattle.orch_core.proofs.States.{names-made, settings-made, both_known, settings-put}
+use Rattle.orch_core.proofs.Recoveries.{HasBegun, closed-begun, closed-is, counted-begun, latest-most}
+use Rattle.orch_core.proofs.States.{both_known, names-made, one_known, settings-made, settings-put}
 
 -- ---- the servers
 
@@ -79,73 +85,61 @@ sources-start s is = λ k d within.
     subst (λ (count : ℕ). HasKnownSource count (get_or servers k d)) (sym (servers-start s))
     (subst (λ (x : Server). are_known (length s.opening.servers) (source_servers x.source) ≡ true) (sym g.is_opened) known)
 
--- ---- the moment
+-- ---- what holds of each change of an opening
 
-max-most : (a b most : ℕ) → a ≤ most → b ≤ most → max a b ≤ most
-max-most a b most first second = omega arith
+module _ (P : Change → Type 0) where
+  all-option : (o : Option Change) (cs : List Change) → IfSome o P → All P cs → All P (cons_option o cs)
+  all-option None cs here rest = rest
+  all-option (Some c) cs here rest = All-cons P c cs here rest
 
-at_most : (n most : ℕ) → nat_le n most ≡ true → n ≤ most
-at_most n most h = leb-true n most h
+  pub all-from : {A : Type 0} (f : ℕ → A → Option Change) (n : ℕ) (xs : List A) → ((k : ℕ) (x : A) → k < n + length xs → IfSome (f k x) P) → All P (changes_from f n xs)
+  all-from f n [] each = All-nil P
+  all-from f n (x ∷ xs) each = all-option (f n x) (changes_from f (n + 1) xs) (each n x (omega arith)) (all-from f (n + 1) xs (λ k y h. each k y (omega (arith, h))))
 
-ended-most : (now : ℕ) (ended : Option Moment) → now ≤ greatest → is_end_in_range ended ≡ true → end_or now ended ≤ greatest
-ended-most now None most is = most
-ended-most now (Some ended) most is = max-most now ended.0 greatest most (at_most ended.0 greatest is)
+module _ (P : Change → Type 0) (count : ℕ) (instances : (i : Instance) → row_fits count (row.Instance i) ≡ true → P (change.Put (row.Instance i)))
+    (w : World) (at : Moment) (b : BookState) (sources : KnowsSources w.servers) (servers : length w.servers ≡ count) where
+  at-instance : (n : ℕ) (o : Option Server) → server_at w n ≡ o → IfSome (put_instance w at n o) P
+  at-instance n None here = tt
+  at-instance n (Some x) here =
+      instances (opening_instance w at n x)
+      (subst (λ (k : ℕ). row_fits k (row.Instance (opening_instance w at n x)) ≡ true) servers
+      (both_known (length w.servers) n (source_servers x.source) (slice_get_within w.servers n x here) (source-at w.servers n x sources here)))
 
-raised-most : (now : ℕ) (r : Row) → now ≤ greatest → is_in_range r ≡ true → raised now r ≤ greatest
-raised-most now (row.Instance i) most is = most
-raised-most now (row.Downtime d) most is = max-most now d.begun.0 greatest most (at_most d.begun.0 greatest (both_true (nat_le d.begun.0 greatest) (nat_le d.until.0 greatest) is).0)
-raised-most now (row.Candidate c) most is = most
-raised-most now (row.Recovery r) most is =
-    let moments = (both_true (nat_le 1 r.id && nat_le r.id greatest_id) (nat_le r.begun.0 greatest && is_end_in_range r.ended) is).1 in
-    let parts = both_true (nat_le r.begun.0 greatest) (is_end_in_range r.ended) moments in
-    ended-most (max now r.begun.0) r.ended (max-most now r.begun.0 greatest most (at_most r.begun.0 greatest parts.0)) parts.1
-raised-most now (row.Switch enabled) most is = most
+  at-missing : (n : ℕ) (known : Bool) → IfSome (missing w at b n known) P
+  at-missing n known = go (known && is_none (slice_index_or b.instances n None))
+    where
+      go : (lacks : Bool) → IfSome (if lacks then put_instance w at n (server_at w n) else None) P
+      go true = at-instance n (server_at w n) refl
+      go false = tt
 
-filtered-most : (count now : ℕ) (rows : List Row) → now ≤ greatest → latest now (filter (counts count) rows) ≤ greatest
-filtered-most count now [] most = most
-filtered-most count now (r ∷ rows) most = go (counts count r) refl (filtered-most count now rows most) (λ later. filtered-most count (raised now r) rows later)
-  where
-    go : (b : Bool) → counts count r ≡ b → latest now (filter (counts count) rows) ≤ greatest → (raised now r ≤ greatest → latest (raised now r) (filter (counts count) rows) ≤ greatest)
-        → latest now (if b then r ∷ filter (counts count) rows else filter (counts count) rows) ≤ greatest
-    go true is rest more = more (raised-most now r most (both_true (are_known count (servers_of r)) (is_in_range r) is).1)
-    go false is rest more = rest
+  pub all-missing : (known : List Bool) → All P (missing_from w at b 0 known)
+  all-missing known = all-from P (missing w at b) 0 known (λ n k h. at-missing n k)
 
--- no row that counts is later than the end of time
-few : (n : ℕ) → n ≤ 1000000000000000 → n ≤ greatest
-few n early = omega arith
+module _ (P : Change → Type 0) (count : ℕ) (candidates : (c : Candidate) → row_fits count (row.Candidate c) ≡ true → P (change.Put (row.Candidate c))) (at : Moment) (b : BookState) where
+  at-registering : (n : ℕ) (rule : Option Rule) → n < count → IfSome (registering at b n rule) P
+  at-registering n None h = tt
+  at-registering n (Some rule) h = go (has_row b (row.Candidate (registered at n rule)))
+    where
+      go : (had : Bool) → IfSome (if had then None else Some (change.Put (row.Candidate (registered at n rule)))) P
+      go true = tt
+      go false = candidates (registered at n rule) (one_known count n h)
 
-pub latest-most : (count now : ℕ) (rows : List Row) → now ≤ greatest → latest now (counted count rows) ≤ greatest
-latest-most count now rows most = filtered-most count now (map_of rows) most
+  pub all-registering : (rules : List (Option Rule)) → length rules ≡ count → All P (registering_from at b 0 rules)
+  all-registering rules there = all-from P (registering at b) 0 rules (λ n rule h. at-registering n rule (omega (arith, h, there)))
 
--- ---- the changes of an opening fit the book
+-- what holds of each part holds of all
+pub all-opening : (P : Change → Type 0) (w : World) (at : Moment) (b : BookState) (known : List Bool) (rules : List (Option Rule)) (a : AuditState) → All P (missing_from w at b 0 known) → All P (registering_from at b 0 rules)
+    → All P (interrupting a at) → All P (opening_changes w at b known rules a)
+all-opening P w at b known rules a instances candidates ends =
+    All-append P (missing_from w at b 0 known) (registering_from at b 0 rules ++ interrupting a at) instances (All-append P (registering_from at b 0 rules) (interrupting a at) candidates ends)
 
-FitsBook : ℕ → List Change → Type 0
-FitsBook count cs = All (λ c. IsTrue (fits count c)) cs
-
-fits-option : (count : ℕ) (o : Option Change) (cs : List Change) → IfSome o (λ c. IsTrue (fits count c)) → FitsBook count cs → FitsBook count (cons_option o cs)
-unfolding FitsBook
-fits-option count None cs here rest = rest
-fits-option count (Some c) cs here rest = All-cons (λ x. IsTrue (fits count x)) c cs here rest
-
-fits-instance : (w : World) (at : Moment) (n : ℕ) (o : Option Server) → KnowsSources w.servers → server_at w n ≡ o → IfSome (put_instance w at n o) (λ c. IsTrue (fits (length w.servers) c))
-fits-instance w at n None sources here = tt
-fits-instance w at n (Some s) sources here = both_known (length w.servers) n (source_servers s.source) (slice_get_within w.servers n s here) (source-at w.servers n s sources here)
-
-fits-missing : (w : World) (at : Moment) (b : BookState) (n : ℕ) (known : Bool) → KnowsSources w.servers → IfSome (missing w at b n known) (λ c. IsTrue (fits (length w.servers) c))
-fits-missing w at b n known sources = go (known && is_none (slice_index_or b.instances n None))
-  where
-    go : (lacks : Bool) → IfSome (if lacks then put_instance w at n (server_at w n) else None) (λ c. IsTrue (fits (length w.servers) c))
-    go true = fits-instance w at n (server_at w n) sources refl
-    go false = tt
-
-fits-from : (w : World) (at : Moment) (b : BookState) (n : ℕ) (known : List Bool) → KnowsSources w.servers → FitsBook (length w.servers) (missing_from w at b n known)
-unfolding FitsBook
-fits-from w at b n [] sources = All-nil (λ c. IsTrue (fits (length w.servers) c))
-fits-from w at b n (k ∷ ks) sources = fits-option (length w.servers) (missing w at b n k) (missing_from w at b (n + 1) ks) (fits-missing w at b n k sources) (fits-from w at b (n + 1) ks sources)
-
-pub fits-opening : (w : World) (at : Moment) (b : BookState) (known : List Bool) → KnowsSources w.servers → length b.names ≡ length w.servers → All (λ c. IsTrue (fits (length b.names) c)) (opening_changes w at b known)
-unfolding FitsBook
-fits-opening w at b known sources names = subst (λ count. All (λ c. IsTrue (fits count c)) (opening_changes w at b known)) (sym names) (fits-from w at b 0 known sources)
+-- each is a change of an opening
+pub fits-opening : (w : World) (at : Moment) (b : BookState) (known : List Bool) (rules : List (Option Rule)) (a : AuditState) → KnowsSources w.servers → length b.names ≡ length w.servers → length rules ≡ length w.servers
+    → All (λ c. IsTrue (is_opening_change (length b.names) c)) (opening_changes w at b known rules a)
+fits-opening w at b known rules a sources names there =
+    let P : Change → Type 0 = λ c. IsTrue (is_opening_change (length b.names) c) in
+    all-opening P w at b known rules a (all-missing P (length b.names) (λ i h. h) w at b sources (sym names) known) (all-registering P (length b.names) (λ c h. h) at b rules (there ∙ sym names))
+    (All-map P put_recovery (closing a at) (λ k d h. refl))
 
 -- ---- no change of a book changes its names or settings
 
@@ -198,75 +192,108 @@ pub world_made : (s : Scenario) (w : World) (room flushes : ℕ) → w ≡ opene
 world_made s w room flushes made room_is flushes_are =
     made ∙ ap (λ (n : ℕ). opened_world s.opening n flushes) room_is ∙ ap (λ (n : ℕ). opened_world s.opening (room_of s) n) flushes_are
 
--- the pieces of an opening, as they were made one after another
-pub record IsOpening (s : Scenario) (w : World) (settings : List Settings) (items : List Row) (moment : Moment) (b b' : BookState) (slots : List (Option Observation)) (reads : ℕ) (jobs : List Job) (wait : ℕ) (configuration : Configuration) : Type 0 where
+-- the recoveries that count make an audit
+pub opened-is : (s : Scenario) (rows : List Row) → IsScenario s → IsAudit (loaded_audit s rows)
+opened-is s rows is = let few = is.checked.listed.few in audit-opened (length s.opening.servers) rows (omega (arith, few))
+
+few : (n : ℕ) → n ≤ 1000000000000000 → n ≤ greatest
+few n early = omega arith
+
+pub opened-by : (s : Scenario) (rows items : List Row) (last : ℕ) → IsScenario s → items ≡ start_rows s rows → last ≡ last_id rows → IsAudit (audit_of (last + 1) items)
+opened-by s rows items last is counting same =
+    subst (λ (n : ℕ). IsAudit (audit_of (n + 1) items)) (sym same) (subst (λ (xs : List Row). IsAudit (audit_of (last_id rows + 1) xs)) (sym counting) (opened-is s rows is))
+
+pub moment-within : (s : Scenario) (rows items : List Row) (moment : ℕ) → IsScenario s → items ≡ start_rows s rows → moment ≡ latest s.moment.0 items → moment ≤ 2 ^ 63
+moment-within s rows items moment is counting made =
+    let early : s.moment.0 ≤ greatest = few s.moment.0 is.moment in
+    subst (λ (n : ℕ). n ≤ greatest) (sym (made ∙ ap (latest s.moment.0) counting)) (latest-most (length s.opening.servers) greatest_id s.moment.0 rows early)
+
+-- the pieces of an opening, as they were made one after another of the rows that the keeper gave
+pub record IsOpening (s : Scenario) (given : List Row) (w : World) (settings : List Settings) (items : List Row) (moment : Moment) (b b' : BookState) (a a' : AuditState) (slots : List (Option Observation)) (reads : ℕ) (jobs : List Job) (wait : ℕ) (configuration : Configuration) : Type 0 where
   pub world : w ≡ start_world s
   pub settings_made : settings ≡ settings_of s
+  pub counting : items ≡ start_rows s given
   pub moment_made : moment.0 ≡ latest s.moment.0 items
   pub loads : b ≡ book_made settings items
-  pub completes : b' ≡ opened_book b (opening_changes w moment b s.known)
+  pub audits : a ≡ audit_of (last_id given + 1) items
+  pub completes : b' ≡ opened_book b (opening_changes w moment b s.known s.rules a)
+  pub closes : a' ≡ closed a moment
   pub empty : slots ≡ empty_slots
   pub read : reads ≡ last_read items
   pub idle : jobs ≡ []
   pub configured : configuration ≡ configuration_of wait s
-  pub some : (rows : List Row) × (items ≡ counted (length settings) rows)
 
-module _ (s : Scenario) (w : World) (settings : List Settings) (items : List Row) (moment : Moment) (b b' : BookState) (slots : List (Option Observation)) (reads : ℕ) (jobs : List Job) (wait : ℕ) (configuration : Configuration)
-    (is : IsOpening s w settings items moment b b' slots reads jobs wait configuration) where
+module _ (s : Scenario) (given : List Row) (w : World) (settings : List Settings) (items : List Row) (moment : Moment) (b b' : BookState) (a a' : AuditState) (slots : List (Option Observation)) (reads : ℕ) (jobs : List Job) (wait : ℕ) (configuration : Configuration)
+    (is : IsOpening s given w settings items moment b b' a a' slots reads jobs wait configuration) where
   abbrev made : State
-  made = record { world = w; moment = moment.0; book = b'; slots = slots; reads = reads; jobs = jobs; last_job = 0; configuration = configuration }
+  made = record { world = w; moment = moment.0; book = b'; audit = a'; slots = slots; reads = reads; jobs = jobs; last_job = 0; configuration = configuration }
+
+  abbrev changes : List Change
+  changes = opening_changes w moment b s.known s.rules a
 
   moment-most : IsScenario s → moment.0 ≤ 2 ^ 63
-  moment-most scenario =
-      let early : s.moment.0 ≤ greatest = few s.moment.0 scenario.moment in
-      subst (λ (n : ℕ). n ≤ greatest) (sym (is.moment_made ∙ ap (latest s.moment.0) is.some.1)) (latest-most (length settings) s.moment.0 is.some.0 early)
+  moment-most scenario = moment-within s given items moment.0 scenario is.counting is.moment_made
+
+  audit_made : a' ≡ closed (loaded_audit s given) moment
+  audit_made = is.closes ∙ ap (λ (x : AuditState). closed x moment) (is.audits ∙ ap (audit_of (last_id given + 1)) is.counting)
+
+  made-begun : HasBegun a'.recoveries
+  made-begun = subst (λ (x : AuditState). HasBegun x.recoveries) (sym audit_made) (closed-begun (loaded_audit s given) moment (counted-begun (length s.opening.servers) greatest_id given))
 
   pub IsState-made : IsScenario s → IsState made
   IsState-made scenario = record {
-    names = ap (λ (x : BookState). length x.names) is.completes ∙ (ap length (names-opened b (opening_changes w moment b s.known)) ∙ book-names s w settings items b is.world is.settings_made is.loads);
-    settings = ap (λ (x : BookState). length x.settings) is.completes ∙ (ap length (settings-opened b (opening_changes w moment b s.known)) ∙ book-settings s w settings items b is.world is.settings_made is.loads);
+    names = ap (λ (x : BookState). length x.names) is.completes ∙ (ap length (names-opened b changes) ∙ book-names s w settings items b is.world is.settings_made is.loads);
+    settings = ap (λ (x : BookState). length x.settings) is.completes ∙ (ap length (settings-opened b changes) ∙ book-settings s w settings items b is.world is.settings_made is.loads);
     slots = ap length is.empty ∙ length-replicate {A = Option Observation} pollers None;
     observed = subst (All (IsSlot (length w.servers))) (sym is.empty) (All-replicate (IsSlot (length w.servers)) pollers None tt);
     sources = subst (λ (x : World). KnowsSources x.servers) (sym is.world) (sources-start s scenario);
     jobs = subst (All (IsInRange (length w.servers))) (sym is.idle) (All-nil (IsInRange (length w.servers)));
     rising = let low : 0 ≤ 0 = omega arith in subst (λ (xs : List Job). Rise 0 xs 0) (sym is.idle) low;
+    audit = subst IsAudit (sym audit_made) (closed-is (loaded_audit s given) moment (opened-is s given scenario));
+    next = subst (λ (x : AuditState). x.next < 2 ^ 64) (sym audit_made) (let most = last_id-within given in omega (arith, most));
+    begun = made-begun;
     moment = moment-most scenario;
   }
 
-  module _ (rows : List Row) (counting : items ≡ counted (length settings) rows) where
-    items_made : items ≡ start_rows s rows
-    items_made = counting ∙ ap (λ (ns : List Settings). counted (length ns) rows) is.settings_made ∙ ap (λ (n : ℕ). counted n rows) (length-map s.opening.servers (λ i. i.settings))
+  moment_is : moment ≡ start_moment s given
+  moment_is = ap (λ (n : ℕ). record { 0 = n }) (is.moment_made ∙ ap (latest s.moment.0) is.counting)
 
-    moment_is : moment ≡ start_moment s rows
-    moment_is = ap (λ (n : ℕ). record { 0 = n }) (is.moment_made ∙ ap (latest s.moment.0) items_made)
+  book_is : b ≡ loaded_book s given
+  book_is =
+      is.loads ∙ ap (book_made settings) is.counting ∙ ap (λ (ns : List Settings). book_made ns (start_rows s given)) is.settings_made
+      ∙ ap (λ (n : ℕ). book_made (settings_of s) (counted n greatest_id given)) (sym (length-map s.opening.servers (λ i. i.settings)))
 
-    book_is : b ≡ loaded (settings_of s) rows
-    book_is = is.loads ∙ ap (book_made settings) counting ∙ ap (λ (ns : List Settings). loaded ns rows) is.settings_made
+  audit_is : a ≡ loaded_audit s given
+  audit_is = is.audits ∙ ap (audit_of (last_id given + 1)) is.counting
 
-    pub changes_are : opening_changes w moment b s.known ≡ start_changes s rows
-    changes_are =
-        ap (λ (x : World). opening_changes x moment b s.known) is.world
-        ∙ ap (λ (x : Moment). opening_changes (start_world s) x b s.known) moment_is
-        ∙ ap (λ (x : BookState). opening_changes (start_world s) (start_moment s rows) x s.known) book_is
+  pub changes_are : opening_changes w moment b s.known s.rules a ≡ start_changes s given
+  changes_are =
+      ap (λ (x : World). opening_changes x moment b s.known s.rules a) is.world
+      ∙ ap (λ (x : Moment). opening_changes (start_world s) x b s.known s.rules a) moment_is
+      ∙ ap (λ (x : BookState). opening_changes (start_world s) (start_moment s given) x s.known s.rules a) book_is
+      ∙ ap (λ (x : AuditState). opening_changes (start_world s) (start_moment s given) (loaded_book s given) s.known s.rules x) audit_is
 
-    pub state_is : made ≡ start s wait rows
-    state_is =
-        let book = is.completes ∙ ap (opened_book b) changes_are ∙ ap (λ (x : BookState). opened_book x (start_changes s rows)) book_is in
-        let read = is.read ∙ ap last_read items_made in
-        let begins : State = start s wait rows in
-        ap (λ (x : List Job). record made { jobs = x }) is.idle
-        ∙ ap (λ (x : World). record made { jobs = []; world = x }) is.world
-        ∙ ap (λ (x : Moment). record made { jobs = []; world = start_world s; moment = x.0 }) moment_is
-        ∙ ap (λ (x : BookState). record made { jobs = []; world = start_world s; moment = (start_moment s rows).0; book = x }) book
-        ∙ ap (λ (x : List (Option Observation)). record begins { slots = x; reads = reads; configuration = configuration }) is.empty
-        ∙ ap (λ (x : ℕ). record begins { reads = x; configuration = configuration }) read
-        ∙ ap (λ (x : Configuration). record begins { configuration = x }) is.configured
+  pub state_is : made ≡ start s wait given
+  state_is =
+      let book = is.completes ∙ ap (opened_book b) changes_are ∙ ap (λ (x : BookState). opened_book x (start_changes s given)) book_is in
+      let audit = is.closes ∙ ap (λ (x : AuditState). closed x moment) audit_is ∙ ap (closed (loaded_audit s given)) moment_is in
+      let read = is.read ∙ ap last_read is.counting in
+      let begins : State = start s wait given in
+      ap (λ (x : List Job). record made { jobs = x }) is.idle
+      ∙ ap (λ (x : World). record made { jobs = []; world = x }) is.world
+      ∙ ap (λ (x : Moment). record made { jobs = []; world = start_world s; moment = x.0 }) moment_is
+      ∙ ap (λ (x : BookState). record made { jobs = []; world = start_world s; moment = (start_moment s given).0; book = x }) book
+      ∙ ap (λ (x : AuditState). record begins { audit = x; slots = slots; reads = reads; configuration = configuration }) audit
+      ∙ ap (λ (x : List (Option Observation)). record begins { slots = x; reads = reads; configuration = configuration }) is.empty
+      ∙ ap (λ (x : ℕ). record begins { reads = x; configuration = configuration }) read
+      ∙ ap (λ (x : Configuration). record begins { configuration = x }) is.configured
 
-  pub StartsBy-made : (kept : Option (List Row)) → IfSome kept (λ rows. items ≡ counted (length settings) rows) → StartsBy kept s wait made
-  StartsBy-made None told = (is.some.0, state_is is.some.0 is.some.1)
-  StartsBy-made (Some rows) told = state_is rows told
+  pub StartsBy-made : (kept : Option (List Row)) → IfSome kept (λ rows. given ≡ rows) → StartsBy kept s wait made
+  StartsBy-made None told = (given, state_is)
+  StartsBy-made (Some rows) told = subst (λ (x : List Row). made ≡ start s wait x) told state_is
 
-  pub kept_made : (kept : Option (List Row)) → IfSome kept (λ rows. items ≡ counted (length settings) rows)
-      → kept_if true kept (opening_changes w moment b s.known) ≡ kept_at_start true kept s
+  pub kept_made : (kept : Option (List Row)) → IfSome kept (λ rows. given ≡ rows)
+      → kept_if true kept (opening_changes w moment b s.known s.rules a) ≡ kept_at_start true kept s
   kept_made None told = refl
-  kept_made (Some rows) told = ap (λ (cs : List Change). Some (changed rows cs)) (changes_are rows told)
+  kept_made (Some rows) told =
+      ap (λ (cs : List Change). Some (changed rows cs)) (changes_are ∙ ap (start_changes s) told)

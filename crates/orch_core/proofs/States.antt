@@ -13,7 +13,12 @@ use Rattle.instance_keeper.specs.declared.row.Row.{Row}
 use Rattle.instance_keeper.specs.Rows.{changed}
 use Rattle.instance_keeper.specs.declared.row.Row.TheVariants as row
 use Rattle.instance_keeper.specs.Book.{BookState, are_known, observed_servers, seen_servers, source_servers, row_fits, empty_book, after_put, after_row, book_made, instance_at, renewed, renewed_book, stored_over}
+use Rattle.audit_log.specs.Audits.{AuditState, IsAudit, closed}
+use Rattle.opening_book.proofs.Recoveries.{audit-loaded}
 use Rattle.opening_book.specs.Counting.{counted, loaded}
+use Rattle.orch_base.specs.declared.server.Moment.{Moment}
+use Rattle.orch_core.specs.Restarts.{interrupted_at, last_given, reloaded_audit, reloaded_book, reloaded_moment}
+use Rattle.orch_core.proofs.Recoveries.{HasBegun, closed-begun, closed-is, counted-begun, reloaded-most}
 use Rattle.instance_keeper.specs.Seeing.{seen_in}
 use Rattle.server_model.specs.declared.server.Server.{Server}
 use Rattle.server_words.specs.declared.status.Status.{Status}
@@ -105,8 +110,8 @@ names-rows b (r ∷ rows) = names-rows (after_row b r) rows ∙ names-row b r
 pub names-made : (settings : List Settings) (rows : List Row) → (book_made settings rows).names ≡ map (λ x. x.name) settings
 names-made settings rows = names-rows (empty_book settings) rows
 
-pub names-loaded : (settings : List Settings) (rows : List Row) → (loaded settings rows).names ≡ map (λ x. x.name) settings
-names-loaded settings rows = names-made settings (counted (length settings) rows)
+pub names-loaded : (settings : List Settings) (last : ℕ) (rows : List Row) → (loaded settings last rows).names ≡ map (λ x. x.name) settings
+names-loaded settings last rows = names-made settings (counted (length settings) last rows)
 
 pub names-over : (b : BookState) (o : Observation) (kept : Option Instance) → (stored_over b o kept).names ≡ b.names
 names-over b o None = refl
@@ -143,8 +148,8 @@ settings-rows b (r ∷ rows) = settings-rows (after_row b r) rows ∙ settings-r
 pub settings-made : (settings : List Settings) (rows : List Row) → (book_made settings rows).settings ≡ settings
 settings-made settings rows = settings-rows (empty_book settings) rows
 
-pub settings-loaded : (settings : List Settings) (rows : List Row) → (loaded settings rows).settings ≡ settings
-settings-loaded settings rows = settings-made settings (counted (length settings) rows)
+pub settings-loaded : (settings : List Settings) (last : ℕ) (rows : List Row) → (loaded settings last rows).settings ≡ settings
+settings-loaded settings last rows = settings-made settings (counted (length settings) last rows)
 
 pub settings-over : (b : BookState) (o : Observation) (kept : Option Instance) → (stored_over b o kept).settings ≡ b.settings
 settings-over b o None = refl
@@ -188,6 +193,9 @@ IsState-exchange s t w moment is turn world servers passed = record {
   sources = subst (λ (v : World). KnowsSources v.servers) (sym world) (sources-run s.world (exchanges_of t) (Allowed-turn (length s.world.servers) s.world t turn).0 is.sources);
   jobs = subst (λ count. All (IsInRange count) s.jobs) (sym servers) is.jobs;
   rising = is.rising;
+  audit = is.audit;
+  next = is.next;
+  begun = is.begun;
   moment = subst (λ (n : ℕ). n ≤ 2 ^ 63) (sym passed) (ticked-most s.moment t is.moment);
 }
 
@@ -201,6 +209,9 @@ IsState-read s p n o reads read now is within reading = record {
   sources = is.sources;
   jobs = is.jobs;
   rising = is.rising;
+  audit = is.audit;
+  next = is.next;
+  begun = is.begun;
   moment = is.moment;
 }
 
@@ -214,54 +225,66 @@ IsState-store s p b slot left is stores empty = record {
   sources = is.sources;
   jobs = is.jobs;
   rising = is.rising;
+  audit = is.audit;
+  next = is.next;
+  begun = is.begun;
   moment = is.moment;
 }
 
-pub IsState-restart : (s : State) (b : BookState) (slots : List (Option Observation)) (jobs : List Job) → IsState s → (rows : List Row) × (b ≡ loaded s.book.settings rows) → slots ≡ empty_slots → jobs ≡ []
-    → IsState (record s { book = b; slots = slots; jobs = jobs })
-IsState-restart s b slots jobs is loads empty dropped = record {
-  names = ap (λ (x : BookState). length x.names) loads.1 ∙ (ap length (names-loaded s.book.settings loads.0) ∙ (length-map s.book.settings (λ x. x.name) ∙ is.settings));
-  settings = ap (λ (x : BookState). length x.settings) loads.1 ∙ (ap length (settings-loaded s.book.settings loads.0) ∙ is.settings);
-  slots = ap length empty ∙ length-replicate {A = Option Observation} pollers None;
-  observed = subst (All (IsSlot (length s.world.servers))) (sym empty) (All-replicate (IsSlot (length s.world.servers)) pollers None tt);
-  sources = is.sources;
-  jobs = subst (All (IsInRange (length s.world.servers))) (sym dropped) (All-nil (IsInRange (length s.world.servers)));
-  rising = let low : 0 ≤ s.last_job = omega arith in subst (λ (xs : List Job). Rise 0 xs s.last_job) (sym dropped) low;
-  moment = is.moment;
-}
+-- ---- a restart
 
--- a book that takes the rows which count of those that the keeper gave
+-- the recoveries that count make an audit
+pub reloaded-is : (rows : List Row) (s : State) → IsState s → length s.book.settings ≤ 2 ^ 32 → IsAudit (reloaded_audit rows s)
+reloaded-is rows s is few =
+    let first = is.audit.first in
+    audit-loaded (length s.book.settings) s.audit.next (last_given s) rows few first (omega (arith, is.next)) (omega (arith, first))
 
-module _ (s : State) (servers : ℕ) (items : List Row) (b : BookState) (is : IsState s) (count : servers ≡ length s.book.names) (made : b ≡ book_made s.book.settings items) where
-  loads : (rows : List Row) → items ≡ counted servers rows → b ≡ loaded s.book.settings rows
-  loads rows e =
-      let each : servers ≡ length s.book.settings = count ∙ is.names ∙ sym is.settings in
-      made ∙ ap (book_made s.book.settings) (e ∙ ap (λ (n : ℕ). counted n rows) each)
+-- what a restart makes of a state, by the rows that the keeper gave
+pub record IsRestarted (rows : List Row) (s : State) (b : BookState) (a : AuditState) (moment : Moment) (slots : List (Option Observation)) (jobs : List Job) : Type 0 where
+  pub book : b ≡ reloaded_book rows s
+  pub audit : a ≡ closed (reloaded_audit rows s) moment
+  pub moment_is : moment ≡ interrupted_at rows s
+  pub empty : slots ≡ empty_slots
+  pub dropped : jobs ≡ []
 
-  pub loads-counted : (rows : List Row) × (items ≡ counted servers rows) → (rows : List Row) × (b ≡ loaded s.book.settings rows)
-  loads-counted some = (some.0, loads some.0 some.1)
+module _ (rows : List Row) (s : State) (b : BookState) (a : AuditState) (moment : Moment) (slots : List (Option Observation)) (jobs : List Job) (re : IsRestarted rows s b a moment slots jobs) where
+  abbrev restarted : State
+  restarted = record s { moment = moment.0; book = b; audit = a; slots = slots; jobs = jobs }
 
-pub told-counted : (kept : Option (List Row)) (s : State) (servers : ℕ) (items : List Row) (b : BookState) → IsState s → servers ≡ length s.book.names → b ≡ book_made s.book.settings items
-    → IfSome kept (λ rows. items ≡ counted servers rows) → IfSome kept (λ rows. b ≡ loaded s.book.settings rows)
-told-counted None s servers items b is count made told = tt
-told-counted (Some rows) s servers items b is count made told = loads s servers items b is count made rows told
+  audit_is : a ≡ closed (reloaded_audit rows s) (interrupted_at rows s)
+  audit_is = re.audit ∙ ap (closed (reloaded_audit rows s)) re.moment_is
 
--- a restart by the rows that the keeper gave
+  pub IsState-restart : IsState s → length s.book.settings ≤ 2 ^ 32 → IsState restarted
+  IsState-restart is few = record {
+    names = ap (λ (x : BookState). length x.names) re.book ∙ (ap length (names-loaded s.book.settings (last_given s) rows) ∙ (length-map s.book.settings (λ x. x.name) ∙ is.settings));
+    settings = ap (λ (x : BookState). length x.settings) re.book ∙ (ap length (settings-loaded s.book.settings (last_given s) rows) ∙ is.settings);
+    slots = ap length re.empty ∙ length-replicate {A = Option Observation} pollers None;
+    observed = subst (All (IsSlot (length s.world.servers))) (sym re.empty) (All-replicate (IsSlot (length s.world.servers)) pollers None tt);
+    sources = is.sources;
+    jobs = subst (All (IsInRange (length s.world.servers))) (sym re.dropped) (All-nil (IsInRange (length s.world.servers)));
+    rising = let low : 0 ≤ s.last_job = omega arith in subst (λ (xs : List Job). Rise 0 xs s.last_job) (sym re.dropped) low;
+    audit = subst IsAudit (sym re.audit) (closed-is (reloaded_audit rows s) moment (reloaded-is rows s is few));
+    next = subst (λ (x : AuditState). x.next < 2 ^ 64) (sym re.audit) is.next;
+    begun = subst (λ (x : AuditState). HasBegun x.recoveries) (sym re.audit) (closed-begun (reloaded_audit rows s) moment (counted-begun (length s.book.settings) (last_given s) rows));
+    moment = subst (λ (m : Moment). m.0 ≤ 2 ^ 63) (sym re.moment_is) (reloaded-most (length s.book.settings) (last_given s) s.moment rows is.moment);
+  }
 
-pub StepsTo-restart : (kept : Option (List Row)) (s : State) (b : BookState) (slots : List (Option Observation)) (jobs : List Job)
-    → IfSome kept (λ rows. b ≡ loaded s.book.settings rows) → (rows : List Row) × (b ≡ loaded s.book.settings rows) → slots ≡ empty_slots → jobs ≡ []
-    → StepsTo engine kept s turn.Restart (record s { book = b; slots = slots; jobs = jobs })
-StepsTo-restart kept s b slots jobs told some empty dropped = go kept told
-  where
-    is : (rows : List Row) → b ≡ loaded s.book.settings rows → record s { book = b; slots = slots; jobs = jobs } ≡ step rows s turn.Restart
-    is rows loads =
-        ap (λ (x : BookState). record s { book = x; slots = slots; jobs = jobs }) loads
-        ∙ ap (λ (x : List (Option Observation)). record s { book = loaded s.book.settings rows; slots = x; jobs = jobs }) empty
-        ∙ ap (λ (x : List Job). record s { book = loaded s.book.settings rows; slots = empty_slots; jobs = x }) dropped
+  pub step-restart : restarted ≡ step rows s turn.Restart
+  step-restart =
+      ap (λ (x : BookState). record restarted { book = x }) re.book
+      ∙ ap (λ (x : AuditState). record restarted { book = reloaded_book rows s; audit = x }) audit_is
+      ∙ ap (λ (m : Moment). record s { moment = m.0; book = reloaded_book rows s; audit = closed (reloaded_audit rows s) (interrupted_at rows s); slots = slots; jobs = jobs }) re.moment_is
+      ∙ ap (λ (x : List (Option Observation)). record s { moment = reloaded_moment rows s; book = reloaded_book rows s; audit = closed (reloaded_audit rows s) (interrupted_at rows s); slots = x; jobs = jobs }) re.empty
+      ∙ ap (λ (x : List Job). record s { moment = reloaded_moment rows s; book = reloaded_book rows s; audit = closed (reloaded_audit rows s) (interrupted_at rows s); slots = empty_slots; jobs = x }) re.dropped
 
-    go : (kept : Option (List Row)) → IfSome kept (λ rows. b ≡ loaded s.book.settings rows) → StepsTo engine kept s turn.Restart (record s { book = b; slots = slots; jobs = jobs })
-    go None told = (some.0, is some.0 some.1)
-    go (Some rows) told = is rows told
+-- a turn by the rows that the keeper gave
+pub StepsTo-given : (kept : Option (List Row)) (given : List Row) (s now : State) (t : Turn) → IfSome kept (λ rows. given ≡ rows) → now ≡ step given s t → StepsTo engine kept s t now
+StepsTo-given None given s now t told is = (given, is)
+StepsTo-given (Some rows) given s now t told is = subst (λ (x : List Row). now ≡ step x s t) told is
+
+pub kept_given : (kept : Option (List Row)) (given : List Row) (s : State) (t : Turn) → IfSome kept (λ rows. given ≡ rows) → kept_if true kept (changes_of given s t) ≡ kept_by engine true kept s t
+kept_given None given s t told = refl
+kept_given (Some rows) given s t told = ap (λ (x : List Row). Some (changed rows (changes_of x s t))) told
 
 -- a turn that asks the keeper for nothing
 

@@ -200,6 +200,9 @@ module _ (s : State) (id : ℕ) (is : IsState s) (stays : Stays s) where
         sources = subst (λ (v : World). KnowsSources v.servers) (sym world) (sources-run s.world (job_exchanges (turned_at s id)) (Allowed-job s id) is.sources);
         jobs = subst (All (IsInRange (length w.servers))) (sym joins) (subst (λ count. All (IsInRange count) (jobs_turned s.jobs id (turned_at s id))) (sym servers) jobs-after.range);
         rising = subst (λ (xs : List Job). Rise 0 xs s.last_job) (sym joins) jobs-after.rising;
+        audit = is.audit;
+        next = is.next;
+        begun = is.begun;
         moment = is.moment;
       }
 

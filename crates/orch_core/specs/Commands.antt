@@ -1,5 +1,5 @@
 -- Commands: what each answers, and what it changes.
-use Rattle.std.specs.Prelude.{◌≡◌, ◌<◌, ◌+◌, ℕ, ⊤, Bool, true, false, length, List, [], ◌∷◌, ◌++◌, All, Option, Some, None, Result, Ok, Err, if◌then◌else◌}
+use Rattle.std.specs.Prelude.{◌≡◌, ◌<◌, ◌+◌, ℕ, ⊤, true, length, List, [], ◌∷◌, ◌++◌, All, Option, Some, None, Result, Ok, Err}
 use Rattle.std.specs.Option.{option_to_list}
 use Rattle.orch_base.specs.declared.server.ServerNo.{ServerNo}
 use Rattle.orch_base.specs.Memory.{next_count}
@@ -14,28 +14,39 @@ use Rattle.instance_keeper.specs.Leases.{first_busy, taken}
 use Rattle.server_model.specs.Worlds.{World}
 use Rattle.commands.specs.declared.line.Line.{Line}
 use Rattle.commands.specs.declared.line.Line.TheVariants as line
-use Rattle.commands.specs.declared.name.CommandName.{CommandName}
+use Rattle.command_routes.specs.declared.route.Decision.{Decision}
 use Rattle.command_routes.specs.declared.route.Planner.{Planner}
 use Rattle.command_routes.specs.declared.route.Route.{Route}
-use Rattle.command_routes.specs.declared.route.Route.TheVariants.{Discovers, Forgets, Asks, Begins, Unbuilt}
+use Rattle.command_routes.specs.declared.route.Route.TheVariants.{Discovers, Forgets, Asks, Decides, Begins, Unbuilt}
 use Rattle.command_routes.specs.Routes.{route_of}
-use Rattle.command_jobs.specs.Jobs.{leases_by, plan_by, planner_for, refusal_by}
+use Rattle.command_jobs.specs.Jobs.{leases_by, plan_by, refusal_by}
 use Rattle.commands.specs.declared.refusal.Refusal.{Refusal}
 use Rattle.commands.specs.declared.refusal.Refusal.TheVariants.{Unreachable}
 use Rattle.commands.specs.declared.turn.Command.{Command}
 use Rattle.commands.specs.declared.turn.CommandTurn.{CommandTurn}
-use Rattle.asking_commands.specs.Answers.{lines_of, permitted}
+use Rattle.asking_commands.specs.Answers.{allowed, lines_of, permitted, unknown_in}
+use Rattle.audit_log.specs.Audits.{AuditState}
+use Rattle.book_commands.specs.declared.decided.Decided.{Decided}
+use Rattle.book_commands.specs.declared.decided.Effect.{Effect}
+use Rattle.book_commands.specs.declared.decided.Effect.TheVariants as effect
+use Rattle.book_commands.specs.Decisions.{audit_after as audit_decided, book_after as book_decided, decided_of, rows_of}
 use Rattle.turns.specs.declared.turn.Reply.{Reply}
 use Rattle.turns.specs.declared.turn.Reply.TheVariants as answered
 use Rattle.operations.specs.Jobs.{Job, job_with}
 use Rattle.operations.specs.declared.op.Op.{Op}
+use Rattle.permission.specs.Checks.{busy}
 use Rattle.orch_core.specs.Beginnings.{Beginning}
 use Rattle.orch_core.specs.declared.command.Numbers.{Numbers}
 use Rattle.orch_core.specs.declared.command.Update.{Update}
 use Rattle.orch_core.specs.declared.command.Update.TheVariants as update
 use Rattle.orch_core.specs.Readings.{reading_by}
 
--- nothing is made of the book
+-- of two tests the first that refuses
+abbrev pub first_of : Option Refusal → Option Refusal → Option Refusal
+first_of None later = later
+first_of (Some refusal) later = Some refusal
+
+-- nothing is made of what is known
 abbrev pub stays : Update
 stays = update.Stays
 
@@ -44,13 +55,23 @@ abbrev pub updated : BookState → Update → BookState
 updated b update.Stays = b
 updated b (update.Change c) = after_change b c
 updated b (update.Discovery o) = after_discovery b o
+updated b (update.Decides e) = book_decided b e
 updated b (update.Begins x) = record b { leases = taken b.leases x.list x.job.id }
+
+-- the audit after it: a decision may acknowledge recoveries
+abbrev pub audit_updated : AuditState → Update → AuditState
+audit_updated a update.Stays = a
+audit_updated a (update.Change c) = a
+audit_updated a (update.Discovery o) = a
+audit_updated a (update.Decides e) = audit_decided a e
+audit_updated a (update.Begins x) = a
 
 -- the unended jobs after it, by rising number
 abbrev pub jobs_updated : List Job → Update → List Job
 jobs_updated jobs update.Stays = jobs
 jobs_updated jobs (update.Change c) = jobs
 jobs_updated jobs (update.Discovery o) = jobs
+jobs_updated jobs (update.Decides e) = jobs
 jobs_updated jobs (update.Begins x) = jobs ++ x.job ∷ []
 
 -- the number of the last job that was begun
@@ -58,6 +79,7 @@ abbrev pub last_job_updated : ℕ → Update → ℕ
 last_job_updated last update.Stays = last
 last_job_updated last (update.Change c) = last
 last_job_updated last (update.Discovery o) = last
+last_job_updated last (update.Decides e) = last
 last_job_updated last (update.Begins x) = x.job.id
 
 -- each server of the list is one of the book's, and no job has a lease of it
@@ -65,15 +87,21 @@ pub record MayTake (b : BookState) (list : List ServerNo) : Type 0 where
   pub known : All (λ n. n.0 < length b.names) list
   pub free : first_busy b.leases list ≡ None
 
+-- the book takes the change of a decision, if it makes one
+abbrev pub IsEffect : BookState → Effect → Type 0
+IsEffect b effect.Stays = ⊤
+IsEffect b (effect.Change c) = fits (length b.names) c ≡ true
+IsEffect b (effect.Acks cluster) = ⊤
+
 -- the book takes it
 abbrev pub IsUpdate : BookState → Update → Type 0
 IsUpdate b update.Stays = ⊤
 IsUpdate b (update.Change c) = fits (length b.names) c ≡ true
 IsUpdate b (update.Discovery o) = are_known (length b.names) (observed_servers o) ≡ true
+IsUpdate b (update.Decides e) = IsEffect b e
 IsUpdate b (update.Begins x) = MayTake b x.list
 
--- what a command answers, what it makes of the book, how it changes the kept rows, and the greatest read number after
--- it
+-- what a command answers, what it makes of what is known, how it changes the kept rows, and the greatest read number after it
 pub record Outcome : Type 0 where
   pub reply : Reply
   pub book : Update
@@ -94,31 +122,20 @@ told reads lines = record { reply = answered.Told lines; book = stays; rows = []
 
 -- ---- discover reads the server itself
 
-abbrev pub is_discovery : Route → Bool
-is_discovery Discovers = true
-is_discovery Forgets = false
-is_discovery (Asks question) = false
-is_discovery (Begins planner) = false
-is_discovery Unbuilt = false
-
-abbrev pub reads_server : CommandName → Bool
-reads_server name = is_discovery (route_of name)
-
 abbrev pub discovered : BookState → ℕ → Observation → Option Seen → Outcome
 discovered b reads o None = refusal reads (Unreachable o.no)
 discovered b reads o (Some seen) = told_with o.read (line.Server o.no) (update.Discovery o) (option_to_list (discovery_change (instance_at b o.no) o seen))
 
 -- ---- forget removes the instance
 
-abbrev pub is_removal : Route → Bool
-is_removal Discovers = false
-is_removal Forgets = true
-is_removal (Asks question) = false
-is_removal (Begins planner) = false
-is_removal Unbuilt = false
+-- 4: a job has its lease
+abbrev pub busy_given : BookState → Option ServerNo → Option Refusal
+busy_given b None = None
+busy_given b (Some i) = busy b i
 
-abbrev pub removes : CommandName → Bool
-removes name = is_removal (route_of name)
+-- 2, then 4
+abbrev pub removal_refusal : BookState → Command → Option Refusal
+removal_refusal b c = first_of (unknown_in b c) (busy_given b c.i)
 
 abbrev pub removal : ServerNo → Change
 removal i = change.Remove table.Instance (key.Server i)
@@ -127,19 +144,24 @@ abbrev pub forgotten : ℕ → Result Unit Refusal → ServerNo → Outcome
 forgotten reads (Err r) i = refusal reads r
 forgotten reads (Ok permit) i = told_with reads (line.Server i) (update.Change (removal i)) (removal i ∷ [])
 
--- ---- the others ask the book
+-- ---- a question is answered by the book and the audit
 
 abbrev pub asked : ℕ → Result Unit Refusal → List Line → Outcome
 asked reads (Err r) lines = refusal reads r
 asked reads (Ok permit) lines = told reads lines
 
--- the outcome of a command that begins no job, by its instance
-abbrev pub outcome_by : World → BookState → ℕ → ℕ → CommandTurn → Option ServerNo → Outcome
-outcome_by w b reads now t None = asked reads (permitted b t.command) (lines_of b t t.command.name)
-outcome_by w b reads now t (Some i) =
-    if reads_server t.command.name then discovered b reads (reading_by w i (next_count reads) now) (reading_by w i (next_count reads) now).seen
-    else (if removes t.command.name then forgotten reads (permitted b t.command) i
-    else asked reads (permitted b t.command) (lines_of b t t.command.name))
+-- a command that does nothing else has the lines of its question, and none where it asks nothing
+abbrev pub question : BookState → AuditState → ℕ → CommandTurn → Outcome
+question b a reads t = asked reads (permitted b t.command) (lines_of b a.recoveries t t.command.name)
+
+-- ---- a decision is kept
+
+abbrev pub decided : ℕ → AuditState → Result Unit Refusal → Decided → Outcome
+decided reads a (Err r) d = refusal reads r
+decided reads a (Ok permit) d = record { reply = answered.Told d.lines; book = update.Decides d.effect; rows = rows_of a d.effect; reads = reads }
+
+abbrev pub decision : BookState → AuditState → Numbers → CommandTurn → Decision → Outcome
+decision b a n t d = decided n.reads a (permitted b t.command) (decided_of b a n.moment t.keys t.command.i d)
 
 -- ---- a command begins a job
 
@@ -153,14 +175,28 @@ begun n None list ops = record { reply = answered.Begun (n.last_job + 1); book =
 
 -- by the permission table the refusal of the lowest number that applies, and by the plan the operations
 abbrev pub begun_by : World → BookState → Numbers → Command → Planner → Outcome
-begun_by w b n c p = begun n (refusal_by w b c p) (leases_by b c p) (plan_by w b c p)
+begun_by w b n c p = begun n (refusal_by w b n.moment c p) (leases_by w b c p) (plan_by w b c p)
 
 -- ---- all commands
 
-abbrev pub outcome_for : World → BookState → Numbers → CommandTurn → Option Planner → Outcome
-outcome_for w b n t None = outcome_by w b n.reads n.moment.0 t t.command.i
-outcome_for w b n t (Some p) = begun_by w b n t.command p
+-- what is read of a server with the next number
+abbrev pub next_reading : World → Numbers → ServerNo → Observation
+next_reading w n i = reading_by w i (next_count n.reads) n.moment.0
+
+-- about the instance, where one is given
+abbrev pub about : Outcome → (ServerNo → Outcome) → Option ServerNo → Outcome
+about none some None = none
+about none some (Some i) = some i
+
+-- the outcome of a command, by what it does
+abbrev pub outcome_by : World → BookState → AuditState → Numbers → CommandTurn → Route → Outcome
+outcome_by w b a n t Discovers = about (question b a n.reads t) (λ i. discovered b n.reads (next_reading w n i) (next_reading w n i).seen) t.command.i
+outcome_by w b a n t Forgets = about (question b a n.reads t) (forgotten n.reads (allowed (removal_refusal b t.command))) t.command.i
+outcome_by w b a n t (Asks q) = question b a n.reads t
+outcome_by w b a n t (Decides d) = decision b a n t d
+outcome_by w b a n t (Begins p) = begun_by w b n t.command p
+outcome_by w b a n t Unbuilt = question b a n.reads t
 
 -- the outcome of a command, by the numbers that it goes by
-unfoldable pub outcome_of : World → BookState → Numbers → CommandTurn → Outcome
-outcome_of w b n t = outcome_for w b n t (planner_for t.command.name)
+unfoldable pub outcome_of : World → BookState → AuditState → Numbers → CommandTurn → Outcome
+outcome_of w b a n t = outcome_by w b a n t (route_of t.command.name)

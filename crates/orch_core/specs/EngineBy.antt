@@ -7,6 +7,7 @@ state_of a = record {
   world = a.world;
   moment = a.moment.0;
   book = a.book;
+  audit = a.audit.audit;
   slots = a.slots.items;
   reads = a.reads;
   jobs = a.jobs.items;

@@ -1,6 +1,7 @@
 pub mod Faults
 pub mod States
 pub mod Jobs
+pub mod Restarts
 pub mod Readings
 pub mod Beginnings
 pub mod BeginningsBy

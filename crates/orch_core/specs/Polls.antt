@@ -7,13 +7,14 @@ use Rattle.instance_keeper.specs.declared.observation.Observation.{Observation}
 use Rattle.instance_keeper.specs.declared.row.Row.{Row}
 use Rattle.instance_keeper.specs.declared.row.Change.{Change}
 use Rattle.instance_keeper.specs.Book.{BookState, instance_at, store_change}
-use Rattle.opening_book.specs.Counting.{loaded}
+use Rattle.audit_log.specs.Audits.{AuditState, closed}
 use Rattle.commands.specs.declared.turn.CommandTurn.{CommandTurn}
 use Rattle.operations.specs.Jobs.{Job}
-use Rattle.orch_core.specs.Commands.{Outcome, jobs_updated, last_job_updated, outcome_of, updated}
+use Rattle.orch_core.specs.Commands.{Outcome, audit_updated, jobs_updated, last_job_updated, outcome_of, updated}
 use Rattle.jobs_in_flight.specs.Jobs.{book_turned, job_observation, jobs_turned, reads_with, stored}
 use Rattle.orch_core.specs.Jobs.{turned_at}
 use Rattle.orch_core.specs.Readings.{reading_by}
+use Rattle.orch_core.specs.Restarts.{interrupted_at, reloaded_audit, reloaded_book, restart_changes}
 use Rattle.orch_core.specs.declared.command.Numbers.{Numbers}
 use Rattle.turns.specs.declared.turn.Turn.{Turn}
 use Rattle.turns.specs.declared.turn.Turn.TheVariants as turn
@@ -54,7 +55,7 @@ numbers_of s = record { reads = s.reads; last_job = s.last_job; wait = s.configu
 
 -- what a command answers and changes
 abbrev pub command_outcome : State → CommandTurn → Outcome
-command_outcome s c = outcome_of s.world s.book (numbers_of s) c
+command_outcome s c = outcome_of s.world s.book s.audit (numbers_of s) c
 
 -- a poll that reads a server takes the next read number, and so does a command or a job's turn that does
 abbrev pub reads_after : State → Turn → ℕ
@@ -79,7 +80,7 @@ reads_after s turn.Restart = s.reads
 abbrev pub book_after : List Row → State → Turn → BookState
 book_after rows s (turn.PollStore p) = stored s.book (slot_at s p)
 book_after rows s (turn.Command c) = updated s.book (command_outcome s c).book
-book_after rows s turn.Restart = loaded s.book.settings rows
+book_after rows s turn.Restart = reloaded_book rows s
 book_after rows s (turn.Write n size) = s.book
 book_after rows s (turn.Fetch n) = s.book
 book_after rows s (turn.Apply n) = s.book
@@ -92,6 +93,24 @@ book_after rows s (turn.Tick seconds) = s.book
 book_after rows s (turn.Job job) = book_turned s.book job (turned_at s job)
 book_after rows s turn.Scan = s.book
 book_after rows s (turn.PollRead p n) = s.book
+
+-- a command may acknowledge recoveries, and a restart loads those that count, and ends the unended ones as interrupted
+abbrev pub audit_after : List Row → State → Turn → AuditState
+audit_after rows s (turn.Command c) = audit_updated s.audit (command_outcome s c).book
+audit_after rows s turn.Restart = closed (reloaded_audit rows s) (interrupted_at rows s)
+audit_after rows s (turn.PollStore p) = s.audit
+audit_after rows s (turn.Write n size) = s.audit
+audit_after rows s (turn.Fetch n) = s.audit
+audit_after rows s (turn.Apply n) = s.audit
+audit_after rows s (turn.Fail n) = s.audit
+audit_after rows s (turn.Heal n) = s.audit
+audit_after rows s (turn.Cut n link) = s.audit
+audit_after rows s (turn.Join n link) = s.audit
+audit_after rows s (turn.Rotate n) = s.audit
+audit_after rows s (turn.Tick seconds) = s.audit
+audit_after rows s (turn.Job job) = s.audit
+audit_after rows s turn.Scan = s.audit
+audit_after rows s (turn.PollRead p n) = s.audit
 
 abbrev pub changes_by : BookState → Option Observation → List Change
 changes_by b None = []
@@ -113,7 +132,7 @@ changes_of rows s (turn.Tick seconds) = []
 changes_of rows s (turn.Job job) = changes_by s.book (job_observation (turned_at s job))
 changes_of rows s turn.Scan = []
 changes_of rows s (turn.PollRead p n) = []
-changes_of rows s turn.Restart = []
+changes_of rows s turn.Restart = restart_changes rows s
 
 -- a command may begin a job, a job's turn may end it, and a restart drops all jobs
 abbrev pub jobs_after : State → Turn → List Job

@@ -9,16 +9,17 @@ use Rattle.turns.specs.declared.turn.Reply.{Reply}
 use Rattle.turns.specs.declared.turn.Turn.{Turn}
 use Rattle.orch_core.specs.Turns.{exchanges_at, exchanges_of, moment_after, ticked}
 use Rattle.orch_core.specs.States.{State}
-use Rattle.orch_core.specs.Polls.{book_after, slots_after, reads_after, jobs_after, last_job_after, changes_of}
+use Rattle.orch_core.specs.Polls.{book_after, audit_after, slots_after, reads_after, jobs_after, last_job_after, changes_of}
 use Rattle.orch_core.specs.Replies.{reply_of}
 
--- the state after a turn: its exchanges are made, and the moment, the book, the slots, the read numbers and the jobs change with
--- it; a restart has these rows from the keeper
+-- the state after a turn: its exchanges are made, and the moment, the book, the audit, the slots, the read numbers and the jobs
+-- change with it; a restart has these rows from the keeper
 abbrev pub step : List Row → State → Turn → State
 step rows s t = record s {
   world = run s.world (exchanges_at s t);
   moment = moment_after rows s t;
   book = book_after rows s t;
+  audit = audit_after rows s t;
   slots = slots_after s t;
   reads = reads_after s t;
   jobs = jobs_after s t;

@@ -1,10 +1,13 @@
 -- The states with which runs of scenarios begin.
-use Rattle.std.specs.Prelude.{◌≡◌, ℕ, List, [], length, Option, Some, None, Bool, if◌then◌else◌}
+use Rattle.std.specs.Prelude.{◌≡◌, ℕ, ◌+◌, List, [], length, Option, Some, None, Bool, if◌then◌else◌}
 use Rattle.std.specs.Option.{option_map}
 use Rattle.instance_keeper.specs.declared.row.Change.{Change}
 use Rattle.instance_keeper.specs.declared.row.Row.{Row}
 use Rattle.instance_keeper.specs.Rows.{changed}
-use Rattle.opening_book.specs.Counting.{counted, last_read, latest, loaded}
+use Rattle.instance_keeper.specs.Book.{BookState}
+use Rattle.audit_log.specs.Audits.{AuditState, closed}
+use Rattle.opening_book.specs.Audits.{audit_of, last_id}
+use Rattle.opening_book.specs.Counting.{counted, greatest_id, last_read, latest, loaded}
 use Rattle.opening_book.specs.Opening.{opened_book, opening_changes}
 use Rattle.orch_base.specs.declared.server.Moment.{Moment}
 use Rattle.world_openings.specs.Opening.{opened_world}
@@ -22,20 +25,29 @@ start_world s = opened_world s.opening (room_of s) (flushes_of s)
 
 -- the kept rows that count
 abbrev pub start_rows : Scenario → List Row → List Row
-start_rows s rows = counted (length s.opening.servers) rows
+start_rows s rows = counted (length s.opening.servers) greatest_id rows
 
 -- when the run begins: at the scenario's moment, or the latest begun or ended moment of a row that counts
 abbrev pub start_moment : Scenario → List Row → Moment
 start_moment s rows = record { 0 = latest s.moment.0 (start_rows s rows) }
 
--- what is kept anew: the instances of the known servers that no row that counts has
-abbrev pub start_changes : Scenario → List Row → List Change
-start_changes s rows = opening_changes (start_world s) (start_moment s rows) (loaded (settings_of s) rows) s.known
+-- the book of the rows that count
+abbrev pub loaded_book : Scenario → List Row → BookState
+loaded_book s rows = loaded (settings_of s) greatest_id rows
 
--- what holds throughout the run: a job is to wait at most so many times, the block period is an hour, and whose
--- recoveries may begin by themselves
+-- the audit of the rows that count; the next id is one more than the last of all rows, those that don't count too
+abbrev pub loaded_audit : Scenario → List Row → AuditState
+loaded_audit s rows = audit_of (last_id rows + 1) (start_rows s rows)
+
+-- what is kept anew: the instances of the known servers that no row that counts has, the scenario's registrations, and the
+-- unended recoveries as interrupted
+abbrev pub start_changes : Scenario → List Row → List Change
+start_changes s rows = opening_changes (start_world s) (start_moment s rows) (loaded_book s rows) s.known s.rules (loaded_audit s rows)
+
+-- what holds throughout the run: a job is to wait at most so many times, the block period, and whose recoveries may begin by
+-- themselves
 abbrev pub configuration_of : ℕ → Scenario → Configuration
-configuration_of wait s = record { wait = wait; block = 3600; master = s.filters.master.passes; intermediate = s.filters.intermediate.passes }
+configuration_of wait s = record { wait = wait; block = s.block; master = s.filters.master.passes; intermediate = s.filters.intermediate.passes }
 
 -- the state with which the scenario's run begins, by the rows of its keeper: an instance that the opening puts brings
 -- the bridge that it shows where it is valid, and a kept row brings none
@@ -43,7 +55,8 @@ abbrev pub start : Scenario → ℕ → List Row → State
 start s wait rows = record {
   world = start_world s;
   moment = (start_moment s rows).0;
-  book = opened_book (loaded (settings_of s) rows) (start_changes s rows);
+  book = opened_book (loaded_book s rows) (start_changes s rows);
+  audit = closed (loaded_audit s rows) (start_moment s rows);
   slots = empty_slots;
   reads = last_read (start_rows s rows);
   jobs = [];

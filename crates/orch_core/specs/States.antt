@@ -1,5 +1,6 @@
 -- What a run is at a moment.
-use Rattle.std.specs.Prelude.{◌≡◌, ◌≤◌, ◌^◌, ℕ, true, length, List, Option, IfSome, All}
+use Rattle.std.specs.Prelude.{◌≡◌, ◌<◌, ◌≤◌, ◌^◌, ℕ, true, length, List, Option, IfSome, All}
+use Rattle.audit_log.specs.Audits.{AuditState, IsAudit}
 use Rattle.instance_keeper.specs.declared.observation.Observation.{Observation}
 use Rattle.instance_keeper.specs.Book.{BookState, are_known, observed_servers, source_servers}
 use Rattle.operations.specs.Jobs.{Job}
@@ -10,12 +11,13 @@ use Rattle.server_model.specs.declared.server.Server.{Server}
 use Rattle.server_model.specs.Worlds.{World}
 use Rattle.scenarios.specs.Turns.{pollers}
 
--- the servers, the moment, what orchestrator knows, the pollers' slots, the greatest read number so far, the unended jobs by
--- rising number, the number of the last job that was begun, and what holds throughout the run
+-- the servers, the moment, what orchestrator knows, the recoveries that were begun, the pollers' slots, the greatest read number
+-- so far, the unended jobs by rising number, the number of the last job that was begun, and what holds throughout the run
 pub record State : Type 0 where
   pub world : World
   pub moment : ℕ
   pub book : BookState
+  pub audit : AuditState
   pub slots : List (Option Observation)
   pub reads : ℕ
   pub jobs : List Job
@@ -31,7 +33,8 @@ abbrev pub IsSlot : ℕ → Option Observation → Type 0
 IsSlot count slot = IfSome slot (λ o. are_known count (observed_servers o) ≡ true)
 
 -- every server is in the book's lists, every poller has its slot, each reading, each source and each job is of the servers,
--- the jobs' numbers rise from 1 on up to that of the last job, and time stands still at 2^63
+-- the jobs' numbers rise from 1 on up to that of the last job, the ids of recoveries rise from 1 on below the next one, which is
+-- in its type's range, each recovery began by 2^63, and time stands still then
 pub record IsState (s : State) : Type 0 where
   pub names : length s.book.names ≡ length s.world.servers
   pub settings : length s.book.settings ≡ length s.world.servers
@@ -40,4 +43,7 @@ pub record IsState (s : State) : Type 0 where
   pub sources : All (HasKnownSource (length s.world.servers)) s.world.servers
   pub jobs : All (IsInRange (length s.world.servers)) s.jobs
   pub rising : Rise 0 s.jobs s.last_job
+  pub audit : IsAudit s.audit
+  pub next : s.audit.next < 2 ^ 64
+  pub begun : All (λ r. r.begun.0 ≤ 2 ^ 63) s.audit.recoveries
   pub moment : s.moment ≤ 2 ^ 63

@@ -7,6 +7,7 @@ use Rattle.turns.specs.declared.turn.Turn.{Turn}
 use Rattle.turns.specs.declared.turn.Turn.TheVariants as turn
 use Rattle.jobs_in_flight.specs.Jobs.{job_exchanges}
 use Rattle.orch_core.specs.Jobs.{turned_at}
+use Rattle.orch_core.specs.Restarts.{reloaded_moment}
 use Rattle.orch_core.specs.States.{State}
 
 -- the exchanges of a turn that looks at no state; a job's turn has none here
@@ -67,9 +68,23 @@ ticked now (turn.PollStore p) = now
 ticked now (turn.Command c) = now
 ticked now turn.Restart = now
 
--- the moment after a turn, by the rows that the keeper has
+-- the moment after a turn: a restart raises it to those of the recoveries that the keeper's rows bring
 abbrev pub moment_after : List Row → State → Turn → ℕ
-moment_after rows s t = ticked s.moment t
+moment_after rows s turn.Restart = reloaded_moment rows s
+moment_after rows s (turn.Tick seconds) = ticked s.moment (turn.Tick seconds)
+moment_after rows s (turn.Job job) = ticked s.moment (turn.Job job)
+moment_after rows s turn.Scan = ticked s.moment turn.Scan
+moment_after rows s (turn.Write n size) = ticked s.moment (turn.Write n size)
+moment_after rows s (turn.Fetch n) = ticked s.moment (turn.Fetch n)
+moment_after rows s (turn.Apply n) = ticked s.moment (turn.Apply n)
+moment_after rows s (turn.Fail n) = ticked s.moment (turn.Fail n)
+moment_after rows s (turn.Heal n) = ticked s.moment (turn.Heal n)
+moment_after rows s (turn.Cut n link) = ticked s.moment (turn.Cut n link)
+moment_after rows s (turn.Join n link) = ticked s.moment (turn.Join n link)
+moment_after rows s (turn.Rotate n) = ticked s.moment (turn.Rotate n)
+moment_after rows s (turn.PollRead p n) = ticked s.moment (turn.PollRead p n)
+moment_after rows s (turn.PollStore p) = ticked s.moment (turn.PollStore p)
+moment_after rows s (turn.Command c) = ticked s.moment (turn.Command c)
 
 -- a turn that neither polls nor stores, is no command and no job's, and doesn't start orchestrator again
 abbrev pub is_exchange : Turn → Bool

@@ -1,23 +1,24 @@
 //! What a command answers, and what it changes.
 
-ghost use Rattle.std.specs.Prelude.{◌≡◌, ◌<◌, ◌∷◌, [], IfOk, IsSome, IsTrue, length, vec_len, vec_capacity};
+ghost use Rattle.std.specs.Prelude.{◌≡◌, ◌<◌, ◌≤◌, ◌^◌, ◌∷◌, [], IfOk, IfSome, IsSome, IsTrue, length, vec_len, vec_capacity};
 ghost use Rattle.std.specs.Option.{option_to_list};
 ghost use Rattle.instance_keeper.specs.Book.{discovery_change, instance_at};
-ghost use Rattle.orch_base.specs.Memory.{next_count};
 ghost use Rattle.commands.specs.Turns.{is_within};
-ghost use Rattle.asking_commands.specs.Answers.{lines_of, permitted};
+ghost use Rattle.asking_commands.specs.Answers.{allowed};
+ghost use Rattle.book_commands.specs.Decisions.{audit_after as audit_decided, book_after as book_decided};
 ghost use Rattle.command_jobs.specs.Jobs.{planner_for};
-ghost use Rattle.orch_core.specs.Commands.{asked, begun_by, discovered, forgotten, jobs_updated, last_job_updated, outcome_by, outcome_of, reads_server, refusal, removal, removes, told_with, updated, IsUpdate};
+ghost use Rattle.orch_core.specs.Commands.{audit_updated, begun_by, decision, discovered, forgotten, jobs_updated, last_job_updated, next_reading, outcome_of, question, refusal, removal, removal_refusal, told_with, updated, IsEffect, IsUpdate};
 ghost use Rattle.orch_core.specs.CommandsBy.{outcome};
-ghost use Rattle.orch_core.specs.Readings.{reading_by};
 
 use crate::Reply;
 use crate::engine::read_server;
 use asking_commands::{AnswerFault, answer, permit};
+use audit_log::Audit;
+use book_commands::{Decided, Effect, decide, rows_of};
 use book_views::book_forest;
 use command_jobs::{PermitFault, leases, permit as permit_job, plan};
-use command_routes::{Planner, Route};
-use commands::{Command, CommandName, CommandTurn, Line, Lines, Refusal};
+use command_routes::{Decision, Planner, Route};
+use commands::{Command, CommandTurn, Line, Lines, Refusal};
 use instance_keeper::{Book, Change, Instance, Key, Observation, Row, Seen, Table};
 use job_plans::Job;
 use orch_base::{Memory, Moment, ServerNo};
@@ -55,7 +56,7 @@ impl Model for Beginning {
     ghost view = { beginning_of };
 }
 
-/// What a command makes of the book and the jobs.
+/// What a command makes of the book, the audit and the jobs.
 #[derive(Drop)]
 pub(crate) enum Update {
     /// Nothing.
@@ -64,12 +65,14 @@ pub(crate) enum Update {
     Change(Change),
     /// It takes in what was read of a server.
     Discovery(Observation),
+    /// What an operator decided.
+    Decides(Effect),
     /// A job begins, which takes its leases.
     Begins(Beginning),
 }
 
-/// What a command answers, what it makes of the book, how it changes the kept rows, and the greatest read number after
-/// it.
+/// What a command answers, what it makes of what is known, how it changes the kept rows, and the greatest read number
+/// after it.
 #[derive(Drop)]
 pub(crate) struct Outcome {
     pub(crate) reply: Reply,
@@ -93,11 +96,32 @@ fn join(book: &mut Book, jobs: &mut Vec<Job>, last_job: &mut u64, beginning: Beg
     jobs.push_reserved(job);
 }
 
-/// Makes of the book and the jobs what a command makes of them. It takes no memory.
-pub(crate) fn update_all(book: &mut Book, jobs: &mut Vec<Job>, last_job: &mut u64, update: Update)
+fn decide_so(book: &mut Book, audit: &mut Audit, effect: Effect)
+    requires { IsEffect book.old effect }
+    ensures book { book.new ≡ book_decided book.old effect }
+    ensures audit { audit.new.audit ≡ audit_decided audit.old.audit effect }
+{
+    match effect {
+        Effect::Stays => {}
+        Effect::Change(change) => book.set(change),
+        Effect::Acks(cluster) => {
+            let _ = audit.ack(cluster.as_str());
+        }
+    }
+}
+
+/// Makes of the book, the audit and the jobs what a command makes of them. It takes no memory.
+pub(crate) fn update_all(
+    book: &mut Book,
+    audit: &mut Audit,
+    jobs: &mut Vec<Job>,
+    last_job: &mut u64,
+    update: Update,
+)
     requires update { IsUpdate book.old update }
     requires room { vec_len jobs.old < vec_capacity jobs.old }
     ensures book { book.new ≡ updated book.old update }
+    ensures audit { audit.new.audit ≡ audit_updated audit.old.audit update }
     ensures jobs { jobs.new.items ≡ jobs_updated jobs.old.items update }
     ensures last { last_job.new ≡ last_job_updated last_job.old update }
 {
@@ -105,25 +129,8 @@ pub(crate) fn update_all(book: &mut Book, jobs: &mut Vec<Job>, last_job: &mut u6
         Update::Stays => {}
         Update::Change(change) => book.set(change),
         Update::Discovery(o) => book.discover(o),
+        Update::Decides(effect) => decide_so(book, audit, effect),
         Update::Begins(beginning) => join(book, jobs, last_job, beginning),
-    }
-}
-
-fn reads_server(name: CommandName) -> bool
-    ensures { result ≡ reads_server name }
-{
-    match Route::of(name) {
-        Route::Discovers => true,
-        Route::Forgets | Route::Asks(_) | Route::Begins(_) | Route::Unbuilt => false,
-    }
-}
-
-fn removes(name: CommandName) -> bool
-    ensures { result ≡ removes name }
-{
-    match Route::of(name) {
-        Route::Forgets => true,
-        Route::Discovers | Route::Asks(_) | Route::Begins(_) | Route::Unbuilt => false,
     }
 }
 
@@ -211,24 +218,37 @@ fn discover(
     alloc: Global,
     world: &World,
     book: &Book,
+    numbers: Numbers,
     no: ServerNo,
-    reads: u64,
-    moment: Moment,
 ) -> Result<Outcome, Memory>
     requires world { no.0 < length world.now.servers }
     requires book { no.0 < length book.now.names }
-    ensures { IfOk result (λ out. outcome out ≡ discovered book.now reads
-        (reading_by world.now no (next_count reads) moment.0)
-        (reading_by world.now no (next_count reads) moment.0).seen) }
+    ensures { IfOk result (λ out. outcome out ≡ discovered book.now numbers.reads
+        (next_reading world.now numbers no) (next_reading world.now numbers no).seen) }
 {
-    let o = read_server(alloc, world, no, reads.saturating_add(1), moment)?;
-    discovered(alloc, book, reads, o)
+    let read = numbers.reads.saturating_add(1);
+    let o = read_server(alloc, world, no, read, numbers.moment)?;
+    discovered(alloc, book, numbers.reads, o)
 }
 
 fn removal(no: ServerNo) -> Change
     ensures { result ≡ removal no }
 {
     Change::Remove(Table::Instance, Key::Server(no))
+}
+
+// What refuses the removal: an instance that isn't in the book, or one of which a job has the lease.
+fn removal_refusal(book: &Book, command: Command) -> Option<Refusal>
+    requires i { IsTrue (is_within (length book.now.names) command.i) }
+    requires d { IsTrue (is_within (length book.now.names) command.d) }
+    ensures { result ≡ removal_refusal book.now command }
+{
+    if let Err(refusal) = permit(book, command) {
+        return Some(refusal);
+    }
+    let no = command.i?;
+    let job = book.lease(no)?;
+    Some(Refusal::Busy(no, job))
 }
 
 // Removes the instance.
@@ -241,24 +261,30 @@ fn forget(
 ) -> Result<Outcome, Memory>
     requires i { IsTrue (is_within (length book.now.names) command.i) }
     requires d { IsTrue (is_within (length book.now.names) command.d) }
-    ensures { IfOk result (λ out. outcome out ≡ forgotten reads (permitted book.now command) no) }
+    ensures { IfOk result (λ out. outcome out ≡ forgotten reads
+        (allowed (removal_refusal book.now command)) no) }
 {
-    if let Err(refusal) = permit(book, command) {
+    if let Some(refusal) = removal_refusal(book, command) {
         return Ok(refused(alloc, reads, refusal));
     }
     let rows = listed(alloc, Some(removal(no)))?;
     told_with(alloc, reads, no, Update::Change(removal(no)), rows)
 }
 
-// Asks the book.
+// Asks the book or the audit.
 #[tactic(auto, unfolding(asking_commands::specs::Answers::answer_of), using(crate::proofs::Outcomes::asked_told, crate::proofs::Outcomes::asked_refused))]
-fn ask(alloc: Global, book: &Book, reads: u64, t: &CommandTurn) -> Result<Outcome, Memory>
+fn ask(
+    alloc: Global,
+    book: &Book,
+    audit: &Audit,
+    reads: u64,
+    t: &CommandTurn,
+) -> Result<Outcome, Memory>
     requires i { IsTrue (is_within (length book.now.names) t.now.command.i) }
     requires d { IsTrue (is_within (length book.now.names) t.now.command.d) }
-    ensures { IfOk result (λ out. outcome out ≡ asked reads (permitted book.now t.now.command)
-        (lines_of book.now t.now t.now.command.name)) }
+    ensures { IfOk result (λ out. outcome out ≡ question book.now audit.now.audit reads t.now) }
 {
-    match answer(alloc, book, t) {
+    match answer(alloc, book, audit.recoveries(), t) {
         Ok(lines) => Ok(Outcome {
             reply: Reply::Told(lines),
             book: Update::Stays,
@@ -268,6 +294,37 @@ fn ask(alloc: Global, book: &Book, reads: u64, t: &CommandTurn) -> Result<Outcom
         Err(AnswerFault::Refused(refusal)) => Ok(refused(alloc, reads, refusal)),
         Err(AnswerFault::Memory) => Err(Memory),
     }
+}
+
+// Keeps what an operator decides.
+fn decision(
+    alloc: Global,
+    book: &Book,
+    audit: &Audit,
+    numbers: Numbers,
+    t: &CommandTurn,
+    what: Decision,
+) -> Result<Outcome, Memory>
+    requires i { IsTrue (is_within (length book.now.names) t.now.command.i) }
+    requires d { IsTrue (is_within (length book.now.names) t.now.command.d) }
+    requires moment { numbers.moment.0 ≤ 2 ^ 63 }
+    requires duration { IfSome t.now.keys.duration (λ n. n ≤ 31536000) }
+    ensures { IfOk result (λ out. outcome out ≡ decision book.now audit.now.audit numbers t.now
+        what) }
+{
+    if let Err(refusal) = permit(book, t.command) {
+        return Ok(refused(alloc, numbers.reads, refusal));
+    }
+    let now = numbers.moment;
+    let decided = decide(alloc, book, audit, now, &t.keys, t.command.i, what)?;
+    let rows = rows_of(alloc, audit, &decided.effect)?;
+    let Decided { lines, effect } = decided;
+    Ok(Outcome {
+        reply: Reply::Told(lines),
+        book: Update::Decides(effect),
+        rows,
+        reads: numbers.reads,
+    })
 }
 
 // Begins the job of a command, unless it is refused. Where no number is left for a job, memory wants.
@@ -301,7 +358,7 @@ fn begin_by(
         return Err(Memory);
     }
     let number = numbers.last_job + 1;
-    let list = leases(alloc, book, command, planner)?;
+    let list = leases(alloc, book, &forest, world, command, planner)?;
     let ops = plan(alloc, book, &forest, world, command, planner)?;
     let job = Job::make(alloc, number, ops, numbers.wait)?;
     Ok(Outcome {
@@ -312,30 +369,6 @@ fn begin_by(
     })
 }
 
-// The outcome of a command that begins no job.
-fn outcome_by(
-    alloc: Global,
-    world: &World,
-    book: &Book,
-    reads: u64,
-    moment: Moment,
-    t: &CommandTurn,
-) -> Result<Outcome, Memory>
-    requires servers { length book.now.names ≡ length world.now.servers }
-    requires i { IsTrue (is_within (length book.now.names) t.now.command.i) }
-    requires d { IsTrue (is_within (length book.now.names) t.now.command.d) }
-    ensures { IfOk result (λ out. outcome out ≡ outcome_by world.now book.now reads moment.0 t.now
-        t.now.command.i) }
-{
-    match t.command.i {
-        Some(no) if reads_server(t.command.name) => {
-            discover(alloc, world, book, no, reads, moment)
-        }
-        Some(no) if removes(t.command.name) => forget(alloc, book, t.command, no, reads),
-        Some(_) | None => ask(alloc, book, reads, t),
-    }
-}
-
 /// The outcome of a command, by the numbers that it goes by. It changes nothing. Memory comes, too, where no number is left
 /// for a job.
 #[tactic(auto, unfolding(crate::specs::Commands::outcome_of))]
@@ -343,16 +376,25 @@ pub(crate) fn outcome_of(
     alloc: Global,
     world: &World,
     book: &Book,
+    audit: &Audit,
     numbers: Numbers,
     t: &CommandTurn,
 ) -> Result<Outcome, Memory>
     requires servers { length book.now.names ≡ length world.now.servers }
     requires i { IsTrue (is_within (length book.now.names) t.now.command.i) }
     requires d { IsTrue (is_within (length book.now.names) t.now.command.d) }
-    ensures { IfOk result (λ out. outcome out ≡ outcome_of world.now book.now numbers t.now) }
+    requires moment { numbers.moment.0 ≤ 2 ^ 63 }
+    requires duration { IfSome t.now.keys.duration (λ n. n ≤ 31536000) }
+    ensures { IfOk result (λ out. outcome out ≡ outcome_of world.now book.now audit.now.audit
+        numbers t.now) }
 {
-    match Route::of(t.command.name).planner() {
-        Some(planner) => begin_by(alloc, world, book, numbers, t.command, planner),
-        None => outcome_by(alloc, world, book, numbers.reads, numbers.moment, t),
+    match (Route::of(t.command.name), t.command.i) {
+        (Route::Discovers, Some(no)) => discover(alloc, world, book, numbers, no),
+        (Route::Forgets, Some(no)) => forget(alloc, book, t.command, no, numbers.reads),
+        (Route::Decides(what), _) => decision(alloc, book, audit, numbers, t, what),
+        (Route::Begins(planner), _) => begin_by(alloc, world, book, numbers, t.command, planner),
+        (Route::Discovers | Route::Forgets, None) | (Route::Asks(_) | Route::Unbuilt, _) => {
+            ask(alloc, book, audit, numbers.reads, t)
+        }
     }
 }

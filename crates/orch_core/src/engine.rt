@@ -18,12 +18,16 @@ ghost use Rattle.orch_core.specs.Scenarios.{configuration_of};
 ghost use Rattle.orch_core.specs.States.{HasKnownSource, IsState};
 
 use crate::command::{Numbers, outcome_of};
-use crate::keep::{counted_rows, keep_and_update, keep_some, keep_store};
+use crate::keep::{given_rows, keep_and_update, keep_some, keep_store};
 use crate::{BoxedCommand, Configuration, Reply, Scenario, Turn, TurnFault};
+use audit_log::Audit;
 use instance_keeper::{Book, Keeper, Observation, StoreAnswer};
 use job_plans::Job;
 use jobs_in_flight::{FoundJob, answer, find, others_over, take_turn};
-use opening_book::{last_read, latest_moment, loaded_book, open_book, opening_changes};
+use opening_book::{
+    GREATEST_ID, counted, interrupting, last_id, last_read, latest_moment, latest_recovery,
+    loaded_audit, loaded_book, open_book, opening_changes,
+};
 use openings::ServerInit;
 use operations::{jobs_end, jobs_stay_in_range};
 use orch_base::{Memory, Moment, Name, ServerNo, Settings};
@@ -38,15 +42,13 @@ const LAST_MOMENT: u64 = 1 << 63;
 /// So many pollers have a slot each.
 const POLLERS: u32 = 64;
 
-/// The block period in seconds.
-const BLOCK: u64 = 3600;
-
 /// The servers of a scenario after some turns, the moment, and what orchestrator knows.
 #[derive(Drop)]
 pub struct Engine {
     world: World,
     moment: Moment,
     book: Book,
+    audit: Audit,
     slots: Vec<Option<Observation>>,
     reads: u64,
     jobs: Vec<Job>,
@@ -218,26 +220,32 @@ fn store(book: &mut Book, slot: Option<Observation>) -> Reply
     }
 }
 
-// The book with the instances of the known servers that it lacks, which are kept first.
+// The book with what the opening brings, which is kept first, together with the recoveries that it interrupts.
 fn complete<K: Keeper>(
     alloc: Global,
     keeper: &mut K,
     world: &World,
     moment: Moment,
     mut book: Book,
-    known: &[bool],
+    s: &Scenario,
+    audit: &Audit,
 ) -> Result<Book, TurnFault>
-    requires known { length known.now ≡ length world.now.servers }
+    requires moment { moment.0 ≤ 2 ^ 63 }
+    requires known { length s.now.known ≡ length world.now.servers }
+    requires rules { length s.now.rules ≡ length world.now.servers }
     requires names { length book.names ≡ length world.now.servers }
     requires sources { All (HasKnownSource (length world.now.servers)) world.now.servers }
-    ensures book { IfOk result (λ b.
-        b ≡ opened_book book (opening_changes world.now moment book known.now)) }
+    ensures book { IfOk result (λ b. b ≡ opened_book book
+        (opening_changes world.now moment book s.now.known s.now.rules audit.now.audit)) }
     ensures kept { K.kept keeper.new ≡ kept_if (is_ok result) (K.kept keeper.old)
-        (opening_changes world.now moment book known.now) }
+        (opening_changes world.now moment book s.now.known s.now.rules audit.now.audit) }
     ensures cause { HasTurnCause (K.faults keeper.old) (K.faults keeper.new) result }
-    ensures idle { opening_changes world.now moment book known.now ≡ [] → keeper.new ≡ keeper.old }
+    ensures idle { opening_changes world.now moment book s.now.known s.now.rules
+        audit.now.audit ≡ [] → keeper.new ≡ keeper.old }
 {
-    let changes = opening_changes(alloc, world, moment, &book, known)?;
+    let known = s.known.as_slice();
+    let rules = s.rules.as_slice();
+    let changes = opening_changes(alloc, world, moment, &book, known, rules, audit)?;
     keep_some(alloc, keeper, book.names(), &changes)?;
     open_book(&mut book, changes);
     Ok(book)
@@ -288,7 +296,7 @@ fn configure(alloc: Global, s: &Scenario, wait: u32) -> Result<Configuration, Me
 {
     Ok(Configuration {
         wait,
-        block: BLOCK,
+        block: s.block,
         master: s.filters.master.passes.copy(alloc)?,
         intermediate: s.filters.intermediate.passes.copy(alloc)?,
     })
@@ -367,12 +375,22 @@ impl Engine {
         ensures ok { OnOk result (StepsTo engine
             (K.kept keeper.old) self.old Turn.Restart self.new) }
         ensures err { OnErr result (self.new ≡ self.old) }
-        ensures kept { K.kept keeper.new ≡ K.kept keeper.old }
+        ensures kept { K.kept keeper.new ≡ kept_by engine (is_ok result) (K.kept keeper.old)
+            self.old Turn.Restart }
         ensures cause { HasTurnCause (K.faults keeper.old) (K.faults keeper.new) result }
         ensures servers { length self.new.world.servers ≡ length self.old.world.servers }
     {
-        let rows = counted_rows(alloc, keeper, self.book.names(), self.book.servers())?;
+        let next = self.audit.next();
+        let given = given_rows(alloc, keeper, self.book.names())?;
+        let rows = counted(alloc, self.book.servers(), next - 1, given)?;
+        let mut audit = loaded_audit(alloc, &rows, next)?;
+        let moment = latest_recovery(self.moment, audit.recoveries());
+        let changes = interrupting(alloc, &audit, moment)?;
+        keep_some(alloc, keeper, self.book.names(), &changes)?;
+        audit.close(moment);
         self.book.reload(rows);
+        self.audit = audit;
+        self.moment = moment;
         empty_slots(&mut self.slots);
         self.jobs.clear();
         Ok(Reply::Done)
@@ -476,12 +494,20 @@ impl Engine {
         // shows the proof what holds of the book
         let _ = self.book.servers();
         let numbers = self.numbers();
-        let outcome = outcome_of(alloc, &self.world, &self.book, numbers, t.as_turn())?;
+        let outcome = outcome_of(
+            alloc,
+            &self.world,
+            &self.book,
+            &self.audit,
+            numbers,
+            t.as_turn(),
+        )?;
         let written = copied(alloc, &outcome.reply, written)?;
         keep_and_update(
             alloc,
             keeper,
             &mut self.book,
+            &mut self.audit,
             &mut self.jobs,
             &mut self.last_job,
             outcome.book,
@@ -504,13 +530,13 @@ impl Engine {
     ghost use Rattle.scenarios.specs.Scenarios.{IsScenario};
     ghost use Rattle.orch_core.specs.Scenarios.{StartsBy, kept_at_start};
 
-    /// The opening state of a scenario, by the rows that the keeper hands back: its servers as they begin, and the book
-    /// of the rows that count and of the known servers that none of these is of, with the bridges that these servers
-    /// show. A job is to wait at most `wait` times. Each server gets room for all transactions of the listed histories
-    /// and one more for each write turn, and for the longest list of flush points and one more new file for each rotate
-    /// turn. What the book has beyond the rows is kept first; where it has nothing beyond them, only the rows are asked
-    /// for. Keeper comes only where the keeper's count of faults rose; after it, and after Memory, the kept rows are as
-    /// before.
+    /// The opening state of a scenario, by the rows that the keeper hands back: its servers as they begin, the book of the
+    /// rows that count and of the known servers that none of these is of, with the bridges that these servers show and the
+    /// scenario's registrations, and the recoveries of these rows, each unended one ended as interrupted. A job is to wait
+    /// at most `wait` times. Each server gets room for all transactions of the listed histories and one more for each
+    /// write turn, and for the longest list of flush points and one more new file for each rotate turn. What there is
+    /// beyond the rows is kept first; where there is nothing beyond them, only the rows are asked for. Keeper comes only
+    /// where the keeper's count of faults rose; after it, and after Memory, the kept rows are as before.
     pub fn make<K: Keeper>(
         alloc: Global,
         s: &Scenario,
@@ -528,14 +554,19 @@ impl Engine {
         let slots = make_slots(alloc)?;
         let configuration = configure(alloc, s, wait)?;
         let names = copy_names(alloc, &settings)?;
-        let rows = counted_rows(alloc, keeper, &names, settings.len() as u32)?;
+        let given = given_rows(alloc, keeper, &names)?;
+        let next = last_id(&given) + 1;
+        let rows = counted(alloc, settings.len() as u32, GREATEST_ID, given)?;
         let moment = latest_moment(s.moment, &rows);
         let book = loaded_book(alloc, &settings, &rows)?;
-        let book = complete(alloc, keeper, &world, moment, book, s.known.as_slice())?;
+        let mut audit = loaded_audit(alloc, &rows, next)?;
+        let book = complete(alloc, keeper, &world, moment, book, s, &audit)?;
+        audit.close(moment);
         Ok(Engine {
             world,
             moment,
             book,
+            audit,
             slots,
             reads: last_read(&rows),
             jobs: Vec::new(alloc),
@@ -735,5 +766,13 @@ impl Engine {
         ensures { result.now ≡ self.now.book }
     {
         &self.book
+    }
+
+    /// The recoveries that were begun, each at 2^63 at the latest.
+    pub fn audit(&self) -> &Audit
+        ensures audit { result.now.audit ≡ self.now.audit }
+        ensures begun { All (λ r. r.begun.0 ≤ 2 ^ 63) result.now.audit.recoveries }
+    {
+        &self.audit
     }
 }

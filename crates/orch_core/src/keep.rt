@@ -1,17 +1,15 @@
 //! What is kept: the changes of rows, which are kept before they are made, and the rows that a keeper hands back.
 
-ghost use Rattle.std.specs.Prelude.{◌≡◌, ◌≢◌, ◌<◌, List, [], IfOk, IfSome, OnOk, OnErr, Err, is_ok, length};
-ghost use Rattle.instance_keeper.specs.declared.row.Row.{Row as ARow};
-ghost use Rattle.opening_book.specs.Counting.{counted};
-ghost use Rattle.orch_core.specs.Commands.{IsUpdate, jobs_updated, last_job_updated, updated};
+ghost use Rattle.std.specs.Prelude.{◌≡◌, ◌≢◌, ◌<◌, [], IfOk, IfSome, OnOk, OnErr, Err, is_ok, length};
+ghost use Rattle.orch_core.specs.Commands.{IsUpdate, audit_updated, jobs_updated, last_job_updated, updated};
 ghost use Rattle.orch_core.specs.Keeping.{HasTurnCause, kept_if};
 ghost use Rattle.orch_core.specs.Polls.{changes_by};
 
 use crate::TurnFault;
 use crate::command::{Update, update_all};
+use audit_log::Audit;
 use instance_keeper::{Book, Change, Keeper, Observation, Row};
 use job_plans::Job;
-use opening_book::counted;
 use orch_base::Name;
 use std::alloc::Global;
 
@@ -69,11 +67,12 @@ pub(crate) fn keep_some<K: Keeper>(
     keep(alloc, keeper, names, changes)
 }
 
-/// Keeps the changes, where there are any, and makes of the book and the jobs what a command makes of them.
+/// Keeps the changes, where there are any, and makes of the book, the audit and the jobs what a command makes of them.
 pub(crate) fn keep_and_update<K: Keeper>(
     alloc: Global,
     keeper: &mut K,
     book: &mut Book,
+    audit: &mut Audit,
     jobs: &mut Vec<Job>,
     last_job: &mut u64,
     update: Update,
@@ -81,9 +80,11 @@ pub(crate) fn keep_and_update<K: Keeper>(
 ) -> Result<(), TurnFault>
     requires { IsUpdate book.old update }
     ensures book { OnOk result (book.new ≡ updated book.old update) }
+    ensures audit { OnOk result (audit.new.audit ≡ audit_updated audit.old.audit update) }
     ensures jobs { OnOk result (jobs.new.items ≡ jobs_updated jobs.old.items update) }
     ensures last { OnOk result (last_job.new ≡ last_job_updated last_job.old update) }
     ensures still { OnErr result (book.new ≡ book.old) }
+    ensures audit_still { OnErr result (audit.new.audit ≡ audit.old.audit) }
     ensures jobs_still { OnErr result (jobs.new.items ≡ jobs.old.items) }
     ensures last_still { OnErr result (last_job.new ≡ last_job.old) }
     ensures kept { K.kept keeper.new ≡ kept_if (is_ok result) (K.kept keeper.old) rows.now }
@@ -93,23 +94,19 @@ pub(crate) fn keep_and_update<K: Keeper>(
 {
     jobs.reserve(1)?;
     keep_some(alloc, keeper, book.names(), rows)?;
-    update_all(book, jobs, last_job, update);
+    update_all(book, audit, jobs, last_job, update);
     Ok(())
 }
 
-/// The rows that count among these servers, by the keeper.
-pub(crate) fn counted_rows<K: Keeper>(
+/// The rows that the keeper hands back.
+pub(crate) fn given_rows<K: Keeper>(
     alloc: Global,
     keeper: &mut K,
     names: &[Name],
-    servers: u32,
 ) -> Result<Vec<Row>, TurnFault>
-    ensures told { IfSome (K.kept keeper.old)
-        (λ rows. IfOk result (λ r. r.items ≡ counted servers rows)) }
-    ensures some { IfOk result (λ r. (rows : List ARow) × (r.items ≡ counted servers rows)) }
+    ensures told { IfSome (K.kept keeper.old) (λ rows. IfOk result (λ given. given.items ≡ rows)) }
     ensures kept { K.kept keeper.new ≡ K.kept keeper.old }
     ensures cause { HasTurnCause (K.faults keeper.old) (K.faults keeper.new) result }
 {
-    let rows = keeper.rows(alloc, names)?;
-    Ok(counted(alloc, servers, rows)?)
+    Ok(keeper.rows(alloc, names)?)
 }

@@ -13,6 +13,7 @@ ghost use Rattle.orch_core.specs.Keeping.{StepsTo, kept_by, asks, Calls, HasTurn
 ghost use Rattle.orch_core.specs.Scenarios.{StartsBy, kept_at_start};
 
 use crate::{Engine, Reply, Scenario, Turn, TurnFault};
+use audit_log::Audit;
 use instance_keeper::{Book, Keeper};
 use job_plans::Job;
 use jobs_in_flight::round_over;
@@ -202,5 +203,13 @@ impl Orch {
         ensures { result.now ≡ self.now.state.book }
     {
         self.engine.book()
+    }
+
+    /// The recoveries that were begun, each at 2^63 at the latest.
+    pub fn audit(&self) -> &Audit
+        ensures audit { result.now.audit ≡ self.now.state.audit }
+        ensures begun { All (λ r. r.begun.0 ≤ 2 ^ 63) result.now.audit.recoveries }
+    {
+        self.engine.audit()
     }
 }

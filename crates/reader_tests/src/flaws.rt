@@ -152,6 +152,7 @@ fn server(alloc: Global, n: u32, sketch: &Sketch) -> Result<Given, Fail> {
             feed: true,
         },
         known: n > 0,
+        rule: None,
         history,
         source: sketch.source.map(ServerNo),
         replication: Replication {

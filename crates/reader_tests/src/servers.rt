@@ -58,8 +58,13 @@ fn faults_have_their_places(rt: HostRuntime) -> Result<(), Fail> {
             "BadType /0/known",
         ),
         (
-            r#"[{"name":"a","known":false,"rule":"prefer","history":7}]"#,
-            "NotBuilt /0/rule",
+            r#"[{"name":"a","known":false,"rule":7,"history":7}]"#,
+            "BadType /0/rule",
+        ),
+        (r#"[{"name":"a","rule":"must"}]"#, "BadNumber /0/rule"),
+        (
+            r#"[{"name":"a","rule":"must_not","history":7}]"#,
+            "BadType /0/history",
         ),
         (
             r#"[{"name":"a","history":[["a",1,1],["a",1]]}]"#,

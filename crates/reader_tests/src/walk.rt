@@ -47,9 +47,24 @@ fn faults_have_codes_and_paths(rt: HostRuntime) -> Result<(), Fail> {
             "/gtid",
         ),
         (
-            r#"{"version":1,"block":1,"aliases":1,"servers":1}"#,
-            FaultCode::NotBuilt,
+            r#"{"version":1,"block":"1","aliases":1,"servers":1}"#,
+            FaultCode::BadType,
             "/block",
+        ),
+        (
+            r#"{"version":1,"block":-1,"servers":1}"#,
+            FaultCode::BadNumber,
+            "/block",
+        ),
+        (
+            r#"{"version":1,"block":1000000001,"filters":1,"servers":1}"#,
+            FaultCode::BadNumber,
+            "/block",
+        ),
+        (
+            r#"{"version":1,"block":1000000000,"aliases":1,"servers":1}"#,
+            FaultCode::BadType,
+            "/aliases",
         ),
         (
             r#"{"version":1,"aliases":{"":1},"servers":1}"#,
@@ -193,6 +208,7 @@ fn commands_have_codes_and_paths(rt: HostRuntime) -> Result<(), Fail> {
         (r#""run",{}"#, FaultCode::BadCommand, "/turns/0/1"),
         (r#""spin",1"#, FaultCode::BadCommand, "/turns/0/1"),
         (r#""recover",1"#, FaultCode::NotBuilt, "/turns/0/1"),
+        (r#""move-up",1"#, FaultCode::BadType, "/turns/0/2"),
         (r#""recover",{"i":"m"}"#, FaultCode::NotBuilt, "/turns/0/1"),
         (r#""topology",["m"]"#, FaultCode::BadType, "/turns/0/2"),
         (r#""topology",{}"#, FaultCode::BadCommand, "/turns/0/2"),
@@ -263,14 +279,14 @@ fn long_texts_are_refused(rt: HostRuntime) -> Result<(), Fail> {
 #[test]
 fn every_key_is_read(rt: HostRuntime) -> Result<(), Fail> {
     let text = r#"{
-        "version": 1, "now": 7, "gtid": true, "aliases": {"c1": "pay", "other": "x"},
+        "version": 1, "now": 7, "gtid": true, "block": 60, "aliases": {"c1": "pay", "other": "x"},
         "filters": {"master": ["alias=pay"], "intermediate": ["^c2", "alias~=^x"]},
         "servers": [
             {"name": "m", "uuid": "00000000-0000-0000-0000-00000000000a", "server_id": 3, "version": "5.7.44", "cluster": "c1",
              "logs": true, "read_only": false, "limit": 1000, "up": true, "desk": true, "feed": true, "known": false,
              "history": [["m", 100, 2]], "flushes": [1]},
             {"name": "r:3307", "cluster": "c1", "source": "m", "executed": 2, "io": true, "sql": false, "auto": true, "detached": false,
-             "until": "mysql-bin.000009:4"}
+             "until": "mysql-bin.000009:4", "rule": "must_not"}
         ],
         "turns": [["write", "m", 100], ["fetch", "r:3307"], ["apply", "r:3307"], ["fail", "m"], ["heal", "m"], ["rotate", "m"],
             ["cut", "r:3307", "desk"], ["join", "r:3307", "feed"], ["tick", 1000000000]]
@@ -282,7 +298,12 @@ fn every_key_is_read(rt: HostRuntime) -> Result<(), Fail> {
     assert_eq!(rt; scenario.moment.0, 7);
     assert_eq!(rt; scenario.opening.servers().len(), 2);
     assert_eq!(rt; scenario.turns.as_slice().len(), 9);
+    assert_eq!(rt; scenario.block, 60);
     assert_eq!(rt; scenario.known.as_slice(), [false, true].as_slice());
+    assert_eq!(rt;
+        scenario.rules.as_slice(),
+        [None, Some(Rule::MustNot)].as_slice()
+    );
     assert_eq!(rt; scenario.aliases.as_slice().len(), 2);
     assert_eq!(rt;
         scenario.filters.master.passes.as_slice(),

@@ -63,14 +63,14 @@ fn counted(alloc: Global, places: &Places) -> Result<String, Fail> {
 
 #[test]
 fn bad_words_are_refused(rt: HostRuntime) -> Result<(), Fail> {
-    let cases: [&[&str]; 32] = [
+    let cases: [&[&str]; 36] = [
         &[],
         &["-c"],
         &["run"],
         &["-i", "m"],
         &["-c", "walk"],
         &["-c", "Run"],
-        &["-c", "relocate", "-i", "m", "-d", "n"],
+        &["-c", "regroup-replicas", "-i", "m"],
         &["-c", ""],
         &["-c", "run", "-c", "run"],
         &["-c", "run", "-c", "find"],
@@ -96,6 +96,10 @@ fn bad_words_are_refused(rt: HostRuntime) -> Result<(), Fail> {
         &["-c", "which-replicas", "--pattern", "m"],
         &["-c", "find"],
         &["-c", "find", "-i", "m"],
+        &["-c", "begin-downtime", "--duration", "1h"],
+        &["-c", "end-downtime"],
+        &["-c", "register-candidate", "-i", "m"],
+        &["-c", "ack-cluster-recoveries"],
     ];
     for case in cases {
         let words = words_of(rt.alloc(), case)?;

@@ -1,6 +1,7 @@
 -- The line of a server, by what the world tells of it.
-use Rattle.std.proofs.Common.{◌≡◌, ℕ, ◌+◌, ◌<◌, List, [], ◌∷◌, ◌++◌, zero, suc, length, drop, Option, Some, None, refl, ◌∙◌, arith, append_assoc, add-one}
+use Rattle.std.proofs.Common.{◌≡◌, ℕ, ◌+◌, ◌<◌, List, [], ◌∷◌, ◌++◌, zero, suc, length, map, take, drop, Option, Some, None, refl, sym, ap, ◌∙◌, arith, append_assoc, add-one}
 use Rattle.std.specs.Prelude.{option_map, slice_get}
+use Rattle.orch_base.specs.Names.{HostPort}
 use Rattle.orch_base.specs.declared.server.Settings.{Settings}
 use Rattle.binlog_coords.specs.Index.{Index}
 use Rattle.server_words.specs.declared.plain.Plain.{Plain}
@@ -26,3 +27,20 @@ pub servers_go_on : (w : World) (xs : List Server) (n : ℕ) (before after all :
     → after ≡ before ++ line_at w (slice_get xs n) → after ++ servers_text w (drop (n + 1) xs) ≡ all
 servers_go_on w xs n before after all lt so_far line =
     rw (line, add-one) (append_assoc before (line_at w (slice_get xs n)) (servers_text w (drop (suc n) xs)) ∙ rw (servers_at w xs n lt) at so_far)
+
+-- ---- the servers' names
+
+abbrev name_of : Server → HostPort
+name_of s = s.settings.name
+
+names_more : (xs : List Server) (n : ℕ) (settings : Settings) → option_map (λ s. s.settings) (slice_get xs n) ≡ Some settings
+    → map name_of (take (suc n) xs) ≡ map name_of (take n xs) ++ settings.name ∷ []
+names_more [] n settings at = cc
+names_more (x ∷ xs) zero settings at = cc
+names_more (x ∷ xs) (suc n) settings at = ap (λ (rest : List HostPort). name_of x ∷ rest) (names_more xs n settings at)
+
+-- one more name is listed
+pub names_go_on : (xs : List Server) (n : ℕ) (settings : Settings) (before after : List HostPort) → before ≡ map name_of (take n xs)
+    → option_map (λ s. s.settings) (slice_get xs n) ≡ Some settings → after ≡ before ++ settings.name ∷ [] → after ≡ map name_of (take (n + 1) xs)
+names_go_on xs n settings before after so_far at more =
+    rw (more, add-one) (ap (λ (names : List HostPort). names ++ settings.name ∷ []) so_far ∙ sym (names_more xs n settings at))

@@ -1,5 +1,5 @@
--- The tables: a line for each server and each unended job, and how many writes servers with a source accepted.
-use Rattle.std.specs.Prelude.{ℕ, Bool, List, [], ◌∷◌, ◌++◌, length, codes, decimal, Option, Some, None, if◌then◌else◌}
+-- The tables: a line for each server, each recovery and each unended job, and how many writes servers with a source accepted.
+use Rattle.std.specs.Prelude.{ℕ, Bool, List, [], ◌∷◌, ◌++◌, length, map, codes, decimal, Option, Some, None, if◌then◌else◌}
 use Rattle.orch_base.specs.Names.{HostPort, printed}
 use Rattle.orch_base.specs.declared.server.SourceState.{SourceState}
 use Rattle.orch_base.specs.declared.server.SourceState.TheVariants.{Without, Attached, Detached}
@@ -8,16 +8,15 @@ use Rattle.binlog_coords.specs.Index.{Index}
 use Rattle.binlog_coords.specs.Log.{end_of}
 use Rattle.binlog_coords.specs.Text.{coord_text}
 use Rattle.server_words.specs.declared.plain.Plain.{Plain}
+use Rattle.commands.specs.declared.line.Line.{Line}
 use Rattle.server_model.specs.declared.server.Server.{Server}
 use Rattle.server_model.specs.Plains.{plain_of, log_of}
 use Rattle.server_model.specs.Worlds.{World, server_at}
+use Rattle.report_text.specs.Told.{told_lines}
+use Rattle.report_text.specs.Words.{mode_text}
 
 abbrev pub up_text : Bool → List ℕ
 up_text up = if up then codes "up" else codes "down"
-
--- read-only or writable
-abbrev pub mode_text : Bool → List ℕ
-mode_text read_only = if read_only then codes "ro" else codes "rw"
 
 abbrev pub on_text : Bool → List ℕ
 on_text on = if on then codes "on" else codes "off"
@@ -91,6 +90,14 @@ abbrev pub jobs_text : List ℕ → List ℕ
 jobs_text [] = []
 jobs_text (job ∷ rest) = job_text job ++ jobs_text rest
 
--- a line for each server in order, then one for each unended job, then the count of errant writes
-abbrev pub tables_text : World → List ℕ → List ℕ
-tables_text w jobs = servers_text w w.servers ++ jobs_text jobs ++ codes "errant " ++ decimal w.errant ++ codes "\n"
+-- the servers' names, in order
+abbrev pub names_in : World → List HostPort
+names_in w = map (λ s. s.settings.name) w.servers
+
+-- so many writes were accepted by servers with a source
+abbrev pub errant_text : World → List ℕ
+errant_text w = codes "errant " ++ decimal w.errant ++ codes "\n"
+
+-- a line for each server in order, then one for each recovery, then one for each unended job, then the count of errant writes
+abbrev pub tables_text : World → List Line → List ℕ → List ℕ
+tables_text w recoveries jobs = servers_text w w.servers ++ told_lines [] (names_in w) recoveries ++ jobs_text jobs ++ errant_text w

@@ -13,8 +13,7 @@ use Rattle.report_text.specs.Causes.{spot_text}
 use Rattle.report_text.specs.Names.{name_text}
 use Rattle.report_text.specs.Recoveries.{recovery_text}
 use Rattle.report_text.specs.Refusals.{refusal_text}
-use Rattle.report_text.specs.Tables.{mode_text}
-use Rattle.report_text.specs.Words.{code_text, rule_text, state_text}
+use Rattle.report_text.specs.Words.{code_text, mode_text, rule_text, state_text}
 
 abbrev pub version_text : Version → List ℕ
 version_text v = decimal v.major ++ codes "." ++ decimal v.minor ++ codes "." ++ decimal v.patch

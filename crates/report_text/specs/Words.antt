@@ -18,6 +18,10 @@ state_text state.Stopped = codes "stopped"
 state_text state.Detached = codes "detached"
 state_text state.Unreachable = codes "unreachable"
 
+-- read-only or writable
+abbrev pub mode_text : Bool → List ℕ
+mode_text read_only = if read_only then codes "ro" else codes "rw"
+
 -- an analysis by orchestrator's name
 abbrev pub code_text : Code → List ℕ
 code_text code.MasterSingleReplicaDead = codes "MasterSingleReplicaDead"

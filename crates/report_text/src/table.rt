@@ -1,26 +1,25 @@
 //! The tables.
 
-ghost use Rattle.std.specs.Prelude.{◌≡◌, ◌++◌, ◌<◌, length, OnOk, OnErr};
+ghost use Rattle.std.specs.Prelude.{◌≡◌, ◌++◌, ◌<◌, [], length, IfOk, OnOk, OnErr};
 ghost use Rattle.std.specs.Option.{option_copied};
 ghost use Rattle.server_model.specs.Worlds.{server_at};
-ghost use Rattle.report_text.specs.Tables.{up_text, mode_text, on_text, end_text, until_text, auto_text, places_text, threads_text, standing_text, name_text, source_text, state_text, log_text, line_at, servers_text, job_text, jobs_text, tables_text};
+ghost use Rattle.report_text.specs.Told.{told_lines};
+ghost use Rattle.report_text.specs.Tables.{up_text, on_text, end_text, until_text, auto_text, places_text, threads_text, standing_text, name_text, source_text, state_text, log_text, line_at, servers_text, job_text, jobs_text, names_in, errant_text, tables_text};
 
+use crate::line::print_told_lines;
+use crate::names::PrintedNames;
 use crate::number::{print_counted, print_number};
+use crate::words::mode_word;
 use binlog_coords::{Coord, LogIndex, print_coord};
+use commands::Line;
 use orch_base::{Memory, Name, ServerNo, SourceState};
 use server_model::{Plain, World};
+use std::alloc::Global;
 
 fn up_word(up: bool) -> &'static [u8]
     ensures { result.now ≡ up_text up }
 {
     if up { b"up" } else { b"down" }
-}
-
-/// Read-only or writable.
-pub(crate) fn mode_word(read_only: bool) -> &'static [u8]
-    ensures { result.now ≡ mode_text read_only }
-{
-    if read_only { b"ro" } else { b"rw" }
 }
 
 fn on_word(on: bool) -> &'static [u8]
@@ -167,23 +166,59 @@ fn print_jobs(jobs: &[u64], out: &mut Vec<u8>) -> Result<(), Memory>
     Ok(())
 }
 
-fn print_tables(world: &World, jobs: &[u64], out: &mut Vec<u8>) -> Result<(), Memory>
-    ensures { OnOk result (out.new.items ≡ out.old.items ++ tables_text world.now jobs.now) }
+// The servers' names, in order.
+fn names_in(alloc: Global, world: &World) -> Result<Vec<Name>, Memory>
+    ensures { IfOk result (λ names. names.items ≡ names_in world.now) }
 {
-    print_servers(world, out)?;
-    print_jobs(jobs, out)?;
-    out.extend_from_slice(b"errant ")?;
-    print_number(world.errant(), out)?;
+    let mut names = Vec::new(alloc);
+    for no in 0..world.servers() {
+        names.push(world.settings(ServerNo(no)).name.copy(alloc)?)?;
+    }
+    Ok(names)
+}
+
+fn print_recoveries(world: &World, lines: &[Line], out: &mut Vec<u8>) -> Result<(), Memory>
+    ensures { OnOk result (out.new.items ≡ out.old.items ++ told_lines [] (names_in world.now) lines.now) }
+{
+    let alloc = *out.allocator();
+    let names = names_in(alloc, world)?;
+    let names = PrintedNames::new(alloc, &names)?;
+    print_told_lines(b"", lines, &names, out)
+}
+
+fn print_errant(world: &World, out: &mut Vec<u8>) -> Result<(), Memory>
+    ensures { OnOk result (out.new.items ≡ out.old.items ++ errant_text world.now) }
+{
+    print_counted(b"errant ", world.errant(), out)?;
     out.extend_from_slice(b"\n")
 }
 
-/// Appends a line for each server in the world's order, then one for each of the unended jobs, given by their numbers, and
-/// then how many writes servers with a source accepted; or nothing at want of memory.
-pub fn tables(world: &World, jobs: &[u64], out: &mut Vec<u8>) -> Result<(), Memory>
-    ensures ok { OnOk result (out.new.items ≡ out.old.items ++ tables_text world.now jobs.now) }
+fn print_tables(
+    world: &World,
+    recoveries: &[Line],
+    jobs: &[u64],
+    out: &mut Vec<u8>,
+) -> Result<(), Memory>
+    ensures { OnOk result (out.new.items ≡ out.old.items ++ tables_text world.now recoveries.now jobs.now) }
+{
+    print_servers(world, out)?;
+    print_recoveries(world, recoveries, out)?;
+    print_jobs(jobs, out)?;
+    print_errant(world, out)
+}
+
+/// Appends a line for each server in the world's order, then these lines of recoveries, then a line for each of the unended jobs,
+/// given by their numbers, and then how many writes servers with a source accepted; or nothing at want of memory.
+pub fn tables(
+    world: &World,
+    recoveries: &[Line],
+    jobs: &[u64],
+    out: &mut Vec<u8>,
+) -> Result<(), Memory>
+    ensures ok { OnOk result (out.new.items ≡ out.old.items ++ tables_text world.now recoveries.now jobs.now) }
     ensures err { OnErr result (out.new.items ≡ out.old.items) }
 {
     let mut lines = Vec::new(*out.allocator());
-    print_tables(world, jobs, &mut lines)?;
+    print_tables(world, recoveries, jobs, &mut lines)?;
     out.append(&mut lines)
 }

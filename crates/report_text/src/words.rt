@@ -1,7 +1,7 @@
 //! Words that stand for one value each.
 
 ghost use Rattle.std.specs.Prelude.{◌≡◌};
-ghost use Rattle.report_text.specs.Words.{acked_text, cause_name_text, code_text, kind_text, rule_text, state_text};
+ghost use Rattle.report_text.specs.Words.{acked_text, cause_name_text, code_text, kind_text, mode_text, rule_text, state_text};
 
 use commands::StateWord;
 use orch_base::{CauseName, Code, Kind, Rule};
@@ -16,6 +16,13 @@ pub(crate) fn state_word(state: StateWord) -> &'static [u8]
         StateWord::Detached => b"detached",
         StateWord::Unreachable => b"unreachable",
     }
+}
+
+/// Read-only or writable.
+pub(crate) fn mode_word(read_only: bool) -> &'static [u8]
+    ensures { result.now ≡ mode_text read_only }
+{
+    if read_only { b"ro" } else { b"rw" }
 }
 
 /// An analysis by orchestrator's name.

@@ -1,8 +1,17 @@
 -- Kept rows follow the book of a run.
-use Rattle.std.proofs.Common.{◌≡◌, ◌∙◌, ℕ, ◌+◌, ◌<◌, Bool, true, false, List, [], ◌∷◌, length, refl, sym, ap, subst, Option, Some, None, Result, Ok, Err, zero, suc, arith}
+use Rattle.std.proofs.Common.{◌≡◌, ◌∙◌, ℕ, ◌+◌, ◌<◌, ◌≤◌, ◌^◌, Bool, true, false, List, [], ◌∷◌, length, refl, sym, ap, subst, Option, Some, None, Result, Ok, Err, zero, suc, arith}
 use Rattle.std.specs.Prelude.{All, IfSome, nat_lt, slice_index_or, slice_set, if◌then◌else◌}
 use Rattle.std.specs.Option.{option_map, option_to_list}
 use Rattle.std.proofs.lemmas.Bool.{ltb-true}
+use Rattle.audit_log.specs.Audits.{AuditState, IsAudit, acking, closing}
+use Rattle.book_commands.specs.declared.decided.Decided.{Decided}
+use Rattle.book_commands.specs.declared.decided.Effect.{Effect}
+use Rattle.book_commands.specs.declared.decided.Effect.TheVariants as effect
+use Rattle.book_commands.specs.Decisions.{book_after as book_decided, decided_of, rows_of}
+use Rattle.opening_book.specs.Opening.{put_recovery}
+use Rattle.opening_book.proofs.Recoveries.{acking-small, audit-loaded, closing-small, last_id-within}
+use Rattle.instance_keeper.specs.declared.recovery.Recovery.{Recovery}
+use Rattle.instance_keeper.specs.declared.row.Change.{Change}
 use Rattle.std.proofs.lemmas.List.{length-map}
 use Rattle.instance_keeper.specs.declared.observation.Instance.{Instance}
 use Rattle.instance_keeper.specs.declared.observation.Observation.{Observation}
@@ -17,7 +26,7 @@ use Rattle.instance_keeper.specs.Rows.{changed, IsRising}
 use Rattle.instance_keeper.specs.Same.{same_instance}
 use Rattle.instance_keeper.proofs.Same.{instance_is}
 use Rattle.opening_book.specs.Following.{Follow}
-use Rattle.opening_book.proofs.Following.{Follow-addition, Follow-change, Follow-loaded, Follow-opened, Follow-rings, length-ringed, missing_from-range}
+use Rattle.opening_book.proofs.Following.{Follow-addition, Follow-change, Follow-loaded, Follow-opened, Follow-recoveries, Follow-rings, Takes, length-ringed}
 use Rattle.scenarios.specs.declared.scenario.Scenario.{Scenario}
 use Rattle.turns.specs.declared.turn.Turn.{Turn}
 use Rattle.turns.specs.declared.turn.Turn.TheVariants as turn
@@ -25,28 +34,31 @@ use Rattle.commands.specs.declared.turn.CommandTurn.{CommandTurn}
 use Rattle.orch_core.specs.Polls.{changes_by, changes_of, command_outcome, numbers_of, slot_at}
 use Rattle.jobs_in_flight.specs.Jobs.{book_turned, job_at, job_observation, stored, without_leases}
 use Rattle.orch_core.specs.Jobs.{turn_of}
-use Rattle.orch_core.specs.Commands.{Outcome, asked, begun, discovered, forgotten, outcome_by, outcome_for, outcome_of, reads_server, removal, removes, updated}
-use Rattle.orch_core.specs.Readings.{reading_by}
+use Rattle.orch_core.specs.Commands.{Outcome, about as given_or, asked, begun, decided, discovered, forgotten, next_reading, outcome_by, outcome_of, question, removal, removal_refusal, updated}
+use Rattle.orch_core.specs.Restarts.{interrupted_at, last_given, reloaded_audit, reloaded_book, restart_changes}
+use Rattle.orch_core.proofs.Outcomes.{IsEffectFor, decided-effect}
+use Rattle.command_routes.specs.declared.route.Route.{Route}
+use Rattle.command_routes.specs.declared.route.Route.TheVariants.{Discovers, Forgets, Asks, Decides, Begins, Unbuilt}
+use Rattle.command_routes.specs.Routes.{route_of}
 use Rattle.orch_base.specs.declared.server.ServerNo.{ServerNo}
 use Rattle.commands.specs.declared.line.Line.{Line}
 use Rattle.commands.specs.declared.refusal.Refusal.{Refusal}
 use Rattle.commands.specs.Turns.{is_within}
-use Rattle.asking_commands.specs.Answers.{lines_of, permitted}
+use Rattle.asking_commands.specs.Answers.{allowed, lines_of, permitted}
 use Rattle.scenarios.specs.Scenarios.{IsScenario, settings_of}
-use Rattle.orch_core.specs.Scenarios.{start, start_changes, start_moment, start_world}
-use Rattle.opening_book.specs.Counting.{loaded}
+use Rattle.orch_core.specs.Scenarios.{loaded_audit, loaded_book, start, start_changes, start_moment, start_world}
+use Rattle.opening_book.specs.Counting.{greatest_id}
 use Rattle.orch_base.specs.Memory.{next_count}
-use Rattle.std.proofs.lemmas.List.Elements.{All-head, All-tail}
 use Rattle.orch_core.specs.States.{State, IsState}
 use Rattle.scenarios.specs.Turns.{IsCommand, IsTurn}
-use Rattle.orch_core.specs.Runs.{Held, engine, held_run, held_step, step}
+use Rattle.orch_core.specs.Runs.{step}
 use Rattle.orch_core.proofs.Servers.{servers-start}
-use Rattle.orch_core.proofs.Starts.{sources-start, fits-opening}
+use Rattle.orch_core.proofs.Starts.{all-missing, all-opening, all-registering, opened-is, sources-start}
 use Rattle.orch_core.proofs.States.{reading_known, names-loaded}
 use Rattle.orch_base.specs.declared.server.Moment.{Moment}
-use Rattle.std.proofs.lemmas.List.Elements.{All-weaker}
+use Rattle.std.proofs.lemmas.List.Elements.{All-map, All-weaker}
 use Rattle.command_routes.specs.declared.route.Planner.{Planner}
-use Rattle.command_jobs.specs.Jobs.{leases_by, plan_by, planner_for, refusal_by}
+use Rattle.command_jobs.specs.Jobs.{leases_by, plan_by, refusal_by}
 use Rattle.instance_keeper.specs.Book.{IsBook}
 use Rattle.instance_keeper.specs.Leases.{given_back, taken}
 use Rattle.instance_keeper.proofs.Books.{leases_set}
@@ -60,23 +72,38 @@ use Rattle.flight_laws.specs.Flights.{moment_at}
 use Rattle.flight_laws.proofs.Outcomes.{length-taken, within-both}
 use Rattle.flight_laws.specs.Ready.{IsReadyJob, Ready}
 use Rattle.flight_laws.proofs.Ready.{observed-known, put-kept}
-use Rattle.flight_laws.proofs.Readiness.{Ready-start, Ready-step}
 
 -- at the opening
 
-both-all : {A : Type 0} (P Q : A → Type 0) (xs : List A) → All P xs → All Q xs → All (λ x. P x × Q x) xs
-both-all P Q xs p q = λ k d h. (p k d h, q k d h)
+module _ (s : Scenario) (wait : ℕ) (rows : List Row) (is : IsScenario s) where
+  settings-few : length (settings_of s) ≡ length s.opening.servers
+  settings-few = length-map s.opening.servers (λ i. i.settings)
 
-pub Follow-start : (s : Scenario) (wait : ℕ) (rows : List Row) → IsScenario s → IsRising rows → Follow (changed rows (start_changes s rows)) (start s wait rows).book
-Follow-start s wait rows is rising =
-    let settings = settings_of s in
-    let b = loaded settings rows in
-    let few = is.checked.listed.few in
-    let count : length settings ≡ length s.opening.servers = length-map s.opening.servers (λ i. i.settings) in
-    let same : length b.names ≡ length (start_world s).servers = ap length (names-loaded settings rows) ∙ length-map settings (λ x. x.name) ∙ count ∙ sym (servers-start s) in
-    Follow-opened rows b (start_changes s rows) (Follow-loaded settings rows (omega (arith, count, few)) rising)
-    (both-all (λ c. fits (length b.names) c ≡ true) IsInRange (start_changes s rows) (fits-opening (start_world s) (start_moment s rows) b s.known (sources-start s is) same)
-    (missing_from-range (start_world s) (start_moment s rows) b 0 s.known))
+  servers-same : length (start_world s).servers ≡ length s.opening.servers
+  servers-same = servers-start s
+
+  names-same : length (loaded_book s rows).names ≡ length s.opening.servers
+  names-same = ap length (names-loaded (settings_of s) greatest_id rows) ∙ length-map (settings_of s) (λ x. x.name) ∙ settings-few
+
+  -- the ids of recoveries that are interrupted are in their type's range
+  small-ends : All (λ r. r.id < 2 ^ 64) (closing (loaded_audit s rows) (start_moment s rows))
+  small-ends = let most = last_id-within rows in closing-small (loaded_audit s rows) (start_moment s rows) (opened-is s rows is) (omega (arith, most))
+
+  takes-start : All (Takes (length (loaded_book s rows).names)) (start_changes s rows)
+  takes-start =
+      let count = length (loaded_book s rows).names in
+      let P : Change → Type 0 = Takes count in
+      all-opening P (start_world s) (start_moment s rows) (loaded_book s rows) s.known s.rules (loaded_audit s rows)
+      (all-missing P count (λ i h. (h, tt, tt)) (start_world s) (start_moment s rows) (loaded_book s rows) (sources-start s is) (servers-same ∙ sym names-same) s.known)
+      (all-registering P count (λ c h. (h, tt, tt)) (start_moment s rows) (loaded_book s rows) s.rules (is.rules ∙ sym names-same))
+      (All-map P put_recovery (closing (loaded_audit s rows) (start_moment s rows))
+      (All-weaker (λ (r : Recovery). r.id < 2 ^ 64) (λ r. P (put_recovery r)) (λ r h. (refl, tt, h)) (closing (loaded_audit s rows) (start_moment s rows)) small-ends))
+
+  pub Follow-start : IsRising rows → Follow (changed rows (start_changes s rows)) (start s wait rows).book
+  Follow-start rising =
+      let few = is.checked.listed.few in
+      let same = settings-few in
+      Follow-opened rows (loaded_book s rows) (start_changes s rows) (Follow-loaded (settings_of s) greatest_id rows (omega (arith, same, few)) rising) takes-start
 
 -- at each turn
 
@@ -175,60 +202,86 @@ module _ (rows : List Row) (b : BookState) (reads : ℕ) (follow : Follow rows b
   Follow-discovered o known None at = follow
   Follow-discovered o known (Some seen) at = Follow-discovery rows b o follow known seen at (instance_at b o.no) refl
 
-Follow-command : (rows : List Row) (count : ℕ) (s : State) (c : CommandTurn) → Ready count s → IsCommand count c → Follow rows s.book
+  -- a decision
+  Follow-effect : (a : AuditState) (e : Effect) → IsAudit a → a.next ≤ 2 ^ 64 → IsEffectFor (length b.names) e → Follow (changed rows (rows_of a e)) (book_decided b e)
+  Follow-effect a effect.Stays is small fits = follow
+  Follow-effect a (effect.Change c) is small fits = Follow-change rows b c follow fits.0 fits.1
+  Follow-effect a (effect.Acks cluster) is small fits = Follow-recoveries rows b (acking a cluster) (acking-small a cluster is small) follow
+
+  Follow-decided : (a : AuditState) (p : Result Unit Refusal) (d : Decided) → IsAudit a → a.next ≤ 2 ^ 64 → IsEffectFor (length b.names) d.effect → Follows-outcome rows b (decided reads a p d)
+  Follow-decided a (Ok permit) d is small fits = Follow-effect a d.effect is small fits
+  Follow-decided a (Err r) d is small fits = follow
+
+-- what a command is given is of the book
+pub within-given : (count : ℕ) (s : State) (c : CommandTurn) → Ready count s → IsCommand count c → is_within (length s.book.names) c.command.i ≡ true
+within-given count s c ready command = subst (λ (n : ℕ). is_within n c.command.i ≡ true) (sym ready.names) (within-both count c command).0
+
+pub reading-known : (count : ℕ) (s : State) (i : ServerNo) → Ready count s → i.0 < length s.book.names → are_known (length s.book.names) (observed_servers (next_reading s.world (numbers_of s) i)) ≡ true
+reading-known count s i ready h =
+    let same : length s.world.servers ≡ length s.book.names = ready.servers ∙ sym ready.names in
+    subst (λ (n : ℕ). are_known n (observed_servers (next_reading s.world (numbers_of s) i)) ≡ true) same
+    (reading_known s.world i (next_count s.reads) s.moment ready.sources (subst (λ (n : ℕ). i.0 < n) (sym same) h))
+
+Follow-command : (rows : List Row) (count : ℕ) (s : State) (c : CommandTurn) → Ready count s → IsAudit s.audit → s.audit.next ≤ 2 ^ 64 → IsCommand count c → Follow rows s.book
     → Follow (changed rows (command_outcome s c).rows) (updated s.book (command_outcome s c).book)
 unfolding outcome_of
-Follow-command rows count s c ready command follow = by (planner_for c.command.name)
+Follow-command rows count s c ready audit small command follow = by (route_of c.command.name)
   where
-    at : (i : Option ServerNo) → is_within (length s.book.names) i ≡ true → Follows-outcome rows s.book (outcome_by s.world s.book s.reads s.moment c i)
-    at None within = Follow-asked rows s.book s.reads follow (permitted s.book c.command) (lines_of s.book c c.command.name)
-    at (Some i) within = go (reads_server c.command.name) (removes c.command.name)
-      where
-        same : length s.world.servers ≡ length s.book.names
-        same = ready.servers ∙ sym ready.names
+    asks : Follows-outcome rows s.book (question s.book s.audit s.reads c)
+    asks = Follow-asked rows s.book s.reads follow (permitted s.book c.command) (lines_of s.book s.audit.recoveries c c.command.name)
 
-        go : (discovers forgets : Bool) → Follows-outcome rows s.book
-            (if discovers then discovered s.book s.reads (reading_by s.world i (next_count s.reads) s.moment) (reading_by s.world i (next_count s.reads) s.moment).seen
-            else (if forgets then forgotten s.reads (permitted s.book c.command) i else asked s.reads (permitted s.book c.command) (lines_of s.book c c.command.name)))
-        go true forgets =
-            let o = reading_by s.world i (next_count s.reads) s.moment in
-            let here : i.0 < length s.world.servers = subst (λ (n : ℕ). i.0 < n) (sym same) (ltb-true i.0 (length s.book.names) within) in
-            let known = reading_known s.world i (next_count s.reads) s.moment ready.sources here in
-            Follow-discovered rows s.book s.reads follow o (subst (λ (n : ℕ). are_known n (observed_servers o) ≡ true) same known) o.seen refl
-        go false true = Follow-forgotten rows s.book s.reads follow (permitted s.book c.command) i within
-        go false false = Follow-asked rows s.book s.reads follow (permitted s.book c.command) (lines_of s.book c c.command.name)
+    given : (some : ServerNo → Outcome) → ((i : ServerNo) → nat_lt i.0 (length s.book.names) ≡ true → Follows-outcome rows s.book (some i)) → (i : Option ServerNo) → is_within (length s.book.names) i ≡ true
+        → Follows-outcome rows s.book (given_or (question s.book s.audit s.reads c) some i)
+    given some each None within = asks
+    given some each (Some i) within = each i within
 
-    begins : (p : Planner) (r : Option Refusal) → Follows-outcome rows s.book (begun (numbers_of s) r (leases_by s.book c.command p) (plan_by s.world s.book c.command p))
+    begins : (p : Planner) (r : Option Refusal) → Follows-outcome rows s.book (begun (numbers_of s) r (leases_by s.world s.book c.command p) (plan_by s.world s.book c.command p))
     begins p (Some why) = follow
-    begins p None = Follow-leases rows s.book (taken s.book.leases (leases_by s.book c.command p) (s.last_job + 1)) (length-taken (leases_by s.book c.command p) s.book.leases (s.last_job + 1)) follow
+    begins p None = Follow-leases rows s.book (taken s.book.leases (leases_by s.world s.book c.command p) (s.last_job + 1)) (length-taken (leases_by s.world s.book c.command p) s.book.leases (s.last_job + 1)) follow
 
-    by : (p : Option Planner) → Follows-outcome rows s.book (outcome_for s.world s.book (numbers_of s) c p)
-    by None = at c.command.i (subst (λ (n : ℕ). is_within n c.command.i ≡ true) (sym ready.names) (within-both count c command).0)
-    by (Some p) = begins p (refusal_by s.world s.book c.command p)
+    by : (r : Route) → Follows-outcome rows s.book (outcome_by s.world s.book s.audit (numbers_of s) c r)
+    by Discovers =
+        given (λ i. discovered s.book s.reads (next_reading s.world (numbers_of s) i) (next_reading s.world (numbers_of s) i).seen)
+        (λ i h. Follow-discovered rows s.book s.reads follow (next_reading s.world (numbers_of s) i) (reading-known count s i ready (ltb-true i.0 (length s.book.names) h)) (next_reading s.world (numbers_of s) i).seen refl)
+        c.command.i (within-given count s c ready command)
+    by Forgets = given (forgotten s.reads (allowed (removal_refusal s.book c.command))) (Follow-forgotten rows s.book s.reads follow (allowed (removal_refusal s.book c.command))) c.command.i (within-given count s c ready command)
+    by (Asks q) = asks
+    by (Decides d) =
+        Follow-decided rows s.book s.reads follow s.audit (permitted s.book c.command) (decided_of s.book s.audit (moment_at s) c.keys c.command.i d) audit small
+        (decided-effect s.book (length s.book.names) follow.book.small s.audit (moment_at s) c.keys c.command.i d (within-given count s c ready command))
+    by (Begins p) = begins p (refusal_by s.world s.book (moment_at s) c.command p)
+    by Unbuilt = asks
 
-pub Follow-turn : (count : ℕ) (rows : List Row) (s : State) (t : Turn) → Ready count s → IsTurn count t → Follow rows s.book → Follow (changed rows (changes_of rows s t)) (step rows s t).book
-Follow-turn count rows s (turn.Write n size) is turn follow = follow
-Follow-turn count rows s (turn.Fetch n) is turn follow = follow
-Follow-turn count rows s (turn.Apply n) is turn follow = follow
-Follow-turn count rows s (turn.Fail n) is turn follow = follow
-Follow-turn count rows s (turn.Heal n) is turn follow = follow
-Follow-turn count rows s (turn.Cut n link) is turn follow = follow
-Follow-turn count rows s (turn.Join n link) is turn follow = follow
-Follow-turn count rows s (turn.Rotate n) is turn follow = follow
-Follow-turn count rows s (turn.Tick seconds) is turn follow = follow
-Follow-turn count rows s (turn.Job job) is turn follow = Follow-job rows count s job is follow (job_at s.jobs job)
-Follow-turn count rows s turn.Scan is turn follow = follow
-Follow-turn count rows s (turn.PollRead p n) is turn follow = follow
-Follow-turn count rows s (turn.PollStore p) is within follow =
+Follow-restart : (rows : List Row) (s : State) → IsAudit s.audit → s.audit.next ≤ 2 ^ 64 → Follow rows s.book → Follow (changed rows (restart_changes rows s)) (reloaded_book rows s)
+Follow-restart rows s audit small follow =
+    let count = ap length follow.book.named ∙ length-map s.book.settings (λ x. x.name) in
+    let few = follow.book.small in
+    let first = audit.first in
+    let is = audit-loaded (length s.book.settings) s.audit.next (last_given s) rows (omega (arith, count, few)) first small (omega (arith, first)) in
+    Follow-recoveries rows (reloaded_book rows s) (closing (reloaded_audit rows s) (interrupted_at rows s)) (closing-small (reloaded_audit rows s) (interrupted_at rows s) is small)
+    (Follow-loaded s.book.settings (last_given s) rows (omega (arith, count, few)) follow.rising)
+
+pub Follow-turn : (count : ℕ) (rows : List Row) (s : State) (t : Turn) → Ready count s → IsAudit s.audit → s.audit.next ≤ 2 ^ 64 → IsTurn count t → Follow rows s.book → Follow (changed rows (changes_of rows s t)) (step rows s t).book
+Follow-turn count rows s (turn.Write n size) is audit small turn follow = follow
+Follow-turn count rows s (turn.Fetch n) is audit small turn follow = follow
+Follow-turn count rows s (turn.Apply n) is audit small turn follow = follow
+Follow-turn count rows s (turn.Fail n) is audit small turn follow = follow
+Follow-turn count rows s (turn.Heal n) is audit small turn follow = follow
+Follow-turn count rows s (turn.Cut n link) is audit small turn follow = follow
+Follow-turn count rows s (turn.Join n link) is audit small turn follow = follow
+Follow-turn count rows s (turn.Rotate n) is audit small turn follow = follow
+Follow-turn count rows s (turn.Tick seconds) is audit small turn follow = follow
+Follow-turn count rows s (turn.Job job) is audit small turn follow = Follow-job rows count s job is follow (job_at s.jobs job)
+Follow-turn count rows s turn.Scan is audit small turn follow = follow
+Follow-turn count rows s (turn.PollRead p n) is audit small turn follow = follow
+Follow-turn count rows s (turn.PollStore p) is audit small within follow =
     let known : IsSlot count (slot_at s p) = All-at (IsSlot count) s.slots p None tt is.observed in
     Follow-stored rows s.book (slot_at s p) follow (subst (λ n. IfSome (slot_at s p) (λ o. are_known n (observed_servers o) ≡ true)) (sym is.names) known)
-Follow-turn count rows s (turn.Command c) is within follow = Follow-command rows count s c is within follow
-Follow-turn count rows s turn.Restart is within follow =
-    let count = ap length follow.book.named ∙ length-map s.book.settings (λ x. x.name) in
-    Follow-loaded s.book.settings rows (omega (arith, count, follow.book.small)) follow.rising
+Follow-turn count rows s (turn.Command c) is audit small within follow = Follow-command rows count s c is audit small within follow
+Follow-turn count rows s turn.Restart is audit small within follow = Follow-restart rows s audit small follow
 
 -- what states are, with a book
-ready-of : (s : State) → IsState s → IsBook s.book → Ready (length s.world.servers) s
+pub ready-of : (s : State) → IsState s → IsBook s.book → Ready (length s.world.servers) s
 ready-of s is book = record {
   servers = refl;
   book = book;
@@ -240,17 +293,4 @@ ready-of s is book = record {
 }
 
 pub Follow-step : (rows : List Row) (s : State) (t : Turn) → IsState s → IsTurn (length s.world.servers) t → Follow rows s.book → Follow (changed rows (changes_of rows s t)) (step rows s t).book
-Follow-step rows s t is turn follow = Follow-turn (length s.world.servers) rows s t (ready-of s is follow.book) turn follow
-
--- over a whole run
-
-Follow-run : (count : ℕ) (h : Held State) (ts : List Turn) → Ready count h.state → All (IsTurn count) ts → Follow h.rows h.state.book → Follow (held_run engine h ts).rows (held_run engine h ts).state.book
-Follow-run count h [] ready all follow = follow
-Follow-run count h (t ∷ ts) ready all follow =
-    let here = All-head (IsTurn count) t ts all in
-    Follow-run count (held_step engine h t) ts (Ready-step count h.rows h.state t ready here) (All-tail (IsTurn count) t ts all) (Follow-turn count h.rows h.state t ready here follow)
-
-pub Follow-whole : (s : Scenario) (wait : ℕ) (rows : List Row) (ts : List Turn) → IsScenario s → IsRising rows → All (IsTurn (length s.opening.servers)) ts
-    → Follow (held_run engine (record { rows = changed rows (start_changes s rows); state = start s wait rows }) ts).rows (held_run engine (record { rows = changed rows (start_changes s rows); state = start s wait rows }) ts).state.book
-Follow-whole s wait rows ts is rising all =
-    Follow-run (length s.opening.servers) (record { rows = changed rows (start_changes s rows); state = start s wait rows }) ts (Ready-start s wait rows is) all (Follow-start s wait rows is rising)
+Follow-step rows s t is turn follow = Follow-turn (length s.world.servers) rows s t (ready-of s is follow.book) is.audit (omega (arith, is.next)) turn follow

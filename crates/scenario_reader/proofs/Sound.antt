@@ -18,11 +18,11 @@ use Rattle.scenarios.specs.Scenarios.{IsScenario}
 use Rattle.scenarios.specs.Turns.{IsTurn, is_write}
 use Rattle.scenario_values.specs.declared.fault.FaultCode.{FaultCode}
 use Rattle.scenario_values.specs.declared.fault.FaultCode.TheVariants.{TooLong, TooLarge}
-use Rattle.scenario_values.specs.Faults.{holds, under, needed, optional, unbuilt, each, each_from, item_count}
+use Rattle.scenario_values.specs.Faults.{holds, under, needed, optional, each, each_from, item_count}
 use Rattle.scenario_values.specs.Values.{items_in, bool_in, number_in}
 use Rattle.scenario_servers.specs.declared.given.Given.{Given}
 use Rattle.scenario_servers.specs.Names.{listed_names, listed_uuids}
-use Rattle.scenario_servers.specs.Openings.{inits_from, inits_of, known_of, IsGiven}
+use Rattle.scenario_servers.specs.Openings.{inits_from, inits_of, known_of, rules_of, IsGiven}
 use Rattle.scenario_openings.specs.Openings.{listed_count, is_small, code_of, keys_of, fails_at, opening_or_fails, opening_in}
 use Rattle.scenario_servers.specs.Servers.{server_in, listed_in, servers_in}
 use Rattle.scenario_servers.proofs.Reading.{read_given}
@@ -125,25 +125,31 @@ opening-has servers gtid o given e =
 
 -- ---- the keys before the servers
 
-moment-has : (d : Data) (h : Head) → head_in d ≡ Ok h → h.moment ≤ 1000000000000000
+record AreSmall (h : Head) : Type 0 where
+  moment : h.moment ≤ 1000000000000000
+  block : h.block ≤ 1000000000
+
+head-has : (d : Data) (h : Head) → head_in d ≡ Ok h → AreSmall h
 unfolding head_in
-moment-has d h e =
+head-has d h e =
     let version = bind-ok (needed (codes "version") one_in d) _ h e in
     let moment = bind-ok (optional (codes "now") (number_in 0 1000000000000000) 0 d) _ h version.2 in
     let gtid = bind-ok (optional (codes "gtid") bool_in _ d) _ h moment.2 in
-    let block = bind-ok (unbuilt (codes "block") d) _ h gtid.2 in
+    let block = bind-ok (optional (codes "block") (number_in 0 1000000000) 3600 d) _ h gtid.2 in
     let aliases = bind-ok (optional (codes "aliases") aliases_in [] d) _ h block.2 in
     let filters = bind-ok (optional (codes "filters") filters_in no_filters d) _ h aliases.2 in
-    let few : moment.0 ≤ 1000000000000000 = by moment.0 (optional-ok (codes "now") (number_in 0 1000000000000000) 0 d moment.0 moment.1) in
-    subst (λ (k : Head). k.moment ≤ 1000000000000000) (same_Ok (record { moment = moment.0; gtid = gtid.0; aliases = aliases.0; filters = filters.0 }) h filters.2) few
+    subst AreSmall (same_Ok (record { moment = moment.0; gtid = gtid.0; block = block.0; aliases = aliases.0; filters = filters.0 }) h filters.2) (record {
+      moment = by 1000000000000000 0 moment.0 (omega arith) (optional-ok (codes "now") (number_in 0 1000000000000000) 0 d moment.0 moment.1);
+      block = by 1000000000 3600 block.0 (omega arith) (optional-ok (codes "block") (number_in 0 1000000000) 3600 d block.0 block.1);
+    })
   where
-    by : (n : ℕ) → (n ≡ 0) ⊎ ((v : Data) × (number_in 0 1000000000000000 v ≡ Ok n)) → n ≤ 1000000000000000
-    by n (inl zero) = omega arith
-    by n (inr there) = (number-ok 0 1000000000000000 there.0 n there.1).1
+    by : (most default n : ℕ) → default ≤ most → (n ≡ default) ⊎ ((v : Data) × (number_in 0 most v ≡ Ok n)) → n ≤ most
+    by most default n few (inl same) = omega arith
+    by most default n few (inr there) = (number-ok 0 most there.0 n there.1).1
 
 -- ---- the whole
 
-scenario_with-sound : (head : Head) (given : List (Option HostPort) × List Given) (items : Items) (s : Scenario) → head.moment ≤ 1000000000000000 → IsGiven head.gtid (inits_of given.1)
+scenario_with-sound : (head : Head) (given : List (Option HostPort) × List Given) (items : Items) (s : Scenario) → AreSmall head → IsGiven head.gtid (inits_of given.1)
     → length given.0 ≡ length (inits_of given.1) → scenario_with head given items ≡ Ok s → IsScenario s
 unfolding scenario_with
 scenario_with-sound head given items s early are names e =
@@ -153,21 +159,26 @@ scenario_with-sound head given items s early are names e =
     let count : length given.0 ≡ length o.0.servers = names ∙ ap length (sym opened.same) in
     let turns = turns-have given.0 o.0.servers items ts.0 count ts.1 in
     let known : length (known_of given.1) ≡ length o.0.servers = length-map given.1 (λ (g : Given). g.known) ∙ sym (length-inits given.1 0 given.1) ∙ ap length (sym opened.same) in
+    let rules : length (rules_of given.1) ≡ length o.0.servers = length-map given.1 (λ (g : Given). g.rule) ∙ sym (length-inits given.1 0 given.1) ∙ ap length (sym opened.same) in
     let made : Scenario = record {
       opening = o.0;
       moment = record { 0 = head.moment };
+      block = head.block;
       aliases = head.aliases;
       filters = answered head.filters head.aliases o.0.servers;
       known = known_of given.1;
+      rules = rules_of given.1;
       turns = ts.0;
     } in
     subst IsScenario (same_Ok made s ts.2) (record {
       checked = opened.checked;
-      moment = early;
+      moment = early.moment;
+      block = early.block;
       turns = turns.turns;
       few = turns.few;
       room = turns.room;
       known = known;
+      rules = rules;
       master = length-map _ _;
       intermediate = length-map _ _;
     })
@@ -180,7 +191,7 @@ scenario_from-sound d s e =
     let given = bind-ok (needed (codes "servers") (servers_in head.0.gtid) d) _ s head.2 in
     let listed = bind-ok (optional (codes "turns") items_in no_items d) _ s given.2 in
     let servers = needed-ok (codes "servers") (servers_in head.0.gtid) d given.0 given.1 in
-    scenario_with-sound head.0 given.0 listed.0 s (moment-has d head.0 head.1) (read_given head.0.gtid servers.0 given.0 servers.2) (names-of head.0.gtid servers.0 given.0 servers.2) listed.2
+    scenario_with-sound head.0 given.0 listed.0 s (head-has d head.0 head.1) (read_given head.0.gtid servers.0 given.0 servers.2) (names-of head.0.gtid servers.0 given.0 servers.2) listed.2
 
 -- what bytes are read as
 pub scenario_in_sound : (bytes : List ℕ) (s : Scenario) → scenario_in bytes ≡ Ok s → IsScenario s

@@ -13,11 +13,11 @@ use Rattle.scenarios.specs.Turns.{is_write}
 use Rattle.turns.specs.declared.turn.Turn.{Turn}
 use Rattle.scenario_values.specs.declared.fault.Fault.{Fault}
 use Rattle.scenario_values.specs.declared.fault.FaultCode.TheVariants.{TooLong, NotJson, Missing, BadType, BadVersion, TooLarge}
-use Rattle.scenario_values.specs.Faults.{or_fails, holds, under, needed, optional, unbuilt, only_keys, each}
+use Rattle.scenario_values.specs.Faults.{or_fails, holds, under, needed, optional, only_keys, each}
 use Rattle.scenario_values.specs.Values.{members_in, items_in, bool_in, number_in}
 use Rattle.scenario_servers.specs.declared.given.Given.{Given}
 use Rattle.scenario_servers.specs.Servers.{servers_in}
-use Rattle.scenario_servers.specs.Openings.{inits_of, known_of}
+use Rattle.scenario_servers.specs.Openings.{inits_of, known_of, rules_of}
 use Rattle.scenario_openings.specs.Openings.{listed_count, is_small, opening_in}
 use Rattle.scenario_filters.specs.Aliases.{aliases_in}
 use Rattle.scenario_filters.specs.Filters.{filters_in, no_filters, answered}
@@ -64,10 +64,10 @@ head_in d = do
   version ← needed (codes "version") one_in d
   moment ← optional (codes "now") (number_in 0 1000000000000000) 0 d
   gtid ← optional (codes "gtid") bool_in false d
-  block ← unbuilt (codes "block") d
+  block ← optional (codes "block") (number_in 0 1000000000) 3600 d
   aliases ← optional (codes "aliases") aliases_in [] d
   filters ← optional (codes "filters") filters_in no_filters d
-  Ok (record { moment = moment; gtid = gtid; aliases = aliases; filters = filters })
+  Ok (record { moment = moment; gtid = gtid; block = block; aliases = aliases; filters = filters })
 
 -- turns that aren't too many over these servers
 unfoldable pub bounded : List ServerInit → List Turn → Result (List Turn) Fault
@@ -90,9 +90,11 @@ scenario_with head given listed = do
   Ok (record {
     opening = opening;
     moment = record { 0 = head.moment };
+    block = head.block;
     aliases = head.aliases;
     filters = answered head.filters head.aliases opening.servers;
     known = known_of given.1;
+    rules = rules_of given.1;
     turns = turns;
   })
 

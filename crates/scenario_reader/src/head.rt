@@ -10,19 +10,21 @@ ghost use Rattle.scenario_reader.specs.Scenarios.{is_one, one_in, is_there, keys
 
 use scenario_filters::{FilterTexts, aliases_in, filters_in, no_filters};
 use scenario_values::{
-    FaultCode, ReadFault, bool_at, fails, holds, members_in, number_at, only_keys, unbuilt, under,
+    FaultCode, ReadFault, bool_at, fails, holds, members_in, number_at, only_keys, under,
 };
 use scenarios::Aliases;
 use serde_json::Value;
 use std::alloc::Global;
 
-/// What stands before the servers: when the scenario begins, whether it uses GTIDs, and the clusters' aliases and
-/// filters.
+/// What stands before the servers: when the scenario begins, whether it uses GTIDs, the block period, and the clusters'
+/// aliases and filters.
 #[derive(Drop)]
 pub struct Head {
     /// At most 1,000,000,000,000,000 seconds.
     pub moment: u64,
     pub gtid: bool,
+    /// The block period: at most 1,000,000,000 seconds.
+    pub block: u64,
     pub aliases: Aliases,
     pub filters: FilterTexts,
 }
@@ -103,12 +105,13 @@ pub(crate) fn head_in(alloc: Global, object: &Value) -> Result<Head, ReadFault>
     version_at(alloc, object)?;
     let moment = number_at(alloc, object, "now", 0, 1_000_000_000_000_000, 0)?;
     let gtid = bool_at(alloc, object, "gtid", false)?;
-    unbuilt(alloc, object, "block")?;
+    let block = number_at(alloc, object, "block", 0, 1_000_000_000, 3600)?;
     let aliases = aliases_at(alloc, object)?;
     let filters = filters_at(alloc, object)?;
     Ok(Head {
         moment,
         gtid,
+        block,
         aliases,
         filters,
     })

@@ -1,6 +1,6 @@
 //! Laws of reading, over its definitions alone.
 
-ghost use Rattle.std.specs.Prelude.{◌≡◌, ◌++◌, ◌∷◌, [], ℕ, Bool, List, None, Ok, Option, codes, false, filter, not, true};
+ghost use Rattle.std.specs.Prelude.{◌≡◌, ◌++◌, [], ℕ, Bool, List, None, Ok, Option, false, filter, not, true};
 ghost use Rattle.std.specs.List.{list_all};
 ghost use Rattle.serde_json.specs.Data.{Data};
 ghost use Rattle.serde_json.specs.Find.{get};
@@ -11,10 +11,10 @@ ghost use Rattle.scenario_servers.specs.declared.given.Given.{Given};
 ghost use Rattle.scenario_servers.specs.Servers.{own_keys, replica_keys, server_in};
 ghost use Rattle.scenario_reader.specs.Scenarios.{scenario_from, top_keys};
 
-/// What is refused as not built is what `built` doesn't list: of the format's keys only `block` and `rule`. Each key
-/// that is listed is one of the format's, and what is read has no other.
+/// Every key of the format is built, and each key that is listed as built is one of the format's; what is read has no
+/// other.
 pub fn built_is_what_is_read()
-    ensures keys { filter (λ key. not (is_built key)) (top_keys ++ own_keys ++ replica_keys) ≡ codes "block" ∷ codes "rule" ∷ [] }
+    ensures keys { filter (λ key. not (is_built key)) (top_keys ++ own_keys ++ replica_keys) ≡ [] }
     ensures listed { list_all (is_listed top_keys) built_keys ≡ true }
     ensures server_listed { list_all (is_listed (own_keys ++ replica_keys)) built_server_keys ≡ true }
     ensures read { (d : Data) (s : Scenario) (key : List ℕ) → scenario_from d ≡ Ok s → is_listed built_keys key ≡ false → get key d ≡ None }

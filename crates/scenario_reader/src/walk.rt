@@ -23,10 +23,10 @@ use openings::ServerInit;
 use orch_base::{MAX_SCENARIO_LEN, Moment, ServerNo};
 use scenario_filters::answered;
 use scenario_openings::{listed_count, opening_in};
-use scenario_servers::{Listed, Names, inits_of, known_of, servers_in};
+use scenario_servers::{Listed, Names, inits_of, known_of, rules_of, servers_in};
 use scenario_turns::{ListedTurn, Patterns, are_few, each_turn, expanded, in_order, printed_of};
 use scenario_values::{FaultCode, ReadFault, fails, holds, items_in, under};
-use scenarios::{Answers, Scenario, Turn, Turns};
+use scenarios::{Answers, Rules, Scenario, Turn, Turns};
 use serde_json::Value;
 use std::alloc::Global;
 
@@ -123,6 +123,7 @@ fn scenario_with(
         (scenario_with head (listed.names, listed.given.items) (items_view items.now)) }
 {
     let known = known_of(alloc, &listed.given)?;
+    let rules = rules_of(alloc, &listed.given)?;
     let servers = inits_of(alloc, listed.given)?;
     let opening = opening_in(alloc, servers, head.gtid)?;
     let turns = turns_in(alloc, &listed.names, opening.servers(), items)?;
@@ -130,9 +131,11 @@ fn scenario_with(
     Ok(Scenario {
         opening,
         moment: Moment(head.moment),
+        block: head.block,
         aliases: head.aliases,
         filters,
         known: Answers::new(known),
+        rules: Rules::new(rules),
         turns,
     })
 }

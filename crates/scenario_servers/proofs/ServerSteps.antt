@@ -9,13 +9,14 @@ use Rattle.orch_base.specs.Names.{HostPort}
 use Rattle.openings.specs.declared.part.Part.{Part}
 use Rattle.openings.specs.Opening.{IsPart}
 use Rattle.scenario_values.specs.declared.fault.FaultCode.TheVariants.{AutoWithoutGtid, BadNumber}
-use Rattle.scenario_values.specs.Faults.{fails, holds, under_item, needed, optional, maybe, unbuilt, only_keys, item_count}
+use Rattle.scenario_values.specs.Faults.{fails, holds, under_item, needed, optional, maybe, only_keys, item_count}
 use Rattle.scenario_values.specs.Values.{members_in, items_in, bool_in, whole_in, number_in, coord_in, label_in, version_in, name_in}
 use Rattle.scenario_servers.specs.declared.given.Identity.{Identity}
 use Rattle.scenario_servers.specs.declared.given.Setup.{Setup}
 use Rattle.scenario_servers.specs.declared.given.Replication.{Replication}
 use Rattle.scenario_servers.specs.declared.given.Given.{Given}
 use Rattle.scenario_servers.specs.Names.{is_named, first_named, number_or_fails, server_named, own_name, own_uuid}
+use Rattle.scenario_servers.specs.Rules.{rule_in}
 use Rattle.scenario_servers.specs.Servers.{three_of, part_in, history_in, flushes_in, has_source, server_keys, default_version, identity_in, setup_in, auto_in, replication_in, server_from, server_in}
 use Rattle.scenario_servers.proofs.Steps.{Same, same_Ok, bind-ok, holds-ok, under-ok, optional-ok, number-ok, each_from-length, each_from-all}
 
@@ -171,7 +172,7 @@ server-ok gtid names uuids n d g e =
     let identity = bind-ok (identity_in names uuids n d) _ g keys.2 in
     let setup = bind-ok (setup_in d) _ g identity.2 in
     let known = bind-ok (optional (codes "known") bool_in true d) _ g setup.2 in
-    let rule = bind-ok (unbuilt (codes "rule") d) _ g known.2 in
+    let rule = bind-ok (maybe (codes "rule") rule_in d) _ g known.2 in
     let history = bind-ok (maybe (codes "history") (history_in names) d) _ g rule.2 in
     let source = bind-ok (maybe (codes "source") (server_named names) d) _ g history.2 in
     let replication = bind-ok (replication_in gtid d) _ g source.2 in

@@ -2,4 +2,5 @@ pub mod Labels
 pub mod NameTable
 pub mod Names
 pub mod Openings
+pub mod Rules
 pub mod Servers

@@ -1,6 +1,7 @@
 -- The servers that the text gives, with the defaults that need other servers.
 use Rattle.std.specs.Prelude.{◌≡◌, ℕ, ◌+◌, ◌<◌, ◌≤◌, ◌∷◌, List, [], Bool, true, not, length, map, Option, Some, None, unwrap_or, slice_get}
 use Rattle.orch_base.specs.declared.server.Settings.{Settings}
+use Rattle.orch_base.specs.declared.rule.Rule.{Rule}
 use Rattle.orch_base.specs.Names.{printed, same_name}
 use Rattle.openings.specs.declared.init.ServerInit.{ServerInit}
 use Rattle.openings.specs.Opening.{IsServer}
@@ -85,3 +86,7 @@ pub record IsGiven (gtid : Bool) (servers : List ServerInit) : Type 0 where
 -- for each server whether the book knows it at the opening
 abbrev pub known_of : List Given → List Bool
 known_of gs = map (λ g. g.known) gs
+
+-- for each server the rule with which it is registered at the opening, if any
+abbrev pub rules_of : List Given → List (Option Rule)
+rules_of gs = map (λ g. g.rule) gs

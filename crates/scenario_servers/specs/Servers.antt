@@ -12,8 +12,9 @@ use Rattle.scenario_servers.specs.declared.given.Identity.{Identity}
 use Rattle.scenario_servers.specs.declared.given.Setup.{Setup}
 use Rattle.scenario_servers.specs.declared.given.Replication.{Replication}
 use Rattle.scenario_servers.specs.declared.given.Given.{Given}
-use Rattle.scenario_values.specs.Faults.{fails, holds, under_item, needed, optional, maybe, unbuilt, only_keys, each, each_from, item_count}
+use Rattle.scenario_values.specs.Faults.{fails, holds, under_item, needed, optional, maybe, only_keys, each, each_from, item_count}
 use Rattle.scenario_values.specs.Values.{members_in, items_in, bool_in, whole_in, number_in, coord_in, label_in, version_in}
+use Rattle.scenario_servers.specs.Rules.{rule_in}
 use Rattle.scenario_servers.specs.Names.{listed_names, server_named, own_name, listed_uuids, own_uuid}
 
 -- ---- histories and flush points
@@ -109,12 +110,12 @@ server_from gtid names uuids n d = do
   identity ← identity_in names uuids n d
   setup ← setup_in d
   known ← optional (codes "known") bool_in true d
-  rule ← unbuilt (codes "rule") d
+  rule ← maybe (codes "rule") rule_in d
   history ← maybe (codes "history") (history_in names) d
   source ← maybe (codes "source") (server_named names) d
   replication ← replication_in gtid d
   flushes ← optional (codes "flushes") flushes_in [] d
-  Ok (record { identity = identity; setup = setup; known = known; history = history; source = source; replication = replication; flushes = flushes })
+  Ok (record { identity = identity; setup = setup; known = known; rule = rule; history = history; source = source; replication = replication; flushes = flushes })
 
 -- Server n. Its unknown keys come first.
 unfoldable pub server_in : Bool → List (Option HostPort) → List (Option ℕ) → ℕ → Data → Result Given Fault

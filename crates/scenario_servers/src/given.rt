@@ -1,11 +1,11 @@
 //! One server as the text gives it, with the defaults that need no other server.
 
 ghost use Rattle.std.specs.Prelude.{◌≡◌, IfOk};
-ghost use Rattle.scenario_servers.specs.Openings.{known_of};
+ghost use Rattle.scenario_servers.specs.Openings.{known_of, rules_of};
 
 use binlog_coords::Coord;
 use openings::{Counts, Parts};
-use orch_base::{Memory, Name, OwnedText, ServerNo, Version};
+use orch_base::{Memory, Name, OwnedText, Rule, ServerNo, Version};
 use std::alloc::Global;
 
 /// Who a server is.
@@ -55,6 +55,8 @@ pub struct Given {
     pub setup: Setup,
     /// Whether the book knows it at the opening.
     pub known: bool,
+    /// The rule of promotion with which it is registered at the opening.
+    pub rule: Option<Rule>,
     pub history: Option<Parts>,
     pub source: Option<ServerNo>,
     pub replication: Replication,
@@ -66,4 +68,11 @@ pub fn known_of(alloc: Global, given: &[Given]) -> Result<Vec<bool>, Memory>
     ensures { IfOk result (λ v. v.items ≡ known_of given.now) }
 {
     given.iter().map(|one| one.known).collect(alloc)
+}
+
+/// For each server the rule with which it is registered at the opening, if any.
+pub fn rules_of(alloc: Global, given: &[Given]) -> Result<Vec<Option<Rule>>, Memory>
+    ensures { IfOk result (λ v. v.items ≡ rules_of given.now) }
+{
+    given.iter().map(|one| one.rule).collect(alloc)
 }

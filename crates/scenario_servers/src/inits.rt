@@ -17,6 +17,7 @@ fn init_under(cluster: OwnedText, given: Given) -> ServerInit
         identity,
         setup,
         known: _,
+        rule: _,
         history,
         source,
         replication,

@@ -8,13 +8,15 @@ mod inits;
 mod labels;
 mod laws;
 mod names;
+mod rule;
 mod server;
 mod servers;
 mod uuids;
 
-pub use given::{Given, Identity, Replication, Setup, known_of};
+pub use given::{Given, Identity, Replication, Setup, known_of, rules_of};
 pub use inits::inits_of;
 pub use labels::printed_name;
 pub use laws::read_servers_are_sound;
 pub use names::{Names, server_named};
+pub use rule::maybe_rule;
 pub use servers::{Listed, servers_in};

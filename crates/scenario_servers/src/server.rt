@@ -11,11 +11,12 @@ use crate::given::{Given, Replication, Setup};
 use crate::history::{flushes_in, history_in};
 use crate::identity::identity_in;
 use crate::names::{Names, server_named};
+use crate::rule::maybe_rule;
 use openings::{Counts, Parts};
 use orch_base::ServerNo;
 use scenario_values::{
     FaultCode, ReadFault, bool_at, bool_in, fails, maybe_bool, maybe_coord, members_in, number_at,
-    only_keys, unbuilt, under, whole_at,
+    only_keys, under, whole_at,
 };
 use serde_json::{Map, Value};
 use std::alloc::Global;
@@ -183,7 +184,7 @@ fn server_from(
     let identity = identity_in(alloc, names, uuids, number, object)?;
     let setup = setup_in(alloc, object)?;
     let known = bool_at(alloc, object, "known", true)?;
-    unbuilt(alloc, object, "rule")?;
+    let rule = maybe_rule(alloc, object, "rule")?;
     let history = history_at(alloc, names, object)?;
     let source = source_at(alloc, names, object)?;
     let replication = replication_in(alloc, gtid, object)?;
@@ -192,6 +193,7 @@ fn server_from(
         identity,
         setup,
         known,
+        rule,
         history,
         source,
         replication,

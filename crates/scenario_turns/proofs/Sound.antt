@@ -28,7 +28,8 @@ use Rattle.scenario_values.specs.Values.{members_in, text_in, text_within}
 use Rattle.scenario_servers.specs.Names.{server_named}
 use Rattle.scenario_servers.proofs.ServerSteps.{named-ok}
 use Rattle.scenario_servers.proofs.Steps.{same_Ok, bind-ok, or_fails-ok, holds-ok, under-ok, maybe-ok}
-use Rattle.scenario_turns.specs.Commands.{command_in, command_keys, duration_in, given_in, instances_in, keys_in, name_in, parts_of, pattern_in, rule_in, short_in}
+use Rattle.scenario_turns.specs.Commands.{command_in, command_keys, duration_in, given_in, instances_in, keys_in, name_in, parts_of, pattern_in, short_in}
+use Rattle.scenario_servers.specs.Rules.{rule_in}
 use Rattle.scenario_turns.specs.Found.{found_in, found_of}
 
 both_true : (a b : Bool) → (a && b) ≡ true → (a ≡ true) × (b ≡ true)

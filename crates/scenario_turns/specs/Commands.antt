@@ -9,12 +9,12 @@ use Rattle.commands.specs.declared.turn.Command.{Command}
 use Rattle.commands.specs.declared.turn.CommandTurn.{CommandTurn}
 use Rattle.commands.specs.declared.turn.Found.{Found}
 use Rattle.commands.specs.declared.turn.Keys.{Keys}
-use Rattle.orch_base.specs.declared.rule.Rule.{Rule}
-use Rattle.commands.specs.Values.{rule_at, seconds_at}
+use Rattle.commands.specs.Values.{seconds_at}
 use Rattle.orch_base.specs.Gives.{◌>>=◌}
 use Rattle.orch_base.specs.Names.{HostPort}
 use Rattle.scenario_turns.specs.Found.{found_in}
 use Rattle.scenario_servers.specs.Names.{server_named}
+use Rattle.scenario_servers.specs.Rules.{rule_in}
 use Rattle.scenario_values.specs.declared.fault.Fault.{Fault}
 use Rattle.scenario_values.specs.declared.fault.FaultCode.TheVariants.{BadCommand, BadNumber, BadTurn, NotBuilt}
 use Rattle.scenario_values.specs.Faults.{fails, or_fails, holds, under_item, maybe, only_keys}
@@ -29,11 +29,6 @@ name_in d = do
   Ok name
 
 -- ---- the keys
-
-unfoldable pub rule_in : Data → Result Rule Fault
-rule_in d = do
-  text ← text_in d
-  or_fails BadNumber (rule_at text)
 
 -- a duration in seconds
 unfoldable pub duration_in : Data → Result ℕ Fault

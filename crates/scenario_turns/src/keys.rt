@@ -2,31 +2,20 @@
 
 ghost use Rattle.std.specs.Prelude.{◌≡◌};
 ghost use Rattle.orch_base.specs.Gives.{Gives};
-ghost use Rattle.scenario_turns.specs.Commands.{rule_in, duration_in, short_in, pattern_in, instances_in, keys_in, given_in};
+ghost use Rattle.scenario_turns.specs.Commands.{duration_in, short_in, pattern_in, instances_in, keys_in, given_in};
 ghost use Rattle.scenario_servers.specs.Names.{server_named};
 ghost use Rattle.scenario_values.specs.Faults.{fault_of, maybe};
 ghost use Rattle.serde_json.specs.View.{view};
 
 use crate::patterns::Patterns;
-use commands::{Command, CommandName, CommandTurn, Found, Keys, rule_at, seconds_at};
-use orch_base::{OwnedText, Rule, ServerNo};
-use scenario_servers::{Names, server_named};
+use commands::{Command, CommandName, CommandTurn, Found, Keys, seconds_at};
+use orch_base::{OwnedText, ServerNo};
+use scenario_servers::{Names, maybe_rule, server_named};
 use scenario_values::{
     FaultCode, ReadFault, fails, holds, members_in, only_keys, text_in, text_within, under,
 };
 use serde_json::Value;
 use std::alloc::Global;
-
-#[tactic(auto, unfolding(crate::specs::Commands::rule_in))]
-fn rule_in(alloc: Global, value: &Value) -> Result<Rule, ReadFault>
-    ensures { Gives (λ r. r) fault_of result (rule_in (view value.now)) }
-{
-    let text = text_in(alloc, value)?;
-    match rule_at(text) {
-        Some(rule) => Ok(rule),
-        None => Err(fails(alloc, FaultCode::BadNumber)),
-    }
-}
 
 #[tactic(auto, unfolding(crate::specs::Commands::duration_in))]
 fn duration_in(alloc: Global, value: &Value) -> Result<u64, ReadFault>
@@ -68,19 +57,6 @@ fn maybe_server(
         Some(value) => {
             let server = under(alloc, key.as_bytes(), server_named(alloc, names, value))?;
             Ok(Some(server))
-        }
-        None => Ok(None),
-    }
-}
-
-#[tactic(auto, using(scenario_values::proofs::Unders::gives_under))]
-fn maybe_rule(alloc: Global, object: &Value, key: &str) -> Result<Option<Rule>, ReadFault>
-    ensures { Gives (λ r. r) fault_of result (maybe key.now rule_in (view object.now)) }
-{
-    match object.get(key) {
-        Some(value) => {
-            let rule = under(alloc, key.as_bytes(), rule_in(alloc, value))?;
-            Ok(Some(rule))
         }
         None => Ok(None),
     }

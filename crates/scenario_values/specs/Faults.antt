@@ -6,7 +6,7 @@ use Rattle.serde_json.specs.Data.{Data, Items, no_items, item, Members, no_membe
 use Rattle.serde_json.specs.Find.{get}
 use Rattle.orch_base.specs.Gives.{◌>>=◌}
 use Rattle.scenario_values.specs.declared.fault.FaultCode.{FaultCode}
-use Rattle.scenario_values.specs.declared.fault.FaultCode.TheVariants.{Missing, UnknownKey, NotBuilt}
+use Rattle.scenario_values.specs.declared.fault.FaultCode.TheVariants.{Missing, UnknownKey}
 use Rattle.scenario_values.specs.declared.fault.Fault.{Fault}
 use Rattle.scenario_values.specs.declared.fault.ReadFault.{ReadFault}
 use Rattle.scenario_values.specs.declared.fault.ReadFault.TheVariants as read_fault
@@ -87,10 +87,6 @@ maybe_in key read (Some d) = some_of (under key (read d))
 
 abbrev pub maybe : {A : Type 0} → List ℕ → (Data → Result A Fault) → Data → Result (Option A) Fault
 maybe key read d = maybe_in key read (get key d)
-
--- a key that isn't built yet
-abbrev pub unbuilt : List ℕ → Data → Result (Unit {0}) Fault
-unbuilt key d = optional key (λ v. fails NotBuilt) tt d
 
 abbrev pub is_key : List (List ℕ) → List ℕ → Bool
 is_key known key = list_any (λ k. pointwise nat_eq k key) known

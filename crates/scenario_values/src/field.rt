@@ -3,29 +3,15 @@
 ghost use Rattle.std.specs.Prelude.{◌≡◌, option_map};
 ghost use Rattle.orch_base.specs.Gives.{Gives};
 ghost use Rattle.serde_json.specs.View.{view};
-ghost use Rattle.scenario_values.specs.Faults.{fault_of, needed, optional, maybe, unbuilt};
+ghost use Rattle.scenario_values.specs.Faults.{fault_of, needed, optional, maybe};
 ghost use Rattle.scenario_values.specs.Values.{bool_in, whole_in, number_in, coord_in, label_in, version_in};
 
-use crate::fault::{FaultCode, ReadFault, fails, under};
+use crate::fault::{ReadFault, under};
 use crate::value::{bool_in, coord_in, label_in, number_in, version_in, whole_in};
 use binlog_coords::Coord;
 use orch_base::{OwnedText, Version};
 use serde_json::Value;
 use std::alloc::Global;
-
-/// Nothing, where the key is absent: it isn't built yet.
-#[tactic(auto, using(crate::proofs::Unders::gives_under))]
-pub fn unbuilt(alloc: Global, object: &Value, key: &str) -> Result<(), ReadFault>
-    ensures { Gives (λ _. tt) fault_of result (unbuilt key.now (view object.now)) }
-{
-    match object.get(key) {
-        Some(_) => {
-            let unbuilt: Result<(), ReadFault> = Err(fails(alloc, FaultCode::NotBuilt));
-            under(alloc, key.as_bytes(), unbuilt)
-        }
-        None => Ok(()),
-    }
-}
 
 /// The truth value at a key that may be absent.
 #[tactic(auto, using(crate::proofs::Unders::gives_under))]

@@ -35,14 +35,16 @@ abbrev pub names_of : Scenario → List HostPort
 names_of s = map (λ i. i.settings.name) s.opening.servers
 
 -- The opening is checked, each turn is one of its servers', there are at most 1,000,000 turns, the servers together take
--- room for at most 4,000,000 transactions, each server is known or not, and each filter list has an
--- answer for each server.
+-- room for at most 4,000,000 transactions, the block period is at most 1,000,000,000 seconds, each server is known or not and has
+-- a rule or none, and each filter list has an answer for each server.
 pub record IsScenario (s : Scenario) : Type 0 where
   pub checked : IsChecked s.opening
   pub moment : s.moment.0 ≤ 1000000000000000
+  pub block : s.block ≤ 1000000000
   pub turns : All (IsTurn (length s.opening.servers)) s.turns
   pub few : length s.turns ≤ 1000000
   pub room : length s.opening.servers * room_of s ≤ 4000000
   pub known : length s.known ≡ length s.opening.servers
+  pub rules : length s.rules ≡ length s.opening.servers
   pub master : length s.filters.master.passes ≡ length s.opening.servers
   pub intermediate : length s.filters.intermediate.passes ≡ length s.opening.servers

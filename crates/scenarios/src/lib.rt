@@ -5,6 +5,7 @@
 mod filters;
 mod format;
 mod room;
+mod rules;
 mod same;
 mod scenario;
 mod threads;
@@ -14,5 +15,6 @@ pub use filters::{Alias, Aliases, ClusterFilters, FilterList, Texts};
 pub use format::built;
 /// Want of memory.
 pub use orch_base::Memory;
+pub use rules::Rules;
 pub use scenario::{Scenario, Turns};
 pub use turns::{BoxedCommand, Turn};

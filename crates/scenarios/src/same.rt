@@ -2,7 +2,8 @@
 
 ghost use Rattle.std.specs.Prelude.{◌≡◌, ◌↔◌, IsTrue, map, string_bytes};
 
-use crate::{Alias, Aliases, ClusterFilters, FilterList, Scenario, Texts, Turn, Turns};
+use crate::{Alias, Aliases, ClusterFilters, FilterList, Rules, Scenario, Texts, Turn, Turns};
+use orch_base::Rule;
 
 fn same_aliases(aliases: &[Alias], others: &[Alias]) -> bool
     ensures { IsTrue result ↔ (aliases.now ≡ others.now) }
@@ -32,6 +33,26 @@ fn same_texts(texts: &[String], others: &[String]) -> bool
     }
     for (n, text) in texts.iter().enumerate() {
         if !same_text(text.as_str(), others[n].as_str()) {
+            return false;
+        }
+    }
+    true
+}
+
+fn same_rule(rule: Option<Rule>, other: Option<Rule>) -> bool
+    ensures { IsTrue result ↔ (rule ≡ other) }
+{
+    rule == other
+}
+
+fn same_rules(rules: &[Option<Rule>], others: &[Option<Rule>]) -> bool
+    ensures { IsTrue result ↔ (rules.now ≡ others.now) }
+{
+    if rules.len() != others.len() {
+        return false;
+    }
+    for (n, rule) in rules.iter().enumerate() {
+        if !same_rule(*rule, others[n]) {
             return false;
         }
     }
@@ -97,6 +118,15 @@ impl ClusterFilters {
     }
 }
 
+impl Rules {
+    /// Whether the rules are equal. It takes no memory.
+    pub fn is_same(&self, other: &Rules) -> bool
+        ensures { IsTrue result ↔ (self.now ≡ other.now) }
+    {
+        same_rules(self.as_slice(), other.as_slice())
+    }
+}
+
 impl Turns {
     /// Whether the turns are equal. It takes no memory.
     pub fn is_same(&self, other: &Turns) -> bool
@@ -112,7 +142,9 @@ impl Scenario {
         ensures { IsTrue result ↔ (self.now ≡ other.now) }
     {
         (self.opening.same(&other.opening) && self.moment == other.moment)
+            && self.block == other.block
             && (self.aliases.is_same(&other.aliases) && self.filters.is_same(&other.filters))
-            && (self.known.is_same(&other.known) && self.turns.is_same(&other.turns))
+            && (self.known.is_same(&other.known) && self.rules.is_same(&other.rules))
+            && self.turns.is_same(&other.turns)
     }
 }

@@ -2,7 +2,7 @@
 
 ghost use Rattle.std.specs.Prelude.{◌≡◌, IfOk};
 
-use crate::{Aliases, Answers, ClusterFilters, Turn};
+use crate::{Aliases, Answers, ClusterFilters, Rules, Turn};
 use openings::Opening;
 use orch_base::{Memory, Moment};
 use std::alloc::Global;
@@ -64,17 +64,21 @@ fn copy_turns(alloc: Global, turns: &[Turn]) -> Result<Vec<Turn>, Memory>
     Ok(copy)
 }
 
-/// The servers as they begin, the moment, the clusters' aliases, whose recoveries may begin by themselves, what is
-/// known at the opening, and the turns that follow.
+/// The servers as they begin, the moment, the block period, the clusters' aliases, whose recoveries may begin by
+/// themselves, what is known at the opening and how it is promoted, and the turns that follow.
 #[derive(Drop)]
 pub struct Scenario {
     pub opening: Opening,
     /// When it begins: at most 1,000,000,000,000,000.
     pub moment: Moment,
+    /// The block period in seconds (RecoveryPeriodBlockSeconds): at most 1,000,000,000.
+    pub block: u64,
     pub aliases: Aliases,
     pub filters: ClusterFilters,
     /// For each server whether the book knows it at the opening.
     pub known: Answers,
+    /// For each server the rule with which it is registered at the opening, if any.
+    pub rules: Rules,
     pub turns: Turns,
 }
 
@@ -86,9 +90,11 @@ impl Scenario {
         Ok(Scenario {
             opening: self.opening.copy(alloc)?,
             moment: self.moment,
+            block: self.block,
             aliases: self.aliases.copy(alloc)?,
             filters: self.filters.copy(alloc)?,
             known: self.known.copy(alloc)?,
+            rules: self.rules.copy(alloc)?,
             turns: self.turns.copy(alloc)?,
         })
     }

@@ -1,6 +1,6 @@
 //! The types of this crate can be moved between threads, and shared by them.
 
-use crate::{Alias, Aliases, ClusterFilters, FilterList, Scenario, Texts, Turns};
+use crate::{Alias, Aliases, ClusterFilters, FilterList, Rules, Scenario, Texts, Turns};
 
 fn crosses_threads<T: Send + Sync>() {}
 
@@ -10,6 +10,7 @@ fn all_cross_threads() {
     crosses_threads::<Texts>();
     crosses_threads::<FilterList>();
     crosses_threads::<ClusterFilters>();
+    crosses_threads::<Rules>();
     crosses_threads::<Turns>();
     crosses_threads::<Scenario>();
 }

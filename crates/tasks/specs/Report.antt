@@ -2,6 +2,7 @@
 use Rattle.std.specs.Prelude.{ℕ, List, [], ◌∷◌, ◌++◌, Bool, true, false, if◌then◌else◌, map, Option, Some, None}
 use Rattle.std.specs.List.{list_any}
 use Rattle.orch_base.specs.Names.{HostPort}
+use Rattle.audit_lines.specs.Lines.{recovery_lines}
 use Rattle.commands.specs.declared.refusal.Refusal.TheVariants.{UnknownInstance}
 use Rattle.turns.specs.declared.turn.Reply.{Reply}
 use Rattle.turns.specs.declared.turn.Reply.TheVariants as answered
@@ -25,9 +26,9 @@ pub record Answer : Type 0 where
 abbrev pub replies_text : List HostPort → Recorded → List ℕ
 replies_text names run = lines_text names 1 run.journal
 
--- the tables of a state
+-- the tables of a state: its servers, the audit's recoveries by rising id, and its unended jobs
 abbrev pub tables_of : State → List ℕ
-tables_of s = tables_text s.world (map (λ j. j.id) s.jobs)
+tables_of s = tables_text s.world (recovery_lines s.audit.recoveries) (map (λ j. j.id) s.jobs)
 
 -- the lines of all replies, then the tables
 abbrev pub report_text : List HostPort → Recorded → List ℕ

@@ -5,6 +5,7 @@ ghost use Rattle.report_text.specs.Lines.{line_text};
 ghost use Rattle.tasks.specs.Report.{tables_of};
 ghost use Rattle.tasks.specs.Sinks.{Joins, Stays, taken};
 
+use audit_lines::recovery_lines;
 use orch_base::{Memory, Sink, write_all};
 use orch_core::Engine;
 use report_text::{PrintedNames, reply_text_by, tables};
@@ -14,16 +15,18 @@ use turns::{Reply, Turn};
 /// A piece is handed over once it has so many bytes: 64 KiB.
 const PIECE: usize = 65_536;
 
-/// Appends the tables of the state that it is now, with its unended jobs; or nothing at want of memory.
+/// Appends the tables of the state that it is now, with its recoveries and its unended jobs; or nothing at want of memory.
 pub(crate) fn add_tables(engine: &Engine, out: &mut Vec<u8>) -> Result<(), Memory>
     ensures ok { OnOk result (out.new.items ≡ out.old.items ++ tables_of engine.now) }
     ensures err { OnErr result (out.new.items ≡ out.old.items) }
 {
-    let mut jobs = Vec::new(*out.allocator());
+    let alloc = *out.allocator();
+    let recoveries = recovery_lines(alloc, engine.audit().recoveries())?;
+    let mut jobs = Vec::new(alloc);
     for job in engine.open_jobs() {
         jobs.push(job.id())?;
     }
-    tables(engine.world(), &jobs, out)
+    tables(engine.world(), recoveries.as_slice(), &jobs, out)
 }
 
 /// A text on its way to a sink in pieces: what the sink hasn't been given yet, whether the sink failed, and room for a

@@ -1,6 +1,5 @@
-use Rattle.std.proofs.Common.{◌≡◌, take}
-use Rattle.opening_book.specs.Opening.{missing_from}
+use Rattle.std.proofs.Common.{◌≡◌, ◌++◌}
 use Rattle.opening_book.proofs.opening.opening_changes.Given as goal
 
-abbrev pub invariant-loop-no : goal.invariant-loop-no
-invariant-loop-no l = l.changes.items ≡ missing_from l.world l.moment l.book 0 (take l.no l.known)
+abbrev pub invariant-interrupted : goal.invariant-interrupted
+invariant-interrupted l = l.changes.items ≡ l.initial.changes.items ++ l.yielded

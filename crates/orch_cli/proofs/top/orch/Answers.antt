@@ -5,7 +5,7 @@ use Rattle.tasks.specs.Sinks.{End, between, taken}
 use Rattle.orch_cli.specs.declared.way.Way.TheVariants as way
 use Rattle.orch_cli.specs.Ends.{Call, Ends, FaultsAs, IsComplete, IsReported, IsUsage, call}
 use Rattle.orch_cli.proofs.Ends.{bad_words, complete, each, faults, idles, lifted, no_usage, of_done, of_five, of_four, of_three, under, untaken_faults, wanting_faults}
-use Rattle.orch_cli.proofs.Reports.{both, err_by, kept_by_report, out_by, status_by}
+use Rattle.orch_cli.proofs.Reports.{both, err_by, kept_by_report, out_by, status_told}
 use Rattle.orch_cli.proofs.Runs.{obeys, safe_run}
 use Rattle.orch_cli.proofs.top.orch.Goals as goal
 
@@ -75,7 +75,9 @@ returns-in-Err-Memory-clause-commands g c = obeys (map (λ w. w.items) c.args.wo
 
 pub returns-in-Ok-clause-status : goal.returns-in-Ok-clause-status
 returns-in-Ok-clause-status g c =
-    both (g.S.Source.left c.args.scenario.now) (g.K.Keeper.kept c.args.keeper.now) _ _ (λ bytes rows known by. status_by (call (map (λ w. w.items) c.args.words.now) bytes _ _ _ _) rows _ known by) (returns-in-Ok-clause-ends g c)
+    status_told (g.S.Source.left c.args.scenario.now) (g.K.Keeper.kept c.args.keeper.now) (g.K.Keeper.kept c.answer.new.keeper) (map (λ w. w.items) c.args.words.now)
+    (between (taken (g.O.Sink.written c.args.out.now) (g.O.Sink.faults c.args.out.now)) (taken (g.O.Sink.written c.answer.new.out) (g.O.Sink.faults c.answer.new.out)))
+    (between (taken (g.E.Sink.written c.args.err.now) (g.E.Sink.faults c.args.err.now)) (taken (g.E.Sink.written c.answer.new.err) (g.E.Sink.faults c.answer.new.err))) _ (returns-in-Ok-clause-ends g c)
 
 pub returns-in-Ok-clause-out : goal.returns-in-Ok-clause-out
 returns-in-Ok-clause-out g c =
@@ -91,7 +93,9 @@ returns-in-Ok-clause-kept g c =
 
 pub returns-in-Err-BadWords-clause-status : goal.returns-in-Err-BadWords-clause-status
 returns-in-Err-BadWords-clause-status g c =
-    both (g.S.Source.left c.args.scenario.now) (g.K.Keeper.kept c.args.keeper.now) _ _ (λ bytes rows known by. status_by (call (map (λ w. w.items) c.args.words.now) bytes _ _ _ _) rows _ known by) (returns-in-Err-BadWords-clause-ends g c)
+    status_told (g.S.Source.left c.args.scenario.now) (g.K.Keeper.kept c.args.keeper.now) (g.K.Keeper.kept c.args.keeper.now) (map (λ w. w.items) c.args.words.now)
+    (between (taken (g.O.Sink.written c.args.out.now) (g.O.Sink.faults c.args.out.now)) (taken (g.O.Sink.written c.args.out.now) (g.O.Sink.faults c.args.out.now)))
+    (between (taken (g.E.Sink.written c.args.err.now) (g.E.Sink.faults c.args.err.now)) (taken (g.E.Sink.written c.close.new.err) (g.E.Sink.faults c.close.new.err))) _ (returns-in-Err-BadWords-clause-ends g c)
 
 pub returns-in-Err-BadWords-clause-out : goal.returns-in-Err-BadWords-clause-out
 returns-in-Err-BadWords-clause-out g c =
@@ -107,7 +111,9 @@ returns-in-Err-BadWords-clause-kept g c =
 
 pub returns-in-Err-Memory-clause-status : goal.returns-in-Err-Memory-clause-status
 returns-in-Err-Memory-clause-status g c =
-    both (g.S.Source.left c.args.scenario.now) (g.K.Keeper.kept c.args.keeper.now) _ _ (λ bytes rows known by. status_by (call (map (λ w. w.items) c.args.words.now) bytes _ _ _ _) rows _ known by) (returns-in-Err-Memory-clause-ends g c)
+    status_told (g.S.Source.left c.args.scenario.now) (g.K.Keeper.kept c.args.keeper.now) (g.K.Keeper.kept c.args.keeper.now) (map (λ w. w.items) c.args.words.now)
+    (between (taken (g.O.Sink.written c.args.out.now) (g.O.Sink.faults c.args.out.now)) (taken (g.O.Sink.written c.args.out.now) (g.O.Sink.faults c.args.out.now)))
+    (between (taken (g.E.Sink.written c.args.err.now) (g.E.Sink.faults c.args.err.now)) (taken (g.E.Sink.written c.close-in-Err-Memory.new.err) (g.E.Sink.faults c.close-in-Err-Memory.new.err))) _ (returns-in-Err-Memory-clause-ends g c)
 
 pub returns-in-Err-Memory-clause-out : goal.returns-in-Err-Memory-clause-out
 returns-in-Err-Memory-clause-out g c =

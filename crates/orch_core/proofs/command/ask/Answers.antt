@@ -1,5 +1,7 @@
-use Rattle.std.proofs.Common.{◌∙◌}
-use Rattle.asking_commands.specs.Answers.{answer_of}
+use Rattle.std.proofs.Common.{◌∙◌, List, ap}
+use Rattle.asking_commands.specs.Answers.{answer_of, lines_of, permitted}
+use Rattle.instance_keeper.specs.declared.recovery.Recovery.{Recovery}
+use Rattle.orch_core.specs.Commands.{asked}
 use Rattle.orch_core.proofs.Outcomes.{asked_refused}
 use Rattle.orch_core.proofs.command.ask.Goals as goal
 
@@ -7,4 +9,7 @@ pub returns-in-Err-Refused : goal.returns-in-Err-Refused
 unfolding answer_of
 returns-in-Err-Refused c =
     let said = rw c.in-Err-Refused.field-0-is at c.in-Err-Refused.ensures in
+    let book = c.args.book.now in
+    let t = c.args.t.now in
     c.refused.ensures ∙ asked_refused c.args.reads _ _ c.in-Err-Refused.refusal said
+    ∙ ap (λ (rs : List Recovery). asked c.args.reads (permitted book t.command) (lines_of book rs t t.command.name)) c.recoveries.ensures.list

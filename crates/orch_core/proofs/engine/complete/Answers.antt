@@ -1,10 +1,11 @@
-use Rattle.std.proofs.Common.{length, subst, sym}
+use Rattle.std.proofs.Common.{◌≡◌, length, rules, subst, sym}
 use Rattle.std.specs.Prelude.{All, IsTrue}
-use Rattle.instance_keeper.specs.Book.{fits}
+use Rattle.opening_book.specs.Opening.{is_opening_change}
 use Rattle.orch_core.proofs.Starts.{fits-opening}
 use Rattle.orch_core.proofs.engine.complete.Goals as goal
 
 pub open_book-requires : goal.open_book-requires
 open_book-requires g c =
-    subst (All (λ x. IsTrue (fits (length c.args.book.names) x))) (sym c.in_ok-changes.ensures)
-    (fits-opening c.args.world.now c.args.moment c.args.book c.args.known.now c.requires.sources c.requires.names)
+    let rules_there : length c.as_slice-rules.result.now ≡ length c.args.world.now.servers = search rules in
+    subst (All (λ x. IsTrue (is_opening_change (length c.args.book.names) x))) (sym c.in_ok-changes.ensures)
+    (fits-opening c.args.world.now c.args.moment c.args.book c.as_slice-known.result.now c.as_slice-rules.result.now c.args.audit.now.audit c.requires.sources c.requires.names rules_there)

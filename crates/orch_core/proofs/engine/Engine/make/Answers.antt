@@ -1,11 +1,14 @@
-use Rattle.std.proofs.Common.{◌≡◌, ℕ, List, length, ap, subst, sym, ◌∙◌, arith, rules}
-use Rattle.std.specs.Prelude.{IfSome, map}
-use Rattle.instance_keeper.specs.declared.row.Row.{Row}
-use Rattle.opening_book.specs.Counting.{counted}
+use Rattle.std.proofs.Common.{◌≡◌, ◌∙◌, ◌+◌, ℕ, Bool, false, List, length, ap, subst, sym, arith, rules}
+use Rattle.std.proofs.lemmas.List.{length-map}
+use Rattle.std.specs.Prelude.{is_ok, map}
+use Rattle.opening_book.proofs.Recoveries.{last_id-within}
+use Rattle.opening_book.specs.Audits.{audit_of, last_id}
+use Rattle.opening_book.specs.Counting.{counted, greatest_id}
+use Rattle.orch_core.specs.Scenarios.{kept_at_start}
 use Rattle.openings.specs.declared.init.ServerInit.{ServerInit}
 use Rattle.server_model.specs.Worlds.{World}
 use Rattle.orch_core.proofs.Sources.{KnowsSources}
-use Rattle.orch_core.proofs.Starts.{Fits-start, IsOpening, sources-start, book-names, world_made, IsState-made, StartsBy-made, kept_made}
+use Rattle.orch_core.proofs.Starts.{Fits-start, IsOpening, IsState-made, StartsBy-made, book-names, kept_made, moment-within, opened-by, sources-start, world_made}
 use Rattle.orch_core.proofs.engine.Engine.make.Goals as goal
 
 pub make-requires-clause-fits : goal.make-requires-clause-fits
@@ -22,58 +25,111 @@ complete-requires-clause-sources g c =
     let world = world_made c.args.s.now c.in_ok-world.world c.room.result c.flushes.result c.in_ok-world.ensures.world c.room.ensures.room c.flushes.ensures.flushes in
     subst (λ (w : World). KnowsSources w.servers) (sym world) (sources-start c.args.s.now c.requires)
 
+pub overflow_add-next : goal.overflow_add-next
+overflow_add-next g c =
+    let most = last_id-within c.deref-3.result.now in
+    let is = c.last_id-next.ensures in
+    omega (arith, most, is)
+
+pub loaded_audit-requires : goal.loaded_audit-requires
+loaded_audit-requires g c =
+    let given = c.in_ok-given.given.items in
+    let world = world_made c.args.s.now c.in_ok-world.world c.room.result c.flushes.result c.in_ok-world.ensures.world c.room.ensures.room c.flushes.ensures.flushes in
+    let settings = c.in_ok-settings.ensures ∙ ap (λ (is : List ServerInit). map (λ i. i.settings) is) c.servers.ensures.value in
+    let len : c.len.result ≡ length c.in_ok-settings.settings.items = let h = c.len.ensures in omega (arith, h, c.in_ok-settings.settings.ok) in
+    let count : c.len.result ≡ length c.args.s.now.opening.servers = len ∙ ap length settings ∙ length-map c.args.s.now.opening.servers (λ i. i.settings) in
+    let counting : c.in_ok-rows.rows.items ≡ counted (length c.args.s.now.opening.servers) greatest_id given = c.in_ok-rows.ensures ∙ ap (λ (n : ℕ). counted n greatest_id given) count in
+    let last : c.last_id-next.result ≡ last_id given = search rules in
+    let items : c.deref-7.result.now ≡ counted (length c.args.s.now.opening.servers) greatest_id given = c.deref-7.ensures.value ∙ counting in
+    opened-by c.args.s.now given c.deref-7.result.now c.last_id-next.result c.requires items last
+
+pub returns-in_err-audit-clause-kept : goal.returns-in_err-audit-clause-kept
+returns-in_err-audit-clause-kept g c =
+    let fails : is_ok c.from_residual-in_err-audit.result ≡ false = search rules in
+    c.in_ok-given.ensures.kept ∙ ap (λ (made : Bool). kept_at_start made (g.K.Keeper.kept c.args.keeper.now) c.args.s.now) (sym fails)
+
+pub complete-requires-clause-moment : goal.complete-requires-clause-moment
+complete-requires-clause-moment g c =
+    let given = c.in_ok-given.given.items in
+    let world = world_made c.args.s.now c.in_ok-world.world c.room.result c.flushes.result c.in_ok-world.ensures.world c.room.ensures.room c.flushes.ensures.flushes in
+    let settings = c.in_ok-settings.ensures ∙ ap (λ (is : List ServerInit). map (λ i. i.settings) is) c.servers.ensures.value in
+    let len : c.len.result ≡ length c.in_ok-settings.settings.items = let h = c.len.ensures in omega (arith, h, c.in_ok-settings.settings.ok) in
+    let count : c.len.result ≡ length c.args.s.now.opening.servers = len ∙ ap length settings ∙ length-map c.args.s.now.opening.servers (λ i. i.settings) in
+    let counting : c.in_ok-rows.rows.items ≡ counted (length c.args.s.now.opening.servers) greatest_id given = c.in_ok-rows.ensures ∙ ap (λ (n : ℕ). counted n greatest_id given) count in
+    let last : c.last_id-next.result ≡ last_id given = search rules in
+    moment-within c.args.s.now given c.in_ok-rows.rows.items c.latest_moment-moment.result.0 c.requires counting (search rules)
+
 pub invariant_of-result : goal.invariant_of-result
 invariant_of-result g c =
+    let given = c.in_ok-given.given.items in
     let world = world_made c.args.s.now c.in_ok-world.world c.room.result c.flushes.result c.in_ok-world.ensures.world c.room.ensures.room c.flushes.ensures.flushes in
-    let servers : c.len.result ≡ length c.in_ok-settings.settings.items = let h = c.len.ensures in omega (arith, h, c.in_ok-settings.settings.ok) in
-    let opening : IsOpening c.args.s.now c.in_ok-world.world c.in_ok-settings.settings.items c.in_ok-rows.rows.items c.latest_moment-moment.result c.in_ok-book.book c.in_ok-book-2.book c.in_ok-slots.slots.items c.last_read.result c.new.result.items c.args.wait c.in_ok-configuration.configuration = record {
+    let settings = c.in_ok-settings.ensures ∙ ap (λ (is : List ServerInit). map (λ i. i.settings) is) c.servers.ensures.value in
+    let len : c.len.result ≡ length c.in_ok-settings.settings.items = let h = c.len.ensures in omega (arith, h, c.in_ok-settings.settings.ok) in
+    let count : c.len.result ≡ length c.args.s.now.opening.servers = len ∙ ap length settings ∙ length-map c.args.s.now.opening.servers (λ i. i.settings) in
+    let counting : c.in_ok-rows.rows.items ≡ counted (length c.args.s.now.opening.servers) greatest_id given = c.in_ok-rows.ensures ∙ ap (λ (n : ℕ). counted n greatest_id given) count in
+    let last : c.last_id-next.result ≡ last_id given = search rules in
+    let opening : IsOpening c.args.s.now given c.in_ok-world.world c.in_ok-settings.settings.items c.in_ok-rows.rows.items c.latest_moment-moment.result c.in_ok-book.book c.in_ok-book-2.book c.in_ok-audit.audit.audit c.close.new.self.audit c.in_ok-slots.slots.items c.last_read.result c.new.result.items c.args.wait c.in_ok-configuration.configuration = record {
       world = world;
-      settings_made = c.in_ok-settings.ensures ∙ ap (λ (is : List ServerInit). map (λ i. i.settings) is) c.servers.ensures.value;
+      settings_made = settings;
+      counting = counting;
       moment_made = search rules;
       loads = search rules;
+      audits = c.in_ok-audit.ensures ∙ ap (λ (n : ℕ). audit_of (n + 1) c.deref-7.result.now) last ∙ ap (audit_of (last_id given + 1)) c.deref-7.ensures.value;
       completes = search rules;
+      closes = search rules;
       empty = c.in_ok-slots.ensures;
       read = search rules;
       idle = c.new.ensures.items;
       configured = c.in_ok-configuration.ensures;
-      some = subst (λ (n : ℕ). (rows : List Row) × (c.in_ok-rows.rows.items ≡ counted n rows)) servers c.in_ok-rows.ensures.some;
     } in
-    IsState-made _ _ _ _ _ _ _ _ _ _ _ _ opening c.requires
+    IsState-made _ _ _ _ _ _ _ _ _ _ _ _ _ _ _ opening c.requires
 
 pub returns-clause-ok : goal.returns-clause-ok
 returns-clause-ok g c =
+    let given = c.in_ok-given.given.items in
     let world = world_made c.args.s.now c.in_ok-world.world c.room.result c.flushes.result c.in_ok-world.ensures.world c.room.ensures.room c.flushes.ensures.flushes in
-    let servers : c.len.result ≡ length c.in_ok-settings.settings.items = let h = c.len.ensures in omega (arith, h, c.in_ok-settings.settings.ok) in
-    let opening : IsOpening c.args.s.now c.in_ok-world.world c.in_ok-settings.settings.items c.in_ok-rows.rows.items c.latest_moment-moment.result c.in_ok-book.book c.in_ok-book-2.book c.in_ok-slots.slots.items c.last_read.result c.new.result.items c.args.wait c.in_ok-configuration.configuration = record {
+    let settings = c.in_ok-settings.ensures ∙ ap (λ (is : List ServerInit). map (λ i. i.settings) is) c.servers.ensures.value in
+    let len : c.len.result ≡ length c.in_ok-settings.settings.items = let h = c.len.ensures in omega (arith, h, c.in_ok-settings.settings.ok) in
+    let count : c.len.result ≡ length c.args.s.now.opening.servers = len ∙ ap length settings ∙ length-map c.args.s.now.opening.servers (λ i. i.settings) in
+    let counting : c.in_ok-rows.rows.items ≡ counted (length c.args.s.now.opening.servers) greatest_id given = c.in_ok-rows.ensures ∙ ap (λ (n : ℕ). counted n greatest_id given) count in
+    let last : c.last_id-next.result ≡ last_id given = search rules in
+    let opening : IsOpening c.args.s.now given c.in_ok-world.world c.in_ok-settings.settings.items c.in_ok-rows.rows.items c.latest_moment-moment.result c.in_ok-book.book c.in_ok-book-2.book c.in_ok-audit.audit.audit c.close.new.self.audit c.in_ok-slots.slots.items c.last_read.result c.new.result.items c.args.wait c.in_ok-configuration.configuration = record {
       world = world;
-      settings_made = c.in_ok-settings.ensures ∙ ap (λ (is : List ServerInit). map (λ i. i.settings) is) c.servers.ensures.value;
+      settings_made = settings;
+      counting = counting;
       moment_made = search rules;
       loads = search rules;
+      audits = c.in_ok-audit.ensures ∙ ap (λ (n : ℕ). audit_of (n + 1) c.deref-7.result.now) last ∙ ap (audit_of (last_id given + 1)) c.deref-7.ensures.value;
       completes = search rules;
+      closes = search rules;
       empty = c.in_ok-slots.ensures;
       read = search rules;
       idle = c.new.ensures.items;
       configured = c.in_ok-configuration.ensures;
-      some = subst (λ (n : ℕ). (rows : List Row) × (c.in_ok-rows.rows.items ≡ counted n rows)) servers c.in_ok-rows.ensures.some;
     } in
-    StartsBy-made _ _ _ _ _ _ _ _ _ _ _ _ opening (g.K.Keeper.kept c.args.keeper.now)
-    (subst (λ (n : ℕ). IfSome (g.K.Keeper.kept c.args.keeper.now) (λ rows. c.in_ok-rows.rows.items ≡ counted n rows)) servers c.in_ok-rows.ensures.told)
+    StartsBy-made _ _ _ _ _ _ _ _ _ _ _ _ _ _ _ opening (g.K.Keeper.kept c.args.keeper.now) c.in_ok-given.ensures.told
 
 pub returns-clause-kept : goal.returns-clause-kept
 returns-clause-kept g c =
+    let given = c.in_ok-given.given.items in
     let world = world_made c.args.s.now c.in_ok-world.world c.room.result c.flushes.result c.in_ok-world.ensures.world c.room.ensures.room c.flushes.ensures.flushes in
-    let servers : c.len.result ≡ length c.in_ok-settings.settings.items = let h = c.len.ensures in omega (arith, h, c.in_ok-settings.settings.ok) in
-    let opening : IsOpening c.args.s.now c.in_ok-world.world c.in_ok-settings.settings.items c.in_ok-rows.rows.items c.latest_moment-moment.result c.in_ok-book.book c.in_ok-book-2.book c.in_ok-slots.slots.items c.last_read.result c.new.result.items c.args.wait c.in_ok-configuration.configuration = record {
+    let settings = c.in_ok-settings.ensures ∙ ap (λ (is : List ServerInit). map (λ i. i.settings) is) c.servers.ensures.value in
+    let len : c.len.result ≡ length c.in_ok-settings.settings.items = let h = c.len.ensures in omega (arith, h, c.in_ok-settings.settings.ok) in
+    let count : c.len.result ≡ length c.args.s.now.opening.servers = len ∙ ap length settings ∙ length-map c.args.s.now.opening.servers (λ i. i.settings) in
+    let counting : c.in_ok-rows.rows.items ≡ counted (length c.args.s.now.opening.servers) greatest_id given = c.in_ok-rows.ensures ∙ ap (λ (n : ℕ). counted n greatest_id given) count in
+    let last : c.last_id-next.result ≡ last_id given = search rules in
+    let opening : IsOpening c.args.s.now given c.in_ok-world.world c.in_ok-settings.settings.items c.in_ok-rows.rows.items c.latest_moment-moment.result c.in_ok-book.book c.in_ok-book-2.book c.in_ok-audit.audit.audit c.close.new.self.audit c.in_ok-slots.slots.items c.last_read.result c.new.result.items c.args.wait c.in_ok-configuration.configuration = record {
       world = world;
-      settings_made = c.in_ok-settings.ensures ∙ ap (λ (is : List ServerInit). map (λ i. i.settings) is) c.servers.ensures.value;
+      settings_made = settings;
+      counting = counting;
       moment_made = search rules;
       loads = search rules;
+      audits = c.in_ok-audit.ensures ∙ ap (λ (n : ℕ). audit_of (n + 1) c.deref-7.result.now) last ∙ ap (audit_of (last_id given + 1)) c.deref-7.ensures.value;
       completes = search rules;
+      closes = search rules;
       empty = c.in_ok-slots.ensures;
       read = search rules;
       idle = c.new.ensures.items;
       configured = c.in_ok-configuration.ensures;
-      some = subst (λ (n : ℕ). (rows : List Row) × (c.in_ok-rows.rows.items ≡ counted n rows)) servers c.in_ok-rows.ensures.some;
     } in
-    search rules ∙ kept_made _ _ _ _ _ _ _ _ _ _ _ _ opening (g.K.Keeper.kept c.args.keeper.now)
-    (subst (λ (n : ℕ). IfSome (g.K.Keeper.kept c.args.keeper.now) (λ rows. c.in_ok-rows.rows.items ≡ counted n rows)) servers c.in_ok-rows.ensures.told)
+    search rules ∙ kept_made _ _ _ _ _ _ _ _ _ _ _ _ _ _ _ opening (g.K.Keeper.kept c.args.keeper.now) c.in_ok-given.ensures.told

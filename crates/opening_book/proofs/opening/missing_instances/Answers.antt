@@ -1,9 +1,9 @@
 use Rattle.std.proofs.Common.{◌++◌, ◌∙◌, ap, sym, take, false, List, Option, arith}
 use Rattle.std.specs.Option.{option_to_list}
 use Rattle.instance_keeper.specs.declared.row.Change.{Change}
-use Rattle.opening_book.specs.Opening.{missing_from}
-use Rattle.opening_book.proofs.Missing.{missing-more}
-use Rattle.opening_book.proofs.opening.opening_changes.Goals as goal
+use Rattle.opening_book.specs.Opening.{missing, missing_from}
+use Rattle.opening_book.proofs.Missing.{from-more}
+use Rattle.opening_book.proofs.opening.missing_instances.Goals as goal
 
 pub loop-no-preserved : goal.loop-no-preserved
 loop-no-preserved c =
@@ -15,4 +15,4 @@ loop-no-preserved c =
     c.in_ok-push_some.ensures
     ∙ ap (λ (xs : List Change). xs ++ option_to_list c.in_ok-change.change) c.loop-no.invariant
     ∙ ap (λ (o : Option Change). missing_from w at b 0 (take no ks) ++ option_to_list o) c.in_ok-change.ensures
-    ∙ sym (missing-more w at b ks no false (omega (arith, c.loop-no-test.true, c.servers-no-end.ensures, c.requires.known)))
+    ∙ sym (from-more (missing w at b) ks no false (omega (arith, c.loop-no-test.true, c.servers-no-end.ensures, c.requires.known)))

@@ -1,0 +1,6 @@
+use Rattle.std.proofs.Common.{◌≡◌, map}
+use Rattle.book_commands.specs.Decisions.{put_recovery}
+use Rattle.book_commands.proofs.deciding.acked_rows.Given as goal
+
+abbrev pub invariant-acked : goal.invariant-acked
+invariant-acked l = l.rows.items ≡ map put_recovery l.yielded

@@ -1,0 +1,6 @@
+use Rattle.std.proofs.Common.{◌≡◌, take}
+use Rattle.opening_book.specs.Audits.{last_id}
+use Rattle.opening_book.proofs.audit.last_id.Given as goal
+
+abbrev pub invariant-rows : goal.invariant-rows
+invariant-rows l = l.last ≡ last_id (take l.row-index l.rows)

@@ -1,0 +1,5 @@
+use Rattle.opening_book.proofs.Following.{Follow-recoveries}
+use Rattle.opening_book.proofs.laws.recoveries_are_no_rows_of_the_book.Goals as goal
+
+pub returns : goal.returns
+returns c = Follow-recoveries

@@ -1,0 +1,34 @@
+-- The audit of kept rows.
+use Rattle.std.specs.Prelude.{ℕ, ◌+◌, nat_le, if◌then◌else◌, List, fold, max}
+use Rattle.instance_keeper.specs.declared.recovery.Recovery.{Recovery}
+use Rattle.instance_keeper.specs.declared.row.Row.{Row}
+use Rattle.instance_keeper.specs.declared.row.Row.TheVariants as row
+use Rattle.audit_log.specs.Audits.{AuditState}
+use Rattle.audit_log.specs.Loading.{recoveries_in}
+use Rattle.opening_book.specs.Counting.{end_or, greatest_id}
+
+-- the id of a recovery, where it is in the range of an opening
+abbrev pub id_in : Row → ℕ
+id_in (row.Instance i) = 0
+id_in (row.Downtime d) = 0
+id_in (row.Candidate c) = 0
+id_in (row.Recovery r) = if nat_le r.id greatest_id then r.id else 0
+id_in (row.Switch enabled) = 0
+
+abbrev pub later_id : ℕ → Row → ℕ
+later_id last r = max last (id_in r)
+
+-- the greatest such id of all rows that are handed back, those that don't count too, or 0
+abbrev pub last_id : List Row → ℕ
+last_id rows = fold later_id 0 rows
+
+-- the audit of the rows that count, by the next id
+abbrev pub audit_of : ℕ → List Row → AuditState
+audit_of next rows = record { recoveries = recoveries_in rows; next = next }
+
+-- the moment, raised to the latest begun or ended moment of a recovery
+abbrev pub recovery_raised : ℕ → Recovery → ℕ
+recovery_raised now r = end_or (max now r.begun.0) r.ended
+
+abbrev pub latest_recovery : ℕ → List Recovery → ℕ
+latest_recovery now recoveries = fold recovery_raised now recoveries

@@ -1,0 +1,75 @@
+//! The audit of kept rows.
+
+ghost use Rattle.std.specs.Prelude.{◌≡◌, IfOk};
+ghost use Rattle.audit_log.specs.Audits.{IsAudit};
+ghost use Rattle.opening_book.specs.Audits.{audit_of, id_in, last_id, later_id, latest_recovery, recovery_raised};
+
+use crate::Memory;
+use crate::counting::GREATEST_ID;
+use audit_log::{Audit, recoveries_in};
+use instance_keeper::{Recovery, Row};
+use orch_base::Moment;
+use std::alloc::Global;
+
+fn id_in(row: &Row) -> u64
+    ensures { result ≡ id_in row.now }
+{
+    match row {
+        Row::Recovery(recovery) => {
+            if recovery.id <= GREATEST_ID {
+                recovery.id
+            } else {
+                0
+            }
+        }
+        Row::Instance(_) | Row::Downtime(_) | Row::Candidate(_) | Row::Switch(_) => 0,
+    }
+}
+
+fn later_id(last: u64, row: &Row) -> u64
+    ensures { result ≡ later_id last row.now }
+{
+    last.max(id_in(row))
+}
+
+/// The greatest id, up to `GREATEST_ID`, of all recoveries of these rows, or 0: of those that don't count too, so that
+/// no row is written over that was handed back.
+pub fn last_id(rows: &[Row]) -> u64
+    ensures { result ≡ last_id rows.now }
+{
+    let mut last = 0;
+    'rows: for row in rows {
+        last = later_id(last, row);
+    }
+    last
+}
+
+/// The audit of the recoveries of these rows, with the next id.
+pub fn loaded_audit(alloc: Global, rows: &[Row], next: u64) -> Result<Audit, Memory>
+    requires { IsAudit (audit_of next rows.now) }
+    ensures { IfOk result (λ a. a.audit ≡ audit_of next rows.now) }
+{
+    let recoveries = recoveries_in(alloc, rows)?;
+    Ok(Audit::make(recoveries, next))
+}
+
+fn recovery_raised(now: Moment, recovery: &Recovery) -> Moment
+    ensures { result.0 ≡ recovery_raised now.0 recovery.now }
+{
+    let begun = now.max(recovery.begun);
+    match recovery.ended {
+        Some(ended) => begun.max(ended),
+        None => begun,
+    }
+}
+
+/// The latest of this moment and all begun and ended moments of these recoveries.
+pub fn latest_recovery(now: Moment, recoveries: &[Recovery]) -> Moment
+    ensures { result.0 ≡ latest_recovery now.0 recoveries.now }
+{
+    let mut latest = now;
+    'recoveries: for recovery in recoveries {
+        latest = recovery_raised(latest, recovery);
+    }
+    latest
+}

@@ -1,0 +1,140 @@
+-- Recoveries that count began in time, and so the moment to which they raise.
+use Rattle.std.proofs.Common.{◌≡◌, ℕ, ◌≤◌, ◌^◌, Bool, true, false, List, [], ◌∷◌, Option, Some, None, refl, subst, sym, arith}
+use Rattle.std.specs.Prelude.{All, ◌&&◌, filter, map, max, nat_le, if◌then◌else◌}
+use Rattle.std.proofs.lemmas.Bool.{leb-true}
+use Rattle.std.proofs.lemmas.List.Elements.{All-cons, All-head, All-nil, All-tail}
+use Rattle.orch_base.specs.declared.recovery.Ending.TheVariants as ending
+use Rattle.orch_base.specs.declared.server.Moment.{Moment}
+use Rattle.instance_keeper.proofs.Books.{both_true}
+use Rattle.instance_keeper.specs.Book.{are_known, servers_of}
+use Rattle.instance_keeper.specs.Rows.{map_of}
+use Rattle.instance_keeper.specs.declared.recovery.Recovery.{Recovery}
+use Rattle.instance_keeper.specs.declared.row.Row.{Row}
+use Rattle.instance_keeper.specs.declared.row.Row.TheVariants as row
+use Rattle.audit_log.specs.Audits.{acknowledged, acknowledged_for, closed, ended_so, interrupted, is_of, is_unended, AuditState, IsAudit}
+use Rattle.audit_log.proofs.Changes.{IsAudit-map}
+use Rattle.audit_log.proofs.Kept.{acknowledged-id, interrupted-id}
+use Rattle.audit_log.specs.Loading.{recoveries_in, recovery_in}
+use Rattle.opening_book.specs.Audits.{latest_recovery, recovery_raised}
+use Rattle.opening_book.specs.Counting.{counted, counts, end_or, greatest, is_end_in_range, is_in_range, latest, raised}
+
+-- each recovery began by 2^63
+abbrev pub HasBegun : List Recovery → Type 0
+HasBegun rs = All (λ r. r.begun.0 ≤ 2 ^ 63) rs
+
+-- and is ended by then, if it is
+record IsInTime (r : Recovery) : Type 0 where
+  begun : r.begun.0 ≤ greatest
+  ended : is_end_in_range r.ended ≡ true
+
+max-most : (a b most : ℕ) → a ≤ most → b ≤ most → max a b ≤ most
+max-most a b most first second = omega arith
+
+at_most : (n most : ℕ) → nat_le n most ≡ true → n ≤ most
+at_most n most h = leb-true n most h
+
+ended-most : (now : ℕ) (ended : Option Moment) → now ≤ greatest → is_end_in_range ended ≡ true → end_or now ended ≤ greatest
+ended-most now None most is = most
+ended-most now (Some ended) most is = max-most now ended.0 greatest most (at_most ended.0 greatest is)
+
+in-time : (last : ℕ) (r : Recovery) → is_in_range last (row.Recovery r) ≡ true → IsInTime r
+in-time last r is =
+    let moments = (both_true (nat_le 1 r.id && nat_le r.id last) (nat_le r.begun.0 greatest && is_end_in_range r.ended) is).1 in
+    let parts = both_true (nat_le r.begun.0 greatest) (is_end_in_range r.ended) moments in
+    record { begun = at_most r.begun.0 greatest parts.0; ended = parts.1 }
+
+recovery-most : (now : ℕ) (r : Recovery) → now ≤ greatest → IsInTime r → recovery_raised now r ≤ greatest
+recovery-most now r most is = ended-most (max now r.begun.0) r.ended (max-most now r.begun.0 greatest most is.begun) is.ended
+
+-- ---- the recoveries of rows that count
+
+module _ (count last : ℕ) where
+  abbrev counting : List Row → List Recovery
+  counting rows = recoveries_in (filter (counts count last) rows)
+
+  of-row : (r : Row) → is_in_range last r ≡ true → (rest : List Row) → All IsInTime (recoveries_in rest) → All IsInTime (recoveries_in (r ∷ rest))
+  of-row (row.Instance i) is rest all = all
+  of-row (row.Downtime d) is rest all = all
+  of-row (row.Candidate c) is rest all = all
+  of-row (row.Recovery r) is rest all = All-cons IsInTime r (recoveries_in rest) (in-time last r is) all
+  of-row (row.Switch enabled) is rest all = all
+
+  all-in-time : (rows : List Row) → All IsInTime (counting rows)
+  all-in-time [] = All-nil IsInTime
+  all-in-time (r ∷ rows) = go (counts count last r) refl (all-in-time rows)
+    where
+      go : (b : Bool) → counts count last r ≡ b → All IsInTime (counting rows) → All IsInTime (recoveries_in (if b then r ∷ filter (counts count last) rows else filter (counts count last) rows))
+      go true is rest = of-row r (both_true (are_known count (servers_of r)) (is_in_range last r) is).1 (filter (counts count last) rows) rest
+      go false is rest = rest
+
+begun-in-time : (rs : List Recovery) → All IsInTime rs → HasBegun rs
+begun-in-time [] all = All-nil _
+begun-in-time (r ∷ rs) all = All-cons (λ (x : Recovery). x.begun.0 ≤ 2 ^ 63) r rs (All-head IsInTime r rs all).begun (begun-in-time rs (All-tail IsInTime r rs all))
+
+pub counted-begun : (count last : ℕ) (rows : List Row) → HasBegun (recoveries_in (counted count last rows))
+counted-begun count last rows = begun-in-time (recoveries_in (counted count last rows)) (all-in-time count last (map_of rows))
+
+most-of : (now : ℕ) (rs : List Recovery) → now ≤ greatest → All IsInTime rs → latest_recovery now rs ≤ greatest
+most-of now [] most all = most
+most-of now (r ∷ rs) most all = most-of (recovery_raised now r) rs (recovery-most now r most (All-head IsInTime r rs all)) (All-tail IsInTime r rs all)
+
+-- no recovery that counts is later than the end of time
+pub reloaded-most : (count last now : ℕ) (rows : List Row) → now ≤ greatest → latest_recovery now (recoveries_in (counted count last rows)) ≤ greatest
+reloaded-most count last now rows most = most-of now (recoveries_in (counted count last rows)) most (all-in-time count last (map_of rows))
+
+-- ---- changes of an audit leave when recoveries began
+
+module _ (f : Recovery → Recovery) (same : (r : Recovery) → (f r).begun ≡ r.begun) where
+  mapped-begun : (rs : List Recovery) → HasBegun rs → HasBegun (map f rs)
+  mapped-begun [] all = All-nil _
+  mapped-begun (r ∷ rs) all =
+      All-cons (λ (x : Recovery). x.begun.0 ≤ 2 ^ 63) (f r) (map f rs)
+      (subst (λ (m : Moment). m.0 ≤ 2 ^ 63) (sym (same r)) (All-head (λ (x : Recovery). x.begun.0 ≤ 2 ^ 63) r rs all)) (mapped-begun rs (All-tail (λ (x : Recovery). x.begun.0 ≤ 2 ^ 63) r rs all))
+
+interrupted-begun : (at : Moment) (r : Recovery) → (interrupted at r).begun ≡ r.begun
+interrupted-begun at r = go (is_unended r)
+  where
+    go : (b : Bool) → (if b then ended_so at ending.Interrupted r else r).begun ≡ r.begun
+    go true = refl
+    go false = refl
+
+acknowledged-begun : (cluster : List ℕ) (r : Recovery) → (acknowledged_for cluster r).begun ≡ r.begun
+acknowledged-begun cluster r = go (is_of cluster r)
+  where
+    go : (b : Bool) → (if b then record r { acked = true } else r).begun ≡ r.begun
+    go true = refl
+    go false = refl
+
+pub closed-begun : (a : AuditState) (at : Moment) → HasBegun a.recoveries → HasBegun (closed a at).recoveries
+closed-begun a at all = mapped-begun (interrupted at) (interrupted-begun at) a.recoveries all
+
+pub closed-is : (a : AuditState) (at : Moment) → IsAudit a → IsAudit (closed a at)
+closed-is a at is = IsAudit-map (interrupted at) (interrupted-id at) a is
+
+pub acked-is : (a : AuditState) (cluster : List ℕ) → IsAudit a → IsAudit (acknowledged a cluster)
+acked-is a cluster is = IsAudit-map (acknowledged_for cluster) (acknowledged-id cluster) a is
+
+pub acked-begun : (a : AuditState) (cluster : List ℕ) → HasBegun a.recoveries → HasBegun (acknowledged a cluster).recoveries
+acked-begun a cluster all = mapped-begun (acknowledged_for cluster) (acknowledged-begun cluster) a.recoveries all
+
+-- ---- the moment of an opening
+
+raised-most : (last now : ℕ) (r : Row) → now ≤ greatest → is_in_range last r ≡ true → raised now r ≤ greatest
+raised-most last now (row.Instance i) most is = most
+raised-most last now (row.Downtime d) most is = max-most now d.begun.0 greatest most (at_most d.begun.0 greatest (both_true (nat_le d.begun.0 greatest) (nat_le d.until.0 greatest) is).0)
+raised-most last now (row.Candidate c) most is = most
+raised-most last now (row.Recovery r) most is = recovery-most now r most (in-time last r is)
+raised-most last now (row.Switch enabled) most is = most
+
+filtered-most : (count last now : ℕ) (rows : List Row) → now ≤ greatest → latest now (filter (counts count last) rows) ≤ greatest
+filtered-most count last now [] most = most
+filtered-most count last now (r ∷ rows) most = go (counts count last r) refl (filtered-most count last now rows most) (λ later. filtered-most count last (raised now r) rows later)
+  where
+    go : (b : Bool) → counts count last r ≡ b → latest now (filter (counts count last) rows) ≤ greatest → (raised now r ≤ greatest → latest (raised now r) (filter (counts count last) rows) ≤ greatest)
+        → latest now (if b then r ∷ filter (counts count last) rows else filter (counts count last) rows) ≤ greatest
+    go true is rest more = more (raised-most last now r most (both_true (are_known count (servers_of r)) (is_in_range last r) is).1)
+    go false is rest more = rest
+
+-- no row that counts is later than the end of time
+pub latest-most : (count last now : ℕ) (rows : List Row) → now ≤ greatest → latest now (counted count last rows) ≤ greatest
+latest-most count last now rows most = filtered-most count last now (map_of rows) most

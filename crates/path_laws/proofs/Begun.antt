@@ -1,0 +1,90 @@
+-- Permitted commands begin with operations that are held, over servers that are free.
+use Rattle.std.proofs.Common.{◌≡◌, ℕ, Bool, true, false, List, [], ◌∷◌, ◌++◌, refl, Option, Some, None}
+use Rattle.std.specs.Prelude.{map}
+use Rattle.std.specs.Option.{option_to_list}
+use Rattle.orch_base.specs.declared.server.Moment.{Moment}
+use Rattle.orch_base.specs.declared.server.ServerNo.{ServerNo}
+use Rattle.commands.specs.declared.turn.Command.{Command}
+use Rattle.instance_keeper.specs.Book.{BookState}
+use Rattle.book_views.specs.Sources.{replicas_of}
+use Rattle.server_model.specs.Worlds.{World}
+use Rattle.operations.specs.Jobs.{Job, job_with}
+use Rattle.operations.specs.Plans.{finished}
+use Rattle.job_laws.specs.Footing.{footing}
+use Rattle.job_laws.specs.Leases.{Begins, leases_of}
+use Rattle.job_laws.proofs.Planned.{finished-held}
+use Rattle.permission.specs.Checks.{busy, first_refusal, refusal_by, unknown_in, without_log}
+use Rattle.permission.specs.Lists.{first_about}
+use Rattle.permission.specs.Replicas.{replicas_but}
+use Rattle.plan_parts.specs.Parts.{autos, following}
+use Rattle.regroup.specs.Commands.{regroup_command}
+use Rattle.regroup.specs.Permits.{case_of, last_refusal, leased_about, leased_by, leased_in, list_of, moving_list, passed_by, refusal_about, refusal_in, refusal_of, relocate_row, replicas_row, row_of}
+use Rattle.regroup.specs.Plans.{moved_by, ops_of, plan_about, plan_in, plan_of, relocated}
+use Rattle.regroup.specs.declared.command.RegroupCommand.{RegroupCommand}
+use Rattle.regroup.specs.declared.command.RegroupCommand.TheVariants as command
+use Rattle.move_laws.proofs.Beginning.{begins-with, logging}
+use Rattle.move_laws.proofs.Firsts.{each-none, neither}
+use Rattle.move_laws.proofs.Lists.{among-before, autos-held, autos-listed, finished-listed}
+use Rattle.path_laws.proofs.Plans.{among-last, among-middle, each-held, each-listed}
+
+module _ (w : World) (b : BookState) (now : Moment) (jobs : List Job) (id wait : ℕ) where
+  -- servers go below another one that logs
+  moved-begin : (movers : List ServerNo) (d : ServerNo) → first_about (without_log w) (d ∷ []) ≡ None → (gtid : Bool) → w.gtid ≡ gtid
+      → first_about (busy b) (movers ++ d ∷ passed_by gtid b movers (Some d)) ≡ None
+      → Begins w jobs (leases_of b.leases) (movers ++ d ∷ passed_by gtid b movers (Some d)) (job_with id wait (finished (moved_by gtid b movers d) (following movers d)))
+  moved-begin movers d logs true used free =
+      begins-with w b jobs (movers ++ d ∷ []) id wait (finished (autos movers d) (following movers d))
+      (finished-held (footing w []) (autos movers d) (following movers d) (autos-held (footing w []) movers d used (logging w b d [] logs)))
+      (finished-listed (movers ++ d ∷ []) (autos movers d) (following movers d) (autos-listed (movers ++ d ∷ []) movers d (among-before movers (d ∷ [])))) free
+  moved-begin movers d logs false used free =
+      let passed = passed_by false b movers (Some d) in
+      let list = movers ++ d ∷ passed in
+      let ops = moved_by false b movers d in
+      begins-with w b jobs list id wait (finished ops (following movers d))
+      (finished-held (footing w []) ops (following movers d) (each-held (footing w []) b movers d (logging w b d [] logs)))
+      (finished-listed list ops (following movers d)
+      (each-listed list b movers d (among-before movers (d ∷ passed)) (among-middle movers passed d) (among-last movers passed d))) free
+
+  relocated-begin : (movers : List ServerNo) (d : Option ServerNo) → first_about (without_log w) (option_to_list d) ≡ None
+      → first_about (busy b) (moving_list w b movers d) ≡ None
+      → Begins w jobs (leases_of b.leases) (moving_list w b movers d) (job_with id wait (relocated w.gtid b movers d))
+  relocated-begin movers None logs free = begins-with w b jobs (moving_list w b movers None) id wait [] refl refl free
+  relocated-begin movers (Some d) logs free = moved-begin movers d logs w.gtid refl free
+
+  -- the checks that a job stands on
+  abbrev Checked : RegroupCommand → ServerNo → Option ServerNo → Type 0
+  Checked c i d = (first_about (busy b) (list_of w b c i d) ≡ None) × (first_about (without_log w) (option_to_list d) ≡ None)
+
+  one-checked : (i : ServerNo) (d : Option ServerNo) (gtid : Bool) → first_refusal w b (case_of w b command.Relocate i d) (relocate_row gtid) ≡ None
+      → Checked command.Relocate i d
+  one-checked i d true h = let t = each-none (map (refusal_by w b (case_of w b command.Relocate i d)) (relocate_row true)) h in (t.1.0, t.1.1.1.1.1.0)
+  one-checked i d false h = let t = each-none (map (refusal_by w b (case_of w b command.Relocate i d)) (relocate_row false)) h in (t.1.0, t.1.1.1.1.1.1.1.0)
+
+  each-checked : (i : ServerNo) (d : Option ServerNo) (gtid : Bool) → first_refusal w b (case_of w b command.RelocateReplicas i d) (replicas_row gtid) ≡ None
+      → Checked command.RelocateReplicas i d
+  each-checked i d true h = let t = each-none (map (refusal_by w b (case_of w b command.RelocateReplicas i d)) (replicas_row true)) h in (t.1.0, t.1.1.1.1.1.0)
+  each-checked i d false h = let t = each-none (map (refusal_by w b (case_of w b command.RelocateReplicas i d)) (replicas_row false)) h in (t.1.0, t.1.1.1.1.1.0)
+
+  about : (c : RegroupCommand) (i : ServerNo) (d : Option ServerNo) → first_refusal w b (case_of w b c i d) (row_of w.gtid c) ≡ None
+      → Begins w jobs (leases_of b.leases) (list_of w b c i d) (job_with id wait (ops_of w b c i d))
+  about command.Relocate i d h = let t = one-checked i d w.gtid h in relocated-begin (i ∷ []) d t.1 t.0
+  about command.RelocateReplicas i d h = let t = each-checked i d w.gtid h in relocated-begin (replicas_but b i d) d t.1 t.0
+  about command.RegroupReplicas i d h =
+      let t = each-none (map (refusal_by w b (case_of w b command.RegroupReplicas i d)) (row_of w.gtid command.RegroupReplicas)) h in
+      begins-with w b jobs (i ∷ replicas_of b i) id wait [] refl refl t.0
+
+pub permitted-begin : (w : World) (b : BookState) (now : Moment) (jobs : List Job) (given : Command) (id wait : ℕ) → refusal_of w b now given ≡ None
+    → Begins w jobs (leases_of b.leases) (leased_by w b given) (job_with id wait (plan_of w b given))
+permitted-begin w b now jobs given id wait h = go (regroup_command given.name) h
+  where
+    with_i : (c : RegroupCommand) (o : Option ServerNo) → refusal_about w b now c o given.d ≡ None
+        → Begins w jobs (leases_of b.leases) (leased_about w b c o given.d) (job_with id wait (plan_about w b c o given.d))
+    with_i c None h = begins-with w b jobs [] id wait [] refl refl refl
+    with_i c (Some i) h =
+        about w b now jobs id wait c i given.d
+        (neither (first_refusal w b (case_of w b c i given.d) (row_of w.gtid c)) (last_refusal w b now c i given.d) h).0
+
+    go : (c : Option RegroupCommand) → refusal_in w b now given c ≡ None
+        → Begins w jobs (leases_of b.leases) (leased_in w b given c) (job_with id wait (plan_in w b given c))
+    go None h = begins-with w b jobs [] id wait [] refl refl refl
+    go (Some c) h = with_i c given.i (neither (unknown_in b given) (refusal_about w b now c given.i given.d) h).1

@@ -1,0 +1,6 @@
+pub mod Apart
+pub mod Parents
+pub mod Going
+pub mod Plans
+pub mod PlansOf
+pub mod Begun

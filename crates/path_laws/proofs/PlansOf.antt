@@ -1,0 +1,71 @@
+-- The plans of permitted commands.
+use Rattle.std.proofs.Common.{◌≡◌, Bool, true, false, List, [], ◌∷◌, ◌++◌, sym, ◌∙◌, ap, Option, Some, None}
+use Rattle.std.specs.Prelude.{All, IsSome, is_some}
+use Rattle.std.specs.List.{flat_map}
+use Rattle.std.proofs.lemmas.List.{append-nil}
+use Rattle.std.proofs.lemmas.List.Elements.{All-cons, All-nil}
+use Rattle.orch_base.specs.declared.server.Moment.{Moment}
+use Rattle.orch_base.specs.declared.server.ServerNo.{ServerNo}
+use Rattle.commands.specs.declared.line.Line.TheVariants.{Follows}
+use Rattle.commands.specs.declared.name.CommandName.TheVariants as name
+use Rattle.commands.specs.declared.refusal.Refusal.TheVariants as refusal
+use Rattle.instance_keeper.specs.Book.{BookState}
+use Rattle.operations.specs.Plans.{auto, finished}
+use Rattle.operations.specs.declared.op.Op.{Op}
+use Rattle.permission.specs.Checks.{first_refusal, unknown_in}
+use Rattle.permission.specs.Lists.{first_about}
+use Rattle.permission.specs.Replicas.{replicas_but}
+use Rattle.plan_parts.specs.Parts.{autos, following}
+use Rattle.server_model.specs.Worlds.{World}
+use Rattle.regroup.specs.Permits.{astray, case_of, last_refusal, refusal_about, refusal_of, row_of, without_path}
+use Rattle.regroup.specs.Plans.{arrived, plan_of, relocated, travelled}
+use Rattle.regroup.specs.Ways.{Path, path_of}
+use Rattle.regroup.specs.declared.command.RegroupCommand.TheVariants as command
+use Rattle.move_laws.specs.Given.{given}
+use Rattle.move_laws.proofs.Firsts.{given-by, neither}
+
+-- where none is astray, each has a path
+found-each : (b : BookState) (d : ServerNo) (rs : List ServerNo) → first_about (without_path b (Some d)) rs ≡ None → All (λ r. IsSome (path_of b r d)) rs
+found-each b d [] h = All-nil (λ (r : ServerNo). IsSome (path_of b r d))
+found-each b d (r ∷ rs) h =
+    let parts = neither (without_path b (Some d) r) (first_about (without_path b (Some d)) rs) h in
+    let p = given-by (path_of b r d) refusal.NoPath parts.0 in
+    All-cons (λ (n : ServerNo). IsSome (path_of b n d)) r rs (ap is_some p.1) (found-each b d rs parts.1)
+
+by-coordinates : (gtid : Bool) (b : BookState) (rs : List ServerNo) (d : Option ServerNo) → gtid ≡ false → astray gtid b rs d ≡ None → astray false b rs d ≡ None
+by-coordinates gtid b rs d e h = ap (λ g. astray g b rs d) (sym e) ∙ h
+
+pub plan-path : (w : World) (b : BookState) (now : Moment) (i d : ServerNo) → w.gtid ≡ false → refusal_of w b now (given name.Relocate i (Some d)) ≡ None
+    → (p : Path) × (path_of b i d ≡ Some p) × (plan_of w b (given name.Relocate i (Some d)) ≡ finished (arrived i d p.passed p.under) (Follows i d ∷ []))
+plan-path w b now i d e h =
+    let about = (neither (unknown_in b (given name.Relocate i (Some d))) (refusal_about w b now command.Relocate (Some i) (Some d)) h).1 in
+    let last =
+    (neither (first_refusal w b (case_of w b command.Relocate i (Some d)) (row_of w.gtid command.Relocate)) (last_refusal w b now command.Relocate i (Some d)) about).1
+    in
+    let each = by-coordinates w.gtid b (i ∷ []) (Some d) e last in
+    let p = given-by (path_of b i d) refusal.NoPath (neither (without_path b (Some d) i) None each).0 in
+    let way : relocated w.gtid b (i ∷ []) (Some d) ≡ finished (travelled i d (path_of b i d) ++ []) (Follows i d ∷ []) = ap (λ g. relocated g b (i ∷ []) (Some d)) e in
+    let plan = way ∙ ap (λ (ops : List Op). finished ops (Follows i d ∷ [])) (append-nil (travelled i d (path_of b i d)) ∙ ap (travelled i d) p.1) in
+    (p.0, p.1, plan)
+
+pub plan-auto : (w : World) (b : BookState) (i d : ServerNo) → w.gtid ≡ true → plan_of w b (given name.Relocate i (Some d)) ≡ finished (auto i d) (Follows i d ∷ [])
+plan-auto w b i d e = ap (λ g. relocated g b (i ∷ []) (Some d)) e
+
+pub paths-found : (w : World) (b : BookState) (now : Moment) (i d : ServerNo) → w.gtid ≡ false → refusal_of w b now (given name.RelocateReplicas i (Some d)) ≡ None
+    → All (λ r. IsSome (path_of b r d)) (replicas_but b i (Some d))
+paths-found w b now i d e h =
+    let about = (neither (unknown_in b (given name.RelocateReplicas i (Some d))) (refusal_about w b now command.RelocateReplicas (Some i) (Some d)) h).1 in
+    let last =
+    (neither (first_refusal w b (case_of w b command.RelocateReplicas i (Some d)) (row_of w.gtid command.RelocateReplicas)) (last_refusal w b now command.RelocateReplicas i (Some d))
+    about).1
+    in
+    found-each b d (replicas_but b i (Some d)) (by-coordinates w.gtid b (replicas_but b i (Some d)) (Some d) e last)
+
+pub plan-paths : (w : World) (b : BookState) (i d : ServerNo) → w.gtid ≡ false
+    → plan_of w b (given name.RelocateReplicas i (Some d))
+    ≡ finished (flat_map (λ r. travelled r d (path_of b r d)) (replicas_but b i (Some d))) (following (replicas_but b i (Some d)) d)
+plan-paths w b i d e = ap (λ g. relocated g b (replicas_but b i (Some d)) (Some d)) e
+
+pub plan-autos : (w : World) (b : BookState) (i d : ServerNo) → w.gtid ≡ true
+    → plan_of w b (given name.RelocateReplicas i (Some d)) ≡ finished (autos (replicas_but b i (Some d)) d) (following (replicas_but b i (Some d)) d)
+plan-autos w b i d e = ap (λ g. relocated g b (replicas_but b i (Some d)) (Some d)) e

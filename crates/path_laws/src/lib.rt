@@ -1,0 +1,11 @@
+//! Laws of the commands that take servers below another one by whatever path: a permitted command's job may begin, and
+//! has its whole plan, by the ways that the book's forest has.
+#![tactic(auto)]
+
+mod begins;
+mod planned;
+mod ways;
+
+pub use begins::permitted_relocations_begin;
+pub use planned::permitted_relocations_have_plans;
+pub use ways::{ways_climb, ways_do_not_come_back, ways_go_where_the_forest_does};

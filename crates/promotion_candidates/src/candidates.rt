@@ -1,0 +1,46 @@
+//! Which replicas may be promoted.
+
+ghost use Rattle.std.specs.Prelude.{◌≡◌};
+ghost use Rattle.std.specs.List.{list_any};
+ghost use Rattle.instance_keeper.specs.Book.{rule_at};
+ghost use Rattle.promotion_rules.specs.Choice.{is_barred};
+ghost use Rattle.promotion_candidates.specs.Candidates.{is_candidate};
+
+use instance_keeper::Book;
+use orch_base::{Moment, Rule, ServerNo};
+use permission::{has_log, is_valid};
+use server_model::World;
+
+// A number that no server has has no registration.
+fn rule(book: &Book, no: ServerNo, now: Moment) -> Rule
+    ensures { result ≡ rule_at book.now no now }
+{
+    if no.0 < book.servers() {
+        book.rule(no, now)
+    } else {
+        Rule::Neutral
+    }
+}
+
+fn is_barred(rule: Rule) -> bool
+    ensures { result ≡ is_barred rule }
+{
+    match rule {
+        Rule::MustNot => true,
+        Rule::Prefer | Rule::Neutral | Rule::PreferNot => false,
+    }
+}
+
+/// Whether a server may be promoted at a moment: its last reading reached it, it logs, and no rule of promotion bars it.
+pub fn is_candidate(book: &Book, world: &World, no: ServerNo, now: Moment) -> bool
+    ensures { result ≡ is_candidate world.now book.now now no }
+{
+    is_valid(book, no) && has_log(world, no) && !is_barred(rule(book, no, now))
+}
+
+/// Whether one of these servers may be promoted at a moment.
+pub fn has_candidate(book: &Book, world: &World, servers: &[ServerNo], now: Moment) -> bool
+    ensures { result ≡ list_any (is_candidate world.now book.now now) servers.now }
+{
+    servers.iter().any(|no| is_candidate(book, world, *no, now))
+}

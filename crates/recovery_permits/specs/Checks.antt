@@ -1,0 +1,72 @@
+-- Checks of recoveries and takeovers, beside those of the permission table's other rows.
+use Rattle.std.specs.Prelude.{ℕ, Bool, false, ◌&&◌, not, Option, Some, None, Result, Ok, Err, option_map, is_some}
+use Rattle.orch_base.specs.declared.code.Code.{Code}
+use Rattle.orch_base.specs.declared.server.ServerNo.{ServerNo}
+use Rattle.commands.specs.declared.refusal.Refusal.{Refusal}
+use Rattle.commands.specs.declared.refusal.Refusal.TheVariants as refusal
+use Rattle.instance_keeper.specs.Book.{BookState, downtime_at}
+use Rattle.book_views.specs.Sources.{is_replica_of}
+use Rattle.asking_commands.specs.Asking.{label_at}
+use Rattle.audit_log.specs.Audits.{AuditState, may_begin}
+use Rattle.audit_log.specs.declared.held.Held.{Held}
+use Rattle.audit_log.specs.declared.held.Held.TheVariants as held
+use Rattle.failure_analysis.specs.Analysis.{entry_at}
+use Rattle.permission.specs.Checks.{is_given}
+use Rattle.permission.specs.Lists.{only_if}
+use Rattle.permission.specs.Views.{attached_of, has_log, is_valid, same_label, source_of}
+use Rattle.promotion_candidates.specs.Candidates.{has_candidate}
+use Rattle.recovery_permits.specs.declared.attempt.Attempt.{Attempt}
+use Rattle.server_model.specs.Worlds.{World}
+
+-- the code of an instance
+abbrev pub code_at : BookState → ServerNo → Option Code
+code_at b n = option_map (λ e. e.code) (entry_at b n)
+
+-- 21: recoveries are disabled
+abbrev pub disabled : Attempt → Option Refusal
+disabled a = only_if (not a.enabled) refusal.GloballyDisabled
+
+-- 22: the failed server is in downtime
+abbrev pub downtimed : BookState → Attempt → ServerNo → Option Refusal
+downtimed b a f = option_map refusal.Downtimed (downtime_at b f a.now)
+
+-- 23: the filters of such recoveries don't have the cluster
+abbrev pub filtered : Bool → Option Refusal
+filtered passes = only_if (not passes) refusal.FilteredOut
+
+-- 24, 25: another recovery of the cluster holds this one back
+abbrev pub refused_as : Held → Refusal
+refused_as (held.Unended id) = refusal.OpenRecovery id
+refused_as (held.Blocked id until) = refusal.Blocked id until
+
+abbrev pub held_by : Result ℕ Held → Option Refusal
+held_by (Ok id) = None
+held_by (Err h) = Some (refused_as h)
+
+abbrev pub held_back : BookState → AuditState → Attempt → ServerNo → Option Refusal
+held_back b audit a f = held_by (may_begin audit (label_at b f) a.now.0 a.block)
+
+-- 26: none of a master's replicas may be promoted
+abbrev pub without_candidate : World → BookState → Attempt → ServerNo → Option Refusal
+without_candidate w b a f = only_if (not (has_candidate w b a.now f)) refusal.NoCandidate
+
+-- a server can take the replicas of an intermediate master below it, its source: it is a valid instance, logs, is of the
+-- same cluster, and isn't one of them, since the book may show a loop
+abbrev pub can_succeed : World → BookState → ServerNo → ServerNo → Bool
+can_succeed w b f s = is_valid b s && (has_log w s && (same_label w s f && not (is_replica_of b f s)))
+
+abbrev pub has_successor : World → BookState → ServerNo → Option ServerNo → Bool
+has_successor w b f None = false
+has_successor w b f (Some s) = can_succeed w b f s
+
+-- 26: the source of an intermediate master can't
+abbrev pub without_successor : World → BookState → ServerNo → Option Refusal
+without_successor w b f = only_if (not (has_successor w b f (source_of b f))) refusal.NoCandidate
+
+-- 27: a master has no source
+abbrev pub no_master : BookState → ServerNo → Option Refusal
+no_master b i = only_if (is_some (source_of b i)) refusal.NotMaster
+
+-- 28: the server isn't attached to the master
+abbrev pub no_replica : BookState → ServerNo → ServerNo → Option Refusal
+no_replica b i d = only_if (not (is_given i (attached_of b d))) refusal.NotReplica

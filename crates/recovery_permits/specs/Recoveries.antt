@@ -1,0 +1,61 @@
+-- What refuses the recovery of a server, and what it is for.
+use Rattle.std.specs.Prelude.{Bool, List, [], ◌∷◌, Option, Some, None, if◌then◌else◌}
+use Rattle.std.specs.Option.{option_or}
+use Rattle.orch_base.specs.declared.code.Code.{Code}
+use Rattle.orch_base.specs.declared.server.ServerNo.{ServerNo}
+use Rattle.commands.specs.declared.refusal.Refusal.{Refusal}
+use Rattle.commands.specs.declared.refusal.Refusal.TheVariants.{NotActionable, UnknownInstance}
+use Rattle.instance_keeper.specs.Book.{BookState}
+use Rattle.book_views.specs.Sources.{replicas_of}
+use Rattle.audit_log.specs.Audits.{AuditState}
+use Rattle.failure_analysis.specs.Table.{action_of}
+use Rattle.failure_analysis.specs.declared.code.Action.{Action}
+use Rattle.failure_analysis.specs.declared.code.Action.TheVariants.{MasterRecovery, IntermediateRecovery, Nothing}
+use Rattle.permission.specs.Checks.{Case, first_refusal}
+use Rattle.permission.specs.Lists.{first_of}
+use Rattle.permission.specs.Views.{source_of}
+use Rattle.permission.specs.declared.case.Check.TheVariants.{Busy}
+use Rattle.recovery_permits.specs.declared.attempt.Attempt.{Attempt}
+use Rattle.recovery_permits.specs.Checks.{code_at, disabled, downtimed, filtered, held_back, without_candidate, without_successor}
+use Rattle.recovery_plans.specs.declared.purpose.Purpose.{Purpose}
+use Rattle.recovery_plans.specs.declared.purpose.Purpose.TheVariants as purpose
+use Rattle.server_model.specs.Worlds.{World}
+
+-- the servers of which the recovery takes the leases: the failed one and its replicas, in name order
+abbrev pub recovery_list : BookState → ServerNo → List ServerNo
+recovery_list b f = f ∷ replicas_of b f
+
+-- no server is to move, or must be reached
+abbrev pub case_of : BookState → ServerNo → Case
+case_of b f = record { i = f; to = None; leased = recovery_list b f; reached = []; moves = []; sources = [] }
+
+-- 21 to 23: what keeps a recovery from beginning by itself; by hand it begins in spite of these
+abbrev pub unasked : BookState → Attempt → ServerNo → Bool → Option Refusal
+unasked b a f passes = if a.by_hand then None else first_of (disabled a ∷ downtimed b a f ∷ filtered passes ∷ [])
+
+-- 21 to 25: by whether the cluster passes the filters
+abbrev pub held_off : BookState → AuditState → Attempt → ServerNo → Bool → Option Refusal
+held_off b audit a f passes = option_or (unasked b a f passes) (held_back b audit a f)
+
+-- 20 to 26, by what the failed server's code asks for
+abbrev pub refusal_for : World → BookState → AuditState → Attempt → ServerNo → Code → Action → Option Refusal
+refusal_for w b audit a f code Nothing = Some (NotActionable code)
+refusal_for w b audit a f code MasterRecovery = option_or (held_off b audit a f a.by_master) (without_candidate w b a f)
+refusal_for w b audit a f code IntermediateRecovery = option_or (held_off b audit a f a.by_intermediate) (without_successor w b f)
+
+abbrev pub refusal_by : World → BookState → AuditState → Attempt → ServerNo → Option Code → Option Refusal
+refusal_by w b audit a f None = Some UnknownInstance
+refusal_by w b audit a f (Some code) =
+    option_or (first_refusal w b (case_of b f) (Busy ∷ [])) (refusal_for w b audit a f code (action_of code))
+
+-- the refusal with the lowest number that applies to the recovery of a server
+abbrev pub recovery_refusal : World → BookState → AuditState → Attempt → ServerNo → Option Refusal
+recovery_refusal w b audit a f = refusal_by w b audit a f (code_at b f)
+
+-- what a recovery is for, by whether the failed server has a source
+abbrev pub purpose_by : Option ServerNo → Purpose
+purpose_by None = purpose.Master
+purpose_by (Some s) = purpose.Intermediate s
+
+abbrev pub recovery_purpose : BookState → ServerNo → Purpose
+recovery_purpose b f = purpose_by (source_of b f)

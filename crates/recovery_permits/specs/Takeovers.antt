@@ -1,0 +1,45 @@
+-- What refuses the takeover of a master's place by a replica.
+use Rattle.std.specs.Prelude.{Bool, ◌==◌, ◌&&◌, ◌||◌, not, List, [], ◌∷◌, filter, Option, Some}
+use Rattle.orch_base.specs.declared.server.ServerNo.{ServerNo}
+use Rattle.commands.specs.declared.refusal.Refusal.{Refusal}
+use Rattle.commands.specs.declared.refusal.Refusal.TheVariants.{UnknownInstance}
+use Rattle.instance_keeper.specs.Book.{BookState}
+use Rattle.name_order.specs.NameOrder.{by_name}
+use Rattle.book_views.specs.Sources.{is_instance, is_replica_of}
+use Rattle.audit_log.specs.Audits.{AuditState}
+use Rattle.permission.specs.Checks.{Case, first_refusal}
+use Rattle.permission.specs.Lists.{first_of, moves_to, only_if}
+use Rattle.permission.specs.declared.case.Check.{Check}
+use Rattle.permission.specs.declared.case.Check.TheVariants.{Busy, DestNotLogging, SameInstance, SameServerId, Unreachable, VersionLower}
+use Rattle.recovery_permits.specs.declared.attempt.Attempt.{Attempt}
+use Rattle.recovery_permits.specs.Checks.{held_back, no_master, no_replica}
+use Rattle.recovery_permits.specs.Recoveries.{recovery_list}
+use Rattle.server_model.specs.Worlds.{World}
+
+-- the servers that come below the designated one: the master and its other replicas
+abbrev pub comes_below : BookState → ServerNo → ServerNo → ServerNo → Bool
+comes_below b i d n = not (n.0 == d.0) && ((n.0 == i.0) || is_replica_of b i n)
+
+-- in name order
+abbrev pub followers_of : BookState → ServerNo → ServerNo → List ServerNo
+followers_of b i d = filter (comes_below b i d) (by_name b.names)
+
+abbrev pub case_of : BookState → ServerNo → ServerNo → Case
+case_of b i d = record {
+  i = i;
+  to = Some d;
+  leased = recovery_list b i;
+  reached = i ∷ d ∷ [];
+  moves = moves_to (followers_of b i d) (Some d);
+  sources = d ∷ [];
+}
+
+abbrev pub row : List Check
+row = SameInstance ∷ Busy ∷ Unreachable ∷ DestNotLogging ∷ SameServerId ∷ VersionLower ∷ []
+
+-- the refusal with the lowest number that applies to the takeover of a master's place
+abbrev pub takeover_refusal : World → BookState → AuditState → Attempt → ServerNo → ServerNo → Option Refusal
+takeover_refusal w b audit a i d =
+    first_of (only_if (not (is_instance b i && is_instance b d)) UnknownInstance
+    ∷ first_refusal w b (case_of b i d) row
+    ∷ held_back b audit a i ∷ no_master b i ∷ no_replica b i d ∷ [])

@@ -1,0 +1,20 @@
+//! A recovery that is tried.
+
+use orch_base::Moment;
+
+/// What is known of an attempt to begin a recovery, beside the book, the audit and the servers' settings.
+#[derive(Clone, Copy, Debug, PartialEq, Eq)]
+pub struct Attempt {
+    /// Whether the failed server's cluster passes the filters of recoveries of masters.
+    pub by_master: bool,
+    /// Whether it passes those of recoveries of intermediate masters.
+    pub by_intermediate: bool,
+    /// Whether recoveries are enabled.
+    pub enabled: bool,
+    /// Whether an operator asks for it: then the switch, downtimes and filters make no difference.
+    pub by_hand: bool,
+    /// How long a recovery that isn't acknowledged blocks others of its cluster, in seconds.
+    pub block: u64,
+    /// The present moment.
+    pub now: Moment,
+}

@@ -1,0 +1,133 @@
+//! Single checks, each with the refusal of one that doesn't pass.
+
+ghost use Rattle.std.specs.Prelude.{◌≡◌, ◌<◌, ◌≤◌, ◌^◌, All, IfOk, length};
+ghost use Rattle.book_views.specs.Sources.{is_replica_of};
+ghost use Rattle.recovery_permits.specs.Checks.{can_succeed, disabled, downtimed, filtered, has_successor, held_back, no_master, no_replica, refused_as, without_candidate, without_successor};
+
+use crate::{Attempt, Memory};
+use audit_log::{Audit, Held};
+use book_views::replicas;
+use commands::Refusal;
+use instance_keeper::Book;
+use orch_base::ServerNo;
+use permission::{attached_to, has_log, is_valid, same_label, source};
+use promotion_candidates::has_candidate;
+use server_model::World;
+use std::alloc::Global;
+
+pub(crate) fn disabled(attempt: Attempt) -> Option<Refusal>
+    ensures { result ≡ disabled attempt }
+{
+    if attempt.enabled {
+        None
+    } else {
+        Some(Refusal::GloballyDisabled)
+    }
+}
+
+pub(crate) fn downtimed(book: &Book, attempt: Attempt, failed: ServerNo) -> Option<Refusal>
+    requires { failed.0 < length book.now.names }
+    ensures { result ≡ downtimed book.now attempt failed }
+{
+    book.downtime(failed, attempt.now).map(Refusal::Downtimed)
+}
+
+pub(crate) fn filtered(passes: bool) -> Option<Refusal>
+    ensures { result ≡ filtered passes }
+{
+    if passes {
+        None
+    } else {
+        Some(Refusal::FilteredOut)
+    }
+}
+
+fn refused_as(held: Held) -> Refusal
+    ensures { result ≡ refused_as held }
+{
+    match held {
+        Held::Unended(id) => Refusal::OpenRecovery(id),
+        Held::Blocked { id, until } => Refusal::Blocked(id, until),
+    }
+}
+
+pub(crate) fn held_back(
+    book: &Book,
+    audit: &Audit,
+    attempt: Attempt,
+    failed: ServerNo,
+) -> Option<Refusal>
+    requires server { failed.0 < length book.now.names }
+    requires begun { All (λ r. r.begun.0 ≤ 2 ^ 63) audit.now.audit.recoveries }
+    requires block { attempt.block ≤ 1000000000 }
+    ensures { result ≡ held_back book.now audit.now.audit attempt failed }
+{
+    let cluster = book.settings(failed).cluster.as_str();
+    match audit.may_begin(cluster, attempt.now, attempt.block) {
+        Ok(_) => None,
+        Err(held) => Some(refused_as(held)),
+    }
+}
+
+pub(crate) fn without_candidate(
+    alloc: Global,
+    book: &Book,
+    world: &World,
+    attempt: Attempt,
+    failed: ServerNo,
+) -> Result<Option<Refusal>, Memory>
+    ensures { IfOk result (λ r. r ≡ without_candidate world.now book.now attempt failed) }
+{
+    let list = replicas(alloc, book, failed)?;
+    Ok(if has_candidate(book, world, &list, attempt.now) {
+        None
+    } else {
+        Some(Refusal::NoCandidate)
+    })
+}
+
+fn can_succeed(book: &Book, world: &World, failed: ServerNo, no: ServerNo) -> bool
+    ensures { result ≡ can_succeed world.now book.now failed no }
+{
+    is_valid(book, no)
+        && has_log(world, no)
+        && same_label(world, no, failed)
+        && !is_replica_of(book, failed, no)
+}
+
+pub(crate) fn without_successor(book: &Book, world: &World, failed: ServerNo) -> Option<Refusal>
+    ensures { result ≡ without_successor world.now book.now failed }
+{
+    match source(book, failed) {
+        Some(no) if can_succeed(book, world, failed, no) => None,
+        Some(_) | None => Some(Refusal::NoCandidate),
+    }
+}
+
+pub(crate) fn no_master(book: &Book, i: ServerNo) -> Option<Refusal>
+    ensures { result ≡ no_master book.now i }
+{
+    match source(book, i) {
+        Some(_) => Some(Refusal::NotMaster),
+        None => None,
+    }
+}
+
+pub(crate) fn is_replica_of(book: &Book, i: ServerNo, no: ServerNo) -> bool
+    ensures { result ≡ is_replica_of book.now i no }
+{
+    match attached_to(book, no) {
+        Some(source) => source.0 == i.0,
+        None => false,
+    }
+}
+
+pub(crate) fn no_replica(book: &Book, i: ServerNo, d: ServerNo) -> Option<Refusal>
+    ensures { result ≡ no_replica book.now i d }
+{
+    if is_replica_of(book, i, d) {
+        None
+    } else {
+        Some(Refusal::NotReplica)
+    }
+}

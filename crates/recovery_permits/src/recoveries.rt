@@ -1,0 +1,179 @@
+//! The row of recoveries.
+
+ghost use Rattle.std.specs.Prelude.{◌≡◌, ◌<◌, ◌≤◌, ◌^◌, All, IfOk, length};
+ghost use Rattle.orch_base.specs.Gives.{Gives};
+ghost use Rattle.book_views.specs.Forests.{book_forest};
+ghost use Rattle.failure_analysis.specs.Table.{action_of};
+ghost use Rattle.permission.specs.Checks.{permit_fault, permitted};
+ghost use Rattle.recovery_permits.specs.Checks.{code_at};
+ghost use Rattle.recovery_permits.specs.Recoveries.{case_of, held_off, purpose_by, recovery_list, recovery_purpose, recovery_refusal, refusal_by, refusal_for, unasked};
+
+use crate::checks::{
+    disabled, downtimed, filtered, held_back, without_candidate, without_successor,
+};
+use crate::{Attempt, Memory, PermitFault};
+use audit_log::Audit;
+use book_views::replicas;
+use commands::Refusal;
+use failure_analysis::{Action, actionable};
+use instance_keeper::Book;
+use orch_base::{Code, ServerNo};
+use permission::{Case, Check, answered, first_refusal, source};
+use recovery_plans::Purpose;
+use server_model::World;
+use std::alloc::Global;
+use topology_tree::Forest;
+
+/// The servers of which the recovery of a server, or the takeover of its place, takes the leases: it and its replicas,
+/// these in name order. `Err` is want of memory.
+pub fn recovery_servers(
+    alloc: Global,
+    book: &Book,
+    failed: ServerNo,
+) -> Result<Vec<ServerNo>, Memory>
+    ensures { IfOk result (λ list. list.items ≡ recovery_list book.now failed) }
+{
+    let mut list = Vec::new(alloc);
+    list.push(failed)?;
+    list.append(&mut replicas(alloc, book, failed)?)?;
+    Ok(list)
+}
+
+fn case_of(alloc: Global, book: &Book, failed: ServerNo) -> Result<Case, Memory>
+    ensures { IfOk result (λ c. c ≡ case_of book.now failed) }
+{
+    Ok(Case::new(
+        failed,
+        None,
+        recovery_servers(alloc, book, failed)?,
+        Vec::new(alloc),
+        Vec::new(alloc),
+        Vec::new(alloc),
+    ))
+}
+
+// What keeps a recovery from beginning by itself.
+fn unasked(book: &Book, attempt: Attempt, failed: ServerNo, passes: bool) -> Option<Refusal>
+    requires { failed.0 < length book.now.names }
+    ensures { result ≡ unasked book.now attempt failed passes }
+{
+    if attempt.by_hand {
+        return None;
+    }
+    disabled(attempt)
+        .or_else(|| downtimed(book, attempt, failed))
+        .or_else(|| filtered(passes))
+}
+
+// What keeps the recovery of a server from beginning, by whether its cluster passes the filters.
+fn held_off(
+    book: &Book,
+    audit: &Audit,
+    attempt: Attempt,
+    failed: ServerNo,
+    passes: bool,
+) -> Option<Refusal>
+    requires server { failed.0 < length book.now.names }
+    requires begun { All (λ r. r.begun.0 ≤ 2 ^ 63) audit.now.audit.recoveries }
+    requires block { attempt.block ≤ 1000000000 }
+    ensures { result ≡ held_off book.now audit.now.audit attempt failed passes }
+{
+    match unasked(book, attempt, failed, passes) {
+        Some(refusal) => Some(refusal),
+        None => held_back(book, audit, attempt, failed),
+    }
+}
+
+// The refusal of the first check that doesn't pass, by what the failed server's code asks for.
+fn refusal_for(
+    alloc: Global,
+    book: &Book,
+    world: &World,
+    audit: &Audit,
+    attempt: Attempt,
+    failed: ServerNo,
+    code: Code,
+) -> Result<Option<Refusal>, Memory>
+    requires server { failed.0 < length book.now.names }
+    requires begun { All (λ r. r.begun.0 ≤ 2 ^ 63) audit.now.audit.recoveries }
+    requires block { attempt.block ≤ 1000000000 }
+    ensures { IfOk result (λ r. r ≡ refusal_for world.now book.now audit.now.audit attempt failed
+        code (action_of code)) }
+{
+    match actionable(code) {
+        Action::Nothing => Ok(Some(Refusal::NotActionable(code))),
+        Action::MasterRecovery => {
+            match held_off(book, audit, attempt, failed, attempt.by_master) {
+                Some(refusal) => Ok(Some(refusal)),
+                None => without_candidate(alloc, book, world, attempt, failed),
+            }
+        }
+        Action::IntermediateRecovery => {
+            match held_off(book, audit, attempt, failed, attempt.by_intermediate) {
+                Some(refusal) => Ok(Some(refusal)),
+                None => Ok(without_successor(book, world, failed)),
+            }
+        }
+    }
+}
+
+fn refusal_by(
+    alloc: Global,
+    book: &Book,
+    forest: &Forest,
+    world: &World,
+    audit: &Audit,
+    attempt: Attempt,
+    failed: ServerNo,
+    code: Option<Code>,
+) -> Result<Option<Refusal>, Memory>
+    requires server { failed.0 < length book.now.names }
+    requires forest { forest.now ≡ book_forest book.now }
+    requires begun { All (λ r. r.begun.0 ≤ 2 ^ 63) audit.now.audit.recoveries }
+    requires block { attempt.block ≤ 1000000000 }
+    ensures { IfOk result (λ r. r ≡ refusal_by world.now book.now audit.now.audit attempt
+        failed code) }
+{
+    let Some(code) = code else {
+        return Ok(Some(Refusal::UnknownInstance));
+    };
+    let case = case_of(alloc, book, failed)?;
+    match first_refusal(alloc, book, forest, world, &case, &[Check::Busy])? {
+        Some(refusal) => Ok(Some(refusal)),
+        None => refusal_for(alloc, book, world, audit, attempt, failed, code),
+    }
+}
+
+/// Refuses the recovery of a server, by its code, with the refusal of the lowest number that applies. It goes by the
+/// book, the audit, the servers' settings and the moment, and changes nothing. Moments are at most 2^63, and a block
+/// period at most 1,000,000,000 seconds. `Memory` comes only for want of memory.
+pub fn permit_recovery(
+    alloc: Global,
+    book: &Book,
+    forest: &Forest,
+    world: &World,
+    audit: &Audit,
+    attempt: Attempt,
+    failed: ServerNo,
+    code: Option<Code>,
+) -> Result<(), PermitFault>
+    requires server { failed.0 < length book.now.names }
+    requires forest { forest.now ≡ book_forest book.now }
+    requires code { code ≡ code_at book.now failed }
+    requires begun { All (λ r. r.begun.0 ≤ 2 ^ 63) audit.now.audit.recoveries }
+    requires block { attempt.block ≤ 1000000000 }
+    ensures { Gives (λ _. tt) permit_fault result (permitted (recovery_refusal world.now book.now
+        audit.now.audit attempt failed)) }
+{
+    answered(refusal_by(alloc, book, forest, world, audit, attempt, failed, code)?)
+}
+
+/// What the recovery of a server is for: its place is taken, or, where it has a source, its replicas go below that.
+pub fn recovery_purpose(book: &Book, failed: ServerNo) -> Purpose
+    ensures { result ≡ recovery_purpose book.now failed }
+{
+    match source(book, failed) {
+        None => Purpose::Master,
+        Some(source) => Purpose::Intermediate(source),
+    }
+}

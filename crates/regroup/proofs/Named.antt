@@ -1,0 +1,172 @@
+-- The operations of a plan, and the leases, are of the book's servers, where the command's instances are.
+use Rattle.std.proofs.Common.{◌≡◌, ℕ, ◌<◌, Bool, true, false, List, [], ◌∷◌, ◌++◌, length, refl, subst, Option, Some, None, zero, suc}
+use Rattle.std.specs.Prelude.{All, IfSome, IsTrue, if◌then◌else◌, nat_lt, option_and_then, option_map, slice_get, ◌==◌}
+use Rattle.std.specs.List.{flat_map}
+use Rattle.std.specs.Option.{option_to_list}
+use Rattle.std.proofs.lemmas.List.Elements.{All-append, All-head, All-tail}
+use Rattle.std.proofs.lemmas.Option.{same_Some}
+use Rattle.orch_base.specs.declared.server.ServerNo.{ServerNo}
+use Rattle.commands.specs.Turns.{is_within}
+use Rattle.commands.specs.declared.turn.Command.{Command}
+use Rattle.instance_keeper.specs.Book.{BookState}
+use Rattle.book_views.specs.Forests.{book_forest, node_at, parent_of, server_at}
+use Rattle.book_views.specs.Sources.{replicas_of}
+use Rattle.book_views.proofs.Reading.{placed-within}
+use Rattle.name_order.specs.NameOrder.{by_name}
+use Rattle.topology_tree.specs.Forests.{above}
+use Rattle.operations.specs.Named.{are_named}
+use Rattle.operations.specs.Plans.{under, up}
+use Rattle.permission.specs.Replicas.{replicas_but}
+use Rattle.permission.proofs.Within.{AllWithin, Within, but-within, cons-within, given-within, none-within, option-within, replicas-within}
+use Rattle.plan_parts.specs.Parts.{following}
+use Rattle.plan_parts.proofs.Named.{again-named, autos-named, finished-named, joined-named, under-named, up-named}
+use Rattle.server_model.specs.Worlds.{World}
+use Rattle.regroup.specs.Commands.{regroup_command}
+use Rattle.regroup.specs.Permits.{leased_about, leased_by, leased_in, list_of, moving_list, passed_by}
+use Rattle.regroup.specs.Plans.{arrived, ascended, climbed, moved_by, next_of, ops_of, plan_about, plan_in, plan_of, relocated, travelled}
+use Rattle.regroup.specs.Ways.{Path, parent_at, passed_in, path_of, path_to, way_in, way_on, way_up}
+use Rattle.regroup.specs.declared.command.RegroupCommand.{RegroupCommand}
+use Rattle.regroup.specs.declared.command.RegroupCommand.TheVariants as command
+use Rattle.regroup.proofs.Climbing.{passed-to}
+
+-- ---- what is passed
+
+placed : (b : BookState) (o : Option ℕ) → Within b (option_and_then (server_at b) o)
+placed b None = tt
+placed b (Some k) = go (slice_get (by_name b.names) k) refl
+  where
+    go : (s : Option ServerNo) → slice_get (by_name b.names) k ≡ s → Within b s
+    go None e = tt
+    go (Some s) e = placed-within b.names (by_name b.names) k s refl e
+
+parent-within : (b : BookState) (at : ServerNo) → Within b (parent_at b at)
+parent-within b at = go (nat_lt at.0 (length b.names))
+  where
+    go : (t : Bool) → Within b (if t then parent_of b at else None)
+    go true = placed b (above (book_forest b) (node_at b at))
+    go false = tt
+
+abbrev WayWithin : BookState → Option (List ServerNo) → Type 0
+WayWithin b o = IfSome o (AllWithin b)
+
+further : (b : BookState) (p : ServerNo) → p.0 < length b.names → (t : Bool) (o : Option (List ServerNo)) → WayWithin b o
+    → WayWithin b (if t then Some [] else option_map (λ passed. p ∷ passed) o)
+further b p at_p true o h = none-within b
+further b p at_p false None h = tt
+further b p at_p false (Some xs) h = cons-within b p xs at_p h
+
+way-within : (b : BookState) (to : ServerNo) (n : ℕ) (at : ServerNo) → WayWithin b (way_in (parent_at b) to n at)
+way-within b to zero at = tt
+way-within b to (suc n) at = go (parent_at b at) (parent-within b at) (λ p. way-within b to n p)
+  where
+    go : (o : Option ServerNo) → Within b o → ((p : ServerNo) → WayWithin b (way_in (parent_at b) to n p)) → WayWithin b (way_on (way_in (parent_at b) to n) to o)
+    go None at_o rest = tt
+    go (Some p) at_o rest = further b p at_o (p.0 == to.0) (way_in (parent_at b) to n p) (rest p)
+
+known-way : (b : BookState) (n to : ServerNo) (xs : List ServerNo) → way_up b n to ≡ Some xs → AllWithin b xs
+known-way b n to xs e = go (way_up b n to) (way-within b to (length b.names) n) e
+  where
+    go : (o : Option (List ServerNo)) → WayWithin b o → o ≡ Some xs → AllWithin b xs
+    go None at e = cc
+    go (Some ys) at e = subst (AllWithin b) (same_Some ys xs e) at
+
+passed-within : (b : BookState) (d : Option ServerNo) (n : ServerNo) → AllWithin b (passed_in (path_to b d n))
+passed-within b d n = passed-to (AllWithin b) b n (none-within b) (known-way b n) d
+
+all-passed-within : (b : BookState) (d : Option ServerNo) (movers : List ServerNo) → AllWithin b (flat_map (λ n. passed_in (path_to b d n)) movers)
+all-passed-within b d [] = none-within b
+all-passed-within b d (n ∷ ns) =
+    All-append (λ (m : ServerNo). m.0 < length b.names) (passed_in (path_to b d n)) (flat_map (λ m. passed_in (path_to b d m)) ns)
+    (passed-within b d n) (all-passed-within b d ns)
+
+-- ---- operations
+
+module _ (count : ℕ) where
+  abbrev Below : ServerNo → Type 0
+  Below n = n.0 < count
+
+  climbed-named : (n : ServerNo) (xs : List ServerNo) (to : ServerNo) → Below n → All Below xs → are_named count (climbed n xs to) ≡ true
+  climbed-named n [] to at_n below = refl
+  climbed-named n (x ∷ xs) to at_n below =
+      joined-named count (up n x (next_of xs to)) (climbed n xs to) (up-named count n x (next_of xs to) at_n (All-head Below x xs below))
+      (climbed-named n xs to at_n (All-tail Below x xs below))
+
+  ascended-named : (n d : ServerNo) (xs : List ServerNo) → Below n → All Below xs → are_named count (ascended n d xs) ≡ true
+  ascended-named n d [] at_n below = again-named count n d at_n
+  ascended-named n d (x ∷ xs) at_n below = climbed-named n (x ∷ xs) d at_n below
+
+  arrived-named : (n d : ServerNo) (xs : List ServerNo) (o : Option ServerNo) → Below n → Below d → All Below xs → are_named count (arrived n d xs o) ≡ true
+  arrived-named n d xs None at_n at_d below = ascended-named n d xs at_n below
+  arrived-named n d xs (Some s) at_n at_d below =
+      joined-named count (climbed n xs s) (under n d s) (climbed-named n xs s at_n below) (under-named count n d s at_n at_d)
+
+  travelled-named : (n d : ServerNo) (o : Option Path) → Below n → Below d → All Below (passed_in o) → are_named count (travelled n d o) ≡ true
+  travelled-named n d None at_n at_d below = refl
+  travelled-named n d (Some p) at_n at_d below = arrived-named n d p.passed p.under at_n at_d below
+
+module _ (b : BookState) where
+  each-named : (movers : List ServerNo) (d : ServerNo) → AllWithin b movers → d.0 < length b.names
+      → are_named (length b.names) (flat_map (λ n. travelled n d (path_of b n d)) movers) ≡ true
+  each-named [] d at_movers at_d = refl
+  each-named (n ∷ ns) d at_movers at_d =
+      joined-named (length b.names) (travelled n d (path_of b n d)) (flat_map (λ m. travelled m d (path_of b m d)) ns)
+      (travelled-named (length b.names) n d (path_of b n d) (All-head (λ (m : ServerNo). m.0 < length b.names) n ns at_movers) at_d (passed-within b (Some d) n))
+      (each-named ns d (All-tail (λ (m : ServerNo). m.0 < length b.names) n ns at_movers) at_d)
+
+  moved-named : (gtid : Bool) (movers : List ServerNo) (d : ServerNo) → AllWithin b movers → d.0 < length b.names
+      → are_named (length b.names) (moved_by gtid b movers d) ≡ true
+  moved-named true movers d at_movers at_d = autos-named (length b.names) movers d at_movers at_d
+  moved-named false movers d at_movers at_d = each-named movers d at_movers at_d
+
+  relocated-named : (gtid : Bool) (movers : List ServerNo) (d : Option ServerNo) → AllWithin b movers → Within b d
+      → are_named (length b.names) (relocated gtid b movers d) ≡ true
+  relocated-named gtid movers None at_movers at_d = refl
+  relocated-named gtid movers (Some d) at_movers at_d =
+      finished-named (length b.names) (moved_by gtid b movers d) (following movers d) (moved-named gtid movers d at_movers at_d)
+
+  ops-named : (w : World) (c : RegroupCommand) (i : ServerNo) (d : Option ServerNo) → i.0 < length b.names → Within b d
+      → are_named (length b.names) (ops_of w b c i d) ≡ true
+  ops-named w command.Relocate i d at_i at_d = relocated-named w.gtid (i ∷ []) d (cons-within b i [] at_i (none-within b)) at_d
+  ops-named w command.RelocateReplicas i d at_i at_d = relocated-named w.gtid (replicas_but b i d) d (but-within b i d) at_d
+  ops-named w command.RegroupReplicas i d at_i at_d = refl
+
+  about-named : (w : World) (c : RegroupCommand) (i d : Option ServerNo) → Within b i → Within b d → are_named (length b.names) (plan_about w b c i d) ≡ true
+  about-named w c None d at_i at_d = refl
+  about-named w c (Some i) d at_i at_d = ops-named w c i d at_i at_d
+
+  in-named : (w : World) (command : Command) (c : Option RegroupCommand) → Within b command.i → Within b command.d
+      → are_named (length b.names) (plan_in w b command c) ≡ true
+  in-named w command None at_i at_d = refl
+  in-named w command (Some c) at_i at_d = about-named w c command.i command.d at_i at_d
+
+pub plan-named : (w : World) (b : BookState) (command : Command) → IsTrue (is_within (length b.names) command.i) → IsTrue (is_within (length b.names) command.d)
+    → are_named (length b.names) (plan_of w b command) ≡ true
+plan-named w b command at_i at_d = in-named b w command (regroup_command command.name) (given-within b command.i at_i) (given-within b command.d at_d)
+
+-- ---- leases
+
+passed-by-within : (b : BookState) (gtid : Bool) (movers : List ServerNo) (d : Option ServerNo) → AllWithin b (passed_by gtid b movers d)
+passed-by-within b true movers d = none-within b
+passed-by-within b false movers d = all-passed-within b d movers
+
+moving-within : (w : World) (b : BookState) (movers : List ServerNo) (d : Option ServerNo) → AllWithin b movers → Within b d → AllWithin b (moving_list w b movers d)
+moving-within w b movers d at_movers at_d =
+    All-append (λ (m : ServerNo). m.0 < length b.names) movers (option_to_list d ++ passed_by w.gtid b movers d) at_movers
+    (All-append (λ (m : ServerNo). m.0 < length b.names) (option_to_list d) (passed_by w.gtid b movers d) (option-within b d at_d) (passed-by-within b w.gtid movers d))
+
+list-within : (w : World) (b : BookState) (c : RegroupCommand) (i : ServerNo) (d : Option ServerNo) → i.0 < length b.names → Within b d → AllWithin b (list_of w b c i d)
+list-within w b command.Relocate i d at_i at_d = moving-within w b (i ∷ []) d (cons-within b i [] at_i (none-within b)) at_d
+list-within w b command.RelocateReplicas i d at_i at_d = moving-within w b (replicas_but b i d) d (but-within b i d) at_d
+list-within w b command.RegroupReplicas i d at_i at_d = cons-within b i (replicas_of b i) at_i (replicas-within b i)
+
+about-within : (w : World) (b : BookState) (c : RegroupCommand) (i d : Option ServerNo) → Within b i → Within b d → AllWithin b (leased_about w b c i d)
+about-within w b c None d at_i at_d = none-within b
+about-within w b c (Some i) d at_i at_d = list-within w b c i d at_i at_d
+
+in-within : (w : World) (b : BookState) (command : Command) (c : Option RegroupCommand) → Within b command.i → Within b command.d → AllWithin b (leased_in w b command c)
+in-within w b command None at_i at_d = none-within b
+in-within w b command (Some c) at_i at_d = about-within w b c command.i command.d at_i at_d
+
+pub leases-within : (w : World) (b : BookState) (command : Command) → IsTrue (is_within (length b.names) command.i) → IsTrue (is_within (length b.names) command.d)
+    → All (λ n. n.0 < length b.names) (leased_by w b command)
+leases-within w b command at_i at_d = in-within w b command (regroup_command command.name) (given-within b command.i at_i) (given-within b command.d at_d)

@@ -1,0 +1,8 @@
+use Rattle.std.proofs.Common.{◌≡◌, take}
+use Rattle.std.specs.List.{flat_map}
+use Rattle.regroup.specs.Plans.{travelled}
+use Rattle.regroup.specs.Ways.{path_of}
+use Rattle.regroup.proofs.plans.moved_by.Given as goal
+
+abbrev pub invariant-loop-no : goal.invariant-loop-no
+invariant-loop-no l = l.ops.items ≡ flat_map (λ n. travelled n l.d (path_of l.book n l.d)) (take l.no-index l.movers)

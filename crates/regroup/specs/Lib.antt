@@ -1,0 +1,4 @@
+pub mod Commands
+pub mod Ways
+pub mod Permits
+pub mod Plans

@@ -1,0 +1,122 @@
+-- What refuses these commands: the rows of the permission table, and what their checks are about.
+use Rattle.std.specs.Prelude.{Bool, true, false, not, is_some, List, [], ◌∷◌, ◌++◌, Option, Some, None}
+use Rattle.std.specs.List.{flat_map}
+use Rattle.std.specs.Option.{option_or, option_to_list}
+use Rattle.orch_base.specs.declared.server.Moment.{Moment}
+use Rattle.orch_base.specs.declared.server.ServerNo.{ServerNo}
+use Rattle.commands.specs.declared.refusal.Refusal.{Refusal}
+use Rattle.commands.specs.declared.refusal.Refusal.TheVariants.{NoCandidate, NoPath}
+use Rattle.commands.specs.declared.turn.Command.{Command}
+use Rattle.instance_keeper.specs.Book.{BookState}
+use Rattle.book_views.specs.Sources.{replicas_of}
+use Rattle.promotion_candidates.specs.Candidates.{has_candidate}
+use Rattle.server_model.specs.Worlds.{World}
+use Rattle.permission.specs.Checks.{Case, first_refusal, unknown_in}
+use Rattle.permission.specs.Lists.{first_about, moves_to, only_if}
+use Rattle.permission.specs.Replicas.{replicas_but}
+use Rattle.permission.specs.declared.case.Check.{Check}
+use Rattle.permission.specs.declared.case.Check.TheVariants.{SameInstance, Busy, Unreachable, NoSource, AlreadyDetached, OtherCluster, Below, DestNotLogging, SameServerId, VersionLower, GtidOff, Errant}
+use Rattle.regroup.specs.declared.command.RegroupCommand.{RegroupCommand}
+use Rattle.regroup.specs.declared.command.RegroupCommand.TheVariants as command
+use Rattle.regroup.specs.Commands.{regroup_command}
+use Rattle.regroup.specs.Ways.{passed_in, path_to}
+
+abbrev pub relocate_row : Bool → List Check
+relocate_row true = SameInstance ∷ Busy ∷ Unreachable ∷ OtherCluster ∷ Below ∷ DestNotLogging ∷ SameServerId ∷ VersionLower ∷ GtidOff ∷ Errant ∷ []
+relocate_row false = SameInstance ∷ Busy ∷ Unreachable ∷ NoSource ∷ AlreadyDetached ∷ OtherCluster ∷ Below ∷ DestNotLogging ∷ SameServerId ∷ VersionLower ∷ []
+
+abbrev pub replicas_row : Bool → List Check
+replicas_row true = SameInstance ∷ Busy ∷ Unreachable ∷ OtherCluster ∷ Below ∷ DestNotLogging ∷ SameServerId ∷ VersionLower ∷ Errant ∷ []
+replicas_row false = SameInstance ∷ Busy ∷ Unreachable ∷ OtherCluster ∷ Below ∷ DestNotLogging ∷ SameServerId ∷ VersionLower ∷ []
+
+-- the row of a command, behind the check that its instances are known and before its last one, by whether the servers
+-- use GTIDs
+abbrev pub row_of : Bool → RegroupCommand → List Check
+row_of gtid command.Relocate = relocate_row gtid
+row_of gtid command.RelocateReplicas = replicas_row gtid
+row_of gtid command.RegroupReplicas = Busy ∷ []
+
+-- the new source, by the destination that is given
+abbrev pub target_of : RegroupCommand → Option ServerNo → Option ServerNo
+target_of command.Relocate d = d
+target_of command.RelocateReplicas d = d
+target_of command.RegroupReplicas d = None
+
+-- the servers that move, by name
+abbrev pub movers_of : BookState → RegroupCommand → ServerNo → Option ServerNo → List ServerNo
+movers_of b command.Relocate i d = i ∷ []
+movers_of b command.RelocateReplicas i d = replicas_but b i d
+movers_of b command.RegroupReplicas i d = []
+
+-- the sources that servers pass on their paths; with GTIDs they pass none
+abbrev pub passed_by : Bool → BookState → List ServerNo → Option ServerNo → List ServerNo
+passed_by true b movers d = []
+passed_by false b movers d = flat_map (λ n. passed_in (path_to b d n)) movers
+
+-- servers that move, their new source, and the sources that they pass
+abbrev pub moving_list : World → BookState → List ServerNo → Option ServerNo → List ServerNo
+moving_list w b movers d = movers ++ (option_to_list d ++ passed_by w.gtid b movers d)
+
+-- the servers of which the job takes the leases
+abbrev pub list_of : World → BookState → RegroupCommand → ServerNo → Option ServerNo → List ServerNo
+list_of w b command.Relocate i d = moving_list w b (i ∷ []) d
+list_of w b command.RelocateReplicas i d = moving_list w b (replicas_but b i d) d
+list_of w b command.RegroupReplicas i d = i ∷ replicas_of b i
+
+-- what the checks are about: servers move to the new source, which is looked at also where none does
+abbrev pub case_of : World → BookState → RegroupCommand → ServerNo → Option ServerNo → Case
+case_of w b c i d = record {
+  i = i;
+  to = target_of c d;
+  leased = list_of w b c i d;
+  reached = list_of w b c i d;
+  moves = moves_to (movers_of b c i d) (target_of c d);
+  sources = option_to_list (target_of c d);
+}
+
+-- a server has no path to the destination
+abbrev pub without_path : BookState → Option ServerNo → ServerNo → Option Refusal
+without_path b d n = only_if (not (is_some (path_to b d n))) NoPath
+
+abbrev pub astray : Bool → BookState → List ServerNo → Option ServerNo → Option Refusal
+astray true b movers d = None
+astray false b movers d = first_about (without_path b d) movers
+
+abbrev pub without_candidate : World → BookState → Moment → ServerNo → Option Refusal
+without_candidate w b now i = only_if (not (has_candidate w b now i)) NoCandidate
+
+-- the last check of a command: with GTIDs no path is looked for
+abbrev pub last_refusal : World → BookState → Moment → RegroupCommand → ServerNo → Option ServerNo → Option Refusal
+last_refusal w b now command.Relocate i d = astray w.gtid b (i ∷ []) d
+last_refusal w b now command.RelocateReplicas i d = astray w.gtid b (replicas_but b i d) d
+last_refusal w b now command.RegroupReplicas i d = without_candidate w b now i
+
+-- the first check of a command's row that doesn't pass
+abbrev pub row_refusal : World → BookState → RegroupCommand → ServerNo → Option ServerNo → Option Refusal
+row_refusal w b c i d = first_refusal w b (case_of w b c i d) (row_of w.gtid c)
+
+-- what refuses a command about an instance
+abbrev pub refusal_about : World → BookState → Moment → RegroupCommand → Option ServerNo → Option ServerNo → Option Refusal
+refusal_about w b now c None d = None
+refusal_about w b now c (Some i) d = option_or (row_refusal w b c i d) (last_refusal w b now c i d)
+
+abbrev pub refusal_in : World → BookState → Moment → Command → Option RegroupCommand → Option Refusal
+refusal_in w b now given None = None
+refusal_in w b now given (Some c) = option_or (unknown_in b given) (refusal_about w b now c given.i given.d)
+
+-- the refusal with the lowest number that applies to one of these commands at a moment
+abbrev pub refusal_of : World → BookState → Moment → Command → Option Refusal
+refusal_of w b now given = refusal_in w b now given (regroup_command given.name)
+
+-- ---- the servers of which a command's job takes the leases
+
+abbrev pub leased_about : World → BookState → RegroupCommand → Option ServerNo → Option ServerNo → List ServerNo
+leased_about w b c None d = []
+leased_about w b c (Some i) d = list_of w b c i d
+
+abbrev pub leased_in : World → BookState → Command → Option RegroupCommand → List ServerNo
+leased_in w b given None = []
+leased_in w b given (Some c) = leased_about w b c given.i given.d
+
+abbrev pub leased_by : World → BookState → Command → List ServerNo
+leased_by w b given = leased_in w b given (regroup_command given.name)

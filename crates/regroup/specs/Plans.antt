@@ -1,0 +1,69 @@
+-- The plans of these commands.
+use Rattle.std.specs.Prelude.{Bool, true, false, List, [], ◌∷◌, ◌++◌, Option, Some, None}
+use Rattle.std.specs.List.{flat_map}
+use Rattle.orch_base.specs.declared.server.ServerNo.{ServerNo}
+use Rattle.commands.specs.declared.turn.Command.{Command}
+use Rattle.instance_keeper.specs.Book.{BookState}
+use Rattle.operations.specs.declared.op.Op.{Op}
+use Rattle.operations.specs.Plans.{again, finished, under, up}
+use Rattle.plan_parts.specs.Parts.{autos, following}
+use Rattle.permission.specs.Replicas.{replicas_but}
+use Rattle.server_model.specs.Worlds.{World}
+use Rattle.regroup.specs.declared.command.RegroupCommand.{RegroupCommand}
+use Rattle.regroup.specs.declared.command.RegroupCommand.TheVariants as command
+use Rattle.regroup.specs.Commands.{regroup_command}
+use Rattle.regroup.specs.Ways.{Path, path_of}
+
+-- the first of some sources, or the one behind them
+abbrev pub next_of : List ServerNo → ServerNo → ServerNo
+next_of [] to = to
+next_of (x ∷ xs) to = x
+
+-- n goes up past these sources, one after another, until it is below the one behind them
+abbrev pub climbed : ServerNo → List ServerNo → ServerNo → List Op
+climbed n [] to = []
+climbed n (x ∷ xs) to = up n x (next_of xs to) ++ climbed n xs to
+
+-- n goes up past these sources to d, or where they are none goes on below d by coordinates, its source
+abbrev pub ascended : ServerNo → ServerNo → List ServerNo → List Op
+ascended n d [] = again n d
+ascended n d (x ∷ xs) = climbed n (x ∷ xs) d
+
+-- n goes past these sources below d, under which or beside which it comes
+abbrev pub arrived : ServerNo → ServerNo → List ServerNo → Option ServerNo → List Op
+arrived n d passed None = ascended n d passed
+arrived n d passed (Some s) = climbed n passed s ++ under n d s
+
+-- n goes below d by its path
+abbrev pub travelled : ServerNo → ServerNo → Option Path → List Op
+travelled n d None = []
+travelled n d (Some p) = arrived n d p.passed p.under
+
+-- servers go below d one after another, with GTIDs by what was executed, else each by its path
+abbrev pub moved_by : Bool → BookState → List ServerNo → ServerNo → List Op
+moved_by true b movers d = autos movers d
+moved_by false b movers d = flat_map (λ n. travelled n d (path_of b n d)) movers
+
+-- with a line for each
+abbrev pub relocated : Bool → BookState → List ServerNo → Option ServerNo → List Op
+relocated gtid b movers None = []
+relocated gtid b movers (Some d) = finished (moved_by gtid b movers d) (following movers d)
+
+-- a command's operations, by the instance and the destination that is given; none of regroup-replicas, whose operations
+-- go by what its replicas turn out to have
+abbrev pub ops_of : World → BookState → RegroupCommand → ServerNo → Option ServerNo → List Op
+ops_of w b command.Relocate i d = relocated w.gtid b (i ∷ []) d
+ops_of w b command.RelocateReplicas i d = relocated w.gtid b (replicas_but b i d) d
+ops_of w b command.RegroupReplicas i d = []
+
+abbrev pub plan_about : World → BookState → RegroupCommand → Option ServerNo → Option ServerNo → List Op
+plan_about w b c None d = []
+plan_about w b c (Some i) d = ops_of w b c i d
+
+abbrev pub plan_in : World → BookState → Command → Option RegroupCommand → List Op
+plan_in w b given None = []
+plan_in w b given (Some c) = plan_about w b c given.i given.d
+
+-- the operations of relocate and relocate-replicas, where nothing refuses them
+abbrev pub plan_of : World → BookState → Command → List Op
+plan_of w b given = plan_in w b given (regroup_command given.name)
