@@ -10,7 +10,7 @@ use Rattle.operations.specs.Turns.{Turned, observed, turned}
 use Rattle.job_laws.specs.Leases.{job_at}
 use Rattle.job_laws.specs.Flights.{Flight, Held, Sound, IsShown, IsShownBridged, after_turn, job_turned}
 use Rattle.job_laws.specs.Passages as pass
-use Rattle.job_laws.specs.Passages.{MayTake, Passage, stored_if, slot_of, turned_by, passed, MayPass, passing, AllMayPass}
+use Rattle.job_laws.specs.Passages.{MayTake, Passage, PassesWell, TakesWell, stored_if, slot_of, turned_by, passed, MayPass, passing, AllMayPass, AllPassWell}
 use Rattle.job_laws.proofs.Lists.{All-at}
 use Rattle.job_laws.proofs.Passing.{Held-on, Sound-on, observed-shown, observed-bridged, Held-slotted, Sound-slotted, Held-stored, Sound-stored, Held-forgotten, Sound-forgotten, Held-restarted, Sound-restarted}
 use Rattle.job_laws.proofs.Begun.{Held-turned, Sound-turned, Held-begun, Sound-begun, held-after, sound-after, turn-shown, turn-bridged, held-of}
@@ -75,12 +75,12 @@ held-taken f id t keeps may held =
     held-stored_if keeps (after_turn f id t) t.observation (in-slot (IsShown (after_turn f id t).world) t.observation may.shown)
     (held-after f id t held may.held may.leases)
 
-sound-taken : (f : Flight) (id : ℕ) (t : Turned) (keeps : Bool) → MayTake f id t → Held f → Sound f → IsQuiet (stored_if keeps (after_turn f id t) t.observation).world
+sound-taken : (f : Flight) (id : ℕ) (t : Turned) (keeps : Bool) → MayTake f id t → TakesWell f t → Held f → Sound f → IsQuiet (stored_if keeps (after_turn f id t) t.observation).world
     → Sound (stored_if keeps (after_turn f id t) t.observation)
-sound-taken f id t keeps may held sound quiet =
+sound-taken f id t keeps may well held sound quiet =
     let same = world-stored_if keeps (after_turn f id t) t.observation in
-    sound-stored_if keeps (after_turn f id t) t.observation (in-slot (IsShownBridged (after_turn f id t).world) t.observation (may.bridged sound))
-    (sound-after f id t held may.held may.leases sound (may.sound sound) (ap (λ (w : World). w.errant) (sym same) ∙ quiet))
+    sound-stored_if keeps (after_turn f id t) t.observation (in-slot (IsShownBridged (after_turn f id t).world) t.observation well.bridged)
+    (sound-after f id t held may.held may.leases sound well.sound (ap (λ (w : World). w.errant) (sym same) ∙ quiet))
 
 pub Held-passed : (f : Flight) (p : Passage) → MayPass f p → Held f → Held (passed f p)
 Held-passed f (pass.Exchanging e) may held = Held-on f (e ∷ []) (may.0, tt) held
@@ -94,17 +94,17 @@ Held-passed f (pass.Beginning list j) may held = Held-begun f list j may held
 Held-passed f (pass.Turning id read now keeps) may held = held-turned_by f id read now keeps held
 Held-passed f (pass.Taking id t keeps) may held = held-taken f id t keeps may held
 
-pub Sound-passed : (f : Flight) (p : Passage) → MayPass f p → IsQuiet (passed f p).world → Held f → Sound f → Sound (passed f p)
-Sound-passed f (pass.Exchanging e) may quiet held sound = Sound-on f (e ∷ []) (may.0, tt) (may.1, tt) quiet held sound
-Sound-passed f (pass.Polling p n read now) may quiet held sound = Sound-slotted f p (Some (observed f.world read now n)) (observed-bridged f.world read now n sound.safe) sound
-Sound-passed f (pass.Storing p keeps) may quiet held sound =
+pub Sound-passed : (f : Flight) (p : Passage) → MayPass f p → PassesWell f p → IsQuiet (passed f p).world → Held f → Sound f → Sound (passed f p)
+Sound-passed f (pass.Exchanging e) may well quiet held sound = Sound-on f (e ∷ []) (may.0, tt) (may.1, tt) quiet held sound
+Sound-passed f (pass.Polling p n read now) may well quiet held sound = Sound-slotted f p (Some (observed f.world read now n)) (observed-bridged f.world read now n sound.safe) sound
+Sound-passed f (pass.Storing p keeps) may well quiet held sound =
     Sound-slotted (stored_if keeps f (slot_of f p)) p None tt (sound-stored_if keeps f (slot_of f p) (slot-bridged f p sound) sound)
-Sound-passed f (pass.Discovering n read now) may quiet held sound = Sound-stored f (observed f.world read now n) (observed-bridged f.world read now n sound.safe) sound
-Sound-passed f (pass.Forgetting n) may quiet held sound = Sound-forgotten f n sound
-Sound-passed f pass.Restarting may quiet held sound = Sound-restarted f sound
-Sound-passed f (pass.Beginning list j) may quiet held sound = Sound-begun f list j may sound
-Sound-passed f (pass.Turning id read now keeps) may quiet held sound = sound-turned_by f id read now keeps held sound quiet
-Sound-passed f (pass.Taking id t keeps) may quiet held sound = sound-taken f id t keeps may held sound quiet
+Sound-passed f (pass.Discovering n read now) may well quiet held sound = Sound-stored f (observed f.world read now n) (observed-bridged f.world read now n sound.safe) sound
+Sound-passed f (pass.Forgetting n) may well quiet held sound = Sound-forgotten f n sound
+Sound-passed f pass.Restarting may well quiet held sound = Sound-restarted f sound
+Sound-passed f (pass.Beginning list j) may well quiet held sound = Sound-begun f list j may sound
+Sound-passed f (pass.Turning id read now keeps) may well quiet held sound = sound-turned_by f id read now keeps held sound quiet
+Sound-passed f (pass.Taking id t keeps) may well quiet held sound = sound-taken f id t keeps may well held sound quiet
 
 -- ---- the count of errant writes never falls
 
@@ -134,7 +134,7 @@ pub Held-passing : (f : Flight) (ps : List Passage) → AllMayPass f ps → Held
 Held-passing f [] may held = held
 Held-passing f (p ∷ ps) may held = Held-passing (passed f p) ps may.1 (Held-passed f p may.0 held)
 
-pub Sound-passing : (f : Flight) (ps : List Passage) → AllMayPass f ps → IsQuiet (passing f ps).world → Held f → Sound f → Sound (passing f ps)
-Sound-passing f [] may quiet held sound = sound
-Sound-passing f (p ∷ ps) may quiet held sound =
-    Sound-passing (passed f p) ps may.1 quiet (Held-passed f p may.0 held) (Sound-passed f p may.0 (quiet-start (passed f p) ps quiet) held sound)
+pub Sound-passing : (f : Flight) (ps : List Passage) → AllMayPass f ps → AllPassWell f ps → IsQuiet (passing f ps).world → Held f → Sound f → Sound (passing f ps)
+Sound-passing f [] may well quiet held sound = sound
+Sound-passing f (p ∷ ps) may well quiet held sound =
+    Sound-passing (passed f p) ps may.1 well.1 quiet (Held-passed f p may.0 held) (Sound-passed f p may.0 well.0 (quiet-start (passed f p) ps quiet) held sound)

@@ -9,7 +9,7 @@ use Rattle.operations.specs.Turns.{Turned, observed, turned}
 use Rattle.job_laws.specs.Held.{KeepsHeld}
 use Rattle.job_laws.specs.Sound.{KeepsSound}
 use Rattle.job_laws.specs.Leases.{Begins, KeepsLeases, job_at}
-use Rattle.job_laws.specs.Flights.{Flight, IsShown, IsShownBridged, Sound, exchanged, slotted, stored, forgotten, restarted, begun, after_turn}
+use Rattle.job_laws.specs.Flights.{Flight, IsShown, IsShownBridged, exchanged, slotted, stored, forgotten, restarted, begun, after_turn}
 
 -- What a turn does: an exchange that is no job's; a poll that reads a server into its slot; a slot's reading that is
 -- stored or passed over; a server that is read and stored at once; an instance that is forgotten; a restart; a job
@@ -50,14 +50,16 @@ passed f (Turning id read now keeps) = turned_by f id read now keeps (job_at f.j
 passed f (Taking id t keeps) = stored_if keeps (after_turn f id t) t.observation
 
 -- a turn that was decided otherwise makes allowed exchanges with servers that are leased to the job, and leaves it held
--- and leased; what it observed is shown; where the flight is sound, its attachments join well, and each bridge that
--- the job saw or that it observed stands
+-- and leased; what it observed is shown
 pub record MayTake (f : Flight) (id : ℕ) (t : Turned) : Type 0 where
   pub held : KeepsHeld f.world t
   pub leases : KeepsLeases f.leases id t
   pub shown : IfSome t.observation (IsShown (run f.world t.exchanges))
-  pub sound : Sound f → KeepsSound f.world t
-  pub bridged : Sound f → IfSome t.observation (IsShownBridged (run f.world t.exchanges))
+
+-- in a sound flight its attachments join well, and each bridge that the job saw or that it observed stands
+pub record TakesWell (f : Flight) (t : Turned) : Type 0 where
+  pub sound : KeepsSound f.world t
+  pub bridged : IfSome t.observation (IsShownBridged (run f.world t.exchanges))
 
 -- an exchange that is no job's is allowed and joins well, a job begins with held operations over servers that are free,
 -- and a turn that was decided otherwise keeps what a job's own turn does
@@ -72,6 +74,18 @@ MayPass f Restarting = Unit {0}
 MayPass f (Turning id read now keeps) = Unit {0}
 MayPass f (Taking id t keeps) = MayTake f id t
 
+-- what a turn that was decided otherwise owes a sound flight; every other turn owes it nothing more
+abbrev pub PassesWell : Flight → Passage → Type 0
+PassesWell f (Exchanging e) = Unit {0}
+PassesWell f (Beginning list j) = Unit {0}
+PassesWell f (Polling p n read now) = Unit {0}
+PassesWell f (Storing p keeps) = Unit {0}
+PassesWell f (Discovering n read now) = Unit {0}
+PassesWell f (Forgetting n) = Unit {0}
+PassesWell f Restarting = Unit {0}
+PassesWell f (Turning id read now keeps) = Unit {0}
+PassesWell f (Taking id t keeps) = TakesWell f t
+
 abbrev pub passing : Flight → List Passage → Flight
 passing f [] = f
 passing f (p ∷ ps) = passing (passed f p) ps
@@ -79,3 +93,7 @@ passing f (p ∷ ps) = passing (passed f p) ps
 abbrev pub AllMayPass : Flight → List Passage → Type 0
 AllMayPass f [] = Unit {0}
 AllMayPass f (p ∷ ps) = MayPass f p × AllMayPass (passed f p) ps
+
+abbrev pub AllPassWell : Flight → List Passage → Type 0
+AllPassWell f [] = Unit {0}
+AllPassWell f (p ∷ ps) = PassesWell f p × AllPassWell (passed f p) ps

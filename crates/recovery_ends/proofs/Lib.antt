@@ -1,3 +1,4 @@
 pub mod Shapes
 pub mod Fitting
 pub mod Ended
+pub mod Observing

@@ -14,7 +14,7 @@ use Rattle.operations.specs.Turns.{is_going}
 use Rattle.job_laws.specs.Flights.{Flight, Held, Sound, IsShown, IsShownBridged}
 use Rattle.job_laws.specs.Held.{HeldJob}
 use Rattle.job_laws.specs.Leases.{IsLeased, KeepsLeases, Leases, MayChange}
-use Rattle.job_laws.specs.Passages.{MayTake}
+use Rattle.job_laws.specs.Passages.{MayTake, TakesWell}
 use Rattle.job_laws.specs.Sound.{AllBridged, IsBridged}
 use Rattle.job_laws.proofs.Passing.{observed-bridged, observed-shown}
 use Rattle.job_laws.proofs.Showing.{Bridged-run}
@@ -86,13 +86,17 @@ module _ (f : Flight) (b : BookState) (id read : ℕ) (now : Moment) (r : Recove
   sound-turn : Sound f → SoundRings f.world b.rings → SoundRecovery f.world r → KeepsSoundRecovery f.world (taken f.world b read now r)
   sound-turn sound standing good = taken-sound f.world b read now r sound.safe held.placed rings standing mine good
 
-  pub recovery-passes : LeasedRecovery f.leases id r → (Sound f → SoundRings f.world b.rings × SoundRecovery f.world r) → MayTake f id (as_turn id (taken f.world b read now r))
-  recovery-passes leased also = record {
+  pub recovery-passes : LeasedRecovery f.leases id r → MayTake f id (as_turn id (taken f.world b read now r))
+  recovery-passes leased = record {
     held = record { allowed = kept.allowed; held = held-core _ id (taken f.world b read now r).recovery (is_going (taken f.world b read now r).step) kept.held };
     leases = leased-core f.leases id (taken f.world b read now r) (taken-leased f.leases id f.world b read now r leased) (is_going (taken f.world b read now r).step) (λ h. h);
     shown = by-some _ (taken f.world b read now r).observation shown-after;
-    sound = λ sound.
-        let good = sound-turn sound (also sound).0 (also sound).1 in
-        record { joins = good.joins; bridged = bridged-core _ id (taken f.world b read now r).recovery (is_going (taken f.world b read now r).step) good.sound };
-    bridged = λ sound. by-some _ (taken f.world b read now r).observation (bridged-after sound.safe);
   }
+
+  pub recovery-passes-well : Sound f → SoundRings f.world b.rings → SoundRecovery f.world r → TakesWell f (as_turn id (taken f.world b read now r))
+  recovery-passes-well sound standing good =
+      let after = sound-turn sound standing good in
+      record {
+        sound = record { joins = after.joins; bridged = bridged-core _ id (taken f.world b read now r).recovery (is_going (taken f.world b read now r).step) after.sound };
+        bridged = by-some _ (taken f.world b read now r).observation (bridged-after sound.safe);
+      }

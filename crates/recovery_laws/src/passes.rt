@@ -4,7 +4,7 @@ ghost use Rattle.std.specs.Prelude.{ℕ};
 ghost use Rattle.orch_base.specs.declared.server.Moment.{Moment as AMoment};
 ghost use Rattle.instance_keeper.specs.Book.{BookState};
 ghost use Rattle.job_laws.specs.Flights.{Flight, Held, Sound};
-ghost use Rattle.job_laws.specs.Passages.{MayTake};
+ghost use Rattle.job_laws.specs.Passages.{MayTake, TakesWell};
 ghost use Rattle.recovery_plans.specs.Recoveries.{Recovery};
 ghost use Rattle.recovery_plans.specs.Taking.{taken};
 ghost use Rattle.recovery_laws.specs.HeldRecoveries.{HeldRecovery};
@@ -14,10 +14,13 @@ ghost use Rattle.recovery_laws.specs.Rings.{HeldRings, SoundRings};
 ghost use Rattle.recovery_laws.specs.SoundRecoveries.{SoundRecovery};
 
 /// The turn of a recovery is one that servers with jobs in flight may take: it keeps what the turn of a job by its
-/// operations does.
+/// operations does, and in a sound flight owes it nothing more.
 pub fn recoveries_pass()
-    ensures { (f : Flight) (b : BookState) (id read : ℕ) (now : AMoment) (r : Recovery) →
+    ensures may { (f : Flight) (b : BookState) (id read : ℕ) (now : AMoment) (r : Recovery) →
         Held f → HeldRings f.world b.rings → HeldRecovery f.world r → LeasedRecovery f.leases id r →
-        (Sound f → SoundRings f.world b.rings × SoundRecovery f.world r) →
         MayTake f id (as_turn id (taken f.world b read now r)) }
+    ensures well { (f : Flight) (b : BookState) (id read : ℕ) (now : AMoment) (r : Recovery) →
+        Held f → HeldRings f.world b.rings → HeldRecovery f.world r → Sound f →
+        SoundRings f.world b.rings → SoundRecovery f.world r →
+        TakesWell f (as_turn id (taken f.world b read now r)) }
 {}
