@@ -1,19 +1,17 @@
 //! Single checks, each with the refusal of one that doesn't pass.
 
-ghost use Rattle.std.specs.Prelude.{◌≡◌, ◌<◌, ◌≤◌, ◌^◌, All, IfOk, length};
-ghost use Rattle.book_views.specs.Sources.{is_replica_of};
+ghost use Rattle.std.specs.Prelude.{◌≡◌, ◌<◌, ◌≤◌, ◌^◌, All, length};
+ghost use Rattle.book_views.specs.Sources.{is_replica_of, replicas_of};
 ghost use Rattle.recovery_permits.specs.Checks.{can_succeed, disabled, downtimed, filtered, has_successor, held_back, no_master, no_replica, refused_as, without_candidate, without_successor};
 
-use crate::{Attempt, Memory};
+use crate::Attempt;
 use audit_log::{Audit, Held};
-use book_views::replicas;
 use commands::Refusal;
 use instance_keeper::Book;
 use orch_base::ServerNo;
 use permission::{attached_to, has_log, is_valid, same_label, source};
 use promotion_candidates::has_candidate;
 use server_model::World;
-use std::alloc::Global;
 
 pub(crate) fn disabled(attempt: Attempt) -> Option<Refusal>
     ensures { result ≡ disabled attempt }
@@ -70,20 +68,20 @@ pub(crate) fn held_back(
 }
 
 pub(crate) fn without_candidate(
-    alloc: Global,
     book: &Book,
     world: &World,
     attempt: Attempt,
     failed: ServerNo,
-) -> Result<Option<Refusal>, Memory>
-    ensures { IfOk result (λ r. r ≡ without_candidate world.now book.now attempt failed) }
+    replicas: &[ServerNo],
+) -> Option<Refusal>
+    requires { replicas.now ≡ replicas_of book.now failed }
+    ensures { result ≡ without_candidate world.now book.now attempt failed }
 {
-    let list = replicas(alloc, book, failed)?;
-    Ok(if has_candidate(book, world, &list, attempt.now) {
+    if has_candidate(book, world, replicas, attempt.now) {
         None
     } else {
         Some(Refusal::NoCandidate)
-    })
+    }
 }
 
 fn can_succeed(book: &Book, world: &World, failed: ServerNo, no: ServerNo) -> bool

@@ -12,5 +12,5 @@ pub use attempt::Attempt;
 /// Want of memory.
 pub use orch_base::Memory;
 pub use permission::PermitFault;
-pub use recoveries::{permit_recovery, recovery_purpose, recovery_servers};
-pub use takeovers::permit_takeover;
+pub use recoveries::{permit_recovery, recovery_purpose, recovery_servers, refusal_by_code};
+pub use takeovers::{followers_of, permit_takeover};

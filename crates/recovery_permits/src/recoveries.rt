@@ -3,6 +3,7 @@
 ghost use Rattle.std.specs.Prelude.{◌≡◌, ◌<◌, ◌≤◌, ◌^◌, All, IfOk, length};
 ghost use Rattle.orch_base.specs.Gives.{Gives};
 ghost use Rattle.book_views.specs.Forests.{book_forest};
+ghost use Rattle.book_views.specs.Sources.{replicas_of};
 ghost use Rattle.failure_analysis.specs.Table.{action_of};
 ghost use Rattle.permission.specs.Checks.{permit_fault, permitted};
 ghost use Rattle.recovery_permits.specs.Checks.{code_at};
@@ -84,34 +85,37 @@ fn held_off(
     }
 }
 
-// The refusal of the first check that doesn't pass, by what the failed server's code asks for.
-fn refusal_for(
-    alloc: Global,
+/// What refuses the recovery of a server where no job has a lease of it or of its replicas, by its code and its
+/// replicas in name order: the refusal of the lowest number. Moments are at most 2^63, and a block period at most
+/// 1,000,000,000 seconds. It takes no memory.
+pub fn refusal_by_code(
     book: &Book,
     world: &World,
     audit: &Audit,
     attempt: Attempt,
     failed: ServerNo,
+    replicas: &[ServerNo],
     code: Code,
-) -> Result<Option<Refusal>, Memory>
+) -> Option<Refusal>
     requires server { failed.0 < length book.now.names }
+    requires replicas { replicas.now ≡ replicas_of book.now failed }
     requires begun { All (λ r. r.begun.0 ≤ 2 ^ 63) audit.now.audit.recoveries }
     requires block { attempt.block ≤ 1000000000 }
-    ensures { IfOk result (λ r. r ≡ refusal_for world.now book.now audit.now.audit attempt failed
-        code (action_of code)) }
+    ensures { result ≡ refusal_for world.now book.now audit.now.audit attempt failed code
+        (action_of code) }
 {
     match actionable(code) {
-        Action::Nothing => Ok(Some(Refusal::NotActionable(code))),
+        Action::Nothing => Some(Refusal::NotActionable(code)),
         Action::MasterRecovery => {
             match held_off(book, audit, attempt, failed, attempt.by_master) {
-                Some(refusal) => Ok(Some(refusal)),
-                None => without_candidate(alloc, book, world, attempt, failed),
+                Some(refusal) => Some(refusal),
+                None => without_candidate(book, world, attempt, failed, replicas),
             }
         }
         Action::IntermediateRecovery => {
             match held_off(book, audit, attempt, failed, attempt.by_intermediate) {
-                Some(refusal) => Ok(Some(refusal)),
-                None => Ok(without_successor(book, world, failed)),
+                Some(refusal) => Some(refusal),
+                None => without_successor(book, world, failed),
             }
         }
     }
@@ -140,7 +144,10 @@ fn refusal_by(
     let case = case_of(alloc, book, failed)?;
     match first_refusal(alloc, book, forest, world, &case, &[Check::Busy])? {
         Some(refusal) => Ok(Some(refusal)),
-        None => refusal_for(alloc, book, world, audit, attempt, failed, code),
+        None => {
+            let replicas = replicas(alloc, book, failed)?;
+            Ok(refusal_by_code(book, world, audit, attempt, failed, &replicas, code))
+        }
     }
 }
 

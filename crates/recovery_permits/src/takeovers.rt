@@ -34,8 +34,9 @@ fn comes_below(book: &Book, i: ServerNo, d: ServerNo, no: ServerNo) -> bool
     no.0 != d.0 && (no.0 == i.0 || is_replica_of(book, i, no))
 }
 
-// The servers that come below the designated one, in name order.
-fn followers_of(
+/// The servers that come below the designated one, in name order: the master and its other replicas. `Err` is want of
+/// memory.
+pub fn followers_of(
     alloc: Global,
     book: &Book,
     i: ServerNo,
@@ -97,8 +98,8 @@ fn takeover_refusal(
 }
 
 /// Refuses the takeover of a master's place by a replica with the refusal of the lowest number that applies. It goes by
-/// the book, the audit, the servers' settings and the moment, and changes nothing. Moments are at most 2^63, and a block
-/// period at most 1,000,000,000 seconds. `Memory` comes only for want of memory.
+/// the book, the audit, the servers' settings and the moment, and changes nothing. Moments are at most 2^63, and a
+/// block period at most 1,000,000,000 seconds. `Memory` comes only for want of memory.
 pub fn permit_takeover(
     alloc: Global,
     book: &Book,

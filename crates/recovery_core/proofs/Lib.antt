@@ -1,0 +1,7 @@
+pub mod Entries
+pub mod Grouping
+pub mod Trying
+pub mod Steps
+pub mod Beginning
+pub mod InTurn
+pub mod Ended

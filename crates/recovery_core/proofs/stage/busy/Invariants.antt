@@ -1,0 +1,11 @@
+use Rattle.std.proofs.Common.{◌≡◌, drop, None}
+use Rattle.std.specs.Prelude.{slice_index_or}
+use Rattle.orch_base.specs.declared.server.ServerNo.{ServerNo}
+use Rattle.permission.specs.Checks.{busy_by}
+use Rattle.permission.specs.Lists.{first_about}
+use Rattle.recovery_core.proofs.stage.busy.Given as goal
+
+abbrev pub invariant-loop-no : goal.invariant-loop-no
+invariant-loop-no l =
+    first_about (λ (n : ServerNo). busy_by n (slice_index_or l.leases n.0 None)) (drop l.no-index l.servers)
+    ≡ first_about (λ (n : ServerNo). busy_by n (slice_index_or l.leases n.0 None)) l.servers

@@ -1,0 +1,35 @@
+-- How a recovery's entry in the audit ends.
+use Rattle.std.specs.Prelude.{Bool, true, false, Option, None, Some}
+use Rattle.orch_base.specs.declared.recovery.CauseName.TheVariants as named
+use Rattle.orch_base.specs.declared.recovery.Ending.{Ending}
+use Rattle.orch_base.specs.declared.recovery.Ending.TheVariants as ending
+use Rattle.orch_base.specs.declared.server.ServerNo.{ServerNo}
+use Rattle.commands.specs.Causes.{cause_name}
+use Rattle.operations.specs.declared.step.JobStep.{JobStep}
+use Rattle.operations.specs.declared.step.JobStep.TheVariants as step
+use Rattle.recovery_plans.specs.declared.purpose.Purpose.{Purpose}
+use Rattle.recovery_plans.specs.declared.purpose.Purpose.TheVariants as purpose
+use Rattle.recovery_plans.specs.Recoveries.{Recovery}
+
+-- by the promoted server: without one nothing could be chosen
+abbrev pub done_with : Option ServerNo → Ending
+done_with None = ending.Failed named.NoCandidate
+done_with (Some n) = ending.Promoted n
+
+-- the end of a recovery's entry after a turn: none while the recovery goes on
+abbrev pub ending_of : Recovery → JobStep → Option Ending
+ending_of r step.Going = None
+ending_of r (step.Done lines) = Some (done_with r.outcome.promoted)
+ending_of r (step.Failed c) = Some (ending.Failed (cause_name c))
+
+abbrev pub is_takeover : Purpose → Bool
+is_takeover purpose.Regroup = false
+is_takeover purpose.Master = false
+is_takeover (purpose.Intermediate s) = false
+is_takeover (purpose.Takeover d) = true
+
+-- a takeover that is done is acknowledged in the same turn
+abbrev pub is_acknowledged : Recovery → JobStep → Bool
+is_acknowledged r step.Going = false
+is_acknowledged r (step.Done lines) = is_takeover r.purpose
+is_acknowledged r (step.Failed c) = false

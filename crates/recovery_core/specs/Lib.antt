@@ -1,0 +1,5 @@
+pub mod Tries
+pub mod Groups
+pub mod Scans
+pub mod Begun
+pub mod Endings

@@ -1,0 +1,75 @@
+-- Recoveries and takeovers that are tried.
+use Rattle.std.specs.Prelude.{ℕ, false, List, Option, None, Some, Result, Ok, Err}
+use Rattle.orch_base.specs.declared.recovery.Ending.TheVariants as ending
+use Rattle.orch_base.specs.declared.recovery.Kind.{Kind}
+use Rattle.orch_base.specs.declared.recovery.Kind.TheVariants as kind
+use Rattle.orch_base.specs.declared.server.Moment.{Moment}
+use Rattle.orch_base.specs.declared.server.ServerNo.{ServerNo}
+use Rattle.commands.specs.declared.refusal.Refusal.{Refusal}
+use Rattle.instance_keeper.specs.Book.{BookState}
+use Rattle.instance_keeper.specs.declared.recovery.Recovery.{Recovery as KeptRecovery}
+use Rattle.book_views.specs.Sources.{replicas_of}
+use Rattle.asking_commands.specs.Asking.{label_at}
+use Rattle.audit_log.specs.Audits.{AuditState}
+use Rattle.permission.specs.Views.{source_of}
+use Rattle.recovery_plans.specs.Beginning.{begun_recovery}
+use Rattle.recovery_plans.specs.Recoveries.{Recovery}
+use Rattle.recovery_plans.specs.declared.purpose.Purpose.TheVariants as purpose
+use Rattle.recovery_permits.specs.declared.attempt.Attempt.{Attempt}
+use Rattle.recovery_permits.specs.Recoveries.{recovery_list, recovery_purpose, recovery_refusal}
+use Rattle.recovery_permits.specs.Takeovers.{followers_of, takeover_refusal}
+use Rattle.server_model.specs.Worlds.{World}
+
+-- what begins: the servers of which the job takes the leases, the job, and its entry in the audit
+pub record Begins : Type 0 where
+  pub list : List ServerNo
+  pub job : Recovery
+  pub entry : KeptRecovery
+
+-- the entry of a recovery that begins
+abbrev pub entry_of : BookState → AuditState → Moment → Kind → ServerNo → KeptRecovery
+entry_of b audit now what f = record {
+  id = audit.next;
+  cluster = label_at b f;
+  kind = what;
+  failed = f;
+  begun = now;
+  ended = None;
+  outcome = ending.Unended;
+  acked = false;
+}
+
+-- what is recovered, by whether the failed server has a source
+abbrev pub kind_by : Option ServerNo → Kind
+kind_by None = kind.Master
+kind_by (Some s) = kind.Intermediate
+
+abbrev pub recovery_kind : BookState → ServerNo → Kind
+recovery_kind b f = kind_by (source_of b f)
+
+-- the recovery of a server, as the job of a number, whose operations may wait so often each
+abbrev pub recovery_begins : BookState → AuditState → Moment → ℕ → ℕ → ServerNo → Begins
+recovery_begins b audit now wait job f = record {
+  list = recovery_list b f;
+  job = begun_recovery (recovery_purpose b f) job wait f (replicas_of b f) (replicas_of b f);
+  entry = entry_of b audit now (recovery_kind b f) f;
+}
+
+-- a replica's takeover of a master's place; it tells of the master, too
+abbrev pub takeover_begins : BookState → AuditState → Moment → ℕ → ℕ → ServerNo → ServerNo → Begins
+takeover_begins b audit now wait job i d = record {
+  list = recovery_list b i;
+  job = begun_recovery (purpose.Takeover d) job wait i (replicas_of b i) (followers_of b i d);
+  entry = entry_of b audit now kind.Takeover i;
+}
+
+-- what is refused doesn't begin
+abbrev pub unless_refused : Option Refusal → Begins → Result Begins Refusal
+unless_refused None x = Ok x
+unless_refused (Some r) x = Err r
+
+abbrev pub recovery_try : World → BookState → AuditState → Attempt → ℕ → ℕ → ServerNo → Result Begins Refusal
+recovery_try w b audit a wait job f = unless_refused (recovery_refusal w b audit a f) (recovery_begins b audit a.now wait job f)
+
+abbrev pub takeover_try : World → BookState → AuditState → Attempt → ℕ → ℕ → ServerNo → ServerNo → Result Begins Refusal
+takeover_try w b audit a wait job i d = unless_refused (takeover_refusal w b audit a i d) (takeover_begins b audit a.now wait job i d)

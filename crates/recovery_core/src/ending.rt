@@ -1,0 +1,51 @@
+//! How a recovery's entry in the audit ends.
+
+ghost use Rattle.std.specs.Prelude.{◌≡◌};
+ghost use Rattle.recovery_core.specs.Endings.{done_with, ending_of, is_acknowledged, is_takeover};
+
+use operations::JobStep;
+use orch_base::{CauseName, Ending, ServerNo};
+use recovery_plans::Purpose;
+use recovery_turns::RecoveryJob;
+
+fn done_with(promoted: Option<ServerNo>) -> Ending
+    ensures { result ≡ done_with promoted }
+{
+    match promoted {
+        Some(no) => Ending::Promoted(no),
+        None => Ending::Failed(CauseName::NoCandidate),
+    }
+}
+
+/// How the entry of a recovery ends after a turn that came to this step: not while the recovery goes on; with the
+/// promoted server where it is done, and as without a candidate where none was promoted; and by the cause's name where
+/// it failed. It takes no memory.
+pub fn ending_of(job: &RecoveryJob, step: &JobStep) -> Option<Ending>
+    ensures { result ≡ ending_of job.now step.now }
+{
+    match step {
+        JobStep::Going => None,
+        JobStep::Done(_) => Some(done_with(job.outcome().promoted())),
+        JobStep::Failed(cause) => Some(Ending::Failed(cause.name())),
+    }
+}
+
+fn is_takeover(purpose: Purpose) -> bool
+    ensures { result ≡ is_takeover purpose }
+{
+    match purpose {
+        Purpose::Regroup | Purpose::Master | Purpose::Intermediate(_) => false,
+        Purpose::Takeover(_) => true,
+    }
+}
+
+/// Whether the entry of a recovery is acknowledged in the turn that came to this step, as that of a takeover is which
+/// is done. It takes no memory.
+pub fn is_acknowledged(job: &RecoveryJob, step: &JobStep) -> bool
+    ensures { result ≡ is_acknowledged job.now step.now }
+{
+    match step {
+        JobStep::Going | JobStep::Failed(_) => false,
+        JobStep::Done(_) => is_takeover(job.purpose()),
+    }
+}

@@ -1,0 +1,106 @@
+//! What holds of tries, scans and endings, over their definitions alone.
+
+ghost use Rattle.std.specs.Prelude.{◌≡◌, ◌<◌, ◌≤◌, ◌+◌, ◌++◌, ◌∷◌, ℕ, [], All, Err, List, None, Ok, Option, Some, length, false, true};
+ghost use Rattle.orch_base.specs.declared.recovery.Ending.{Ending};
+ghost use Rattle.orch_base.specs.declared.server.Moment.{Moment as AMoment};
+ghost use Rattle.orch_base.specs.declared.server.ServerNo.{ServerNo as Number};
+ghost use Rattle.commands.specs.declared.line.Line.TheVariants as line;
+ghost use Rattle.commands.specs.declared.refusal.Refusal.{Refusal as ARefusal};
+ghost use Rattle.instance_keeper.specs.Book.{BookState, IsBook};
+ghost use Rattle.audit_log.specs.Apart.{IsApart};
+ghost use Rattle.audit_log.specs.Audits.{AuditState, begun, ended, is_open};
+ghost use Rattle.failure_analysis.specs.Analysis.{analysis};
+ghost use Rattle.failure_analysis.specs.Table.{action_of};
+ghost use Rattle.failure_analysis.specs.declared.code.Action.TheVariants.{Nothing};
+ghost use Rattle.failure_analysis.specs.declared.entry.Entry.{Entry as AnEntry};
+ghost use Rattle.operations.specs.declared.step.JobStep.{JobStep as AStep};
+ghost use Rattle.operations.specs.Turns.{is_going};
+ghost use Rattle.recovery_plans.specs.Recoveries.{Recovery};
+ghost use Rattle.recovery_permits.specs.declared.attempt.Attempt.{Attempt as AnAttempt};
+ghost use Rattle.server_model.specs.Worlds.{World};
+ghost use Rattle.recovery_core.specs.Begun.{audit_after, leases_after, BeginInTurn, CanBegin};
+ghost use Rattle.recovery_core.specs.Endings.{ending_of, is_acknowledged, is_takeover};
+ghost use Rattle.recovery_core.specs.Scans.{after_try, from_start, scanned, staged_try, Staged};
+ghost use Rattle.recovery_core.specs.Tries.{recovery_try, takeover_try, Begins};
+
+/// What isn't refused can begin, after any job, with the next number: its servers are of the book and have no lease,
+/// and its entry may begin.
+pub fn tries_can_begin()
+    ensures recovery { (w : World) (b : BookState) (audit : AuditState) (a : AnAttempt)
+        (wait last : ℕ) (f : Number) (x : Begins) →
+        IsBook b → f.0 < length b.names → recovery_try w b audit a wait (last + 1) f ≡ Ok x →
+        CanBegin (length b.names) b.leases audit last x }
+    ensures takeover { (w : World) (b : BookState) (audit : AuditState) (a : AnAttempt)
+        (wait last : ℕ) (i d : Number) (x : Begins) →
+        IsBook b → i.0 < length b.names → d.0 < length b.names →
+        takeover_try w b audit a wait (last + 1) i d ≡ Ok x →
+        CanBegin (length b.names) b.leases audit last x }
+    ensures recovery_moment { (w : World) (b : BookState) (audit : AuditState) (a : AnAttempt)
+        (wait job : ℕ) (f : Number) (x : Begins) →
+        recovery_try w b audit a wait job f ≡ Ok x → x.entry.begun ≡ a.now }
+    ensures takeover_moment { (w : World) (b : BookState) (audit : AuditState) (a : AnAttempt)
+        (wait job : ℕ) (i d : Number) (x : Begins) →
+        takeover_try w b audit a wait job i d ≡ Ok x → x.entry.begun ≡ a.now }
+{}
+
+/// What a scan begins can begin one after another, with the numbers after the last job's, and is what its leases and
+/// its audit have more.
+pub fn scans_begin_in_turn()
+    ensures begun { (w : World) (b : BookState) (audit : AuditState) (by : Number → AnAttempt)
+        (wait last : ℕ) → IsBook b →
+        BeginInTurn (length b.names) b.leases audit last (scanned w b audit by wait last).begun }
+    ensures leases { (w : World) (b : BookState) (audit : AuditState) (by : Number → AnAttempt)
+        (wait last : ℕ) → (scanned w b audit by wait last).leases
+        ≡ leases_after b.leases (scanned w b audit by wait last).begun }
+    ensures audit { (w : World) (b : BookState) (audit : AuditState) (by : Number → AnAttempt)
+        (wait last : ℕ) → (scanned w b audit by wait last).audit
+        ≡ audit_after audit (scanned w b audit by wait last).begun }
+    ensures last { (w : World) (b : BookState) (audit : AuditState) (by : Number → AnAttempt)
+        (wait last : ℕ) → (scanned w b audit by wait last).last
+        ≡ last + length (scanned w b audit by wait last).begun }
+    ensures moments { (w : World) (b : BookState) (audit : AuditState) (by : Number → AnAttempt)
+        (wait last : ℕ) (now : AMoment) → ((n : Number) → (by n).now ≡ now) →
+        All (λ x. x.entry.begun ≡ now) (scanned w b audit by wait last).begun }
+{}
+
+/// An audit that is apart stays apart through what begins: one that can, and each of several in turn. The next id never
+/// sinks.
+pub fn begins_keep_audits_apart()
+    ensures one { (count : ℕ) (leases : List (Option ℕ)) (audit : AuditState) (last : ℕ)
+        (x : Begins) →
+        CanBegin count leases audit last x → IsApart audit → IsApart (begun audit x.entry) }
+    ensures several { (count : ℕ) (leases : List (Option ℕ)) (audit : AuditState) (last : ℕ)
+        (xs : List Begins) → BeginInTurn count leases audit last xs → IsApart audit →
+        IsApart (audit_after audit xs) }
+    ensures scan { (w : World) (b : BookState) (audit : AuditState) (by : Number → AnAttempt)
+        (wait last : ℕ) → IsBook b → IsApart audit →
+        IsApart (scanned w b audit by wait last).audit }
+    ensures next { (w : World) (b : BookState) (audit : AuditState) (by : Number → AnAttempt)
+        (wait last : ℕ) → audit.next ≤ (scanned w b audit by wait last).audit.next }
+{}
+
+/// A try that is refused leaves where a scan has come as it was, and tells the refusal. A scan of a book whose analysis
+/// asks for no recovery tells and begins nothing.
+pub fn refused_tries_begin_nothing()
+    ensures refused { (w : World) (b : BookState) (a : AnAttempt) (wait : ℕ) (s : Staged)
+        (e : AnEntry) (why : ARefusal) →
+        staged_try w b a wait s e.no ≡ Err why →
+        after_try s e (staged_try w b a wait s e.no)
+        ≡ record s { lines = s.lines ++ line.Refused e.no e.code why ∷ [] } }
+    ensures idle { (w : World) (b : BookState) (audit : AuditState) (by : Number → AnAttempt)
+        (wait last : ℕ) → All (λ e. action_of e.code ≡ Nothing) (analysis b) →
+        scanned w b audit by wait last ≡ from_start b audit last }
+{}
+
+/// The end of a recovery says how it ended, and leaves the audit apart; while the recovery goes on there is none. Just
+/// a takeover is acknowledged so, and none that goes on.
+pub fn endings_close_entries()
+    ensures closed { (r : Recovery) (s : AStep) (e : Ending) →
+        ending_of r s ≡ Some e → is_open e ≡ false }
+    ensures apart { (a : AuditState) (id : ℕ) (at : AMoment) (r : Recovery) (s : AStep)
+        (e : Ending) → ending_of r s ≡ Some e → IsApart a → IsApart (ended a id at e) }
+    ensures going { (r : Recovery) (s : AStep) → is_going s ≡ true → ending_of r s ≡ None }
+    ensures ends { (r : Recovery) (s : AStep) → ending_of r s ≡ None → is_going s ≡ true }
+    ensures acknowledged { (r : Recovery) (s : AStep) → is_acknowledged r s ≡ true →
+        (is_takeover r.purpose ≡ true) × (is_going s ≡ false) }
+{}

@@ -1,0 +1,28 @@
+//! How recoveries and takeovers begin, by hand and by a scan, and how their entries in the audit end (orchestrator's
+//! documentation, "Topology recovery").
+#![tactic(auto)]
+
+mod begun;
+mod codes;
+mod ending;
+mod groups;
+mod laws;
+mod scanning;
+mod stage;
+mod takeover;
+mod threads;
+mod tries;
+
+pub use begun::Begun;
+pub use ending::{ending_of, is_acknowledged};
+pub use laws::{
+    begins_keep_audits_apart, endings_close_entries, refused_tries_begin_nothing,
+    scans_begin_in_turn, tries_can_begin,
+};
+/// Want of memory.
+pub use orch_base::Memory;
+pub use permission::PermitFault;
+pub use scanning::{Terms, scan};
+pub use stage::Scan;
+pub use takeover::try_takeover;
+pub use tries::try_recovery;

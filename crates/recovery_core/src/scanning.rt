@@ -1,0 +1,92 @@
+//! A scan for failed servers.
+
+ghost use Rattle.std.specs.Prelude.{◌≡◌, ◌≤◌, ◌^◌, All, IfOk, length, slice_index_or, false};
+ghost use Rattle.recovery_core.specs.Scans.{attempt_of, scanned, HasRoom};
+
+use crate::codes::actionable_entries;
+use crate::groups::groups;
+use crate::stage::Stage;
+use crate::{Memory, Scan};
+use audit_log::Audit;
+use commands::Lines;
+use instance_keeper::Book;
+use orch_base::{Moment, ServerNo};
+use recovery_permits::Attempt;
+use server_model::World;
+use std::alloc::Global;
+
+/// What a scan goes by, beside the book, the audit, the servers' settings and the filters.
+#[derive(Clone, Copy, Debug, PartialEq, Eq)]
+pub struct Terms {
+    /// Whether recoveries are enabled.
+    pub enabled: bool,
+    /// How long a recovery that isn't acknowledged blocks others of its cluster, in seconds.
+    pub block: u64,
+    /// How often each operation of a recovery may wait.
+    pub wait: u32,
+    /// The present moment.
+    pub now: Moment,
+}
+
+fn answer_at(answers: &[bool], no: ServerNo) -> bool
+    ensures { result ≡ slice_index_or answers.now no.0 false }
+{
+    match answers.get(no.0 as usize) {
+        Some(answer) => *answer,
+        None => false,
+    }
+}
+
+fn attempt_of(by_master: &[bool], by_intermediate: &[bool], terms: Terms, no: ServerNo) -> Attempt
+    ensures { result ≡ attempt_of by_master.now by_intermediate.now terms no }
+{
+    Attempt {
+        by_master: answer_at(by_master, no),
+        by_intermediate: answer_at(by_intermediate, no),
+        enabled: terms.enabled,
+        by_hand: false,
+        block: terms.block,
+        now: terms.now,
+    }
+}
+
+/// Tries a recovery of each instance whose analysis asks for one, in name order, each on the leases and the audit that
+/// the tries before it left, and with the next number after the last job. The filters' answers for recoveries of
+/// masters and of intermediate masters stand by server number. It changes nothing. Moments are at most 2^63, and a
+/// block period at most 1,000,000,000 seconds. `Memory` comes, too, where no number is left for a job, or no id in the
+/// audit.
+pub fn scan(
+    alloc: Global,
+    book: &Book,
+    world: &World,
+    audit: &Audit,
+    by_master: &[bool],
+    by_intermediate: &[bool],
+    terms: Terms,
+    last: u64,
+) -> Result<Scan, Memory>
+    requires begun { All (λ r. r.begun.0 ≤ 2 ^ 63) audit.now.audit.recoveries }
+    requires now { terms.now.0 ≤ 2 ^ 63 }
+    requires block { terms.block ≤ 1000000000 }
+    ensures lines { IfOk result (λ s. s.lines ≡ (scanned world.now book.now audit.now.audit
+        (attempt_of by_master.now by_intermediate.now terms) terms.wait last).lines) }
+    ensures begun { IfOk result (λ s. s.begun.items ≡ (scanned world.now book.now audit.now.audit
+        (attempt_of by_master.now by_intermediate.now terms) terms.wait last).begun) }
+    ensures room { IfOk result (λ s. HasRoom s.begun.items) }
+{
+    let entries = actionable_entries(alloc, book)?;
+    if entries.is_empty() {
+        return Ok(Scan {
+            lines: Lines::new(Vec::new(alloc)),
+            begun: Vec::new(alloc),
+        });
+    }
+    let groups = groups(alloc, book)?;
+    let mut stage = Stage::begin(alloc, book, audit, last)?;
+    for entry in &entries {
+        let attempt = attempt_of(by_master, by_intermediate, terms, entry.no);
+        let replicas = groups[entry.no.0 as usize].members();
+        stage.try_entry(alloc, book, world, attempt, terms.wait, *entry, replicas)?;
+    }
+    Ok(stage.into_scan())
+}

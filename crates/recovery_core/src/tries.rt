@@ -1,0 +1,126 @@
+//! The recovery of a server, as it is tried.
+
+ghost use Rattle.std.specs.Prelude.{◌≡◌, ◌<◌, ◌≤◌, ◌-◌, ◌^◌, All, IfOk, length};
+ghost use Rattle.orch_base.specs.Gives.{Gives};
+ghost use Rattle.book_views.specs.Forests.{book_forest};
+ghost use Rattle.book_views.specs.Sources.{replicas_of};
+ghost use Rattle.permission.specs.Checks.{permit_fault};
+ghost use Rattle.recovery_permits.specs.Recoveries.{recovery_list};
+ghost use Rattle.recovery_core.specs.Tries.{entry_of, recovery_begins, recovery_kind, recovery_try};
+
+use crate::codes::code_at;
+use crate::{Begun, Memory, PermitFault};
+use audit_log::Audit;
+use book_views::replicas;
+use instance_keeper::{Book, Recovery};
+use orch_base::{Ending, Kind, Moment, ServerNo};
+use permission::source;
+use recovery_permits::{Attempt, permit_recovery, recovery_purpose, recovery_servers};
+use recovery_turns::RecoveryJob;
+use server_model::World;
+use std::alloc::Global;
+use topology_tree::Forest;
+
+/// The entry of a recovery that begins. Where the audit has no id left, memory wants.
+pub(crate) fn entry_of(
+    alloc: Global,
+    book: &Book,
+    audit: &Audit,
+    now: Moment,
+    kind: Kind,
+    failed: ServerNo,
+) -> Result<Recovery, Memory>
+    requires { failed.0 < length book.now.names }
+    ensures entry { IfOk result (λ r. r ≡ entry_of book.now audit.now.audit now kind failed) }
+    ensures room { IfOk result (λ r. r.id < 2 ^ 64 - 1) }
+{
+    let id = audit.next();
+    if id == u64::MAX {
+        return Err(Memory);
+    }
+    Ok(Recovery {
+        id,
+        cluster: book.settings(failed).cluster.copy(alloc)?,
+        kind,
+        failed,
+        begun: now,
+        ended: None,
+        outcome: Ending::Unended,
+        acked: false,
+    })
+}
+
+fn recovery_kind(book: &Book, failed: ServerNo) -> Kind
+    ensures { result ≡ recovery_kind book.now failed }
+{
+    match source(book, failed) {
+        None => Kind::Master,
+        Some(_) => Kind::Intermediate,
+    }
+}
+
+/// The recovery of a server, with the servers of which it takes the leases and the failed server's replicas, as the job
+/// of this number, whose operations may wait so often each.
+pub(crate) fn recovery_begins(
+    alloc: Global,
+    book: &Book,
+    audit: &Audit,
+    now: Moment,
+    wait: u32,
+    job: u64,
+    failed: ServerNo,
+    list: Vec<ServerNo>,
+    replicas: Vec<ServerNo>,
+) -> Result<Begun, Memory>
+    requires server { failed.0 < length book.now.names }
+    requires list { list.items ≡ recovery_list book.now failed }
+    requires replicas { replicas.items ≡ replicas_of book.now failed }
+    ensures begins { IfOk result (λ x. x
+        ≡ recovery_begins book.now audit.now.audit now wait job failed) }
+    ensures room { IfOk result (λ x. x.entry.id < 2 ^ 64 - 1) }
+{
+    let entry = entry_of(alloc, book, audit, now, recovery_kind(book, failed), failed)?;
+    let purpose = recovery_purpose(book, failed);
+    let order = replicas.to_vec(alloc)?;
+    let job = RecoveryJob::make(alloc, purpose, job, wait, failed, replicas, order)?;
+    Ok(Begun::new(list, job, entry))
+}
+
+/// Tries the recovery of a server, as the job of this number, whose operations may wait so often each: what begins, or
+/// the refusal of the lowest number that applies. It changes nothing. Moments are at most 2^63, and a block period at
+/// most 1,000,000,000 seconds. `Memory` comes, too, where the audit has no id left.
+pub fn try_recovery(
+    alloc: Global,
+    book: &Book,
+    forest: &Forest,
+    world: &World,
+    audit: &Audit,
+    attempt: Attempt,
+    wait: u32,
+    job: u64,
+    failed: ServerNo,
+) -> Result<Begun, PermitFault>
+    requires server { failed.0 < length book.now.names }
+    requires forest { forest.now ≡ book_forest book.now }
+    requires begun { All (λ r. r.begun.0 ≤ 2 ^ 63) audit.now.audit.recoveries }
+    requires block { attempt.block ≤ 1000000000 }
+    ensures begins { Gives (λ x. x) permit_fault result (recovery_try world.now book.now
+        audit.now.audit attempt wait job failed) }
+    ensures room { IfOk result (λ x. x.entry.id < 2 ^ 64 - 1) }
+{
+    let code = code_at(alloc, book, failed)?;
+    permit_recovery(alloc, book, forest, world, audit, attempt, failed, code)?;
+    let list = recovery_servers(alloc, book, failed)?;
+    let replicas = replicas(alloc, book, failed)?;
+    Ok(recovery_begins(
+        alloc,
+        book,
+        audit,
+        attempt.now,
+        wait,
+        job,
+        failed,
+        list,
+        replicas,
+    )?)
+}
