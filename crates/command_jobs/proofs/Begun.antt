@@ -1,14 +1,27 @@
 -- A command that isn't refused begins a job over servers that are there and free.
-use Rattle.std.proofs.Common.{◌≡◌, ◌<◌, true, length, None}
+use Rattle.std.proofs.Common.{◌≡◌, ℕ, ◌<◌, ◌^◌, true, List, [], length, refl, Option, Some, None, arith}
+use Rattle.std.proofs.lemmas.List.Elements.{All-nil}
+use Rattle.orch_base.specs.declared.server.ServerNo.{ServerNo}
 use Rattle.std.specs.Prelude.{All}
 use Rattle.orch_base.specs.declared.server.Moment.{Moment}
 use Rattle.commands.specs.declared.turn.Command.{Command}
 use Rattle.commands.specs.Turns.{is_within}
 use Rattle.command_routes.specs.declared.route.Planner.{Planner}
-use Rattle.command_routes.specs.declared.route.Planner.TheVariants.{Coordinates, Gtids, Paths}
+use Rattle.command_routes.specs.declared.route.Planner.TheVariants.{Coordinates, Gtids, Paths, Regroups}
 use Rattle.instance_keeper.specs.Book.{BookState, IsBook}
 use Rattle.instance_keeper.specs.Leases.{first_busy}
-use Rattle.operations.specs.Named.{are_named}
+use Rattle.operations.specs.declared.op.Op.{Op}
+use Rattle.operations.specs.Jobs.{job_with}
+use Rattle.operations.specs.Named.{IsInRange, are_named}
+use Rattle.book_views.specs.Sources.{replicas_of}
+use Rattle.permission.proofs.Within.{given-within, replicas-within}
+use Rattle.recovery_plans.specs.declared.purpose.Purpose.TheVariants as purpose
+use Rattle.recovery_plans.proofs.Begun.{begun-of}
+use Rattle.recovery_ends.proofs.Ended.{begun-shaped}
+use Rattle.unended_jobs.specs.Unended.{IsReady, IsReadyJob, IsUnended, number_of}
+use Rattle.moves_coords.specs.Plans as coords_plans
+use Rattle.moves_gtid.specs.Plans as gtid_plans
+use Rattle.regroup.specs.Plans as path_plans
 use Rattle.server_model.specs.Worlds.{World}
 use Rattle.moves_coords.proofs.Free as free_coords
 use Rattle.moves_coords.proofs.Named as named_coords
@@ -16,20 +29,71 @@ use Rattle.moves_gtid.proofs.Free as free_gtids
 use Rattle.moves_gtid.proofs.Named as named_gtids
 use Rattle.regroup.proofs.Free as free_paths
 use Rattle.regroup.proofs.Named as named_paths
-use Rattle.command_jobs.specs.Jobs.{leases_by, plan_by, refusal_by}
+use Rattle.command_jobs.specs.Jobs.{job_by, leases_by, refusal_by, regroup_about}
 
 pub leases-free : (w : World) (b : BookState) (now : Moment) (c : Command) (p : Planner) → refusal_by w b now c p ≡ None → first_busy b.leases (leases_by w b c p) ≡ None
 leases-free w b now c Coordinates h = free_coords.leases-free w b c h
 leases-free w b now c Gtids h = free_gtids.leases-free w b c h
 leases-free w b now c Paths h = free_paths.leases-free w b now c h
+leases-free w b now c Regroups h = free_paths.leases-free w b now c h
 
 module _ (w : World) (b : BookState) (c : Command) (is : IsBook b) (i_there : is_within (length b.names) c.i ≡ true) (d_there : is_within (length b.names) c.d ≡ true) where
   pub leases-within : (p : Planner) → All (λ n. n.0 < length b.names) (leases_by w b c p)
   leases-within Coordinates = named_coords.leases-within b c is i_there d_there
   leases-within Gtids = named_gtids.leases-within b c is i_there d_there
   leases-within Paths = named_paths.leases-within w b c i_there d_there
+  leases-within Regroups = named_paths.leases-within w b c i_there d_there
 
-  pub plan-named : (p : Planner) → are_named (length b.names) (plan_by w b c p) ≡ true
-  plan-named Coordinates = named_coords.plan-named w b c is i_there d_there
-  plan-named Gtids = named_gtids.plan-named b c is i_there d_there
-  plan-named Paths = named_paths.plan-named w b c i_there d_there
+  in-range : (id wait : ℕ) (ops : List Op) → id < 2 ^ 64 → wait < 2 ^ 32 → are_named (length b.names) ops ≡ true → IsInRange (length b.names) (job_with id wait ops)
+  in-range id wait ops id_fits wait_fits named = record {
+    id = id_fits;
+    wait = wait_fits;
+    waited = omega arith;
+    named = record { ops = named; hands = All-nil _ };
+  }
+
+  -- a regroup names its instance and that one's replicas, and comes to an end
+  regrouped : (i : Option ServerNo) → is_within (length b.names) i ≡ true → (id wait : ℕ) → id < 2 ^ 64 → wait < 2 ^ 32 → IsUnended (length b.names) (regroup_about b id wait i)
+  regrouped None h id wait id_fits wait_fits = in-range id wait [] id_fits wait_fits refl
+  regrouped (Some i) h id wait id_fits wait_fits = record {
+    id = id_fits;
+    ready = record {
+      named = begun-of (λ n. n < length b.names) (λ n. n < length b.names) purpose.Regroup id wait i (replicas_of b i) (replicas_of b i) (replicas-within b i) (given-within b (Some i) h) tt;
+      shaped = begun-shaped purpose.Regroup id wait i (replicas_of b i) (replicas_of b i);
+    };
+  }
+
+  ready-by : (id wait : ℕ) (ops : List Op) → are_named (length b.names) ops ≡ true → IsReadyJob (length b.names) (job_with id wait ops)
+  ready-by id wait ops named = record { named = record { ops = named; hands = All-nil _ }; waited = omega arith }
+
+  regroup-ready : (i : Option ServerNo) → is_within (length b.names) i ≡ true → (id wait : ℕ) → IsReady (length b.names) (regroup_about b id wait i)
+  regroup-ready None h id wait = ready-by id wait [] refl
+  regroup-ready (Some i) h id wait = record {
+    named = begun-of (λ n. n < length b.names) (λ n. n < length b.names) purpose.Regroup id wait i (replicas_of b i) (replicas_of b i) (replicas-within b i) (given-within b (Some i) h) tt;
+    shaped = begun-shaped purpose.Regroup id wait i (replicas_of b i) (replicas_of b i);
+  }
+
+  -- a turn of the job can be taken, whatever its number
+  pub job-ready : (p : Planner) (id wait : ℕ) → IsReady (length b.names) (job_by w b c p id wait)
+  job-ready Coordinates id wait = ready-by id wait (coords_plans.plan_of w b c) (named_coords.plan-named w b c is i_there d_there)
+  job-ready Gtids id wait = ready-by id wait (gtid_plans.plan_of b c) (named_gtids.plan-named b c is i_there d_there)
+  job-ready Paths id wait = ready-by id wait (path_plans.plan_of w b c) (named_paths.plan-named w b c i_there d_there)
+  job-ready Regroups id wait = regroup-ready c.i i_there id wait
+
+  -- the numbers of the job, and the servers that it names, are in their ranges
+  pub job-unended : (p : Planner) (id wait : ℕ) → id < 2 ^ 64 → wait < 2 ^ 32 → IsUnended (length b.names) (job_by w b c p id wait)
+  job-unended Coordinates id wait id_fits wait_fits = in-range id wait (coords_plans.plan_of w b c) id_fits wait_fits (named_coords.plan-named w b c is i_there d_there)
+  job-unended Gtids id wait id_fits wait_fits = in-range id wait (gtid_plans.plan_of b c) id_fits wait_fits (named_gtids.plan-named b c is i_there d_there)
+  job-unended Paths id wait id_fits wait_fits = in-range id wait (path_plans.plan_of w b c) id_fits wait_fits (named_paths.plan-named w b c i_there d_there)
+  job-unended Regroups id wait id_fits wait_fits = regrouped c.i i_there id wait id_fits wait_fits
+
+regroup-number : (b : BookState) (id wait : ℕ) (i : Option ServerNo) → number_of (regroup_about b id wait i) ≡ id
+regroup-number b id wait None = refl
+regroup-number b id wait (Some i) = refl
+
+-- it has that number
+pub job-number : (w : World) (b : BookState) (c : Command) (p : Planner) (id wait : ℕ) → number_of (job_by w b c p id wait) ≡ id
+job-number w b c Coordinates id wait = refl
+job-number w b c Gtids id wait = refl
+job-number w b c Paths id wait = refl
+job-number w b c Regroups id wait = regroup-number b id wait c.i

@@ -3,7 +3,7 @@ use Rattle.std.proofs.Common.{◌≡◌, refl, Some}
 use Rattle.std.specs.Prelude.{IsSome, IsTrue}
 use Rattle.commands.specs.declared.name.CommandName.{CommandName}
 use Rattle.commands.specs.declared.name.CommandName.TheVariants as name
-use Rattle.command_routes.specs.declared.route.Planner.TheVariants.{Coordinates, Gtids, Paths}
+use Rattle.command_routes.specs.declared.route.Planner.TheVariants.{Coordinates, Gtids, Paths, Regroups}
 use Rattle.moves_coords.specs.Commands.{coords_command}
 use Rattle.moves_gtid.specs.Commands.{gtid_command}
 use Rattle.regroup.specs.Commands.{has_plan, regroup_command}
@@ -141,6 +141,50 @@ by-paths name.DisableGlobalRecoveries h = cc
 by-paths name.EnableGlobalRecoveries h = cc
 by-paths name.CheckGlobalRecoveries h = cc
 
+pub by-regroups : (n : CommandName) → planner_for n ≡ Some Regroups → IsSome (regroup_command n)
+by-regroups name.MoveUp h = cc
+by-regroups name.MoveUpReplicas h = cc
+by-regroups name.MoveBelow h = cc
+by-regroups name.Repoint h = cc
+by-regroups name.TakeSiblings h = cc
+by-regroups name.TakeMaster h = cc
+by-regroups name.MoveGtid h = cc
+by-regroups name.MoveReplicasGtid h = cc
+by-regroups name.EnableGtid h = cc
+by-regroups name.DisableGtid h = cc
+by-regroups name.Relocate h = cc
+by-regroups name.RelocateReplicas h = cc
+by-regroups name.RegroupReplicas h = refl
+by-regroups name.DetachReplica h = cc
+by-regroups name.ReattachReplica h = cc
+by-regroups name.ResetReplica h = cc
+by-regroups name.StartReplica h = cc
+by-regroups name.StopReplica h = cc
+by-regroups name.RestartReplica h = cc
+by-regroups name.SetReadOnly h = cc
+by-regroups name.SetWriteable h = cc
+by-regroups name.Discover h = cc
+by-regroups name.Forget h = cc
+by-regroups name.BeginDowntime h = cc
+by-regroups name.EndDowntime h = cc
+by-regroups name.RegisterCandidate h = cc
+by-regroups name.Recover h = cc
+by-regroups name.GracefulMasterTakeover h = cc
+by-regroups name.AckClusterRecoveries h = cc
+by-regroups name.Topology h = cc
+by-regroups name.WhichMaster h = cc
+by-regroups name.WhichReplicas h = cc
+by-regroups name.WhichCluster h = cc
+by-regroups name.WhichClusterInstances h = cc
+by-regroups name.Clusters h = cc
+by-regroups name.AllInstances h = cc
+by-regroups name.Find h = cc
+by-regroups name.ReplicationAnalysis h = cc
+by-regroups name.AuditRecoveries h = cc
+by-regroups name.DisableGlobalRecoveries h = cc
+by-regroups name.EnableGlobalRecoveries h = cc
+by-regroups name.CheckGlobalRecoveries h = cc
+
 pub planned-paths : (n : CommandName) → planner_for n ≡ Some Paths → IsTrue (has_plan (regroup_command n))
 planned-paths name.MoveUp h = cc
 planned-paths name.MoveUpReplicas h = cc
@@ -185,4 +229,4 @@ planned-paths name.DisableGlobalRecoveries h = cc
 planned-paths name.EnableGlobalRecoveries h = cc
 planned-paths name.CheckGlobalRecoveries h = cc
 
-pub ruleset planned = (by-coordinates, by-gtids, by-paths, planned-paths)
+pub ruleset planned = (by-coordinates, by-gtids, by-paths, by-regroups, planned-paths)

@@ -1,15 +1,20 @@
--- The job that a command begins: what refuses it, of which servers it takes the leases, and its operations.
-use Rattle.std.specs.Prelude.{List, [], Option, Some, None}
+-- The job that a command begins: what refuses it, of which servers it takes the leases, and the job itself.
+use Rattle.std.specs.Prelude.{ℕ, List, [], Option, Some, None}
 use Rattle.orch_base.specs.declared.server.Moment.{Moment}
 use Rattle.orch_base.specs.declared.server.ServerNo.{ServerNo}
 use Rattle.commands.specs.declared.name.CommandName.{CommandName}
 use Rattle.commands.specs.declared.refusal.Refusal.{Refusal}
 use Rattle.commands.specs.declared.turn.Command.{Command}
 use Rattle.command_routes.specs.declared.route.Planner.{Planner}
-use Rattle.command_routes.specs.declared.route.Planner.TheVariants.{Coordinates, Gtids, Paths}
+use Rattle.command_routes.specs.declared.route.Planner.TheVariants.{Coordinates, Gtids, Paths, Regroups}
 use Rattle.command_routes.specs.Routes.{planner_of, route_of}
 use Rattle.instance_keeper.specs.Book.{BookState}
-use Rattle.operations.specs.declared.op.Op.{Op}
+use Rattle.book_views.specs.Sources.{replicas_of}
+use Rattle.operations.specs.Jobs.{job_with}
+use Rattle.recovery_plans.specs.Beginning.{begun_recovery}
+use Rattle.recovery_plans.specs.declared.purpose.Purpose.TheVariants as purpose
+use Rattle.unended_jobs.specs.declared.unended.Unended.{Unended}
+use Rattle.unended_jobs.specs.declared.unended.Unended.TheVariants as unended
 use Rattle.server_model.specs.Worlds.{World}
 use Rattle.moves_coords.specs.Permits as coords
 use Rattle.moves_coords.specs.Plans as coords_plans
@@ -27,22 +32,32 @@ abbrev pub refusal_by : World → BookState → Moment → Command → Planner �
 refusal_by w b now c Coordinates = coords.refusal_of w b c
 refusal_by w b now c Gtids = gtids.refusal_of w b c
 refusal_by w b now c Paths = paths.refusal_of w b now c
+refusal_by w b now c Regroups = paths.refusal_of w b now c
 
 abbrev pub leases_by : World → BookState → Command → Planner → List ServerNo
 leases_by w b c Coordinates = coords.leased_by b c
 leases_by w b c Gtids = gtids.leased_by b c
 leases_by w b c Paths = paths.leased_by w b c
+leases_by w b c Regroups = paths.leased_by w b c
 
-abbrev pub plan_by : World → BookState → Command → Planner → List Op
-plan_by w b c Coordinates = coords_plans.plan_of w b c
-plan_by w b c Gtids = gtid_plans.plan_of b c
-plan_by w b c Paths = path_plans.plan_of w b c
+-- the replicas of an instance are regrouped, in name order; without one nothing is done
+abbrev pub regroup_about : BookState → ℕ → ℕ → Option ServerNo → Unended
+regroup_about b id wait None = unended.Plan (job_with id wait [])
+regroup_about b id wait (Some i) = unended.Recovery (begun_recovery purpose.Regroup id wait i (replicas_of b i) (replicas_of b i)) None
 
--- the same of any command; nothing of one that begins no job
+-- the command's job, with this number, whose operations may wait so often each
+abbrev pub job_by : World → BookState → Command → Planner → ℕ → ℕ → Unended
+job_by w b c Coordinates id wait = unended.Plan (job_with id wait (coords_plans.plan_of w b c))
+job_by w b c Gtids id wait = unended.Plan (job_with id wait (gtid_plans.plan_of b c))
+job_by w b c Paths id wait = unended.Plan (job_with id wait (path_plans.plan_of w b c))
+job_by w b c Regroups id wait = regroup_about b id wait c.i
+
+-- the servers of which any command takes the leases: none of one that begins no job
 abbrev pub leases_with : World → BookState → Command → Option Planner → List ServerNo
 leases_with w b c None = []
 leases_with w b c (Some p) = leases_by w b c p
 
-abbrev pub plan_with : World → BookState → Command → Option Planner → List Op
-plan_with w b c None = []
-plan_with w b c (Some p) = plan_by w b c p
+-- any command's job: nothing is done by one of a command that begins none
+abbrev pub job_for : World → BookState → Command → Option Planner → ℕ → ℕ → Unended
+job_for w b c None id wait = unended.Plan (job_with id wait [])
+job_for w b c (Some p) id wait = job_by w b c p id wait

@@ -1,20 +1,24 @@
-//! Permission, leases and plan of a command that begins a job.
+//! Permission, leases and job of a command that begins a job.
 
 ghost use Rattle.std.specs.Prelude.{◌≡◌, IfOk, Some};
 ghost use Rattle.orch_base.specs.Gives.{Gives};
 ghost use Rattle.book_views.specs.Forests.{book_forest};
 ghost use Rattle.permission.specs.Checks.{permit_fault, permitted};
-ghost use Rattle.command_jobs.specs.Jobs.{leases_by, plan_by, planner_for, refusal_by};
+ghost use Rattle.command_jobs.specs.Jobs.{job_by, leases_by, planner_for, refusal_by, regroup_about};
 
+use book_views::replicas;
 use command_routes::Planner;
 use commands::Command;
 use instance_keeper::Book;
-use operations::Op;
+use job_plans::Job;
 use orch_base::{Memory, Moment, ServerNo};
 use permission::PermitFault;
+use recovery_plans::Purpose;
+use recovery_turns::RecoveryJob;
 use server_model::World;
 use std::alloc::Global;
 use topology_tree::Forest;
+use unended_jobs::Unended;
 
 /// `Refused` exactly with the lowest refusal of the permission table that applies to the command. It changes nothing.
 /// `Memory` comes only for want of memory.
@@ -35,7 +39,9 @@ pub fn permit(
     match planner {
         Planner::Coordinates => moves_coords::permit(alloc, book, forest, world, command, now),
         Planner::Gtids => moves_gtid::permit(alloc, book, forest, world, command, now),
-        Planner::Paths => regroup::permit(alloc, book, forest, world, command, now),
+        Planner::Paths | Planner::Regroups => regroup::permit(
+            alloc, book, forest, world, command, now,
+        ),
     }
 }
 
@@ -56,27 +62,53 @@ pub fn leases(
     match planner {
         Planner::Coordinates => moves_coords::leases(alloc, book, command),
         Planner::Gtids => moves_gtid::leases(alloc, book, command),
-        Planner::Paths => regroup::leases(alloc, book, forest, world, command),
+        Planner::Paths | Planner::Regroups => regroup::leases(alloc, book, forest, world, command),
     }
 }
 
-/// The operations of the command's job, ended by its lines.
+// The replicas of an instance are regrouped; where none is given, nothing is.
+fn regroup_of(
+    alloc: Global,
+    book: &Book,
+    instance: Option<ServerNo>,
+    id: u64,
+    wait: u32,
+) -> Result<Unended, Memory>
+    ensures { IfOk result (λ job. job ≡ regroup_about book.now id wait instance) }
+{
+    let Some(i) = instance else {
+        return Ok(Unended::Plan(Job::make(alloc, id, Vec::new(alloc), wait)?));
+    };
+    let replicas = replicas(alloc, book, i)?;
+    let order = replicas.to_vec(alloc)?;
+    Ok(Unended::Recovery(
+        RecoveryJob::make(alloc, Purpose::Regroup, id, wait, i, replicas, order)?,
+        None,
+    ))
+}
+
+/// The command's job, with this number, whose operations may wait so often each: the operations of its plan, ended by its
+/// lines, or of a regroup what is done with the replicas. `Err` is want of memory.
 #[tactic(auto, using(crate::proofs::Planned::planned))]
-pub fn plan(
+pub fn job(
     alloc: Global,
     book: &Book,
     forest: &Forest,
     world: &World,
     command: Command,
     planner: Planner,
-) -> Result<Vec<Op>, Memory>
+    id: u64,
+    wait: u32,
+) -> Result<Unended, Memory>
     requires forest { forest.now ≡ book_forest book.now }
     requires planner { planner_for command.name ≡ Some planner }
-    ensures { IfOk result (λ ops. ops.items ≡ plan_by world.now book.now command planner) }
+    ensures { IfOk result (λ job. job ≡ job_by world.now book.now command planner id wait) }
 {
-    match planner {
-        Planner::Coordinates => moves_coords::plan(alloc, book, forest, world, command),
-        Planner::Gtids => moves_gtid::plan(alloc, book, forest, world, command),
-        Planner::Paths => regroup::plan(alloc, book, forest, world, command),
-    }
+    let ops = match planner {
+        Planner::Coordinates => moves_coords::plan(alloc, book, forest, world, command)?,
+        Planner::Gtids => moves_gtid::plan(alloc, book, forest, world, command)?,
+        Planner::Paths => regroup::plan(alloc, book, forest, world, command)?,
+        Planner::Regroups => return regroup_of(alloc, book, command.i, id, wait),
+    };
+    Ok(Unended::Plan(Job::make(alloc, id, ops, wait)?))
 }

@@ -1,10 +1,10 @@
 //! The job that a command begins, by the crate whose command it is: what refuses it, of which servers it takes the leases,
-//! and its operations.
+//! and the job itself.
 #![tactic(auto)]
 
 mod jobs;
 
-pub use jobs::{leases, permit, plan};
+pub use jobs::{job, leases, permit};
 /// Want of memory.
 pub use orch_base::Memory;
 pub use permission::PermitFault;

@@ -58,6 +58,8 @@ pub enum Planner {
     Gtids,
     /// The commands that take servers below another one by whatever path.
     Paths,
+    /// The command that takes replicas of one server below the best of them.
+    Regroups,
 }
 
 /// What a command does.
@@ -121,9 +123,8 @@ impl Route {
             | CommandName::EnableGtid
             | CommandName::DisableGtid => Route::Begins(Planner::Gtids),
             CommandName::Relocate | CommandName::RelocateReplicas => Route::Begins(Planner::Paths),
-            CommandName::RegroupReplicas
-            | CommandName::Recover
-            | CommandName::GracefulMasterTakeover => Route::Unbuilt,
+            CommandName::RegroupReplicas => Route::Begins(Planner::Regroups),
+            CommandName::Recover | CommandName::GracefulMasterTakeover => Route::Unbuilt,
         }
     }
 

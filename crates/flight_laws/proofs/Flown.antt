@@ -1,7 +1,8 @@
 -- Each turn of a run is its passages, and leaves all that is kept speaking of the servers.
 use Rattle.std.proofs.Common.{◌≡◌, ◌∙◌, ℕ, Bool, true, false, List, [], ◌∷◌, length, refl, sym, ap, Option, Some, None, zero, suc}
-use Rattle.std.specs.Prelude.{All, IfSome, is_some, nat_lt, not, replicate, slice_index_or, slice_set, if◌then◌else◌}
+use Rattle.std.specs.Prelude.{All, IfSome, is_some, map, nat_lt, not, replicate, slice_index_or, slice_set, if◌then◌else◌}
 use Rattle.std.specs.Option.{option_map}
+use Rattle.std.proofs.lemmas.Bool.{false≢true}
 use Rattle.std.proofs.lemmas.List.{length-map, length-set}
 use Rattle.std.proofs.lemmas.List.Elements.{All-set}
 use Rattle.orch_base.specs.declared.server.Settings.{Settings}
@@ -15,24 +16,32 @@ use Rattle.instance_keeper.specs.declared.row.Row.TheVariants as row
 use Rattle.instance_keeper.specs.Book.{BookState, IsBook, after_put, after_row, empty_book, instance_at, renewed, renewed_book, row_fits, stored_over}
 use Rattle.instance_keeper.specs.Leases.{given_back}
 use Rattle.opening_book.specs.Counting.{counted, loaded}
-use Rattle.server_model.specs.Run.{run}
+use Rattle.server_model.specs.Run.{Exchange, run}
 use Rattle.turns.specs.declared.turn.Turn.{Turn}
 use Rattle.turns.specs.declared.turn.Turn.TheVariants as turn
 use Rattle.scenarios.specs.Turns.{IsTurn}
 use Rattle.operations.specs.Jobs.{Job}
-use Rattle.operations.specs.Turns.{Turned, is_going}
-use Rattle.job_laws.specs.Flights.{Flight, no_leases, without_leases}
-use Rattle.job_laws.specs.Leases.{leases_of}
+use Rattle.operations.specs.declared.step.JobStep.{JobStep}
+use Rattle.operations.specs.Turns.{is_going, turned}
+use Rattle.recovery_plans.specs.Recoveries.{Recovery}
+use Rattle.recovery_plans.specs.Taking.{taken}
+use Rattle.recovery_laws.specs.Passing.{core_by}
+use Rattle.unended_jobs.specs.declared.unended.Unended.{Unended}
+use Rattle.unended_jobs.specs.declared.unended.Unended.TheVariants as unended
+use Rattle.unended_jobs.specs.Unended.{core_of}
+use Rattle.unended_laws.proofs.Cores.{core-found, cores-replaced, cores-without}
+use Rattle.job_laws.specs.Flights.{Flight, no_leases, replaced, without_job as without_core, without_leases as no_longer}
+use Rattle.job_laws.specs.Leases.{leases_of, job_at as core_at}
 use Rattle.job_laws.specs.Passages as pass
 use Rattle.job_laws.specs.Passages.{AllMayPass, Passage, passing, stored_if, turned_by}
 use Rattle.job_laws.proofs.Listed.{given-leases}
-use Rattle.jobs_in_flight.specs.Jobs.{book_turned, job_at, job_exchanges, job_observation, jobs_turned, stored, with_job, without_job}
-use Rattle.orch_core.specs.Jobs.{turn_of, turned_at}
+use Rattle.jobs_in_flight.specs.Jobs.{book_turned, job_at, job_exchanges, jobs_turned, stored, with_job, without_job, without_leases}
+use Rattle.orch_core.specs.Jobs.{turn_of}
 use Rattle.orch_core.specs.Polls.{empty_slots, reading, slot_at}
 use Rattle.orch_core.specs.Restarts.{last_given, reloaded_book}
 use Rattle.orch_core.specs.Runs.{step}
 use Rattle.orch_core.specs.States.{State, IsSlot}
-use Rattle.flight_laws.specs.Flights.{flight_of, moment_at, passages_of, takes, takes_over}
+use Rattle.flight_laws.specs.Flights.{by_job, flight_of, moment_at, passages_of, takes, takes_over}
 use Rattle.flight_laws.specs.Ready.{Ready}
 use Rattle.flight_laws.proofs.Outcomes.{Leaves-command}
 
@@ -74,7 +83,7 @@ module _ (s : State) (p : ℕ) (n : ServerNo) where
   poll-flown true = refl
   poll-flown false = refl
 
-  poll-may : (known : Bool) → AllMayPass (flight_of s) (if known then pass.Polling p n (next_count s.reads) (moment_at s) ∷ [] else [])
+  pub poll-may : (known : Bool) → AllMayPass (flight_of s) (if known then pass.Polling p n (next_count s.reads) (moment_at s) ∷ [] else [])
   poll-may true = (tt, tt)
   poll-may false = tt
 
@@ -90,35 +99,49 @@ module _ (s : State) (p : ℕ) (n : ServerNo) where
 
 module _ (s : State) (id : ℕ) where
   -- what the turn leaves, by whether the job goes on
-  turn-flown : (t : Turned) (going : Bool)
+  turn-flown : (step : JobStep) (o : Option Observation) (es : List Exchange) (u : Unended) (core : Job) (going : Bool) → (going ≡ true → core_of u ≡ core)
       → record (flight_of s) {
-        world = run s.world t.exchanges;
-        rings = (if going then stored s.book t.observation else Rattle.jobs_in_flight.specs.Jobs.without_leases (stored s.book t.observation) id).rings;
-        jobs = (if going then with_job s.jobs id t.job else without_job s.jobs id);
-        leases = leases_of (if going then stored s.book t.observation else Rattle.jobs_in_flight.specs.Jobs.without_leases (stored s.book t.observation) id).leases;
-      } ≡ stored_if (takes s.book t.observation) (record (flight_of s) {
-        world = run s.world t.exchanges;
-        jobs = (if going then with_job s.jobs id t.job else without_job s.jobs id);
-        leases = (if going then leases_of s.book.leases else without_leases (leases_of s.book.leases) id);
-      }) t.observation
-  turn-flown t true =
-      ap (λ (l : List (Option ℕ)). record (flight_of s) { world = run s.world t.exchanges; rings = (stored s.book t.observation).rings; jobs = with_job s.jobs id t.job; leases = leases_of l }) (leases-stored s.book t.observation)
-      ∙ stored-flown (record (flight_of s) { world = run s.world t.exchanges; jobs = with_job s.jobs id t.job }) s.book t.observation
-  turn-flown t false =
-      ap (λ (l : List (Option ℕ)). record (flight_of s) { world = run s.world t.exchanges; rings = (stored s.book t.observation).rings; jobs = without_job s.jobs id; leases = leases_of (given_back l id) }) (leases-stored s.book t.observation)
-      ∙ ap (λ (l : ℕ → Option ℕ). record (flight_of s) { world = run s.world t.exchanges; rings = (stored s.book t.observation).rings; jobs = without_job s.jobs id; leases = l }) (given-leases s.book.leases id)
-      ∙ stored-flown (record (flight_of s) { world = run s.world t.exchanges; jobs = without_job s.jobs id; leases = without_leases (leases_of s.book.leases) id }) s.book t.observation
+        world = run s.world es;
+        rings = (if going then stored s.book o else without_leases (stored s.book o) id).rings;
+        jobs = map core_of (if going then with_job s.jobs id u else without_job s.jobs id);
+        leases = leases_of (if going then stored s.book o else without_leases (stored s.book o) id).leases;
+      } ≡ stored_if (takes s.book o) (record (flight_of s) {
+        world = run s.world es;
+        jobs = (if going then replaced (map core_of s.jobs) id core else without_core (map core_of s.jobs) id);
+        leases = (if going then leases_of s.book.leases else no_longer (leases_of s.book.leases) id);
+      }) o
+  turn-flown step o es u core true same =
+      ap (λ (l : List (Option ℕ)). record (flight_of s) { world = run s.world es; rings = (stored s.book o).rings; jobs = map core_of (with_job s.jobs id u); leases = leases_of l }) (leases-stored s.book o)
+      ∙ (ap (λ (js : List Job). record (flight_of s) { world = run s.world es; rings = (stored s.book o).rings; jobs = js }) (cores-replaced s.jobs id u ∙ ap (λ (c : Job). replaced (map core_of s.jobs) id c) (same refl))
+      ∙ stored-flown (record (flight_of s) { world = run s.world es; jobs = replaced (map core_of s.jobs) id core }) s.book o)
+  turn-flown step o es u core false same =
+      ap (λ (l : List (Option ℕ)). record (flight_of s) { world = run s.world es; rings = (stored s.book o).rings; jobs = map core_of (without_job s.jobs id); leases = leases_of (given_back l id) }) (leases-stored s.book o)
+      ∙ (ap (λ (l : ℕ → Option ℕ). record (flight_of s) { world = run s.world es; rings = (stored s.book o).rings; jobs = map core_of (without_job s.jobs id); leases = l }) (given-leases s.book.leases id)
+      ∙ (ap (λ (js : List Job). record (flight_of s) { world = run s.world es; rings = (stored s.book o).rings; jobs = js; leases = no_longer (leases_of s.book.leases) id }) (cores-without s.jobs id)
+      ∙ stored-flown (record (flight_of s) { world = run s.world es; jobs = without_core (map core_of s.jobs) id; leases = no_longer (leases_of s.book.leases) id }) s.book o))
+
+  -- a recovery's core, where it goes on
+  core-going : (r : Recovery) (going : Bool) → going ≡ true → r.core ≡ core_by id r going
+  core-going r true h = refl
+  core-going r false h = absurd (false≢true h)
 
   -- by whether there is such a job
-  job-flown : (o : Option Job)
+  job-flown : (o : Option Unended) → job_at s.jobs id ≡ o
       → record (flight_of s) {
         world = run s.world (job_exchanges (option_map (turn_of s) o));
         rings = (book_turned s.book id (option_map (turn_of s) o)).rings;
-        jobs = jobs_turned s.jobs id (option_map (turn_of s) o);
+        jobs = map core_of (jobs_turned s.jobs id (option_map (turn_of s) o));
         leases = leases_of (book_turned s.book id (option_map (turn_of s) o)).leases;
-      } ≡ turned_by (flight_of s) id (next_count s.reads) (moment_at s) (takes s.book (job_observation (option_map (turn_of s) o))) o
-  job-flown None = refl
-  job-flown (Some j) = turn-flown (turn_of s j) (is_going (turn_of s j).step)
+      } ≡ passing (flight_of s) (by_job s id o)
+  job-flown None at = refl
+  job-flown (Some (unended.Plan j)) at =
+      let t = turned s.world (next_count s.reads) (moment_at s) j in
+      let found : core_at (map core_of s.jobs) id ≡ Some j = core-found s.jobs id ∙ ap (option_map core_of) at in
+      turn-flown t.step t.observation t.exchanges (unended.Plan t.job) t.job (is_going t.step) (λ h. refl)
+      ∙ ap (λ (x : Option Job). turned_by (flight_of s) id (next_count s.reads) (moment_at s) (takes s.book t.observation) x) (sym found)
+  job-flown (Some (unended.Recovery r entry)) at =
+      let t = taken s.world s.book (next_count s.reads) (moment_at s) r in
+      turn-flown t.step t.observation t.exchanges (unended.Recovery t.recovery entry) (core_by id t.recovery (is_going t.step)) (is_going t.step) (core-going t.recovery (is_going t.step))
 
 -- ---- a restart
 
@@ -191,7 +214,7 @@ flown count rows s (turn.Cut n link) ready is = refl
 flown count rows s (turn.Join n link) ready is = refl
 flown count rows s (turn.Rotate n) ready is = refl
 flown count rows s (turn.Tick seconds) ready is = refl
-flown count rows s (turn.Job job) ready is = job-flown s job (job_at s.jobs job)
+flown count rows s (turn.Job job) ready is = job-flown s job (job_at s.jobs job) refl
 flown count rows s turn.Scan ready is = refl
 flown count rows s (turn.PollRead p n) ready is = poll-flown s p n (is_some (instance_at s.book n))
 flown count rows s (turn.PollStore p) ready is =
@@ -199,20 +222,3 @@ flown count rows s (turn.PollStore p) ready is =
     ∙ ap (λ (f : Flight). record f { slots = slice_set f.slots p None }) (stored-flown (flight_of s) s.book (slot_at s p))
 flown count rows s (turn.Command c) ready is = (Leaves-command count s c ready is).flown
 flown count rows s turn.Restart ready is = restart-flown count rows s ready
-
-pub may-pass : (count : ℕ) (s : State) (t : Turn) → Ready count s → IsTurn count t → AllMayPass (flight_of s) (passages_of s t)
-may-pass count s (turn.Write n size) ready is = ((is.1, tt), tt)
-may-pass count s (turn.Fetch n) ready is = ((tt, tt), tt)
-may-pass count s (turn.Apply n) ready is = ((tt, tt), tt)
-may-pass count s (turn.Fail n) ready is = ((tt, tt), tt)
-may-pass count s (turn.Heal n) ready is = ((tt, tt), tt)
-may-pass count s (turn.Cut n link) ready is = ((tt, tt), tt)
-may-pass count s (turn.Join n link) ready is = ((tt, tt), tt)
-may-pass count s (turn.Rotate n) ready is = ((tt, tt), tt)
-may-pass count s (turn.Tick seconds) ready is = tt
-may-pass count s (turn.Job job) ready is = (tt, tt)
-may-pass count s turn.Scan ready is = tt
-may-pass count s (turn.PollRead p n) ready is = poll-may s p n (is_some (instance_at s.book n))
-may-pass count s (turn.PollStore p) ready is = (tt, tt)
-may-pass count s (turn.Command c) ready is = (Leaves-command count s c ready is).may
-may-pass count s turn.Restart ready is = (tt, tt)

@@ -37,7 +37,11 @@ use Rattle.job_laws.proofs.Showing.{Shows-seen, Bridged-seen}
 use Rattle.job_laws.proofs.Spanning.{spans-by}
 use Rattle.orch_core.specs.Scenarios.{loaded_audit, loaded_book, start, start_changes, start_moment, start_world}
 use Rattle.orch_core.proofs.Starts.{all-from, all-opening}
+use Rattle.recovery_laws.specs.Rings.{AreOwn}
+use Rattle.recovery_laws.proofs.Ringed.{fresh-own, kept-own, shown-own}
+use Rattle.unended_laws.specs.Beside.{IsHeldBeside, IsSoundBeside}
 use Rattle.flight_laws.specs.Flights.{flight_of}
+use Rattle.flight_laws.specs.Goes.{HeldState, SoundState}
 use Rattle.flight_laws.proofs.Flown.{leases-loaded, rings-loaded}
 
 -- ---- what an opening puts
@@ -116,6 +120,22 @@ module _ (w : World) (at : Moment) (P : Bridge → Type 0) (shown : (n : ServerN
   opened-rings b (c ∷ cs) opens all =
       opened-rings (after_opening b c) cs (All-tail (Opens w at) c cs opens) (opened-one b c (All-head (Opens w at) c cs opens) all)
 
+-- each ring keeps bridges of its own server
+own-one : (w : World) (at : Moment) (b : BookState) (c : Change) → Opens w at c → AreOwn b.rings → AreOwn (after_opening b c).rings
+own-one w at b c (inl shows) own =
+    subst (λ (x : Change). AreOwn (after_opening b x).rings) (sym shows.is)
+    (kept-own b.rings (record { 0 = shows.n }) _ (shown (shows.server.up && shows.server.desk)) own)
+  where
+    shown : (reached : Bool) → IfSome (if reached then bridge_in (record { 0 = shows.n }) (Some (shown_of w shows.server)) else None) (λ (x : Bridge). x.no.0 ≡ shows.n)
+    shown true = shown-own (record { 0 = shows.n }) (Some (shown_of w shows.server))
+    shown false = tt
+own-one w at b c (inr leaves) own = subst AreOwn (sym (leaves.rings b)) own
+
+own-opened : (w : World) (at : Moment) (b : BookState) (cs : List Change) → All (Opens w at) cs → AreOwn b.rings → AreOwn (opened_book b cs).rings
+own-opened w at b [] opens own = own
+own-opened w at b (c ∷ cs) opens own =
+    own-opened w at (after_opening b c) cs (All-tail (Opens w at) c cs opens) (own-one w at b c (All-head (Opens w at) c cs opens) own)
+
 leases-one : (w : World) (at : Moment) (b : BookState) (c : Change) → Opens w at c → (after_opening b c).leases ≡ b.leases
 leases-one w at b c (inl shows) = ap (λ (x : Change). (after_opening b x).leases) shows.is
 leases-one w at b c (inr leaves) = leaves.leases b
@@ -138,6 +158,11 @@ module _ (s : Scenario) (wait : ℕ) (rows : List Row) where
       opened-rings (start_world s) (start_moment s rows) P shown (loaded_book s rows) (start_changes s rows) (Opens-start s rows)
       (subst (All (All P)) (sym (rings-loaded (settings_of s) greatest_id rows)) (All-replicate (All P) (length (settings_of s)) [] (All-nil P)))
 
+  own-start : AreOwn (start s wait rows).book.rings
+  own-start =
+      own-opened (start_world s) (start_moment s rows) (loaded_book s rows) (start_changes s rows) (Opens-start s rows)
+      (subst AreOwn (sym (rings-loaded (settings_of s) greatest_id rows)) (fresh-own (length (settings_of s))))
+
   module _ (is : IsScenario s) where
     safe : Safe (start_world s)
     safe = Safe-opened s.opening (room_of s) (flushes_of s) is.checked
@@ -145,8 +170,8 @@ module _ (s : Scenario) (wait : ℕ) (rows : List Row) where
     placed : Placed (start_world s)
     placed = Placed-safe (start_world s) safe
 
-    pub Held-start : Held (flight_of (start s wait rows))
-    Held-start = record {
+    held-flight : Held (flight_of (start s wait rows))
+    held-flight = record {
       placed = placed;
       rings = rings-start (Spans (start_world s)) (λ n b h. spans-by (start_world s) n (seen_in (status (start_world s) n.0)) b (λ seen is. Shows-seen (start_world s) n.0 seen placed is) h);
       slots = All-replicate (λ slot. IfSome slot (IsShown (start_world s))) pollers None tt;
@@ -157,10 +182,16 @@ module _ (s : Scenario) (wait : ℕ) (rows : List Row) where
       };
     }
 
-    pub Sound-start : Sound (flight_of (start s wait rows))
-    Sound-start = record {
+    sound-flight : Sound (flight_of (start s wait rows))
+    sound-flight = record {
       safe = safe;
       rings = rings-start (StandsIn (start_world s)) (λ n b h. stands-by (start_world s) n (seen_in (status (start_world s) n.0)) b (λ seen is. Bridged-seen (start_world s) n.0 seen safe is) h);
       slots = All-replicate (λ slot. IfSome slot (IsShownBridged (start_world s))) pollers None tt;
       jobs = All-nil (λ j. AllBridged (start_world s) j.seen);
     }
+
+    pub Held-start : HeldState (start s wait rows)
+    Held-start = record { cores = refl; flight = held-flight; own = own-start; jobs = All-nil (IsHeldBeside (start_world s) (leases_of (start s wait rows).book.leases)) }
+
+    pub Sound-start : SoundState (start s wait rows)
+    Sound-start = record { flight = sound-flight; jobs = All-nil (IsSoundBeside (start_world s)) }

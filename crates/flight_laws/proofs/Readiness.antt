@@ -1,9 +1,9 @@
 -- Each turn leaves all that is kept speaking of the servers, and so does an opening.
 use Rattle.std.proofs.Common.{◌≡◌, ◌∙◌, ℕ, ◌<◌, Bool, true, false, List, [], ◌∷◌, length, refl, sym, ap, subst, Option, Some, None, arith}
-use Rattle.std.specs.Prelude.{All, IfSome, IsTrue, is_some, not, fold, replicate, slice_set, if◌then◌else◌}
+use Rattle.std.specs.Prelude.{All, ◌==◌, IsTrue, is_some, not, if◌then◌else◌}
 use Rattle.std.specs.Option.{option_map}
 use Rattle.std.proofs.lemmas.List.{length-map, length-replicate, length-set}
-use Rattle.std.proofs.lemmas.List.Elements.{All-nil, All-head, All-tail, All-filter, All-replicate, All-set}
+use Rattle.std.proofs.lemmas.List.Elements.{All-cons, All-nil, All-head, All-tail, All-filter, All-replicate, All-set}
 use Rattle.orch_base.specs.Memory.{next_count}
 use Rattle.instance_keeper.specs.declared.observation.Observation.{Observation}
 use Rattle.instance_keeper.specs.declared.row.Change.{Change}
@@ -21,13 +21,13 @@ use Rattle.turns.specs.declared.turn.Turn.TheVariants as turn
 use Rattle.scenarios.specs.declared.scenario.Scenario.{Scenario}
 use Rattle.scenarios.specs.Scenarios.{IsScenario, settings_of}
 use Rattle.scenarios.specs.Turns.{IsTurn, pollers}
-use Rattle.operations.specs.Jobs.{Job}
-use Rattle.operations.proofs.Ending.{turn-moves}
-use Rattle.operations.specs.Turns.{Turned, is_going}
-use Rattle.operations.proofs.Allowing.{turn-allowed}
-use Rattle.operations.proofs.Named.{named-after}
-use Rattle.job_laws.proofs.Lists.{All-at, All-find, All-replaced}
-use Rattle.job_laws.proofs.Observing.{turn-observes}
+use Rattle.operations.specs.Turns.{is_going}
+use Rattle.unended_jobs.specs.declared.unended.Unended.{Unended}
+use Rattle.unended_jobs.specs.Unended.{Flown, IsReady, number_of}
+use Rattle.unended_jobs.proofs.Going.{flown-allowed, flown-ready, flown-sees}
+use Rattle.operations.specs.Turns.{observed}
+use Rattle.orch_base.specs.declared.server.ServerNo.{ServerNo}
+use Rattle.job_laws.proofs.Lists.{All-at, All-find}
 use Rattle.orch_core.specs.Commands.{jobs_updated}
 use Rattle.jobs_in_flight.specs.Jobs.{book_turned, job_at, job_exchanges, jobs_turned, stored, with_job, without_job, without_leases}
 use Rattle.orch_core.specs.Jobs.{turn_of}
@@ -43,7 +43,7 @@ use Rattle.orch_core.proofs.Starts.{fits-opening, sources-start}
 use Rattle.orch_core.proofs.States.{Allowed-turn, names-loaded, names-stored, reading_known}
 use Rattle.flight_laws.proofs.Flown.{settings-count, poll-slots, poll-length}
 use Rattle.flight_laws.proofs.Outcomes.{Leaves-command}
-use Rattle.flight_laws.specs.Ready.{IsReadyJob, Ready}
+use Rattle.flight_laws.specs.Ready.{Ready}
 use Rattle.flight_laws.proofs.Ready.{IsBook-freed, IsBook-loaded, IsBook-observed, IsBook-ringed, IsBook-stored}
 
 -- ---- exchanges
@@ -65,38 +65,55 @@ Ready-turn count s t moment ready is = Ready-run count s (exchanges_of t) moment
 
 -- ---- a job's turn
 
+-- what holds of each job and of the one that takes its place
+All-map-if : (P : Unended → Type 0) (us : List Unended) (id : ℕ) (u : Unended) → P u → All P us → All P (with_job us id u)
+All-map-if P [] id u here all = All-nil P
+All-map-if P (k ∷ ks) id u here all = go (number_of k == id) (All-map-if P ks id u here (All-tail P k ks all))
+  where
+    go : (same : Bool) → All P (with_job ks id u) → All P ((if same then u else k) ∷ with_job ks id u)
+    go true rest = All-cons P u (with_job ks id u) here rest
+    go false rest = All-cons P k (with_job ks id u) (All-head P k ks all) rest
+
+-- what a job's turn observes is a status of a server
+pub job-sees : (count : ℕ) (s : State) (id : ℕ) (u : Unended) → Ready count s → job_at s.jobs id ≡ Some u → (x : Observation) → (turn_of s u).observation ≡ Some x
+    → (n : ServerNo) × (x ≡ observed s.world (next_count s.reads) (record { 0 = s.moment }) n)
+job-sees count s id u ready at x is =
+    let here : IsReady count u = All-find (IsReady count) (λ (k : Unended). number_of k == id) s.jobs u ready.jobs at in
+    let sees = flown-sees s.world s.book (next_count s.reads) (record { 0 = s.moment }) u x (subst (λ (n : ℕ). IsReady n u) (sym ready.servers) here) is in
+    (sees.0, sees.1)
+
 names-turned : (b : BookState) (o : Option Observation) (id : ℕ) (going : Bool) → (if going then stored b o else without_leases (stored b o) id).names ≡ b.names
 names-turned b o id true = names-stored b o
 names-turned b o id false = names-stored b o
 
 module _ (count : ℕ) (s : State) (id : ℕ) (ready : Ready count s) where
-  Ready-by : (t : Turned) (going : Bool) → AllAllowed s.world t.exchanges → IsReadyJob count t.job → IsBook (stored s.book t.observation) → (reads : ℕ)
+  Ready-by : (t : Flown) (going : Bool) → AllAllowed s.world t.exchanges → (going ≡ true → IsReady count t.next) → IsBook (stored s.book t.observation) → (reads : ℕ)
       → Ready count (record s {
         world = run s.world t.exchanges;
         book = (if going then stored s.book t.observation else without_leases (stored s.book t.observation) id);
         reads = reads;
-        jobs = (if going then with_job s.jobs id t.job else without_job s.jobs id);
+        jobs = (if going then with_job s.jobs id t.next else without_job s.jobs id);
       })
-  Ready-by t true allowed named book reads = record {
+  Ready-by t true allowed next book reads = record {
     servers = servers-run s.world t.exchanges ∙ ready.servers;
     book = book;
     names = ap length (names-stored s.book t.observation) ∙ ready.names;
     slots = ready.slots;
     observed = ready.observed;
     sources = sources-run s.world t.exchanges allowed ready.sources;
-    jobs = All-replaced (IsReadyJob count) s.jobs id t.job named ready.jobs;
+    jobs = All-map-if (IsReady count) s.jobs id t.next (next refl) ready.jobs;
   }
-  Ready-by t false allowed named book reads = record {
+  Ready-by t false allowed next book reads = record {
     servers = servers-run s.world t.exchanges ∙ ready.servers;
     book = IsBook-freed (stored s.book t.observation) id book;
     names = ap length (names-stored s.book t.observation) ∙ ready.names;
     slots = ready.slots;
     observed = ready.observed;
     sources = sources-run s.world t.exchanges allowed ready.sources;
-    jobs = All-filter (λ (k : Job). not (Rattle.std.specs.Prelude.nat_eq k.id id)) (IsReadyJob count) s.jobs ready.jobs;
+    jobs = All-filter (λ (k : Unended). not (number_of k == id)) (IsReady count) s.jobs ready.jobs;
   }
 
-  Ready-job : (o : Option Job) → job_at s.jobs id ≡ o → (reads : ℕ)
+  Ready-job : (o : Option Unended) → job_at s.jobs id ≡ o → (reads : ℕ)
       → Ready count (record s {
         world = run s.world (job_exchanges (option_map (turn_of s) o));
         book = book_turned s.book id (option_map (turn_of s) o);
@@ -112,11 +129,11 @@ module _ (count : ℕ) (s : State) (id : ℕ) (ready : Ready count s) where
     sources = ready.sources;
     jobs = ready.jobs;
   }
-  Ready-job (Some j) at reads =
-      let is : IsReadyJob count j = All-find (IsReadyJob count) (λ (k : Job). Rattle.std.specs.Prelude.nat_eq k.id id) s.jobs j ready.jobs at in
-      Ready-by (turn_of s j) (is_going (turn_of s j).step) (turn-allowed s.world (next_count s.reads) (record { 0 = s.moment }) j)
-      (record { named = named-after count s.world (next_count s.reads) (record { 0 = s.moment }) j is.named; waited = (turn-moves s.world (next_count s.reads) (record { 0 = s.moment }) j is.waited).waited })
-      (IsBook-observed count s ready (next_count s.reads) (record { 0 = s.moment }) (turn_of s j).observation (λ x is. turn-observes s.world (next_count s.reads) (record { 0 = s.moment }) j x is))
+  Ready-job (Some u) at reads =
+      let is : IsReady count u = All-find (IsReady count) (λ (k : Unended). number_of k == id) s.jobs u ready.jobs at in
+      Ready-by (turn_of s u) (is_going (turn_of s u).step) (flown-allowed s.world s.book (next_count s.reads) (record { 0 = s.moment }) u)
+      (λ going. flown-ready count s.world s.book (next_count s.reads) (record { 0 = s.moment }) u is going)
+      (IsBook-observed count s ready (next_count s.reads) (record { 0 = s.moment }) (turn_of s u).observation (job-sees count s id u ready at))
       reads
 
 -- ---- every turn
@@ -165,7 +182,7 @@ Ready-step count rows s (turn.Command c) ready is =
       slots = ready.slots;
       observed = ready.observed;
       sources = ready.sources;
-      jobs = subst (λ (k : ℕ). All (IsReadyJob k) (jobs_updated s.jobs (command_outcome s c).book)) ready.names leaves.jobs;
+      jobs = subst (λ (k : ℕ). All (IsReady k) (jobs_updated s.jobs (command_outcome s c).book)) ready.names leaves.jobs;
     }
 Ready-step count rows s turn.Restart ready is =
     let few : length s.book.settings ≡ length s.book.names = settings-count s.book ready.book in
@@ -177,7 +194,7 @@ Ready-step count rows s turn.Restart ready is =
       slots = length-replicate {A = Option Observation} pollers None;
       observed = All-replicate (IsSlot count) pollers None tt;
       sources = ready.sources;
-      jobs = All-nil (IsReadyJob count);
+      jobs = All-nil (IsReady count);
     }
 
 -- ---- an opening
@@ -214,5 +231,5 @@ Ready-start s wait rows is =
       slots = length-replicate {A = Option Observation} pollers None;
       observed = All-replicate (IsSlot (length s.opening.servers)) pollers None tt;
       sources = sources-start s is;
-      jobs = All-nil (IsReadyJob (length s.opening.servers));
+      jobs = All-nil (IsReady (length s.opening.servers));
     }

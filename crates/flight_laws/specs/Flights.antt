@@ -1,5 +1,5 @@
 -- A state of a run as a flight, and each turn as passages of it.
-use Rattle.std.specs.Prelude.{ℕ, ◌+◌, ◌&&◌, nat_lt, Bool, true, false, not, is_some, if◌then◌else◌, List, [], ◌∷◌, Option, Some, None, Result, Ok, Err}
+use Rattle.std.specs.Prelude.{ℕ, ◌+◌, ◌&&◌, nat_lt, Bool, true, false, not, is_some, if◌then◌else◌, List, [], ◌∷◌, map, Option, Some, None, Result, Ok, Err}
 use Rattle.orch_base.specs.Memory.{next_count}
 use Rattle.orch_base.specs.declared.server.Moment.{Moment}
 use Rattle.orch_base.specs.declared.server.ServerNo.{ServerNo}
@@ -11,27 +11,29 @@ use Rattle.command_routes.specs.declared.route.Planner.{Planner}
 use Rattle.command_routes.specs.declared.route.Route.{Route}
 use Rattle.command_routes.specs.declared.route.Route.TheVariants.{Discovers, Forgets, Asks, Decides, Begins, Unbuilt}
 use Rattle.command_routes.specs.Routes.{route_of}
-use Rattle.command_jobs.specs.Jobs.{leases_by, leases_with, plan_by, plan_with, planner_for, refusal_by}
+use Rattle.command_jobs.specs.Jobs.{job_by, job_for, leases_by, leases_with, planner_for, refusal_by}
 use Rattle.commands.specs.declared.turn.Command.{Command}
 use Rattle.asking_commands.specs.Answers.{allowed}
 use Rattle.server_words.specs.declared.changes.Event.TheVariants as event
 use Rattle.server_model.specs.Run.{Write, Fetch, Apply, Befall, Rotate}
 use Rattle.turns.specs.declared.turn.Turn.{Turn}
 use Rattle.turns.specs.declared.turn.Turn.TheVariants as turn
-use Rattle.operations.specs.Jobs.{Job, job_with}
+use Rattle.unended_jobs.specs.declared.unended.Unended.{Unended}
+use Rattle.unended_jobs.specs.Unended.{core_of}
+use Rattle.unended_laws.specs.Passages.{passages_by}
 use Rattle.job_laws.specs.Flights.{Flight}
 use Rattle.job_laws.specs.Leases.{leases_of}
 use Rattle.job_laws.specs.Passages.{Passage}
 use Rattle.job_laws.specs.Passages as pass
 use Rattle.orch_core.specs.Commands.{removal_refusal}
-use Rattle.jobs_in_flight.specs.Jobs.{job_observation}
-use Rattle.orch_core.specs.Jobs.{turned_at}
+use Rattle.jobs_in_flight.specs.Jobs.{job_at}
 use Rattle.orch_core.specs.Polls.{reading, slot_at}
 use Rattle.orch_core.specs.States.{State}
 
--- what is kept beside the instances: the servers, the bridges, the slots, the jobs, and who has each lease
+-- what is kept beside the instances: the servers, the bridges, the slots, of each job the operations that are left, of a recovery
+-- those of its stage, and who has each lease
 abbrev pub flight_of : State → Flight
-flight_of s = record { world = s.world; rings = s.book.rings; slots = s.slots; jobs = s.jobs; leases = leases_of s.book.leases }
+flight_of s = record { world = s.world; rings = s.book.rings; slots = s.slots; jobs = map core_of s.jobs; leases = leases_of s.book.leases }
 
 -- ---- which readings the book takes
 
@@ -73,20 +75,20 @@ abbrev pub by_instance : (ServerNo → List Passage) → Option ServerNo → Lis
 by_instance some None = []
 by_instance some (Some i) = some i
 
--- the job that a command begins, by its planner
-abbrev pub job_by : State → Command → Planner → Job
-job_by s c p = job_with (s.last_job + 1) s.configuration.wait (plan_by s.world s.book c p)
-
 -- the job that a command begins, and the servers of which that job takes the leases
-abbrev pub job_begun : State → Command → Job
-job_begun s c = job_with (s.last_job + 1) s.configuration.wait (plan_with s.world s.book c (planner_for c.name))
+abbrev pub job_begun : State → Command → Unended
+job_begun s c = job_for s.world s.book c (planner_for c.name) (s.last_job + 1) s.configuration.wait
 
 abbrev pub leases_begun : State → Command → List ServerNo
 leases_begun s c = leases_with s.world s.book c (planner_for c.name)
 
 abbrev pub by_permission : State → Command → Planner → Option Refusal → List Passage
-by_permission s c p None = pass.Beginning (leases_by s.world s.book c p) (job_by s c p) ∷ []
+by_permission s c p None = pass.Beginning (leases_by s.world s.book c p) (core_of (job_by s.world s.book c p (s.last_job + 1) s.configuration.wait)) ∷ []
 by_permission s c p (Some r) = []
+
+-- a job's turn, by the operations of its plan or as its recovery decides it
+abbrev pub by_job : State → ℕ → Option Unended → List Passage
+by_job s id o = passages_by s.world s.book (next_count s.reads) (moment_at s) (takes s.book) id o
 
 -- a question and a decision leave the servers and all that jobs go by
 abbrev pub by_route : State → Command → Route → List Passage
@@ -110,7 +112,7 @@ passages_of s (turn.Cut n link) = pass.Exchanging (Befall n.0 (event.Cut link)) 
 passages_of s (turn.Join n link) = pass.Exchanging (Befall n.0 (event.Join link)) ∷ []
 passages_of s (turn.Rotate n) = pass.Exchanging (Rotate n.0) ∷ []
 passages_of s (turn.Tick seconds) = []
-passages_of s (turn.Job job) = pass.Turning job (next_count s.reads) (moment_at s) (takes s.book (job_observation (turned_at s job))) ∷ []
+passages_of s (turn.Job job) = by_job s job (job_at s.jobs job)
 passages_of s turn.Scan = []
 passages_of s (turn.PollRead p n) = by_poll s p n
 passages_of s (turn.PollStore p) = pass.Storing p (takes s.book (slot_at s p)) ∷ []

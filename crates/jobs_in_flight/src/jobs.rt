@@ -5,15 +5,16 @@ ghost use Rattle.std.specs.List.{remove};
 ghost use Rattle.instance_keeper.specs.Book.{are_known, observed_servers};
 ghost use Rattle.operations.specs.Turns.{is_going};
 ghost use Rattle.server_model.specs.Run.{run};
-ghost use Rattle.job_plans.specs.Acts.{foretold, CanTurn};
+ghost use Rattle.unended_jobs.specs.Looks.{CanGo, observation_of};
 ghost use Rattle.jobs_in_flight.specs.Jobs.{Rise, book_turned, job_at, job_exchanges, job_observation, jobs_turned, reads_with, step_reply, stored, turn_by, without_leases};
 
 use instance_keeper::{Book, Observation};
-use job_plans::{Job, JobStep, Look};
+use operations::JobStep;
 use orch_base::Memory;
 use server_model::World;
 use std::alloc::Global;
 use turns::{BoxedCause, Reply};
+use unended_jobs::{Unended, UnendedLook};
 
 /// Where a job stands among those by rising number, and its number.
 #[derive(Clone, Copy)]
@@ -23,7 +24,7 @@ pub struct FoundJob {
 }
 
 /// Where the job of a number stands among jobs by rising number, found by halves.
-pub fn find(jobs: &[Job], id: u64) -> Option<usize>
+pub fn find(jobs: &[Unended], id: u64) -> Option<usize>
     requires { (high : ℕ) × Rise 0 jobs.now high }
     ensures { MatchOption result (job_at jobs.now id ≡ None)
         (λ at. (at < length jobs.now) × (job_at jobs.now id ≡ slice_get jobs.now at)) }
@@ -69,7 +70,7 @@ fn store(book: &mut Book, reads: &mut u64, observation: Option<Observation>)
 }
 
 // A job that is ended is dropped, and its leases are free.
-fn drop_ended(jobs: &mut Vec<Job>, book: &mut Book, at: usize, id: u64, step: &JobStep)
+fn drop_ended(jobs: &mut Vec<Unended>, book: &mut Book, at: usize, id: u64, step: &JobStep)
     requires { at < length jobs.old.items }
     ensures going { is_going step.now ≡ true → (jobs.new.items ≡ jobs.old.items)
         × (book.new ≡ book.old) }
@@ -87,18 +88,18 @@ fn drop_ended(jobs: &mut Vec<Job>, book: &mut Book, at: usize, id: u64, step: &J
 /// the job goes on and nothing is observed.
 pub fn take_turn(
     alloc: Global,
-    jobs: &mut Vec<Job>,
+    jobs: &mut Vec<Unended>,
     world: &mut World,
     book: &mut Book,
     reads: &mut u64,
     found: FoundJob,
-    look: Look,
+    look: UnendedLook,
 ) -> Result<(), Memory>
     requires at { found.at < length jobs.old.items }
     requires id { job_at jobs.old.items found.id ≡ slice_get jobs.old.items found.at }
     requires rising { (high : ℕ) × Rise 0 jobs.old.items high }
-    requires can { IfSome (job_at jobs.old.items found.id) (λ j. CanTurn world.old j look) }
-    requires known { IfSome look.observation
+    requires can { IfSome (job_at jobs.old.items found.id) (λ j. CanGo world.old j look) }
+    requires known { IfSome (observation_of look)
         (λ o. are_known (length book.old.names) (observed_servers o) ≡ true) }
     ensures jobs { OnOk result (jobs.new.items ≡ jobs_turned jobs.old.items found.id
         (turn_by jobs.old.items found.id look)) }
@@ -110,7 +111,7 @@ pub fn take_turn(
         (job_observation (turn_by jobs.old.items found.id look))) }
     ensures err { OnErr result ((jobs.new.items ≡ jobs.old.items) × (world.new ≡ world.old)) }
     ensures still { OnErr result ((book.new ≡ book.old) × (reads.new ≡ reads.old)) }
-    ensures memory { OnErr result (look.observation ≡ None) }
+    ensures memory { OnErr result (observation_of look ≡ None) }
 {
     let FoundJob { at, id } = found;
     let (step, observation) = jobs[at].turn(alloc, world, look)?;

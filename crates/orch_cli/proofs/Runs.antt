@@ -118,7 +118,7 @@ module _ (w : Work) (ts : List Turn) (kept : Option (List Row)) (run : Recorded)
   goes = Goes-comes w.scenario found.xs run.state comes_to
 
   holds : IsSafeState run.state
-  holds = record { placed = goes.held.placed; held = goes.held; apart = apart-comes w.scenario found.xs run.state comes_to; sound = goes.sound; safe = λ q. (goes.sound q).safe }
+  holds = record { placed = goes.held.flight.placed; held = goes.held; apart = apart-comes w.scenario found.xs run.state comes_to; sound = goes.sound; safe = λ q. (goes.sound q).flight.safe }
 
   ready : Ready (length w.scenario.opening.servers) run.state
   ready = goes.ready

@@ -8,8 +8,8 @@ use Rattle.commands.specs.declared.refusal.Refusal.{Refusal}
 use Rattle.commands.specs.declared.turn.CommandTurn.{CommandTurn}
 use Rattle.turns.specs.declared.turn.Reply.TheVariants as answered
 use Rattle.turns.specs.declared.turn.Turn.TheVariants as turn
-use Rattle.job_laws.specs.Flights.{Held, Sound}
-use Rattle.flight_laws.specs.Flights.{flight_of, job_begun, leases_begun}
+use Rattle.flight_laws.specs.Flights.{job_begun, leases_begun}
+use Rattle.flight_laws.specs.Goes.{HeldState, SoundState}
 use Rattle.instance_keeper.specs.Leases.{taken}
 use Rattle.command_jobs.specs.Jobs.{planner_for}
 use Rattle.orch_core.specs.Permission.{IsAnswer, refusal_at}
@@ -25,9 +25,9 @@ use Rattle.orch_cli.specs.Ends.{IsTask}
 -- each cluster has at most one that isn't ended. Where it is quiet it is sound, and its servers are safe.
 pub record IsSafeState (s : State) : Type 0 where
   pub placed : Placed s.world
-  pub held : Held (flight_of s)
+  pub held : HeldState s
   pub apart : IsApart s.audit
-  pub sound : IsQuiet s.world → Sound (flight_of s)
+  pub sound : IsQuiet s.world → SoundState s
   pub safe : IsQuiet s.world → Safe s.world
 
 -- So is every state: behind any of the scenario's turns and the command's own, and behind any turn of the rounds that follow until

@@ -12,6 +12,8 @@ mod tests_of_audit;
 mod tests_of_jobs;
 #[cfg(test)]
 mod tests_of_moves;
+#[cfg(test)]
+mod tests_of_paths;
 mod top;
 mod way;
 

@@ -375,7 +375,7 @@ fn words_that_are_not_taken(rt: HostRuntime) -> Result<(), Fail> {
         &["orch", "run"],
         &["orch", "-c"],
         &["orch", "-c", "walk"],
-        &["orch", "-c", "regroup-replicas", "-i", "m"],
+        &["orch", "-c", "recover", "-i", "m"],
         &["orch", "-c", "topology"],
         &["orch", "-c", "topology", "-i", "m:0"],
         &["orch", "-c", "topology", "-i", ""],

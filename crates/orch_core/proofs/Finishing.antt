@@ -9,11 +9,12 @@ use Rattle.std.proofs.lemmas.Bool.{eq-eqb, false≢true, ltb-false, ltb-true}
 use Rattle.std.proofs.lemmas.List.Elements.{All-append, All-cons, All-head, All-nil, All-tail}
 use Rattle.std.proofs.lemmas.List.Sums.{fold-append}
 use Rattle.orch_base.specs.declared.server.ServerNo.{ServerNo}
+use Rattle.orch_base.specs.Memory.{next_count}
 use Rattle.instance_keeper.specs.declared.row.Row.{Row}
-use Rattle.operations.specs.Ending.{MovesOn, turns_left}
-use Rattle.operations.specs.Jobs.{Job}
-use Rattle.operations.specs.Named.{IsInRange}
-use Rattle.operations.specs.Turns.{Turned, is_going}
+use Rattle.operations.specs.Turns.{is_going}
+use Rattle.unended_jobs.specs.declared.unended.Unended.{Unended}
+use Rattle.unended_jobs.specs.Unended.{Flown, IsUnended, number_of, turns_of as turns_left}
+use Rattle.unended_jobs.proofs.Going.{flown-fewer, flown-number, ready-of}
 use Rattle.turns.specs.declared.turn.Reply.{Reply}
 use Rattle.turns.specs.declared.turn.Turn.{Turn}
 use Rattle.turns.specs.declared.turn.Turn.TheVariants as turn
@@ -74,34 +75,35 @@ jobs-round s servers job =
 
 -- ---- a job that goes on has fewer turns
 
-at-with : (jobs : List Job) (id : ℕ) (j k : Job) → k.id ≡ id → job_at jobs id ≡ Some j → job_at (with_job jobs id k) id ≡ Some k
+at-with : (jobs : List Unended) (id : ℕ) (j k : Unended) → number_of k ≡ id → job_at jobs id ≡ Some j → job_at (with_job jobs id k) id ≡ Some k
 at-with [] id j k same found = cc
-at-with (x ∷ xs) id j k same found = go (x.id == id) refl found (at-with xs id j k same)
+at-with (x ∷ xs) id j k same found = go (number_of x == id) refl found (at-with xs id j k same)
   where
-    go : (b : Bool) → (x.id == id) ≡ b → cond b (Some x) (job_at xs id) ≡ Some j → (job_at xs id ≡ Some j → job_at (with_job xs id k) id ≡ Some k)
+    go : (b : Bool) → (number_of x == id) ≡ b → cond b (Some x) (job_at xs id) ≡ Some j → (job_at xs id ≡ Some j → job_at (with_job xs id k) id ≡ Some k)
         → job_at ((if b then k else x) ∷ with_job xs id k) id ≡ Some k
-    go true e h rest = ap (λ b. cond b (Some k) (job_at (with_job xs id k) id)) (eq-eqb k.id id same)
+    go true e h rest = ap (λ b. cond b (Some k) (job_at (with_job xs id k) id)) (eq-eqb (number_of k) id same)
     go false e h rest = ap (λ b. cond b (Some x) (job_at (with_job xs id k) id)) e ∙ rest h
 
-at-without : (jobs : List Job) (id : ℕ) → job_at (without_job jobs id) id ≡ None
+at-without : (jobs : List Unended) (id : ℕ) → job_at (without_job jobs id) id ≡ None
 at-without [] id = refl
-at-without (x ∷ xs) id = go (x.id == id) refl (at-without xs id)
+at-without (x ∷ xs) id = go (number_of x == id) refl (at-without xs id)
   where
-    go : (b : Bool) → (x.id == id) ≡ b → job_at (without_job xs id) id ≡ None → job_at (cond (not b) (x ∷ without_job xs id) (without_job xs id)) id ≡ None
+    go : (b : Bool) → (number_of x == id) ≡ b → job_at (without_job xs id) id ≡ None → job_at (cond (not b) (x ∷ without_job xs id) (without_job xs id)) id ≡ None
     go true e rest = rest
     go false e rest = ap (λ b. cond b (Some x) (job_at (without_job xs id) id)) e ∙ rest
 
 -- a job's turn leaves its job fewer turns
-pub fewer : (jobs : List Job) (id : ℕ) (j : Job) (t : Turned) → job_at jobs id ≡ Some j → t.job.id ≡ id → MovesOn j t → most_turns (jobs_turned jobs id (Some t)) id < most_turns jobs id
-fewer jobs id j t found same moves = go (is_going t.step) refl
+pub fewer : (jobs : List Unended) (id : ℕ) (j : Unended) (t : Flown) → job_at jobs id ≡ Some j → (is_going t.step ≡ true → (number_of t.next ≡ id) × (turns_left t.next < turns_left j)) → most_turns (jobs_turned jobs id (Some t)) id < most_turns jobs id
+fewer jobs id j t found moves = go (is_going t.step) refl
   where
     before : most_turns jobs id ≡ turns_left j + 1
     before = ap most_turns_by found
 
-    go : (b : Bool) → is_going t.step ≡ b → most_turns (if b then with_job jobs id t.job else without_job jobs id) id < most_turns jobs id
+    go : (b : Bool) → is_going t.step ≡ b → most_turns (if b then with_job jobs id t.next else without_job jobs id) id < most_turns jobs id
     go true e =
-        let now = ap most_turns_by (at-with jobs id j t.job same found) in
-        let less = moves.fewer e in
+        let on = moves e in
+        let now = ap most_turns_by (at-with jobs id j t.next on.0 found) in
+        let less = on.1 in
         omega (arith, before, now, less)
     go false e = let now = ap most_turns_by (at-without jobs id) in omega (arith, before, now)
 
@@ -173,21 +175,20 @@ pub record Rounds {A : Type 0} (m : Machine A) (state : A → State) (kept : Opt
   pub left : k + most_turns (state now).jobs job ≤ most_turns (state a).jobs job
   pub ran : Ran m kept a (times k (round_of (state a) job)) kept' now
 
--- what holds of jobs' turns
-pub record Moves (s : State) : Type 0 where
-  pub number : (j : Job) → IsInRange (length s.world.servers) j → (turn_of s j).job.id ≡ j.id
-  pub moves : (j : Job) → j.waited ≤ j.wait → MovesOn j (turn_of s j)
-
 -- a round leaves an open job fewer turns
-round-fewer : (s : State) (job : ℕ) → IsState s → Moves s → is_open s.jobs job ≡ true → most_turns (jobs_turned s.jobs job (turned_at s job)) job < most_turns s.jobs job
-round-fewer s job is holds opened = go (job_at s.jobs job) refl opened
+round-fewer : (s : State) (job : ℕ) → IsState s → is_open s.jobs job ≡ true → most_turns (jobs_turned s.jobs job (turned_at s job)) job < most_turns s.jobs job
+round-fewer s job is opened = go (job_at s.jobs job) refl opened
   where
-    go : (o : Option Job) → job_at s.jobs job ≡ o → is_some o ≡ true → most_turns (jobs_turned s.jobs job (turned_at s job)) job < most_turns s.jobs job
+    go : (o : Option Unended) → job_at s.jobs job ≡ o → is_some o ≡ true → most_turns (jobs_turned s.jobs job (turned_at s job)) job < most_turns s.jobs job
     go None e h = absurd (false≢true h)
     go (Some j) e h =
-        let range = All-found (IsInRange (length s.world.servers)) s.jobs job j is.jobs e in
-        subst (λ (t : Option Turned). most_turns (jobs_turned s.jobs job t) job < most_turns s.jobs job) (sym (ap (option_map (turn_of s)) e))
-        (fewer s.jobs job j (turn_of s j) e (holds.number j range ∙ found-number s.jobs job j e) (holds.moves j range.waited))
+        let range = All-found (IsUnended (length s.world.servers)) s.jobs job j is.jobs e in
+        subst (λ (t : Option Flown). most_turns (jobs_turned s.jobs job t) job < most_turns s.jobs job) (sym (ap (option_map (turn_of s)) e))
+        (fewer s.jobs job j (turn_of s j) e
+        (λ g. (
+          flown-number (length s.world.servers) s.world s.book (next_count s.reads) (record { 0 = s.moment }) j (ready-of (length s.world.servers) j range) g ∙ found-number s.jobs job j e,
+          flown-fewer (length s.world.servers) s.world s.book (next_count s.reads) (record { 0 = s.moment }) j (ready-of (length s.world.servers) j range) g,
+        )))
 
 asks-replicates : (servers : List ServerNo) → AsksNothing (flat_map replicates servers)
 asks-replicates [] = All-nil (λ t. asks t ≡ false)
@@ -227,14 +228,14 @@ module _ {A : Type 0} (m : Machine A) (state : A → State) (steps : (rows : Lis
     ran = Ran-nil m kept a;
   }
 
-  pub Rounds-more : (kept kept' kept'' : Option (List Row)) (a b c : A) (job k : ℕ) → IsState (state b) → Moves (state b) → Rounds m state kept a job kept' b k → is_open (state b).jobs job ≡ true
+  pub Rounds-more : (kept kept' kept'' : Option (List Row)) (a b c : A) (job k : ℕ) → IsState (state b) → Rounds m state kept a job kept' b k → is_open (state b).jobs job ≡ true
       → Ran m kept' b (round_of (state a) job) kept'' c → Rounds m state kept a job kept'' c (k + 1)
-  Rounds-more kept kept' kept'' a b c job k is holds rounds opened ran =
+  Rounds-more kept kept' kept'' a b c job k is rounds opened ran =
       let round = round_of (state a) job in
       let led = leads-any m state steps kept' b c round (asks-round (by_name (state a).book.names) job) ran.state in
-      let fewer_now = round-fewer (state b) job is holds opened in
+      let fewer_now = round-fewer (state b) job is opened in
       let jobs : (state c).jobs ≡ jobs_turned (state b).jobs job (turned_at (state b) job) = ap (λ (s : State). s.jobs) led ∙ jobs-round (state b) (by_name (state a).book.names) job in
-      let most = ap (λ (js : List Job). most_turns js job) jobs in
+      let most = ap (λ (js : List Unended). most_turns js job) jobs in
       let before = rounds.left in
       record {
         here =
@@ -277,10 +278,10 @@ cut-behind m kept kept' kept'' a b c ts us why ran cut = record {
 }
 
 -- an open job has a turn left
-some-left : (jobs : List Job) (job : ℕ) → is_open jobs job ≡ true → 1 ≤ most_turns jobs job
+some-left : (jobs : List Unended) (job : ℕ) → is_open jobs job ≡ true → 1 ≤ most_turns jobs job
 some-left jobs job opened = go (job_at jobs job) opened
   where
-    go : (o : Option Job) → is_some o ≡ true → 1 ≤ most_turns_by o
+    go : (o : Option Unended) → is_some o ≡ true → 1 ≤ most_turns_by o
     go None e = absurd (false≢true e)
     go (Some j) e = omega arith
 
@@ -316,12 +317,12 @@ cut-first m state kept a job why free opened = record {
 
 -- a round leaves fewer turns, however it was taken
 pub round-less : {A : Type 0} (m : Machine A) (state : A → State) (steps : (rows : List Row) (a : A) (t : Turn) → state (m.next rows a t) ≡ step rows (state a) t)
-    (kept kept' : Option (List Row)) (servers : List ServerNo) (b c : A) (job : ℕ) → IsState (state b) → Moves (state b) → is_open (state b).jobs job ≡ true → Ran m kept b (round_over servers job) kept' c
+    (kept kept' : Option (List Row)) (servers : List ServerNo) (b c : A) (job : ℕ) → IsState (state b) → is_open (state b).jobs job ≡ true → Ran m kept b (round_over servers job) kept' c
     → most_turns (state c).jobs job < most_turns (state b).jobs job
-round-less m state steps kept kept' servers b c job is holds opened ran =
+round-less m state steps kept kept' servers b c job is opened ran =
     let led = leads-any m state steps kept b c (round_over servers job) (asks-round servers job) ran.state in
-    let fewer_now = round-fewer (state b) job is holds opened in
-    let most = ap (λ (s : State). most_turns s.jobs job) led ∙ ap (λ (js : List Job). most_turns js job) (jobs-round (state b) servers job) in
+    let fewer_now = round-fewer (state b) job is opened in
+    let most = ap (λ (s : State). most_turns s.jobs job) led ∙ ap (λ (js : List Unended). most_turns js job) (jobs-round (state b) servers job) in
     omega (arith, fewer_now, most)
 
 -- one more round, and what the job answered in it

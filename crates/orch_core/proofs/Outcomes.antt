@@ -1,5 +1,5 @@
 -- What commands change fits the book, and keeps what holds of states.
-use Rattle.std.proofs.Common.{◌≡◌, ◌∙◌, ℕ, ◌+◌, ◌<◌, ◌≤◌, ◌^◌, Bool, true, false, List, [], ◌∷◌, length, refl, sym, ap, subst, Option, Some, None, Result, Ok, Err, arith}
+use Rattle.std.proofs.Common.{◌≡◌, ◌∙◌, ℕ, ◌+◌, ◌<◌, ◌≤◌, ◌^◌, Bool, true, false, List, length, refl, sym, ap, subst, Option, Some, None, Result, Ok, Err, arith}
 use Rattle.std.specs.Prelude.{All, IfSome, ◌&&◌, is_some, nat_lt, if◌then◌else◌}
 use Rattle.std.proofs.lemmas.List.Elements.{All-push}
 use Rattle.orch_base.specs.declared.server.ServerNo.{ServerNo}
@@ -8,7 +8,6 @@ use Rattle.instance_keeper.specs.declared.observation.Instance.{Instance}
 use Rattle.instance_keeper.specs.declared.row.Row.{Row}
 use Rattle.instance_keeper.specs.declared.observation.Observation.{Observation}
 use Rattle.server_words.specs.declared.status.Status.{Status as Seen}
-use Rattle.instance_keeper.specs.declared.row.Change.{Change}
 use Rattle.instance_keeper.specs.declared.row.Change.TheVariants as change
 use Rattle.instance_keeper.specs.declared.row.Key.TheVariants as key
 use Rattle.instance_keeper.specs.declared.row.Row.TheVariants as row
@@ -19,7 +18,6 @@ use Rattle.instance_keeper.proofs.Books.{both_true}
 use Rattle.opening_book.proofs.Following.{names-change}
 use Rattle.commands.specs.declared.line.Line.{Line}
 use Rattle.commands.specs.declared.refusal.Refusal.{Refusal}
-use Rattle.commands.specs.declared.refusal.Refusal.TheVariants.{Unreachable}
 use Rattle.commands.specs.declared.turn.CommandTurn.{CommandTurn}
 use Rattle.commands.specs.Turns.{has_needed, is_within}
 use Rattle.asking_commands.specs.declared.answers.AnswerFault.TheVariants as fault
@@ -43,7 +41,7 @@ use Rattle.orch_core.specs.Polls.{command_outcome, numbers_of}
 use Rattle.jobs_in_flight.specs.Jobs.{Rise}
 use Rattle.orch_core.specs.States.{State, IsState}
 use Rattle.orch_core.specs.declared.command.Numbers.{Numbers}
-use Rattle.orch_core.proofs.Beginnings.{begun-in-range, may-take}
+use Rattle.orch_core.proofs.Beginnings.{begun-unended, may-take}
 use Rattle.jobs_in_flight.proofs.Numbers.{Rise-push}
 use Rattle.command_routes.specs.declared.route.Decision.{Decision}
 use Rattle.command_routes.specs.declared.route.Decision.TheVariants as decision
@@ -51,10 +49,10 @@ use Rattle.command_routes.specs.declared.route.Planner.{Planner}
 use Rattle.command_routes.specs.declared.route.Route.{Route}
 use Rattle.command_routes.specs.declared.route.Route.TheVariants.{Discovers, Forgets, Asks, Decides, Begins, Unbuilt}
 use Rattle.command_routes.specs.Routes.{route_of}
-use Rattle.command_jobs.specs.Jobs.{leases_by, plan_by, refusal_by}
-use Rattle.operations.specs.Jobs.{Job, job_with}
-use Rattle.operations.specs.Named.{IsInRange as JobRange}
-use Rattle.operations.specs.declared.op.Op.{Op}
+use Rattle.command_jobs.proofs.Begun.{job-number}
+use Rattle.command_jobs.specs.Jobs.{job_by, leases_by, refusal_by}
+use Rattle.unended_jobs.specs.declared.unended.Unended.{Unended}
+use Rattle.unended_jobs.specs.Unended.{IsUnended as JobRange, number_of}
 use Rattle.orch_core.proofs.Starts.{settings-change}
 use Rattle.orch_core.proofs.States.{names-over, settings-over, reading_known, one_known}
 
@@ -111,9 +109,9 @@ module _ (book : BookState) (count : ℕ) (names : length book.names ≡ count) 
   takes-decided reads a (Ok permit) d effect = effect
   takes-decided reads a (Err r) d effect = tt
 
-  takes-begun : (n : Numbers) (refusal : Option Refusal) (list : List ServerNo) (ops : List Op) → (refusal ≡ None → MayTake book list) → Takes (begun n refusal list ops)
-  takes-begun n None list ops take = take refl
-  takes-begun n (Some r) list ops take = tt
+  takes-begun : (n : Numbers) (refusal : Option Refusal) (list : List ServerNo) (job : Unended) → (refusal ≡ None → MayTake book list) → Takes (begun n refusal list job)
+  takes-begun n None list job take = take refl
+  takes-begun n (Some r) list job take = tt
 
 -- the book takes the change of an effect, whose numbers are in their ranges
 abbrev pub IsEffectFor : ℕ → Effect → Type 0
@@ -186,7 +184,7 @@ outcome-takes s c is book command = by (route_of c.command.name)
         takes-decided s.book (length s.book.names) refl s.reads s.audit (permitted s.book c.command) (decided_of s.book s.audit (record { 0 = s.moment }) c.keys c.command.i d)
         (taken-effect s.book (decided_of s.book s.audit (record { 0 = s.moment }) c.keys c.command.i d).effect (decided-effect s.book (length s.book.names) book.small s.audit (record { 0 = s.moment }) c.keys c.command.i d (given-within (length s.book.names) c over)))
     by (Begins p) =
-        takes-begun s.book (length s.book.names) refl (numbers_of s) (refusal_by s.world s.book (record { 0 = s.moment }) c.command p) (leases_by s.world s.book c.command p) (plan_by s.world s.book c.command p)
+        takes-begun s.book (length s.book.names) refl (numbers_of s) (refusal_by s.world s.book (record { 0 = s.moment }) c.command p) (leases_by s.world s.book c.command p) (job_by s.world s.book c.command p (s.last_job + 1) s.configuration.wait)
         (may-take s.world s.book (record { 0 = s.moment }) c.command p book (given-within (length s.book.names) c over) (destination-within (length s.book.names) c over))
     by Unbuilt = asks
 
@@ -238,31 +236,31 @@ IsNext count last update.Stays = Unit {0}
 IsNext count last (update.Change c) = Unit {0}
 IsNext count last (update.Discovery o) = Unit {0}
 IsNext count last (update.Decides e) = Unit {0}
-IsNext count last (update.Begins x) = (x.job.id ≡ last + 1) × JobRange count x.job
+IsNext count last (update.Begins x) = (number_of x.job ≡ last + 1) × JobRange count x.job
 
 -- what an outcome begins is next
 abbrev NextBy : ℕ → ℕ → Outcome → Type 0
 NextBy count last o = IsNext count last o.book
 
-jobs-updated : (count last : ℕ) (jobs : List Job) (u : Update) → All (JobRange count) jobs → IsNext count last u → All (JobRange count) (jobs_updated jobs u)
+jobs-updated : (count last : ℕ) (jobs : List Unended) (u : Update) → All (JobRange count) jobs → IsNext count last u → All (JobRange count) (jobs_updated jobs u)
 jobs-updated count last jobs update.Stays all next = all
 jobs-updated count last jobs (update.Change c) all next = all
 jobs-updated count last jobs (update.Discovery o) all next = all
 jobs-updated count last jobs (update.Decides e) all next = all
 jobs-updated count last jobs (update.Begins x) all next = All-push (JobRange count) jobs x.job all next.1
 
-rising-updated : (count last : ℕ) (jobs : List Job) (u : Update) → Rise 0 jobs last → IsNext count last u → Rise 0 (jobs_updated jobs u) (last_job_updated last u)
+rising-updated : (count last : ℕ) (jobs : List Unended) (u : Update) → Rise 0 jobs last → IsNext count last u → Rise 0 (jobs_updated jobs u) (last_job_updated last u)
 rising-updated count last jobs update.Stays rise next = rise
 rising-updated count last jobs (update.Change c) rise next = rise
 rising-updated count last jobs (update.Discovery o) rise next = rise
 rising-updated count last jobs (update.Decides e) rise next = rise
-rising-updated count last jobs (update.Begins x) rise next = let number : x.job.id ≡ last + 1 = next.0 in Rise-push 0 jobs last x.job (omega (arith, number)) rise
+rising-updated count last jobs (update.Begins x) rise next = let number : number_of x.job ≡ last + 1 = next.0 in Rise-push 0 jobs last x.job (omega (arith, number)) rise
 
 -- what a command begins is so, where its number is one
-next-begun : (count : ℕ) (n : Numbers) (refusal : Option Refusal) (list : List ServerNo) (ops : List Op) → (n.last_job + 1 < 2 ^ 64 → JobRange count (job_with (n.last_job + 1) n.wait ops))
-    → last_job_updated n.last_job (begun n refusal list ops).book < 2 ^ 64 → IsNext count n.last_job (begun n refusal list ops).book
-next-begun count n None list ops range few = (refl, range few)
-next-begun count n (Some r) list ops range few = tt
+next-begun : (count : ℕ) (n : Numbers) (refusal : Option Refusal) (list : List ServerNo) (job : Unended) → number_of job ≡ n.last_job + 1 → (n.last_job + 1 < 2 ^ 64 → JobRange count job)
+    → last_job_updated n.last_job (begun n refusal list job).book < 2 ^ 64 → IsNext count n.last_job (begun n refusal list job).book
+next-begun count n None list job number range few = (number, range (subst (λ (m : ℕ). m < 2 ^ 64) number few))
+next-begun count n (Some r) list job number range few = tt
 
 next-discovered : (count last : ℕ) (b : BookState) (reads : ℕ) (o : Observation) (seen : Option Seen) → IsNext count last (discovered b reads o seen).book
 next-discovered count last b reads o None = tt
@@ -288,9 +286,9 @@ outcome-next s c is book wait command few = by (route_of c.command.name) few
     over : IsCommand (length s.book.names) c
     over = subst (λ (n : ℕ). IsCommand n c) (sym is.names) command
 
-    range : (p : Planner) → s.last_job + 1 < 2 ^ 64 → JobRange (length s.world.servers) (job_with (s.last_job + 1) s.configuration.wait (plan_by s.world s.book c.command p))
-    range p fits = subst (λ (n : ℕ). JobRange n (job_with (s.last_job + 1) s.configuration.wait (plan_by s.world s.book c.command p))) is.names
-        (begun-in-range s.world s.book (record { 0 = s.moment }) c.command p book (given-within (length s.book.names) c over) (destination-within (length s.book.names) c over) (s.last_job + 1) s.configuration.wait fits wait)
+    range : (p : Planner) → s.last_job + 1 < 2 ^ 64 → JobRange (length s.world.servers) (job_by s.world s.book c.command p (s.last_job + 1) s.configuration.wait)
+    range p fits = subst (λ (n : ℕ). JobRange n (job_by s.world s.book c.command p (s.last_job + 1) s.configuration.wait)) is.names
+        (begun-unended s.world s.book (record { 0 = s.moment }) c.command p book (given-within (length s.book.names) c over) (destination-within (length s.book.names) c over) (s.last_job + 1) s.configuration.wait fits wait)
 
     asks : NextBy (length s.world.servers) s.last_job (question s.book s.audit s.reads c)
     asks = next-asked (length s.world.servers) s.last_job s.reads (permitted s.book c.command) (lines_of s.book s.audit.recoveries c c.command.name)
@@ -306,7 +304,7 @@ outcome-next s c is book wait command few = by (route_of c.command.name) few
     by (Asks q) few = asks
     by (Decides d) few = next-decided (length s.world.servers) s.last_job s.reads s.audit (permitted s.book c.command) (decided_of s.book s.audit (record { 0 = s.moment }) c.keys c.command.i d)
     by (Begins p) few =
-        next-begun (length s.world.servers) (numbers_of s) (refusal_by s.world s.book (record { 0 = s.moment }) c.command p) (leases_by s.world s.book c.command p) (plan_by s.world s.book c.command p) (range p) few
+        next-begun (length s.world.servers) (numbers_of s) (refusal_by s.world s.book (record { 0 = s.moment }) c.command p) (leases_by s.world s.book c.command p) (job_by s.world s.book c.command p (s.last_job + 1) s.configuration.wait) (job-number s.world s.book c.command p (s.last_job + 1) s.configuration.wait) (range p) few
     by Unbuilt few = asks
 
 -- an audit stays one, and its next id
@@ -348,7 +346,7 @@ begun-updated a (update.Decides (effect.Change c)) all = all
 begun-updated a (update.Decides (effect.Acks cluster)) all = acked-begun a cluster all
 begun-updated a (update.Begins x) all = all
 
-pub IsState-command : (s : State) (u : Update) (reads : ℕ) (b : BookState) (a : AuditState) (jobs : List Job) (last : ℕ) → IsState s → b ≡ updated s.book u → a ≡ audit_updated s.audit u
+pub IsState-command : (s : State) (u : Update) (reads : ℕ) (b : BookState) (a : AuditState) (jobs : List Unended) (last : ℕ) → IsState s → b ≡ updated s.book u → a ≡ audit_updated s.audit u
     → jobs ≡ jobs_updated s.jobs u → last ≡ last_job_updated s.last_job u
     → IsNext (length s.world.servers) s.last_job u → IsState (record s { book = b; audit = a; reads = reads; jobs = jobs; last_job = last })
 IsState-command s u reads b a jobs last is changes decides joins counts next = record {
@@ -358,7 +356,7 @@ IsState-command s u reads b a jobs last is changes decides joins counts next = r
   observed = is.observed;
   sources = is.sources;
   jobs = subst (All (JobRange (length s.world.servers))) (sym joins) (jobs-updated (length s.world.servers) s.last_job s.jobs u is.jobs next);
-  rising = subst (λ (xs : List Job). Rise 0 xs last) (sym joins) (subst (Rise 0 (jobs_updated s.jobs u)) (sym counts) (rising-updated (length s.world.servers) s.last_job s.jobs u is.rising next));
+  rising = subst (λ (xs : List Unended). Rise 0 xs last) (sym joins) (subst (Rise 0 (jobs_updated s.jobs u)) (sym counts) (rising-updated (length s.world.servers) s.last_job s.jobs u is.rising next));
   audit = subst IsAudit (sym decides) (audit-updated s.audit u is.audit);
   next = subst (λ (n : ℕ). n < 2 ^ 64) (sym (ap (λ (x : AuditState). x.next) decides ∙ next-updated s.audit u)) is.next;
   begun = subst (λ (x : AuditState). HasBegun x.recoveries) (sym decides) (begun-updated s.audit u is.begun);

@@ -14,7 +14,7 @@ use Rattle.instance_keeper.specs.declared.row.Row.TheVariants as row
 use Rattle.audit_log.specs.Audits.{acknowledged, acknowledged_for, closed, ended_so, interrupted, is_of, is_unended, AuditState, IsAudit}
 use Rattle.audit_log.proofs.Changes.{IsAudit-map}
 use Rattle.audit_log.proofs.Kept.{acknowledged-id, interrupted-id}
-use Rattle.audit_log.specs.Loading.{recoveries_in, recovery_in}
+use Rattle.audit_log.specs.Loading.{recoveries_in}
 use Rattle.opening_book.specs.Audits.{latest_recovery, recovery_raised}
 use Rattle.opening_book.specs.Counting.{counted, counts, end_or, greatest, is_end_in_range, is_in_range, latest, raised}
 

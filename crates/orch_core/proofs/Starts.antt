@@ -42,8 +42,8 @@ use Rattle.scenarios.specs.Turns.{pollers}
 use Rattle.scenarios.proofs.Rooms.{longest-at}
 use Rattle.orch_core.specs.declared.configuration.Configuration.{Configuration}
 use Rattle.orch_core.specs.Scenarios.{configuration_of, loaded_audit, loaded_book, start_world, start_rows, start_moment, start_changes, start, StartsBy, kept_at_start}
-use Rattle.operations.specs.Jobs.{Job}
-use Rattle.operations.specs.Named.{IsInRange}
+use Rattle.unended_jobs.specs.declared.unended.Unended.{Unended}
+use Rattle.unended_jobs.specs.Unended.{IsUnended}
 use Rattle.orch_core.specs.States.{HasKnownSource, IsSlot, IsState, State}
 use Rattle.jobs_in_flight.specs.Jobs.{Rise}
 use Rattle.orch_core.proofs.Servers.{servers-start}
@@ -209,7 +209,7 @@ moment-within s rows items moment is counting made =
     subst (λ (n : ℕ). n ≤ greatest) (sym (made ∙ ap (latest s.moment.0) counting)) (latest-most (length s.opening.servers) greatest_id s.moment.0 rows early)
 
 -- the pieces of an opening, as they were made one after another of the rows that the keeper gave
-pub record IsOpening (s : Scenario) (given : List Row) (w : World) (settings : List Settings) (items : List Row) (moment : Moment) (b b' : BookState) (a a' : AuditState) (slots : List (Option Observation)) (reads : ℕ) (jobs : List Job) (wait : ℕ) (configuration : Configuration) : Type 0 where
+pub record IsOpening (s : Scenario) (given : List Row) (w : World) (settings : List Settings) (items : List Row) (moment : Moment) (b b' : BookState) (a a' : AuditState) (slots : List (Option Observation)) (reads : ℕ) (jobs : List Unended) (wait : ℕ) (configuration : Configuration) : Type 0 where
   pub world : w ≡ start_world s
   pub settings_made : settings ≡ settings_of s
   pub counting : items ≡ start_rows s given
@@ -223,7 +223,7 @@ pub record IsOpening (s : Scenario) (given : List Row) (w : World) (settings : L
   pub idle : jobs ≡ []
   pub configured : configuration ≡ configuration_of wait s
 
-module _ (s : Scenario) (given : List Row) (w : World) (settings : List Settings) (items : List Row) (moment : Moment) (b b' : BookState) (a a' : AuditState) (slots : List (Option Observation)) (reads : ℕ) (jobs : List Job) (wait : ℕ) (configuration : Configuration)
+module _ (s : Scenario) (given : List Row) (w : World) (settings : List Settings) (items : List Row) (moment : Moment) (b b' : BookState) (a a' : AuditState) (slots : List (Option Observation)) (reads : ℕ) (jobs : List Unended) (wait : ℕ) (configuration : Configuration)
     (is : IsOpening s given w settings items moment b b' a a' slots reads jobs wait configuration) where
   abbrev made : State
   made = record { world = w; moment = moment.0; book = b'; audit = a'; slots = slots; reads = reads; jobs = jobs; last_job = 0; configuration = configuration }
@@ -247,8 +247,8 @@ module _ (s : Scenario) (given : List Row) (w : World) (settings : List Settings
     slots = ap length is.empty ∙ length-replicate {A = Option Observation} pollers None;
     observed = subst (All (IsSlot (length w.servers))) (sym is.empty) (All-replicate (IsSlot (length w.servers)) pollers None tt);
     sources = subst (λ (x : World). KnowsSources x.servers) (sym is.world) (sources-start s scenario);
-    jobs = subst (All (IsInRange (length w.servers))) (sym is.idle) (All-nil (IsInRange (length w.servers)));
-    rising = let low : 0 ≤ 0 = omega arith in subst (λ (xs : List Job). Rise 0 xs 0) (sym is.idle) low;
+    jobs = subst (All (IsUnended (length w.servers))) (sym is.idle) (All-nil (IsUnended (length w.servers)));
+    rising = let low : 0 ≤ 0 = omega arith in subst (λ (xs : List Unended). Rise 0 xs 0) (sym is.idle) low;
     audit = subst IsAudit (sym audit_made) (closed-is (loaded_audit s given) moment (opened-is s given scenario));
     next = subst (λ (x : AuditState). x.next < 2 ^ 64) (sym audit_made) (let most = last_id-within given in omega (arith, most));
     begun = made-begun;
@@ -279,7 +279,7 @@ module _ (s : Scenario) (given : List Row) (w : World) (settings : List Settings
       let audit = is.closes ∙ ap (λ (x : AuditState). closed x moment) audit_is ∙ ap (closed (loaded_audit s given)) moment_is in
       let read = is.read ∙ ap last_read is.counting in
       let begins : State = start s wait given in
-      ap (λ (x : List Job). record made { jobs = x }) is.idle
+      ap (λ (x : List Unended). record made { jobs = x }) is.idle
       ∙ ap (λ (x : World). record made { jobs = []; world = x }) is.world
       ∙ ap (λ (x : Moment). record made { jobs = []; world = start_world s; moment = x.0 }) moment_is
       ∙ ap (λ (x : BookState). record made { jobs = []; world = start_world s; moment = (start_moment s given).0; book = x }) book

@@ -31,8 +31,8 @@ use Rattle.turns.specs.declared.turn.Turn.{Turn}
 use Rattle.turns.specs.declared.turn.Turn.TheVariants as turn
 use Rattle.scenarios.specs.Turns.{pollers, IsTurn}
 use Rattle.orch_core.specs.Turns.{exchanges_of, is_exchange, ticked}
-use Rattle.operations.specs.Jobs.{Job}
-use Rattle.operations.specs.Named.{IsInRange}
+use Rattle.unended_jobs.specs.declared.unended.Unended.{Unended}
+use Rattle.unended_jobs.specs.Unended.{IsUnended}
 use Rattle.jobs_in_flight.specs.Jobs.{Rise, stored}
 use Rattle.orch_core.specs.States.{State, IsSlot, IsState}
 use Rattle.orch_core.proofs.Sources.{KnowsSources, source-at, sources-run}
@@ -191,7 +191,7 @@ IsState-exchange s t w moment is turn world servers passed = record {
   slots = is.slots;
   observed = subst (λ count. All (IsSlot count) s.slots) (sym servers) is.observed;
   sources = subst (λ (v : World). KnowsSources v.servers) (sym world) (sources-run s.world (exchanges_of t) (Allowed-turn (length s.world.servers) s.world t turn).0 is.sources);
-  jobs = subst (λ count. All (IsInRange count) s.jobs) (sym servers) is.jobs;
+  jobs = subst (λ count. All (IsUnended count) s.jobs) (sym servers) is.jobs;
   rising = is.rising;
   audit = is.audit;
   next = is.next;
@@ -240,14 +240,14 @@ reloaded-is rows s is few =
     audit-loaded (length s.book.settings) s.audit.next (last_given s) rows few first (omega (arith, is.next)) (omega (arith, first))
 
 -- what a restart makes of a state, by the rows that the keeper gave
-pub record IsRestarted (rows : List Row) (s : State) (b : BookState) (a : AuditState) (moment : Moment) (slots : List (Option Observation)) (jobs : List Job) : Type 0 where
+pub record IsRestarted (rows : List Row) (s : State) (b : BookState) (a : AuditState) (moment : Moment) (slots : List (Option Observation)) (jobs : List Unended) : Type 0 where
   pub book : b ≡ reloaded_book rows s
   pub audit : a ≡ closed (reloaded_audit rows s) moment
   pub moment_is : moment ≡ interrupted_at rows s
   pub empty : slots ≡ empty_slots
   pub dropped : jobs ≡ []
 
-module _ (rows : List Row) (s : State) (b : BookState) (a : AuditState) (moment : Moment) (slots : List (Option Observation)) (jobs : List Job) (re : IsRestarted rows s b a moment slots jobs) where
+module _ (rows : List Row) (s : State) (b : BookState) (a : AuditState) (moment : Moment) (slots : List (Option Observation)) (jobs : List Unended) (re : IsRestarted rows s b a moment slots jobs) where
   abbrev restarted : State
   restarted = record s { moment = moment.0; book = b; audit = a; slots = slots; jobs = jobs }
 
@@ -261,8 +261,8 @@ module _ (rows : List Row) (s : State) (b : BookState) (a : AuditState) (moment 
     slots = ap length re.empty ∙ length-replicate {A = Option Observation} pollers None;
     observed = subst (All (IsSlot (length s.world.servers))) (sym re.empty) (All-replicate (IsSlot (length s.world.servers)) pollers None tt);
     sources = is.sources;
-    jobs = subst (All (IsInRange (length s.world.servers))) (sym re.dropped) (All-nil (IsInRange (length s.world.servers)));
-    rising = let low : 0 ≤ s.last_job = omega arith in subst (λ (xs : List Job). Rise 0 xs s.last_job) (sym re.dropped) low;
+    jobs = subst (All (IsUnended (length s.world.servers))) (sym re.dropped) (All-nil (IsUnended (length s.world.servers)));
+    rising = let low : 0 ≤ s.last_job = omega arith in subst (λ (xs : List Unended). Rise 0 xs s.last_job) (sym re.dropped) low;
     audit = subst IsAudit (sym re.audit) (closed-is (reloaded_audit rows s) moment (reloaded-is rows s is few));
     next = subst (λ (x : AuditState). x.next < 2 ^ 64) (sym re.audit) is.next;
     begun = subst (λ (x : AuditState). HasBegun x.recoveries) (sym re.audit) (closed-begun (reloaded_audit rows s) moment (counted-begun (length s.book.settings) (last_given s) rows));
@@ -275,7 +275,7 @@ module _ (rows : List Row) (s : State) (b : BookState) (a : AuditState) (moment 
       ∙ ap (λ (x : AuditState). record restarted { book = reloaded_book rows s; audit = x }) audit_is
       ∙ ap (λ (m : Moment). record s { moment = m.0; book = reloaded_book rows s; audit = closed (reloaded_audit rows s) (interrupted_at rows s); slots = slots; jobs = jobs }) re.moment_is
       ∙ ap (λ (x : List (Option Observation)). record s { moment = reloaded_moment rows s; book = reloaded_book rows s; audit = closed (reloaded_audit rows s) (interrupted_at rows s); slots = x; jobs = jobs }) re.empty
-      ∙ ap (λ (x : List Job). record s { moment = reloaded_moment rows s; book = reloaded_book rows s; audit = closed (reloaded_audit rows s) (interrupted_at rows s); slots = empty_slots; jobs = x }) re.dropped
+      ∙ ap (λ (x : List Unended). record s { moment = reloaded_moment rows s; book = reloaded_book rows s; audit = closed (reloaded_audit rows s) (interrupted_at rows s); slots = empty_slots; jobs = x }) re.dropped
 
 -- a turn by the rows that the keeper gave
 pub StepsTo-given : (kept : Option (List Row)) (given : List Row) (s now : State) (t : Turn) → IfSome kept (λ rows. given ≡ rows) → now ≡ step given s t → StepsTo engine kept s t now
@@ -328,5 +328,5 @@ kept_unchanged true (Some rows) s t none = ap (λ (cs : List Change). Some (chan
 kept_unchanged false kept s t none = refl
 
 -- the jobs are as they were
-pub IsState-room : (s : State) (jobs : List Job) → IsState s → jobs ≡ s.jobs → IsState (record s { jobs = jobs })
-IsState-room s jobs is same = subst (λ (xs : List Job). IsState (record s { jobs = xs })) (sym same) is
+pub IsState-room : (s : State) (jobs : List Unended) → IsState s → jobs ≡ s.jobs → IsState (record s { jobs = jobs })
+IsState-room s jobs is same = subst (λ (xs : List Unended). IsState (record s { jobs = xs })) (sym same) is

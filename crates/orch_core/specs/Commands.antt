@@ -19,7 +19,7 @@ use Rattle.command_routes.specs.declared.route.Planner.{Planner}
 use Rattle.command_routes.specs.declared.route.Route.{Route}
 use Rattle.command_routes.specs.declared.route.Route.TheVariants.{Discovers, Forgets, Asks, Decides, Begins, Unbuilt}
 use Rattle.command_routes.specs.Routes.{route_of}
-use Rattle.command_jobs.specs.Jobs.{leases_by, plan_by, refusal_by}
+use Rattle.command_jobs.specs.Jobs.{job_by, leases_by, refusal_by}
 use Rattle.commands.specs.declared.refusal.Refusal.{Refusal}
 use Rattle.commands.specs.declared.refusal.Refusal.TheVariants.{Unreachable}
 use Rattle.commands.specs.declared.turn.Command.{Command}
@@ -32,10 +32,9 @@ use Rattle.book_commands.specs.declared.decided.Effect.TheVariants as effect
 use Rattle.book_commands.specs.Decisions.{audit_after as audit_decided, book_after as book_decided, decided_of, rows_of}
 use Rattle.turns.specs.declared.turn.Reply.{Reply}
 use Rattle.turns.specs.declared.turn.Reply.TheVariants as answered
-use Rattle.operations.specs.Jobs.{Job, job_with}
-use Rattle.operations.specs.declared.op.Op.{Op}
+use Rattle.unended_jobs.specs.declared.unended.Unended.{Unended}
+use Rattle.unended_jobs.specs.Unended.{number_of}
 use Rattle.permission.specs.Checks.{busy}
-use Rattle.orch_core.specs.Beginnings.{Beginning}
 use Rattle.orch_core.specs.declared.command.Numbers.{Numbers}
 use Rattle.orch_core.specs.declared.command.Update.{Update}
 use Rattle.orch_core.specs.declared.command.Update.TheVariants as update
@@ -56,7 +55,7 @@ updated b update.Stays = b
 updated b (update.Change c) = after_change b c
 updated b (update.Discovery o) = after_discovery b o
 updated b (update.Decides e) = book_decided b e
-updated b (update.Begins x) = record b { leases = taken b.leases x.list x.job.id }
+updated b (update.Begins x) = record b { leases = taken b.leases x.list (number_of x.job) }
 
 -- the audit after it: a decision may acknowledge recoveries
 abbrev pub audit_updated : AuditState → Update → AuditState
@@ -67,7 +66,7 @@ audit_updated a (update.Decides e) = audit_decided a e
 audit_updated a (update.Begins x) = a
 
 -- the unended jobs after it, by rising number
-abbrev pub jobs_updated : List Job → Update → List Job
+abbrev pub jobs_updated : List Unended → Update → List Unended
 jobs_updated jobs update.Stays = jobs
 jobs_updated jobs (update.Change c) = jobs
 jobs_updated jobs (update.Discovery o) = jobs
@@ -80,7 +79,7 @@ last_job_updated last update.Stays = last
 last_job_updated last (update.Change c) = last
 last_job_updated last (update.Discovery o) = last
 last_job_updated last (update.Decides e) = last
-last_job_updated last (update.Begins x) = x.job.id
+last_job_updated last (update.Begins x) = number_of x.job
 
 -- each server of the list is one of the book's, and no job has a lease of it
 pub record MayTake (b : BookState) (list : List ServerNo) : Type 0 where
@@ -165,17 +164,14 @@ decision b a n t d = decided n.reads a (permitted b t.command) (decided_of b a n
 
 -- ---- a command begins a job
 
--- a job of these operations, with the next number, and the servers of which it takes the leases
-abbrev pub beginning : Numbers → List ServerNo → List Op → Beginning
-beginning n list ops = record { list = list; job = job_with (n.last_job + 1) n.wait ops }
+-- a job that begins with the next number, and the servers of which it takes the leases
+abbrev pub begun : Numbers → Option Refusal → List ServerNo → Unended → Outcome
+begun n (Some r) list job = refusal n.reads r
+begun n None list job = record { reply = answered.Begun (n.last_job + 1); book = update.Begins (record { list = list; job = job }); rows = []; reads = n.reads }
 
-abbrev pub begun : Numbers → Option Refusal → List ServerNo → List Op → Outcome
-begun n (Some r) list ops = refusal n.reads r
-begun n None list ops = record { reply = answered.Begun (n.last_job + 1); book = update.Begins (beginning n list ops); rows = []; reads = n.reads }
-
--- by the permission table the refusal of the lowest number that applies, and by the plan the operations
+-- by the permission table the refusal of the lowest number that applies, and by the plan the job
 abbrev pub begun_by : World → BookState → Numbers → Command → Planner → Outcome
-begun_by w b n c p = begun n (refusal_by w b n.moment c p) (leases_by w b c p) (plan_by w b c p)
+begun_by w b n c p = begun n (refusal_by w b n.moment c p) (leases_by w b c p) (job_by w b c p (n.last_job + 1) n.wait)
 
 -- ---- all commands
 

@@ -9,7 +9,7 @@ use Rattle.instance_keeper.specs.declared.row.Change.{Change}
 use Rattle.instance_keeper.specs.Book.{BookState, instance_at, store_change}
 use Rattle.audit_log.specs.Audits.{AuditState, closed}
 use Rattle.commands.specs.declared.turn.CommandTurn.{CommandTurn}
-use Rattle.operations.specs.Jobs.{Job}
+use Rattle.unended_jobs.specs.declared.unended.Unended.{Unended}
 use Rattle.orch_core.specs.Commands.{Outcome, audit_updated, jobs_updated, last_job_updated, outcome_of, updated}
 use Rattle.jobs_in_flight.specs.Jobs.{book_turned, job_observation, jobs_turned, reads_with, stored}
 use Rattle.orch_core.specs.Jobs.{turned_at}
@@ -135,7 +135,7 @@ changes_of rows s (turn.PollRead p n) = []
 changes_of rows s turn.Restart = restart_changes rows s
 
 -- a command may begin a job, a job's turn may end it, and a restart drops all jobs
-abbrev pub jobs_after : State → Turn → List Job
+abbrev pub jobs_after : State → Turn → List Unended
 jobs_after s (turn.Command c) = jobs_updated s.jobs (command_outcome s c).book
 jobs_after s (turn.Job job) = jobs_turned s.jobs job (turned_at s job)
 jobs_after s turn.Restart = []

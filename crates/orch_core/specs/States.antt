@@ -3,8 +3,8 @@ use Rattle.std.specs.Prelude.{◌≡◌, ◌<◌, ◌≤◌, ◌^◌, ℕ, true,
 use Rattle.audit_log.specs.Audits.{AuditState, IsAudit}
 use Rattle.instance_keeper.specs.declared.observation.Observation.{Observation}
 use Rattle.instance_keeper.specs.Book.{BookState, are_known, observed_servers, source_servers}
-use Rattle.operations.specs.Jobs.{Job}
-use Rattle.operations.specs.Named.{IsInRange}
+use Rattle.unended_jobs.specs.declared.unended.Unended.{Unended}
+use Rattle.unended_jobs.specs.Unended.{IsUnended}
 use Rattle.jobs_in_flight.specs.Jobs.{Rise}
 use Rattle.orch_core.specs.declared.configuration.Configuration.{Configuration}
 use Rattle.server_model.specs.declared.server.Server.{Server}
@@ -20,7 +20,7 @@ pub record State : Type 0 where
   pub audit : AuditState
   pub slots : List (Option Observation)
   pub reads : ℕ
-  pub jobs : List Job
+  pub jobs : List Unended
   pub last_job : ℕ
   pub configuration : Configuration
 
@@ -41,7 +41,7 @@ pub record IsState (s : State) : Type 0 where
   pub slots : length s.slots ≡ pollers
   pub observed : All (IsSlot (length s.world.servers)) s.slots
   pub sources : All (HasKnownSource (length s.world.servers)) s.world.servers
-  pub jobs : All (IsInRange (length s.world.servers)) s.jobs
+  pub jobs : All (IsUnended (length s.world.servers)) s.jobs
   pub rising : Rise 0 s.jobs s.last_job
   pub audit : IsAudit s.audit
   pub next : s.audit.next < 2 ^ 64

@@ -16,15 +16,15 @@ use asking_commands::{AnswerFault, answer, permit};
 use audit_log::Audit;
 use book_commands::{Decided, Effect, decide, rows_of};
 use book_views::book_forest;
-use command_jobs::{PermitFault, leases, permit as permit_job, plan};
+use command_jobs::{PermitFault, job, leases, permit as permit_job};
 use command_routes::{Decision, Planner, Route};
 use commands::{Command, CommandTurn, Line, Lines, Refusal};
 use instance_keeper::{Book, Change, Instance, Key, Observation, Row, Seen, Table};
-use job_plans::Job;
 use orch_base::{Memory, Moment, ServerNo};
 use server_model::World;
 use std::alloc::Global;
 use std::marker::Model;
+use unended_jobs::Unended;
 
 /// The numbers by which a command goes.
 #[derive(Clone, Copy)]
@@ -43,7 +43,7 @@ pub(crate) struct Numbers {
 pub(crate) struct Beginning {
     // The servers of which it takes the leases.
     list: Vec<ServerNo>,
-    job: Job,
+    job: Unended,
 }
 
 impl Model for Beginning {
@@ -82,7 +82,7 @@ pub(crate) struct Outcome {
 }
 
 // The job's leases are taken, and it joins the others.
-fn join(book: &mut Book, jobs: &mut Vec<Job>, last_job: &mut u64, beginning: Beginning)
+fn join(book: &mut Book, jobs: &mut Vec<Unended>, last_job: &mut u64, beginning: Beginning)
     requires update { IsUpdate book.old (Update.Begins beginning) }
     requires room { vec_len jobs.old < vec_capacity jobs.old }
     ensures book { book.new ≡ updated book.old (Update.Begins beginning) }
@@ -114,7 +114,7 @@ fn decide_so(book: &mut Book, audit: &mut Audit, effect: Effect)
 pub(crate) fn update_all(
     book: &mut Book,
     audit: &mut Audit,
-    jobs: &mut Vec<Job>,
+    jobs: &mut Vec<Unended>,
     last_job: &mut u64,
     update: Update,
 )
@@ -359,8 +359,16 @@ fn begin_by(
     }
     let number = numbers.last_job + 1;
     let list = leases(alloc, book, &forest, world, command, planner)?;
-    let ops = plan(alloc, book, &forest, world, command, planner)?;
-    let job = Job::make(alloc, number, ops, numbers.wait)?;
+    let job = job(
+        alloc,
+        book,
+        &forest,
+        world,
+        command,
+        planner,
+        number,
+        numbers.wait,
+    )?;
     Ok(Outcome {
         reply: Reply::Begun(number),
         book: Update::Begins(Beginning { list, job }),

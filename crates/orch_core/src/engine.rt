@@ -22,18 +22,17 @@ use crate::keep::{given_rows, keep_and_update, keep_some, keep_store};
 use crate::{BoxedCommand, Configuration, Reply, Scenario, Turn, TurnFault};
 use audit_log::Audit;
 use instance_keeper::{Book, Keeper, Observation, StoreAnswer};
-use job_plans::Job;
 use jobs_in_flight::{FoundJob, answer, find, others_over, take_turn};
 use opening_book::{
     GREATEST_ID, counted, interrupting, last_id, last_read, latest_moment, latest_recovery,
     loaded_audit, loaded_book, open_book, opening_changes,
 };
 use openings::ServerInit;
-use operations::{jobs_end, jobs_stay_in_range};
 use orch_base::{Memory, Moment, Name, ServerNo, Settings};
 use server_model::{StatusFault, World};
 use std::alloc::Global;
 use std::marker::Model;
+use unended_jobs::Unended;
 use world_openings::OpenedWorld;
 
 /// The last moment: where it would be passed, time stands still.
@@ -51,7 +50,7 @@ pub struct Engine {
     audit: Audit,
     slots: Vec<Option<Observation>>,
     reads: u64,
-    jobs: Vec<Job>,
+    jobs: Vec<Unended>,
     last_job: u64,
     configuration: Configuration,
 }
@@ -452,13 +451,11 @@ impl Engine {
             → changes_of [] self.old (Turn.Job found.id) ≢ [] }
         ensures servers { length self.new.world.servers ≡ length self.old.world.servers }
     {
-        // shows the proof that a job's numbers stay in their ranges
-        jobs_stay_in_range();
         let read = self.reads.saturating_add(1);
-        let look = self.jobs[found.at].look(alloc, &self.world, read, self.moment)?;
-        let told = answer(alloc, &look.step)?;
+        let look = self.jobs[found.at].look(alloc, &self.world, &self.book, read, self.moment)?;
+        let told = answer(alloc, look.step())?;
         let written = copied(alloc, &told, written)?;
-        keep_store(alloc, keeper, &self.book, &look.observation)?;
+        keep_store(alloc, keeper, &self.book, look.observation())?;
         take_turn(
             alloc,
             &mut self.jobs,
@@ -708,10 +705,8 @@ impl Engine {
         if !self.is_open(job) {
             return Ok(told);
         }
-        // each shows the proof a law: of the state, of a job's numbers, and that its turns come to an end
+        // shows the proof what holds of the state
         self.shows_state();
-        jobs_stay_in_range();
-        jobs_end();
         let Ok(others) = others_over(alloc, self.book.order()) else {
             return Err(TurnFault::Memory);
         };
@@ -739,7 +734,7 @@ impl Engine {
     }
 
     /// The unended jobs, by rising number.
-    pub fn open_jobs(&self) -> &[Job]
+    pub fn open_jobs(&self) -> &[Unended]
         ensures jobs { result.now ≡ self.now.jobs }
         ensures rising { Rise 0 result.now self.now.last_job }
     {

@@ -9,9 +9,9 @@ use crate::TurnFault;
 use crate::command::{Update, update_all};
 use audit_log::Audit;
 use instance_keeper::{Book, Change, Keeper, Observation, Row};
-use job_plans::Job;
 use orch_base::Name;
 use std::alloc::Global;
+use unended_jobs::Unended;
 
 /// Keeps the changes that storing the slot's reading makes, where it makes any.
 pub(crate) fn keep_store<K: Keeper>(
@@ -73,7 +73,7 @@ pub(crate) fn keep_and_update<K: Keeper>(
     keeper: &mut K,
     book: &mut Book,
     audit: &mut Audit,
-    jobs: &mut Vec<Job>,
+    jobs: &mut Vec<Unended>,
     last_job: &mut u64,
     update: Update,
     rows: &[Change],

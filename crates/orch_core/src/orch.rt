@@ -15,13 +15,12 @@ ghost use Rattle.orch_core.specs.Scenarios.{StartsBy, kept_at_start};
 use crate::{Engine, Reply, Scenario, Turn, TurnFault};
 use audit_log::Audit;
 use instance_keeper::{Book, Keeper};
-use job_plans::Job;
 use jobs_in_flight::round_over;
-use operations::{jobs_end, jobs_stay_in_range};
 use orch_base::Moment;
 use server_model::World;
 use std::alloc::Global;
 use std::marker::Model;
+use unended_jobs::Unended;
 
 /// The servers of a scenario after some turns, the moment, what orchestrator knows, and the journal: each turn so far
 /// with its reply, in order.
@@ -139,10 +138,8 @@ impl Orch {
         if !self.is_open(job) {
             return Ok(());
         }
-        // each shows the proof a law: of the state, of a job's numbers, and that its turns come to an end
+        // shows the proof what holds of the state
         self.shows_state();
-        jobs_stay_in_range();
-        jobs_end();
         let Ok(turns) = round_over(alloc, self.engine.book().order(), job) else {
             return Err(TurnFault::Memory);
         };
@@ -169,7 +166,7 @@ impl Orch {
     }
 
     /// The unended jobs, by rising number.
-    pub fn open_jobs(&self) -> &[Job]
+    pub fn open_jobs(&self) -> &[Unended]
         ensures jobs { result.now ≡ self.now.state.jobs }
         ensures rising { Rise 0 result.now self.now.state.last_job }
     {

@@ -70,7 +70,7 @@ fn bad_words_are_refused(rt: HostRuntime) -> Result<(), Fail> {
         &["-i", "m"],
         &["-c", "walk"],
         &["-c", "Run"],
-        &["-c", "regroup-replicas", "-i", "m"],
+        &["-c", "recover", "-i", "m"],
         &["-c", ""],
         &["-c", "run", "-c", "run"],
         &["-c", "run", "-c", "find"],

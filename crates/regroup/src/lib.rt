@@ -13,3 +13,5 @@ pub use orch_base::Memory;
 pub use permission::PermitFault;
 pub use permits::{leases, permit};
 pub use plans::plan;
+/// Which drained replicas follow the promoted one, and at which coordinate of its binary log.
+pub use replica_groups::{Group, Groups, Lines, split};

@@ -1,14 +1,13 @@
 -- Kept rows follow the audit of a run, which is apart.
-use Rattle.std.proofs.Common.{◌≡◌, ◌∙◌, ℕ, ◌+◌, ◌<◌, ◌≤◌, ◌^◌, Bool, true, false, List, [], ◌∷◌, ◌++◌, length, refl, sym, ap, subst, Option, Some, None, Result, Ok, Err, arith}
+use Rattle.std.proofs.Common.{◌≡◌, ◌∙◌, ℕ, ◌+◌, ◌<◌, ◌≤◌, ◌^◌, Bool, true, false, List, [], ◌∷◌, ◌++◌, length, refl, sym, subst, Option, Some, None, Result, Ok, Err, arith}
 use Rattle.std.specs.Prelude.{All, IfSome, nat_lt, if◌then◌else◌}
 use Rattle.std.specs.Option.{option_map, option_to_list}
 use Rattle.std.proofs.lemmas.Bool.{ltb-true}
-use Rattle.std.proofs.lemmas.List.{length-map}
 use Rattle.std.proofs.lemmas.List.Elements.{All-cons, All-head, All-nil, All-tail}
 use Rattle.std.proofs.lemmas.List.Sums.{fold-append}
 use Rattle.audit_log.proofs.Parting.{closed-apart}
 use Rattle.audit_log.specs.Apart.{IsApart}
-use Rattle.audit_log.specs.Audits.{AuditState, IsAudit, acknowledged, closed}
+use Rattle.audit_log.specs.Audits.{AuditState, closed}
 use Rattle.book_commands.specs.declared.decided.Decided.{Decided}
 use Rattle.book_commands.specs.declared.decided.Effect.{Effect}
 use Rattle.book_commands.specs.declared.decided.Effect.TheVariants as effect
@@ -38,12 +37,12 @@ use Rattle.command_routes.specs.declared.route.Planner.{Planner}
 use Rattle.command_routes.specs.declared.route.Route.{Route}
 use Rattle.command_routes.specs.declared.route.Route.TheVariants.{Discovers, Forgets, Asks, Decides, Begins, Unbuilt}
 use Rattle.command_routes.specs.Routes.{route_of}
-use Rattle.command_jobs.specs.Jobs.{leases_by, plan_by, refusal_by}
+use Rattle.command_jobs.specs.Jobs.{job_by, leases_by, refusal_by}
 use Rattle.asking_commands.specs.Answers.{allowed, lines_of, permitted}
 use Rattle.jobs_in_flight.specs.Jobs.{job_at, job_observation}
 use Rattle.job_laws.proofs.Lists.{All-at}
-use Rattle.job_laws.proofs.Observing.{turn-observes}
-use Rattle.operations.specs.Jobs.{Job}
+use Rattle.flight_laws.proofs.Readiness.{job-sees}
+use Rattle.unended_jobs.specs.declared.unended.Unended.{Unended}
 use Rattle.operations.specs.Turns.{observed}
 use Rattle.turns.specs.declared.turn.Turn.{Turn}
 use Rattle.turns.specs.declared.turn.Turn.TheVariants as turn
@@ -116,10 +115,9 @@ observed-booked count s read now (Some x) ready is =
     go n None at = All-nil (IsBooked (length s.book.names))
     go n (Some kept) at = stored-booked s.book (observed s.world read now n) ready.book (observed-known count s ready n read now kept at) (Some kept) at
 
-job-booked : (count : ℕ) (s : State) (o : Option Job) → Ready count s → All (IsBooked (length s.book.names)) (changes_by s.book (job_observation (option_map (turn_of s) o)))
-job-booked count s None ready = All-nil (IsBooked (length s.book.names))
-job-booked count s (Some j) ready =
-    observed-booked count s (next_count s.reads) (moment_at s) (turn_of s j).observation ready (λ x is. turn-observes s.world (next_count s.reads) (moment_at s) j x is)
+job-booked : (count : ℕ) (s : State) (id : ℕ) (o : Option Unended) → job_at s.jobs id ≡ o → Ready count s → All (IsBooked (length s.book.names)) (changes_by s.book (job_observation (option_map (turn_of s) o)))
+job-booked count s id None at ready = All-nil (IsBooked (length s.book.names))
+job-booked count s id (Some u) at ready = observed-booked count s (next_count s.reads) (moment_at s) (turn_of s u).observation ready (job-sees count s id u ready at)
 
 -- ---- a command
 
@@ -170,7 +168,7 @@ follow-command rows count s c ready command follow = by (route_of c.command.name
     given some each None within = asks
     given some each (Some i) within = each i within
 
-    begins : (p : Planner) (r : Option Refusal) → FollowsOutcome count rows s.audit (begun (numbers_of s) r (leases_by s.world s.book c.command p) (plan_by s.world s.book c.command p))
+    begins : (p : Planner) (r : Option Refusal) → FollowsOutcome count rows s.audit (begun (numbers_of s) r (leases_by s.world s.book c.command p) (job_by s.world s.book c.command p (s.last_job + 1) s.configuration.wait))
     begins p (Some why) = follow
     begins p None = follow
 
@@ -216,7 +214,7 @@ follow-turn count rows s (turn.Job job) is turn rising follow =
     let small = is.book.small in
     let names = is.names in
     booked-follow count rows s.audit (changes_by s.book (job_observation (option_map (turn_of s) (job_at s.jobs job)))) (omega (arith, small, names))
-    (subst (λ (n : ℕ). All (IsBooked n) (changes_by s.book (job_observation (option_map (turn_of s) (job_at s.jobs job))))) is.names (job-booked count s (job_at s.jobs job) is)) follow
+    (subst (λ (n : ℕ). All (IsBooked n) (changes_by s.book (job_observation (option_map (turn_of s) (job_at s.jobs job))))) is.names (job-booked count s job (job_at s.jobs job) refl is)) follow
 follow-turn count rows s turn.Scan is turn rising follow = follow
 follow-turn count rows s (turn.PollRead p n) is turn rising follow = follow
 follow-turn count rows s (turn.PollStore p) is turn rising follow =

@@ -21,7 +21,6 @@ use Rattle.instance_keeper.specs.declared.row.Row.TheVariants as row
 use Rattle.instance_keeper.specs.declared.row.Change.TheVariants as change
 use Rattle.instance_keeper.specs.Book.{BookState, added_over, are_known, after_put, discovered_over, discovery_change, first_seen, fits, instance_at, observed_servers, renewal, renewed, renewed_book, seen_servers, store_change, stored_over}
 use Rattle.instance_keeper.specs.Bridges.{bridge_in, ringed}
-use Rattle.instance_keeper.specs.Ranges.{IsInRange}
 use Rattle.instance_keeper.specs.Rows.{changed, IsRising}
 use Rattle.instance_keeper.specs.Same.{same_instance}
 use Rattle.instance_keeper.proofs.Same.{instance_is}
@@ -58,19 +57,20 @@ use Rattle.orch_core.proofs.States.{reading_known, names-loaded}
 use Rattle.orch_base.specs.declared.server.Moment.{Moment}
 use Rattle.std.proofs.lemmas.List.Elements.{All-map, All-weaker}
 use Rattle.command_routes.specs.declared.route.Planner.{Planner}
-use Rattle.command_jobs.specs.Jobs.{leases_by, plan_by, refusal_by}
+use Rattle.command_jobs.specs.Jobs.{job_by, leases_by, refusal_by}
 use Rattle.instance_keeper.specs.Book.{IsBook}
 use Rattle.instance_keeper.specs.Leases.{given_back, taken}
 use Rattle.instance_keeper.proofs.Books.{leases_set}
-use Rattle.operations.specs.Jobs.{Job}
-use Rattle.operations.specs.Named.{IsInRange as InRange}
+use Rattle.unended_jobs.specs.declared.unended.Unended.{Unended}
+use Rattle.unended_jobs.specs.Unended.{IsReady, IsUnended, number_of}
+use Rattle.unended_jobs.proofs.Going.{ready-of as job-ready}
+use Rattle.flight_laws.proofs.Readiness.{job-sees}
 use Rattle.operations.specs.Turns.{is_going, observed}
 use Rattle.job_laws.proofs.Lists.{All-at}
-use Rattle.job_laws.proofs.Observing.{turn-observes}
 use Rattle.orch_core.specs.States.{IsSlot}
 use Rattle.flight_laws.specs.Flights.{moment_at}
 use Rattle.flight_laws.proofs.Outcomes.{length-taken, within-both}
-use Rattle.flight_laws.specs.Ready.{IsReadyJob, Ready}
+use Rattle.flight_laws.specs.Ready.{Ready}
 use Rattle.flight_laws.proofs.Ready.{observed-known, put-kept}
 
 -- at the opening
@@ -175,11 +175,11 @@ module _ (rows : List Row) (count : ℕ) (s : State) (id : ℕ) (ready : Ready c
   Follow-by o true after = after
   Follow-by o false after = Follow-leases (changed rows (changes_by s.book o)) (stored s.book o) (given_back (stored s.book o).leases id) (length-map (stored s.book o).leases _) after
 
-  Follow-job : (o : Option Job) → Follow (changed rows (changes_by s.book (job_observation (option_map (turn_of s) o)))) (book_turned s.book id (option_map (turn_of s) o))
-  Follow-job None = follow
-  Follow-job (Some j) =
-      Follow-by (turn_of s j).observation (is_going (turn_of s j).step)
-      (Follow-observed rows count s (next_count s.reads) (moment_at s) (turn_of s j).observation ready follow (λ x is. turn-observes s.world (next_count s.reads) (moment_at s) j x is))
+  Follow-job : (o : Option Unended) → job_at s.jobs id ≡ o → Follow (changed rows (changes_by s.book (job_observation (option_map (turn_of s) o)))) (book_turned s.book id (option_map (turn_of s) o))
+  Follow-job None at = follow
+  Follow-job (Some u) at =
+      Follow-by (turn_of s u).observation (is_going (turn_of s u).step)
+      (Follow-observed rows count s (next_count s.reads) (moment_at s) (turn_of s u).observation ready follow (job-sees count s id u ready at))
 
 -- what a command makes of the book, and the changes of the kept rows
 abbrev Follows-outcome : List Row → BookState → Outcome → Type 0
@@ -235,9 +235,12 @@ Follow-command rows count s c ready audit small command follow = by (route_of c.
     given some each None within = asks
     given some each (Some i) within = each i within
 
-    begins : (p : Planner) (r : Option Refusal) → Follows-outcome rows s.book (begun (numbers_of s) r (leases_by s.world s.book c.command p) (plan_by s.world s.book c.command p))
+    begins : (p : Planner) (r : Option Refusal) → Follows-outcome rows s.book (begun (numbers_of s) r (leases_by s.world s.book c.command p) (job_by s.world s.book c.command p (s.last_job + 1) s.configuration.wait))
     begins p (Some why) = follow
-    begins p None = Follow-leases rows s.book (taken s.book.leases (leases_by s.world s.book c.command p) (s.last_job + 1)) (length-taken (leases_by s.world s.book c.command p) s.book.leases (s.last_job + 1)) follow
+    begins p None =
+        let list = leases_by s.world s.book c.command p in
+        let number = number_of (job_by s.world s.book c.command p (s.last_job + 1) s.configuration.wait) in
+        Follow-leases rows s.book (taken s.book.leases list number) (length-taken list s.book.leases number) follow
 
     by : (r : Route) → Follows-outcome rows s.book (outcome_by s.world s.book s.audit (numbers_of s) c r)
     by Discovers =
@@ -271,7 +274,7 @@ Follow-turn count rows s (turn.Cut n link) is audit small turn follow = follow
 Follow-turn count rows s (turn.Join n link) is audit small turn follow = follow
 Follow-turn count rows s (turn.Rotate n) is audit small turn follow = follow
 Follow-turn count rows s (turn.Tick seconds) is audit small turn follow = follow
-Follow-turn count rows s (turn.Job job) is audit small turn follow = Follow-job rows count s job is follow (job_at s.jobs job)
+Follow-turn count rows s (turn.Job job) is audit small turn follow = Follow-job rows count s job is follow (job_at s.jobs job) refl
 Follow-turn count rows s turn.Scan is audit small turn follow = follow
 Follow-turn count rows s (turn.PollRead p n) is audit small turn follow = follow
 Follow-turn count rows s (turn.PollStore p) is audit small within follow =
@@ -289,7 +292,7 @@ ready-of s is book = record {
   slots = is.slots;
   observed = is.observed;
   sources = is.sources;
-  jobs = All-weaker (InRange (length s.world.servers)) (IsReadyJob (length s.world.servers)) (λ j range. record { named = range.named; waited = range.waited }) s.jobs is.jobs;
+  jobs = All-weaker (IsUnended (length s.world.servers)) (IsReady (length s.world.servers)) (λ u range. job-ready (length s.world.servers) u range) s.jobs is.jobs;
 }
 
 pub Follow-step : (rows : List Row) (s : State) (t : Turn) → IsState s → IsTurn (length s.world.servers) t → Follow rows s.book → Follow (changed rows (changes_of rows s t)) (step rows s t).book

@@ -1,12 +1,11 @@
 -- Commands answer by the permission table, and a refused one changes nothing.
-use Rattle.std.proofs.Common.{◌≡◌, ◌∙◌, ℕ, ◌+◌, Bool, true, false, List, [], ◌∷◌, ◌++◌, refl, sym, ap, subst, Option, Some, None, Ok}
+use Rattle.std.proofs.Common.{◌≡◌, ◌∙◌, ℕ, ◌+◌, Bool, List, [], ◌∷◌, ◌++◌, refl, sym, ap, subst, Option, Some, None, Ok}
 use Rattle.std.specs.Prelude.{is_some, if◌then◌else◌}
 use Rattle.orch_base.specs.declared.server.ServerNo.{ServerNo}
 use Rattle.instance_keeper.specs.declared.observation.Observation.{Observation}
 use Rattle.server_words.specs.declared.status.Status.{Status as Seen}
 use Rattle.instance_keeper.specs.declared.row.Row.{Row}
 use Rattle.instance_keeper.specs.Book.{BookState}
-use Rattle.server_model.specs.Worlds.{World}
 use Rattle.commands.specs.declared.line.Line.{Line}
 use Rattle.commands.specs.declared.line.Line.TheVariants as line
 use Rattle.commands.specs.declared.name.CommandName.{CommandName}
@@ -19,9 +18,9 @@ use Rattle.asking_commands.specs.Answers.{allowed, is_known, lines_of}
 use Rattle.turns.specs.declared.turn.Reply.TheVariants as answered
 use Rattle.turns.specs.declared.turn.Turn.TheVariants as turn
 use Rattle.command_routes.specs.declared.route.Planner.{Planner}
-use Rattle.command_jobs.specs.Jobs.{leases_by, leases_with, plan_by, plan_with, planner_for, refusal_by as planned_refusal}
-use Rattle.operations.specs.declared.op.Op.{Op}
-use Rattle.operations.specs.Jobs.{Job, job_with}
+use Rattle.command_jobs.specs.Jobs.{job_by, job_for, leases_by, leases_with, planner_for, refusal_by as planned_refusal}
+use Rattle.command_jobs.proofs.Begun.{job-number}
+use Rattle.unended_jobs.specs.declared.unended.Unended.{Unended}
 use Rattle.orch_core.specs.Commands.{Outcome, about as given_or, asked, audit_updated, begun, busy_given, decided, discovered, first_of, forgotten, jobs_updated, last_job_updated, next_reading, outcome_by, outcome_of, refusal, stays, updated}
 use Rattle.audit_log.specs.Audits.{AuditState}
 use Rattle.book_commands.specs.declared.decided.Decided.{Decided}
@@ -124,9 +123,9 @@ discovered_by b reads o None = refused_answers reads None (Unreachable o.no)
 discovered_by b reads o (Some seen) = done_answers reads (line.Server o.no ∷ []) (discovered b reads o (Some seen)) refl
 
 -- a command that begins a job
-begun_answers : (s : State) (p : Planner) (r : Option Refusal) (list : List ServerNo) (ops : List Op) → Answers s.reads (Some p) r (begun (numbers_of s) r list ops)
-begun_answers s p None list ops = record { answer = (s.last_job + 1, refl); book = λ why refused. cc; rows = λ why refused. cc; reads_stay = λ why refused. cc }
-begun_answers s p (Some r) list ops = refused_answers s.reads (Some p) r
+begun_answers : (s : State) (p : Planner) (r : Option Refusal) (list : List ServerNo) (job : Unended) → Answers s.reads (Some p) r (begun (numbers_of s) r list job)
+begun_answers s p None list job = record { answer = (s.last_job + 1, refl); book = λ why refused. cc; rows = λ why refused. cc; reads_stay = λ why refused. cc }
+begun_answers s p (Some r) list job = refused_answers s.reads (Some p) r
 
 module _ (s : State) (c : CommandTurn) where
   abbrev lines : List Line
@@ -160,7 +159,7 @@ module _ (s : State) (c : CommandTurn) where
   by_route Forgets is = at_removal c.command.i
   by_route (Asks q) is = asked_by s.reads (unknown c.command.i) lines
   by_route (Decides d) is = decided_by s.reads s.audit (unknown c.command.i) (decided_of s.book s.audit (record { 0 = s.moment }) c.keys c.command.i d)
-  by_route (Begins p) is = begun_answers s p (planned_refusal s.world s.book (record { 0 = s.moment }) c.command p) (leases_by s.world s.book c.command p) (plan_by s.world s.book c.command p)
+  by_route (Begins p) is = begun_answers s p (planned_refusal s.world s.book (record { 0 = s.moment }) c.command p) (leases_by s.world s.book c.command p) (job_by s.world s.book c.command p (s.last_job + 1) s.configuration.wait)
   by_route Unbuilt is = asked_by s.reads (unknown c.command.i) lines
 
 outcome_answers : (s : State) (c : CommandTurn) → Answers s.reads (planner_for c.command.name) (refusal_at s c.command) (command_outcome s c)
@@ -177,7 +176,7 @@ refused_changes_nothing rows s c r is =
     let o = outcome_answers s c in
     let u = (command_outcome s c).book in
     let reads = (command_outcome s c).reads in
-    let after : BookState → AuditState → List Job → ℕ → ℕ → State = λ b a jobs last reads. record s { book = b; audit = a; jobs = jobs; last_job = last; reads = reads } in
+    let after : BookState → AuditState → List Unended → ℕ → ℕ → State = λ b a jobs last reads. record s { book = b; audit = a; jobs = jobs; last_job = last; reads = reads } in
     let book : updated s.book u ≡ s.book = ap (updated s.book) (o.book r is) in
     let audit : audit_updated s.audit u ≡ s.audit = ap (audit_updated s.audit) (o.book r is) in
     let jobs : jobs_updated s.jobs u ≡ s.jobs = ap (jobs_updated s.jobs) (o.book r is) in
@@ -194,7 +193,7 @@ refused_changes_nothing rows s c r is =
 -- where an outcome answers that a job is begun, it has the next number, and joins the others with its leases
 record LeavesJob (s : State) (c : CommandTurn) (p : Option Planner) (o : Outcome) : Type 0 where
   number : (id : ℕ) → o.reply ≡ answered.Begun id → id ≡ s.last_job + 1
-  jobs : (id : ℕ) → o.reply ≡ answered.Begun id → jobs_updated s.jobs o.book ≡ s.jobs ++ job_with (s.last_job + 1) s.configuration.wait (plan_with s.world s.book c.command p) ∷ []
+  jobs : (id : ℕ) → o.reply ≡ answered.Begun id → jobs_updated s.jobs o.book ≡ s.jobs ++ job_for s.world s.book c.command p (s.last_job + 1) s.configuration.wait ∷ []
   last : (id : ℕ) → o.reply ≡ answered.Begun id → last_job_updated s.last_job o.book ≡ s.last_job + 1
   leases : (id : ℕ) → o.reply ≡ answered.Begun id → (updated s.book o.book).leases ≡ taken s.book.leases (leases_with s.world s.book c.command p) (s.last_job + 1)
 
@@ -204,8 +203,10 @@ begins_not A reads id None o answers begun = let told : answered.Begun id ≡ an
 begins_not A reads id (Some why) o answers begun = let refused : answered.Begun id ≡ answered.Refused why = sym begun ∙ answers.answer in cc
 
 module _ (s : State) (c : CommandTurn) where
-  begun_leaves : (p : Planner) (r : Option Refusal) → LeavesJob s c (Some p) (begun (numbers_of s) r (leases_by s.world s.book c.command p) (plan_by s.world s.book c.command p))
-  begun_leaves p None = record { number = λ id is. cc; jobs = λ id is. refl; last = λ id is. refl; leases = λ id is. refl }
+  begun_leaves : (p : Planner) (r : Option Refusal) → LeavesJob s c (Some p) (begun (numbers_of s) r (leases_by s.world s.book c.command p) (job_by s.world s.book c.command p (s.last_job + 1) s.configuration.wait))
+  begun_leaves p None =
+      let same = job-number s.world s.book c.command p (s.last_job + 1) s.configuration.wait in
+      record { number = λ id is. cc; jobs = λ id is. refl; last = λ id is. same; leases = λ id is. ap (taken s.book.leases (leases_by s.world s.book c.command p)) same }
   begun_leaves p (Some why) = record { number = λ id is. cc; jobs = λ id is. cc; last = λ id is. cc; leases = λ id is. cc }
 
   other_leaves : (r : Option Refusal) (o : Outcome) → Answers s.reads None r o → LeavesJob s c None o

@@ -1,7 +1,7 @@
--- A job's turn makes neither writes nor new files.
-use Rattle.std.proofs.Common.{◌≡◌, ℕ, ◌+◌, Bool, true, false, cond, List, [], ◌∷◌, refl, ap, subst, Option, Some, None, Ok, Err, Result, arith}
+-- A job's turn, of a plan or a recovery, makes neither writes nor new files.
+use Rattle.std.proofs.Common.{◌≡◌, ℕ, ◌+◌, Bool, true, false, cond, List, [], ◌∷◌, ◌++◌, refl, ap, subst, Option, Some, None, Ok, Err, Result, arith}
 use Rattle.std.specs.Prelude.{All, count_by, nat_lt}
-use Rattle.std.proofs.lemmas.List.Elements.{All-nil, All-cons, All-head, All-tail}
+use Rattle.std.proofs.lemmas.List.Elements.{All-append, All-nil, All-cons, All-head, All-tail}
 use Rattle.std.proofs.lemmas.List.Sums.{sum_by-cons}
 use Rattle.std.proofs.lemmas.Option.{same_Some}
 use Rattle.orch_base.specs.declared.server.Moment.{Moment}
@@ -23,7 +23,20 @@ use Rattle.server_model.specs.Desk.{desk_answer}
 use Rattle.server_model.specs.Gtids.{status}
 use Rattle.server_model.specs.Run.{Exchange, Attach, AttachAuto, Request, is_rotate, is_write}
 use Rattle.server_model.specs.Worlds.{World, server_at}
+use Rattle.commands.specs.declared.cause.Cause.{Cause}
 use Rattle.commands.specs.declared.cause.Cause.TheVariants as cause
+use Rattle.instance_keeper.specs.Book.{BookState}
+use Rattle.operations.specs.declared.sight.Sight.{Sight}
+use Rattle.recovery_plans.specs.declared.purpose.Purpose.{Purpose}
+use Rattle.recovery_plans.specs.declared.purpose.Purpose.TheVariants as purpose
+use Rattle.recovery_plans.specs.declared.stage.Stage.{Stage}
+use Rattle.recovery_plans.specs.declared.stage.Stage.TheVariants as stage
+use Rattle.recovery_plans.specs.Deciding.{decided}
+use Rattle.recovery_plans.specs.Recoveries.{Recovery}
+use Rattle.recovery_plans.specs.Taking as taking
+use Rattle.unended_jobs.specs.declared.unended.Unended.{Unended}
+use Rattle.unended_jobs.specs.declared.unended.Unended.TheVariants as unended
+use Rattle.unended_jobs.specs.Unended.{flown}
 use Rattle.operations.specs.declared.op.Op.{Op}
 use Rattle.operations.specs.declared.op.Crossing.{Crossing}
 use Rattle.operations.specs.declared.op.Crossing.TheVariants as cross
@@ -31,7 +44,7 @@ use Rattle.operations.specs.Deeds as deed
 use Rattle.operations.specs.Deeds.{Deed, deed_of}
 use Rattle.operations.specs.Jobs.{Job, seen_of}
 use Rattle.operations.specs.Targets.{can_attach}
-use Rattle.operations.specs.Turns.{Turned, Goes, Stops, settled, next, saw, restarts, observed, is_moved, after_status, after_look, after_ask, aim_of, attached_anew, is_reached, until_by, after_until, after_wait_by, after_wait, holds_seen, settles, read_by, crossed, same_again, by_set, attach_answer_of, after_answer, after_attach, by_deed, by_ops, turned}
+use Rattle.operations.specs.Turns.{Attempt, Turned, Goes, Stops, Ends, crossing_of, settled, next, saw, restarts, observed, is_moved, after_status, after_look, after_ask, aim_of, attached_anew, is_reached, until_by, after_until, after_wait_by, after_wait, holds_seen, settles, read_by, crossed, same_again, by_set, attach_answer_of, after_answer, after_attach, by_deed, by_ops, turned}
 
 -- an exchange that adds neither a transaction of a client nor a file
 pub record IsPlain (e : Exchange) : Type 0 where
@@ -128,12 +141,83 @@ module _ (w : World) (j : Job) (rest : List Op) where
   deed-plain read now (deed.Auto n m) = attach-plain n (by_set n m (seen_of j.seen m.0)) (set-plain n m (seen_of j.seen m.0))
   deed-plain read now (deed.Finish lines) = All-nil IsPlain
 
-pub turn-plain : (w : World) (read : ℕ) (now : Moment) (j : Job) → All IsPlain (turned w read now j).exchanges
+turn-plain : (w : World) (read : ℕ) (now : Moment) (j : Job) → All IsPlain (turned w read now j).exchanges
 turn-plain w read now j = go j.ops
   where
     go : (ops : List Op) → All IsPlain (settled j (by_ops w read now j ops)).exchanges
     go [] = All-nil IsPlain
     go (op ∷ rest) = deed-plain w j rest read now (deed_of op)
+
+-- ---- a recovery's turn
+
+append-plain : (es fs : List Exchange) → All IsPlain es → All IsPlain fs → All IsPlain (es ++ fs)
+append-plain es fs one other = All-append IsPlain es fs one other
+
+-- what is made beside an operation, where a recovery goes its way back
+back-plain : (w : World) (o : Option Exchange) → ((e : Exchange) → o ≡ Some e → IsPlain e) → All IsPlain (taking.that_can w o)
+back-plain w None plain = All-nil IsPlain
+back-plain w (Some e) plain = go (can_attach w e)
+  where
+    go : (b : Bool) → All IsPlain (cond b (e ∷ []) [])
+    go true = one-plain e (plain e refl)
+    go false = All-nil IsPlain
+
+writes-plain : (m : ServerNo) → All IsPlain (taking.takes_writes m)
+writes-plain m = one-plain (Request m.0 (asking.SetReadOnly false)) (request-plain m (asking.SetReadOnly false))
+
+goes-back-plain : (w : World) (seen : List Sight) (m d : ServerNo) → All IsPlain (taking.goes_back w seen m d)
+goes-back-plain w seen m d =
+    append-plain (taking.that_can w (crossing_of seen cross.Back d m)) (Request d.0 asking.Start ∷ taking.takes_writes m)
+    (back-plain w (crossing_of seen cross.Back d m) (crossed-plain cross.Back d (bridge_in (read_by cross.Back d m) (seen_of seen (read_by cross.Back d m).0))))
+    (All-cons IsPlain (Request d.0 asking.Start) (taking.takes_writes m) (request-plain d asking.Start) (writes-plain m))
+
+way-back-plain : (w : World) (seen : List Sight) (m : ServerNo) (s : Stage) → All IsPlain (taking.way_back w seen m s)
+way-back-plain w seen m (stage.Switch k d) = goes-back-plain w seen k d
+way-back-plain w seen m (stage.Meet k d) = All-nil IsPlain
+way-back-plain w seen m (stage.Shut k d) = All-nil IsPlain
+way-back-plain w seen m (stage.Switched k d) = All-nil IsPlain
+way-back-plain w seen m (stage.Open n) = All-nil IsPlain
+way-back-plain w seen m (stage.Opened n) = All-nil IsPlain
+way-back-plain w seen m (stage.Close lines) = All-nil IsPlain
+way-back-plain w seen m s = writes-plain m
+
+undone-plain : (w : World) (u : Purpose) (seen : List Sight) (f : ServerNo) (s : Stage) → All IsPlain (taking.undone w u seen f s)
+undone-plain w purpose.Regroup seen f s = All-nil IsPlain
+undone-plain w purpose.Master seen f s = All-nil IsPlain
+undone-plain w (purpose.Intermediate k) seen f s = All-nil IsPlain
+undone-plain w (purpose.Takeover d) seen f s = way-back-plain w seen f s
+
+last-plain : (w : World) (r : Recovery) → All IsPlain (taking.last_exchanges w r)
+last-plain w r = append-plain (taking.undone w r.purpose r.core.seen r.failed r.stage) (restarts r.core.hands) (undone-plain w r.purpose r.core.seen r.failed r.stage) (restarts-plain r.core.hands)
+
+met-plain : (w : World) (r : Recovery) (c : Cause) (ob : Option Observation) (f : taking.Fate) → All IsPlain (taking.met w r c ob f).exchanges
+met-plain w r c ob taking.Fails = last-plain w r
+met-plain w r c ob taking.Drops = All-nil IsPlain
+met-plain w r c ob (taking.Loses n why) = All-nil IsPlain
+met-plain w r c ob (taking.Frees n why) = All-nil IsPlain
+met-plain w r c ob (taking.Goes s ops) = All-nil IsPlain
+
+attempted-plain : (w : World) (r : Recovery) (o : Op) (a : Attempt) → All IsPlain (settled r.core a).exchanges → All IsPlain (taking.attempted w r o a).exchanges
+attempted-plain w r o (Goes ob es j) all = go (taking.barred_by r.stage r.failed j.seen)
+  where
+    go : (c : Option Cause) → All IsPlain (taking.on_going w r o ob es j c).exchanges
+    go None = all
+    go (Some c) = last-plain w r
+attempted-plain w r o (Stops c ob) all = met-plain w r c ob (taking.fate w r.purpose r.stage c)
+attempted-plain w r o (Ends lines) all = All-nil IsPlain
+
+taken-plain : (w : World) (b : BookState) (read : ℕ) (now : Moment) (r : Recovery) → All IsPlain (taking.taken w b read now r).exchanges
+taken-plain w b read now r = go (decided w b now r) (decided w b now r).core.ops
+  where
+    go : (d : Recovery) (ops : List Op) → All IsPlain (taking.acted w read now d ops).exchanges
+    go d [] = last-plain w d
+    go d (o ∷ rest) = attempted-plain w d o (by_deed w read now d.core rest (deed_of o)) (deed-plain w d.core rest read now (deed_of o))
+
+-- ---- any job's
+
+pub flown-plain : (w : World) (b : BookState) (read : ℕ) (now : Moment) (u : Unended) → All IsPlain (flown w b read now u).exchanges
+flown-plain w b read now (unended.Plan j) = turn-plain w read now j
+flown-plain w b read now (unended.Recovery r entry) = taken-plain w b read now r
 
 abbrev tick : Bool → ℕ
 tick b = cond b 1 0

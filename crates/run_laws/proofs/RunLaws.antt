@@ -1,6 +1,6 @@
 -- Runs of turns, state by state: what each turn's exchanges keep.
 use Rattle.std.proofs.Common.{◌≡◌, ℕ, ◌+◌, ◌-◌, ◌≤◌, Bool, cond, List, [], ◌∷◌, ◌++◌, length, take, refl, sym, ◌∙◌, ap, subst, Option, None, Some, false, arith, zero, suc}
-use Rattle.std.specs.Prelude.{All, slice_get, count_by}
+use Rattle.std.specs.Prelude.{All, map, slice_get, count_by}
 use Rattle.std.proofs.Math.Seq.{take-append-add}
 use Rattle.std.proofs.lemmas.List.Sums.{sum_by-append, sum_by-cons}
 use Rattle.std.proofs.lemmas.List.Elements.{All-head, All-tail, All-take}
@@ -39,19 +39,26 @@ use Rattle.std.specs.Prelude.{◌==◌}
 use Rattle.std.specs.Option.{option_map}
 use Rattle.operations.specs.Jobs.{Job}
 use Rattle.operations.proofs.Allowing.{turn-allowed}
-use Rattle.job_laws.specs.Flights.{Flight, Held, Sound}
+use Rattle.job_laws.specs.Leases.{job_at as core_at, leases_of}
+use Rattle.recovery_plans.proofs.Allowed.{taken-allowed}
+use Rattle.recovery_laws.proofs.Sounding.{taken-sound}
+use Rattle.unended_jobs.specs.declared.unended.Unended.{Unended}
+use Rattle.unended_jobs.specs.declared.unended.Unended.TheVariants as unended
+use Rattle.unended_jobs.specs.Unended.{core_of, number_of}
+use Rattle.unended_laws.proofs.Cores.{core-found}
+use Rattle.unended_laws.specs.Beside.{IsHeldBeside, IsSoundBeside}
 use Rattle.job_laws.specs.Held.{HeldJob}
 use Rattle.job_laws.specs.Sound.{AllBridged}
 use Rattle.job_laws.proofs.Lists.{All-find}
-use Rattle.job_laws.proofs.Passages.{Held-passing, Sound-passing}
 use Rattle.job_laws.proofs.Turns.{turn-sound}
 use Rattle.jobs_in_flight.specs.Jobs.{job_at, job_exchanges}
 use Rattle.orch_core.specs.Jobs.{turn_of}
-use Rattle.flight_laws.specs.Flights.{flight_of, moment_at, passages_of}
+use Rattle.flight_laws.specs.Flights.{moment_at}
+use Rattle.flight_laws.specs.Goes.{HeldState, SoundState}
 use Rattle.run_laws.specs.Runs.{ComesBy, ComesTo, ComesWithin}
-use Rattle.flight_laws.proofs.Flown.{flown, may-pass}
+use Rattle.flight_laws.proofs.Goes.{Held-step, Sound-step}
 use Rattle.flight_laws.proofs.Openings.{Held-start, Sound-start}
-use Rattle.run_laws.proofs.Plain.{IsPlain, none-counts, turn-plain}
+use Rattle.run_laws.proofs.Plain.{IsPlain, flown-plain, none-counts}
 use Rattle.flight_laws.specs.Ready.{Ready}
 use Rattle.flight_laws.proofs.Readiness.{Ready-start, Ready-step}
 
@@ -60,21 +67,15 @@ use Rattle.flight_laws.proofs.Readiness.{Ready-start, Ready-step}
 -- all that is kept speaks of so many servers, what is held holds, and in a quiet state the rest, too
 pub record Goes (count : ℕ) (s : State) : Type 0 where
   pub ready : Ready count s
-  pub held : Held (flight_of s)
-  pub sound : IsQuiet s.world → Sound (flight_of s)
+  pub held : HeldState s
+  pub sound : IsQuiet s.world → SoundState s
 
 Goes-step : (count : ℕ) (rows : List Row) (s : State) (t : Turn) → IsTurn count t → Goes count s → Goes count (step rows s t)
-Goes-step count rows s t is goes =
-    let same = flown count rows s t goes.ready is in
-    let may = may-pass count s t goes.ready is in
-    record {
-      ready = Ready-step count rows s t goes.ready is;
-      held = subst Held (sym same) (Held-passing (flight_of s) (passages_of s t) may goes.held);
-      sound = λ q.
-          subst Sound (sym same)
-          (Sound-passing (flight_of s) (passages_of s t) may (subst (λ (f : Flight). IsQuiet f.world) same q) goes.held
-          (goes.sound (exchanges.quiet-run s.world (exchanges_at s t) q)));
-    }
+Goes-step count rows s t is goes = record {
+  ready = Ready-step count rows s t goes.ready is;
+  held = Held-step count rows s t goes.ready goes.held is;
+  sound = λ q. Sound-step count rows s t goes.ready goes.held (goes.sound (exchanges.quiet-run s.world (exchanges_at s t) q)) is q;
+}
 
 Goes-run : (count : ℕ) (s : State) (xs : List (List Row × Turn)) → All (IsTurn count) (turns_of xs) → Goes count s → Goes count (run_turns engine s xs)
 Goes-run count s [] all goes = goes
@@ -97,7 +98,7 @@ pub record Holds (s : State) : Type 0 where
 pub Holds-comes : (s : Scenario) (xs : List (List Row × Turn)) (now : State) → ComesTo s xs now → Holds now
 Holds-comes s xs now comes =
     let goes = Goes-comes s xs now comes in
-    record { placed = goes.held.placed; safe = λ q. (goes.sound q).safe }
+    record { placed = goes.held.flight.placed; safe = λ q. (goes.sound q).flight.safe }
 
 pub not_skipped : (s : Scenario) (xs : List (List Row × Turn)) (now : State) (n : ℕ) (to : Coord) → ComesTo s xs now → IsQuiet now.world → (apply now.world n).0 ≡ answers.Skipped to → ⊥
 not_skipped s xs now n to comes q = no_skipped now.world n to ((Holds-comes s xs now comes).safe q)
@@ -151,13 +152,24 @@ Fit-append w (e ∷ es) fs here more =
     record { allowed = (here.allowed.0, rest.allowed); join = (here.join.0, rest.join) }
 
 -- a job's turn in a sound state
-Fit-job : (s : State) (o : Option Job) → ((j : Job) → o ≡ Some j → HeldJob s.world j) → ((j : Job) → o ≡ Some j → AllBridged s.world j.seen) → Placed s.world → Safe s.world
-    → Fit s.world (job_exchanges (option_map (turn_of s) o))
-Fit-job s None held bridged placed safe = record { allowed = tt; join = tt }
-Fit-job s (Some j) held bridged placed safe = record {
-  allowed = turn-allowed s.world (next_count s.reads) (moment_at s) j;
-  join = (turn-sound s.world (next_count s.reads) (moment_at s) j safe placed (held j refl) (bridged j refl)).joins;
-}
+Fit-job : (s : State) (id : ℕ) → HeldState s → SoundState s → (o : Option Unended) → job_at s.jobs id ≡ o → Fit s.world (job_exchanges (option_map (turn_of s) o))
+Fit-job s id held sound None at = record { allowed = tt; join = tt }
+Fit-job s id held sound (Some (unended.Plan j)) at =
+    let is_job : Job → Bool = λ k. k.id == id in
+    let found : core_at (map core_of s.jobs) id ≡ Some j = core-found s.jobs id ∙ ap (option_map core_of) at in
+    record {
+      allowed = turn-allowed s.world (next_count s.reads) (moment_at s) j;
+      join = (turn-sound s.world (next_count s.reads) (moment_at s) j sound.flight.safe held.flight.placed (All-find (HeldJob s.world) is_job (map core_of s.jobs) j held.flight.jobs found)
+          (All-find (λ k. AllBridged s.world k.seen) is_job (map core_of s.jobs) j sound.flight.jobs found)).joins;
+    }
+Fit-job s id held sound (Some (unended.Recovery r entry)) at =
+    let is_job : Unended → Bool = λ k. number_of k == id in
+    let here = All-find (IsHeldBeside s.world (leases_of s.book.leases)) is_job s.jobs (unended.Recovery r entry) held.jobs at in
+    let good = All-find (IsSoundBeside s.world) is_job s.jobs (unended.Recovery r entry) sound.jobs at in
+    record {
+      allowed = taken-allowed s.world s.book (next_count s.reads) (moment_at s) r;
+      join = (taken-sound s.world s.book (next_count s.reads) (moment_at s) r sound.flight.safe held.flight.placed (record { spans = held.flight.rings; own = held.own }) sound.flight.rings here.0 good).joins;
+    }
 
 Fit-plain : (count : ℕ) (s : State) (t : Turn) → IsTurn count t → Fit s.world (exchanges_of t)
 Fit-plain count s t is = let fit = Allowed-turn count s.world t is in record { allowed = fit.0; join = fit.1 }
@@ -172,10 +184,7 @@ Fit-turn count s (turn.Cut n link) is goes q = Fit-plain count s (turn.Cut n lin
 Fit-turn count s (turn.Join n link) is goes q = Fit-plain count s (turn.Join n link) is
 Fit-turn count s (turn.Rotate n) is goes q = Fit-plain count s (turn.Rotate n) is
 Fit-turn count s (turn.Tick seconds) is goes q = Fit-plain count s (turn.Tick seconds) is
-Fit-turn count s (turn.Job job) is goes q =
-    let is_job : Job → Bool = λ j. j.id == job in
-    Fit-job s (job_at s.jobs job) (λ j at. All-find (HeldJob s.world) is_job s.jobs j goes.held.jobs at)
-    (λ j at. All-find (λ k. AllBridged s.world k.seen) is_job s.jobs j (goes.sound q).jobs at) goes.held.placed (goes.sound q).safe
+Fit-turn count s (turn.Job job) is goes q = Fit-job s job goes.held (goes.sound q) (job_at s.jobs job) refl
 Fit-turn count s turn.Scan is goes q = Fit-plain count s turn.Scan is
 Fit-turn count s (turn.PollRead p n) is goes q = Fit-plain count s (turn.PollRead p n) is
 Fit-turn count s (turn.PollStore p) is goes q = Fit-plain count s (turn.PollStore p) is
@@ -200,9 +209,9 @@ record Tells (test : Exchange → Bool) (is : Turn → Bool) : Type 0 where
   each : (s : State) (t : Turn) → count_by test (exchanges_at s t) ≡ tick (is t)
 
 -- a job's turn makes none of them
-job-none : (test : Exchange → Bool) → ((e : Exchange) → IsPlain e → test e ≡ false) → (s : State) (o : Option Job) → count_by test (job_exchanges (option_map (turn_of s) o)) ≡ 0
+job-none : (test : Exchange → Bool) → ((e : Exchange) → IsPlain e → test e ≡ false) → (s : State) (o : Option Unended) → count_by test (job_exchanges (option_map (turn_of s) o)) ≡ 0
 job-none test plain s None = refl
-job-none test plain s (Some j) = none-counts test plain (turn_of s j).exchanges (turn-plain s.world (next_count s.reads) (moment_at s) j)
+job-none test plain s (Some u) = none-counts test plain (turn_of s u).exchanges (flown-plain s.world s.book (next_count s.reads) (moment_at s) u)
 
 adds-writes : Tells adds is_write
 adds-writes = record { each = each }

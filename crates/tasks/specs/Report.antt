@@ -12,6 +12,7 @@ use Rattle.orch_core.specs.Runs.{Recorded}
 use Rattle.orch_core.specs.States.{State}
 use Rattle.report_text.specs.Lines.{lines_text, plain_text_of}
 use Rattle.report_text.specs.Tables.{tables_text}
+use Rattle.unended_jobs.specs.Unended.{number_of}
 use Rattle.tasks.specs.declared.asked.Asked.{Asked}
 use Rattle.tasks.specs.declared.asked.Asked.TheVariants as asked
 use Rattle.tasks.specs.declared.asked.Task.{Task}
@@ -28,7 +29,7 @@ replies_text names run = lines_text names 1 run.journal
 
 -- the tables of a state: its servers, the audit's recoveries by rising id, and its unended jobs
 abbrev pub tables_of : State → List ℕ
-tables_of s = tables_text s.world (recovery_lines s.audit.recoveries) (map (λ j. j.id) s.jobs)
+tables_of s = tables_text s.world (recovery_lines s.audit.recoveries) (map number_of s.jobs)
 
 -- the lines of all replies, then the tables
 abbrev pub report_text : List HostPort → Recorded → List ℕ

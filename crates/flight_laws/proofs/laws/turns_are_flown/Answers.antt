@@ -1,4 +1,5 @@
-use Rattle.flight_laws.proofs.Flown.{flown, may-pass}
+use Rattle.flight_laws.proofs.Flown.{flown}
+use Rattle.flight_laws.proofs.Goes.{Held-step, Sound-step, may-pass, pass-well}
 use Rattle.flight_laws.proofs.Readiness.{Ready-step}
 use Rattle.flight_laws.proofs.laws.turns_are_flown.Goals as goal
 
@@ -8,5 +9,14 @@ returns-clause-passages c = flown
 pub returns-clause-may : goal.returns-clause-may
 returns-clause-may c = may-pass
 
+pub returns-clause-well : goal.returns-clause-well
+returns-clause-well c = pass-well
+
 pub returns-clause-ready : goal.returns-clause-ready
 returns-clause-ready c = Ready-step
+
+pub returns-clause-held : goal.returns-clause-held
+returns-clause-held c = Held-step
+
+pub returns-clause-sound : goal.returns-clause-sound
+returns-clause-sound c = Sound-step

@@ -1,8 +1,9 @@
 use Rattle.std.proofs.Common.{rules, ◌∙◌, ◌≡◌, sym, ap, subst, Option}
 use Rattle.std.specs.Prelude.{IfSome}
-use Rattle.job_plans.specs.Acts.{CanTurn}
-use Rattle.operations.specs.Jobs.{Job}
-use Rattle.operations.specs.Turns.{Turned}
+use Rattle.unended_jobs.specs.Looks.{CanGo, observation_of}
+use Rattle.unended_jobs.specs.Unended.{Flown}
+use Rattle.unended_jobs.specs.declared.unended.Unended.{Unended}
+use Rattle.unended_jobs.proofs.Looking.{foretold-observation}
 use Rattle.server_model.specs.Run.{run}
 use Rattle.jobs_in_flight.specs.Jobs.{job_exchanges, job_observation, reads_with}
 use Rattle.jobs_in_flight.proofs.Turning.{book-after, found-here, jobs-after, turn-here}
@@ -12,7 +13,7 @@ pub turn-requires : goal.turn-requires
 turn-requires c =
     let rise = c.requires.rising in
     let here = found-here c.args.jobs.now.items rise.0 c.args.found.id c.args.found.at c.index_mut.result.now c.args.look rise.1 c.requires.at c.requires.id c.index_mut.ensures.value in
-    subst (λ (o : Option Job). IfSome o (λ j. CanTurn c.args.world.now j c.args.look)) here c.requires.can
+    subst (λ (o : Option Unended). IfSome o (λ j. CanGo c.args.world.now j c.args.look)) here c.requires.can
 
 pub returns-clause-jobs : goal.returns-clause-jobs
 returns-clause-jobs c =
@@ -30,11 +31,11 @@ pub returns-clause-world : goal.returns-clause-world
 returns-clause-world c =
     let rise = c.requires.rising in
     let turned = turn-here c.args.jobs.now.items rise.0 c.args.found.id c.args.found.at c.index_mut.result.now c.args.look rise.1 c.requires.at c.requires.id c.index_mut.ensures.value in
-    c.in_ok-step.ensures.world ∙ ap (λ (t : Option Turned). run c.args.world.now (job_exchanges t)) (sym turned)
+    c.in_ok-step.ensures.world ∙ ap (λ (t : Option Flown). run c.args.world.now (job_exchanges t)) (sym turned)
 
 pub returns-clause-reads : goal.returns-clause-reads
 returns-clause-reads c =
     let rise = c.requires.rising in
     let turned = turn-here c.args.jobs.now.items rise.0 c.args.found.id c.args.found.at c.index_mut.result.now c.args.look rise.1 c.requires.at c.requires.id c.index_mut.ensures.value in
-    let same : c.in_ok-step.observation ≡ c.args.look.observation = search rules in
-    c.store.ensures.reads ∙ ap (reads_with c.args.reads.now) same ∙ ap (λ (t : Option Turned). reads_with c.args.reads.now (job_observation t)) (sym turned)
+    let same : c.in_ok-step.observation ≡ observation_of c.args.look = search rules in
+    c.store.ensures.reads ∙ ap (reads_with c.args.reads.now) (same ∙ sym (foretold-observation c.index_mut.result.now c.args.look)) ∙ ap (λ (t : Option Flown). reads_with c.args.reads.now (job_observation t)) (sym turned)

@@ -1,5 +1,6 @@
 use Rattle.std.proofs.Common.{◌≡◌, map, take}
+use Rattle.unended_jobs.specs.Unended.{number_of}
 use Rattle.tasks.proofs.pieces.add_tables.Given as goal
 
 abbrev pub invariant-loop-job : goal.invariant-loop-job
-invariant-loop-job l = l.jobs.items ≡ map (λ j. j.id) (take l.job-index l.job-items)
+invariant-loop-job l = l.jobs.items ≡ map number_of (take l.job-index l.job-items)

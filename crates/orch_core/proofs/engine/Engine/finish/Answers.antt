@@ -12,7 +12,7 @@ use Rattle.orch_core.specs.Rounds.{round_of}
 use Rattle.jobs_in_flight.specs.Rounds.{polls, replicates}
 use Rattle.orch_core.specs.Runs.{engine}
 use Rattle.orch_core.specs.States.{State}
-use Rattle.orch_core.proofs.Finishing.{FinishedBy-told, Moves, Rounds-more, Rounds-none, cut-first, cut-round, round-less, told-more, turns-round}
+use Rattle.orch_core.proofs.Finishing.{FinishedBy-told, Rounds-more, Rounds-none, cut-first, cut-round, round-less, told-more, turns-round}
 use Rattle.orch_core.proofs.engine.Engine.finish.Goals as goal
 
 pub rounds-preserved : goal.rounds-preserved
@@ -20,17 +20,13 @@ rounds-preserved g c =
     let turns : turn.Job c.args.job ∷ c.deref.result.now ≡ round_of c.args.self.now c.args.job =
     ap (λ (ts : List Turn). turn.Job c.args.job ∷ ts) (c.deref.ensures.value ∙ c.in-Ok.ensures ∙ ap (λ (ns : List ServerNo). flat_map replicates ns ++ flat_map polls ns) c.order.ensures.order)
     ∙ ap (λ (s : State). round_of s c.args.job) c.self.view_is in
-    let holds : Moves c.rounds.self = record {
-      number = λ j range. c.jobs_stay_in_range.ensures.number (length c.rounds.self.world.servers) c.rounds.self.world _ _ j range.named;
-      moves = λ j waited. c.jobs_end.ensures c.rounds.self.world _ _ j waited;
-    } in
     let opened = sym c.is_open-in-rounds.ensures ∙ c.rounds-test.true in
     let ran = subst (λ (ts : List Turn). Ran engine (g.K.Keeper.kept c.rounds.keeper) c.rounds.self ts (g.K.Keeper.kept c.round.new.keeper) c.round.new.self) turns c.in-Ok-round.ensures.ok in
     let before = c.rounds.invariant.rounds in
     record {
       rounds = (
         before.0 + 1,
-        Rounds-more engine (λ (s : State). s) (λ rows a t. refl) (g.K.Keeper.kept c.args.keeper.now) (g.K.Keeper.kept c.rounds.keeper) (g.K.Keeper.kept c.round.new.keeper) c.args.self.now c.rounds.self c.round.new.self c.args.job before.0 c.shows_state-in-rounds.ensures holds before.1 opened ran,
+        Rounds-more engine (λ (s : State). s) (λ rows a t. refl) (g.K.Keeper.kept c.args.keeper.now) (g.K.Keeper.kept c.rounds.keeper) (g.K.Keeper.kept c.round.new.keeper) c.args.self.now c.rounds.self c.round.new.self c.args.job before.0 c.shows_state-in-rounds.ensures before.1 opened ran,
         told-more c.args.self.now c.rounds.self c.args.job before.0 _ before.1.here c.in-Ok-round.ensures.reply,
       );
       later = omega (arith, c.rounds.invariant.later, c.round.ensures.cause.later);
@@ -42,13 +38,9 @@ rounds-smaller g c =
     let turns : turn.Job c.args.job ∷ c.deref.result.now ≡ round_of c.args.self.now c.args.job =
     ap (λ (ts : List Turn). turn.Job c.args.job ∷ ts) (c.deref.ensures.value ∙ c.in-Ok.ensures ∙ ap (λ (ns : List ServerNo). flat_map replicates ns ++ flat_map polls ns) c.order.ensures.order)
     ∙ ap (λ (s : State). round_of s c.args.job) c.self.view_is in
-    let holds : Moves c.rounds.self = record {
-      number = λ j range. c.jobs_stay_in_range.ensures.number (length c.rounds.self.world.servers) c.rounds.self.world _ _ j range.named;
-      moves = λ j waited. c.jobs_end.ensures c.rounds.self.world _ _ j waited;
-    } in
     let opened = sym c.is_open-in-rounds.ensures ∙ c.rounds-test.true in
     let ran = subst (λ (ts : List Turn). Ran engine (g.K.Keeper.kept c.rounds.keeper) c.rounds.self ts (g.K.Keeper.kept c.round.new.keeper) c.round.new.self) turns c.in-Ok-round.ensures.ok in
-    round-less engine (λ (s : State). s) (λ rows a t. refl) (g.K.Keeper.kept c.rounds.keeper) (g.K.Keeper.kept c.round.new.keeper) (by_name c.args.self.now.book.names) c.rounds.self c.round.new.self c.args.job c.shows_state-in-rounds.ensures holds opened ran
+    round-less engine (λ (s : State). s) (λ rows a t. refl) (g.K.Keeper.kept c.rounds.keeper) (g.K.Keeper.kept c.round.new.keeper) (by_name c.args.self.now.book.names) c.rounds.self c.round.new.self c.args.job c.shows_state-in-rounds.ensures opened ran
 
 pub round-requires : goal.round-requires
 round-requires g c =

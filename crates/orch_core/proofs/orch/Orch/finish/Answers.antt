@@ -9,7 +9,7 @@ use Rattle.orch_core.specs.Keeping.{Ran, WasCutOff}
 use Rattle.orch_core.specs.Rounds.{round_of}
 use Rattle.jobs_in_flight.specs.Rounds.{round_over}
 use Rattle.orch_core.specs.Runs.{Recorded, recorder}
-use Rattle.orch_core.proofs.Finishing.{Moves, Rounds-more, cut-first, cut-round, round-less, turns-round}
+use Rattle.orch_core.proofs.Finishing.{Rounds-more, cut-first, cut-round, round-less, turns-round}
 use Rattle.orch_core.proofs.orch.Orch.finish.Goals as goal
 
 pub rounds-preserved : goal.rounds-preserved
@@ -17,17 +17,13 @@ rounds-preserved g c =
     let turns : c.deref.result.now ≡ round_of c.args.self.now.state c.args.job =
     c.deref.ensures.value ∙ c.in-Ok.ensures ∙ ap (λ (ns : List ServerNo). round_over ns c.args.job) (c.order.ensures.order ∙ ap (λ (b : BookState). by_name b.names) c.book.ensures)
     ∙ ap (λ (r : Recorded). round_of r.state c.args.job) c.self.view_is in
-    let holds : Moves c.rounds.self.state = record {
-      number = λ j range. c.jobs_stay_in_range.ensures.number (length c.rounds.self.state.world.servers) c.rounds.self.state.world _ _ j range.named;
-      moves = λ j waited. c.jobs_end.ensures c.rounds.self.state.world _ _ j waited;
-    } in
     let opened = sym c.is_open-in-rounds.ensures ∙ c.rounds-test.true in
     let ran = subst (λ (ts : List Turn). Ran recorder (g.K.Keeper.kept c.rounds.keeper) c.rounds.self ts (g.K.Keeper.kept c.run.new.keeper) c.run.new.self) turns c.in_default-run.ensures.ok in
     let before = c.rounds.invariant.rounds in
     record {
       rounds = (
         before.0 + 1,
-        Rounds-more recorder (λ (r : Recorded). r.state) (λ rows a t. refl) (g.K.Keeper.kept c.args.keeper.now) (g.K.Keeper.kept c.rounds.keeper) (g.K.Keeper.kept c.run.new.keeper) c.args.self.now c.rounds.self c.run.new.self c.args.job before.0 c.shows_state-in-rounds.ensures holds before.1 opened ran,
+        Rounds-more recorder (λ (r : Recorded). r.state) (λ rows a t. refl) (g.K.Keeper.kept c.args.keeper.now) (g.K.Keeper.kept c.rounds.keeper) (g.K.Keeper.kept c.run.new.keeper) c.args.self.now c.rounds.self c.run.new.self c.args.job before.0 c.shows_state-in-rounds.ensures before.1 opened ran,
       );
       later = omega (arith, c.rounds.invariant.later, c.run.ensures.cause.later);
       servers = c.run.ensures.servers ∙ c.rounds.invariant.servers;
@@ -38,13 +34,9 @@ rounds-smaller g c =
     let turns : c.deref.result.now ≡ round_of c.args.self.now.state c.args.job =
     c.deref.ensures.value ∙ c.in-Ok.ensures ∙ ap (λ (ns : List ServerNo). round_over ns c.args.job) (c.order.ensures.order ∙ ap (λ (b : BookState). by_name b.names) c.book.ensures)
     ∙ ap (λ (r : Recorded). round_of r.state c.args.job) c.self.view_is in
-    let holds : Moves c.rounds.self.state = record {
-      number = λ j range. c.jobs_stay_in_range.ensures.number (length c.rounds.self.state.world.servers) c.rounds.self.state.world _ _ j range.named;
-      moves = λ j waited. c.jobs_end.ensures c.rounds.self.state.world _ _ j waited;
-    } in
     let opened = sym c.is_open-in-rounds.ensures ∙ c.rounds-test.true in
     let ran = subst (λ (ts : List Turn). Ran recorder (g.K.Keeper.kept c.rounds.keeper) c.rounds.self ts (g.K.Keeper.kept c.run.new.keeper) c.run.new.self) turns c.in_default-run.ensures.ok in
-    round-less recorder (λ (r : Recorded). r.state) (λ rows a t. refl) (g.K.Keeper.kept c.rounds.keeper) (g.K.Keeper.kept c.run.new.keeper) (by_name c.args.self.now.state.book.names) c.rounds.self c.run.new.self c.args.job c.shows_state-in-rounds.ensures holds opened ran
+    round-less recorder (λ (r : Recorded). r.state) (λ rows a t. refl) (g.K.Keeper.kept c.rounds.keeper) (g.K.Keeper.kept c.run.new.keeper) (by_name c.args.self.now.state.book.names) c.rounds.self c.run.new.self c.args.job c.shows_state-in-rounds.ensures opened ran
 
 pub run-requires : goal.run-requires
 run-requires g c =

@@ -1,0 +1,34 @@
+-- What a turn is to do, as it was looked up before it.
+use Rattle.std.specs.Prelude.{[], Option}
+use Rattle.server_model.specs.Worlds.{World}
+use Rattle.operations.specs.declared.step.JobStep.{JobStep}
+use Rattle.instance_keeper.specs.declared.observation.Observation.{Observation}
+use Rattle.job_plans.specs.Acts.{CanTurn, foretold as plan_foretold}
+use Rattle.recovery_turns.specs.Looks.{CanTake, foretold as recovery_foretold}
+use Rattle.unended_jobs.specs.declared.unended.Unended.{Unended}
+use Rattle.unended_jobs.specs.declared.unended.Unended.TheVariants as unended
+use Rattle.unended_jobs.specs.declared.look.UnendedLook.{UnendedLook}
+use Rattle.unended_jobs.specs.declared.look.UnendedLook.TheVariants as look
+use Rattle.unended_jobs.specs.Unended.{Flown, by_plan, by_recovery}
+
+abbrev pub step_of : UnendedLook → JobStep
+step_of (look.Plan l) = l.step
+step_of (look.Recovery l) = l.step
+
+abbrev pub observation_of : UnendedLook → Option Observation
+observation_of (look.Plan l) = l.observation
+observation_of (look.Recovery l) = l.observation
+
+-- the turn that a look of the job's own kind tells; by another kind's nothing is done
+abbrev pub foretold : Unended → UnendedLook → Flown
+foretold (unended.Plan j) (look.Plan l) = by_plan (plan_foretold j l)
+foretold (unended.Recovery r entry) (look.Recovery l) = by_recovery entry (recovery_foretold l)
+foretold (unended.Plan j) (look.Recovery l) = record { step = l.step; observation = l.observation; exchanges = []; next = unended.Plan j }
+foretold (unended.Recovery r entry) (look.Plan l) = record { step = l.step; observation = l.observation; exchanges = []; next = unended.Recovery r entry }
+
+-- a turn may do what was looked up, on this world
+abbrev pub CanGo : World → Unended → UnendedLook → Type 0
+CanGo w (unended.Plan j) (look.Plan l) = CanTurn w j l
+CanGo w (unended.Recovery r entry) (look.Recovery l) = CanTake w l
+CanGo w (unended.Plan j) (look.Recovery l) = ⊥
+CanGo w (unended.Recovery r entry) (look.Plan l) = ⊥

@@ -1,0 +1,74 @@
+-- An unended job that begins leaves all held and sound, itself too.
+use Rattle.std.proofs.Common.{◌∙◌, ℕ, Bool, List, [], ◌∷◌, ◌++◌, cond, sym, ap, Option, Some}
+use Rattle.std.specs.Prelude.{All}
+use Rattle.std.proofs.lemmas.List.Elements.{All-push, All-weaker}
+use Rattle.orch_base.specs.declared.server.ServerNo.{ServerNo}
+use Rattle.server_model.specs.Worlds.{World}
+use Rattle.operations.specs.Jobs.{Job}
+use Rattle.job_laws.specs.Flights.{Flight, leased_to}
+use Rattle.job_laws.specs.Leases.{IsLeased, Leases}
+use Rattle.job_laws.specs.Passages as pass
+use Rattle.job_laws.specs.Passages.{MayPass, passed}
+use Rattle.job_laws.proofs.Begun.{Sound-begun}
+use Rattle.job_laws.proofs.Passages.{Held-passed}
+use Rattle.recovery_plans.specs.declared.purpose.Purpose.{Purpose}
+use Rattle.recovery_plans.specs.declared.purpose.Purpose.TheVariants as purpose
+use Rattle.recovery_plans.specs.Beginning.{begun_recovery}
+use Rattle.recovery_plans.specs.Named.{IsListOf}
+use Rattle.recovery_laws.specs.LeasedRecoveries.{IsAny, IsLeasedList}
+use Rattle.recovery_laws.proofs.Begun.{begun-held, begun-sound}
+use Rattle.recovery_laws.proofs.Leasing.{begun-leased}
+use Rattle.unended_jobs.specs.declared.unended.Unended.{Unended}
+use Rattle.unended_jobs.specs.declared.unended.Unended.TheVariants as unended
+use Rattle.unended_jobs.specs.Unended.{core_of, number_of}
+use Rattle.unended_laws.specs.Beside.{IsHeldBeside, IsSoundBeside}
+use Rattle.unended_laws.specs.Flights.{HeldJobs, SoundJobs}
+use Rattle.unended_laws.specs.Passages.{IsListed}
+use Rattle.unended_laws.proofs.Cores.{cores-joined}
+use Rattle.unended_laws.proofs.Beside.{all-held, all-sound}
+
+-- ---- any job
+
+pub begin-held : (f : Flight) (us : List Unended) (list : List ServerNo) (u : Unended) → MayPass f (pass.Beginning list (core_of u)) → IsHeldBeside f.world (leased_to f.leases list (number_of u)) u → HeldJobs f us
+    → HeldJobs (passed f (pass.Beginning list (core_of u))) (us ++ u ∷ [])
+begin-held f us list u may new held = record {
+  cores = ap (λ (js : List Job). js ++ core_of u ∷ []) held.cores ∙ sym (cores-joined us u);
+  flight = Held-passed f (pass.Beginning list (core_of u)) may held.flight;
+  own = held.own;
+  jobs =
+      All-push (IsHeldBeside f.world (leased_to f.leases list (number_of u))) us u
+      (all-held f (pass.Beginning list (core_of u)) us may held.flight (λ k. tt) held.jobs) new;
+}
+
+pub begin-sound : (f : Flight) (us : List Unended) (list : List ServerNo) (u : Unended) → MayPass f (pass.Beginning list (core_of u)) → IsSoundBeside f.world u → HeldJobs f us → SoundJobs f us
+    → SoundJobs (passed f (pass.Beginning list (core_of u))) (us ++ u ∷ [])
+begin-sound f us list u may new held sound = record {
+  flight = Sound-begun f list (core_of u) may sound.flight;
+  jobs = All-push (IsSoundBeside f.world) us u (all-sound f (pass.Beginning list (core_of u)) us may held.flight sound.jobs) new;
+}
+
+-- ---- a recovery
+
+listed-leased : (l : Leases) (list : List ServerNo) (id n : ℕ) → IsListed list n → IsLeased (leased_to l list id) id n
+listed-leased l list id n h = ap (λ (b : Bool). cond b (Some id) (l n)) h
+
+listed-of : (l : Leases) (list : List ServerNo) (id : ℕ) (u : Purpose) (f : ServerNo) → IsListOf (IsListed list) IsAny u f → IsLeasedList (leased_to l list id) id u f
+listed-of l list id purpose.Regroup f h = h
+listed-of l list id purpose.Master f h = h
+listed-of l list id (purpose.Intermediate s) f h = h
+listed-of l list id (purpose.Takeover d) f h = (listed-leased l list id f.0 h.0, listed-leased l list id d.0 h.1)
+
+-- its replicas are of the list, and in a takeover the master and the replica that is to take its place
+pub recovery-held : (w : World) (l : Leases) (list : List ServerNo) (u : Purpose) (id wait : ℕ) (f : ServerNo) (replicas order : List ServerNo) (entry : Option ℕ)
+    → All (λ n. IsListed list n.0) replicas → IsListOf (IsListed list) IsAny u f
+    → IsHeldBeside w (leased_to l list id) (unended.Recovery (begun_recovery u id wait f replicas order) entry)
+recovery-held w l list u id wait f replicas order entry all also = (
+  begun-held w u id wait f replicas order,
+  begun-leased (leased_to l list id) u id wait f replicas order
+      (All-weaker (λ (n : ServerNo). IsListed list n.0) (λ (n : ServerNo). IsLeased (leased_to l list id) id n.0) (λ n h. listed-leased l list id n.0 h) replicas all)
+      (listed-of l list id u f also),
+)
+
+pub recovery-sound : (w : World) (u : Purpose) (id wait : ℕ) (f : ServerNo) (replicas order : List ServerNo) (entry : Option ℕ)
+    → IsSoundBeside w (unended.Recovery (begun_recovery u id wait f replicas order) entry)
+recovery-sound w u id wait f replicas order entry = begun-sound w u id wait f replicas order

@@ -1,0 +1,4 @@
+pub mod Cores
+pub mod Beside
+pub mod Begun
+pub mod Turning

@@ -1,0 +1,214 @@
+-- The turn of an unended job leaves all held and sound.
+use Rattle.std.proofs.Common.{◌≡◌, ◌∙◌, ℕ, Bool, true, false, List, [], ◌∷◌, cond, refl, sym, ap, subst, Option, Some, None}
+use Rattle.std.specs.Prelude.{All, ◌==◌, not, map, if◌then◌else◌}
+use Rattle.std.specs.Option.{option_map}
+use Rattle.std.proofs.lemmas.Bool.{eq-eqb, false≢true}
+use Rattle.std.proofs.lemmas.List.Elements.{All-cons, All-head, All-nil, All-tail}
+use Rattle.orch_base.specs.declared.server.Moment.{Moment}
+use Rattle.instance_keeper.specs.declared.bridge.Bridge.{Bridge}
+use Rattle.instance_keeper.specs.declared.observation.Observation.{Observation}
+use Rattle.instance_keeper.specs.Book.{BookState}
+use Rattle.server_model.specs.Run.{run}
+use Rattle.server_model.specs.Safe.{IsQuiet}
+use Rattle.server_model.specs.Worlds.{World}
+use Rattle.operations.specs.Jobs.{Job}
+use Rattle.operations.specs.Turns.{is_going, turned}
+use Rattle.job_laws.specs.Flights.{Flight, StandsIn, after_turn, replaced, without_job as without_core, without_leases}
+use Rattle.job_laws.specs.Held.{Spans}
+use Rattle.job_laws.specs.Leases.{Leases, job_at as core_at}
+use Rattle.job_laws.specs.Passages as pass
+use Rattle.job_laws.specs.Passages.{AllMayPass, AllPassWell, MayPass, PassesWell, passed, passing, turned_by}
+use Rattle.job_laws.proofs.Lists.{All-find}
+use Rattle.job_laws.proofs.Passages.{Held-passed, Sound-passed, leases-stored_if, world-stored_if}
+use Rattle.recovery_plans.specs.Recoveries.{Recovery}
+use Rattle.recovery_plans.specs.Taking.{Taken, taken}
+use Rattle.recovery_laws.specs.HeldRecoveries.{HeldRecovery}
+use Rattle.recovery_laws.specs.LeasedRecoveries.{LeasedRecovery}
+use Rattle.recovery_laws.specs.Passing.{as_turn, core_by}
+use Rattle.recovery_laws.specs.Rings.{AreOwn, HeldRings, SoundRings}
+use Rattle.recovery_laws.specs.SoundRecoveries.{SoundRecovery}
+use Rattle.recovery_laws.specs.Staying.{Spares}
+use Rattle.recovery_laws.proofs.Leasing.{taken-leased}
+use Rattle.recovery_laws.proofs.Passing.{recovery-passes, recovery-passes-well}
+use Rattle.recovery_laws.proofs.Sounding.{taken-sound}
+use Rattle.recovery_laws.proofs.Taking.{taken-held}
+use Rattle.unended_jobs.specs.declared.unended.Unended.{Unended}
+use Rattle.unended_jobs.specs.declared.unended.Unended.TheVariants as unended
+use Rattle.unended_jobs.specs.Unended.{Flown, core_of, flown, number_of}
+use Rattle.jobs_in_flight.specs.Jobs.{job_at, jobs_turned, with_job, without_job}
+use Rattle.jobs_in_flight.proofs.Numbers.{found-number}
+use Rattle.unended_laws.specs.Beside.{IsHeldBeside, IsSoundBeside}
+use Rattle.unended_laws.specs.Flights.{HeldJobs, SoundJobs}
+use Rattle.unended_laws.specs.Passages.{passage_of, passages_by}
+use Rattle.unended_laws.proofs.Cores.{core-found, cores-replaced, cores-without}
+use Rattle.unended_laws.proofs.Beside.{beside-held, beside-sound, jobs-stored_if, passage-own}
+
+-- ---- what a turn leaves of the list
+
+module _ (P Q : Unended → Type 0) (id : ℕ) (others : (k : Unended) → (number_of k ≡ id → ⊥) → P k → Q k) where
+  differ : (k : Unended) → (number_of k == id) ≡ false → number_of k ≡ id → ⊥
+  differ k e same = false≢true (sym e ∙ eq-eqb (number_of k) id same)
+
+  all-with : (us : List Unended) (u : Unended) → Q u → All P us → All Q (with_job us id u)
+  all-with [] u one all = All-nil Q
+  all-with (k ∷ ks) u one all = All-cons Q (cond (number_of k == id) u k) (with_job ks id u) (go (number_of k == id) refl) (all-with ks u one (All-tail P k ks all))
+    where
+      go : (b : Bool) → (number_of k == id) ≡ b → Q (cond b u k)
+      go true e = one
+      go false e = others k (differ k e) (All-head P k ks all)
+
+  all-without : (us : List Unended) → All P us → All Q (without_job us id)
+  all-without [] all = All-nil Q
+  all-without (k ∷ ks) all = go (number_of k == id) refl (all-without ks (All-tail P k ks all))
+    where
+      go : (b : Bool) → (number_of k == id) ≡ b → All Q (without_job ks id) → All Q (cond (not b) (k ∷ without_job ks id) (without_job ks id))
+      go true e rest = rest
+      go false e rest = All-cons Q k (without_job ks id) (others k (differ k e) (All-head P k ks all)) rest
+
+  all-turned : (us : List Unended) (t : Flown) → (is_going t.step ≡ true → Q t.next) → All P us → All Q (jobs_turned us id (Some t))
+  all-turned us t next all = go (is_going t.step) next
+    where
+      go : (b : Bool) → (b ≡ true → Q t.next) → All Q (cond b (with_job us id t.next) (without_job us id))
+      go true one = all-with us t.next (one refl) all
+      go false one = all-without us all
+
+-- ---- one turn
+
+module _ (f : Flight) (us : List Unended) (b : BookState) (id read : ℕ) (now : Moment) (keeps : Bool) (rings : f.rings ≡ b.rings) (held : HeldJobs f us) where
+  rings-held : HeldRings f.world b.rings
+  rings-held = record {
+    spans = subst (λ (rs : List (List Bridge)). All (All (Spans f.world)) rs) rings held.flight.rings;
+    own = subst (λ (rs : List (List Bridge)). AreOwn rs) rings held.own;
+  }
+
+  rings-sound : SoundJobs f us → SoundRings f.world b.rings
+  rings-sound sound = subst (λ (rs : List (List Bridge)). All (All (StandsIn f.world)) rs) rings sound.flight.rings
+
+  here : (u : Unended) → job_at us id ≡ Some u → IsHeldBeside f.world f.leases u
+  here u at = All-find (IsHeldBeside f.world f.leases) (λ k. number_of k == id) us u held.jobs at
+
+  sound-here : SoundJobs f us → (u : Unended) → job_at us id ≡ Some u → IsSoundBeside f.world u
+  sound-here sound u at = All-find (IsSoundBeside f.world) (λ k. number_of k == id) us u sound.jobs at
+
+  leased-here : (r : Recovery) → r.core.id ≡ id → LeasedRecovery f.leases r.core.id r → LeasedRecovery f.leases id r
+  leased-here r n mine = subst (λ (i : ℕ). LeasedRecovery f.leases i r) n mine
+
+  may-by : (u : Unended) → number_of u ≡ id → IsHeldBeside f.world f.leases u → MayPass f (passage_of f.world b read now keeps id u)
+  may-by (unended.Plan j) n mine = tt
+  may-by (unended.Recovery r entry) n mine = recovery-passes f b id read now r held.flight rings-held mine.0 (leased-here r n mine.1)
+
+  pub turn-may : (u : Unended) → job_at us id ≡ Some u → MayPass f (passage_of f.world b read now keeps id u)
+  turn-may u at = may-by u (found-number us id u at) (here u at)
+
+  well-by : SoundJobs f us → (u : Unended) → IsHeldBeside f.world f.leases u → IsSoundBeside f.world u → PassesWell f (passage_of f.world b read now keeps id u)
+  well-by sound (unended.Plan j) mine good = tt
+  well-by sound (unended.Recovery r entry) mine good = recovery-passes-well f b id read now r held.flight rings-held mine.0 sound.flight (rings-sound sound) good
+
+  pub turn-well : (u : Unended) → job_at us id ≡ Some u → SoundJobs f us → PassesWell f (passage_of f.world b read now keeps id u)
+  turn-well u at sound = well-by sound u (here u at) (sound-here sound u at)
+
+  -- the cores, by whether the job goes on
+
+  cores-by : (going : Bool) (core : Job) (next : Unended) → (going ≡ true → core ≡ core_of next)
+      → (if going then replaced f.jobs id core else without_core f.jobs id) ≡ map core_of (if going then with_job us id next else without_job us id)
+  cores-by true core next same =
+      ap (λ (js : List Job). replaced js id core) held.cores
+      ∙ (ap (λ (c : Job). replaced (map core_of us) id c) (same refl) ∙ sym (cores-replaced us id next))
+  cores-by false core next same = ap (λ (js : List Job). without_core js id) held.cores ∙ sym (cores-without us id)
+
+  core-going : (r : Recovery) (going : Bool) → going ≡ true → core_by id r going ≡ r.core
+  core-going r true h = refl
+  core-going r false h = absurd (false≢true h)
+
+  core-here : (u : Unended) → job_at us id ≡ Some u → core_at f.jobs id ≡ Some (core_of u)
+  core-here u at = ap (λ (js : List Job). core_at js id) held.cores ∙ (core-found us id ∙ ap (option_map core_of) at)
+
+  turn-cores : (u : Unended) → job_at us id ≡ Some u
+      → (passed f (passage_of f.world b read now keeps id u)).jobs ≡ map core_of (jobs_turned us id (Some (flown f.world b read now u)))
+  turn-cores (unended.Plan j) at =
+      let t = turned f.world read now j in
+      ap (λ (o : Option Job). (turned_by f id read now keeps o).jobs) (core-here (unended.Plan j) at)
+      ∙ (jobs-stored_if keeps (after_turn f id t) t.observation ∙ cores-by (is_going t.step) t.job (unended.Plan t.job) (λ h. refl))
+  turn-cores (unended.Recovery r entry) at =
+      let t = taken f.world b read now r in
+      jobs-stored_if keeps (after_turn f id (as_turn id t)) t.observation
+      ∙ cores-by (is_going t.step) (core_by id t.recovery (is_going t.step)) (unended.Recovery t.recovery entry) (core-going t.recovery (is_going t.step))
+
+  -- the others, and the job itself where it goes on
+
+  spares : (u k : Unended) → (number_of k ≡ id → ⊥) → Spares (number_of k) (passage_of f.world b read now keeps id u)
+  spares (unended.Plan j) k apart = λ same. apart (sym same)
+  spares (unended.Recovery r entry) k apart = λ same. apart (sym same)
+
+  world-taken : (t : Taken) → (passed f (pass.Taking id (as_turn id t) keeps)).world ≡ run f.world t.exchanges
+  world-taken t = world-stored_if keeps (after_turn f id (as_turn id t)) t.observation
+
+  leases-taken : (t : Taken) → is_going t.step ≡ true → (passed f (pass.Taking id (as_turn id t) keeps)).leases ≡ f.leases
+  leases-taken t going =
+      leases-stored_if keeps (after_turn f id (as_turn id t)) t.observation
+      ∙ ap (λ (g : Bool). if g then f.leases else without_leases f.leases id) going
+
+  next-held : (u : Unended) → number_of u ≡ id → IsHeldBeside f.world f.leases u → is_going (flown f.world b read now u).step ≡ true
+      → IsHeldBeside (passed f (passage_of f.world b read now keeps id u)).world (passed f (passage_of f.world b read now keeps id u)).leases (flown f.world b read now u).next
+  next-held (unended.Plan j) n mine going = tt
+  next-held (unended.Recovery r entry) n mine going =
+      let t = taken f.world b read now r in
+      let kept = (taken-held f.world b read now r held.flight.placed rings-held mine.0).held going in
+      let has = (taken-leased f.leases id f.world b read now r (leased-here r n mine.1)).servers going in
+      let renumbered = subst (λ (i : ℕ). LeasedRecovery f.leases i t.recovery) (sym has.number) has in (
+        subst (λ (w : World). HeldRecovery w t.recovery) (sym (world-taken t)) kept,
+        subst (λ (l : Leases). LeasedRecovery l t.recovery.core.id t.recovery) (sym (leases-taken t going)) renumbered,
+      )
+
+  next-sound : SoundJobs f us → (u : Unended) → IsHeldBeside f.world f.leases u → IsSoundBeside f.world u → is_going (flown f.world b read now u).step ≡ true
+      → IsSoundBeside (passed f (passage_of f.world b read now keeps id u)).world (flown f.world b read now u).next
+  next-sound sound (unended.Plan j) mine good going = tt
+  next-sound sound (unended.Recovery r entry) mine good going =
+      let t = taken f.world b read now r in
+      let kept = (taken-sound f.world b read now r sound.flight.safe held.flight.placed rings-held (rings-sound sound) mine.0 good).sound going in
+      subst (λ (w : World). SoundRecovery w t.recovery) (sym (world-taken t)) kept
+
+  pub turn-held : (u : Unended) → job_at us id ≡ Some u → HeldJobs (passed f (passage_of f.world b read now keeps id u)) (jobs_turned us id (Some (flown f.world b read now u)))
+  turn-held u at =
+      let p = passage_of f.world b read now keeps id u in
+      let may = turn-may u at in
+      record {
+        cores = turn-cores u at;
+        flight = Held-passed f p may held.flight;
+        own = passage-own f p held.own;
+        jobs =
+            all-turned (IsHeldBeside f.world f.leases) (IsHeldBeside (passed f p).world (passed f p).leases) id (λ k apart h. beside-held f p k may held.flight (spares u k apart) h) us
+            (flown f.world b read now u) (next-held u (found-number us id u at) (here u at)) held.jobs;
+      }
+
+  pub turn-sound : (u : Unended) → job_at us id ≡ Some u → SoundJobs f us → IsQuiet (passed f (passage_of f.world b read now keeps id u)).world
+      → SoundJobs (passed f (passage_of f.world b read now keeps id u)) (jobs_turned us id (Some (flown f.world b read now u)))
+  turn-sound u at sound quiet =
+      let p = passage_of f.world b read now keeps id u in
+      let may = turn-may u at in
+      record {
+        flight = Sound-passed f p may (turn-well u at sound) quiet held.flight sound.flight;
+        jobs =
+            all-turned (IsSoundBeside f.world) (IsSoundBeside (passed f p).world) id (λ k apart h. beside-sound f p k may held.flight h) us
+            (flown f.world b read now u) (next-sound sound u (here u at) (sound-here sound u at)) sound.jobs;
+      }
+
+-- ---- the turn of a number, where there may be no such job
+
+module _ (f : Flight) (us : List Unended) (b : BookState) (id read : ℕ) (now : Moment) (keeps : Option Observation → Bool) (rings : f.rings ≡ b.rings) (held : HeldJobs f us) where
+  pub number-may : (o : Option Unended) → job_at us id ≡ o → AllMayPass f (passages_by f.world b read now keeps id o)
+  number-may None at = tt
+  number-may (Some u) at = (turn-may f us b id read now (keeps (flown f.world b read now u).observation) rings held u at, tt)
+
+  pub number-well : (o : Option Unended) → job_at us id ≡ o → SoundJobs f us → AllPassWell f (passages_by f.world b read now keeps id o)
+  number-well None at sound = tt
+  number-well (Some u) at sound = (turn-well f us b id read now (keeps (flown f.world b read now u).observation) rings held u at sound, tt)
+
+  pub number-held : (o : Option Unended) → job_at us id ≡ o → HeldJobs (passing f (passages_by f.world b read now keeps id o)) (jobs_turned us id (option_map (flown f.world b read now) o))
+  number-held None at = held
+  number-held (Some u) at = turn-held f us b id read now (keeps (flown f.world b read now u).observation) rings held u at
+
+  pub number-sound : (o : Option Unended) → job_at us id ≡ o → SoundJobs f us → IsQuiet (passing f (passages_by f.world b read now keeps id o)).world
+      → SoundJobs (passing f (passages_by f.world b read now keeps id o)) (jobs_turned us id (option_map (flown f.world b read now) o))
+  number-sound None at sound quiet = sound
+  number-sound (Some u) at sound quiet = turn-sound f us b id read now (keeps (flown f.world b read now u).observation) rings held u at sound quiet

@@ -1,0 +1,19 @@
+-- What holds of an unended job beside the flight that has its core.
+use Rattle.server_model.specs.Worlds.{World}
+use Rattle.job_laws.specs.Leases.{Leases}
+use Rattle.recovery_laws.specs.HeldRecoveries.{HeldRecovery}
+use Rattle.recovery_laws.specs.LeasedRecoveries.{LeasedRecovery}
+use Rattle.recovery_laws.specs.SoundRecoveries.{SoundRecovery}
+use Rattle.unended_jobs.specs.declared.unended.Unended.{Unended}
+use Rattle.unended_jobs.specs.declared.unended.Unended.TheVariants as unended
+
+-- of a plan the flight says all; a recovery finds what is still to do, and has the leases of the servers that it may
+-- change
+abbrev pub IsHeldBeside : World → Leases → Unended → Type 0
+IsHeldBeside w l (unended.Plan j) = Unit {0}
+IsHeldBeside w l (unended.Recovery r entry) = HeldRecovery w r × LeasedRecovery l r.core.id r
+
+-- and each bridge by which it goes stands
+abbrev pub IsSoundBeside : World → Unended → Type 0
+IsSoundBeside w (unended.Plan j) = Unit {0}
+IsSoundBeside w (unended.Recovery r entry) = SoundRecovery w r

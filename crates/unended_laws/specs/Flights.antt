@@ -1,0 +1,19 @@
+-- Servers with unended jobs in flight, plans and recoveries alike.
+use Rattle.std.specs.Prelude.{◌≡◌, List, All, map}
+use Rattle.job_laws.specs.Flights.{Flight, Held, Sound}
+use Rattle.recovery_laws.specs.Rings.{AreOwn}
+use Rattle.unended_jobs.specs.declared.unended.Unended.{Unended}
+use Rattle.unended_jobs.specs.Unended.{core_of}
+use Rattle.unended_laws.specs.Beside.{IsHeldBeside, IsSoundBeside}
+
+-- in every state, quiet or not: the flight has the jobs' cores, and each ring has bridges of its own server
+pub record HeldJobs (f : Flight) (us : List Unended) : Type 0 where
+  pub cores : f.jobs ≡ map core_of us
+  pub flight : Held f
+  pub own : AreOwn f.rings
+  pub jobs : All (IsHeldBeside f.world f.leases) us
+
+-- in every quiet one beside
+pub record SoundJobs (f : Flight) (us : List Unended) : Type 0 where
+  pub flight : Sound f
+  pub jobs : All (IsSoundBeside f.world) us

@@ -1,0 +1,40 @@
+-- The passages of unended jobs' turns, and those that are no job's.
+use Rattle.std.specs.Prelude.{◌≡◌, ℕ, ◌==◌, Bool, true, List, [], ◌∷◌, Option, Some, None}
+use Rattle.std.specs.List.{list_any}
+use Rattle.orch_base.specs.declared.server.Moment.{Moment}
+use Rattle.orch_base.specs.declared.server.ServerNo.{ServerNo}
+use Rattle.instance_keeper.specs.declared.observation.Observation.{Observation}
+use Rattle.instance_keeper.specs.Book.{BookState}
+use Rattle.server_model.specs.Worlds.{World}
+use Rattle.job_laws.specs.Passages.{Passage, Exchanging, Polling, Storing, Discovering, Forgetting, Restarting, Beginning, Turning, Taking}
+use Rattle.recovery_plans.specs.Taking.{taken}
+use Rattle.recovery_laws.specs.Passing.{as_turn}
+use Rattle.unended_jobs.specs.declared.unended.Unended.{Unended}
+use Rattle.unended_jobs.specs.declared.unended.Unended.TheVariants as unended
+use Rattle.unended_jobs.specs.Unended.{flown}
+
+-- the turn of the job of this number: by the operations of its plan, or as its recovery decides it
+abbrev pub passage_of : World → BookState → ℕ → Moment → Bool → ℕ → Unended → Passage
+passage_of w b read now keeps id (unended.Plan j) = Turning id read now keeps
+passage_of w b read now keeps id (unended.Recovery r entry) = Taking id (as_turn id (taken w b read now r)) keeps
+
+-- none where there is no such job; which readings are stored is told by what the turn observes
+abbrev pub passages_by : World → BookState → ℕ → Moment → (Option Observation → Bool) → ℕ → Option Unended → List Passage
+passages_by w b read now keeps id None = []
+passages_by w b read now keeps id (Some u) = passage_of w b read now (keeps (flown w b read now u).observation) id u ∷ []
+
+-- it begins no job, is no job's turn and no restart: it leaves the jobs as they are
+abbrev pub IsApart : Passage → Type 0
+IsApart (Exchanging e) = Unit {0}
+IsApart (Polling p n read now) = Unit {0}
+IsApart (Storing p keeps) = Unit {0}
+IsApart (Discovering n read now) = Unit {0}
+IsApart (Forgetting n) = Unit {0}
+IsApart Restarting = ⊥
+IsApart (Beginning list j) = ⊥
+IsApart (Turning id read now keeps) = ⊥
+IsApart (Taking id t keeps) = ⊥
+
+-- a server is of the list of those that a beginning job leases
+abbrev pub IsListed : List ServerNo → ℕ → Type 0
+IsListed list n = list_any (λ k. k.0 == n) list ≡ true

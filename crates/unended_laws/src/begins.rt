@@ -1,0 +1,42 @@
+//! Unended jobs that begin.
+
+ghost use Rattle.std.specs.Prelude.{◌∷◌, ◌++◌, ℕ, All, List, Option, []};
+ghost use Rattle.orch_base.specs.declared.server.ServerNo.{ServerNo as Number};
+ghost use Rattle.server_model.specs.Worlds.{World};
+ghost use Rattle.job_laws.specs.Flights.{Flight, leased_to};
+ghost use Rattle.job_laws.specs.Leases.{Leases};
+ghost use Rattle.job_laws.specs.Passages.{Beginning, MayPass, passed};
+ghost use Rattle.recovery_plans.specs.declared.purpose.Purpose.{Purpose as APurpose};
+ghost use Rattle.recovery_plans.specs.Beginning.{begun_recovery};
+ghost use Rattle.recovery_plans.specs.Named.{IsListOf};
+ghost use Rattle.recovery_laws.specs.LeasedRecoveries.{IsAny};
+ghost use Rattle.unended_jobs.specs.declared.unended.Unended.{Unended as AnUnended};
+ghost use Rattle.unended_jobs.specs.declared.unended.Unended.TheVariants.{Recovery};
+ghost use Rattle.unended_jobs.specs.Unended.{core_of, number_of};
+ghost use Rattle.unended_laws.specs.Beside.{IsHeldBeside, IsSoundBeside};
+ghost use Rattle.unended_laws.specs.Flights.{HeldJobs, SoundJobs};
+ghost use Rattle.unended_laws.specs.Passages.{IsListed};
+
+/// A job that begins held and sound, with the leases of a list, leaves all held and sound, itself too.
+pub fn unended_jobs_begin()
+    ensures held { (f : Flight) (us : List AnUnended) (list : List Number) (u : AnUnended) →
+        MayPass f (Beginning list (core_of u)) →
+        IsHeldBeside f.world (leased_to f.leases list (number_of u)) u → HeldJobs f us →
+        HeldJobs (passed f (Beginning list (core_of u))) (us ++ u ∷ []) }
+    ensures sound { (f : Flight) (us : List AnUnended) (list : List Number) (u : AnUnended) →
+        MayPass f (Beginning list (core_of u)) → IsSoundBeside f.world u → HeldJobs f us →
+        SoundJobs f us → SoundJobs (passed f (Beginning list (core_of u))) (us ++ u ∷ []) }
+{}
+
+/// A recovery begins so, where the list has its replicas, and in a takeover the master and the replica that is to take
+/// its place.
+pub fn recoveries_begin_beside()
+    ensures held { (w : World) (l : Leases) (list : List Number) (u : APurpose) (id wait : ℕ)
+        (f : Number) (replicas order : List Number) (entry : Option ℕ) →
+        All (λ n. IsListed list n.0) replicas → IsListOf (IsListed list) IsAny u f →
+        IsHeldBeside w (leased_to l list id)
+        (Recovery (begun_recovery u id wait f replicas order) entry) }
+    ensures sound { (w : World) (u : APurpose) (id wait : ℕ) (f : Number)
+        (replicas order : List Number) (entry : Option ℕ) →
+        IsSoundBeside w (Recovery (begun_recovery u id wait f replicas order) entry) }
+{}

@@ -1,0 +1,25 @@
+//! Unended jobs while others take their turns.
+
+ghost use Rattle.std.specs.Prelude.{List, []};
+ghost use Rattle.server_model.specs.Safe.{IsQuiet};
+ghost use Rattle.job_laws.specs.Flights.{Flight};
+ghost use Rattle.job_laws.specs.Passages.{MayPass, Passage, Restarting, passed};
+ghost use Rattle.unended_jobs.specs.declared.unended.Unended.{Unended as AnUnended};
+ghost use Rattle.unended_laws.specs.Flights.{HeldJobs, SoundJobs};
+ghost use Rattle.unended_laws.specs.Passages.{IsApart};
+
+/// What begins no job, is no job's turn and no restart leaves all held, and sound where it is quiet afterwards.
+pub fn unended_jobs_stay()
+    ensures held { (f : Flight) (us : List AnUnended) (p : Passage) → MayPass f p → IsApart p →
+        HeldJobs f us → HeldJobs (passed f p) us }
+    ensures sound { (f : Flight) (us : List AnUnended) (p : Passage) → MayPass f p → IsApart p →
+        IsQuiet (passed f p).world → HeldJobs f us → SoundJobs f us → SoundJobs (passed f p) us }
+{}
+
+/// A restart leaves no job, and all else that is kept held, and sound where it was.
+pub fn restarts_leave_no_job()
+    ensures held { (f : Flight) (us : List AnUnended) → HeldJobs f us →
+        HeldJobs (passed f Restarting) [] }
+    ensures sound { (f : Flight) (us : List AnUnended) → SoundJobs f us →
+        SoundJobs (passed f Restarting) [] }
+{}

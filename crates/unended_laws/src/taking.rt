@@ -1,0 +1,37 @@
+//! Turns of unended jobs.
+
+ghost use Rattle.std.specs.Prelude.{◌≡◌, ℕ, Bool, List, Some};
+ghost use Rattle.orch_base.specs.declared.server.Moment.{Moment as AMoment};
+ghost use Rattle.instance_keeper.specs.Book.{BookState};
+ghost use Rattle.server_model.specs.Safe.{IsQuiet};
+ghost use Rattle.job_laws.specs.Flights.{Flight};
+ghost use Rattle.job_laws.specs.Passages.{MayPass, PassesWell, passed};
+ghost use Rattle.jobs_in_flight.specs.Jobs.{job_at, jobs_turned};
+ghost use Rattle.unended_jobs.specs.declared.unended.Unended.{Unended as AnUnended};
+ghost use Rattle.unended_jobs.specs.Unended.{flown};
+ghost use Rattle.unended_laws.specs.Flights.{HeldJobs, SoundJobs};
+ghost use Rattle.unended_laws.specs.Passages.{passage_of};
+
+/// The turn of an unended job, on a book with the flight's bridges, is a passage that leaves all held, the job itself
+/// too where it goes on, and sound where it is quiet afterwards.
+pub fn unended_jobs_take_turns()
+    ensures may { (f : Flight) (us : List AnUnended) (b : BookState) (id read : ℕ) (now : AMoment)
+        (keeps : Bool) (u : AnUnended) →
+        job_at us id ≡ Some u → f.rings ≡ b.rings → HeldJobs f us →
+        MayPass f (passage_of f.world b read now keeps id u) }
+    ensures held { (f : Flight) (us : List AnUnended) (b : BookState) (id read : ℕ) (now : AMoment)
+        (keeps : Bool) (u : AnUnended) →
+        job_at us id ≡ Some u → f.rings ≡ b.rings → HeldJobs f us →
+        HeldJobs (passed f (passage_of f.world b read now keeps id u))
+        (jobs_turned us id (Some (flown f.world b read now u))) }
+    ensures well { (f : Flight) (us : List AnUnended) (b : BookState) (id read : ℕ) (now : AMoment)
+        (keeps : Bool) (u : AnUnended) →
+        job_at us id ≡ Some u → f.rings ≡ b.rings → HeldJobs f us → SoundJobs f us →
+        PassesWell f (passage_of f.world b read now keeps id u) }
+    ensures sound { (f : Flight) (us : List AnUnended) (b : BookState) (id read : ℕ)
+        (now : AMoment) (keeps : Bool) (u : AnUnended) →
+        job_at us id ≡ Some u → f.rings ≡ b.rings → HeldJobs f us → SoundJobs f us →
+        IsQuiet (passed f (passage_of f.world b read now keeps id u)).world →
+        SoundJobs (passed f (passage_of f.world b read now keeps id u))
+        (jobs_turned us id (Some (flown f.world b read now u))) }
+{}
