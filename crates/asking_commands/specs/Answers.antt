@@ -8,7 +8,7 @@ use Rattle.commands.specs.declared.name.CommandName.{CommandName}
 use Rattle.command_routes.specs.declared.route.Question.{Question}
 use Rattle.command_routes.specs.declared.route.Question.TheVariants.{AllInstances, Analysis, Clusters, Find, Recoveries, Switch, Topology, WhichCluster, WhichClusterInstances, WhichMaster, WhichReplicas}
 use Rattle.command_routes.specs.declared.route.Route.{Route}
-use Rattle.command_routes.specs.declared.route.Route.TheVariants.{Discovers, Forgets, Asks, Decides, Begins, Unbuilt}
+use Rattle.command_routes.specs.declared.route.Route.TheVariants.{Discovers, Forgets, Asks, Decides, Begins, Recovers, TakesOver}
 use Rattle.command_routes.specs.Routes.{route_of}
 use Rattle.commands.specs.declared.refusal.Refusal.{Refusal}
 use Rattle.commands.specs.declared.turn.Command.{Command}
@@ -30,7 +30,8 @@ is_question Forgets = false
 is_question (Asks question) = true
 is_question (Decides decision) = false
 is_question (Begins planner) = false
-is_question Unbuilt = false
+is_question Recovers = false
+is_question TakesOver = false
 
 -- a command that only asks the book
 abbrev pub asks : CommandName → Bool
@@ -82,7 +83,8 @@ lines_by b rs t Discovers = []
 lines_by b rs t Forgets = []
 lines_by b rs t (Decides decision) = []
 lines_by b rs t (Begins planner) = []
-lines_by b rs t Unbuilt = []
+lines_by b rs t Recovers = []
+lines_by b rs t TakesOver = []
 
 -- the lines of a command, by the book and the audit's recoveries
 abbrev pub lines_of : BookState → List Recovery → CommandTurn → CommandName → List Line

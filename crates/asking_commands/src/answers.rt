@@ -46,8 +46,12 @@ pub fn asks(name: CommandName) -> bool
 {
     match Route::of(name) {
         Route::Asks(_) => true,
-        Route::Discovers | Route::Forgets | Route::Decides(_) | Route::Begins(_) | Route::Unbuilt =>
-            false,
+        Route::Discovers
+        | Route::Forgets
+        | Route::Decides(_)
+        | Route::Begins(_)
+        | Route::Recovers
+        | Route::TakesOver => false,
     }
 }
 
@@ -131,8 +135,12 @@ fn lines_of(
 {
     match Route::of(turn.command.name) {
         Route::Asks(question) => answer_to(alloc, book, recoveries, turn, question),
-        Route::Discovers | Route::Forgets | Route::Decides(_) | Route::Begins(_) | Route::Unbuilt =>
-            Ok(Lines::new(Vec::new(alloc))),
+        Route::Discovers
+        | Route::Forgets
+        | Route::Decides(_)
+        | Route::Begins(_)
+        | Route::Recovers
+        | Route::TakesOver => Ok(Lines::new(Vec::new(alloc))),
     }
 }
 

@@ -13,7 +13,7 @@ use Rattle.instance_keeper.specs.declared.recovery.Recovery.{Recovery}
 use Rattle.audit_log.specs.declared.held.Held.{Held}
 use Rattle.audit_log.specs.declared.held.Held.TheVariants as held
 use Rattle.audit_log.specs.Apart.{count_unended, IsApart, IsClear, IsHeldBack, MayBegin}
-use Rattle.audit_log.specs.Audits.{acknowledged, acknowledged_for, begun, closed, ended, ended_so, held_by, interrupted, is_blocking, is_of, is_open, is_unended, last_blocking, may_begin, unended_of, AuditState, IsAudit}
+use Rattle.audit_log.specs.Audits.{acked_so, acknowledged, acknowledged_at, acknowledged_for, begun, closed, ended, ended_so, held_by, interrupted, is_blocking, is_of, is_open, is_unended, last_blocking, may_begin, unended_of, AuditState, IsAudit}
 use Rattle.audit_log.proofs.Changes.{IsAudit-begun, IsAudit-map}
 use Rattle.audit_log.proofs.Finding.{All-found, All-reverse, All-reversed, found-passes, none-found, none-passes}
 use Rattle.audit_log.proofs.Kept.{acknowledged-id, interrupted-id}
@@ -223,6 +223,22 @@ acknowledged-apart a cluster apart =
     clusters r false = refl
 
     opens : (r : Recovery) (b : Bool) → is_unended (cond b (record r { acked = true }) r) ≡ true → is_unended r ≡ true
+    opens r true h = h
+    opens r false h = h
+
+pub acknowledged_at-apart : (a : AuditState) (id : ℕ) → IsApart a → IsApart (acknowledged_at a id)
+acknowledged_at-apart a id apart =
+    changed-apart (λ r. cond (r.id == id) (acked_so r) r) (λ r. ids r (r.id == id)) (λ r. clusters r (r.id == id)) (λ r. opens r (r.id == id)) a apart
+  where
+    ids : (r : Recovery) (b : Bool) → (cond b (acked_so r) r).id ≡ r.id
+    ids r true = refl
+    ids r false = refl
+
+    clusters : (r : Recovery) (b : Bool) → (cond b (acked_so r) r).cluster ≡ r.cluster
+    clusters r true = refl
+    clusters r false = refl
+
+    opens : (r : Recovery) (b : Bool) → is_unended (cond b (acked_so r) r) ≡ true → is_unended r ≡ true
     opens r true h = h
     opens r false h = h
 

@@ -92,6 +92,13 @@ acknowledged_for cluster r = if is_of cluster r then record r { acked = true } e
 abbrev pub acknowledged : AuditState → List ℕ → AuditState
 acknowledged a cluster = record a { recoveries = map (acknowledged_for cluster) a.recoveries }
 
+abbrev pub acked_so : Recovery → Recovery
+acked_so r = record r { acked = true }
+
+-- with the recovery of this id acknowledged
+abbrev pub acknowledged_at : AuditState → ℕ → AuditState
+acknowledged_at a id = record a { recoveries = map (λ r. if r.id == id then acked_so r else r) a.recoveries }
+
 abbrev pub is_new : List ℕ → Recovery → Bool
 is_new cluster r = is_of cluster r && not r.acked
 

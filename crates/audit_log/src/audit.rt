@@ -5,7 +5,7 @@ ghost use Rattle.std.specs.Prelude.{◌≡◌, ◌<◌, ◌≤◌, ◌^◌, ◌+
 ghost use Rattle.std.specs.Option.{option_copied};
 ghost use Rattle.instance_keeper.specs.declared.recovery.Recovery.{Recovery as ARecovery};
 ghost use Rattle.audit_log.specs.Apart.{MayBegin};
-ghost use Rattle.audit_log.specs.Audits.{acking, acknowledged, acknowledged_for, begun, closed, closing, count_new, ended, ended_so, interrupted, is_blocking, is_new, is_of, is_unended, last_blocking, may_begin, recovery_at, unended_of, IsAudit, StandsAt};
+ghost use Rattle.audit_log.specs.Audits.{acked_so, acking, acknowledged, acknowledged_at, acknowledged_for, begun, closed, closing, count_new, ended, ended_so, interrupted, is_blocking, is_new, is_of, is_unended, last_blocking, may_begin, recovery_at, unended_of, IsAudit, StandsAt};
 
 use crate::Memory;
 use crate::held::Held;
@@ -39,6 +39,13 @@ fn end_so(recovery: &mut Recovery, at: Moment, outcome: Ending)
 {
     recovery.ended = Some(at);
     recovery.outcome = outcome;
+}
+
+// Acknowledges a recovery.
+fn ack_so(recovery: &mut Recovery)
+    ensures { recovery.new ≡ acked_so recovery.old }
+{
+    recovery.acked = true;
 }
 
 // Ends a recovery that a restart interrupts.
@@ -214,6 +221,15 @@ impl Audit {
         Ok(())
     }
 
+    /// Makes room for so many more recoveries. `Err` is want of memory.
+    pub fn reserve_for(&mut self, count: usize) -> Result<(), Memory>
+        ensures ok { OnOk result (count ≤ self.new.spare) }
+        ensures audit { self.new.audit ≡ self.old.audit }
+    {
+        self.recoveries.reserve(count)?;
+        Ok(())
+    }
+
     /// Begins a recovery for which there is room. `may_begin` gave its id, which is below 2^64 - 1. It takes no memory.
     pub fn begin(&mut self, r: Recovery)
         requires spare { 1 ≤ self.old.spare }
@@ -234,6 +250,16 @@ impl Audit {
     {
         if let Some(index) = self.index_of(id) {
             end_so(&mut self.recoveries[index], at, outcome);
+        }
+    }
+
+    /// Acknowledges the recovery of this id, if there is one. It takes no memory, and the time is logarithmic in the number
+    /// of recoveries.
+    pub fn acknowledge(&mut self, id: u64)
+        ensures { self.new ≡ record self.old { audit = acknowledged_at self.old.audit id } }
+    {
+        if let Some(index) = self.index_of(id) {
+            ack_so(&mut self.recoveries[index]);
         }
     }
 

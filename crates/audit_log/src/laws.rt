@@ -7,7 +7,7 @@ ghost use Rattle.instance_keeper.specs.declared.row.Row.{Row};
 ghost use Rattle.orch_base.specs.declared.recovery.Ending.{Ending};
 ghost use Rattle.orch_base.specs.declared.server.Moment.{Moment as AMoment};
 ghost use Rattle.audit_log.specs.Apart.{IsApart, IsClear, IsHeldBack, MayBegin};
-ghost use Rattle.audit_log.specs.Audits.{acknowledged, begun, closed, ended, is_open, is_unended, may_begin, AuditState, IsAudit};
+ghost use Rattle.audit_log.specs.Audits.{acknowledged, acknowledged_at, begun, closed, ended, is_open, is_unended, may_begin, AuditState, IsAudit};
 ghost use Rattle.audit_log.specs.Loading.{recoveries_in};
 ghost use Rattle.audit_log.specs.declared.held.Held.{Held as AHeld};
 
@@ -25,7 +25,7 @@ pub fn begins_are_apart()
 {}
 
 /// Each cluster has at most one unended recovery, and ids rise below the next. So it stays when a recovery that may
-/// begin is begun, when one is ended and when a cluster's are acknowledged; and so it is after each restart.
+/// begin is begun, when one is ended, and when one or a cluster's are acknowledged; and so it is after each restart.
 pub fn audits_stay_apart()
     ensures begun { (a : AuditState) (r : Recovery) →
         MayBegin a r → IsApart a → IsApart (begun a r) }
@@ -33,6 +33,8 @@ pub fn audits_stay_apart()
         is_open outcome ≡ false → IsApart a → IsApart (ended a id at outcome) }
     ensures acknowledged { (a : AuditState) (cluster : List ℕ) →
         IsApart a → IsApart (acknowledged a cluster) }
+    ensures acknowledged_at { (a : AuditState) (id : ℕ) →
+        IsApart a → IsApart (acknowledged_at a id) }
     ensures closed { (a : AuditState) (at : AMoment) → IsAudit a → IsApart (closed a at) }
 {}
 

@@ -59,6 +59,7 @@ module _ (w : World) (b : BookState) (c : Command) (is : IsBook b) (i_there : is
     id = id_fits;
     ready = record {
       named = begun-of (λ n. n < length b.names) (λ n. n < length b.names) purpose.Regroup id wait i (replicas_of b i) (replicas_of b i) (replicas-within b i) (given-within b (Some i) h) tt;
+      promoted = tt;
       shaped = begun-shaped purpose.Regroup id wait i (replicas_of b i) (replicas_of b i);
     };
   }
@@ -70,6 +71,7 @@ module _ (w : World) (b : BookState) (c : Command) (is : IsBook b) (i_there : is
   regroup-ready None h id wait = ready-by id wait [] refl
   regroup-ready (Some i) h id wait = record {
     named = begun-of (λ n. n < length b.names) (λ n. n < length b.names) purpose.Regroup id wait i (replicas_of b i) (replicas_of b i) (replicas-within b i) (given-within b (Some i) h) tt;
+    promoted = tt;
     shaped = begun-shaped purpose.Regroup id wait i (replicas_of b i) (replicas_of b i);
   }
 

@@ -1,5 +1,5 @@
 -- What each command does, and which commands are built.
-use Rattle.std.specs.Prelude.{◌≡◌, ◌⊎◌, ℕ, Bool, true, false, List, codes, Option, Some, None, if◌then◌else◌}
+use Rattle.std.specs.Prelude.{◌≡◌, ◌⊎◌, ◌||◌, ℕ, Bool, List, codes, is_some, Option, Some, None}
 use Rattle.std.specs.Str.{bytes_eq}
 use Rattle.commands.specs.declared.name.CommandName.{CommandName}
 use Rattle.commands.specs.declared.name.CommandName.TheVariants as name
@@ -8,7 +8,7 @@ use Rattle.command_routes.specs.declared.route.Question.TheVariants as question
 use Rattle.command_routes.specs.declared.route.Planner.{Planner}
 use Rattle.command_routes.specs.declared.route.Planner.TheVariants as planner
 use Rattle.command_routes.specs.declared.route.Route.{Route}
-use Rattle.command_routes.specs.declared.route.Route.TheVariants.{Discovers, Forgets, Asks, Decides, Begins, Unbuilt}
+use Rattle.command_routes.specs.declared.route.Route.TheVariants.{Discovers, Forgets, Asks, Decides, Begins, Recovers, TakesOver}
 use Rattle.commands.specs.Names.{name_of, word_of}
 
 -- what a command does
@@ -39,8 +39,8 @@ route_of name.Forget = Forgets
 route_of name.BeginDowntime = Decides decision.BeginDowntime
 route_of name.EndDowntime = Decides decision.EndDowntime
 route_of name.RegisterCandidate = Decides decision.RegisterCandidate
-route_of name.Recover = Unbuilt
-route_of name.GracefulMasterTakeover = Unbuilt
+route_of name.Recover = Recovers
+route_of name.GracefulMasterTakeover = TakesOver
 route_of name.AckClusterRecoveries = Decides decision.AckRecoveries
 route_of name.Topology = Asks question.Topology
 route_of name.WhichMaster = Asks question.WhichMaster
@@ -56,14 +56,6 @@ route_of name.DisableGlobalRecoveries = Decides decision.DisableRecoveries
 route_of name.EnableGlobalRecoveries = Decides decision.EnableRecoveries
 route_of name.CheckGlobalRecoveries = Asks question.Switch
 
-abbrev pub is_built : Route → Bool
-is_built Discovers = true
-is_built Forgets = true
-is_built (Asks question) = true
-is_built (Decides decision) = true
-is_built (Begins planner) = true
-is_built Unbuilt = false
-
 -- which permission and plan a job goes by
 abbrev pub planner_of : Route → Option Planner
 planner_of Discovers = None
@@ -71,21 +63,13 @@ planner_of Forgets = None
 planner_of (Asks question) = None
 planner_of (Decides decision) = None
 planner_of (Begins planner) = Some planner
-planner_of Unbuilt = None
+planner_of Recovers = None
+planner_of TakesOver = None
 
--- there is such a command, and it is built
-abbrev pub is_built_name : Option CommandName → Bool
-is_built_name None = false
-is_built_name (Some name) = is_built (route_of name)
-
--- run, or the word of a command that is built
+-- run, or the word of a command
 abbrev pub is_built_command : List ℕ → Bool
-is_built_command word = if bytes_eq word (codes "run") then true else is_built_name (name_of word)
-
--- the word of a command that is built
-abbrev pub IsWordBuilt : List ℕ → CommandName → Type 0
-IsWordBuilt text name = (text ≡ word_of name) × (is_built (route_of name) ≡ true)
+is_built_command word = bytes_eq word (codes "run") || is_some (name_of word)
 
 -- run, or such a word
 abbrev pub IsBuiltWord : List ℕ → Type 0
-IsBuiltWord text = (text ≡ codes "run") ⊎ ((name : CommandName) × IsWordBuilt text name)
+IsBuiltWord text = (text ≡ codes "run") ⊎ ((name : CommandName) × (text ≡ word_of name))

@@ -1,7 +1,7 @@
 //! What a command does.
 
 ghost use Rattle.std.specs.Prelude.{◌≡◌};
-ghost use Rattle.command_routes.specs.Routes.{is_built, is_built_command, planner_of, route_of};
+ghost use Rattle.command_routes.specs.Routes.{is_built_command, planner_of, route_of};
 
 use commands::CommandName;
 
@@ -75,8 +75,10 @@ pub enum Route {
     Decides(Decision),
     /// Begins a job.
     Begins(Planner),
-    /// It isn't built.
-    Unbuilt,
+    /// Begins the recovery of a server.
+    Recovers,
+    /// Begins a takeover of a master's place.
+    TakesOver,
 }
 
 impl Route {
@@ -124,25 +126,12 @@ impl Route {
             | CommandName::DisableGtid => Route::Begins(Planner::Gtids),
             CommandName::Relocate | CommandName::RelocateReplicas => Route::Begins(Planner::Paths),
             CommandName::RegroupReplicas => Route::Begins(Planner::Regroups),
-            CommandName::Recover | CommandName::GracefulMasterTakeover => Route::Unbuilt,
+            CommandName::Recover => Route::Recovers,
+            CommandName::GracefulMasterTakeover => Route::TakesOver,
         }
     }
 
-    /// Whether it is built.
-    pub fn is_built(self) -> bool
-        ensures { result ≡ is_built self }
-    {
-        match self {
-            Route::Discovers
-            | Route::Forgets
-            | Route::Asks(_)
-            | Route::Decides(_)
-            | Route::Begins(_) => true,
-            Route::Unbuilt => false,
-        }
-    }
-
-    /// Which permission and plan the job of the command goes by: none where it begins no job.
+    /// Which permission and plan the job of the command goes by: none where it begins no job, or a recovery.
     pub fn planner(self) -> Option<Planner>
         ensures { result ≡ planner_of self }
     {
@@ -152,20 +141,15 @@ impl Route {
             | Route::Forgets
             | Route::Asks(_)
             | Route::Decides(_)
-            | Route::Unbuilt => None,
+            | Route::Recovers
+            | Route::TakesOver => None,
         }
     }
 }
 
-/// Whether a command of this word is built: `run`, and each command whose route isn't `Unbuilt`. It takes no memory.
+/// Whether a command of this word is built: `run`, and each command. It takes no memory.
 pub fn is_built_command(word: &str) -> bool
     ensures { result ≡ is_built_command word.now }
 {
-    if word == "run" {
-        return true;
-    }
-    match CommandName::read(word) {
-        Some(name) => Route::of(name).is_built(),
-        None => false,
-    }
+    word == "run" || CommandName::read(word).is_some()
 }

@@ -1,10 +1,8 @@
--- Each turn of a run is its passages, and leaves all that is kept speaking of the servers.
+-- Each turn of a run is its passages.
 use Rattle.std.proofs.Common.{◌≡◌, ◌∙◌, ℕ, Bool, true, false, List, [], ◌∷◌, length, refl, sym, ap, Option, Some, None, zero, suc}
-use Rattle.std.specs.Prelude.{All, IfSome, is_some, map, nat_lt, not, replicate, slice_index_or, slice_set, if◌then◌else◌}
+use Rattle.std.specs.Prelude.{is_some, map, nat_lt, not, replicate, slice_index_or, slice_set, if◌then◌else◌}
 use Rattle.std.specs.Option.{option_map}
 use Rattle.std.proofs.lemmas.Bool.{false≢true}
-use Rattle.std.proofs.lemmas.List.{length-map, length-set}
-use Rattle.std.proofs.lemmas.List.Elements.{All-set}
 use Rattle.orch_base.specs.declared.server.Settings.{Settings}
 use Rattle.orch_base.specs.declared.server.ServerNo.{ServerNo}
 use Rattle.orch_base.specs.Memory.{next_count}
@@ -13,7 +11,7 @@ use Rattle.instance_keeper.specs.declared.observation.Instance.{Instance}
 use Rattle.instance_keeper.specs.declared.observation.Observation.{Observation}
 use Rattle.instance_keeper.specs.declared.row.Row.{Row}
 use Rattle.instance_keeper.specs.declared.row.Row.TheVariants as row
-use Rattle.instance_keeper.specs.Book.{BookState, IsBook, after_put, after_row, empty_book, instance_at, renewed, renewed_book, row_fits, stored_over}
+use Rattle.instance_keeper.specs.Book.{BookState, after_put, after_row, empty_book, instance_at, renewed, renewed_book, row_fits, stored_over}
 use Rattle.instance_keeper.specs.Leases.{given_back}
 use Rattle.opening_book.specs.Counting.{counted, loaded}
 use Rattle.server_model.specs.Run.{Exchange, run}
@@ -33,17 +31,18 @@ use Rattle.unended_laws.proofs.Cores.{core-found, cores-replaced, cores-without}
 use Rattle.job_laws.specs.Flights.{Flight, no_leases, replaced, without_job as without_core, without_leases as no_longer}
 use Rattle.job_laws.specs.Leases.{leases_of, job_at as core_at}
 use Rattle.job_laws.specs.Passages as pass
-use Rattle.job_laws.specs.Passages.{AllMayPass, Passage, passing, stored_if, turned_by}
+use Rattle.job_laws.specs.Passages.{AllMayPass, passing, stored_if, turned_by}
 use Rattle.job_laws.proofs.Listed.{given-leases}
 use Rattle.jobs_in_flight.specs.Jobs.{book_turned, job_at, job_exchanges, jobs_turned, stored, with_job, without_job, without_leases}
 use Rattle.orch_core.specs.Jobs.{turn_of}
 use Rattle.orch_core.specs.Polls.{empty_slots, reading, slot_at}
 use Rattle.orch_core.specs.Restarts.{last_given, reloaded_book}
 use Rattle.orch_core.specs.Runs.{step}
-use Rattle.orch_core.specs.States.{State, IsSlot}
+use Rattle.orch_core.specs.States.{State}
 use Rattle.flight_laws.specs.Flights.{by_job, flight_of, moment_at, passages_of, takes, takes_over}
-use Rattle.flight_laws.specs.Ready.{Ready}
-use Rattle.flight_laws.proofs.Outcomes.{Leaves-command}
+use Rattle.flight_laws.proofs.Outcomes.{Leaves-command, Leaves-scan}
+use Rattle.ready_laws.specs.Ready.{Ready}
+use Rattle.ready_laws.proofs.Ready.{settings-count}
 
 -- ---- a reading that is stored
 
@@ -86,14 +85,6 @@ module _ (s : State) (p : ℕ) (n : ServerNo) where
   pub poll-may : (known : Bool) → AllMayPass (flight_of s) (if known then pass.Polling p n (next_count s.reads) (moment_at s) ∷ [] else [])
   poll-may true = (tt, tt)
   poll-may false = tt
-
-  pub poll-slots : (count : ℕ) (known : Bool) → IsSlot count (Some (reading s n)) → All (IsSlot count) s.slots → All (IsSlot count) (if known then slice_set s.slots p (Some (reading s n)) else s.slots)
-  poll-slots count true here all = All-set (IsSlot count) s.slots p (Some (reading s n)) here all
-  poll-slots count false here all = all
-
-  pub poll-length : (known : Bool) → length (if known then slice_set s.slots p (Some (reading s n)) else s.slots) ≡ length s.slots
-  poll-length true = length-set s.slots p (Some (reading s n))
-  poll-length false = refl
 
 -- ---- a job's turn
 
@@ -189,10 +180,6 @@ rings-loaded settings last rows = rings-rows (empty_book settings) (counted (len
 pub leases-loaded : (settings : List Settings) (last : ℕ) (rows : List Row) → leases_of (loaded settings last rows).leases ≡ no_leases
 leases-loaded settings last rows = ap leases_of (leases-rows (empty_book settings) (counted (length settings) last rows)) ∙ none-leased (length settings)
 
--- the settings are as many as the names
-pub settings-count : (b : BookState) → IsBook b → length b.settings ≡ length b.names
-settings-count b is = sym (length-map b.settings (λ x. x.name)) ∙ sym (ap length is.named)
-
 restart-flown : (count : ℕ) (rows : List Row) (s : State) → Ready count s → flight_of (step rows s turn.Restart) ≡ passing (flight_of s) (pass.Restarting ∷ [])
 restart-flown count rows s ready =
     let b = s.book in
@@ -215,7 +202,7 @@ flown count rows s (turn.Join n link) ready is = refl
 flown count rows s (turn.Rotate n) ready is = refl
 flown count rows s (turn.Tick seconds) ready is = refl
 flown count rows s (turn.Job job) ready is = job-flown s job (job_at s.jobs job) refl
-flown count rows s turn.Scan ready is = refl
+flown count rows s turn.Scan ready is = (Leaves-scan count s ready).flown
 flown count rows s (turn.PollRead p n) ready is = poll-flown s p n (is_some (instance_at s.book n))
 flown count rows s (turn.PollStore p) ready is =
     ap (λ (l : List (Option ℕ)). record (flight_of s) { rings = (stored s.book (slot_at s p)).rings; slots = slice_set s.slots p None; leases = leases_of l }) (leases-stored s.book (slot_at s p))

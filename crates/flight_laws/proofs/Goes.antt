@@ -26,9 +26,9 @@ use Rattle.orch_core.specs.Runs.{step}
 use Rattle.orch_core.specs.States.{State}
 use Rattle.flight_laws.specs.Flights.{by_job, flight_of, moment_at, passages_of, takes}
 use Rattle.flight_laws.specs.Goes.{HeldState, SoundState}
-use Rattle.flight_laws.specs.Ready.{Ready}
 use Rattle.flight_laws.proofs.Flown.{flown, poll-may}
-use Rattle.flight_laws.proofs.Outcomes.{Leaves-command}
+use Rattle.flight_laws.proofs.Outcomes.{Leaves-command, Leaves-scan}
+use Rattle.ready_laws.specs.Ready.{Ready}
 
 -- ---- a job's turn
 
@@ -77,7 +77,7 @@ may-pass count s (turn.Join n link) ready held is = ((tt, tt), tt)
 may-pass count s (turn.Rotate n) ready held is = ((tt, tt), tt)
 may-pass count s (turn.Tick seconds) ready held is = tt
 may-pass count s (turn.Job job) ready held is = job-may s job held
-may-pass count s turn.Scan ready held is = tt
+may-pass count s turn.Scan ready held is = (Leaves-scan count s ready).may
 may-pass count s (turn.PollRead p n) ready held is = poll-may s p n (is_some (instance_at s.book n))
 may-pass count s (turn.PollStore p) ready held is = (tt, tt)
 may-pass count s (turn.Command c) ready held is = (Leaves-command count s c ready is).may
@@ -94,7 +94,7 @@ pass-well count s (turn.Join n link) ready held sound is = (tt, tt)
 pass-well count s (turn.Rotate n) ready held sound is = (tt, tt)
 pass-well count s (turn.Tick seconds) ready held sound is = tt
 pass-well count s (turn.Job job) ready held sound is = job-well s job held sound
-pass-well count s turn.Scan ready held sound is = tt
+pass-well count s turn.Scan ready held sound is = (Leaves-scan count s ready).well
 pass-well count s (turn.PollRead p n) ready held sound is = poll-well s p n (is_some (instance_at s.book n))
 pass-well count s (turn.PollStore p) ready held sound is = (tt, tt)
 pass-well count s (turn.Command c) ready held sound is = (Leaves-command count s c ready is).well
@@ -112,7 +112,7 @@ goes-held count rows s (turn.Join n link) ready held is = apart-held (flight_of 
 goes-held count rows s (turn.Rotate n) ready held is = apart-held (flight_of s) s.jobs (pass.Exchanging (Rotate n.0)) (tt, tt) tt held
 goes-held count rows s (turn.Tick seconds) ready held is = held
 goes-held count rows s (turn.Job job) ready held is = job-held s job held
-goes-held count rows s turn.Scan ready held is = held
+goes-held count rows s turn.Scan ready held is = (Leaves-scan count s ready).held held
 goes-held count rows s (turn.PollRead p n) ready held is = poll-held s p n held (is_some (instance_at s.book n))
 goes-held count rows s (turn.PollStore p) ready held is = apart-held (flight_of s) s.jobs (pass.Storing p (takes s.book (slot_at s p))) tt tt held
 goes-held count rows s (turn.Command c) ready held is = (Leaves-command count s c ready is).held held
@@ -130,7 +130,9 @@ goes-sound count rows s (turn.Join n link) ready held sound is quiet = apart-sou
 goes-sound count rows s (turn.Rotate n) ready held sound is quiet = apart-sound (flight_of s) s.jobs (pass.Exchanging (Rotate n.0)) (tt, tt) tt quiet held sound
 goes-sound count rows s (turn.Tick seconds) ready held sound is quiet = sound
 goes-sound count rows s (turn.Job job) ready held sound is quiet = job-sound s job held sound quiet
-goes-sound count rows s turn.Scan ready held sound is quiet = sound
+goes-sound count rows s turn.Scan ready held sound is quiet =
+    let leaves = Leaves-scan count s ready in
+    leaves.sound held sound (subst IsQuiet (sym (ap (λ (f : Flight). f.world) leaves.flown)) quiet)
 goes-sound count rows s (turn.PollRead p n) ready held sound is quiet = poll-sound s p n held sound (is_some (instance_at s.book n)) quiet
 goes-sound count rows s (turn.PollStore p) ready held sound is quiet = apart-sound (flight_of s) s.jobs (pass.Storing p (takes s.book (slot_at s p))) tt tt quiet held sound
 goes-sound count rows s (turn.Command c) ready held sound is quiet =

@@ -1,7 +1,7 @@
-pub mod Ready
+pub mod Listing
+pub mod Recoveries
 pub mod Outcomes
 pub mod Flown
-pub mod Readiness
 pub mod Openings
 pub mod Goes
 pub mod Routed

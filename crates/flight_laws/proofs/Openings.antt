@@ -1,6 +1,6 @@
 -- A run begins held and sound: the bridges of an opening are those that the servers show.
 use Rattle.std.proofs.Common.{◌≡◌, ◌∙◌, ◌⊎◌, ℕ, Bool, true, false, List, [], ◌∷◌, length, refl, sym, ap, subst, Option, Some, None, inl, inr}
-use Rattle.std.specs.Prelude.{All, IfSome, ◌&&◌, fold, is_none, replicate, slice_index_or, slice_set, if◌then◌else◌}
+use Rattle.std.specs.Prelude.{All, IfSome, ◌&&◌, is_none, slice_index_or, if◌then◌else◌}
 use Rattle.std.proofs.lemmas.List.Elements.{All-head, All-map, All-nil, All-replicate, All-set, All-tail}
 use Rattle.audit_log.specs.Audits.{closing}
 use Rattle.orch_base.specs.declared.rule.Rule.{Rule}

@@ -1,35 +1,30 @@
--- A command leaves what its passages leave.
+-- A command or a scan leaves what its passages leave.
 use Rattle.std.proofs.Common.{◌≡◌, ◌∙◌, ℕ, ◌+◌, ◌<◌, Bool, true, false, List, [], ◌∷◌, ◌++◌, length, refl, sym, ap, subst, Option, Some, None, Result, Ok, Err}
-use Rattle.std.specs.Prelude.{All, ◌&&◌, ◌||◌, ◌==◌, is_some, map, nat_lt, not, slice_set, if◌then◌else◌}
-use Rattle.std.proofs.lemmas.Bool.{eq-eqb, ltb-true}
-use Rattle.std.proofs.lemmas.List.Elements.{All-cons, All-head, All-nil, All-push, All-tail}
+use Rattle.std.specs.Prelude.{All, ◌&&◌, ◌==◌, is_some, map, nat_lt, not, if◌then◌else◌}
+use Rattle.std.proofs.lemmas.Bool.{ltb-true}
 use Rattle.orch_base.specs.declared.server.ServerNo.{ServerNo}
 use Rattle.orch_base.specs.Memory.{next_count}
 use Rattle.server_words.specs.declared.status.Status.{Status as Seen}
 use Rattle.instance_keeper.specs.declared.observation.Instance.{Instance}
 use Rattle.instance_keeper.specs.declared.observation.Observation.{Observation}
-use Rattle.instance_keeper.specs.Book.{BookState, IsBook, added_over, after_change, after_put, are_known, discovered_over, downtime_at, fits, instance_at, observed_servers, renewed, renewed_book, row_fits}
+use Rattle.instance_keeper.specs.Book.{BookState, IsBook, added_over, after_change, after_put, discovered_over, downtime_at, instance_at, renewed, renewed_book}
 use Rattle.instance_keeper.specs.declared.bridge.Bridge.{Bridge}
 use Rattle.instance_keeper.specs.Bridges.{bridge_in, ringed}
-use Rattle.instance_keeper.specs.Leases.{taken}
-use Rattle.instance_keeper.proofs.Books.{both_true, change_is, leases_set}
-use Rattle.std.proofs.lemmas.List.{length-set}
-use Rattle.opening_book.proofs.Following.{names-change}
 use Rattle.commands.specs.declared.line.Line.{Line}
 use Rattle.commands.specs.declared.refusal.Refusal.{Refusal}
-use Rattle.commands.specs.declared.refusal.Refusal.TheVariants.{Unreachable}
+use Rattle.commands.specs.declared.refusal.Refusal.TheVariants.{UnknownInstance, Unreachable}
 use Rattle.command_routes.specs.declared.route.Decision.{Decision}
 use Rattle.command_routes.specs.declared.route.Decision.TheVariants as decision
 use Rattle.command_routes.specs.declared.route.Planner.{Planner}
 use Rattle.command_routes.specs.declared.route.Planner.TheVariants.{Coordinates, Gtids, Paths, Regroups}
 use Rattle.command_routes.specs.declared.route.Route.{Route}
-use Rattle.command_routes.specs.declared.route.Route.TheVariants.{Discovers, Forgets, Asks, Decides, Begins, Unbuilt}
+use Rattle.command_routes.specs.declared.route.Route.TheVariants.{Discovers, Forgets, Asks, Decides, Begins, Recovers, TakesOver}
 use Rattle.command_routes.specs.Routes.{planner_of, route_of}
 use Rattle.command_jobs.specs.Jobs.{job_by, leases_by, planner_for, refusal_by, regroup_about}
-use Rattle.command_jobs.proofs.Begun.{job-number, job-ready}
+use Rattle.command_jobs.proofs.Begun.{job-number}
 use Rattle.commands.specs.declared.turn.Command.{Command}
 use Rattle.commands.specs.declared.turn.CommandTurn.{CommandTurn}
-use Rattle.commands.specs.Turns.{has_needed, is_within}
+use Rattle.commands.specs.Turns.{is_within}
 use Rattle.asking_commands.specs.Answers.{allowed, lines_of, permitted}
 use Rattle.audit_log.specs.Audits.{AuditState}
 use Rattle.book_commands.specs.declared.decided.Decided.{Decided}
@@ -45,7 +40,7 @@ use Rattle.instance_keeper.specs.declared.row.Row.{Row}
 use Rattle.instance_keeper.specs.declared.row.Row.TheVariants as row
 use Rattle.instance_keeper.specs.declared.row.Table.TheVariants as table
 use Rattle.job_laws.specs.Flights.{Flight, leased_to}
-use Rattle.job_laws.specs.Leases.{Begins as CanBegin, Leases, leases_of}
+use Rattle.job_laws.specs.Leases.{Begins as JobBegins, Leases, leases_of}
 use Rattle.job_laws.specs.Passages as pass
 use Rattle.job_laws.specs.Passages.{AllMayPass, AllPassWell, Passage, passing}
 use Rattle.job_laws.proofs.Listed.{taken-leases}
@@ -61,46 +56,44 @@ use Rattle.book_views.specs.Sources.{replicas_of}
 use Rattle.std.specs.List.{list_any}
 use Rattle.server_model.specs.Safe.{IsQuiet}
 use Rattle.server_model.specs.Worlds.{World}
-use Rattle.orch_core.specs.Commands.{Outcome, about as given_or, asked, begun, decided, discovered, forgotten, jobs_updated, outcome_by, outcome_of, question, refusal, removal, removal_refusal, updated}
-use Rattle.orch_core.specs.Polls.{command_outcome, numbers_of, reading}
+use Rattle.recovery_core.proofs.Beginning.{recovery-begins, takeover-begins}
+use Rattle.recovery_core.proofs.InTurn.{scan-in-turn}
+use Rattle.recovery_core.specs.Begun.{BeginInTurn, CanBegin, leases_after}
+use Rattle.recovery_core.specs.Scans.{attempt_of}
+use Rattle.recovery_core.specs.Tries.{Begins as RecoveryBegins, recovery_try, takeover_try}
+use Rattle.orch_core.specs.Commands.{Outcome, about as given_or, asked, begun, by_hand, decided, discovered, forgotten, jobs_updated, outcome_by, outcome_of, question, recovered, recovery_begun, recovery_job, refusal, removal_refusal, taken_over, terms_of, updated}
+use Rattle.orch_core.specs.Polls.{command_outcome, numbers_of, reading, scan_outcome}
 use Rattle.orch_core.specs.States.{State}
 use Rattle.orch_core.proofs.Beginnings.{may-take}
-use Rattle.orch_core.proofs.States.{names-over, one_known, reading_known}
 use Rattle.scenarios.specs.Turns.{IsCommand}
-use Rattle.flight_laws.specs.Flights.{by_command, by_discovery, by_instance, by_permission, by_removal, by_route, flight_of, moment_at, takes_first}
+use Rattle.flight_laws.specs.Flights.{begun_in_scan, by_command, by_discovery, by_instance, by_permission, by_recoveries, by_recovery, by_removal, by_route, by_takeover, by_try, flight_of, moment_at, takes_first}
 use Rattle.flight_laws.specs.Goes.{HeldState, SoundState}
-use Rattle.flight_laws.specs.Ready.{Ready}
+use Rattle.ready_laws.specs.Ready.{Ready}
+use Rattle.ready_laws.proofs.Outcomes.{within-book}
 use Rattle.flight_laws.proofs.Routed.{regroups-only}
-use Rattle.unended_jobs.specs.Unended.{IsReady, core_of, number_of}
+use Rattle.unended_jobs.specs.Unended.{core_of, number_of}
 use Rattle.unended_laws.specs.Beside.{IsHeldBeside, IsSoundBeside}
 use Rattle.unended_laws.specs.Flights.{HeldJobs, SoundJobs}
 use Rattle.unended_laws.proofs.Cores.{cores-joined}
-use Rattle.unended_laws.specs.Passages.{IsListed}
 use Rattle.unended_laws.proofs.Beside.{apart-held, apart-sound}
 use Rattle.unended_laws.proofs.Begun.{begin-held, begin-sound, recovery-held, recovery-sound}
-use Rattle.flight_laws.proofs.Ready.{IsBook-discovered}
+use Rattle.flight_laws.proofs.Listing.{listed-behind}
+use Rattle.flight_laws.proofs.Recoveries.{recoveries-flown, recoveries-held, recoveries-may, recoveries-sound, recoveries-well}
 
 -- what an outcome makes of a flight
 abbrev flight_with : State → Outcome → Flight
 flight_with s o = record (flight_of s) { rings = (updated s.book o.book).rings; jobs = map core_of (jobs_updated s.jobs o.book); leases = leases_of (updated s.book o.book).leases }
 
--- an outcome leaves what the passages leave, each of which may pass; the book stays one, and each job is of its servers; and
--- all that goes on beside stays held, and sound where it is
+-- an outcome leaves what the passages leave, each of which may pass, and passes well; and all that goes on beside stays held, and
+-- sound where it is
 pub record Leaves (s : State) (ps : List Passage) (o : Outcome) : Type 0 where
   pub flown : flight_with s o ≡ passing (flight_of s) ps
   pub may : AllMayPass (flight_of s) ps
-  pub book : IsBook (updated s.book o.book)
-  pub names : (updated s.book o.book).names ≡ s.book.names
-  pub jobs : All (IsReady (length s.book.names)) (jobs_updated s.jobs o.book)
   pub well : AllPassWell (flight_of s) ps
   pub held : HeldState s → HeldJobs (passing (flight_of s) ps) (jobs_updated s.jobs o.book)
   pub sound : HeldState s → SoundState s → IsQuiet s.world → SoundJobs (passing (flight_of s) ps) (jobs_updated s.jobs o.book)
 
 -- ---- readings that the book takes
-
-added-names : (b : BookState) (o : Observation) (x : Option Seen) → (added_over b o x).names ≡ b.names
-added-names b o None = refl
-added-names b o (Some seen) = refl
 
 added-rings : (b : BookState) (o : Observation) (x : Option Seen) → (added_over b o x).rings ≡ ringed b.rings o.no (bridge_in o.no x)
 added-rings b o None = refl
@@ -109,10 +102,6 @@ added-rings b o (Some seen) = refl
 added-leases : (b : BookState) (o : Observation) (x : Option Seen) → (added_over b o x).leases ≡ b.leases
 added-leases b o None = refl
 added-leases b o (Some seen) = refl
-
-found-names : (b : BookState) (o : Observation) (x : Option Instance) → (discovered_over b o x).names ≡ b.names
-found-names b o None = added-names b o o.seen
-found-names b o (Some kept) = names-over b o (Some kept)
 
 -- a flight with the bridges and leases of a book
 abbrev pub kept_in : Flight → List (List Bridge) → List (Option ℕ) → Flight
@@ -131,46 +120,42 @@ found-flown f b o (Some kept) = go (nat_lt o.read kept.read)
     go true = refl
     go false = refl
 
-pub length-taken : (list : List ServerNo) (leases : List (Option ℕ)) (id : ℕ) → length (taken leases list id) ≡ length leases
-length-taken [] leases id = refl
-length-taken (k ∷ ks) leases id = length-taken ks (slice_set leases k.0 (Some id)) id ∙ length-set leases k.0 (Some id)
-
--- an effect leaves bridges and leases, and the book takes it
+-- an effect leaves bridges and leases
 abbrev IsStill : BookState → Effect → Type 0
 IsStill b effect.Stays = Unit {0}
-IsStill b (effect.Change c) = ((after_change b c).rings ≡ b.rings) × ((after_change b c).leases ≡ b.leases) × (fits (length b.names) c ≡ true)
+IsStill b (effect.Change c) = ((after_change b c).rings ≡ b.rings) × ((after_change b c).leases ≡ b.leases)
 IsStill b (effect.Acks cluster) = Unit {0}
 
 module _ (b : BookState) where
-  put-still : (r : Row) → (after_put b r).rings ≡ b.rings → (after_put b r).leases ≡ b.leases → row_fits (length b.names) r ≡ true → IsStill b (effect_by (put_change b r))
-  put-still r rings leases fit = go (has_row b r)
+  put-still : (r : Row) → (after_put b r).rings ≡ b.rings → (after_put b r).leases ≡ b.leases → IsStill b (effect_by (put_change b r))
+  put-still r rings leases = go (has_row b r)
     where
       go : (had : Bool) → IsStill b (effect_by (if had then None else Some (change.Put r)))
       go true = tt
-      go false = (rings, leases, fit)
+      go false = (rings, leases)
 
-  removal-still : (i : ServerNo) → i.0 < length b.names → IsStill b (effect_by (downtime_removal b i))
-  removal-still i within = go (is_some (downtime_at b i (record { 0 = 0 })))
+  removal-still : (i : ServerNo) → IsStill b (effect_by (downtime_removal b i))
+  removal-still i = go (is_some (downtime_at b i (record { 0 = 0 })))
     where
       go : (kept : Bool) → IsStill b (effect_by (if kept then Some (change.Remove table.Downtime (key.Server i)) else None))
-      go true = (refl, refl, one_known (length b.names) i.0 within)
+      go true = (refl, refl)
       go false = tt
 
-  about-still : (f : ServerNo → Decided) → ((i : ServerNo) → i.0 < length b.names → IsStill b (f i).effect) → (i : Option ServerNo) → is_within (length b.names) i ≡ true → IsStill b (about f i).effect
-  about-still f each None within = tt
-  about-still f each (Some i) within = each i (ltb-true i.0 (length b.names) within)
+  about-still : (f : ServerNo → Decided) → ((i : ServerNo) → IsStill b (f i).effect) → (i : Option ServerNo) → IsStill b (about f i).effect
+  about-still f each None = tt
+  about-still f each (Some i) = each i
 
-  decided-still : (a : AuditState) (now : Moment) (k : Keys) (i : Option ServerNo) (d : Decision) → is_within (length b.names) i ≡ true → IsStill b (decided_of b a now k i d).effect
-  decided-still a now k i decision.BeginDowntime within = about-still (λ n. downtime_begun b (downtime_of now k n)) (λ n h. put-still (row.Downtime (downtime_of now k n)) refl refl (one_known (length b.names) n.0 h)) i within
-  decided-still a now k i decision.EndDowntime within = about-still (downtime_ended b) removal-still i within
-  decided-still a now k i decision.RegisterCandidate within = about-still (λ n. registered b (candidate_of now k n)) (λ n h. put-still (row.Candidate (candidate_of now k n)) refl refl (one_known (length b.names) n.0 h)) i within
-  decided-still a now k i decision.DisableRecoveries within = put-still (row.Switch false) refl refl refl
-  decided-still a now k i decision.EnableRecoveries within = put-still (row.Switch true) refl refl refl
-  decided-still a now k i decision.AckRecoveries within = about-still (acked b a) (λ n h. tt) i within
+  decided-still : (a : AuditState) (now : Moment) (k : Keys) (i : Option ServerNo) (d : Decision) → IsStill b (decided_of b a now k i d).effect
+  decided-still a now k i decision.BeginDowntime = about-still (λ n. downtime_begun b (downtime_of now k n)) (λ n. put-still (row.Downtime (downtime_of now k n)) refl refl) i
+  decided-still a now k i decision.EndDowntime = about-still (downtime_ended b) removal-still i
+  decided-still a now k i decision.RegisterCandidate = about-still (λ n. registered b (candidate_of now k n)) (λ n. put-still (row.Candidate (candidate_of now k n)) refl refl) i
+  decided-still a now k i decision.DisableRecoveries = put-still (row.Switch false) refl refl
+  decided-still a now k i decision.EnableRecoveries = put-still (row.Switch true) refl refl
+  decided-still a now k i decision.AckRecoveries = about-still (acked b a) (λ n. tt) i
 
 -- the job of a command that isn't refused may begin: a regroup has no operations yet
 permitted-begin : (w : World) (b : BookState) (now : Moment) (js : List Job) (c : Command) (p : Planner) (id wait : ℕ) → refusal_by w b now c p ≡ None
-    → CanBegin w js (leases_of b.leases) (leases_by w b c p) (core_of (job_by w b c p id wait))
+    → JobBegins w js (leases_of b.leases) (leases_by w b c p) (core_of (job_by w b c p id wait))
 permitted-begin w b now js c Coordinates id wait h = coords.permitted-begin w b js c id wait h
 permitted-begin w b now js c Gtids id wait h = gtids.permitted-begin w b js c id wait h
 permitted-begin w b now js c Paths id wait h = paths.permitted-begin w b now js c id wait h
@@ -179,26 +164,9 @@ permitted-begin w b now js c Regroups id wait h = go c.i
     free : (n : ℕ) → list_any (λ k. k.0 == n) (leases_by w b c Regroups) ≡ true → leases_of b.leases n ≡ None
     free = (paths.permitted-begin w b now js c id wait h).free
 
-    go : (i : Option ServerNo) → CanBegin w js (leases_of b.leases) (leases_by w b c Regroups) (core_of (regroup_about b id wait i))
+    go : (i : Option ServerNo) → JobBegins w js (leases_of b.leases) (leases_by w b c Regroups) (core_of (regroup_about b id wait i))
     go None = record { seen = refl; hands = refl; left = refl; listed = refl; free = free }
     go (Some i) = record { seen = refl; hands = refl; left = refl; listed = refl; free = free }
-
--- servers are of their own list, whatever stands before it
-listed-more : (ns list : List ServerNo) (k : ServerNo) → All (λ n. IsListed list n.0) ns → All (λ n. IsListed (k ∷ list) n.0) ns
-listed-more [] list k all = All-nil (λ n. IsListed (k ∷ list) n.0)
-listed-more (n ∷ ns) list k all =
-    All-cons (λ m. IsListed (k ∷ list) m.0) n ns (go (k.0 == n.0) (All-head (λ m. IsListed list m.0) n ns all)) (listed-more ns list k (All-tail (λ m. IsListed list m.0) n ns all))
-  where
-    go : (b : Bool) → IsListed list n.0 → (b || list_any (λ m. m.0 == n.0) list) ≡ true
-    go true h = refl
-    go false h = h
-
-listed-self : (ns : List ServerNo) → All (λ n. IsListed ns n.0) ns
-listed-self [] = All-nil (λ n. IsListed [] n.0)
-listed-self (n ∷ ns) = All-cons (λ m. IsListed (n ∷ ns) m.0) n ns (ap (λ (b : Bool). b || list_any (λ m. m.0 == n.0) ns) (eq-eqb n.0 n.0 refl)) (listed-more ns ns n (listed-self ns))
-
-listed-behind : (k : ServerNo) (ns : List ServerNo) → All (λ n. IsListed (k ∷ ns) n.0) ns
-listed-behind k ns = listed-more ns ns k (listed-self ns)
 
 -- a regroup has the leases of the replicas
 regroup-beside : (w : World) (b : BookState) (l : Leases) (c : Command) (id wait : ℕ) (i d : Option ServerNo)
@@ -224,36 +192,28 @@ job-sound w b c Gtids id wait = tt
 job-sound w b c Paths id wait = tt
 job-sound w b c Regroups id wait = regroup-sound w b id wait c.i
 
-module _ (s : State) (is : IsBook s.book) (jobs : All (IsReady (length s.book.names)) s.jobs) where
+module _ (s : State) where
+  -- what changes neither bridges nor leases nor jobs passes nothing
   Leaves-refusal : (reads : ℕ) (r : Refusal) → Leaves s [] (refusal reads r)
-  Leaves-refusal reads r = record { flown = refl; may = tt; book = is; names = refl; jobs = jobs; well = tt; held = λ h. h; sound = λ h x q. x }
+  Leaves-refusal reads r = record { flown = refl; may = tt; well = tt; held = λ h. h; sound = λ h x q. x }
 
   Leaves-asked : (reads : ℕ) (p : Result Unit Refusal) (lines : List Line) → Leaves s [] (asked reads p lines)
-  Leaves-asked reads (Ok permit) lines = record { flown = refl; may = tt; book = is; names = refl; jobs = jobs; well = tt; held = λ h. h; sound = λ h x q. x }
+  Leaves-asked reads (Ok permit) lines = record { flown = refl; may = tt; well = tt; held = λ h. h; sound = λ h x q. x }
   Leaves-asked reads (Err r) lines = Leaves-refusal reads r
 
-  Leaves-forgotten : (reads : ℕ) (p : Result Unit Refusal) (i : ServerNo) → i.0 < length s.book.names → Leaves s (by_removal p i) (forgotten reads p i)
-  Leaves-forgotten reads (Ok permit) i within = record {
+  Leaves-forgotten : (reads : ℕ) (p : Result Unit Refusal) (i : ServerNo) → Leaves s (by_removal p i) (forgotten reads p i)
+  Leaves-forgotten reads (Ok permit) i = record {
     flown = refl;
     may = (tt, tt);
-    book = change_is s.book (removal i) is (one_known (length s.book.names) i.0 within);
-    names = names-change s.book (removal i);
-    jobs = jobs;
     well = (tt, tt);
     held = apart-held (flight_of s) s.jobs (pass.Forgetting i) tt tt;
     sound = λ h x q. apart-sound (flight_of s) s.jobs (pass.Forgetting i) tt tt q h x;
   }
-  Leaves-forgotten reads (Err r) i within = Leaves-refusal reads r
+  Leaves-forgotten reads (Err r) i = Leaves-refusal reads r
 
-  Leaves-discovered : (i : ServerNo) → are_known (length s.book.names) (observed_servers (reading s i)) ≡ true → Leaves s (by_discovery s i) (discovered s.book s.reads (reading s i) (reading s i).seen)
-  Leaves-discovered i known = at (reading s i).seen
+  Leaves-discovered : (i : ServerNo) → Leaves s (by_discovery s i) (discovered s.book s.reads (reading s i) (reading s i).seen)
+  Leaves-discovered i = at (reading s i).seen
     where
-      o : Observation
-      o = reading s i
-
-      passage : Passage
-      passage = pass.Discovering i (next_count s.reads) (record { 0 = s.moment })
-
       passed-if : (b : Bool) → (if b then kept_in (flight_of s) (ringed s.book.rings i (bridge_in i (reading s i).seen)) s.book.leases else kept_in (flight_of s) s.book.rings s.book.leases)
           ≡ passing (flight_of s) (if b then pass.Discovering i (next_count s.reads) (record { 0 = s.moment }) ∷ [] else [])
       passed-if true = refl
@@ -280,9 +240,6 @@ module _ (s : State) (is : IsBook s.book) (jobs : All (IsReady (length s.book.na
       at (Some seen) = record {
         flown = found-flown (flight_of s) s.book (reading s i) (instance_at s.book i) ∙ passed-if (takes_first (instance_at s.book i) (reading s i));
         may = may-if (takes_first (instance_at s.book i) (reading s i));
-        book = IsBook-discovered s.book (reading s i) is known;
-        names = found-names s.book (reading s i) (instance_at s.book i);
-        jobs = jobs;
         well = well-if (takes_first (instance_at s.book i) (reading s i));
         held = held-if (takes_first (instance_at s.book i) (reading s i));
         sound = sound-if (takes_first (instance_at s.book i) (reading s i));
@@ -290,28 +247,26 @@ module _ (s : State) (is : IsBook s.book) (jobs : All (IsReady (length s.book.na
 
   -- a decision
   Leaves-effect : (reads : ℕ) (a : AuditState) (lines : List Line) (e : Effect) → IsStill s.book e → Leaves s [] (decided reads a (Ok tt) (record { lines = lines; effect = e }))
-  Leaves-effect reads a lines effect.Stays still = record { flown = refl; may = tt; book = is; names = refl; jobs = jobs; well = tt; held = λ h. h; sound = λ h x q. x }
+  Leaves-effect reads a lines effect.Stays still = record { flown = refl; may = tt; well = tt; held = λ h. h; sound = λ h x q. x }
   Leaves-effect reads a lines (effect.Change c) still = record {
     flown = kept-same (flight_of s) _ _ _ _ still.0 still.1;
     may = tt;
-    book = change_is s.book c is still.2;
-    names = names-change s.book c;
-    jobs = jobs;
     well = tt;
     held = λ h. h;
     sound = λ h x q. x;
   }
-  Leaves-effect reads a lines (effect.Acks cluster) still = record { flown = refl; may = tt; book = is; names = refl; jobs = jobs; well = tt; held = λ h. h; sound = λ h x q. x }
+  Leaves-effect reads a lines (effect.Acks cluster) still = record { flown = refl; may = tt; well = tt; held = λ h. h; sound = λ h x q. x }
 
   Leaves-decided : (reads : ℕ) (a : AuditState) (p : Result Unit Refusal) (d : Decided) → IsStill s.book d.effect → Leaves s [] (decided reads a p d)
   Leaves-decided reads a (Ok permit) d still = Leaves-effect reads a d.lines d.effect still
   Leaves-decided reads a (Err r) d still = Leaves-refusal reads r
 
+module _ (s : State) (is : IsBook s.book) where
   -- a job begins
   Leaves-begun : (t : CommandTurn) (p : Planner) (r : Option Refusal) → planner_for t.command.name ≡ Some p → refusal_by s.world s.book (moment_at s) t.command p ≡ r
       → is_within (length s.book.names) t.command.i ≡ true → is_within (length s.book.names) t.command.d ≡ true
       → Leaves s (by_permission s t.command p r) (begun (numbers_of s) r (leases_by s.world s.book t.command p) (job_by s.world s.book t.command p (s.last_job + 1) s.configuration.wait))
-  Leaves-begun t p (Some why) by refuses i_within d_within = Leaves-refusal s.reads why
+  Leaves-begun t p (Some why) by refuses i_within d_within = Leaves-refusal s s.reads why
   Leaves-begun t p None by refuses i_within d_within =
       let list = leases_by s.world s.book t.command p in
       let job = job_by s.world s.book t.command p (s.last_job + 1) s.configuration.wait in
@@ -327,47 +282,86 @@ module _ (s : State) (is : IsBook s.book) (jobs : All (IsReady (length s.book.na
         flown = ap (λ (l : ℕ → Option ℕ). record (flight_of s) { jobs = map core_of (s.jobs ++ job ∷ []); leases = l }) (taken-leases s.book.leases list (number_of job) there)
             ∙ ap (λ (js : List Job). record (flight_of s) { jobs = js; leases = leased_to (leases_of s.book.leases) list (number_of job) }) (cores-joined s.jobs job);
         may = (may, tt);
-        book = leases_set s.book (taken s.book.leases list (number_of job)) is (length-taken list s.book.leases (number_of job));
-        names = refl;
-        jobs = All-push (IsReady (length s.book.names)) s.jobs job jobs (job-ready s.world s.book t.command is i_within d_within p (s.last_job + 1) s.configuration.wait);
         well = (tt, tt);
         held = begin-held (flight_of s) s.jobs list job may beside;
         sound = λ h x q. begin-sound (flight_of s) s.jobs list job may good h x;
       }
 
+  -- recoveries begin
+  module _ (xs : List RecoveryBegins) (each : BeginInTurn (length s.book.names) s.book.leases s.audit s.last_job xs) where
+    begun-flown : record (flight_of s) { jobs = map core_of (s.jobs ++ map recovery_job xs); leases = leases_of (leases_after s.book.leases xs) } ≡ passing (flight_of s) (by_recoveries xs)
+    begun-flown = recoveries-flown (length s.book.names) (flight_of s) s.jobs s.book.leases s.audit s.last_job xs each is.leases
+
+    begun-may : AllMayPass (flight_of s) (by_recoveries xs)
+    begun-may = recoveries-may (length s.book.names) (flight_of s) s.book.leases s.audit s.last_job xs each is.leases refl
+
+    begun-held : HeldState s → HeldJobs (passing (flight_of s) (by_recoveries xs)) (s.jobs ++ map recovery_job xs)
+    begun-held = recoveries-held (length s.book.names) (flight_of s) s.jobs s.book.leases s.audit s.last_job xs each is.leases refl
+
+    begun-sound : HeldState s → SoundState s → IsQuiet s.world → SoundJobs (passing (flight_of s) (by_recoveries xs)) (s.jobs ++ map recovery_job xs)
+    begun-sound h x q = recoveries-sound (length s.book.names) (flight_of s) s.jobs s.book.leases s.audit s.last_job xs each is.leases refl h x
+
+  Leaves-recovery : (r : Result RecoveryBegins Refusal) → ((x : RecoveryBegins) → r ≡ Ok x → CanBegin (length s.book.names) s.book.leases s.audit s.last_job x)
+      → Leaves s (by_try r) (recovery_begun (numbers_of s) r)
+  Leaves-recovery (Ok x) can =
+      let xs = x ∷ [] in
+      let each : BeginInTurn (length s.book.names) s.book.leases s.audit s.last_job xs = (can x refl, tt) in
+      record { flown = begun-flown xs each; may = begun-may xs each; well = recoveries-well (flight_of s) xs; held = begun-held xs each; sound = begun-sound xs each }
+  Leaves-recovery (Err why) can = Leaves-refusal s s.reads why
+
+  Leaves-recovered : (i : ServerNo) → i.0 < length s.book.names → Leaves s (by_recovery s i) (recovered s.world s.book s.audit (numbers_of s) i)
+  Leaves-recovered i within =
+      Leaves-recovery (recovery_try s.world s.book s.audit (by_hand (numbers_of s)) s.configuration.wait (s.last_job + 1) i)
+      (λ x e. recovery-begins s.world s.book s.audit (by_hand (numbers_of s)) s.configuration.wait s.last_job is i x within e)
+
+  Leaves-taken_over : (d : Option ServerNo) → is_within (length s.book.names) d ≡ true → (i : ServerNo) → i.0 < length s.book.names
+      → Leaves s (by_takeover s d i) (taken_over s.world s.book s.audit (numbers_of s) d i)
+  Leaves-taken_over None there i within = Leaves-refusal s s.reads UnknownInstance
+  Leaves-taken_over (Some d) there i within =
+      Leaves-recovery (takeover_try s.world s.book s.audit (by_hand (numbers_of s)) s.configuration.wait (s.last_job + 1) i d)
+      (λ x e. takeover-begins s.world s.book s.audit (by_hand (numbers_of s)) s.configuration.wait s.last_job is i d x within (ltb-true d.0 (length s.book.names) there) e)
+
+  -- ---- a scan
+
+  scan-leaves : Leaves s (by_recoveries (begun_in_scan s)) (scan_outcome s)
+  scan-leaves =
+      let attempt = attempt_of s.configuration.master s.configuration.intermediate (terms_of s.book (numbers_of s)) in
+      let xs = begun_in_scan s in
+      let each = scan-in-turn s.world s.book attempt s.configuration.wait s.audit s.last_job is in
+      record { flown = begun-flown xs each; may = begun-may xs each; well = recoveries-well (flight_of s) xs; held = begun-held xs each; sound = begun-sound xs each }
+
   -- ---- any command
 
-  module _ (t : CommandTurn) (i_within : is_within (length s.book.names) t.command.i ≡ true) (d_within : is_within (length s.book.names) t.command.d ≡ true)
-      (reads : (i : ServerNo) → i.0 < length s.book.names → are_known (length s.book.names) (observed_servers (reading s i)) ≡ true) where
+  module _ (t : CommandTurn) (i_within : is_within (length s.book.names) t.command.i ≡ true) (d_within : is_within (length s.book.names) t.command.d ≡ true) where
     asks : Leaves s [] (question s.book s.audit s.reads t)
-    asks = Leaves-asked s.reads (permitted s.book t.command) (lines_of s.book s.audit.recoveries t t.command.name)
+    asks = Leaves-asked s s.reads (permitted s.book t.command) (lines_of s.book s.audit.recoveries t t.command.name)
 
-    given : (passages : ServerNo → List Passage) (some : ServerNo → Outcome) → ((i : ServerNo) → i.0 < length s.book.names → Leaves s (passages i) (some i)) → (i : Option ServerNo) → is_within (length s.book.names) i ≡ true
-        → Leaves s (by_instance passages i) (given_or (question s.book s.audit s.reads t) some i)
-    given passages some each None within = asks
-    given passages some each (Some i) within = each i (ltb-true i.0 (length s.book.names) within)
+    given : (none : Outcome) (passages : ServerNo → List Passage) (some : ServerNo → Outcome) → Leaves s [] none → ((i : ServerNo) → i.0 < length s.book.names → Leaves s (passages i) (some i))
+        → (i : Option ServerNo) → is_within (length s.book.names) i ≡ true → Leaves s (by_instance passages i) (given_or none some i)
+    given none passages some here each None within = here
+    given none passages some here each (Some i) within = each i (ltb-true i.0 (length s.book.names) within)
 
     Leaves-route : (r : Route) → route_of t.command.name ≡ r → Leaves s (by_route s t.command r) (outcome_by s.world s.book s.audit (numbers_of s) t r)
-    Leaves-route Discovers at = given (by_discovery s) (λ i. discovered s.book s.reads (reading s i) (reading s i).seen) (λ i h. Leaves-discovered i (reads i h)) t.command.i i_within
+    Leaves-route Discovers at =
+        given (question s.book s.audit s.reads t) (by_discovery s) (λ i. discovered s.book s.reads (reading s i) (reading s i).seen) asks (λ i h. Leaves-discovered s i) t.command.i i_within
     Leaves-route Forgets at =
-        given (by_removal (allowed (removal_refusal s.book t.command))) (forgotten s.reads (allowed (removal_refusal s.book t.command))) (Leaves-forgotten s.reads (allowed (removal_refusal s.book t.command))) t.command.i i_within
+        given (question s.book s.audit s.reads t) (by_removal (allowed (removal_refusal s.book t.command))) (forgotten s.reads (allowed (removal_refusal s.book t.command))) asks
+        (λ i h. Leaves-forgotten s s.reads (allowed (removal_refusal s.book t.command)) i) t.command.i i_within
     Leaves-route (Asks q) at = asks
     Leaves-route (Decides d) at =
-        Leaves-decided s.reads s.audit (permitted s.book t.command) (decided_of s.book s.audit (moment_at s) t.keys t.command.i d) (decided-still s.book s.audit (moment_at s) t.keys t.command.i d i_within)
+        Leaves-decided s s.reads s.audit (permitted s.book t.command) (decided_of s.book s.audit (moment_at s) t.keys t.command.i d) (decided-still s.book s.audit (moment_at s) t.keys t.command.i d)
     Leaves-route (Begins p) at = Leaves-begun t p (refusal_by s.world s.book (moment_at s) t.command p) (ap planner_of at) refl i_within d_within
-    Leaves-route Unbuilt at = asks
-
-pub within-both : (count : ℕ) (c : CommandTurn) → IsCommand count c → (is_within count c.command.i ≡ true) × (is_within count c.command.d ≡ true)
-within-both count c command =
-    let both = both_true (has_needed c && is_within count c.command.i) (is_within count c.command.d) command.fits in
-    ((both_true (has_needed c) (is_within count c.command.i) both.0).1, both.1)
+    Leaves-route Recovers at =
+        given (refusal s.reads UnknownInstance) (by_recovery s) (recovered s.world s.book s.audit (numbers_of s)) (Leaves-refusal s s.reads UnknownInstance) Leaves-recovered t.command.i i_within
+    Leaves-route TakesOver at =
+        given (refusal s.reads UnknownInstance) (by_takeover s t.command.d) (taken_over s.world s.book s.audit (numbers_of s) t.command.d) (Leaves-refusal s s.reads UnknownInstance)
+        (Leaves-taken_over t.command.d d_within) t.command.i i_within
 
 pub Leaves-command : (count : ℕ) (s : State) (c : CommandTurn) → Ready count s → IsCommand count c → Leaves s (by_command s c.command) (command_outcome s c)
 unfolding outcome_of
 Leaves-command count s c ready command =
-    let named : All (IsReady (length s.book.names)) s.jobs = subst (λ (n : ℕ). All (IsReady n) s.jobs) (sym ready.names) ready.jobs in
-    let within = subst (λ (n : ℕ). (is_within n c.command.i ≡ true) × (is_within n c.command.d ≡ true)) (sym ready.names) (within-both count c command) in
-    let same : length s.world.servers ≡ length s.book.names = ready.servers ∙ sym ready.names in
-    let reads : (i : ServerNo) → i.0 < length s.book.names → are_known (length s.book.names) (observed_servers (reading s i)) ≡ true =
-    λ i here. subst (λ (n : ℕ). are_known n (observed_servers (reading s i)) ≡ true) same (reading_known s.world i (next_count s.reads) s.moment ready.sources (subst (λ (n : ℕ). i.0 < n) (sym same) here)) in
-    Leaves-route s ready.book named c within.0 within.1 reads (route_of c.command.name) refl
+    let within = within-book count s ready c command in
+    Leaves-route s ready.book c within.0 within.1 (route_of c.command.name) refl
+
+pub Leaves-scan : (count : ℕ) (s : State) → Ready count s → Leaves s (by_recoveries (begun_in_scan s)) (scan_outcome s)
+Leaves-scan count s ready = scan-leaves s ready.book

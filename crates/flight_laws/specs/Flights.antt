@@ -9,15 +9,17 @@ use Rattle.instance_keeper.specs.Book.{BookState, instance_at}
 use Rattle.commands.specs.declared.refusal.Refusal.{Refusal}
 use Rattle.command_routes.specs.declared.route.Planner.{Planner}
 use Rattle.command_routes.specs.declared.route.Route.{Route}
-use Rattle.command_routes.specs.declared.route.Route.TheVariants.{Discovers, Forgets, Asks, Decides, Begins, Unbuilt}
+use Rattle.command_routes.specs.declared.route.Route.TheVariants.{Discovers, Forgets, Asks, Decides, Begins, Recovers, TakesOver}
 use Rattle.command_routes.specs.Routes.{route_of}
-use Rattle.command_jobs.specs.Jobs.{job_by, job_for, leases_by, leases_with, planner_for, refusal_by}
+use Rattle.command_jobs.specs.Jobs.{job_by, leases_by, refusal_by}
 use Rattle.commands.specs.declared.turn.Command.{Command}
 use Rattle.asking_commands.specs.Answers.{allowed}
 use Rattle.server_words.specs.declared.changes.Event.TheVariants as event
 use Rattle.server_model.specs.Run.{Write, Fetch, Apply, Befall, Rotate}
 use Rattle.turns.specs.declared.turn.Turn.{Turn}
 use Rattle.turns.specs.declared.turn.Turn.TheVariants as turn
+use Rattle.recovery_core.specs.Scans.{attempt_of, scanned}
+use Rattle.recovery_core.specs.Tries.{Begins as RecoveryBegins, recovery_try, takeover_try}
 use Rattle.unended_jobs.specs.declared.unended.Unended.{Unended}
 use Rattle.unended_jobs.specs.Unended.{core_of}
 use Rattle.unended_laws.specs.Passages.{passages_by}
@@ -25,9 +27,9 @@ use Rattle.job_laws.specs.Flights.{Flight}
 use Rattle.job_laws.specs.Leases.{leases_of}
 use Rattle.job_laws.specs.Passages.{Passage}
 use Rattle.job_laws.specs.Passages as pass
-use Rattle.orch_core.specs.Commands.{removal_refusal}
+use Rattle.orch_core.specs.Commands.{by_hand, recovery_job, removal_refusal, terms_of}
 use Rattle.jobs_in_flight.specs.Jobs.{job_at}
-use Rattle.orch_core.specs.Polls.{reading, slot_at}
+use Rattle.orch_core.specs.Polls.{numbers_of, reading, slot_at}
 use Rattle.orch_core.specs.States.{State}
 
 -- what is kept beside the instances: the servers, the bridges, the slots, of each job the operations that are left, of a recovery
@@ -75,16 +77,31 @@ abbrev pub by_instance : (ServerNo → List Passage) → Option ServerNo → Lis
 by_instance some None = []
 by_instance some (Some i) = some i
 
--- the job that a command begins, and the servers of which that job takes the leases
-abbrev pub job_begun : State → Command → Unended
-job_begun s c = job_for s.world s.book c (planner_for c.name) (s.last_job + 1) s.configuration.wait
-
-abbrev pub leases_begun : State → Command → List ServerNo
-leases_begun s c = leases_with s.world s.book c (planner_for c.name)
-
 abbrev pub by_permission : State → Command → Planner → Option Refusal → List Passage
 by_permission s c p None = pass.Beginning (leases_by s.world s.book c p) (core_of (job_by s.world s.book c p (s.last_job + 1) s.configuration.wait)) ∷ []
 by_permission s c p (Some r) = []
+
+-- recoveries that begin one after another
+abbrev pub by_recoveries : List RecoveryBegins → List Passage
+by_recoveries xs = map (λ x. pass.Beginning x.list (core_of (recovery_job x))) xs
+
+-- one that is tried
+abbrev pub by_try : Result RecoveryBegins Refusal → List Passage
+by_try (Ok x) = by_recoveries (x ∷ [])
+by_try (Err r) = []
+
+abbrev pub by_recovery : State → ServerNo → List Passage
+by_recovery s f = by_try (recovery_try s.world s.book s.audit (by_hand (numbers_of s)) s.configuration.wait (s.last_job + 1) f)
+
+-- a replica takes a master's place, where one is given
+abbrev pub by_takeover : State → Option ServerNo → ServerNo → List Passage
+by_takeover s None i = []
+by_takeover s (Some d) i = by_try (takeover_try s.world s.book s.audit (by_hand (numbers_of s)) s.configuration.wait (s.last_job + 1) i d)
+
+-- what a scan begins, in order
+abbrev pub begun_in_scan : State → List RecoveryBegins
+begun_in_scan s =
+    (scanned s.world s.book s.audit (attempt_of s.configuration.master s.configuration.intermediate (terms_of s.book (numbers_of s))) s.configuration.wait s.last_job).begun
 
 -- a job's turn, by the operations of its plan or as its recovery decides it
 abbrev pub by_job : State → ℕ → Option Unended → List Passage
@@ -97,7 +114,8 @@ by_route s c Forgets = by_instance (by_removal (allowed (removal_refusal s.book 
 by_route s c (Asks question) = []
 by_route s c (Decides decision) = []
 by_route s c (Begins p) = by_permission s c p (refusal_by s.world s.book (moment_at s) c p)
-by_route s c Unbuilt = []
+by_route s c Recovers = by_instance (by_recovery s) c.i
+by_route s c TakesOver = by_instance (by_takeover s c.d) c.i
 
 abbrev pub by_command : State → Command → List Passage
 by_command s c = by_route s c (route_of c.name)
@@ -113,7 +131,7 @@ passages_of s (turn.Join n link) = pass.Exchanging (Befall n.0 (event.Join link)
 passages_of s (turn.Rotate n) = pass.Exchanging (Rotate n.0) ∷ []
 passages_of s (turn.Tick seconds) = []
 passages_of s (turn.Job job) = by_job s job (job_at s.jobs job)
-passages_of s turn.Scan = []
+passages_of s turn.Scan = by_recoveries (begun_in_scan s)
 passages_of s (turn.PollRead p n) = by_poll s p n
 passages_of s (turn.PollStore p) = pass.Storing p (takes s.book (slot_at s p)) ∷ []
 passages_of s (turn.Command c) = by_command s c.command

@@ -1,14 +1,14 @@
 //! Laws of single turns and of openings.
 
-ghost use Rattle.std.specs.Prelude.{◌≡◌, ℕ, List, length};
+ghost use Rattle.std.specs.Prelude.{◌≡◌, ℕ, List};
 ghost use Rattle.flight_laws.specs.Flights.{flight_of, passages_of};
 ghost use Rattle.flight_laws.specs.Goes.{HeldState, SoundState};
-ghost use Rattle.flight_laws.specs.Ready.{Ready};
 ghost use Rattle.instance_keeper.specs.declared.row.Row.{Row as ARow};
 ghost use Rattle.job_laws.specs.Passages.{AllMayPass, AllPassWell, passing};
 ghost use Rattle.orch_core.specs.Runs.{step};
 ghost use Rattle.orch_core.specs.Scenarios.{start};
 ghost use Rattle.orch_core.specs.States.{State};
+ghost use Rattle.ready_laws.specs.Ready.{Ready};
 ghost use Rattle.scenarios.specs.Scenarios.{IsScenario};
 ghost use Rattle.scenarios.specs.Turns.{IsTurn};
 ghost use Rattle.scenarios.specs.declared.scenario.Scenario.{Scenario as AScenario};
@@ -24,8 +24,6 @@ pub fn turns_are_flown()
         IsTurn count t → AllMayPass (flight_of s) (passages_of s t) }
     ensures well { (count : ℕ) (s : State) (t : ATurn) → Ready count s → HeldState s →
         SoundState s → IsTurn count t → AllPassWell (flight_of s) (passages_of s t) }
-    ensures ready { (count : ℕ) (rows : List ARow) (s : State) (t : ATurn) → Ready count s →
-        IsTurn count t → Ready count (step rows s t) }
     ensures held { (count : ℕ) (rows : List ARow) (s : State) (t : ATurn) → Ready count s →
         HeldState s → IsTurn count t → HeldState (step rows s t) }
     ensures sound { (count : ℕ) (rows : List ARow) (s : State) (t : ATurn) → Ready count s →
@@ -33,11 +31,9 @@ pub fn turns_are_flown()
         SoundState (step rows s t) }
 {}
 
-/// With such a state a scenario's run begins, held and sound, whatever rows the keeper hands back: the bridges of an
+/// A scenario's run begins held and sound, whatever rows the keeper hands back: the bridges of an
 /// opening are those that the servers show.
 pub fn openings_are_flights()
-    ensures ready { (s : AScenario) (wait : ℕ) (rows : List ARow) → IsScenario s →
-        Ready (length s.opening.servers) (start s wait rows) }
     ensures held { (s : AScenario) (wait : ℕ) (rows : List ARow) → IsScenario s →
         HeldState (start s wait rows) }
     ensures sound { (s : AScenario) (wait : ℕ) (rows : List ARow) → IsScenario s →

@@ -76,7 +76,7 @@ found-number (k ∷ ks) id j h = go (number_of k == id) refl h (found-number ks 
 -- ---- a job in place of another, and without one
 
 -- past the number nothing changes
-with-past : (low : ℕ) (jobs : List Unended) (high id : ℕ) (j : Unended) → id ≤ low → Rise low jobs high → with_job jobs id j ≡ jobs
+pub with-past : (low : ℕ) (jobs : List Unended) (high id : ℕ) (j : Unended) → id ≤ low → Rise low jobs high → with_job jobs id j ≡ jobs
 with-past low [] high id j h r = refl
 with-past low (k ∷ ks) high id j h r =
     let first = r.0 in

@@ -5,7 +5,7 @@ ghost use Rattle.std.specs.List.{remove};
 ghost use Rattle.instance_keeper.specs.Book.{are_known, observed_servers};
 ghost use Rattle.operations.specs.Turns.{is_going};
 ghost use Rattle.server_model.specs.Run.{run};
-ghost use Rattle.unended_jobs.specs.Looks.{CanGo, observation_of};
+ghost use Rattle.unended_jobs.specs.Looks.{CanGo, observation_of, step_of};
 ghost use Rattle.jobs_in_flight.specs.Jobs.{Rise, book_turned, job_at, job_exchanges, job_observation, jobs_turned, reads_with, step_reply, stored, turn_by, without_leases};
 
 use instance_keeper::{Book, Observation};
@@ -112,6 +112,7 @@ pub fn take_turn(
     ensures err { OnErr result ((jobs.new.items ≡ jobs.old.items) × (world.new ≡ world.old)) }
     ensures still { OnErr result ((book.new ≡ book.old) × (reads.new ≡ reads.old)) }
     ensures memory { OnErr result (observation_of look ≡ None) }
+    ensures going { OnErr result (step_of look ≡ JobStep.Going) }
 {
     let FoundJob { at, id } = found;
     let (step, observation) = jobs[at].turn(alloc, world, look)?;

@@ -14,6 +14,8 @@ mod tests_of_jobs;
 mod tests_of_moves;
 #[cfg(test)]
 mod tests_of_paths;
+#[cfg(test)]
+mod tests_of_recoveries;
 mod top;
 mod way;
 

@@ -369,13 +369,12 @@ fn refused_in_a_run(rt: HostRuntime) -> Result<(), Fail> {
 #[test]
 fn words_that_are_not_taken(rt: HostRuntime) -> Result<(), Fail> {
     let alloc = rt.alloc();
-    let cases: [&[&str]; 24] = [
+    let cases: [&[&str]; 23] = [
         &[],
         &["orch"],
         &["orch", "run"],
         &["orch", "-c"],
         &["orch", "-c", "walk"],
-        &["orch", "-c", "recover", "-i", "m"],
         &["orch", "-c", "topology"],
         &["orch", "-c", "topology", "-i", "m:0"],
         &["orch", "-c", "topology", "-i", ""],

@@ -12,7 +12,7 @@ ghost use Rattle.tasks.specs.Sinks.{TakesLine, between, taken};
 ghost use Rattle.orch_cli.specs.Ends.{Ends, EndsBy, FaultsAs, IsComplete, IsGood, IsReported, IsUsage, NoneRose, call};
 ghost use Rattle.orch_cli.specs.Faults.{fault_text};
 ghost use Rattle.orch_cli.specs.Report.{EndsAs, KeepsRows, WritesErr, WritesOut, report};
-ghost use Rattle.orch_cli.specs.Runs.{IsSafeRun, ObeysTable};
+ghost use Rattle.orch_cli.specs.Runs.{BeginApart, FinishWell, IsSafeRun, LoseTruly, ObeysTable};
 
 use crate::fault::fault_line;
 use crate::reading::{Stop, scenario_from};
@@ -250,6 +250,16 @@ pub fn orch<S: Source, O: Sink, E: Sink, K: Keeper>(
         (λ bytes. IsSafeRun (map (λ w. w.items) words.now) bytes) }
     ensures commands { IfSome (S.left scenario.old)
         (λ bytes. ObeysTable (map (λ w. w.items) words.now) bytes) }
+
+    // In every such state recoveries begin apart by the scenario's block period, and one that is done, by whatever turns it came
+    // so far, leaves each replica that the book had attached to the failed server when it began promoted, following or lost for a true
+    // reason.
+    ensures begins { IfSome (S.left scenario.old)
+        (λ bytes. BeginApart (map (λ w. w.items) words.now) bytes) }
+    ensures finishes { IfSome (S.left scenario.old)
+        (λ bytes. FinishWell (map (λ w. w.items) words.now) bytes) }
+    ensures losses { IfSome (S.left scenario.old)
+        (λ bytes. LoseTruly (map (λ w. w.items) words.now) bytes) }
 {
     match places(alloc, words) {
         Ok(places) => answer(alloc, &places, scenario, out, err, keeper).status(),

@@ -1,15 +1,18 @@
 -- A command that isn't refused begins a job over servers that are there and free.
-use Rattle.std.proofs.Common.{◌≡◌, ℕ, ◌<◌, ◌^◌, true, length, None}
+use Rattle.std.proofs.Common.{◌≡◌, ℕ, ◌<◌, ◌^◌, true, length, refl, Option, None, Some}
 use Rattle.commands.specs.declared.turn.Command.{Command}
 use Rattle.commands.specs.Turns.{is_within}
 use Rattle.command_routes.specs.declared.route.Planner.{Planner}
-use Rattle.command_jobs.specs.Jobs.{job_by, leases_by, refusal_by}
+use Rattle.command_routes.specs.declared.route.Planner.TheVariants.{Coordinates, Gtids, Paths, Regroups}
+use Rattle.command_jobs.specs.Jobs.{job_by, leases_by, refusal_by, regroup_about}
 use Rattle.command_jobs.proofs.Begun.{job-unended, leases-free, leases-within}
 use Rattle.instance_keeper.specs.Book.{BookState, IsBook}
 use Rattle.orch_base.specs.declared.server.Moment.{Moment}
+use Rattle.orch_base.specs.declared.server.ServerNo.{ServerNo}
 use Rattle.unended_jobs.specs.Unended.{IsUnended}
 use Rattle.server_model.specs.Worlds.{World}
 use Rattle.orch_core.specs.Commands.{MayTake}
+use Rattle.orch_core.specs.States.{entry_id}
 
 module _ (w : World) (b : BookState) (now : Moment) (given : Command) (p : Planner) (is : IsBook b) (i_there : is_within (length b.names) given.i ≡ true) (d_there : is_within (length b.names) given.d ≡ true) where
   -- a command that isn't refused may take its leases
@@ -19,3 +22,14 @@ module _ (w : World) (b : BookState) (now : Moment) (given : Command) (p : Plann
   -- and its job is one that may be turned
   pub begun-unended : (id wait : ℕ) → id < 2 ^ 64 → wait < 2 ^ 32 → IsUnended (length b.names) (job_by w b given p id wait)
   begun-unended id wait id_fits wait_fits = job-unended w b given is i_there d_there p id wait id_fits wait_fits
+
+-- a plan has no entry, and neither has a regroup
+pub job-entry : (w : World) (b : BookState) (given : Command) (p : Planner) (id wait : ℕ) → entry_id (job_by w b given p id wait) ≡ None
+job-entry w b given Coordinates id wait = refl
+job-entry w b given Gtids id wait = refl
+job-entry w b given Paths id wait = refl
+job-entry w b given Regroups id wait = about given.i
+  where
+    about : (i : Option ServerNo) → entry_id (regroup_about b id wait i) ≡ None
+    about None = refl
+    about (Some i) = refl

@@ -8,3 +8,6 @@ pub mod Beginnings
 pub mod Outcomes
 pub mod Turned
 pub mod Finishing
+pub mod Entries
+pub mod Joining
+pub mod Closed

@@ -1,7 +1,7 @@
 -- What commands change fits the book, and keeps what holds of states.
-use Rattle.std.proofs.Common.{◌≡◌, ◌∙◌, ℕ, ◌+◌, ◌<◌, ◌≤◌, ◌^◌, Bool, true, false, List, length, refl, sym, ap, subst, Option, Some, None, Result, Ok, Err, arith}
+use Rattle.std.proofs.Common.{◌≡◌, ◌∙◌, ℕ, ◌+◌, ◌<◌, ◌≤◌, ◌^◌, Bool, true, false, List, [], map, length, refl, sym, ap, subst, Option, Some, None, Result, Ok, Err, arith}
 use Rattle.std.specs.Prelude.{All, IfSome, ◌&&◌, is_some, nat_lt, if◌then◌else◌}
-use Rattle.std.proofs.lemmas.List.Elements.{All-push}
+use Rattle.std.proofs.lemmas.List.Elements.{All-append, All-cons, All-nil, All-push, All-weaker}
 use Rattle.orch_base.specs.declared.server.ServerNo.{ServerNo}
 use Rattle.orch_base.specs.Memory.{next_count}
 use Rattle.instance_keeper.specs.declared.observation.Instance.{Instance}
@@ -36,18 +36,27 @@ use Rattle.orch_core.proofs.Recoveries.{HasBegun, acked-begun, acked-is}
 use Rattle.scenarios.specs.Turns.{IsCommand}
 use Rattle.orch_core.specs.declared.command.Update.{Update}
 use Rattle.orch_core.specs.declared.command.Update.TheVariants as update
-use Rattle.orch_core.specs.Commands.{Outcome, IsEffect, IsUpdate, MayTake, about as given_or, asked, audit_updated, begun, decided, discovered, first_of, forgotten, jobs_updated, last_job_updated, next_reading, outcome_by, outcome_of, question, refusal, removal_refusal, told, updated}
-use Rattle.orch_core.specs.Polls.{command_outcome, numbers_of}
+use Rattle.recovery_core.proofs.Beginning.{recovery-begins, recovery-moment, takeover-begins, takeover-moment}
+use Rattle.recovery_core.proofs.InTurn.{apart-after, scan-in-turn, scan-moments}
+use Rattle.recovery_core.specs.Begun.{CanBegin}
+use Rattle.recovery_core.specs.Scans.{attempt_of, scanned}
+use Rattle.recovery_core.specs.Tries.{Begins as RecoveryBegins, recovery_try, takeover_try}
+use Rattle.orch_core.specs.Settling.{BeginInTime, CanSettle, IsNext, settled}
+use Rattle.orch_core.proofs.Entries.{entries-acknowledged, entries-push}
+use Rattle.orch_core.proofs.Joining.{joined-audit, joined-begun, joined-entries, joined-next, joined-range, joined-rising}
+use Rattle.commands.specs.declared.refusal.Refusal.TheVariants.{UnknownInstance}
+use Rattle.orch_core.specs.Commands.{LeavesIds, by_hand, recovered, recovery_begun, recovery_job, taken_over, terms_of, Outcome, IsEffect, IsUpdate, MayTake, about as given_or, asked, audit_updated, begun, decided, discovered, first_of, forgotten, jobs_updated, last_job_updated, next_reading, outcome_by, outcome_of, question, refusal, removal_refusal, told, updated}
+use Rattle.orch_core.specs.Polls.{command_outcome, numbers_of, scan_outcome}
 use Rattle.jobs_in_flight.specs.Jobs.{Rise}
-use Rattle.orch_core.specs.States.{State, IsState}
+use Rattle.orch_core.specs.States.{HaveEntries, State, IsState, entry_id}
 use Rattle.orch_core.specs.declared.command.Numbers.{Numbers}
-use Rattle.orch_core.proofs.Beginnings.{begun-unended, may-take}
+use Rattle.orch_core.proofs.Beginnings.{begun-unended, job-entry, may-take}
 use Rattle.jobs_in_flight.proofs.Numbers.{Rise-push}
 use Rattle.command_routes.specs.declared.route.Decision.{Decision}
 use Rattle.command_routes.specs.declared.route.Decision.TheVariants as decision
 use Rattle.command_routes.specs.declared.route.Planner.{Planner}
 use Rattle.command_routes.specs.declared.route.Route.{Route}
-use Rattle.command_routes.specs.declared.route.Route.TheVariants.{Discovers, Forgets, Asks, Decides, Begins, Unbuilt}
+use Rattle.command_routes.specs.declared.route.Route.TheVariants.{Discovers, Forgets, Asks, Decides, Begins, Recovers, TakesOver}
 use Rattle.command_routes.specs.Routes.{route_of}
 use Rattle.command_jobs.proofs.Begun.{job-number}
 use Rattle.command_jobs.specs.Jobs.{job_by, leases_by, refusal_by}
@@ -88,10 +97,19 @@ pub asked_refused : (reads : ℕ) (p : Result Unit Refusal) (lines : List Line) 
 asked_refused reads (Ok permit) lines why e = cc
 asked_refused reads (Err r) lines why e = let same : r ≡ why = cc in ap (refusal reads) (sym same)
 
+-- neither a question nor a decision begins an entry
+pub asked-leaves : (reads : ℕ) (p : Result Unit Refusal) (lines : List Line) → LeavesIds (asked reads p lines).book
+asked-leaves reads (Ok permit) lines = tt
+asked-leaves reads (Err r) lines = tt
+
+pub decided-leaves : (reads : ℕ) (a : AuditState) (p : Result Unit Refusal) (d : Decided) → LeavesIds (decided reads a p d).book
+decided-leaves reads a (Ok permit) d = tt
+decided-leaves reads a (Err r) d = tt
+
 -- the book takes what a command makes of it
-module _ (book : BookState) (count : ℕ) (names : length book.names ≡ count) where
+module _ (book : BookState) (audit : AuditState) (last : ℕ) (count : ℕ) (names : length book.names ≡ count) where
   abbrev Takes : Outcome → Type 0
-  Takes o = IsUpdate book o.book
+  Takes o = IsUpdate book audit last o.book
 
   takes-discovered : (b : BookState) (reads : ℕ) (o : Observation) → are_known count (observed_servers o) ≡ true → (x : Option Seen) → Takes (discovered b reads o x)
   takes-discovered b reads o there None = tt
@@ -112,6 +130,10 @@ module _ (book : BookState) (count : ℕ) (names : length book.names ≡ count) 
   takes-begun : (n : Numbers) (refusal : Option Refusal) (list : List ServerNo) (job : Unended) → (refusal ≡ None → MayTake book list) → Takes (begun n refusal list job)
   takes-begun n None list job take = take refl
   takes-begun n (Some r) list job take = tt
+
+  takes-recovery : (n : Numbers) (r : Result RecoveryBegins Refusal) → ((x : RecoveryBegins) → r ≡ Ok x → CanBegin (length book.names) book.leases audit last x) → Takes (recovery_begun n r)
+  takes-recovery n (Ok x) can = (can x refl, tt)
+  takes-recovery n (Err why) can = tt
 
 -- the book takes the change of an effect, whose numbers are in their ranges
 abbrev pub IsEffectFor : ℕ → Effect → Type 0
@@ -152,41 +174,56 @@ module _ (b : BookState) (count : ℕ) (small : count < 2 ^ 32) where
   decided-effect a now k i decision.EnableRecoveries within = put-effect (row.Switch true) refl
   decided-effect a now k i decision.AckRecoveries within = about-effect (acked b a) (λ n h. tt) i within
 
--- the book takes what an outcome makes of it
-abbrev TakenBy : BookState → Outcome → Type 0
-TakenBy b o = IsUpdate b o.book
+-- a state takes what an outcome makes of it
+abbrev TakenBy : State → Outcome → Type 0
+TakenBy s o = IsUpdate s.book s.audit s.last_job o.book
 
-pub outcome-takes : (s : State) (c : CommandTurn) → IsState s → IsBook s.book → IsCommand (length s.world.servers) c → IsUpdate s.book (command_outcome s c).book
+outcome-takes : (s : State) (c : CommandTurn) → IsState s → IsBook s.book → IsCommand (length s.world.servers) c → TakenBy s (command_outcome s c)
 unfolding outcome_of
 outcome-takes s c is book command = by (route_of c.command.name)
   where
     over : IsCommand (length s.book.names) c
     over = subst (λ (n : ℕ). IsCommand n c) (sym is.names) command
 
-    asks : TakenBy s.book (question s.book s.audit s.reads c)
-    asks = takes-asked s.book (length s.book.names) refl s.reads (permitted s.book c.command) (lines_of s.book s.audit.recoveries c c.command.name)
+    asks : TakenBy s (question s.book s.audit s.reads c)
+    asks = takes-asked s.book s.audit s.last_job (length s.book.names) refl s.reads (permitted s.book c.command) (lines_of s.book s.audit.recoveries c c.command.name)
 
-    given : (some : ServerNo → Outcome) → ((i : ServerNo) → i.0 < length s.book.names → TakenBy s.book (some i)) → (i : Option ServerNo) → is_within (length s.book.names) i ≡ true → TakenBy s.book (given_or (question s.book s.audit s.reads c) some i)
-    given some each None within = asks
-    given some each (Some i) within = each i (below i.0 (length s.book.names) within)
+    given : (none : Outcome) (some : ServerNo → Outcome) → TakenBy s none → ((i : ServerNo) → i.0 < length s.book.names → TakenBy s (some i)) → (i : Option ServerNo)
+        → is_within (length s.book.names) i ≡ true → TakenBy s (given_or none some i)
+    given none some here each None within = here
+    given none some here each (Some i) within = each i (below i.0 (length s.book.names) within)
 
     reads : (i : ServerNo) → i.0 < length s.book.names → are_known (length s.book.names) (observed_servers (next_reading s.world (numbers_of s) i)) ≡ true
     reads i within =
         let here : i.0 < length s.world.servers = subst (λ (n : ℕ). i.0 < n) is.names within in
         subst (λ (n : ℕ). are_known n (observed_servers (next_reading s.world (numbers_of s) i)) ≡ true) (sym is.names) (reading_known s.world i (next_count s.reads) s.moment is.sources here)
 
-    by : (r : Route) → TakenBy s.book (outcome_by s.world s.book s.audit (numbers_of s) c r)
-    by Discovers = given (λ i. discovered s.book s.reads (next_reading s.world (numbers_of s) i) (next_reading s.world (numbers_of s) i).seen)
-        (λ i h. takes-discovered s.book (length s.book.names) refl s.book s.reads (next_reading s.world (numbers_of s) i) (reads i h) (next_reading s.world (numbers_of s) i).seen) c.command.i (given-within (length s.book.names) c over)
-    by Forgets = given (forgotten s.reads (allowed (removal_refusal s.book c.command))) (λ i h. takes-forgotten s.book (length s.book.names) refl s.reads (allowed (removal_refusal s.book c.command)) i h) c.command.i (given-within (length s.book.names) c over)
+    takes-over : (d : Option ServerNo) → is_within (length s.book.names) d ≡ true → (i : ServerNo) → i.0 < length s.book.names → TakenBy s (taken_over s.world s.book s.audit (numbers_of s) d i)
+    takes-over None there i within = tt
+    takes-over (Some d) there i within =
+        takes-recovery s.book s.audit s.last_job (length s.book.names) refl (numbers_of s) (takeover_try s.world s.book s.audit (by_hand (numbers_of s)) s.configuration.wait (s.last_job + 1) i d)
+        (λ x e. takeover-begins s.world s.book s.audit (by_hand (numbers_of s)) s.configuration.wait s.last_job book i d x within (below d.0 (length s.book.names) there) e)
+
+    by : (r : Route) → TakenBy s (outcome_by s.world s.book s.audit (numbers_of s) c r)
+    by Discovers = given (question s.book s.audit s.reads c) (λ i. discovered s.book s.reads (next_reading s.world (numbers_of s) i) (next_reading s.world (numbers_of s) i).seen) asks
+        (λ i h. takes-discovered s.book s.audit s.last_job (length s.book.names) refl s.book s.reads (next_reading s.world (numbers_of s) i) (reads i h) (next_reading s.world (numbers_of s) i).seen)
+        c.command.i (given-within (length s.book.names) c over)
+    by Forgets = given (question s.book s.audit s.reads c) (forgotten s.reads (allowed (removal_refusal s.book c.command))) asks
+        (λ i h. takes-forgotten s.book s.audit s.last_job (length s.book.names) refl s.reads (allowed (removal_refusal s.book c.command)) i h) c.command.i (given-within (length s.book.names) c over)
     by (Asks q) = asks
     by (Decides d) =
-        takes-decided s.book (length s.book.names) refl s.reads s.audit (permitted s.book c.command) (decided_of s.book s.audit (record { 0 = s.moment }) c.keys c.command.i d)
+        takes-decided s.book s.audit s.last_job (length s.book.names) refl s.reads s.audit (permitted s.book c.command) (decided_of s.book s.audit (record { 0 = s.moment }) c.keys c.command.i d)
         (taken-effect s.book (decided_of s.book s.audit (record { 0 = s.moment }) c.keys c.command.i d).effect (decided-effect s.book (length s.book.names) book.small s.audit (record { 0 = s.moment }) c.keys c.command.i d (given-within (length s.book.names) c over)))
     by (Begins p) =
-        takes-begun s.book (length s.book.names) refl (numbers_of s) (refusal_by s.world s.book (record { 0 = s.moment }) c.command p) (leases_by s.world s.book c.command p) (job_by s.world s.book c.command p (s.last_job + 1) s.configuration.wait)
+        takes-begun s.book s.audit s.last_job (length s.book.names) refl (numbers_of s) (refusal_by s.world s.book (record { 0 = s.moment }) c.command p) (leases_by s.world s.book c.command p) (job_by s.world s.book c.command p (s.last_job + 1) s.configuration.wait)
         (may-take s.world s.book (record { 0 = s.moment }) c.command p book (given-within (length s.book.names) c over) (destination-within (length s.book.names) c over))
-    by Unbuilt = asks
+    by Recovers =
+        given (refusal s.reads UnknownInstance) (recovered s.world s.book s.audit (numbers_of s)) tt
+        (λ i within. takes-recovery s.book s.audit s.last_job (length s.book.names) refl (numbers_of s) (recovery_try s.world s.book s.audit (by_hand (numbers_of s)) s.configuration.wait (s.last_job + 1) i)
+        (λ x e. recovery-begins s.world s.book s.audit (by_hand (numbers_of s)) s.configuration.wait s.last_job book i x within e)) c.command.i (given-within (length s.book.names) c over)
+    by TakesOver =
+        given (refusal s.reads UnknownInstance) (taken_over s.world s.book s.audit (numbers_of s) c.command.d) tt
+        (takes-over c.command.d (destination-within (length s.book.names) c over)) c.command.i (given-within (length s.book.names) c over)
 
 -- what a command makes of the book changes neither names nor settings
 
@@ -209,6 +246,7 @@ names-updated b (update.Change c) = names-change b c
 names-updated b (update.Discovery o) = names-discovery b o (instance_at b o.no)
 names-updated b (update.Decides e) = names-decided b e
 names-updated b (update.Begins x) = refl
+names-updated b (update.Recovers xs) = refl
 
 settings-discovery : (b : BookState) (o : Observation) (kept : Option Instance) → (discovered_over b o kept).settings ≡ b.settings
 settings-discovery b o None = go o.seen
@@ -229,38 +267,21 @@ settings-updated b (update.Change c) = settings-change b c
 settings-updated b (update.Discovery o) = settings-discovery b o (instance_at b o.no)
 settings-updated b (update.Decides e) = settings-decided b e
 settings-updated b (update.Begins x) = refl
-
--- a job that begins has the next number, and its numbers are in their ranges
-abbrev pub IsNext : ℕ → ℕ → Update → Type 0
-IsNext count last update.Stays = Unit {0}
-IsNext count last (update.Change c) = Unit {0}
-IsNext count last (update.Discovery o) = Unit {0}
-IsNext count last (update.Decides e) = Unit {0}
-IsNext count last (update.Begins x) = (number_of x.job ≡ last + 1) × JobRange count x.job
+settings-updated b (update.Recovers xs) = refl
 
 -- what an outcome begins is next
 abbrev NextBy : ℕ → ℕ → Outcome → Type 0
 NextBy count last o = IsNext count last o.book
 
-jobs-updated : (count last : ℕ) (jobs : List Unended) (u : Update) → All (JobRange count) jobs → IsNext count last u → All (JobRange count) (jobs_updated jobs u)
-jobs-updated count last jobs update.Stays all next = all
-jobs-updated count last jobs (update.Change c) all next = all
-jobs-updated count last jobs (update.Discovery o) all next = all
-jobs-updated count last jobs (update.Decides e) all next = all
-jobs-updated count last jobs (update.Begins x) all next = All-push (JobRange count) jobs x.job all next.1
-
-rising-updated : (count last : ℕ) (jobs : List Unended) (u : Update) → Rise 0 jobs last → IsNext count last u → Rise 0 (jobs_updated jobs u) (last_job_updated last u)
-rising-updated count last jobs update.Stays rise next = rise
-rising-updated count last jobs (update.Change c) rise next = rise
-rising-updated count last jobs (update.Discovery o) rise next = rise
-rising-updated count last jobs (update.Decides e) rise next = rise
-rising-updated count last jobs (update.Begins x) rise next = let number : number_of x.job ≡ last + 1 = next.0 in Rise-push 0 jobs last x.job (omega (arith, number)) rise
-
 -- what a command begins is so, where its number is one
-next-begun : (count : ℕ) (n : Numbers) (refusal : Option Refusal) (list : List ServerNo) (job : Unended) → number_of job ≡ n.last_job + 1 → (n.last_job + 1 < 2 ^ 64 → JobRange count job)
+next-begun : (count : ℕ) (n : Numbers) (refusal : Option Refusal) (list : List ServerNo) (job : Unended) → number_of job ≡ n.last_job + 1 → entry_id job ≡ None → (n.last_job + 1 < 2 ^ 64 → JobRange count job)
     → last_job_updated n.last_job (begun n refusal list job).book < 2 ^ 64 → IsNext count n.last_job (begun n refusal list job).book
-next-begun count n None list job number range few = (number, range (subst (λ (m : ℕ). m < 2 ^ 64) number few))
-next-begun count n (Some r) list job number range few = tt
+next-begun count n None list job number entry range few = record { number = number; range = range (subst (λ (m : ℕ). m < 2 ^ 64) number few); entry = entry }
+next-begun count n (Some r) list job number entry range few = tt
+
+next-recovery : (count last : ℕ) (n : Numbers) (r : Result RecoveryBegins Refusal) → IsNext count last (recovery_begun n r).book
+next-recovery count last n (Ok x) = tt
+next-recovery count last n (Err why) = tt
 
 next-discovered : (count last : ℕ) (b : BookState) (reads : ℕ) (o : Observation) (seen : Option Seen) → IsNext count last (discovered b reads o seen).book
 next-discovered count last b reads o None = tt
@@ -278,7 +299,7 @@ next-decided : (count last reads : ℕ) (a : AuditState) (p : Result Unit Refusa
 next-decided count last reads a (Ok permit) d = tt
 next-decided count last reads a (Err r) d = tt
 
-pub outcome-next : (s : State) (c : CommandTurn) → IsState s → IsBook s.book → s.configuration.wait < 2 ^ 32 → IsCommand (length s.world.servers) c
+outcome-next : (s : State) (c : CommandTurn) → IsState s → IsBook s.book → s.configuration.wait < 2 ^ 32 → IsCommand (length s.world.servers) c
     → last_job_updated s.last_job (command_outcome s c).book < 2 ^ 64 → IsNext (length s.world.servers) s.last_job (command_outcome s c).book
 unfolding outcome_of
 outcome-next s c is book wait command few = by (route_of c.command.name) few
@@ -293,72 +314,217 @@ outcome-next s c is book wait command few = by (route_of c.command.name) few
     asks : NextBy (length s.world.servers) s.last_job (question s.book s.audit s.reads c)
     asks = next-asked (length s.world.servers) s.last_job s.reads (permitted s.book c.command) (lines_of s.book s.audit.recoveries c c.command.name)
 
-    given : (some : ServerNo → Outcome) → ((i : ServerNo) → NextBy (length s.world.servers) s.last_job (some i)) → (i : Option ServerNo) → NextBy (length s.world.servers) s.last_job (given_or (question s.book s.audit s.reads c) some i)
-    given some each None = asks
-    given some each (Some i) = each i
+    given : (none : Outcome) (some : ServerNo → Outcome) → NextBy (length s.world.servers) s.last_job none → ((i : ServerNo) → NextBy (length s.world.servers) s.last_job (some i)) → (i : Option ServerNo)
+        → NextBy (length s.world.servers) s.last_job (given_or none some i)
+    given none some here each None = here
+    given none some here each (Some i) = each i
+
+    takes-over : (d : Option ServerNo) (i : ServerNo) → NextBy (length s.world.servers) s.last_job (taken_over s.world s.book s.audit (numbers_of s) d i)
+    takes-over None i = tt
+    takes-over (Some d) i = next-recovery (length s.world.servers) s.last_job (numbers_of s) (takeover_try s.world s.book s.audit (by_hand (numbers_of s)) s.configuration.wait (s.last_job + 1) i d)
 
     by : (r : Route) → last_job_updated s.last_job (outcome_by s.world s.book s.audit (numbers_of s) c r).book < 2 ^ 64 → NextBy (length s.world.servers) s.last_job (outcome_by s.world s.book s.audit (numbers_of s) c r)
-    by Discovers few = given (λ i. discovered s.book s.reads (next_reading s.world (numbers_of s) i) (next_reading s.world (numbers_of s) i).seen)
+    by Discovers few = given (question s.book s.audit s.reads c) (λ i. discovered s.book s.reads (next_reading s.world (numbers_of s) i) (next_reading s.world (numbers_of s) i).seen) asks
         (λ i. next-discovered (length s.world.servers) s.last_job s.book s.reads (next_reading s.world (numbers_of s) i) (next_reading s.world (numbers_of s) i).seen) c.command.i
-    by Forgets few = given (forgotten s.reads (allowed (removal_refusal s.book c.command))) (next-forgotten (length s.world.servers) s.last_job s.reads (allowed (removal_refusal s.book c.command))) c.command.i
+    by Forgets few = given (question s.book s.audit s.reads c) (forgotten s.reads (allowed (removal_refusal s.book c.command))) asks
+        (next-forgotten (length s.world.servers) s.last_job s.reads (allowed (removal_refusal s.book c.command))) c.command.i
     by (Asks q) few = asks
     by (Decides d) few = next-decided (length s.world.servers) s.last_job s.reads s.audit (permitted s.book c.command) (decided_of s.book s.audit (record { 0 = s.moment }) c.keys c.command.i d)
     by (Begins p) few =
-        next-begun (length s.world.servers) (numbers_of s) (refusal_by s.world s.book (record { 0 = s.moment }) c.command p) (leases_by s.world s.book c.command p) (job_by s.world s.book c.command p (s.last_job + 1) s.configuration.wait) (job-number s.world s.book c.command p (s.last_job + 1) s.configuration.wait) (range p) few
-    by Unbuilt few = asks
+        next-begun (length s.world.servers) (numbers_of s) (refusal_by s.world s.book (record { 0 = s.moment }) c.command p) (leases_by s.world s.book c.command p) (job_by s.world s.book c.command p (s.last_job + 1) s.configuration.wait)
+        (job-number s.world s.book c.command p (s.last_job + 1) s.configuration.wait) (job-entry s.world s.book c.command p (s.last_job + 1) s.configuration.wait) (range p) few
+    by Recovers few =
+        given (refusal s.reads UnknownInstance) (recovered s.world s.book s.audit (numbers_of s)) tt
+        (λ i. next-recovery (length s.world.servers) s.last_job (numbers_of s) (recovery_try s.world s.book s.audit (by_hand (numbers_of s)) s.configuration.wait (s.last_job + 1) i)) c.command.i
+    by TakesOver few = given (refusal s.reads UnknownInstance) (taken_over s.world s.book s.audit (numbers_of s) c.command.d) tt (takes-over c.command.d) c.command.i
 
--- an audit stays one, and its next id
-audit-updated : (a : AuditState) (u : Update) → IsAudit a → IsAudit (audit_updated a u)
-audit-updated a update.Stays is = is
-audit-updated a (update.Change c) is = is
-audit-updated a (update.Discovery o) is = is
-audit-updated a (update.Decides effect.Stays) is = is
-audit-updated a (update.Decides (effect.Change c)) is = is
-audit-updated a (update.Decides (effect.Acks cluster)) is = acked-is a cluster is
-audit-updated a (update.Begins x) is = is
+-- ---- entries begin in time
 
--- and apart
-pub apart-updated : (a : AuditState) (u : Update) → IsApart a → IsApart (audit_updated a u)
-apart-updated a update.Stays apart = apart
-apart-updated a (update.Change c) apart = apart
-apart-updated a (update.Discovery o) apart = apart
-apart-updated a (update.Decides effect.Stays) apart = apart
-apart-updated a (update.Decides (effect.Change c)) apart = apart
-apart-updated a (update.Decides (effect.Acks cluster)) apart = acknowledged-apart a cluster apart
-apart-updated a (update.Begins x) apart = apart
+abbrev InTime : Outcome → Type 0
+InTime o = BeginInTime o.book
 
-pub next-updated : (a : AuditState) (u : Update) → (audit_updated a u).next ≡ a.next
-next-updated a update.Stays = refl
-next-updated a (update.Change c) = refl
-next-updated a (update.Discovery o) = refl
-next-updated a (update.Decides effect.Stays) = refl
-next-updated a (update.Decides (effect.Change c)) = refl
-next-updated a (update.Decides (effect.Acks cluster)) = refl
-next-updated a (update.Begins x) = refl
+in-time-discovered : (b : BookState) (reads : ℕ) (o : Observation) (seen : Option Seen) → InTime (discovered b reads o seen)
+in-time-discovered b reads o None = tt
+in-time-discovered b reads o (Some seen) = tt
 
--- a decision leaves when recoveries began
-begun-updated : (a : AuditState) (u : Update) → HasBegun a.recoveries → HasBegun (audit_updated a u).recoveries
-begun-updated a update.Stays all = all
-begun-updated a (update.Change c) all = all
-begun-updated a (update.Discovery o) all = all
-begun-updated a (update.Decides effect.Stays) all = all
-begun-updated a (update.Decides (effect.Change c)) all = all
-begun-updated a (update.Decides (effect.Acks cluster)) all = acked-begun a cluster all
-begun-updated a (update.Begins x) all = all
+in-time-forgotten : (reads : ℕ) (p : Result Unit Refusal) (i : ServerNo) → InTime (forgotten reads p i)
+in-time-forgotten reads (Ok permit) i = tt
+in-time-forgotten reads (Err r) i = tt
 
-pub IsState-command : (s : State) (u : Update) (reads : ℕ) (b : BookState) (a : AuditState) (jobs : List Unended) (last : ℕ) → IsState s → b ≡ updated s.book u → a ≡ audit_updated s.audit u
-    → jobs ≡ jobs_updated s.jobs u → last ≡ last_job_updated s.last_job u
-    → IsNext (length s.world.servers) s.last_job u → IsState (record s { book = b; audit = a; reads = reads; jobs = jobs; last_job = last })
-IsState-command s u reads b a jobs last is changes decides joins counts next = record {
-  names = ap (λ (x : BookState). length x.names) changes ∙ (ap length (names-updated s.book u) ∙ is.names);
-  settings = ap (λ (x : BookState). length x.settings) changes ∙ (ap length (settings-updated s.book u) ∙ is.settings);
-  slots = is.slots;
-  observed = is.observed;
-  sources = is.sources;
-  jobs = subst (All (JobRange (length s.world.servers))) (sym joins) (jobs-updated (length s.world.servers) s.last_job s.jobs u is.jobs next);
-  rising = subst (λ (xs : List Unended). Rise 0 xs last) (sym joins) (subst (Rise 0 (jobs_updated s.jobs u)) (sym counts) (rising-updated (length s.world.servers) s.last_job s.jobs u is.rising next));
-  audit = subst IsAudit (sym decides) (audit-updated s.audit u is.audit);
-  next = subst (λ (n : ℕ). n < 2 ^ 64) (sym (ap (λ (x : AuditState). x.next) decides ∙ next-updated s.audit u)) is.next;
-  begun = subst (λ (x : AuditState). HasBegun x.recoveries) (sym decides) (begun-updated s.audit u is.begun);
-  moment = is.moment;
+in-time-asked : (reads : ℕ) (p : Result Unit Refusal) (lines : List Line) → InTime (asked reads p lines)
+in-time-asked reads (Ok permit) lines = tt
+in-time-asked reads (Err r) lines = tt
+
+in-time-decided : (reads : ℕ) (a : AuditState) (p : Result Unit Refusal) (d : Decided) → InTime (decided reads a p d)
+in-time-decided reads a (Ok permit) d = tt
+in-time-decided reads a (Err r) d = tt
+
+in-time-begun : (n : Numbers) (refusal : Option Refusal) (list : List ServerNo) (job : Unended) → InTime (begun n refusal list job)
+in-time-begun n None list job = tt
+in-time-begun n (Some r) list job = tt
+
+in-time-recovery : (n : Numbers) (r : Result RecoveryBegins Refusal) → n.moment.0 ≤ 2 ^ 63 → ((x : RecoveryBegins) → r ≡ Ok x → x.entry.begun ≡ n.moment) → InTime (recovery_begun n r)
+in-time-recovery n (Ok x) most began =
+    All-cons (λ (y : RecoveryBegins). y.entry.begun.0 ≤ 2 ^ 63) x [] (subst (λ (m : Moment). m.0 ≤ 2 ^ 63) (sym (began x refl)) most) (All-nil (λ (y : RecoveryBegins). y.entry.begun.0 ≤ 2 ^ 63))
+in-time-recovery n (Err why) most began = tt
+
+outcome-in-time : (s : State) (c : CommandTurn) → IsState s → InTime (command_outcome s c)
+unfolding outcome_of
+outcome-in-time s c is = by (route_of c.command.name)
+  where
+    asks : InTime (question s.book s.audit s.reads c)
+    asks = in-time-asked s.reads (permitted s.book c.command) (lines_of s.book s.audit.recoveries c c.command.name)
+
+    given : (none : Outcome) (some : ServerNo → Outcome) → InTime none → ((i : ServerNo) → InTime (some i)) → (i : Option ServerNo) → InTime (given_or none some i)
+    given none some here each None = here
+    given none some here each (Some i) = each i
+
+    takes-over : (d : Option ServerNo) (i : ServerNo) → InTime (taken_over s.world s.book s.audit (numbers_of s) d i)
+    takes-over None i = tt
+    takes-over (Some d) i =
+        in-time-recovery (numbers_of s) (takeover_try s.world s.book s.audit (by_hand (numbers_of s)) s.configuration.wait (s.last_job + 1) i d) is.moment
+        (λ x e. takeover-moment s.world s.book s.audit (by_hand (numbers_of s)) s.configuration.wait (s.last_job + 1) i d x e)
+
+    by : (r : Route) → InTime (outcome_by s.world s.book s.audit (numbers_of s) c r)
+    by Discovers = given (question s.book s.audit s.reads c) (λ i. discovered s.book s.reads (next_reading s.world (numbers_of s) i) (next_reading s.world (numbers_of s) i).seen) asks
+        (λ i. in-time-discovered s.book s.reads (next_reading s.world (numbers_of s) i) (next_reading s.world (numbers_of s) i).seen) c.command.i
+    by Forgets = given (question s.book s.audit s.reads c) (forgotten s.reads (allowed (removal_refusal s.book c.command))) asks (in-time-forgotten s.reads (allowed (removal_refusal s.book c.command))) c.command.i
+    by (Asks q) = asks
+    by (Decides d) = in-time-decided s.reads s.audit (permitted s.book c.command) (decided_of s.book s.audit (record { 0 = s.moment }) c.keys c.command.i d)
+    by (Begins p) =
+        in-time-begun (numbers_of s) (refusal_by s.world s.book (record { 0 = s.moment }) c.command p) (leases_by s.world s.book c.command p) (job_by s.world s.book c.command p (s.last_job + 1) s.configuration.wait)
+    by Recovers =
+        given (refusal s.reads UnknownInstance) (recovered s.world s.book s.audit (numbers_of s)) tt
+        (λ i. in-time-recovery (numbers_of s) (recovery_try s.world s.book s.audit (by_hand (numbers_of s)) s.configuration.wait (s.last_job + 1) i) is.moment
+        (λ x e. recovery-moment s.world s.book s.audit (by_hand (numbers_of s)) s.configuration.wait (s.last_job + 1) i x e)) c.command.i
+    by TakesOver = given (refusal s.reads UnknownInstance) (taken_over s.world s.book s.audit (numbers_of s) c.command.d) tt (takes-over c.command.d) c.command.i
+
+-- ---- a state can take what a command or a scan comes to
+
+pub command-settles : (s : State) (c : CommandTurn) → IsState s → IsBook s.book → s.configuration.wait < 2 ^ 32 → IsCommand (length s.world.servers) c → CanSettle s (command_outcome s c)
+command-settles s c is book wait command = record {
+  update = outcome-takes s c is book command;
+  next = outcome-next s c is book wait command;
+  time = outcome-in-time s c is;
 }
+
+-- what a scan begins
+abbrev begun_in : State → List RecoveryBegins
+begun_in s = (scanned s.world s.book s.audit (attempt_of s.configuration.master s.configuration.intermediate (terms_of s.book (numbers_of s))) s.configuration.wait s.last_job).begun
+
+pub scan-settles : (s : State) → IsState s → IsBook s.book → CanSettle s (scan_outcome s)
+scan-settles s is book =
+    let n = numbers_of s in
+    let attempt = attempt_of s.configuration.master s.configuration.intermediate (terms_of s.book n) in
+    record {
+      update = scan-in-turn s.world s.book attempt s.configuration.wait s.audit s.last_job book;
+      next = λ few. tt;
+      time = All-weaker (λ (x : RecoveryBegins). x.entry.begun ≡ n.moment) (λ x. x.entry.begun.0 ≤ 2 ^ 63) (λ x e. subst (λ (m : Moment). m.0 ≤ 2 ^ 63) (sym e) is.moment)
+          (begun_in s) (scan-moments s.world s.book attempt s.configuration.wait s.audit s.last_job n.moment (λ i. refl));
+    }
+
+-- ---- what is left keeps what holds of states
+
+module _ (count : ℕ) (b : BookState) (a : AuditState) (last : ℕ) where
+  jobs-updated : (jobs : List Unended) (u : Update) → IsUpdate b a last u → IsNext count last u → length b.names ≡ count → last_job_updated last u < 2 ^ 64 → All (JobRange count) jobs → All (JobRange count) (jobs_updated jobs u)
+  jobs-updated jobs update.Stays is next names few all = all
+  jobs-updated jobs (update.Change c) is next names few all = all
+  jobs-updated jobs (update.Discovery o) is next names few all = all
+  jobs-updated jobs (update.Decides e) is next names few all = all
+  jobs-updated jobs (update.Begins x) is next names few all = All-push (JobRange count) jobs x.job all next.range
+  jobs-updated jobs (update.Recovers xs) is next names few all =
+      All-append (JobRange count) jobs (map recovery_job xs) all (subst (λ (n : ℕ). All (JobRange n) (map recovery_job xs)) names (joined-range (length b.names) b.leases a last xs is few))
+
+  rising-updated : (jobs : List Unended) (u : Update) → IsUpdate b a last u → IsNext count last u → Rise 0 jobs last → Rise 0 (jobs_updated jobs u) (last_job_updated last u)
+  rising-updated jobs update.Stays is next rise = rise
+  rising-updated jobs (update.Change c) is next rise = rise
+  rising-updated jobs (update.Discovery o) is next rise = rise
+  rising-updated jobs (update.Decides e) is next rise = rise
+  rising-updated jobs (update.Begins x) is next rise = let number = next.number in Rise-push 0 jobs last x.job (omega (arith, number)) rise
+  rising-updated jobs (update.Recovers xs) is next rise = joined-rising (length b.names) b.leases a last xs jobs is rise
+
+  -- an audit stays one
+  audit-updated : (u : Update) → IsUpdate b a last u → IsAudit a → IsAudit (audit_updated a u)
+  audit-updated update.Stays is audit = audit
+  audit-updated (update.Change c) is audit = audit
+  audit-updated (update.Discovery o) is audit = audit
+  audit-updated (update.Decides effect.Stays) is audit = audit
+  audit-updated (update.Decides (effect.Change c)) is audit = audit
+  audit-updated (update.Decides (effect.Acks cluster)) is audit = acked-is a cluster audit
+  audit-updated (update.Begins x) is audit = audit
+  audit-updated (update.Recovers xs) is audit = joined-audit (length b.names) b.leases a last xs is audit
+
+  -- and has the jobs' entries
+  entries-updated : (jobs : List Unended) (u : Update) → IsUpdate b a last u → IsNext count last u → IsAudit a → HaveEntries a 0 jobs → HaveEntries (audit_updated a u) 0 (jobs_updated jobs u)
+  entries-updated jobs update.Stays is next audit entries = entries
+  entries-updated jobs (update.Change c) is next audit entries = entries
+  entries-updated jobs (update.Discovery o) is next audit entries = entries
+  entries-updated jobs (update.Decides effect.Stays) is next audit entries = entries
+  entries-updated jobs (update.Decides (effect.Change c)) is next audit entries = entries
+  entries-updated jobs (update.Decides (effect.Acks cluster)) is next audit entries = entries-acknowledged a cluster jobs entries
+  entries-updated jobs (update.Begins x) is next audit entries = entries-push a 0 jobs x.job next.entry entries
+  entries-updated jobs (update.Recovers xs) is next audit entries = joined-entries (length b.names) b.leases a last xs jobs is audit entries
+
+  -- it stays apart
+  pub apart-updated : (u : Update) → IsUpdate b a last u → IsApart a → IsApart (audit_updated a u)
+  apart-updated update.Stays is apart = apart
+  apart-updated (update.Change c) is apart = apart
+  apart-updated (update.Discovery o) is apart = apart
+  apart-updated (update.Decides effect.Stays) is apart = apart
+  apart-updated (update.Decides (effect.Change c)) is apart = apart
+  apart-updated (update.Decides (effect.Acks cluster)) is apart = acknowledged-apart a cluster apart
+  apart-updated (update.Begins x) is apart = apart
+  apart-updated (update.Recovers xs) is apart = apart-after (length b.names) b.leases a last xs is apart
+
+-- the next id stays in its type's range
+pub next-updated : (a : AuditState) (u : Update) → LeavesIds u → a.next < 2 ^ 64 → (audit_updated a u).next < 2 ^ 64
+next-updated a update.Stays ids fits = fits
+next-updated a (update.Change c) ids fits = fits
+next-updated a (update.Discovery o) ids fits = fits
+next-updated a (update.Decides effect.Stays) ids fits = fits
+next-updated a (update.Decides (effect.Change c)) ids fits = fits
+next-updated a (update.Decides (effect.Acks cluster)) ids fits = fits
+next-updated a (update.Begins x) ids fits = fits
+next-updated a (update.Recovers xs) ids fits = joined-next a xs ids fits
+
+-- recoveries began in time
+begun-updated : (a : AuditState) (u : Update) → BeginInTime u → HasBegun a.recoveries → HasBegun (audit_updated a u).recoveries
+begun-updated a update.Stays time all = all
+begun-updated a (update.Change c) time all = all
+begun-updated a (update.Discovery o) time all = all
+begun-updated a (update.Decides effect.Stays) time all = all
+begun-updated a (update.Decides (effect.Change c)) time all = all
+begun-updated a (update.Decides (effect.Acks cluster)) time all = acked-begun a cluster all
+begun-updated a (update.Begins x) time all = all
+begun-updated a (update.Recovers xs) time all = joined-begun a xs time all
+
+pub IsState-settled : (s : State) (o : Outcome) (b : BookState) (a : AuditState) (jobs : List Unended) (last : ℕ) → IsState s → CanSettle s o → LeavesIds o.book → last < 2 ^ 64
+    → b ≡ updated s.book o.book → a ≡ audit_updated s.audit o.book → jobs ≡ jobs_updated s.jobs o.book → last ≡ last_job_updated s.last_job o.book
+    → IsState (record s { book = b; audit = a; reads = o.reads; jobs = jobs; last_job = last })
+IsState-settled s o b a jobs last is can ids fits changes decides joins counts =
+    let u = o.book in
+    let count = length s.world.servers in
+    let few : last_job_updated s.last_job u < 2 ^ 64 = subst (λ (n : ℕ). n < 2 ^ 64) counts fits in
+    let next = can.next few in
+    record {
+      names = ap (λ (x : BookState). length x.names) changes ∙ (ap length (names-updated s.book u) ∙ is.names);
+      settings = ap (λ (x : BookState). length x.settings) changes ∙ (ap length (settings-updated s.book u) ∙ is.settings);
+      slots = is.slots;
+      observed = is.observed;
+      sources = is.sources;
+      jobs = subst (All (JobRange count)) (sym joins) (jobs-updated count s.book s.audit s.last_job s.jobs u can.update next is.names few is.jobs);
+      rising = subst (λ (xs : List Unended). Rise 0 xs last) (sym joins)
+          (subst (Rise 0 (jobs_updated s.jobs u)) (sym counts) (rising-updated count s.book s.audit s.last_job s.jobs u can.update next is.rising));
+      audit = subst IsAudit (sym decides) (audit-updated count s.book s.audit s.last_job u can.update is.audit);
+      entries = subst (λ (x : AuditState). HaveEntries x 0 jobs) (sym decides)
+          (subst (HaveEntries (audit_updated s.audit u) 0) (sym joins) (entries-updated count s.book s.audit s.last_job s.jobs u can.update next is.audit is.entries));
+      next = subst (λ (x : AuditState). x.next < 2 ^ 64) (sym decides) (next-updated s.audit u ids is.next);
+      begun = subst (λ (x : AuditState). HasBegun x.recoveries) (sym decides) (begun-updated s.audit u can.time is.begun);
+      moment = is.moment;
+      block = is.block;
+    }
+
+-- the pieces of a state, as they were made one after another
+pub settled-is : (s : State) (o : Outcome) (b : BookState) (a : AuditState) (jobs : List Unended) (last : ℕ) → b ≡ updated s.book o.book → a ≡ audit_updated s.audit o.book → jobs ≡ jobs_updated s.jobs o.book
+    → last ≡ last_job_updated s.last_job o.book → record s { book = b; audit = a; reads = o.reads; jobs = jobs; last_job = last } ≡ settled s o
+settled-is s o b a jobs last changes decides joins counts = λ i. record s { book = changes i; audit = decides i; reads = o.reads; jobs = joins i; last_job = counts i }

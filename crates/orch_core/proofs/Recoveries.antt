@@ -85,7 +85,7 @@ reloaded-most count last now rows most = most-of now (recoveries_in (counted cou
 -- ---- changes of an audit leave when recoveries began
 
 module _ (f : Recovery → Recovery) (same : (r : Recovery) → (f r).begun ≡ r.begun) where
-  mapped-begun : (rs : List Recovery) → HasBegun rs → HasBegun (map f rs)
+  pub mapped-begun : (rs : List Recovery) → HasBegun rs → HasBegun (map f rs)
   mapped-begun [] all = All-nil _
   mapped-begun (r ∷ rs) all =
       All-cons (λ (x : Recovery). x.begun.0 ≤ 2 ^ 63) (f r) (map f rs)

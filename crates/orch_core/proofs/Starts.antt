@@ -44,7 +44,7 @@ use Rattle.orch_core.specs.declared.configuration.Configuration.{Configuration}
 use Rattle.orch_core.specs.Scenarios.{configuration_of, loaded_audit, loaded_book, start_world, start_rows, start_moment, start_changes, start, StartsBy, kept_at_start}
 use Rattle.unended_jobs.specs.declared.unended.Unended.{Unended}
 use Rattle.unended_jobs.specs.Unended.{IsUnended}
-use Rattle.orch_core.specs.States.{HasKnownSource, IsSlot, IsState, State}
+use Rattle.orch_core.specs.States.{HasKnownSource, HaveEntries, IsSlot, IsState, State}
 use Rattle.jobs_in_flight.specs.Jobs.{Rise}
 use Rattle.orch_core.proofs.Servers.{servers-start}
 use Rattle.orch_core.proofs.Sources.{KnowsSources, source-at}
@@ -251,8 +251,10 @@ module _ (s : Scenario) (given : List Row) (w : World) (settings : List Settings
     rising = let low : 0 ≤ 0 = omega arith in subst (λ (xs : List Unended). Rise 0 xs 0) (sym is.idle) low;
     audit = subst IsAudit (sym audit_made) (closed-is (loaded_audit s given) moment (opened-is s given scenario));
     next = subst (λ (x : AuditState). x.next < 2 ^ 64) (sym audit_made) (let most = last_id-within given in omega (arith, most));
+    entries = subst (HaveEntries a' 0) (sym is.idle) tt;
     begun = made-begun;
     moment = moment-most scenario;
+    block = subst (λ (c : Configuration). c.block ≤ 1000000000) (sym is.configured) scenario.block;
   }
 
   moment_is : moment ≡ start_moment s given

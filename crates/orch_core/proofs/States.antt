@@ -34,7 +34,7 @@ use Rattle.orch_core.specs.Turns.{exchanges_of, is_exchange, ticked}
 use Rattle.unended_jobs.specs.declared.unended.Unended.{Unended}
 use Rattle.unended_jobs.specs.Unended.{IsUnended}
 use Rattle.jobs_in_flight.specs.Jobs.{Rise, stored}
-use Rattle.orch_core.specs.States.{State, IsSlot, IsState}
+use Rattle.orch_core.specs.States.{HaveEntries, State, IsSlot, IsState}
 use Rattle.orch_core.proofs.Sources.{KnowsSources, source-at, sources-run}
 use Rattle.orch_core.specs.Polls.{empty_slots, changes_of}
 use Rattle.orch_core.specs.Readings.{reading_by}
@@ -194,8 +194,10 @@ IsState-exchange s t w moment is turn world servers passed = record {
   jobs = subst (λ count. All (IsUnended count) s.jobs) (sym servers) is.jobs;
   rising = is.rising;
   audit = is.audit;
+  entries = is.entries;
   next = is.next;
   begun = is.begun;
+  block = is.block;
   moment = subst (λ (n : ℕ). n ≤ 2 ^ 63) (sym passed) (ticked-most s.moment t is.moment);
 }
 
@@ -210,9 +212,11 @@ IsState-read s p n o reads read now is within reading = record {
   jobs = is.jobs;
   rising = is.rising;
   audit = is.audit;
+  entries = is.entries;
   next = is.next;
   begun = is.begun;
   moment = is.moment;
+  block = is.block;
 }
 
 pub IsState-store : (s : State) (p : ℕ) (b : BookState) (slot left : Option Observation) → IsState s → b ≡ stored s.book slot → left ≡ None
@@ -226,9 +230,11 @@ IsState-store s p b slot left is stores empty = record {
   jobs = is.jobs;
   rising = is.rising;
   audit = is.audit;
+  entries = is.entries;
   next = is.next;
   begun = is.begun;
   moment = is.moment;
+  block = is.block;
 }
 
 -- ---- a restart
@@ -263,6 +269,8 @@ module _ (rows : List Row) (s : State) (b : BookState) (a : AuditState) (moment 
     sources = is.sources;
     jobs = subst (All (IsUnended (length s.world.servers))) (sym re.dropped) (All-nil (IsUnended (length s.world.servers)));
     rising = let low : 0 ≤ s.last_job = omega arith in subst (λ (xs : List Unended). Rise 0 xs s.last_job) (sym re.dropped) low;
+    entries = subst (HaveEntries a 0) (sym re.dropped) tt;
+    block = is.block;
     audit = subst IsAudit (sym re.audit) (closed-is (reloaded_audit rows s) moment (reloaded-is rows s is few));
     next = subst (λ (x : AuditState). x.next < 2 ^ 64) (sym re.audit) is.next;
     begun = subst (λ (x : AuditState). HasBegun x.recoveries) (sym re.audit) (closed-begun (reloaded_audit rows s) moment (counted-begun (length s.book.settings) (last_given s) rows));
@@ -310,7 +318,7 @@ exchange-is rows s (turn.Join n link) is = record { steps = refl; changes = refl
 exchange-is rows s (turn.Rotate n) is = record { steps = refl; changes = refl; reply = refl; asks_not = refl }
 exchange-is rows s (turn.Tick seconds) is = record { steps = refl; changes = refl; reply = refl; asks_not = refl }
 exchange-is rows s (turn.Job job) is = absurd (false≢true is)
-exchange-is rows s turn.Scan is = record { steps = refl; changes = refl; reply = refl; asks_not = refl }
+exchange-is rows s turn.Scan is = absurd (false≢true is)
 exchange-is rows s (turn.PollRead p n) is = absurd (false≢true is)
 exchange-is rows s (turn.PollStore p) is = absurd (false≢true is)
 exchange-is rows s (turn.Command c) is = absurd (false≢true is)

@@ -1,5 +1,5 @@
 -- The exchanges of a job's turn are allowed, and what holds of states holds after it.
-use Rattle.std.proofs.Common.{◌≡◌, ◌∙◌, ℕ, ◌<◌, Bool, true, false, List, [], ◌∷◌, length, get_or, refl, sym, ap, subst, Option, Some, None, arith}
+use Rattle.std.proofs.Common.{◌≡◌, ◌∙◌, ℕ, ◌<◌, ◌^◌, Bool, true, false, List, [], ◌∷◌, ◌++◌, length, get_or, refl, sym, ap, subst, Option, Some, None, arith}
 use Rattle.std.specs.Prelude.{All, IfSome, nat_lt, not, ◌==◌, slice_get, if◌then◌else◌}
 use Rattle.std.proofs.lemmas.Bool.{and_parts}
 use Rattle.std.proofs.lemmas.Option.{slice_get-get_or}
@@ -8,11 +8,11 @@ use Rattle.std.proofs.lemmas.List.Elements.{All-cons, All-filter, All-head, All-
 use Rattle.orch_base.specs.Memory.{next_count}
 use Rattle.instance_keeper.specs.declared.observation.Observation.{Observation}
 use Rattle.instance_keeper.specs.Book.{BookState, are_known, observed_servers, seen_servers}
-use Rattle.instance_keeper.specs.declared.row.Row.{Row}
 use Rattle.unended_jobs.specs.declared.unended.Unended.{Unended}
 use Rattle.unended_jobs.specs.declared.look.UnendedLook.{UnendedLook}
 use Rattle.unended_jobs.specs.Looks.{foretold, observation_of, step_of}
-use Rattle.unended_jobs.specs.Unended.{Flown, IsUnended, number_of}
+use Rattle.operations.specs.declared.step.JobStep.TheVariants as step
+use Rattle.unended_jobs.specs.Unended.{Flown, IsUnended, flown, number_of}
 use Rattle.unended_jobs.proofs.Going.{flown-allowed, flown-number, flown-sees, flown-unended, ready-of}
 use Rattle.unended_jobs.proofs.Looking.{foretold-observation, foretold-step}
 use Rattle.turns.specs.declared.turn.Turn.TheVariants as turn
@@ -20,12 +20,17 @@ use Rattle.server_model.specs.Run.{AllAllowed, run}
 use Rattle.server_model.specs.Worlds.{World}
 use Rattle.operations.specs.Turns.{is_going}
 use Rattle.jobs_in_flight.specs.Jobs.{Rise, book_turned, job_at, job_exchanges, job_observation, job_reply, jobs_turned, reads_with, step_reply, stored, turn_by, with_job, without_job, without_leases}
+use Rattle.audit_log.specs.Audits.{AuditState, IsAudit}
+use Rattle.orch_base.specs.declared.server.Moment.{Moment}
+use Rattle.orch_core.specs.Closings.{closed_by, closing_changes, closing_of}
+use Rattle.orch_core.specs.declared.closing.Closing.{Closing}
 use Rattle.orch_core.specs.Jobs.{turn_of, turned_at}
-use Rattle.orch_core.specs.Keeping.{kept_if}
 use Rattle.orch_core.specs.Polls.{changes_by, changes_of}
-use Rattle.orch_core.specs.Runs.{step}
-use Rattle.orch_core.specs.States.{IsSlot, IsState, State}
+use Rattle.orch_core.specs.Runs.{step as turn_step}
+use Rattle.orch_core.specs.States.{HaveEntries, IsOpenAt, IsSlot, IsState, State, entry_id}
 use Rattle.jobs_in_flight.proofs.Numbers.{found-number, Rise-with, Rise-without}
+use Rattle.orch_core.proofs.Closed.{closed_by-begun, closed_by-is, closed_by-next, closing-going, closing-open, entries-turned, flown-entry}
+use Rattle.orch_core.proofs.Recoveries.{HasBegun}
 use Rattle.orch_core.proofs.Servers.{servers-run}
 use Rattle.orch_core.proofs.Sources.{KnowsSources, sources-run}
 use Rattle.orch_core.proofs.States.{names-stored, reading_known, settings-stored}
@@ -105,10 +110,23 @@ module _ (s : State) (id : ℕ) (is : IsState s) where
             flown-unended (length s.world.servers) s.world s.book (next_count s.reads) (record { 0 = s.moment }) j one g,
           ))
 
-  pub IsState-job : (w : World) (b : BookState) (jobs : List Unended) (reads : ℕ) → w ≡ run s.world (job_exchanges (turned_at s id)) → b ≡ book_turned s.book id (turned_at s id)
-      → jobs ≡ jobs_turned s.jobs id (turned_at s id) → IsState (record s { world = w; book = b; reads = reads; jobs = jobs })
-  IsState-job w b jobs reads world book joins =
+  entries-after : HaveEntries (closed_by s.audit (record { 0 = s.moment }) (closing_of (turned_at s id))) 0 (jobs_turned s.jobs id (turned_at s id))
+  entries-after = go (job_at s.jobs id) refl
+    where
+      go : (o : Option Unended) → job_at s.jobs id ≡ o
+          → HaveEntries (closed_by s.audit (record { 0 = s.moment }) (closing_of (option_map (turn_of s) o))) 0 (jobs_turned s.jobs id (option_map (turn_of s) o))
+      go None e = is.entries
+      go (Some j) e =
+          entries-turned s.audit (record { 0 = s.moment }) s.jobs s.last_job id j (turn_of s j) is.rising e
+          (flown-entry s.world s.book (next_count s.reads) (record { 0 = s.moment }) j) is.entries
+
+  pub IsState-job : (w : World) (b : BookState) (a : AuditState) (jobs : List Unended) (reads : ℕ) → w ≡ run s.world (job_exchanges (turned_at s id)) → b ≡ book_turned s.book id (turned_at s id)
+      → a ≡ closed_by s.audit (record { 0 = s.moment }) (closing_of (turned_at s id)) → jobs ≡ jobs_turned s.jobs id (turned_at s id)
+      → IsState (record s { world = w; book = b; audit = a; reads = reads; jobs = jobs })
+  IsState-job w b a jobs reads world book closes joins =
       let servers : length w.servers ≡ length s.world.servers = ap (λ (x : World). length x.servers) world ∙ servers-run s.world (job_exchanges (turned_at s id)) in
+      let now : Moment = record { 0 = s.moment } in
+      let ends = closing_of (turned_at s id) in
       record {
         names = ap (λ (x : BookState). length x.names) book ∙ ap length (names-turned s.book id (turned_at s id)) ∙ is.names ∙ sym servers;
         settings = ap (λ (x : BookState). length x.settings) book ∙ ap length (settings-turned s.book id (turned_at s id)) ∙ is.settings ∙ sym servers;
@@ -117,10 +135,13 @@ module _ (s : State) (id : ℕ) (is : IsState s) where
         sources = subst (λ (v : World). KnowsSources v.servers) (sym world) (sources-run s.world (job_exchanges (turned_at s id)) (Allowed-job s id) is.sources);
         jobs = subst (All (IsUnended (length w.servers))) (sym joins) (subst (λ count. All (IsUnended count) (jobs_turned s.jobs id (turned_at s id))) (sym servers) jobs-after.range);
         rising = subst (λ (xs : List Unended). Rise 0 xs s.last_job) (sym joins) jobs-after.rising;
-        audit = is.audit;
-        next = is.next;
-        begun = is.begun;
+        audit = subst IsAudit (sym closes) (closed_by-is s.audit now ends is.audit);
+        entries = subst (λ (x : AuditState). HaveEntries x 0 jobs) (sym closes)
+            (subst (HaveEntries (closed_by s.audit now ends) 0) (sym joins) entries-after);
+        next = subst (λ (n : ℕ). n < 2 ^ 64) (sym (ap (λ (x : AuditState). x.next) closes ∙ closed_by-next s.audit now ends)) is.next;
+        begun = subst (λ (x : AuditState). HasBegun x.recoveries) (sym closes) (closed_by-begun s.audit now ends is.begun);
         moment = is.moment;
+        block = is.block;
       }
 
 -- ---- what a turn observes is of the servers
@@ -155,6 +176,16 @@ pub record Looked (s : State) (id at : ℕ) (j : Unended) (look : UnendedLook) :
   pub item : j ≡ get_or s.jobs at j
   pub tells : foretold j look ≡ turn_of s j
 
+-- as it was looked up with this read number
+pub looked-as : (s now : State) → s ≡ now → (id at : ℕ) (j : Unended) (look : UnendedLook) (read : ℕ) → at < length now.jobs → job_at now.jobs id ≡ slice_get now.jobs at → j ≡ get_or s.jobs at j
+    → read ≡ next_count s.reads → foretold j look ≡ flown s.world s.book read (record { 0 = s.moment }) j → Looked s id at j look
+looked-as s now same id at j look read within found item count tells = record {
+  within = subst (λ (x : State). at < length x.jobs) (sym same) within;
+  found = subst (λ (x : State). job_at x.jobs id ≡ slice_get x.jobs at) (sym same) found;
+  item = item;
+  tells = tells ∙ ap (λ (n : ℕ). flown s.world s.book n (record { 0 = s.moment }) j) count;
+}
+
 module _ (s : State) (id at : ℕ) (j : Unended) (look : UnendedLook) (is : IsState s) (looked : Looked s id at j look) where
   pub here : job_at s.jobs id ≡ Some j
   here = found-here s.jobs s.last_job id at j look is.rising looked.within looked.found looked.item
@@ -179,23 +210,48 @@ module _ (s : State) (id at : ℕ) (j : Unended) (look : UnendedLook) (is : IsSt
       subst (λ (o : Option Observation). IfSome o (λ o. are_known (length s.world.servers) (observed_servers o) ≡ true)) (sym (sym (foretold-observation j look) ∙ ap (λ (t : Flown). t.observation) looked.tells))
       (observed-known s j is.sources one)
 
-  pub kept-here : (kept : Option (List Row)) (made : Bool) → kept_if made kept (changes_by s.book (observation_of look)) ≡ kept_if made kept (changes_of [] s (turn.Job id))
-  kept-here kept made = ap (λ (o : Option Observation). kept_if made kept (changes_by s.book o)) (sym observation-is)
+  -- what ends with it
+  abbrev pub ends : Option Closing
+  ends = closing_of (Some (foretold j look))
 
-  pub step-here : (w : World) (b : BookState) (jobs : List Unended) (reads : ℕ) → w ≡ run s.world (job_exchanges (turn_by s.jobs id look)) → b ≡ book_turned s.book id (turn_by s.jobs id look)
-      → jobs ≡ jobs_turned s.jobs id (turn_by s.jobs id look) → reads ≡ reads_with s.reads (job_observation (turn_by s.jobs id look))
-      → record s { world = w; book = b; reads = reads; jobs = jobs } ≡ step [] s (turn.Job id)
-  step-here w b jobs reads world book joins counts =
-      ap (λ (x : World). record s { world = x; book = b; reads = reads; jobs = jobs }) (world ∙ ap (λ t. run s.world (job_exchanges t)) turn_by-is)
-      ∙ ap (λ (x : BookState). record s { world = run s.world (job_exchanges (turned_at s id)); book = x; reads = reads; jobs = jobs }) (book ∙ ap (book_turned s.book id) turn_by-is)
-      ∙ ap (λ (x : List Unended). record s { world = run s.world (job_exchanges (turned_at s id)); book = book_turned s.book id (turned_at s id); reads = reads; jobs = x }) (joins ∙ ap (jobs_turned s.jobs id) turn_by-is)
-      ∙ ap (λ (x : ℕ). record s { world = run s.world (job_exchanges (turned_at s id)); book = book_turned s.book id (turned_at s id); reads = x; jobs = jobs_turned s.jobs id (turned_at s id) })
-      (counts ∙ ap (λ t. reads_with s.reads (job_observation t)) turn_by-is)
+  abbrev pub now_is : Moment
+  now_is = record { 0 = s.moment }
 
-  pub IsState-taken : (w : World) (b : BookState) (jobs : List Unended) (reads : ℕ) → w ≡ run s.world (job_exchanges (turn_by s.jobs id look)) → b ≡ book_turned s.book id (turn_by s.jobs id look)
-      → jobs ≡ jobs_turned s.jobs id (turn_by s.jobs id look) → IsState (record s { world = w; book = b; reads = reads; jobs = jobs })
-  IsState-taken w b jobs reads world book joins =
-      IsState-job s id is w b jobs reads (world ∙ ap (λ t. run s.world (job_exchanges t)) turn_by-is) (book ∙ ap (book_turned s.book id) turn_by-is) (joins ∙ ap (jobs_turned s.jobs id) turn_by-is)
+  ends-is : closing_of (turned_at s id) ≡ ends
+  ends-is = ap closing_of turned-is
+
+  pub ends-open : IfSome ends (λ c. IsOpenAt s.audit c.id)
+  ends-open =
+      closing-open s.audit s.jobs id j (foretold j look) here
+      (ap (λ (t : Flown). entry_id t.next) looked.tells ∙ flown-entry s.world s.book (next_count s.reads) now_is j) is.entries
+
+  pub changes-here : changes_by s.book (observation_of look) ++ closing_changes s.audit now_is ends ≡ changes_of [] s (turn.Job id)
+  changes-here =
+      ap (λ (o : Option Observation). changes_by s.book o ++ closing_changes s.audit now_is ends) (sym observation-is)
+      ∙ ap (λ (c : Option Closing). changes_by s.book (job_observation (turned_at s id)) ++ closing_changes s.audit now_is c) (sym ends-is)
+
+  -- where the job goes on and observes nothing, nothing is kept
+  pub none-kept : observation_of look ≡ None → step_of look ≡ step.Going → changes_by s.book (observation_of look) ++ closing_changes s.audit now_is ends ≡ []
+  none-kept none going =
+      ap (λ (o : Option Observation). changes_by s.book o ++ closing_changes s.audit now_is ends) none
+      ∙ ap (closing_changes s.audit now_is) (closing-going (foretold j look).next (foretold j look).step (ap is_going (foretold-step j look ∙ going)))
+
+  pub step-here : (w : World) (b : BookState) (a : AuditState) (jobs : List Unended) (reads : ℕ) → w ≡ run s.world (job_exchanges (turn_by s.jobs id look)) → b ≡ book_turned s.book id (turn_by s.jobs id look)
+      → a ≡ closed_by s.audit now_is ends → jobs ≡ jobs_turned s.jobs id (turn_by s.jobs id look) → reads ≡ reads_with s.reads (job_observation (turn_by s.jobs id look))
+      → record s { world = w; book = b; audit = a; reads = reads; jobs = jobs } ≡ turn_step [] s (turn.Job id)
+  step-here w b a jobs reads world book closes joins counts =
+      let w_is : w ≡ run s.world (job_exchanges (turned_at s id)) = world ∙ ap (λ t. run s.world (job_exchanges t)) turn_by-is in
+      let b_is : b ≡ book_turned s.book id (turned_at s id) = book ∙ ap (book_turned s.book id) turn_by-is in
+      let a_is : a ≡ closed_by s.audit now_is (closing_of (turned_at s id)) = closes ∙ ap (closed_by s.audit now_is) (sym ends-is) in
+      let js_are : jobs ≡ jobs_turned s.jobs id (turned_at s id) = joins ∙ ap (jobs_turned s.jobs id) turn_by-is in
+      let reads_are : reads ≡ reads_with s.reads (job_observation (turned_at s id)) = counts ∙ ap (λ t. reads_with s.reads (job_observation t)) turn_by-is in
+      λ i. record s { world = w_is i; book = b_is i; audit = a_is i; reads = reads_are i; jobs = js_are i }
+
+  pub IsState-taken : (w : World) (b : BookState) (a : AuditState) (jobs : List Unended) (reads : ℕ) → w ≡ run s.world (job_exchanges (turn_by s.jobs id look)) → b ≡ book_turned s.book id (turn_by s.jobs id look)
+      → a ≡ closed_by s.audit now_is ends → jobs ≡ jobs_turned s.jobs id (turn_by s.jobs id look) → IsState (record s { world = w; book = b; audit = a; reads = reads; jobs = jobs })
+  IsState-taken w b a jobs reads world book closes joins =
+      IsState-job s id is w b a jobs reads (world ∙ ap (λ t. run s.world (job_exchanges t)) turn_by-is) (book ∙ ap (book_turned s.book id) turn_by-is)
+      (closes ∙ ap (closed_by s.audit now_is) (sym ends-is)) (joins ∙ ap (jobs_turned s.jobs id) turn_by-is)
 
   pub servers-taken : (w : World) → w ≡ run s.world (job_exchanges (turn_by s.jobs id look)) → length w.servers ≡ length s.world.servers
   servers-taken w world = ap (λ (x : World). length x.servers) world ∙ servers-run s.world (job_exchanges (turn_by s.jobs id look))
@@ -209,6 +265,3 @@ module _ (s : State) (id at : ℕ) (j : Unended) (look : UnendedLook) (is : IsSt
       go : (x : Option Observation) → IfSome x (λ o. are_known (length s.book.names) (observed_servers o) ≡ true) → IfSome x (λ o. o.no.0 < length s.book.names)
       go None known = tt
       go (Some o) known = known-head (length s.book.names) o.no.0 (seen_servers o.seen) known
-
-  pub no-changes : changes_of [] s (turn.Job id) ≡ [] → changes_by s.book (observation_of look) ≡ []
-  no-changes none = ap (changes_by s.book) (sym observation-is) ∙ none

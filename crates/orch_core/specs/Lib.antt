@@ -17,3 +17,5 @@ pub mod Scenarios
 pub mod Permission
 pub mod EngineBy
 pub mod OrchBy
+pub mod Closings
+pub mod Settling

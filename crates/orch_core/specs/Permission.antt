@@ -1,6 +1,5 @@
 -- The permission table: what refuses a command, by the book and the settings, and of discover by the server itself.
 use Rattle.std.specs.Prelude.{◌≡◌, ℕ, List, Option, Some, None, is_some, if◌then◌else◌}
-use Rattle.orch_base.specs.declared.server.Moment.{Moment}
 use Rattle.orch_base.specs.declared.server.ServerNo.{ServerNo}
 use Rattle.instance_keeper.specs.Book.{BookState}
 use Rattle.server_model.specs.Gtids.{status}
@@ -8,17 +7,21 @@ use Rattle.server_model.specs.Worlds.{World}
 use Rattle.instance_keeper.specs.Seeing.{seen_in}
 use Rattle.commands.specs.declared.line.Line.{Line}
 use Rattle.commands.specs.declared.refusal.Refusal.{Refusal}
-use Rattle.commands.specs.declared.refusal.Refusal.TheVariants.{Unreachable}
-use Rattle.command_routes.specs.declared.route.Planner.{Planner}
+use Rattle.commands.specs.declared.refusal.Refusal.TheVariants.{UnknownInstance, Unreachable}
+use Rattle.audit_log.specs.Audits.{AuditState}
+use Rattle.recovery_permits.specs.Recoveries.{recovery_refusal}
+use Rattle.recovery_permits.specs.Takeovers.{takeover_refusal}
 use Rattle.command_routes.specs.declared.route.Route.{Route}
-use Rattle.command_routes.specs.declared.route.Route.TheVariants.{Discovers, Forgets, Asks, Decides, Begins, Unbuilt}
+use Rattle.command_routes.specs.declared.route.Route.TheVariants.{Discovers, Forgets, Asks, Decides, Begins, Recovers, TakesOver}
 use Rattle.command_routes.specs.Routes.{route_of}
 use Rattle.command_jobs.specs.Jobs.{refusal_by as planned_refusal}
 use Rattle.commands.specs.declared.turn.Command.{Command}
 use Rattle.asking_commands.specs.Answers.{unknown_in}
 use Rattle.turns.specs.declared.turn.Reply.{Reply}
 use Rattle.turns.specs.declared.turn.Reply.TheVariants as answered
-use Rattle.orch_core.specs.Commands.{first_of, removal_refusal}
+use Rattle.orch_core.specs.Commands.{by_hand, first_of, removal_refusal}
+use Rattle.orch_core.specs.Polls.{numbers_of}
+use Rattle.orch_core.specs.declared.command.Numbers.{Numbers}
 use Rattle.orch_core.specs.States.{State}
 
 -- 5: orchestrator doesn't reach the server
@@ -26,29 +29,45 @@ abbrev pub unreached : World → Option ServerNo → Option Refusal
 unreached w None = None
 unreached w (Some i) = if is_some (seen_in (status w i.0)) then None else Some (Unreachable i)
 
+-- the row of a recovery, and of a takeover; 2 where what it needs isn't given
+abbrev pub recovery_refused : World → BookState → AuditState → Numbers → Option ServerNo → Option Refusal
+recovery_refused w b a n None = Some UnknownInstance
+recovery_refused w b a n (Some i) = recovery_refusal w b a (by_hand n) i
+
+abbrev pub takeover_given : World → BookState → AuditState → Numbers → ServerNo → Option ServerNo → Option Refusal
+takeover_given w b a n i None = Some UnknownInstance
+takeover_given w b a n i (Some d) = takeover_refusal w b a (by_hand n) i d
+
+abbrev pub takeover_refused : World → BookState → AuditState → Numbers → Option ServerNo → Option ServerNo → Option Refusal
+takeover_refused w b a n None d = Some UnknownInstance
+takeover_refused w b a n (Some i) d = takeover_given w b a n i d
+
 -- 2, an instance that the command uses isn't in the book; and 5 where it reads the server itself, 4 where it removes the
 -- instance, or the row of a command that begins a job
-abbrev pub refusal_by : World → BookState → Moment → Command → Route → Option Refusal
-refusal_by w b now c Discovers = first_of (unknown_in b c) (unreached w c.i)
-refusal_by w b now c Forgets = removal_refusal b c
-refusal_by w b now c (Asks question) = unknown_in b c
-refusal_by w b now c (Decides decision) = unknown_in b c
-refusal_by w b now c (Begins p) = planned_refusal w b now c p
-refusal_by w b now c Unbuilt = unknown_in b c
+abbrev pub refusal_by : World → BookState → AuditState → Numbers → Command → Route → Option Refusal
+refusal_by w b a n c Discovers = first_of (unknown_in b c) (unreached w c.i)
+refusal_by w b a n c Forgets = removal_refusal b c
+refusal_by w b a n c (Asks question) = unknown_in b c
+refusal_by w b a n c (Decides decision) = unknown_in b c
+refusal_by w b a n c (Begins p) = planned_refusal w b n.moment c p
+refusal_by w b a n c Recovers = recovery_refused w b a n c.i
+refusal_by w b a n c TakesOver = takeover_refused w b a n c.i c.d
 
 -- the refusal with the lowest number that applies
-abbrev pub refusal_for : World → BookState → Moment → Command → Option Refusal
-refusal_for w b now c = refusal_by w b now c (route_of c.name)
-
 abbrev pub refusal_at : State → Command → Option Refusal
-refusal_at s c = refusal_for s.world s.book (record { 0 = s.moment }) c
+refusal_at s c = refusal_by s.world s.book s.audit (numbers_of s) c (route_of c.name)
 
 -- a command that begins a job answers its number, and any other its lines
-abbrev pub IsDone : Option Planner → Reply → Type 0
-IsDone None r = (lines : List Line) × (r ≡ answered.Told lines)
-IsDone (Some planner) r = (job : ℕ) × (r ≡ answered.Begun job)
+abbrev pub IsDone : Route → Reply → Type 0
+IsDone Discovers r = (lines : List Line) × (r ≡ answered.Told lines)
+IsDone Forgets r = (lines : List Line) × (r ≡ answered.Told lines)
+IsDone (Asks question) r = (lines : List Line) × (r ≡ answered.Told lines)
+IsDone (Decides decision) r = (lines : List Line) × (r ≡ answered.Told lines)
+IsDone (Begins p) r = (job : ℕ) × (r ≡ answered.Begun job)
+IsDone Recovers r = (job : ℕ) × (r ≡ answered.Begun job)
+IsDone TakesOver r = (job : ℕ) × (r ≡ answered.Begun job)
 
 -- refused exactly with the refusal that applies, else begun or done
-abbrev pub IsAnswer : Option Planner → Option Refusal → Reply → Type 0
-IsAnswer planner None r = IsDone planner r
-IsAnswer planner (Some refusal) r = r ≡ answered.Refused refusal
+abbrev pub IsAnswer : Route → Option Refusal → Reply → Type 0
+IsAnswer route None r = IsDone route r
+IsAnswer route (Some refusal) r = r ≡ answered.Refused refusal

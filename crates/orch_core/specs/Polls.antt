@@ -1,5 +1,5 @@
 -- Polls, commands and jobs: what orchestrator reads of servers, and what it makes of it.
-use Rattle.std.specs.Prelude.{ℕ, List, [], replicate, slice_index_or, slice_set, Option, Some, None, is_some, if◌then◌else◌}
+use Rattle.std.specs.Prelude.{ℕ, ◌++◌, List, [], replicate, slice_index_or, slice_set, Option, Some, None, is_some, if◌then◌else◌}
 use Rattle.std.specs.Option.{option_to_list}
 use Rattle.orch_base.specs.declared.server.ServerNo.{ServerNo}
 use Rattle.orch_base.specs.Memory.{next_count}
@@ -10,7 +10,8 @@ use Rattle.instance_keeper.specs.Book.{BookState, instance_at, store_change}
 use Rattle.audit_log.specs.Audits.{AuditState, closed}
 use Rattle.commands.specs.declared.turn.CommandTurn.{CommandTurn}
 use Rattle.unended_jobs.specs.declared.unended.Unended.{Unended}
-use Rattle.orch_core.specs.Commands.{Outcome, audit_updated, jobs_updated, last_job_updated, outcome_of, updated}
+use Rattle.orch_core.specs.Closings.{closed_by, closing_changes, closing_of}
+use Rattle.orch_core.specs.Commands.{Outcome, audit_updated, jobs_updated, last_job_updated, outcome_of, scan_by, updated}
 use Rattle.jobs_in_flight.specs.Jobs.{book_turned, job_observation, jobs_turned, reads_with, stored}
 use Rattle.orch_core.specs.Jobs.{turned_at}
 use Rattle.orch_core.specs.Readings.{reading_by}
@@ -51,11 +52,15 @@ slots_after s (turn.Command c) = s.slots
 
 -- the numbers by which a command goes
 abbrev pub numbers_of : State → Numbers
-numbers_of s = record { reads = s.reads; last_job = s.last_job; wait = s.configuration.wait; moment = record { 0 = s.moment } }
+numbers_of s = record { reads = s.reads; last_job = s.last_job; wait = s.configuration.wait; block = s.configuration.block; moment = record { 0 = s.moment } }
 
 -- what a command answers and changes
 abbrev pub command_outcome : State → CommandTurn → Outcome
 command_outcome s c = outcome_of s.world s.book s.audit (numbers_of s) c
+
+-- what a scan tells and begins
+abbrev pub scan_outcome : State → Outcome
+scan_outcome s = scan_by s.world s.book s.audit s.configuration (numbers_of s)
 
 -- a poll that reads a server takes the next read number, and so does a command or a job's turn that does
 abbrev pub reads_after : State → Turn → ℕ
@@ -91,7 +96,7 @@ book_after rows s (turn.Join n link) = s.book
 book_after rows s (turn.Rotate n) = s.book
 book_after rows s (turn.Tick seconds) = s.book
 book_after rows s (turn.Job job) = book_turned s.book job (turned_at s job)
-book_after rows s turn.Scan = s.book
+book_after rows s turn.Scan = updated s.book (scan_outcome s).book
 book_after rows s (turn.PollRead p n) = s.book
 
 -- a command may acknowledge recoveries, and a restart loads those that count, and ends the unended ones as interrupted
@@ -108,8 +113,8 @@ audit_after rows s (turn.Cut n link) = s.audit
 audit_after rows s (turn.Join n link) = s.audit
 audit_after rows s (turn.Rotate n) = s.audit
 audit_after rows s (turn.Tick seconds) = s.audit
-audit_after rows s (turn.Job job) = s.audit
-audit_after rows s turn.Scan = s.audit
+audit_after rows s (turn.Job job) = closed_by s.audit (record { 0 = s.moment }) (closing_of (turned_at s job))
+audit_after rows s turn.Scan = audit_updated s.audit (scan_outcome s).book
 audit_after rows s (turn.PollRead p n) = s.audit
 
 abbrev pub changes_by : BookState → Option Observation → List Change
@@ -129,8 +134,8 @@ changes_of rows s (turn.Cut n link) = []
 changes_of rows s (turn.Join n link) = []
 changes_of rows s (turn.Rotate n) = []
 changes_of rows s (turn.Tick seconds) = []
-changes_of rows s (turn.Job job) = changes_by s.book (job_observation (turned_at s job))
-changes_of rows s turn.Scan = []
+changes_of rows s (turn.Job job) = changes_by s.book (job_observation (turned_at s job)) ++ closing_changes s.audit (record { 0 = s.moment }) (closing_of (turned_at s job))
+changes_of rows s turn.Scan = (scan_outcome s).rows
 changes_of rows s (turn.PollRead p n) = []
 changes_of rows s turn.Restart = restart_changes rows s
 
@@ -150,7 +155,7 @@ jobs_after s (turn.Join n link) = s.jobs
 jobs_after s (turn.Rotate n) = s.jobs
 jobs_after s (turn.Tick seconds) = s.jobs
 jobs_after s (turn.PollRead p n) = s.jobs
-jobs_after s turn.Scan = s.jobs
+jobs_after s turn.Scan = jobs_updated s.jobs (scan_outcome s).book
 
 -- the numbers of jobs go on
 abbrev pub last_job_after : State → Turn → ℕ
@@ -168,4 +173,4 @@ last_job_after s (turn.Join n link) = s.last_job
 last_job_after s (turn.Rotate n) = s.last_job
 last_job_after s (turn.Tick seconds) = s.last_job
 last_job_after s (turn.PollRead p n) = s.last_job
-last_job_after s turn.Scan = s.last_job
+last_job_after s turn.Scan = last_job_updated s.last_job (scan_outcome s).book

@@ -13,7 +13,7 @@ use Rattle.turns.specs.declared.turn.Reply.{Reply}
 use Rattle.turns.specs.declared.turn.Reply.TheVariants as answered
 use Rattle.orch_core.specs.declared.engine.Replies.{Replies}
 use Rattle.orch_core.specs.States.{State}
-use Rattle.orch_core.specs.Polls.{command_outcome, reading, slot_at}
+use Rattle.orch_core.specs.Polls.{command_outcome, reading, scan_outcome, slot_at}
 use Rattle.jobs_in_flight.specs.Jobs.{job_reply}
 use Rattle.orch_core.specs.Jobs.{turned_at}
 use Rattle.orch_core.specs.Turns.{later}
@@ -65,7 +65,7 @@ reply_of s (turn.Join n link) = exchange_reply s.world s.moment (turn.Join n lin
 reply_of s (turn.Rotate n) = exchange_reply s.world s.moment (turn.Rotate n)
 reply_of s (turn.Tick seconds) = exchange_reply s.world s.moment (turn.Tick seconds)
 reply_of s (turn.Job job) = job_reply (turned_at s job)
-reply_of s turn.Scan = exchange_reply s.world s.moment turn.Scan
+reply_of s turn.Scan = (scan_outcome s).reply
 reply_of s (turn.PollRead p n) = if is_some (instance_at s.book n) then read_reply (reading s n) else answered.Unknown
 reply_of s (turn.PollStore p) = stored_reply s.book (slot_at s p)
 reply_of s (turn.Command c) = (command_outcome s c).reply

@@ -1,9 +1,10 @@
 -- What a run is at a moment.
-use Rattle.std.specs.Prelude.{◌≡◌, ◌<◌, ◌≤◌, ◌^◌, ℕ, true, length, List, Option, IfSome, All}
-use Rattle.audit_log.specs.Audits.{AuditState, IsAudit}
+use Rattle.std.specs.Prelude.{◌≡◌, ◌<◌, ◌≤◌, ◌^◌, ℕ, ⊤, true, length, List, [], ◌∷◌, Option, Some, None, IfSome, IsSomeAnd, All, unwrap_or}
+use Rattle.audit_log.specs.Audits.{AuditState, IsAudit, is_unended, recovery_at}
 use Rattle.instance_keeper.specs.declared.observation.Observation.{Observation}
 use Rattle.instance_keeper.specs.Book.{BookState, are_known, observed_servers, source_servers}
 use Rattle.unended_jobs.specs.declared.unended.Unended.{Unended}
+use Rattle.unended_jobs.specs.declared.unended.Unended.TheVariants as unended
 use Rattle.unended_jobs.specs.Unended.{IsUnended}
 use Rattle.jobs_in_flight.specs.Jobs.{Rise}
 use Rattle.orch_core.specs.declared.configuration.Configuration.{Configuration}
@@ -32,9 +33,28 @@ HasKnownSource count s = are_known count (source_servers s.source) ≡ true
 abbrev pub IsSlot : ℕ → Option Observation → Type 0
 IsSlot count slot = IfSome slot (λ o. are_known count (observed_servers o) ≡ true)
 
+-- the id of a job's entry in the audit: a plan has none, and neither has a regroup
+abbrev pub entry_id : Unended → Option ℕ
+entry_id (unended.Plan j) = None
+entry_id (unended.Recovery r entry) = entry
+
+-- the audit has this entry, which isn't ended
+abbrev pub IsOpenAt : AuditState → ℕ → Type 0
+IsOpenAt a id = IsSomeAnd (recovery_at a id) (λ e. is_unended e ≡ true)
+
+abbrev pub HasEntry : AuditState → ℕ → Option ℕ → Type 0
+HasEntry a low None = ⊤
+HasEntry a low (Some id) = (low < id) × IsOpenAt a id
+
+-- the entries of jobs aren't ended, and rise with the jobs, above the first id
+abbrev pub HaveEntries : AuditState → ℕ → List Unended → Type 0
+HaveEntries a low [] = ⊤
+HaveEntries a low (j ∷ jobs) = HasEntry a low (entry_id j) × HaveEntries a (unwrap_or (entry_id j) low) jobs
+
 -- every server is in the book's lists, every poller has its slot, each reading, each source and each job is of the servers,
--- the jobs' numbers rise from 1 on up to that of the last job, the ids of recoveries rise from 1 on below the next one, which is
--- in its type's range, each recovery began by 2^63, and time stands still then
+-- the jobs' numbers rise from 1 on up to that of the last job, and so do their entries, which aren't ended, the ids of
+-- recoveries rise from 1 on below the next one, which is in its type's range, each recovery began by 2^63, time stands still
+-- then, and the block period is at most 1,000,000,000 seconds
 pub record IsState (s : State) : Type 0 where
   pub names : length s.book.names ≡ length s.world.servers
   pub settings : length s.book.settings ≡ length s.world.servers
@@ -44,6 +64,8 @@ pub record IsState (s : State) : Type 0 where
   pub jobs : All (IsUnended (length s.world.servers)) s.jobs
   pub rising : Rise 0 s.jobs s.last_job
   pub audit : IsAudit s.audit
+  pub entries : HaveEntries s.audit 0 s.jobs
   pub next : s.audit.next < 2 ^ 64
   pub begun : All (λ r. r.begun.0 ≤ 2 ^ 63) s.audit.recoveries
   pub moment : s.moment ≤ 2 ^ 63
+  pub block : s.configuration.block ≤ 1000000000

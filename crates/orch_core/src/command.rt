@@ -1,17 +1,20 @@
 //! What a command answers, and what it changes.
 
-ghost use Rattle.std.specs.Prelude.{◌≡◌, ◌<◌, ◌≤◌, ◌^◌, ◌∷◌, [], IfOk, IfSome, IsSome, IsTrue, length, vec_len, vec_capacity};
+ghost use Rattle.std.specs.Prelude.{◌≡◌, ◌<◌, ◌≤◌, ◌+◌, ◌-◌, ◌^◌, ◌∷◌, [], All, IfOk, IfSome, IsSome, IsTrue, OnOk, length, vec_len, vec_capacity};
 ghost use Rattle.std.specs.Option.{option_to_list};
 ghost use Rattle.instance_keeper.specs.Book.{discovery_change, instance_at};
 ghost use Rattle.commands.specs.Turns.{is_within};
 ghost use Rattle.asking_commands.specs.Answers.{allowed};
 ghost use Rattle.book_commands.specs.Decisions.{audit_after as audit_decided, book_after as book_decided};
 ghost use Rattle.command_jobs.specs.Jobs.{planner_for};
-ghost use Rattle.orch_core.specs.Commands.{audit_updated, begun_by, decision, discovered, forgotten, jobs_updated, last_job_updated, next_reading, outcome_of, question, refusal, removal, removal_refusal, told_with, updated, IsEffect, IsUpdate};
+ghost use Rattle.orch_core.specs.Commands.{audit_updated, begun_by, decision, discovered, forgotten, jobs_updated, last_job_updated, next_reading, outcome_of, question, refusal, removal, removal_refusal, told_with, updated, HasRoomFor, IsEffect, IsUpdate, LeavesIds, MayTake};
+ghost use Rattle.recovery_core.specs.Begun.{BeginInTurn, CanBegin};
+ghost use Rattle.recovery_core.specs.Scans.{HasRoom};
 ghost use Rattle.orch_core.specs.CommandsBy.{outcome};
 
 use crate::Reply;
 use crate::engine::read_server;
+use crate::recovering::{recover, take_over};
 use asking_commands::{AnswerFault, answer, permit};
 use audit_log::Audit;
 use book_commands::{Decided, Effect, decide, rows_of};
@@ -21,6 +24,7 @@ use command_routes::{Decision, Planner, Route};
 use commands::{Command, CommandTurn, Line, Lines, Refusal};
 use instance_keeper::{Book, Change, Instance, Key, Observation, Row, Seen, Table};
 use orch_base::{Memory, Moment, ServerNo};
+use recovery_core::Begun;
 use server_model::World;
 use std::alloc::Global;
 use std::marker::Model;
@@ -35,6 +39,8 @@ pub(crate) struct Numbers {
     pub(crate) last_job: u64,
     /// At most so many times a job waits.
     pub(crate) wait: u32,
+    /// The block period in seconds.
+    pub(crate) block: u64,
     pub(crate) moment: Moment,
 }
 
@@ -56,7 +62,31 @@ impl Model for Beginning {
     ghost view = { beginning_of };
 }
 
-/// What a command makes of the book, the audit and the jobs.
+/// Recoveries that begin one after another, which contracts see as a list.
+#[derive(Drop)]
+pub(crate) struct Recoveries {
+    list: Vec<Begun>,
+}
+
+impl Model for Recoveries {
+    ghost use Rattle.std.specs.Prelude.{List};
+    ghost use Rattle.recovery_core.specs.Tries.{Begins};
+
+    ghost Value = { List Begins };
+
+    ghost view = { λ a. a.list.items };
+}
+
+impl Recoveries {
+    /// These recoveries. It takes no memory.
+    pub(crate) fn new(list: Vec<Begun>) -> Recoveries
+        ensures { result ≡ list.items }
+    {
+        Recoveries { list }
+    }
+}
+
+/// What a command or a scan makes of the book, the audit and the jobs.
 #[derive(Drop)]
 pub(crate) enum Update {
     /// Nothing.
@@ -69,9 +99,11 @@ pub(crate) enum Update {
     Decides(Effect),
     /// A job begins, which takes its leases.
     Begins(Beginning),
+    /// Recoveries begin one after another: each takes its leases, and has its entry in the audit.
+    Recovers(Recoveries),
 }
 
-/// What a command answers, what it makes of what is known, how it changes the kept rows, and the greatest read number
+/// What a command or a scan answers, what it makes of what is known, how it changes the kept rows, and the greatest read number
 /// after it.
 #[derive(Drop)]
 pub(crate) struct Outcome {
@@ -83,7 +115,7 @@ pub(crate) struct Outcome {
 
 // The job's leases are taken, and it joins the others.
 fn join(book: &mut Book, jobs: &mut Vec<Unended>, last_job: &mut u64, beginning: Beginning)
-    requires update { IsUpdate book.old (Update.Begins beginning) }
+    requires list { MayTake book.old beginning.list }
     requires room { vec_len jobs.old < vec_capacity jobs.old }
     ensures book { book.new ≡ updated book.old (Update.Begins beginning) }
     ensures jobs { jobs.new.items ≡ jobs_updated jobs.old.items (Update.Begins beginning) }
@@ -94,6 +126,58 @@ fn join(book: &mut Book, jobs: &mut Vec<Unended>, last_job: &mut u64, beginning:
     let _ = book.take_leases(&list, number);
     *last_job = number;
     jobs.push_reserved(job);
+}
+
+// A recovery's leases are taken, its entry joins the audit, and its job the others.
+fn join_recovery(
+    book: &mut Book,
+    audit: &mut Audit,
+    jobs: &mut Vec<Unended>,
+    last_job: &mut u64,
+    begun: Begun,
+)
+    requires can { CanBegin (length book.old.names) book.old.leases audit.old.audit last_job.old
+        begun }
+    requires id { begun.entry.id < 2 ^ 64 - 1 }
+    requires room { vec_len jobs.old < vec_capacity jobs.old }
+    requires spare { 1 ≤ audit.old.spare }
+    ensures book { book.new ≡ updated book.old (Update.Recovers (begun ∷ [])) }
+    ensures audit { audit.new.audit ≡ audit_updated audit.old.audit (Update.Recovers (begun ∷ [])) }
+    ensures spare { audit.new.spare + 1 ≡ audit.old.spare }
+    ensures jobs { jobs.new.items ≡ jobs_updated jobs.old.items (Update.Recovers (begun ∷ [])) }
+    ensures capacity { vec_capacity jobs.new ≡ vec_capacity jobs.old }
+    ensures length { vec_len jobs.new ≡ vec_len jobs.old + 1 }
+    ensures last { last_job.new ≡ begun.job.core.id }
+{
+    let (list, job, entry) = begun.into_parts();
+    let number = job.id();
+    let id = entry.id;
+    let _ = book.take_leases(&list, number);
+    audit.begin(entry);
+    *last_job = number;
+    jobs.push_reserved(Unended::Recovery(job, Some(id)));
+}
+
+fn join_all(
+    book: &mut Book,
+    audit: &mut Audit,
+    jobs: &mut Vec<Unended>,
+    last_job: &mut u64,
+    recoveries: Recoveries,
+)
+    requires update { BeginInTurn (length book.old.names) book.old.leases audit.old.audit
+        last_job.old recoveries }
+    requires ids { HasRoom recoveries }
+    requires room { vec_len jobs.old + length recoveries ≤ vec_capacity jobs.old }
+    requires spare { length recoveries ≤ audit.old.spare }
+    ensures book { book.new ≡ updated book.old (Update.Recovers recoveries) }
+    ensures audit { audit.new.audit ≡ audit_updated audit.old.audit (Update.Recovers recoveries) }
+    ensures jobs { jobs.new.items ≡ jobs_updated jobs.old.items (Update.Recovers recoveries) }
+    ensures last { last_job.new ≡ last_job_updated last_job.old (Update.Recovers recoveries) }
+{
+    for begun in recoveries.list {
+        join_recovery(book, audit, jobs, last_job, begun);
+    }
 }
 
 fn decide_so(book: &mut Book, audit: &mut Audit, effect: Effect)
@@ -110,7 +194,30 @@ fn decide_so(book: &mut Book, audit: &mut Audit, effect: Effect)
     }
 }
 
-/// Makes of the book, the audit and the jobs what a command makes of them. It takes no memory.
+/// Makes room for the jobs that begin, and for the entries of recoveries. `Err` is want of memory.
+pub(crate) fn make_room(
+    audit: &mut Audit,
+    jobs: &mut Vec<Unended>,
+    update: &Update,
+) -> Result<(), Memory>
+    ensures room { OnOk result (HasRoomFor (vec_capacity jobs.new - vec_len jobs.new)
+        audit.new.spare update.now) }
+    ensures audit { audit.new.audit ≡ audit.old.audit }
+    ensures jobs { jobs.new.items ≡ jobs.old.items }
+{
+    match update {
+        Update::Stays | Update::Change(_) | Update::Discovery(_) | Update::Decides(_) => {}
+        Update::Begins(_) => jobs.reserve(1)?,
+        Update::Recovers(recoveries) => {
+            let count = recoveries.list.len();
+            jobs.reserve(count)?;
+            audit.reserve_for(count)?;
+        }
+    }
+    Ok(())
+}
+
+/// Makes of the book, the audit and the jobs what a command or a scan makes of them. It takes no memory.
 pub(crate) fn update_all(
     book: &mut Book,
     audit: &mut Audit,
@@ -118,8 +225,9 @@ pub(crate) fn update_all(
     last_job: &mut u64,
     update: Update,
 )
-    requires update { IsUpdate book.old update }
-    requires room { vec_len jobs.old < vec_capacity jobs.old }
+    requires update { IsUpdate book.old audit.old.audit last_job.old update }
+    requires ids { LeavesIds update }
+    requires room { HasRoomFor (vec_capacity jobs.old - vec_len jobs.old) audit.old.spare update }
     ensures book { book.new ≡ updated book.old update }
     ensures audit { audit.new.audit ≡ audit_updated audit.old.audit update }
     ensures jobs { jobs.new.items ≡ jobs_updated jobs.old.items update }
@@ -131,10 +239,11 @@ pub(crate) fn update_all(
         Update::Discovery(o) => book.discover(o),
         Update::Decides(effect) => decide_so(book, audit, effect),
         Update::Begins(beginning) => join(book, jobs, last_job, beginning),
+        Update::Recovers(recoveries) => join_all(book, audit, jobs, last_job, recoveries),
     }
 }
 
-fn refused(alloc: Global, reads: u64, why: Refusal) -> Outcome
+pub(crate) fn refused(alloc: Global, reads: u64, why: Refusal) -> Outcome
     ensures { outcome result ≡ refusal reads why }
 {
     Outcome {
@@ -378,7 +487,7 @@ fn begin_by(
 }
 
 /// The outcome of a command, by the numbers that it goes by. It changes nothing. Memory comes, too, where no number is left
-/// for a job.
+/// for a job, or no id in the audit.
 #[tactic(auto, unfolding(crate::specs::Commands::outcome_of))]
 pub(crate) fn outcome_of(
     alloc: Global,
@@ -393,15 +502,25 @@ pub(crate) fn outcome_of(
     requires d { IsTrue (is_within (length book.now.names) t.now.command.d) }
     requires moment { numbers.moment.0 ≤ 2 ^ 63 }
     requires duration { IfSome t.now.keys.duration (λ n. n ≤ 31536000) }
-    ensures { IfOk result (λ out. outcome out ≡ outcome_of world.now book.now audit.now.audit
-        numbers t.now) }
+    requires begun { All (λ r. r.begun.0 ≤ 2 ^ 63) audit.now.audit.recoveries }
+    requires block { numbers.block ≤ 1000000000 }
+    ensures outcome { IfOk result (λ out. outcome out
+        ≡ outcome_of world.now book.now audit.now.audit numbers t.now) }
+    ensures ids { IfOk result (λ out. LeavesIds out.book) }
 {
     match (Route::of(t.command.name), t.command.i) {
         (Route::Discovers, Some(no)) => discover(alloc, world, book, numbers, no),
         (Route::Forgets, Some(no)) => forget(alloc, book, t.command, no, numbers.reads),
         (Route::Decides(what), _) => decision(alloc, book, audit, numbers, t, what),
         (Route::Begins(planner), _) => begin_by(alloc, world, book, numbers, t.command, planner),
-        (Route::Discovers | Route::Forgets, None) | (Route::Asks(_) | Route::Unbuilt, _) => {
+        (Route::Recovers, Some(no)) => recover(alloc, world, book, audit, numbers, no),
+        (Route::TakesOver, Some(no)) => {
+            take_over(alloc, world, book, audit, numbers, no, t.command.d)
+        }
+        (Route::Recovers | Route::TakesOver, None) => {
+            Ok(refused(alloc, numbers.reads, Refusal::UnknownInstance))
+        }
+        (Route::Discovers | Route::Forgets, None) | (Route::Asks(_), _) => {
             ask(alloc, book, audit, numbers.reads, t)
         }
     }

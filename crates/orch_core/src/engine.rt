@@ -14,11 +14,16 @@ ghost use Rattle.orch_core.specs.Readings.{reading_by};
 ghost use Rattle.orch_core.specs.Replies.{exchange_reply, read_reply, reply_by, reply_of, stored_reply, AreReply};
 ghost use Rattle.orch_core.specs.Runs.{engine};
 ghost use Rattle.orch_core.specs.Keeping.{StepsTo, kept_by, kept_if, asks, Calls, HasTurnCause};
+ghost use Rattle.orch_core.specs.Commands.{LeavesIds};
+ghost use Rattle.orch_core.specs.CommandsBy.{outcome as outcome_in};
+ghost use Rattle.orch_core.specs.Settling.{CanSettle, settled};
 ghost use Rattle.orch_core.specs.Scenarios.{configuration_of};
 ghost use Rattle.orch_core.specs.States.{HasKnownSource, IsState};
 
-use crate::command::{Numbers, outcome_of};
+use crate::closing::{close_entry, closing_of, job_changes};
+use crate::command::{Numbers, Outcome, outcome_of};
 use crate::keep::{given_rows, keep_and_update, keep_some, keep_store};
+use crate::recovering::scan_by;
 use crate::{BoxedCommand, Configuration, Reply, Scenario, Turn, TurnFault};
 use audit_log::Audit;
 use instance_keeper::{Book, Keeper, Observation, StoreAnswer};
@@ -402,11 +407,12 @@ impl Engine {
             reads: self.reads,
             last_job: self.last_job,
             wait: self.configuration.wait,
+            block: self.configuration.block,
             moment: self.moment,
         }
     }
 
-    // The turn of the job of a number: the row of what it observes is kept first.
+    // The turn of the job of a number: the rows of what it observes and of the entry that ends are kept first.
     fn job<K: Keeper>(
         &mut self,
         alloc: Global,
@@ -452,10 +458,20 @@ impl Engine {
         ensures servers { length self.new.world.servers ≡ length self.old.world.servers }
     {
         let read = self.reads.saturating_add(1);
-        let look = self.jobs[found.at].look(alloc, &self.world, &self.book, read, self.moment)?;
+        let job = &self.jobs[found.at];
+        let look = job.look(alloc, &self.world, &self.book, read, self.moment)?;
+        let closing = closing_of(job, &look);
         let told = answer(alloc, look.step())?;
         let written = copied(alloc, &told, written)?;
-        keep_store(alloc, keeper, &self.book, look.observation())?;
+        let changes = job_changes(
+            alloc,
+            &self.book,
+            &self.audit,
+            self.moment,
+            look.observation(),
+            closing,
+        )?;
+        keep_some(alloc, keeper, self.book.names(), &changes)?;
         take_turn(
             alloc,
             &mut self.jobs,
@@ -465,6 +481,7 @@ impl Engine {
             found,
             look,
         )?;
+        close_entry(&mut self.audit, self.moment, closing);
         Ok(Replies { told, written })
     }
 
@@ -491,6 +508,8 @@ impl Engine {
         // shows the proof what holds of the book
         let _ = self.book.servers();
         let numbers = self.numbers();
+        // shows the proof that the number is in its range
+        is_bound(numbers.wait);
         let outcome = outcome_of(
             alloc,
             &self.world,
@@ -499,6 +518,59 @@ impl Engine {
             numbers,
             t.as_turn(),
         )?;
+        self.settle(alloc, keeper, outcome, written)
+    }
+
+    // Tries the recoveries for which the analysis asks: the entries of those that begin are kept first.
+    fn scan<K: Keeper>(
+        &mut self,
+        alloc: Global,
+        keeper: &mut K,
+        written: bool,
+    ) -> Result<Replies, TurnFault>
+        ensures reply { IfOk result (λ r. AreReply written (reply_of self.old Turn.Scan) r) }
+        ensures ok { OnOk result (self.new ≡ step [] self.old Turn.Scan) }
+        ensures err { OnErr result (self.new ≡ self.old) }
+        ensures kept { K.kept keeper.new ≡ kept_if (is_ok result) (K.kept keeper.old)
+            (changes_of [] self.old Turn.Scan) }
+        ensures cause { HasTurnCause (K.faults keeper.old) (K.faults keeper.new) result }
+        ensures idle { changes_of [] self.old Turn.Scan ≡ [] → keeper.new ≡ keeper.old }
+        ensures calls { result ≡ Err TurnFault.Keeper → changes_of [] self.old Turn.Scan ≢ [] }
+        ensures servers { length self.new.world.servers ≡ length self.old.world.servers }
+    {
+        // shows the proof what holds of the book
+        let _ = self.book.servers();
+        let numbers = self.numbers();
+        let outcome = scan_by(
+            alloc,
+            &self.world,
+            &self.book,
+            &self.audit,
+            &self.configuration,
+            numbers,
+        )?;
+        self.settle(alloc, keeper, outcome, written)
+    }
+
+    // Keeps what an outcome changes of the kept rows, and then makes of the state what it makes of it.
+    fn settle<K: Keeper>(
+        &mut self,
+        alloc: Global,
+        keeper: &mut K,
+        outcome: Outcome,
+        written: bool,
+    ) -> Result<Replies, TurnFault>
+        requires outcome { CanSettle self.old (outcome_in outcome) }
+        requires ids { LeavesIds outcome.book }
+        ensures reply { IfOk result (λ r. AreReply written outcome.reply r) }
+        ensures ok { OnOk result (self.new ≡ settled self.old (outcome_in outcome)) }
+        ensures err { OnErr result (self.new ≡ self.old) }
+        ensures kept { K.kept keeper.new ≡ kept_if (is_ok result) (K.kept keeper.old)
+            outcome.rows.items }
+        ensures cause { HasTurnCause (K.faults keeper.old) (K.faults keeper.new) result }
+        ensures idle { outcome.rows.items ≡ [] → keeper.new ≡ keeper.old }
+        ensures calls { result ≡ Err TurnFault.Keeper → outcome.rows.items ≢ [] }
+    {
         let written = copied(alloc, &outcome.reply, written)?;
         keep_and_update(
             alloc,
@@ -510,9 +582,8 @@ impl Engine {
             outcome.book,
             &outcome.rows,
         )?;
-        // shows the proof that these numbers are in their ranges
+        // shows the proof that the number is in its range
         is_number(self.last_job);
-        is_bound(numbers.wait);
         self.reads = outcome.reads;
         Ok(Replies {
             told: outcome.reply,
@@ -597,6 +668,7 @@ impl Engine {
             Turn::PollStore(poller) => Ok(plain(self.poll_store(alloc, keeper, *poller)?, written)),
             Turn::Command(t) => self.command(alloc, keeper, t, written),
             Turn::Job(id) => self.job(alloc, keeper, *id, written),
+            Turn::Scan => self.scan(alloc, keeper, written),
             Turn::Restart => Ok(plain(self.restart(alloc, keeper)?, written)),
             Turn::Write(_, _)
             | Turn::Fetch(_)
@@ -606,8 +678,7 @@ impl Engine {
             | Turn::Cut(_, _)
             | Turn::Join(_, _)
             | Turn::Rotate(_)
-            | Turn::Tick(_)
-            | Turn::Scan => Ok(plain(self.exchange_turn(t), written)),
+            | Turn::Tick(_) => Ok(plain(self.exchange_turn(t), written)),
         }
     }
 

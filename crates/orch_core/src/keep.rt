@@ -1,12 +1,12 @@
 //! What is kept: the changes of rows, which are kept before they are made, and the rows that a keeper hands back.
 
 ghost use Rattle.std.specs.Prelude.{◌≡◌, ◌≢◌, ◌<◌, [], IfOk, IfSome, OnOk, OnErr, Err, is_ok, length};
-ghost use Rattle.orch_core.specs.Commands.{IsUpdate, audit_updated, jobs_updated, last_job_updated, updated};
+ghost use Rattle.orch_core.specs.Commands.{IsUpdate, LeavesIds, audit_updated, jobs_updated, last_job_updated, updated};
 ghost use Rattle.orch_core.specs.Keeping.{HasTurnCause, kept_if};
 ghost use Rattle.orch_core.specs.Polls.{changes_by};
 
 use crate::TurnFault;
-use crate::command::{Update, update_all};
+use crate::command::{Update, make_room, update_all};
 use audit_log::Audit;
 use instance_keeper::{Book, Change, Keeper, Observation, Row};
 use orch_base::Name;
@@ -67,7 +67,8 @@ pub(crate) fn keep_some<K: Keeper>(
     keep(alloc, keeper, names, changes)
 }
 
-/// Keeps the changes, where there are any, and makes of the book, the audit and the jobs what a command makes of them.
+/// Keeps the changes, where there are any, and makes of the book, the audit and the jobs what a command or a scan makes of
+/// them.
 pub(crate) fn keep_and_update<K: Keeper>(
     alloc: Global,
     keeper: &mut K,
@@ -78,7 +79,8 @@ pub(crate) fn keep_and_update<K: Keeper>(
     update: Update,
     rows: &[Change],
 ) -> Result<(), TurnFault>
-    requires { IsUpdate book.old update }
+    requires update { IsUpdate book.old audit.old.audit last_job.old update }
+    requires ids { LeavesIds update }
     ensures book { OnOk result (book.new ≡ updated book.old update) }
     ensures audit { OnOk result (audit.new.audit ≡ audit_updated audit.old.audit update) }
     ensures jobs { OnOk result (jobs.new.items ≡ jobs_updated jobs.old.items update) }
@@ -92,7 +94,7 @@ pub(crate) fn keep_and_update<K: Keeper>(
     ensures idle { rows.now ≡ [] → keeper.new ≡ keeper.old }
     ensures calls { result ≡ Err TurnFault.Keeper → rows.now ≢ [] }
 {
-    jobs.reserve(1)?;
+    make_room(audit, jobs, &update)?;
     keep_some(alloc, keeper, book.names(), rows)?;
     update_all(book, audit, jobs, last_job, update);
     Ok(())

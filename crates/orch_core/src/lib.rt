@@ -2,12 +2,14 @@
 //! answered.
 #![tactic(auto)]
 
+mod closing;
 mod command;
 mod configuration;
 mod engine;
 mod fault;
 mod keep;
 mod orch;
+mod recovering;
 mod threads;
 
 pub use commands::{

@@ -1,6 +1,5 @@
 //! Command turns, what they are given, and the faults of their keys.
 
-use command_routes::is_built_command;
 use commands::{CommandName, CommandTurn};
 use orch_base::{Name, OwnedText, Rule, ServerNo};
 use scenario_servers::Names;
@@ -79,19 +78,14 @@ fn turns_are_read(rt: HostRuntime) -> Result<(), Fail> {
         let fault = fault_of(alloc, read(alloc, text)?)?;
         assert_eq!(rt; fault.as_str(), want, "{text}");
     }
-    for (word, text) in [
-        ("discover", r#"["discover",{"i":"db-a"}]"#),
-        ("topology", r#"["topology",{"i":"db-a"}]"#),
-        ("find", r#"["find",{"pattern":"a"}]"#),
-        ("recover", r#"["recover",{"i":"db-a"}]"#),
+    for text in [
+        r#"["discover",{"i":"db-a"}]"#,
+        r#"["topology",{"i":"db-a"}]"#,
+        r#"["find",{"pattern":"a"}]"#,
+        r#"["recover",{"i":"db-a"}]"#,
     ] {
         let fault = fault_of(alloc, read(alloc, text)?)?;
-        let want = if is_built_command(word) {
-            ""
-        } else {
-            "NotBuilt /1"
-        };
-        assert_eq!(rt; fault.as_str(), want, "{text}");
+        assert_eq!(rt; fault.as_str(), "", "{text}");
     }
     Ok(())
 }

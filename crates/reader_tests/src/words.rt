@@ -63,14 +63,15 @@ fn counted(alloc: Global, places: &Places) -> Result<String, Fail> {
 
 #[test]
 fn bad_words_are_refused(rt: HostRuntime) -> Result<(), Fail> {
-    let cases: [&[&str]; 36] = [
+    let cases: [&[&str]; 37] = [
         &[],
         &["-c"],
         &["run"],
         &["-i", "m"],
         &["-c", "walk"],
         &["-c", "Run"],
-        &["-c", "recover", "-i", "m"],
+        &["-c", "recover"],
+        &["-c", "graceful-master-takeover", "-i", "m"],
         &["-c", ""],
         &["-c", "run", "-c", "run"],
         &["-c", "run", "-c", "find"],

@@ -72,6 +72,15 @@ fn due(job: &Job) -> Option<&Op>
     job.left().first()
 }
 
+impl RecoveryLook {
+    /// The recovery as the turn leaves it.
+    pub fn after(&self) -> &RecoveryJob
+        ensures { result.now ≡ self.now.after }
+    {
+        &self.after
+    }
+}
+
 impl RecoveryJob {
     // A designated replica goes back below its master and is started.
     fn going_back(

@@ -28,7 +28,7 @@ use Rattle.orch_core.proofs.Finishing.{fewer}
 use Rattle.job_laws.specs.Passages.{AllMayPass}
 use Rattle.flight_laws.specs.Flights.{by_job, flight_of, moment_at}
 use Rattle.flight_laws.specs.Goes.{HeldState}
-use Rattle.flight_laws.specs.Ready.{Ready}
+use Rattle.ready_laws.specs.Ready.{Ready}
 use Rattle.flight_laws.proofs.Goes.{job-may}
 
 -- ---- leases

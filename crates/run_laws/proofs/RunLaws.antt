@@ -55,12 +55,12 @@ use Rattle.jobs_in_flight.specs.Jobs.{job_at, job_exchanges}
 use Rattle.orch_core.specs.Jobs.{turn_of}
 use Rattle.flight_laws.specs.Flights.{moment_at}
 use Rattle.flight_laws.specs.Goes.{HeldState, SoundState}
-use Rattle.run_laws.specs.Runs.{ComesBy, ComesTo, ComesWithin}
+use Rattle.known_laws.specs.Runs.{ComesBy, ComesTo, ComesWithin}
 use Rattle.flight_laws.proofs.Goes.{Held-step, Sound-step}
 use Rattle.flight_laws.proofs.Openings.{Held-start, Sound-start}
 use Rattle.run_laws.proofs.Plain.{IsPlain, flown-plain, none-counts}
-use Rattle.flight_laws.specs.Ready.{Ready}
-use Rattle.flight_laws.proofs.Readiness.{Ready-start, Ready-step}
+use Rattle.ready_laws.specs.Ready.{Ready}
+use Rattle.ready_laws.proofs.Readiness.{Ready-start, Ready-step}
 
 -- ---- what holds of each state
 
@@ -70,7 +70,7 @@ pub record Goes (count : ℕ) (s : State) : Type 0 where
   pub held : HeldState s
   pub sound : IsQuiet s.world → SoundState s
 
-Goes-step : (count : ℕ) (rows : List Row) (s : State) (t : Turn) → IsTurn count t → Goes count s → Goes count (step rows s t)
+pub Goes-step : (count : ℕ) (rows : List Row) (s : State) (t : Turn) → IsTurn count t → Goes count s → Goes count (step rows s t)
 Goes-step count rows s t is goes = record {
   ready = Ready-step count rows s t goes.ready is;
   held = Held-step count rows s t goes.ready goes.held is;

@@ -9,7 +9,7 @@ ghost use Rattle.orch_core.specs.Runs.{step};
 ghost use Rattle.orch_core.specs.States.{State};
 ghost use Rattle.flight_laws.specs.Flights.{flight_of, passages_of};
 ghost use Rattle.flight_laws.specs.Goes.{HeldState, SoundState};
-ghost use Rattle.run_laws.specs.Runs.{ComesBefore, ComesTo};
+ghost use Rattle.known_laws.specs.Runs.{ComesBefore, ComesTo};
 ghost use Rattle.scenarios.specs.declared.scenario.Scenario.{Scenario as AScenario};
 ghost use Rattle.server_model.specs.Safe.{IsQuiet};
 ghost use Rattle.server_model.specs.Worlds.{server_at};

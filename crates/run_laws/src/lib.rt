@@ -9,7 +9,6 @@ pub use flights::{
     jobs_leave_fewer_turns, turns_are_passages,
 };
 pub use laws::{
-    commands_answer_by_the_table, every_audit_is_apart, every_quiet_state_is_safe,
-    every_state_is_placed, full_never_comes, kept_rows_follow, own_turns_are_turns,
+    every_quiet_state_is_safe, every_state_is_placed, full_never_comes, own_turns_are_turns,
     quiet_runs_were_quiet, skipped_never_comes,
 };

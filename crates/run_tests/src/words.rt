@@ -221,13 +221,13 @@ fn numbers(rt: HostRuntime) -> Result<(), Fail> {
 #[test]
 fn routes(rt: HostRuntime) -> Result<(), Fail> {
     assert_eq!(rt; Route::of(CommandName::Find), Route::Asks(Question::Find));
-    assert_eq!(rt; Route::of(CommandName::Recover), Route::Unbuilt);
+    assert_eq!(rt; Route::of(CommandName::Recover), Route::Recovers);
     for (word, built) in [
         ("run", true),
         ("find", true),
         ("discover", true),
         ("forget", true),
-        ("recover", false),
+        ("recover", true),
         ("dump", false),
         ("", false),
     ] {

@@ -1,5 +1,5 @@
 -- The answers of patterns that are kept are those that a pattern has.
-use Rattle.std.proofs.Common.{◌≡◌, ℕ, Bool, true, false, cond, List, map, Option, Some, None, Result, Ok, refl, sym, subst, ap, ◌∙◌}
+use Rattle.std.proofs.Common.{◌≡◌, ℕ, Bool, true, false, cond, List, Some, Ok, refl, sym, subst, ◌∙◌}
 use Rattle.std.specs.Map.{update}
 use Rattle.std.specs.BTreeMap.{BTreeMap, get_by_text}
 use Rattle.std.specs.Str.{bytes_eq}
@@ -7,7 +7,7 @@ use Rattle.std.specs.declared.alloc.Global.{Global}
 use Rattle.std.specs.Prelude.{String}
 use Rattle.std.proofs.lemmas.Slice.Eq.{bytes_eq-Decides}
 use Rattle.std.proofs.lemmas.Option.{same_Some}
-use Rattle.cluster_filters.specs.Patterns.{is_found, is_pattern}
+use Rattle.cluster_filters.specs.Patterns.{is_pattern}
 use Rattle.commands.specs.declared.turn.Found.{Found}
 use Rattle.scenario_values.specs.declared.fault.FaultCode.TheVariants.{BadPattern}
 use Rattle.scenario_values.specs.Faults.{holds}

@@ -1,19 +1,19 @@
 -- What is listed as built is what is read.
 use Rattle.std.proofs.Common.{◌≡◌, ℕ, List, [], ◌∷◌, Bool, true, false, cond, map, Option, Some, None, refl, ap, subst, sym, ◌∙◌}
-use Rattle.std.specs.Prelude.{◌||◌, is_some, if◌then◌else◌, codes, nat_eq, find, option_map}
-use Rattle.std.specs.Cmp.Lexicographic.{pointwise, same_text}
+use Rattle.std.specs.Prelude.{◌||◌, is_some, nat_eq, find, option_map}
+use Rattle.std.specs.Cmp.Lexicographic.{pointwise}
 use Rattle.std.specs.Str.{bytes_eq}
 use Rattle.std.proofs.lemmas.Slice.Eq.{bytes_eq-Decides}
 use Rattle.commands.specs.declared.name.CommandName.{CommandName}
 use Rattle.commands.specs.declared.name.CommandName.TheVariants as name
-use Rattle.commands.specs.Names.{name_of, word_of}
-use Rattle.command_routes.specs.Routes.{is_built as is_built_route, is_built_command, route_of}
-use Rattle.command_routes.proofs.Routes.{built-routes}
+use Rattle.commands.specs.Names.{word_of}
+use Rattle.command_routes.specs.Routes.{is_built_command}
+use Rattle.command_routes.proofs.Routes.{built-commands}
 use Rattle.scenarios.specs.Built.{built_names, built_turns, is_built, is_listed}
-use Rattle.scenario_values.specs.declared.fault.FaultCode.TheVariants.{BadTurn, NotBuilt}
-use Rattle.scenario_values.specs.Faults.{fails, is_key}
+use Rattle.scenario_values.specs.declared.fault.FaultCode.TheVariants.{BadTurn}
+use Rattle.scenario_values.specs.Faults.{fails}
 use Rattle.scenario_turns.specs.declared.word.Word.{Word}
-use Rattle.scenario_turns.specs.Words.{built_word, unbuilt_words, word_at, word_or_fails, words}
+use Rattle.scenario_turns.specs.Words.{built_word, word_at, word_or_fails, words}
 
 -- no command's word is that of a key or a turn
 no_key : (n : CommandName) → is_listed built_names (word_of n) ≡ false
@@ -60,8 +60,8 @@ no_key name.DisableGlobalRecoveries = refl
 no_key name.EnableGlobalRecoveries = refl
 no_key name.CheckGlobalRecoveries = refl
 
-pub words_agree : (n : CommandName) → is_built (word_of n) ≡ is_built_route (route_of n)
-words_agree n = ap (λ b. b || is_built_command (word_of n)) (no_key n) ∙ built-routes n
+pub words_built : (n : CommandName) → is_built (word_of n) ≡ true
+words_built n = ap (λ b. b || is_built_command (word_of n)) (no_key n) ∙ built-commands n
 
 -- which of two texts is named first makes no difference
 turned : (a b : List ℕ) → bytes_eq a b ≡ pointwise nat_eq b a
@@ -88,18 +88,9 @@ unfolding built_word
 words_listed text = found_listed text words
 
 -- any other text is a fault
-pub others_fail : (text : List ℕ) → is_listed built_turns text ≡ false → word_at text ≡ (if is_key unbuilt_words text then fails NotBuilt else fails BadTurn)
+pub others_fail : (text : List ℕ) → is_listed built_turns text ≡ false → word_at text ≡ fails BadTurn
 others_fail text none = go (built_word text) (words_listed text ∙ none)
   where
-    go : (o : Option Word) → is_some o ≡ false → word_or_fails text o ≡ (if is_key unbuilt_words text then fails NotBuilt else fails BadTurn)
+    go : (o : Option Word) → is_some o ≡ false → word_or_fails o ≡ fails BadTurn
     go None e = refl
     go (Some w) e = absurd cc
-
--- a turn that isn't built isn't listed
-pub unbuilt_unlisted : (text : List ℕ) → is_key unbuilt_words text ≡ true → is_built text ≡ false
-unfolding name_of
-unbuilt_unlisted text e = go (pointwise nat_eq (codes "scan") text) refl e
-  where
-    go : (b : Bool) → pointwise nat_eq (codes "scan") text ≡ b → (b || false) ≡ true → is_built text ≡ false
-    go true is e = subst (λ (t : List ℕ). is_built t ≡ false) (same_text (codes "scan") text (sym is)) refl
-    go false is e = absurd cc

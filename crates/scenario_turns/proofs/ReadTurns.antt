@@ -5,7 +5,7 @@ use Rattle.orch_base.specs.declared.server.ServerNo.{ServerNo}
 use Rattle.orch_base.specs.Names.{HostPort}
 use Rattle.server_words.specs.declared.changes.Link.{Link}
 use Rattle.turns.specs.declared.turn.Turn.{Turn}
-use Rattle.turns.specs.declared.turn.Turn.TheVariants.{Write, Fetch, Apply, Fail, Heal, Cut, Join, Rotate, Tick, PollRead, PollStore, Command, Job, Restart}
+use Rattle.turns.specs.declared.turn.Turn.TheVariants.{Write, Fetch, Apply, Fail, Heal, Cut, Join, Rotate, Tick, PollRead, PollStore, Command, Job, Scan, Restart}
 use Rattle.scenarios.specs.Turns.{IsCommand, IsTurn}
 use Rattle.scenario_values.specs.declared.fault.Fault.{Fault}
 use Rattle.scenario_values.specs.Faults.{under_item}
@@ -110,6 +110,7 @@ turn_of-has names printed word.Round rest t counts e = alone-has (length names) 
 turn_of-has names printed word.Command rest t counts e =
     made-has (length names) (IsCommand (length names)) Command (command_in names printed rest) t (λ c is. is) (λ c f. command-has names printed rest c counts f) e
 turn_of-has names printed word.Job rest t counts e = made-has (length names) (λ n. Unit {0}) Job (job_of rest) t (λ n is. is) (λ n read. tt) e
+turn_of-has names printed word.Scan rest t counts e = alone-has (length names) (One Scan) rest t tt e
 turn_of-has names printed word.Restart rest t counts e = alone-has (length names) (One Restart) rest t tt e
 
 pub turn-has : (names : List (Option HostPort)) (printed : List (List ℕ)) (d : Data) (t : ListedTurn) → length printed ≡ length names → turn_in names printed d ≡ Ok t → IsListedTurn (length names) t

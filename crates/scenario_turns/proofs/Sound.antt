@@ -14,16 +14,15 @@ use Rattle.commands.specs.declared.turn.Command.{Command}
 use Rattle.commands.specs.declared.turn.CommandTurn.{CommandTurn}
 use Rattle.commands.specs.declared.turn.Found.{Found}
 use Rattle.commands.specs.declared.turn.Keys.{Keys}
-use Rattle.commands.specs.Names.{name_of, needs_of}
-use Rattle.command_routes.specs.Routes.{is_built, route_of}
+use Rattle.commands.specs.Names.{needs_of}
 use Rattle.commands.specs.Turns.{is_there, is_within}
 use Rattle.cluster_filters.specs.Patterns.{is_found, is_pattern}
 use Rattle.commands.specs.Values.{number_and_unit, number_at, seconds_at, within}
 use Rattle.scenarios.specs.Turns.{IsCommand}
 use Rattle.scenario_values.specs.declared.fault.Fault.{Fault}
 use Rattle.scenario_values.specs.declared.fault.Fault.{Fault}
-use Rattle.scenario_values.specs.declared.fault.FaultCode.TheVariants.{BadCommand, BadNumber, BadPattern, NotBuilt}
-use Rattle.scenario_values.specs.Faults.{fails, or_fails, holds, under_item, maybe, only_keys}
+use Rattle.scenario_values.specs.declared.fault.FaultCode.TheVariants.{BadCommand, BadNumber, BadPattern}
+use Rattle.scenario_values.specs.Faults.{fails, holds, under_item, maybe, only_keys}
 use Rattle.scenario_values.specs.Values.{members_in, text_in, text_within}
 use Rattle.scenario_servers.specs.Names.{server_named}
 use Rattle.scenario_servers.proofs.ServerSteps.{named-ok}
@@ -47,19 +46,6 @@ given_has {A} P key read d o has e = go (maybe-ok key read d o e)
     go : ((get key d ≡ None) × (o ≡ None)) ⊎ ((v : Data) × (x : A) × (o ≡ Some x) × (read v ≡ Ok x)) → IfSome o P
     go (inl none) = subst (λ (p : Option A). IfSome p P) (sym none.1) tt
     go (inr there) = subst (λ (p : Option A). IfSome p P) (sym there.2) (has there.0 there.1 there.3)
-
--- a command that is built
-record IsName (name : CommandName) : Type 0 where
-  is_name : is_built (route_of name) ≡ true
-
-name-has : (d : Data) (name : CommandName) → name_in d ≡ Ok name → IsName name
-unfolding name_in
-name-has d name e =
-    let text = bind-ok (text_in d) _ name e in
-    let known = bind-ok (or_fails BadCommand (name_of text.0)) _ name text.2 in
-    let built = bind-ok (holds NotBuilt (is_built (route_of known.0))) _ name known.2 in
-    let same : known.0 ≡ name = same_Ok known.0 name built.2 in
-    record { is_name = subst (λ n. is_built (route_of n) ≡ true) same (holds-ok NotBuilt (is_built (route_of known.0)) built.0 built.1) }
 
 -- ---- numbers and texts
 
@@ -175,15 +161,14 @@ all_true a b c d ha hb hc hd = rw (ha, hb, hc, hd) refl
 three_true : (a b c : Bool) → a ≡ true → b ≡ true → c ≡ true → (a && b && c) ≡ true
 three_true a b c ha hb hc = rw (ha, hb, hc) refl
 
-is_command : (count : ℕ) (name : CommandName) (c : Command) (k : Keys) → IsName name → AreInstances count name c → AreKeys count name k → IsCommand count (record { command = c; keys = k })
-is_command count name c k named instances keys =
+is_command : (count : ℕ) (name : CommandName) (c : Command) (k : Keys) → AreInstances count name c → AreKeys count name k → IsCommand count (record { command = c; keys = k })
+is_command count name c k instances keys =
     let same : name ≡ c.name = sym instances.named in
     record {
       fits = three_true _ _ _
           (subst (λ (n : CommandName). (is_there (needs_of n).i c.i && is_there (needs_of n).d c.d && is_there (needs_of n).rule k.rule && is_there (needs_of n).pattern k.pattern) ≡ true) same
           (all_true _ _ _ _ instances.has_i instances.has_d keys.has_rule keys.has_pattern))
           instances.i_within instances.d_within;
-      built = subst (λ (n : CommandName). is_built (route_of n) ≡ true) same named.is_name;
       duration = keys.duration;
       reason = keys.reason;
       owner = keys.owner;
@@ -201,5 +186,5 @@ command-has names printed rest t counts e =
     let command = bind-ok (instances_in names name.0 parts.0.1) _ t known.2 in
     let keys = bind-ok (keys_in printed name.0 parts.0.1) _ t command.2 in
     subst (IsCommand (length names)) (same_Ok (record { command = command.0; keys = keys.0 }) t keys.2)
-    (is_command (length names) name.0 command.0 keys.0 (name-has parts.0.0 name.0 (under-ok _ _ name.0 name.1)) (instances-have names name.0 parts.0.1 command.0 command.1)
+    (is_command (length names) name.0 command.0 keys.0 (instances-have names name.0 parts.0.1 command.0 command.1)
     (subst (λ (n : ℕ). AreKeys n name.0 keys.0) counts (keys-have printed name.0 parts.0.1 keys.0 keys.1)))

@@ -2,7 +2,6 @@
 use Rattle.std.specs.Prelude.{ℕ, ◌∷◌, List, [], codes, Option, Result, Ok}
 use Rattle.serde_json.specs.Data.{Data, Items, no_items, item}
 use Rattle.commands.specs.Names.{name_of, needs_of}
-use Rattle.command_routes.specs.Routes.{is_built, route_of}
 use Rattle.commands.specs.Turns.{is_there}
 use Rattle.commands.specs.declared.name.CommandName.{CommandName}
 use Rattle.commands.specs.declared.turn.Command.{Command}
@@ -16,17 +15,15 @@ use Rattle.scenario_turns.specs.Found.{found_in}
 use Rattle.scenario_servers.specs.Names.{server_named}
 use Rattle.scenario_servers.specs.Rules.{rule_in}
 use Rattle.scenario_values.specs.declared.fault.Fault.{Fault}
-use Rattle.scenario_values.specs.declared.fault.FaultCode.TheVariants.{BadCommand, BadNumber, BadTurn, NotBuilt}
+use Rattle.scenario_values.specs.declared.fault.FaultCode.TheVariants.{BadCommand, BadNumber, BadTurn}
 use Rattle.scenario_values.specs.Faults.{fails, or_fails, holds, under_item, maybe, only_keys}
 use Rattle.scenario_values.specs.Values.{members_in, text_in, text_within}
 
--- a command that is built
+-- a command
 unfoldable pub name_in : Data → Result CommandName Fault
 name_in d = do
   text ← text_in d
-  name ← or_fails BadCommand (name_of text)
-  built ← holds NotBuilt (is_built (route_of name))
-  Ok name
+  or_fails BadCommand (name_of text)
 
 -- ---- the keys
 

@@ -7,7 +7,7 @@ use Rattle.orch_base.specs.Names.{HostPort}
 use Rattle.server_words.specs.declared.changes.Link.{Link}
 use Rattle.server_words.specs.declared.changes.Link.TheVariants.{Desk, Feed}
 use Rattle.turns.specs.declared.turn.Turn.{Turn}
-use Rattle.turns.specs.declared.turn.Turn.TheVariants.{Write, Fetch, Apply, Fail, Heal, Cut, Join, Rotate, Tick, PollRead, PollStore, Command, Job, Restart}
+use Rattle.turns.specs.declared.turn.Turn.TheVariants.{Write, Fetch, Apply, Fail, Heal, Cut, Join, Rotate, Tick, PollRead, PollStore, Command, Job, Scan, Restart}
 use Rattle.scenario_values.specs.declared.fault.Fault.{Fault}
 use Rattle.scenario_values.specs.declared.fault.FaultCode.TheVariants.{BadTurn, BadNumber}
 use Rattle.scenario_values.specs.Faults.{fails, under_item}
@@ -115,6 +115,7 @@ turn_of names printed word.Polls rest = alone Polls rest
 turn_of names printed word.Round rest = alone Round rest
 turn_of names printed word.Command rest = turn_by Command (command_in names printed rest)
 turn_of names printed word.Job rest = turn_by Job (job_of rest)
+turn_of names printed word.Scan rest = alone (One Scan) rest
 turn_of names printed word.Restart rest = alone (One Restart) rest
 
 unfoldable pub turn_with : List (Option HostPort) → List (List ℕ) → Data → Items → Result ListedTurn Fault

@@ -1,12 +1,12 @@
 -- The words with which turns begin.
-use Rattle.std.specs.Prelude.{ℕ, ◌∷◌, List, [], Bool, nat_eq, if◌then◌else◌, codes, find, option_map, Option, Some, None, Result, Ok}
+use Rattle.std.specs.Prelude.{ℕ, ◌∷◌, List, [], Bool, nat_eq, codes, find, option_map, Option, Some, None, Result, Ok}
 use Rattle.std.specs.Cmp.Lexicographic.{pointwise}
 use Rattle.std.specs.Str.{bytes_eq}
 use Rattle.scenario_values.specs.declared.fault.Fault.{Fault}
-use Rattle.scenario_values.specs.declared.fault.FaultCode.TheVariants.{BadTurn, NotBuilt}
-use Rattle.scenario_values.specs.Faults.{fails, is_key}
+use Rattle.scenario_values.specs.declared.fault.FaultCode.TheVariants.{BadTurn}
+use Rattle.scenario_values.specs.Faults.{fails}
 use Rattle.scenario_turns.specs.declared.word.Word.{Word}
-use Rattle.scenario_turns.specs.declared.word.Word.TheVariants.{Write, Fetch, Apply, Fail, Heal, Rotate, Cut, Join, Tick, PollRead, PollStore, Polls, Round, Command, Job, Restart}
+use Rattle.scenario_turns.specs.declared.word.Word.TheVariants.{Write, Fetch, Apply, Fail, Heal, Rotate, Cut, Join, Tick, PollRead, PollStore, Polls, Round, Command, Job, Scan, Restart}
 
 abbrev pub is_word : List ℕ → List ℕ → Bool
 is_word word text = pointwise nat_eq word text
@@ -29,6 +29,7 @@ words =
     ∷ (codes "round", Round)
     ∷ (codes "command", Command)
     ∷ (codes "job", Job)
+    ∷ (codes "scan", Scan)
     ∷ (codes "restart", Restart)
     ∷ []
 
@@ -36,13 +37,9 @@ words =
 unfoldable pub built_word : List ℕ → Option Word
 built_word text = option_map (λ w. w.1) (find (λ w. bytes_eq text w.0) words)
 
--- the turns that aren't built yet
-abbrev pub unbuilt_words : List (List ℕ)
-unbuilt_words = codes "scan" ∷ []
-
-abbrev pub word_or_fails : List ℕ → Option Word → Result Word Fault
-word_or_fails text None = if is_key unbuilt_words text then fails NotBuilt else fails BadTurn
-word_or_fails text (Some word) = Ok word
+abbrev pub word_or_fails : Option Word → Result Word Fault
+word_or_fails None = fails BadTurn
+word_or_fails (Some word) = Ok word
 
 abbrev pub word_at : List ℕ → Result Word Fault
-word_at text = word_or_fails text (built_word text)
+word_at text = word_or_fails (built_word text)

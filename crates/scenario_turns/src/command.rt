@@ -8,7 +8,6 @@ ghost use Rattle.serde_json.specs.View.{view, items_view};
 
 use crate::keys::given_in;
 use crate::patterns::Patterns;
-use command_routes::Route;
 use commands::{CommandName, CommandTurn};
 use scenario_servers::Names;
 use scenario_values::{FaultCode, ReadFault, fails, text_in, under_item};
@@ -21,8 +20,7 @@ fn name_in(alloc: Global, value: &Value) -> Result<CommandName, ReadFault>
 {
     let text = text_in(alloc, value)?;
     match CommandName::read(text) {
-        Some(name) if Route::of(name).is_built() => Ok(name),
-        Some(_) => Err(fails(alloc, FaultCode::NotBuilt)),
+        Some(name) => Ok(name),
         None => Err(fails(alloc, FaultCode::BadCommand)),
     }
 }
@@ -57,8 +55,7 @@ fn parts_of(alloc: Global, rest: &[Value]) -> Result<(&Value, &Value), ReadFault
 }
 
 /// A command turn, by what follows its word: a command's name and an object with what it is given. Another number of
-/// parts is `BadTurn` of the turn. At part 1 a name of no command is `BadCommand`, and one whose route isn't built
-/// `NotBuilt`. At part 2 come first the keys that no command has, as `UnknownKey`, and then each key's own faults, also
+/// parts is `BadTurn` of the turn. At part 1 a name of no command is `BadCommand`. At part 2 come first the keys that no command has, as `UnknownKey`, and then each key's own faults, also
 /// where the command doesn't need it: `BadType`; at an instance `BadName` and `UnknownName`; for another rule, a
 /// duration that isn't 1 to 31,536,000 seconds, and a reason or an owner of more than 255 bytes `BadNumber`;
 /// `BadPattern`. A key that is needed and absent is `BadCommand`. `patterns` has each server's name as it is printed.

@@ -240,6 +240,7 @@ fn turn_of(alloc: Global, names: &Names, patterns: &Patterns, word: Word, rest: 
         Word::Round => alone(alloc, ListedTurn::Round, rest),
         Word::Command => command_of(alloc, names, patterns, rest),
         Word::Job => Ok(ListedTurn::One(Turn::Job(job_of(alloc, rest)?))),
+        Word::Scan => alone(alloc, ListedTurn::One(Turn::Scan), rest),
         Word::Restart => alone(alloc, ListedTurn::One(Turn::Restart), rest),
     }
 }
@@ -299,8 +300,7 @@ fn turn_at(
     under_item(alloc, number, turn_in(alloc, names, patterns, value))
 }
 
-/// Each turn in order. A turn that isn't known or has another number of parts is `BadTurn` at the turn, one that isn't
-/// built `NotBuilt`, and a part has its own faults at its place. The time is that of the items.
+/// Each turn in order. A turn that isn't known or has another number of parts is `BadTurn` at the turn, and a part has its own faults at its place. The time is that of the items.
 pub fn each_turn(
     alloc: Global,
     names: &Names,

@@ -2,8 +2,8 @@
 
 ghost use Rattle.std.specs.Prelude.{◌≡◌};
 ghost use Rattle.orch_base.specs.Gives.{Gives};
-ghost use Rattle.scenario_values.specs.Faults.{fault_of, is_key};
-ghost use Rattle.scenario_turns.specs.Words.{is_word, built_word, unbuilt_words, word_at};
+ghost use Rattle.scenario_values.specs.Faults.{fault_of};
+ghost use Rattle.scenario_turns.specs.Words.{is_word, built_word, word_at};
 
 use scenario_values::{FaultCode, ReadFault, fails};
 use std::alloc::Global;
@@ -26,6 +26,7 @@ pub enum Word {
     Round,
     Command,
     Job,
+    Scan,
     Restart,
 }
 
@@ -55,24 +56,18 @@ fn built_word(text: &str) -> Option<Word>
         "round" => Some(Word::Round),
         "command" => Some(Word::Command),
         "job" => Some(Word::Job),
+        "scan" => Some(Word::Scan),
         "restart" => Some(Word::Restart),
         _ => None,
     }
 }
 
-fn is_unbuilt(text: &str) -> bool
-    ensures { result ≡ is_key unbuilt_words text.now }
-{
-    ["scan"].contains(&text)
-}
-
-/// The word of a turn that is built. That of another turn of the format is `NotBuilt`, and any other text `BadTurn`.
+/// The word of a turn. Any other text is `BadTurn`.
 pub(crate) fn word_at(alloc: Global, text: &str) -> Result<Word, ReadFault>
     ensures { Gives (λ w. w) fault_of result (word_at text.now) }
 {
     match built_word(text) {
         Some(word) => Ok(word),
-        None if is_unbuilt(text) => Err(fails(alloc, FaultCode::NotBuilt)),
         None => Err(fails(alloc, FaultCode::BadTurn)),
     }
 }

@@ -14,7 +14,7 @@ built_server_keys = codes "name" ∷ codes "uuid" ∷ codes "server_id" ∷ code
 
 abbrev pub built_turns : List (List ℕ)
 built_turns = codes "write" ∷ codes "fetch" ∷ codes "apply" ∷ codes "fail" ∷ codes "heal" ∷ codes "cut" ∷ codes "join" ∷ codes "rotate" ∷ codes "tick"
-    ∷ codes "poll-read" ∷ codes "poll-store" ∷ codes "polls" ∷ codes "round" ∷ codes "command" ∷ codes "job" ∷ codes "restart" ∷ []
+    ∷ codes "poll-read" ∷ codes "poll-store" ∷ codes "polls" ∷ codes "round" ∷ codes "command" ∷ codes "job" ∷ codes "scan" ∷ codes "restart" ∷ []
 
 -- the top keys, the servers' keys and the turns that are built
 abbrev pub built_names : List (List ℕ)
@@ -23,6 +23,6 @@ built_names = built_keys ++ built_server_keys ++ built_turns
 abbrev pub is_listed : List (List ℕ) → List ℕ → Bool
 is_listed names what = list_any (λ name. pointwise nat_eq name what) names
 
--- the key or turn is listed, or the command's route is built
+-- the key or turn is listed, or there is such a command
 abbrev pub is_built : List ℕ → Bool
 is_built what = is_listed built_names what || is_built_command what

@@ -1,7 +1,6 @@
 -- Turns that can be taken, and what each may add.
 use Rattle.std.specs.Prelude.{◌≡◌, ℕ, ◌<◌, ◌≤◌, Bool, false, true, length, IfSome}
 use Rattle.commands.specs.declared.turn.CommandTurn.{CommandTurn}
-use Rattle.command_routes.specs.Routes.{is_built, route_of}
 use Rattle.commands.specs.Turns.{fits}
 use Rattle.turns.specs.declared.turn.Turn.{Turn}
 use Rattle.turns.specs.declared.turn.Turn.TheVariants as turn
@@ -10,11 +9,10 @@ use Rattle.turns.specs.declared.turn.Turn.TheVariants as turn
 abbrev pub pollers : ℕ
 pollers = 64
 
--- A command over so many servers: it is built, what it needs is there, each number and text is in its range, and a pattern has
+-- A command over so many servers: what it needs is there, each number and text is in its range, and a pattern has
 -- an answer for each server.
 pub record IsCommand (count : ℕ) (t : CommandTurn) : Type 0 where
   pub fits : fits count t ≡ true
-  pub built : is_built (route_of t.command.name) ≡ true
   pub duration : IfSome t.keys.duration (λ n. (1 ≤ n) × (n ≤ 31536000))
   pub reason : IfSome t.keys.reason (λ text. length text ≤ 255)
   pub owner : IfSome t.keys.owner (λ text. length text ≤ 255)
@@ -32,7 +30,7 @@ IsTurn count (turn.Join n link) = n.0 < count
 IsTurn count (turn.Rotate n) = n.0 < count
 IsTurn count (turn.Tick seconds) = seconds ≤ 1000000000
 IsTurn count (turn.Job job) = Unit {0}
-IsTurn count turn.Scan = ⊥
+IsTurn count turn.Scan = Unit {0}
 IsTurn count (turn.PollRead p n) = (p < pollers) × (n.0 < count)
 IsTurn count (turn.PollStore p) = p < pollers
 IsTurn count (turn.Command c) = IsCommand count c

@@ -13,13 +13,13 @@ fn is_listed(what: &str) -> bool
         "version", "now", "gtid", "block", "aliases", "filters", "servers", "turns", "name", "uuid", "server_id", "version", "cluster",
         "logs", "read_only", "limit", "up", "desk", "feed", "known", "rule", "history", "source", "executed", "at", "read", "io", "sql",
         "auto", "detached", "until", "flushes", "write", "fetch", "apply", "fail", "heal", "cut", "join", "rotate", "tick",
-        "poll-read", "poll-store", "polls", "round", "command", "job", "restart",
+        "poll-read", "poll-store", "polls", "round", "command", "job", "scan", "restart",
     ]
     .contains(&what)
 }
 
 /// Whether the key, turn or command of this name is built: of the keys and turns those that are listed here, and of the
-/// commands `run` and those whose route isn't `Unbuilt`. It takes no memory.
+/// commands `run` and all others. It takes no memory.
 pub fn built(what: &str) -> bool
     ensures { result ≡ is_built what.now }
 {

@@ -11,7 +11,6 @@ use Rattle.orch_base.specs.declared.server.ServerNo.{ServerNo}
 use Rattle.commands.specs.declared.name.CommandName.{CommandName}
 use Rattle.commands.specs.declared.turn.Found.{Found}
 use Rattle.commands.specs.Names.{name_of, needs_of, nothing, uses_of}
-use Rattle.command_routes.specs.Routes.{is_built, is_built_name, route_of}
 use Rattle.commands.specs.Turns.{is_there, is_within}
 use Rattle.commands.proofs.Needed.{needed-used}
 use Rattle.cluster_filters.specs.Patterns.{is_found, is_pattern}
@@ -47,14 +46,13 @@ pattern_reads p taken = (taken_have taken.0 p taken.1).pattern
 
 -- what the command needs is given
 record GivesNeeded (p : Places) (c : CommandName) : Type 0 where
-  built : is_built (route_of c) ≡ true
   i : (needs_of c).i ≡ true → is_some p.i ≡ true
   d : (needs_of c).d ≡ true → is_some p.d ≡ true
   rule : (needs_of c).rule ≡ true → is_some p.rule ≡ true
   pattern : (needs_of c).pattern ≡ true → is_some p.pattern ≡ true
 
-needed_given : (p : Places) (c : CommandName) → is_built (route_of c) ≡ true → are_there (needs_of c) p ≡ true → GivesNeeded p c
-needed_given p c built all =
+needed_given : (p : Places) (c : CommandName) → are_there (needs_of c) p ≡ true → GivesNeeded p c
+needed_given p c all =
     let i = is_some p.i || not (needs_of c).i in
     let d = is_some p.d || not (needs_of c).d in
     let rule = is_some p.rule || not (needs_of c).rule in
@@ -63,7 +61,6 @@ needed_given p c built all =
     let three = both_true (i && d) rule last.0 in
     let two = both_true i d three.0 in
     record {
-      built = built;
       i = or_not (is_some p.i) (needs_of c).i two.0;
       d = or_not (is_some p.d) (needs_of c).d two.1;
       rule = or_not (is_some p.rule) (needs_of c).rule three.1;
@@ -163,7 +160,6 @@ module _ (p : Places) (names : List HostPort) (c : CommandName) (words : AreTake
             (there (needs_of c).pattern (pattern_for names (used (uses_of c).pattern p.pattern))
             (λ needed. pattern-there names (used (uses_of c).pattern p.pattern) (used-there (uses_of c).pattern p.pattern (covered.pattern needed) (has.pattern needed))))
             (given-within names (used (uses_of c).i p.i) i at_i) (given-within names (used (uses_of c).d p.d) d at_d);
-        built = has.built;
         duration = used-has (λ n. (1 ≤ n) × (n ≤ 31536000)) (uses_of c).duration p.duration words.duration;
         reason = used-has (λ text. length text ≤ 255) (uses_of c).reason p.reason words.reason;
         owner = used-has (λ text. length text ≤ 255) (uses_of c).owner p.owner words.owner;
@@ -175,15 +171,15 @@ module _ (p : Places) (names : List HostPort) (c : CommandName) (words : AreTake
   is_asked_about (Some i) None at_i at_d = tt
   is_asked_about (Some i) (Some d) at_i at_d = is_turn i d at_i at_d
 
-is_asked_named : (p : Places) (names : List HostPort) (o : Option CommandName) → AreTaken p → is_built_name o ≡ true → are_there (option_map_or needs_of o nothing) p ≡ true → IsAsked (length names) (asked_named p names o)
+is_asked_named : (p : Places) (names : List HostPort) (o : Option CommandName) → AreTaken p → is_some o ≡ true → are_there (option_map_or needs_of o nothing) p ≡ true → IsAsked (length names) (asked_named p names o)
 is_asked_named p names None words built there = cc
-is_asked_named p names (Some c) words built there = is_asked_about p names c words (needed_given p c built there) _ _ refl refl
+is_asked_named p names (Some c) words built there = is_asked_about p names c words (needed_given p c there) _ _ refl refl
 
 asked_at : (p : Places) (names : List HostPort) → AreTaken p → IsAsked (length names) (asked_of p names)
 unfolding asked_of needs_at
 asked_at p names words = go (bytes_eq p.command (codes "run")) words.built
   where
-    go : (run : Bool) → cond run true (is_built_name (name_of p.command)) ≡ true → IsAsked (length names) (cond run asked.Run (asked_named p names (name_of p.command)))
+    go : (run : Bool) → (run || is_some (name_of p.command)) ≡ true → IsAsked (length names) (cond run asked.Run (asked_named p names (name_of p.command)))
     go true built = tt
     go false built = is_asked_named p names (name_of p.command) words built words.needs
 

@@ -1,5 +1,5 @@
 -- Turns of unended jobs.
-use Rattle.std.proofs.Common.{◌≡◌, ℕ, ◌<◌, ◌^◌, true, length, sym, subst, Some}
+use Rattle.std.proofs.Common.{◌≡◌, ℕ, ◌<◌, ◌^◌, true, length, sym, subst, Some, IfSome}
 use Rattle.orch_base.specs.declared.server.Moment.{Moment}
 use Rattle.instance_keeper.specs.declared.observation.Observation.{Observation}
 use Rattle.instance_keeper.specs.Book.{BookState}
@@ -17,6 +17,7 @@ use Rattle.recovery_ends.proofs.Ended.{taken-ends, taken-shaped}
 use Rattle.unended_jobs.specs.declared.unended.Unended.{Unended}
 use Rattle.unended_jobs.specs.declared.unended.Unended.TheVariants as unended
 use Rattle.unended_jobs.specs.Unended.{IsReady, IsReadyRecovery, IsUnended, flown, number_of, turns_of}
+use Rattle.unended_jobs.proofs.Promoting.{taken-leads}
 use Rattle.unended_jobs.proofs.Seeing.{IsSightOf, plan-sees, recovery-sees}
 
 pub flown-allowed : (w : World) (b : BookState) (read : ℕ) (now : Moment) (u : Unended) → AllAllowed w (flown w b read now u).exchanges
@@ -36,9 +37,14 @@ ready-of count (unended.Recovery r entry) is = is.ready
 recovery-number : (count : ℕ) (w : World) (b : BookState) (read : ℕ) (now : Moment) (r : Recovery) → IsReadyRecovery count r → is_going (taken w b read now r).step ≡ true → (taken w b read now r).recovery.core.id ≡ r.core.id
 recovery-number count w b read now r is g = ((taken-of (λ n. n < count) (λ n. n < count) r.core.id (λ n h. h) w b read now r is.named).servers g).number
 
+-- whatever the turn comes to
+pub recovery-promotes : (count : ℕ) (w : World) (b : BookState) (read : ℕ) (now : Moment) (r : Recovery) → IsReadyRecovery count r → IfSome (taken w b read now r).recovery.outcome.promoted (λ n. n.0 < count)
+recovery-promotes count w b read now r is = taken-leads (λ n. n < count) r.core.id w b read now r is.named is.promoted
+
 recovery-ready : (count : ℕ) (w : World) (b : BookState) (read : ℕ) (now : Moment) (r : Recovery) → IsReadyRecovery count r → is_going (taken w b read now r).step ≡ true → IsReadyRecovery count (taken w b read now r).recovery
 recovery-ready count w b read now r is g = record {
   named = renumbered (λ n. n < count) (λ n. n < count) r.core.id (taken w b read now r).recovery ((taken-of (λ n. n < count) (λ n. n < count) r.core.id (λ n h. h) w b read now r is.named).servers g);
+  promoted = recovery-promotes count w b read now r is;
   shaped = taken-shaped w b read now r is.shaped g;
 }
 

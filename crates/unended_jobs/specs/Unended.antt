@@ -1,5 +1,5 @@
 -- Unended jobs of both kinds, and what a turn of one does.
-use Rattle.std.specs.Prelude.{◌<◌, ◌≤◌, ◌^◌, ℕ, List, Option}
+use Rattle.std.specs.Prelude.{◌<◌, ◌≤◌, ◌^◌, ℕ, List, Option, IfSome}
 use Rattle.orch_base.specs.declared.server.Moment.{Moment}
 use Rattle.instance_keeper.specs.declared.observation.Observation.{Observation}
 use Rattle.instance_keeper.specs.Book.{BookState}
@@ -48,9 +48,10 @@ pub record IsReadyJob (count : ℕ) (j : Job) : Type 0 where
   pub named : IsNamed count j
   pub waited : j.waited ≤ j.wait
 
--- the servers that a recovery names are of so many, and it comes to an end
+-- the servers that a recovery names are of so many, the promoted one too, and it comes to an end
 pub record IsReadyRecovery (count : ℕ) (r : Recovery) : Type 0 where
   pub named : IsNamedRecovery count r
+  pub promoted : IfSome r.outcome.promoted (λ n. n.0 < count)
   pub shaped : IsShaped r
 
 -- a turn over so many servers can be taken

@@ -1,6 +1,6 @@
 //! What a turn leaves of what the next one requires.
 
-ghost use Rattle.std.specs.Prelude.{◌≡◌, ◌<◌, ℕ, Some, length, true};
+ghost use Rattle.std.specs.Prelude.{◌≡◌, ◌<◌, ℕ, IfSome, Some, length, true};
 ghost use Rattle.orch_base.specs.declared.server.Moment.{Moment as AMoment};
 ghost use Rattle.orch_base.specs.declared.server.ServerNo.{ServerNo as Number};
 ghost use Rattle.instance_keeper.specs.declared.observation.Observation.{Observation as Reading};
@@ -8,11 +8,14 @@ ghost use Rattle.instance_keeper.specs.Book.{BookState};
 ghost use Rattle.server_model.specs.Run.{AllAllowed};
 ghost use Rattle.server_model.specs.Worlds.{World};
 ghost use Rattle.operations.specs.Turns.{is_going, observed};
+ghost use Rattle.recovery_plans.specs.Recoveries.{Recovery};
+ghost use Rattle.recovery_plans.specs.Taking.{taken};
 ghost use Rattle.unended_jobs.specs.declared.unended.Unended.{Unended as AnUnended};
-ghost use Rattle.unended_jobs.specs.Unended.{IsReady, IsUnended, flown, number_of, turns_of};
+ghost use Rattle.unended_jobs.specs.Unended.{IsReady, IsReadyRecovery, IsUnended, flown, number_of, turns_of};
 
 /// A turn's exchanges are allowed, and what it observes is a status of a server that is there. A job that goes on keeps
-/// its number, names servers that are there, and has fewer turns left.
+/// its number, names servers that are there, and has fewer turns left. Whatever a recovery's turn comes to, the promoted
+/// server is there.
 pub fn unended_jobs_go_on()
     ensures allowed { (w : World) (b : BookState) (read : ℕ) (now : AMoment) (u : AnUnended) →
         AllAllowed w (flown w b read now u).exchanges }
@@ -32,6 +35,10 @@ pub fn unended_jobs_go_on()
         (u : AnUnended) →
         IsUnended count u → is_going (flown w b read now u).step ≡ true →
         IsUnended count (flown w b read now u).next }
+    ensures promoted { (count : ℕ) (w : World) (b : BookState) (read : ℕ) (now : AMoment)
+        (r : Recovery) →
+        IsReadyRecovery count r →
+        IfSome (taken w b read now r).recovery.outcome.promoted (λ n. n.0 < count) }
     ensures fewer { (count : ℕ) (w : World) (b : BookState) (read : ℕ) (now : AMoment)
         (u : AnUnended) →
         IsReady count u → is_going (flown w b read now u).step ≡ true →

@@ -1,9 +1,5 @@
 use Rattle.flight_laws.proofs.Openings.{Held-start, Sound-start}
-use Rattle.flight_laws.proofs.Readiness.{Ready-start}
 use Rattle.flight_laws.proofs.laws.openings_are_flights.Goals as goal
-
-pub returns-clause-ready : goal.returns-clause-ready
-returns-clause-ready c = Ready-start
 
 pub returns-clause-held : goal.returns-clause-held
 returns-clause-held c = Held-start

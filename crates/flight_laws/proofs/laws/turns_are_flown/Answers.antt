@@ -1,6 +1,5 @@
 use Rattle.flight_laws.proofs.Flown.{flown}
 use Rattle.flight_laws.proofs.Goes.{Held-step, Sound-step, may-pass, pass-well}
-use Rattle.flight_laws.proofs.Readiness.{Ready-step}
 use Rattle.flight_laws.proofs.laws.turns_are_flown.Goals as goal
 
 pub returns-clause-passages : goal.returns-clause-passages
@@ -11,9 +10,6 @@ returns-clause-may c = may-pass
 
 pub returns-clause-well : goal.returns-clause-well
 returns-clause-well c = pass-well
-
-pub returns-clause-ready : goal.returns-clause-ready
-returns-clause-ready c = Ready-step
 
 pub returns-clause-held : goal.returns-clause-held
 returns-clause-held c = Held-step

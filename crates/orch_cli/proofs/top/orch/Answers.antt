@@ -6,7 +6,7 @@ use Rattle.orch_cli.specs.declared.way.Way.TheVariants as way
 use Rattle.orch_cli.specs.Ends.{Call, Ends, FaultsAs, IsComplete, IsReported, IsUsage, call}
 use Rattle.orch_cli.proofs.Ends.{bad_words, complete, each, faults, idles, lifted, no_usage, of_done, of_five, of_four, of_three, under, untaken_faults, wanting_faults}
 use Rattle.orch_cli.proofs.Reports.{both, err_by, kept_by_report, out_by, status_told}
-use Rattle.orch_cli.proofs.Runs.{obeys, safe_run}
+use Rattle.orch_cli.proofs.Runs.{begin_apart, finish_well, lose_truly, obeys, safe_run}
 use Rattle.orch_cli.proofs.top.orch.Goals as goal
 
 -- ---- the words are taken
@@ -52,6 +52,15 @@ returns-in-Ok-clause-safe g c = safe_run (map (λ w. w.items) c.args.words.now) 
 pub returns-in-Ok-clause-commands : goal.returns-in-Ok-clause-commands
 returns-in-Ok-clause-commands g c = obeys (map (λ w. w.items) c.args.words.now) _
 
+pub returns-in-Ok-clause-begins : goal.returns-in-Ok-clause-begins
+returns-in-Ok-clause-begins g c = begin_apart (map (λ w. w.items) c.args.words.now) _
+
+pub returns-in-Ok-clause-finishes : goal.returns-in-Ok-clause-finishes
+returns-in-Ok-clause-finishes g c = finish_well (map (λ w. w.items) c.args.words.now) _
+
+pub returns-in-Ok-clause-losses : goal.returns-in-Ok-clause-losses
+returns-in-Ok-clause-losses g c = lose_truly (map (λ w. w.items) c.args.words.now) _
+
 -- ---- they aren't, or memory ran out
 
 pub returns-in-Err-BadWords-clause-ends : goal.returns-in-Err-BadWords-clause-ends
@@ -70,6 +79,15 @@ returns-in-Err-Memory-clause-safe g c = safe_run (map (λ w. w.items) c.args.wor
 
 pub returns-in-Err-Memory-clause-commands : goal.returns-in-Err-Memory-clause-commands
 returns-in-Err-Memory-clause-commands g c = obeys (map (λ w. w.items) c.args.words.now) _
+
+pub returns-in-Err-Memory-clause-begins : goal.returns-in-Err-Memory-clause-begins
+returns-in-Err-Memory-clause-begins g c = begin_apart (map (λ w. w.items) c.args.words.now) _
+
+pub returns-in-Err-Memory-clause-finishes : goal.returns-in-Err-Memory-clause-finishes
+returns-in-Err-Memory-clause-finishes g c = finish_well (map (λ w. w.items) c.args.words.now) _
+
+pub returns-in-Err-Memory-clause-losses : goal.returns-in-Err-Memory-clause-losses
+returns-in-Err-Memory-clause-losses g c = lose_truly (map (λ w. w.items) c.args.words.now) _
 
 -- ---- against the report
 

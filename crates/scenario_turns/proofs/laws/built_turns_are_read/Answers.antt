@@ -1,4 +1,4 @@
-use Rattle.scenario_turns.proofs.Listed.{others_fail, unbuilt_unlisted, words_listed}
+use Rattle.scenario_turns.proofs.Listed.{others_fail, words_listed}
 use Rattle.scenario_turns.proofs.laws.built_turns_are_read.Goals as goal
 
 pub returns-clause-read : goal.returns-clause-read
@@ -6,6 +6,3 @@ returns-clause-read c = words_listed
 
 pub returns-clause-refused : goal.returns-clause-refused
 returns-clause-refused c = others_fail
-
-pub returns-clause-unlisted : goal.returns-clause-unlisted
-returns-clause-unlisted c = unbuilt_unlisted

@@ -1,4 +1,4 @@
-use Rattle.unended_jobs.proofs.Going.{flown-allowed, flown-fewer, flown-number, flown-ready, flown-sees, flown-unended}
+use Rattle.unended_jobs.proofs.Going.{flown-allowed, flown-fewer, flown-number, flown-ready, flown-sees, flown-unended, recovery-promotes}
 use Rattle.unended_jobs.proofs.laws.unended_jobs_go_on.Goals as goal
 
 pub returns-clause-allowed : goal.returns-clause-allowed
@@ -18,3 +18,6 @@ returns-clause-unended c = flown-unended
 
 pub returns-clause-fewer : goal.returns-clause-fewer
 returns-clause-fewer c = flown-fewer
+
+pub returns-clause-promoted : goal.returns-clause-promoted
+returns-clause-promoted c = recovery-promotes

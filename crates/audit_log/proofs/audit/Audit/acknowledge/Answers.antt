@@ -1,0 +1,24 @@
+use Rattle.std.proofs.Common.{◌≡◌, ◌<◌, length, get_or, set, ◌-◌, vec_capacity, vec_len, sym, ◌∙◌, ap}
+use Rattle.audit_log.specs.Audits.{AuditRoom, acked_so, acknowledged_at}
+use Rattle.audit_log.proofs.Changes.{none-changed, one-changed}
+use Rattle.audit_log.proofs.audit.Audit.acknowledge.Goals as goal
+
+pub returns-in-Some : goal.returns-in-Some
+returns-in-Some c =
+    let v = c.self.inside.recoveries in
+    let f = acked_so in
+    let same = ap (λ (s : AuditRoom). s.audit.recoveries) c.self.view_is in
+    let within : c.in-Some.index < length v.items = rw same c.in-Some.ensures.0 in
+    let is = c.in-Some.ensures.1 c.index_mut.result.now in
+    let has : (get_or v.items c.in-Some.index c.index_mut.result.now).id ≡ c.args.id = rw same is in
+    let changed = ap (set v.items c.in-Some.index) (c.ack_so.ensures ∙ ap f c.index_mut.ensures.value) ∙ one-changed c.args.id f v.items c.in-Some.index c.index_mut.result.now c.self.invariant.rising within has in
+    (λ i. record { audit = record { recoveries = changed i; next = c.self.inside.next }; spare = vec_capacity v - vec_len v })
+    ∙ ap (λ (s : AuditRoom). record { audit = acknowledged_at s.audit c.args.id; spare = s.spare }) c.self.view_is
+
+pub returns-in_default : goal.returns-in_default
+returns-in_default c =
+    let now = c.args.self.now in
+    λ i. record {
+      audit = record { recoveries = sym (none-changed c.args.id acked_so now.audit.recoveries c.in_default.ensures) i; next = now.audit.next };
+      spare = now.spare;
+    }

@@ -1,0 +1,198 @@
+-- The turn of an unended job leaves all covered, kept and speaking.
+use Rattle.std.proofs.Common.{◌≡◌, ◌∙◌, ℕ, Bool, true, false, List, cond, get_or, refl, sym, ap, subst, Option, Some, None}
+use Rattle.std.specs.Prelude.{All, ◌==◌, not}
+use Rattle.std.specs.Option.{option_map}
+use Rattle.std.proofs.lemmas.Bool.{eq-eqb, false≢true}
+use Rattle.std.proofs.lemmas.List.Elements.{All-filter, All-map, All-weaker, filter_passes}
+use Rattle.orch_base.specs.declared.server.Moment.{Moment}
+use Rattle.instance_keeper.specs.declared.bridge.Bridge.{Bridge}
+use Rattle.instance_keeper.specs.declared.observation.Observation.{Observation}
+use Rattle.instance_keeper.specs.Book.{BookState}
+use Rattle.server_model.specs.Run.{run}
+use Rattle.server_model.specs.Worlds.{World}
+use Rattle.operations.specs.Changes.{server_of}
+use Rattle.operations.specs.Jobs.{Job}
+use Rattle.operations.specs.Turns.{is_going, turned}
+use Rattle.job_laws.specs.Flights.{Flight, StandsIn, after_turn}
+use Rattle.job_laws.specs.Held.{Spans}
+use Rattle.job_laws.specs.Leases.{HasLeases, IsLeased, job_at as core_at}
+use Rattle.job_laws.specs.Passages.{passed, passing, turned_by}
+use Rattle.job_laws.proofs.Leased.{turn-leased}
+use Rattle.job_laws.proofs.Lists.{All-find}
+use Rattle.job_laws.proofs.Passages.{world-stored_if}
+use Rattle.recovery_plans.specs.Recoveries.{Recovery}
+use Rattle.recovery_plans.specs.Taking.{taken}
+use Rattle.recovery_laws.specs.LeasedRecoveries.{KeepsLeased, LeasedRecovery}
+use Rattle.recovery_laws.specs.Passing.{as_turn}
+use Rattle.recovery_laws.specs.Rings.{AreOwn, HeldRings, SoundRings}
+use Rattle.recovery_laws.proofs.Leasing.{taken-leased}
+use Rattle.recovery_covers.proofs.Begun.{others-cover, turn-covers}
+use Rattle.recovery_histories.specs.Kept.{SameAim}
+use Rattle.recovery_histories.proofs.Keeping.{taken-kept}
+use Rattle.recovery_histories.proofs.Staying.{taken-aim, then-aim}
+use Rattle.recovery_reasons.proofs.Speaking.{taken-speaks}
+use Rattle.unended_jobs.specs.declared.unended.Unended.{Unended}
+use Rattle.unended_jobs.specs.declared.unended.Unended.TheVariants as unended
+use Rattle.unended_jobs.specs.Unended.{Flown, core_of, flown, number_of}
+use Rattle.unended_jobs.proofs.Going.{flown-allowed}
+use Rattle.jobs_in_flight.specs.Jobs.{job_at, jobs_turned, with_job, without_job}
+use Rattle.jobs_in_flight.proofs.Numbers.{found-number}
+use Rattle.unended_laws.specs.Beside.{IsHeldBeside, IsSoundBeside}
+use Rattle.unended_laws.specs.Flights.{HeldJobs, SoundJobs}
+use Rattle.unended_laws.specs.Passages.{passage_of, passages_by}
+use Rattle.unended_laws.proofs.Cores.{core-found}
+use Rattle.covered_laws.specs.Beside.{IsAimedBeside, IsCoveredBeside, IsKeptBeside, IsSpeakingBeside}
+use Rattle.covered_laws.specs.Flights.{AimedJobs, CoveredJobs, KeptJobs, SpeakingJobs}
+use Rattle.covered_laws.proofs.Beside.{run-kept}
+
+-- ---- what a turn leaves of the list
+
+module _ (P Q : Unended → Type 0) (id : ℕ) (others : (k : Unended) → (number_of k ≡ id → ⊥) → P k → Q k) where
+  differ : (k : Unended) → not (number_of k == id) ≡ true → number_of k ≡ id → ⊥
+  differ k passes same = false≢true (sym (ap not (eq-eqb (number_of k) id same)) ∙ passes)
+
+  all-with : (us : List Unended) (u : Unended) → Q u → All P us → All Q (with_job us id u)
+  all-with us u one all =
+      All-map Q (λ k. cond (number_of k == id) u k) us
+      (All-weaker P (λ k. Q (cond (number_of k == id) u k)) (λ k h. go k h (number_of k == id) refl) us all)
+    where
+      go : (k : Unended) → P k → (b : Bool) → (number_of k == id) ≡ b → Q (cond b u k)
+      go k h true e = one
+      go k h false e = others k (differ k (ap not e)) h
+
+  all-without : (us : List Unended) → All P us → All Q (without_job us id)
+  all-without us all =
+      λ i d lt. others (get_or (without_job us id) i d)
+      (differ (get_or (without_job us id) i d) (filter_passes (λ (k : Unended). not (number_of k == id)) us i d lt))
+      (All-filter (λ (k : Unended). not (number_of k == id)) P us all i d lt)
+
+  pub all-turned : (us : List Unended) (t : Flown) → (is_going t.step ≡ true → Q t.next) → All P us → All Q (jobs_turned us id (Some t))
+  all-turned us t next all = go (is_going t.step) next
+    where
+      go : (b : Bool) → (b ≡ true → Q t.next) → All Q (cond b (with_job us id t.next) (without_job us id))
+      go true one = all-with us t.next (one refl) all
+      go false one = all-without us all
+
+-- ---- one turn
+
+both : (P Q : Unended → Type 0) (us : List Unended) → All P us → All Q us → All (λ k. P k × Q k) us
+both P Q us ps qs = λ i d lt. (ps i d lt, qs i d lt)
+
+module _ (f : Flight) (us : List Unended) (b : BookState) (id read : ℕ) (now : Moment) (rings : f.rings ≡ b.rings) (held : HeldJobs f us) where
+  pub rings-held : HeldRings f.world b.rings
+  rings-held = record {
+    spans = subst (λ (rs : List (List Bridge)). All (All (Spans f.world)) rs) rings held.flight.rings;
+    own = subst (λ (rs : List (List Bridge)). AreOwn rs) rings held.own;
+  }
+
+  pub rings-sound : SoundJobs f us → SoundRings f.world b.rings
+  rings-sound sound = subst (λ (rs : List (List Bridge)). All (All (StandsIn f.world)) rs) rings sound.flight.rings
+
+  pub found : (P : Unended → Type 0) → All P us → (u : Unended) → job_at us id ≡ Some u → P u
+  found P all u at = All-find P (λ k. number_of k == id) us u all at
+
+  core-here : (u : Unended) → job_at us id ≡ Some u → core_at f.jobs id ≡ Some (core_of u)
+  core-here u at = ap (λ (js : List Job). core_at js id) held.cores ∙ (core-found us id ∙ ap (option_map core_of) at)
+
+  abbrev then : Unended → World
+  then u = run f.world (flown f.world b read now u).exchanges
+
+  recovery-leased : (r : Recovery) (entry : Option ℕ) → job_at us id ≡ Some (unended.Recovery r entry) → KeepsLeased f.leases id (taken f.world b read now r)
+  recovery-leased r entry at =
+      let mine = found (IsHeldBeside f.world f.leases) held.jobs (unended.Recovery r entry) at in
+      taken-leased f.leases id f.world b read now r (subst (λ (i : ℕ). LeasedRecovery f.leases i r) (found-number us id (unended.Recovery r entry) at) mine.1)
+
+  -- a turn's exchanges are with servers that are leased to its job
+  leased-by : (u : Unended) → job_at us id ≡ Some u → All (λ e. IsLeased f.leases id (server_of e)) (flown f.world b read now u).exchanges
+  leased-by (unended.Plan j) at =
+      let has = All-find (HasLeases f.leases) (λ (k : Job). k.id == id) f.jobs j held.flight.leased.each (core-here (unended.Plan j) at) in
+      subst (λ (i : ℕ). All (λ e. IsLeased f.leases i (server_of e)) (turned f.world read now j).exchanges) (found-number us id (unended.Plan j) at)
+      (turn-leased f.leases f.world read now j has).exchanges
+  leased-by (unended.Recovery r entry) at = (recovery-leased r entry at).exchanges
+
+  other-covered : (u : Unended) → job_at us id ≡ Some u → (k : Unended) → (number_of k ≡ id → ⊥) → IsHeldBeside f.world f.leases k × IsCoveredBeside f.world k → IsCoveredBeside (then u) k
+  other-covered u at (unended.Plan j) apart c = tt
+  other-covered u at (unended.Recovery r entry) apart c =
+      others-cover f.leases id r.core.id f.world (flown f.world b read now u).exchanges r (leased-by u at) (λ same. apart (sym same)) c.0.1 c.1
+
+  next-covered : (u : Unended) → IsHeldBeside f.world f.leases u → IsCoveredBeside f.world u → is_going (flown f.world b read now u).step ≡ true → IsCoveredBeside (then u) (flown f.world b read now u).next
+  next-covered (unended.Plan j) mine c going = tt
+  next-covered (unended.Recovery r entry) mine c going = turn-covers f.world b read now r held.flight.placed rings-held mine.0 c going
+
+  next-kept : SoundJobs f us → (u : Unended) → IsHeldBeside f.world f.leases u → IsSoundBeside f.world u → IsCoveredBeside f.world u → IsKeptBeside f.world u → IsKeptBeside (then u) (flown f.world b read now u).next
+  next-kept sound (unended.Plan j) mine good c k = tt
+  next-kept sound (unended.Recovery r entry) mine good c k = taken-kept f.world b read now r held.flight.placed rings-held (rings-sound sound) mine.0 good c k
+
+  next-speaks : (u : Unended) → IsHeldBeside f.world f.leases u → IsSpeakingBeside u → is_going (flown f.world b read now u).step ≡ true → IsSpeakingBeside (flown f.world b read now u).next
+  next-speaks (unended.Plan j) mine s going = tt
+  next-speaks (unended.Recovery r entry) mine s going = taken-speaks f.world b read now r rings-held mine.0 s going
+
+  next-aimed : (begun : ℕ → Recovery) (u : Unended) → job_at us id ≡ Some u → IsAimedBeside begun u → is_going (flown f.world b read now u).step ≡ true → IsAimedBeside begun (flown f.world b read now u).next
+  next-aimed begun (unended.Plan j) at a going = tt
+  next-aimed begun (unended.Recovery r entry) at a going =
+      let t = taken f.world b read now r in
+      let number : t.recovery.core.id ≡ r.core.id = ((recovery-leased r entry at).servers going).number ∙ sym (found-number us id (unended.Recovery r entry) at) in
+      then-aim (begun t.recovery.core.id) r t.recovery (subst (λ (i : ℕ). SameAim (begun i) r) (sym number) a) (taken-aim f.world b read now r)
+
+  turn-covered : (u : Unended) → job_at us id ≡ Some u → CoveredJobs f us → All (IsCoveredBeside (then u)) (jobs_turned us id (Some (flown f.world b read now u)))
+  turn-covered u at covered =
+      all-turned (λ k. IsHeldBeside f.world f.leases k × IsCoveredBeside f.world k) (IsCoveredBeside (then u)) id (other-covered u at) us (flown f.world b read now u)
+      (next-covered u (found (IsHeldBeside f.world f.leases) held.jobs u at) (found (IsCoveredBeside f.world) covered.jobs u at))
+      (both (IsHeldBeside f.world f.leases) (IsCoveredBeside f.world) us held.jobs covered.jobs)
+
+  turn-kept : (u : Unended) → job_at us id ≡ Some u → SoundJobs f us → CoveredJobs f us → KeptJobs f us → All (IsKeptBeside (then u)) (jobs_turned us id (Some (flown f.world b read now u)))
+  turn-kept u at sound covered kept =
+      all-turned (IsKeptBeside f.world) (IsKeptBeside (then u)) id
+      (λ k apart h. run-kept f.world (flown f.world b read now u).exchanges k held.flight.placed (flown-allowed f.world b read now u) h) us (flown f.world b read now u)
+      (λ going. next-kept sound u (found (IsHeldBeside f.world f.leases) held.jobs u at) (found (IsSoundBeside f.world) sound.jobs u at) (found (IsCoveredBeside f.world) covered.jobs u at)
+      (found (IsKeptBeside f.world) kept.jobs u at)) kept.jobs
+
+  turn-speaking : (u : Unended) → job_at us id ≡ Some u → SpeakingJobs us → SpeakingJobs (jobs_turned us id (Some (flown f.world b read now u)))
+  turn-speaking u at speaking = record {
+    jobs =
+        all-turned IsSpeakingBeside IsSpeakingBeside id (λ k apart h. h) us (flown f.world b read now u)
+        (next-speaks u (found (IsHeldBeside f.world f.leases) held.jobs u at) (found IsSpeakingBeside speaking.jobs u at)) speaking.jobs;
+  }
+
+  turn-aimed : (begun : ℕ → Recovery) (u : Unended) → job_at us id ≡ Some u → AimedJobs begun us → AimedJobs begun (jobs_turned us id (Some (flown f.world b read now u)))
+  turn-aimed begun u at aimed = record {
+    jobs =
+        all-turned (IsAimedBeside begun) (IsAimedBeside begun) id (λ k apart h. h) us (flown f.world b read now u)
+        (next-aimed begun u at (found (IsAimedBeside begun) aimed.jobs u at)) aimed.jobs;
+  }
+
+  -- the passage's world is that after the turn's exchanges
+  world-then : (keeps : Bool) (u : Unended) → job_at us id ≡ Some u → (passed f (passage_of f.world b read now keeps id u)).world ≡ then u
+  world-then keeps (unended.Plan j) at =
+      ap (λ (o : Option Job). (turned_by f id read now keeps o).world) (core-here (unended.Plan j) at)
+      ∙ world-stored_if keeps (after_turn f id (turned f.world read now j)) (turned f.world read now j).observation
+  world-then keeps (unended.Recovery r entry) at =
+      world-stored_if keeps (after_turn f id (as_turn id (taken f.world b read now r))) (taken f.world b read now r).observation
+
+  -- ---- the turn of a number, where there may be no such job
+
+  pub number-covered : (keeps : Option Observation → Bool) (o : Option Unended) → job_at us id ≡ o → CoveredJobs f us
+      → CoveredJobs (passing f (passages_by f.world b read now keeps id o)) (jobs_turned us id (option_map (flown f.world b read now) o))
+  number-covered keeps None at covered = covered
+  number-covered keeps (Some u) at covered = record {
+    jobs =
+        subst (λ (w : World). All (IsCoveredBeside w) (jobs_turned us id (Some (flown f.world b read now u))))
+        (sym (world-then (keeps (flown f.world b read now u).observation) u at)) (turn-covered u at covered);
+  }
+
+  pub number-kept : (keeps : Option Observation → Bool) (o : Option Unended) → job_at us id ≡ o → SoundJobs f us → CoveredJobs f us → KeptJobs f us
+      → KeptJobs (passing f (passages_by f.world b read now keeps id o)) (jobs_turned us id (option_map (flown f.world b read now) o))
+  number-kept keeps None at sound covered kept = kept
+  number-kept keeps (Some u) at sound covered kept = record {
+    jobs =
+        subst (λ (w : World). All (IsKeptBeside w) (jobs_turned us id (Some (flown f.world b read now u))))
+        (sym (world-then (keeps (flown f.world b read now u).observation) u at)) (turn-kept u at sound covered kept);
+  }
+
+  pub number-speaking : (o : Option Unended) → job_at us id ≡ o → SpeakingJobs us → SpeakingJobs (jobs_turned us id (option_map (flown f.world b read now) o))
+  number-speaking None at speaking = speaking
+  number-speaking (Some u) at speaking = turn-speaking u at speaking
+
+  pub number-aimed : (begun : ℕ → Recovery) (o : Option Unended) → job_at us id ≡ o → AimedJobs begun us → AimedJobs begun (jobs_turned us id (option_map (flown f.world b read now) o))
+  number-aimed begun None at aimed = aimed
+  number-aimed begun (Some u) at aimed = turn-aimed begun u at aimed

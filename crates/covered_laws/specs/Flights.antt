@@ -1,0 +1,22 @@
+-- Servers with unended jobs in flight, whose recoveries cover their replicas so far.
+use Rattle.std.specs.Prelude.{ℕ, List, All}
+use Rattle.job_laws.specs.Flights.{Flight}
+use Rattle.recovery_plans.specs.Recoveries.{Recovery}
+use Rattle.unended_jobs.specs.declared.unended.Unended.{Unended}
+use Rattle.covered_laws.specs.Beside.{IsAimedBeside, IsCoveredBeside, IsKeptBeside, IsSpeakingBeside}
+
+-- in every state, quiet or not, beside HeldJobs
+pub record CoveredJobs (f : Flight) (us : List Unended) : Type 0 where
+  pub jobs : All (IsCoveredBeside f.world) us
+
+-- in every quiet one, beside SoundJobs
+pub record KeptJobs (f : Flight) (us : List Unended) : Type 0 where
+  pub jobs : All (IsKeptBeside f.world) us
+
+-- in every state, whatever the servers are
+pub record SpeakingJobs (us : List Unended) : Type 0 where
+  pub jobs : All IsSpeakingBeside us
+
+-- each recovery is about what one began with, by its number
+pub record AimedJobs (begun : ℕ → Recovery) (us : List Unended) : Type 0 where
+  pub jobs : All (IsAimedBeside begun) us

@@ -1,0 +1,4 @@
+pub mod Beside
+pub mod Flights
+pub mod Passages
+pub mod Turns

@@ -1,0 +1,31 @@
+//! What recoveries in flight are about.
+
+ghost use Rattle.std.specs.Prelude.{◌≡◌, ◌∷◌, ◌++◌, ℕ, List, Option, []};
+ghost use Rattle.std.specs.Option.{option_map};
+ghost use Rattle.orch_base.specs.declared.server.Moment.{Moment as AMoment};
+ghost use Rattle.instance_keeper.specs.Book.{BookState};
+ghost use Rattle.job_laws.specs.Flights.{Flight};
+ghost use Rattle.jobs_in_flight.specs.Jobs.{job_at, jobs_turned};
+ghost use Rattle.recovery_plans.specs.Recoveries.{Recovery};
+ghost use Rattle.recovery_histories.specs.Kept.{SameAim};
+ghost use Rattle.unended_jobs.specs.declared.unended.Unended.{Unended as AnUnended};
+ghost use Rattle.unended_jobs.specs.Unended.{flown};
+ghost use Rattle.unended_laws.specs.Flights.{HeldJobs};
+ghost use Rattle.covered_laws.specs.Beside.{IsAimedBeside};
+ghost use Rattle.covered_laws.specs.Flights.{AimedJobs};
+ghost use Rattle.covered_laws.specs.Turns.{RecoveryTurn, recovery_then};
+
+/// A recovery keeps its number and what it is about, from its beginning to its last turn: purpose, failed server,
+/// replicas, and of whom it tells.
+pub fn aims_stay_in_flight()
+    ensures begun { (begun : ℕ → Recovery) (us : List AnUnended) (u : AnUnended) →
+        IsAimedBeside begun u → AimedJobs begun us → AimedJobs begun (us ++ u ∷ []) }
+    ensures none { (begun : ℕ → Recovery) → AimedJobs begun [] }
+    ensures turned { (begun : ℕ → Recovery) (f : Flight) (us : List AnUnended) (b : BookState)
+        (id read : ℕ) (now : AMoment) →
+        f.rings ≡ b.rings → HeldJobs f us → AimedJobs begun us → AimedJobs begun
+        (jobs_turned us id (option_map (flown f.world b read now) (job_at us id))) }
+    ensures last { (begun : ℕ → Recovery) (f : Flight) (us : List AnUnended)
+        (t : RecoveryTurn f us) →
+        HeldJobs f us → AimedJobs begun us → SameAim (begun t.id) (recovery_then f us t) }
+{}

@@ -1,0 +1,41 @@
+//! Recoveries that begin.
+
+ghost use Rattle.std.specs.Prelude.{◌∷◌, ◌++◌, ℕ, List, Option, []};
+ghost use Rattle.orch_base.specs.declared.server.ServerNo.{ServerNo as Number};
+ghost use Rattle.server_model.specs.Worlds.{World};
+ghost use Rattle.job_laws.specs.Flights.{Flight};
+ghost use Rattle.job_laws.specs.Passages.{Beginning, passed};
+ghost use Rattle.recovery_plans.specs.declared.purpose.Purpose.{Purpose as APurpose};
+ghost use Rattle.recovery_plans.specs.Beginning.{begun_recovery};
+ghost use Rattle.recovery_covers.specs.Covers.{AreReplicas};
+ghost use Rattle.unended_jobs.specs.declared.unended.Unended.{Unended as AnUnended};
+ghost use Rattle.unended_jobs.specs.declared.unended.Unended.TheVariants.{Recovery};
+ghost use Rattle.unended_jobs.specs.Unended.{core_of};
+ghost use Rattle.covered_laws.specs.Beside.{IsCoveredBeside, IsKeptBeside, IsSpeakingBeside};
+ghost use Rattle.covered_laws.specs.Flights.{CoveredJobs, KeptJobs, SpeakingJobs};
+
+/// A job that begins changes no server: it leaves all covered and kept, itself too where it begins so.
+pub fn covered_jobs_begin()
+    ensures covered { (f : Flight) (us : List AnUnended) (list : List Number) (u : AnUnended) →
+        IsCoveredBeside f.world u → CoveredJobs f us →
+        CoveredJobs (passed f (Beginning list (core_of u))) (us ++ u ∷ []) }
+    ensures kept { (f : Flight) (us : List AnUnended) (list : List Number) (u : AnUnended) →
+        IsKeptBeside f.world u → KeptJobs f us →
+        KeptJobs (passed f (Beginning list (core_of u))) (us ++ u ∷ []) }
+    ensures speaking { (us : List AnUnended) (u : AnUnended) → IsSpeakingBeside u →
+        SpeakingJobs us → SpeakingJobs (us ++ u ∷ []) }
+{}
+
+/// A recovery begins so, where none of its replicas is named twice.
+pub fn recoveries_begin_covered_beside()
+    ensures covered { (w : World) (u : APurpose) (id wait : ℕ) (f : Number)
+        (replicas order : List Number) (entry : Option ℕ) →
+        AreReplicas u f replicas →
+        IsCoveredBeside w (Recovery (begun_recovery u id wait f replicas order) entry) }
+    ensures kept { (w : World) (u : APurpose) (id wait : ℕ) (f : Number)
+        (replicas order : List Number) (entry : Option ℕ) →
+        IsKeptBeside w (Recovery (begun_recovery u id wait f replicas order) entry) }
+    ensures speaking { (u : APurpose) (id wait : ℕ) (f : Number)
+        (replicas order : List Number) (entry : Option ℕ) →
+        IsSpeakingBeside (Recovery (begun_recovery u id wait f replicas order) entry) }
+{}

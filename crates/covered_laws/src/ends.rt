@@ -1,0 +1,51 @@
+//! Recoveries in flight that are done.
+
+ghost use Rattle.std.specs.Prelude.{◌≡◌, ◌<◌, ℕ, List, All, Some};
+ghost use Rattle.orch_base.specs.declared.server.ServerNo.{ServerNo as Number};
+ghost use Rattle.commands.specs.declared.line.Line.{Line as ALine};
+ghost use Rattle.server_model.specs.Safe.{Safe};
+ghost use Rattle.job_laws.specs.Flights.{Flight};
+ghost use Rattle.recovery_plans.specs.declared.purpose.Purpose.TheVariants as purpose;
+ghost use Rattle.recovery_plans.specs.Named.{IsNamedRecovery};
+ghost use Rattle.recovery_covers.specs.Covers.{HasOnePlace, IsTold, times};
+ghost use Rattle.recovery_histories.specs.Kept.{IsBeginning, Keeps, SameAim};
+ghost use Rattle.unended_jobs.specs.declared.unended.Unended.{Unended as AnUnended};
+ghost use Rattle.unended_laws.specs.Flights.{HeldJobs, SoundJobs};
+ghost use Rattle.covered_laws.specs.Flights.{CoveredJobs, KeptJobs};
+ghost use Rattle.covered_laws.specs.Turns.{IsDoneIn, IsNamedOutcome, RecoveryTurn, outcome_then, recovery_then, world_then};
+
+/// A turn leaves a recovery its purpose, its failed server and its replicas; and one in which it is done leaves these
+/// replicas covered, with the outcome's lines, each in one place; and the servers of the outcome are there.
+pub fn finished_recoveries_cover()
+    ensures aim { (f : Flight) (us : List AnUnended) (t : RecoveryTurn f us) →
+        SameAim t.recovery (recovery_then f us t) }
+    ensures told { (f : Flight) (us : List AnUnended) (t : RecoveryTurn f us)
+        (lines : List ALine) →
+        IsDoneIn f us t lines → HeldJobs f us → CoveredJobs f us →
+        IsTold (world_then f us t) (recovery_then f us t) lines }
+    ensures placed { (f : Flight) (us : List AnUnended) (t : RecoveryTurn f us)
+        (lines : List ALine) →
+        IsDoneIn f us t lines → HeldJobs f us → CoveredJobs f us →
+        (n : ℕ) → 0 < times n t.recovery.replicas →
+        HasOnePlace t.recovery.purpose (outcome_then f us t) n }
+    ensures named { (f : Flight) (us : List AnUnended) (t : RecoveryTurn f us)
+        (lines : List ALine) (count : ℕ) →
+        IsDoneIn f us t lines → HeldJobs f us → CoveredJobs f us →
+        IsNamedRecovery count t.recovery → IsNamedOutcome count (outcome_then f us t) }
+{}
+
+/// Where a recovery in flight is done in a safe world the promoted server has what each that might have been chosen had
+/// when it was drained; and what the old master of a takeover has is a beginning of what the designated one has.
+pub fn finished_recoveries_keep_histories()
+    ensures promoted { (f : Flight) (us : List AnUnended) (t : RecoveryTurn f us)
+        (lines : List ALine) (n : Number) →
+        IsDoneIn f us t lines → HeldJobs f us → SoundJobs f us → CoveredJobs f us →
+        KeptJobs f us → Safe (world_then f us t) → (outcome_then f us t).promoted ≡ Some n →
+        All (λ s. Keeps (world_then f us t) t.recovery.failed.0 s.exec n.0)
+        (recovery_then f us t).eligible }
+    ensures old { (f : Flight) (us : List AnUnended) (t : RecoveryTurn f us)
+        (lines : List ALine) (d : Number) →
+        IsDoneIn f us t lines → HeldJobs f us → CoveredJobs f us →
+        Safe (world_then f us t) → t.recovery.purpose ≡ purpose.Takeover d →
+        IsBeginning (world_then f us t) t.recovery.failed.0 d.0 }
+{}

@@ -1,0 +1,34 @@
+//! Turns of jobs by their numbers.
+
+ghost use Rattle.std.specs.Prelude.{◌≡◌, ℕ, Bool, List, Option};
+ghost use Rattle.std.specs.Option.{option_map};
+ghost use Rattle.orch_base.specs.declared.server.Moment.{Moment as AMoment};
+ghost use Rattle.instance_keeper.specs.declared.observation.Observation.{Observation as Reading};
+ghost use Rattle.instance_keeper.specs.Book.{BookState};
+ghost use Rattle.job_laws.specs.Flights.{Flight};
+ghost use Rattle.job_laws.specs.Passages.{passing};
+ghost use Rattle.jobs_in_flight.specs.Jobs.{job_at, jobs_turned};
+ghost use Rattle.unended_jobs.specs.declared.unended.Unended.{Unended as AnUnended};
+ghost use Rattle.unended_jobs.specs.Unended.{flown};
+ghost use Rattle.unended_laws.specs.Flights.{HeldJobs, SoundJobs};
+ghost use Rattle.unended_laws.specs.Passages.{passages_by};
+ghost use Rattle.covered_laws.specs.Flights.{CoveredJobs, KeptJobs, SpeakingJobs};
+
+/// The turn of a job's number leaves all covered, the job itself too where it goes on, and kept where all was sound,
+/// whichever readings are stored: where there is no such job nothing is passed.
+pub fn covered_jobs_take_turns()
+    ensures covered { (f : Flight) (us : List AnUnended) (b : BookState) (id read : ℕ)
+        (now : AMoment) (keeps : Option Reading → Bool) →
+        f.rings ≡ b.rings → HeldJobs f us → CoveredJobs f us →
+        CoveredJobs (passing f (passages_by f.world b read now keeps id (job_at us id)))
+        (jobs_turned us id (option_map (flown f.world b read now) (job_at us id))) }
+    ensures kept { (f : Flight) (us : List AnUnended) (b : BookState) (id read : ℕ)
+        (now : AMoment) (keeps : Option Reading → Bool) →
+        f.rings ≡ b.rings → HeldJobs f us → SoundJobs f us → CoveredJobs f us → KeptJobs f us →
+        KeptJobs (passing f (passages_by f.world b read now keeps id (job_at us id)))
+        (jobs_turned us id (option_map (flown f.world b read now) (job_at us id))) }
+    ensures speaking { (f : Flight) (us : List AnUnended) (b : BookState) (id read : ℕ)
+        (now : AMoment) →
+        f.rings ≡ b.rings → HeldJobs f us → SpeakingJobs us →
+        SpeakingJobs (jobs_turned us id (option_map (flown f.world b read now) (job_at us id))) }
+{}

@@ -1,0 +1,26 @@
+//! Recoveries while others take their turns.
+
+ghost use Rattle.std.specs.Prelude.{List, []};
+ghost use Rattle.job_laws.specs.Flights.{Flight};
+ghost use Rattle.job_laws.specs.Passages.{MayPass, Passage, Restarting, passed};
+ghost use Rattle.unended_jobs.specs.declared.unended.Unended.{Unended as AnUnended};
+ghost use Rattle.unended_laws.specs.Flights.{HeldJobs};
+ghost use Rattle.unended_laws.specs.Passages.{IsApart};
+ghost use Rattle.covered_laws.specs.Flights.{CoveredJobs, KeptJobs, SpeakingJobs};
+ghost use Rattle.covered_laws.specs.Passages.{IsOutside};
+
+/// What is no orchestrator's exchange, no job's turn, no beginning and no restart leaves all covered; and histories stay
+/// kept through exchanges of any kind.
+pub fn covered_jobs_stay()
+    ensures covered { (f : Flight) (us : List AnUnended) (p : Passage) → IsOutside p →
+        CoveredJobs f us → CoveredJobs (passed f p) us }
+    ensures kept { (f : Flight) (us : List AnUnended) (p : Passage) → MayPass f p → IsApart p →
+        HeldJobs f us → KeptJobs f us → KeptJobs (passed f p) us }
+{}
+
+/// A restart leaves no recovery.
+pub fn restarts_leave_none_covered()
+    ensures covered { (f : Flight) → CoveredJobs (passed f Restarting) [] }
+    ensures kept { (f : Flight) → KeptJobs (passed f Restarting) [] }
+    ensures speaking { SpeakingJobs [] }
+{}

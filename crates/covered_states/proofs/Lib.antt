@@ -1,0 +1,4 @@
+pub mod Begun
+pub mod Joining
+pub mod Goes
+pub mod Coming

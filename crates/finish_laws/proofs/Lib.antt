@@ -1,0 +1,3 @@
+pub mod Finishing
+pub mod Entries
+pub mod Losses

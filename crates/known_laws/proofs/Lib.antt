@@ -1,0 +1,14 @@
+pub mod Beginnings
+pub mod Logged
+pub mod Lines
+pub mod Closings
+pub mod Loads
+pub mod Sameness
+pub mod Entering
+pub mod Counting
+pub mod Parts
+pub mod Entries
+pub mod Reloads
+pub mod Follows
+pub mod Audits
+pub mod Permissions

@@ -1,0 +1,126 @@
+-- Audits that the same rows follow, and whose recoveries count, are the same.
+use Rattle.std.proofs.Common.{◌≡◌, ◌∙◌, ℕ, ◌-◌, ◌<◌, ◌≤◌, ◌^◌, Bool, true, false, cond, List, [], ◌∷◌, refl, sym, ap, subst, inl, inr, Option, Some, None, arith}
+use Rattle.std.specs.Prelude.{All, AllPairs, IfSome, ◌==◌, ◌⊎◌, find}
+use Rattle.std.proofs.lemmas.Bool.{cases_lt, eq-eqb, eqb-true, false≢true, ne_eqb}
+use Rattle.std.proofs.lemmas.List.Elements.{All-weaker}
+use Rattle.audit_log.proofs.Changes.{none-at}
+use Rattle.audit_log.proofs.Finding.{All-found}
+use Rattle.audit_log.specs.Audits.{AuditState, IsAudit}
+use Rattle.instance_keeper.proofs.Lists.{pairs_head, pairs_tail}
+use Rattle.instance_keeper.specs.Rows.{row_at}
+use Rattle.instance_keeper.specs.declared.recovery.Recovery.{Recovery}
+use Rattle.instance_keeper.specs.declared.row.Key.TheVariants as key
+use Rattle.instance_keeper.specs.declared.row.Row.{Row}
+use Rattle.instance_keeper.specs.declared.row.Row.TheVariants as row
+use Rattle.instance_keeper.specs.declared.row.Table.TheVariants as table
+use Rattle.opening_book.specs.Counting.{counts}
+use Rattle.opening_book.specs.Following.{FollowAudit, IsAudited}
+
+-- ---- lists of rising ids with the same recovery at each
+
+abbrev Rise : List Recovery → Type 0
+Rise xs = AllPairs (λ (x y : Recovery). x.id < y.id) xs
+
+abbrev found : List Recovery → ℕ → Option Recovery
+found xs id = find (λ (r : Recovery). r.id == id) xs
+
+-- of the first one's id the first is found
+first-found : (x : Recovery) (xs : List Recovery) → found (x ∷ xs) x.id ≡ Some x
+first-found x xs = ap (λ (b : Bool). cond b (Some x) (found xs x.id)) (eq-eqb x.id x.id refl)
+
+none-under : (id : ℕ) (xs : List Recovery) → All (λ r. id < r.id) xs → found xs id ≡ None
+none-under id xs above = none-at id xs (All-weaker (λ (r : Recovery). id < r.id) (λ r. (r.id == id) ≡ false) (λ r more. ne_eqb r.id id (λ e. absurd (omega (arith, more, e)))) xs above)
+
+-- nothing of an id below the first one's
+none-before : (id : ℕ) (x : Recovery) (xs : List Recovery) → id < x.id → Rise (x ∷ xs) → found (x ∷ xs) id ≡ None
+none-before id x xs less rise =
+    ap (λ (b : Bool). cond b (Some x) (found xs id)) (ne_eqb x.id id (λ e. absurd (omega (arith, less, e))))
+    ∙ none-under id xs (All-weaker (λ (r : Recovery). x.id < r.id) (λ r. id < r.id) (λ r more. omega (arith, less, more)) xs (pairs_head (λ (a b : Recovery). a.id < b.id) x xs rise))
+
+never : {A : Type 0} (x : Recovery) (o : Option Recovery) → o ≡ Some x → o ≡ None → A
+never x o some none = let no : Some x ≡ None = sym some ∙ none in cc
+
+same-first : (x y : Recovery) (xs ys : List Recovery) → Rise (x ∷ xs) → Rise (y ∷ ys) → ((id : ℕ) → found (x ∷ xs) id ≡ found (y ∷ ys) id) → x.id ≡ y.id
+same-first x y xs ys rise rise' same = go (cases_lt x.id y.id) (cases_lt y.id x.id)
+  where
+    go : (x.id < y.id) ⊎ (y.id ≤ x.id) → (y.id < x.id) ⊎ (x.id ≤ y.id) → x.id ≡ y.id
+    go (inl less) h = never x (found (y ∷ ys) x.id) (sym (same x.id) ∙ first-found x xs) (none-before x.id y ys less rise')
+    go (inr more) (inl less) = never y (found (x ∷ xs) y.id) (same y.id ∙ first-found y ys) (none-before y.id x xs less rise)
+    go (inr more) (inr most) = omega (arith, more, most)
+
+same-lists : (xs ys : List Recovery) → Rise xs → Rise ys → ((id : ℕ) → found xs id ≡ found ys id) → xs ≡ ys
+same-lists [] [] rise rise' same = refl
+same-lists [] (y ∷ ys) rise rise' same = never y (found (y ∷ ys) y.id) (first-found y ys) (sym (same y.id))
+same-lists (x ∷ xs) [] rise rise' same = never x (found (x ∷ xs) x.id) (first-found x xs) (same x.id)
+same-lists (x ∷ xs) (y ∷ ys) rise rise' same =
+    let rest =
+    same-lists xs ys (pairs_tail (λ (a b : Recovery). a.id < b.id) x xs rise) (pairs_tail (λ (a b : Recovery). a.id < b.id) y ys rise')
+    (λ id. at id (x.id == id) refl) in
+    λ i. first i ∷ rest i
+  where
+    ids : x.id ≡ y.id
+    ids = same-first x y xs ys rise rise' same
+
+    first : x ≡ y
+    first =
+        let one : Some x ≡ Some y = sym (first-found x xs) ∙ same x.id ∙ ap (found (y ∷ ys)) ids ∙ first-found y ys in
+        cc
+
+    above : All (λ r. x.id < r.id) xs
+    above = pairs_head (λ (a b : Recovery). a.id < b.id) x xs rise
+
+    above' : All (λ r. y.id < r.id) ys
+    above' = pairs_head (λ (a b : Recovery). a.id < b.id) y ys rise'
+
+    at : (id : ℕ) (b : Bool) → (x.id == id) ≡ b → found xs id ≡ found ys id
+    at id true here =
+        let it = eqb-true x.id id here in
+        subst (λ (n : ℕ). found xs n ≡ found ys n) it
+        (none-under x.id xs above ∙ sym (none-under x.id ys (subst (λ (n : ℕ). All (λ (r : Recovery). n < r.id) ys) (sym ids) above')))
+    at id false here =
+        sym (ap (λ (b : Bool). cond b (Some x) (found xs id)) here) ∙ same id
+        ∙ ap (λ (b : Bool). cond b (Some y) (found ys id)) (ap (λ (n : ℕ). n == id) (sym ids) ∙ here)
+
+-- ---- audits that the same rows follow
+
+module _ (count next : ℕ) where
+  abbrev Counted : Recovery → Type 0
+  Counted r = counts count (next - 1) (row.Recovery r) ≡ true
+
+  counted-not : {A : Type 0} (r : Recovery) (kept : Option Row) → kept ≡ Some (row.Recovery r) → IfSome kept (λ x. counts count (next - 1) x ≡ false) → Counted r → A
+  counted-not r kept is off on =
+      let none : counts count (next - 1) (row.Recovery r) ≡ false = subst (λ (k : Option Row). IfSome k (λ x. counts count (next - 1) x ≡ false)) is off in
+      absurd (false≢true (sym none ∙ on))
+
+  -- of one kept row there is one recovery
+  agree : (x y : Option Recovery) (kept : Option Row) → IsAudited count next kept x → IsAudited count next kept y → IfSome x Counted → IfSome y Counted → x ≡ y
+  agree None None kept is is' on on' = refl
+  agree (Some r) (Some t) kept is is' on on' =
+      let one : Some (row.Recovery r) ≡ Some (row.Recovery t) = sym is ∙ is' in
+      let same : r ≡ t = cc in
+      ap (λ (z : Recovery). Some z) same
+  agree (Some r) None kept is off on on' = counted-not r kept is off on
+  agree None (Some t) kept off is on on' = counted-not t kept is off on'
+
+  all-counted : (xs : List Recovery) → All Counted xs → (id : ℕ) → IfSome (found xs id) Counted
+  all-counted xs all id = go (found xs id) refl
+    where
+      go : (o : Option Recovery) → found xs id ≡ o → IfSome o Counted
+      go None e = tt
+      go (Some r) e = All-found (λ (x : Recovery). x.id == id) Counted xs r all e
+
+  -- no id is past the last one
+  past : (a : AuditState) → IsAudit a → (id : ℕ) → a.next ≤ id → found a.recoveries id ≡ None
+  past a is id more =
+      none-at id a.recoveries (All-weaker (λ (r : Recovery). r.id < a.next) (λ r. (r.id == id) ≡ false) (λ r less. ne_eqb r.id id (λ e. absurd (omega (arith, less, e, more)))) a.recoveries is.below)
+
+  pub same-audits : (rows : List Row) (xs ys : List Recovery) → FollowAudit count rows (record { recoveries = xs; next = next }) → FollowAudit count rows (record { recoveries = ys; next = next })
+      → All Counted xs → All Counted ys → xs ≡ ys
+  same-audits rows xs ys a b all all' = same-lists xs ys a.audit.rising b.audit.rising (λ id. at id (cases_lt id (2 ^ 64)))
+    where
+      at : (id : ℕ) → (id < 2 ^ 64) ⊎ (2 ^ 64 ≤ id) → found xs id ≡ found ys id
+      at id (inl small) =
+          agree (found xs id) (found ys id) (row_at rows table.Recovery (key.Id id)) (a.each id small) (b.each id small) (all-counted xs all id) (all-counted ys all' id)
+      at id (inr more) =
+          let most = a.small in
+          past (record { recoveries = xs; next = next }) a.audit id (omega (arith, more, most)) ∙ sym (past (record { recoveries = ys; next = next }) b.audit id (omega (arith, more, most)))

@@ -1,0 +1,4 @@
+pub mod Runs
+pub mod Entries
+pub mod Begun
+pub mod Lines

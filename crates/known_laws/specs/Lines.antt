@@ -1,0 +1,28 @@
+-- The lines of a scan.
+use Rattle.std.specs.Prelude.{◌≡◌, ◌⊎◌, ℕ, ◌+◌, ⊤, List, [], ◌∷◌}
+use Rattle.commands.specs.declared.line.Line.{Line}
+use Rattle.commands.specs.declared.line.Line.TheVariants as line
+use Rattle.commands.specs.declared.refusal.Refusal.{Refusal}
+use Rattle.failure_analysis.specs.declared.entry.Entry.{Entry}
+use Rattle.recovery_core.specs.Tries.{Begins}
+
+-- this recovery, of the entry's server, begins as the job of a number, and the line tells it
+pub record TellsBegun (job : ℕ) (e : Entry) (x : Begins) (l : Line) : Type 0 where
+  pub failed : x.job.failed ≡ e.no
+  pub number : x.job.core.id ≡ job
+  pub told : l ≡ line.Begun e.no e.code job
+
+-- the line tells what refuses the entry's recovery
+abbrev pub TellsRefused : Entry → Line → Type 0
+TellsRefused e l = (why : Refusal) × (l ≡ line.Refused e.no e.code why)
+
+-- one line for each entry, in order: the next of these recoveries begins, with the number after the last job's, or the
+-- entry is refused one
+abbrev pub AreLinesOf : ℕ → List Entry → List Begins → List Line → Type 0
+AreLinesOf last [] [] [] = ⊤
+AreLinesOf last [] [] (l ∷ ls) = ⊥
+AreLinesOf last [] (x ∷ xs) ls = ⊥
+AreLinesOf last (e ∷ es) xs [] = ⊥
+AreLinesOf last (e ∷ es) [] (l ∷ ls) = TellsRefused e l × AreLinesOf last es [] ls
+AreLinesOf last (e ∷ es) (x ∷ xs) (l ∷ ls) =
+    (TellsBegun (last + 1) e x l × AreLinesOf (last + 1) es xs ls) ⊎ (TellsRefused e l × AreLinesOf last es (x ∷ xs) ls)

@@ -1,0 +1,133 @@
+-- The entry that ends with a job's turn.
+use Rattle.std.proofs.Common.{◌≡◌, ◌≢◌, ◌∙◌, ℕ, Bool, true, false, cond, List, refl, sym, ap, subst, Option, Some, None}
+use Rattle.std.specs.Prelude.{◌==◌, IfSome, if◌then◌else◌}
+use Rattle.std.specs.Option.{option_map}
+use Rattle.std.proofs.lemmas.Option.{same_Some}
+use Rattle.audit_log.proofs.Changes.{IsAudit-map}
+use Rattle.audit_log.specs.Audits.{AuditState, IsAudit, acked_so, acknowledged_at, ended, ended_so}
+use Rattle.instance_keeper.specs.declared.recovery.Recovery.{Recovery as KeptRecovery}
+use Rattle.operations.specs.Turns.{is_going}
+use Rattle.operations.specs.declared.step.JobStep.{JobStep}
+use Rattle.orch_base.specs.declared.recovery.Ending.{Ending}
+use Rattle.orch_base.specs.declared.server.Moment.{Moment}
+use Rattle.instance_keeper.specs.Book.{BookState}
+use Rattle.jobs_in_flight.specs.Jobs.{Rise, job_at, jobs_turned, with_job, without_job}
+use Rattle.recovery_core.proofs.Ended.{going-unended}
+use Rattle.recovery_core.specs.Endings.{ending_of, is_acknowledged}
+use Rattle.recovery_plans.specs.Recoveries.{Recovery}
+use Rattle.server_model.specs.Worlds.{World}
+use Rattle.unended_jobs.specs.Unended.{Flown, flown}
+use Rattle.unended_jobs.specs.declared.unended.Unended.{Unended}
+use Rattle.unended_jobs.specs.declared.unended.Unended.TheVariants as unended
+use Rattle.orch_core.specs.Closings.{closed_by, closing_by, closing_of}
+use Rattle.orch_core.specs.States.{HaveEntries, IsOpenAt, entry_id}
+use Rattle.orch_core.specs.declared.closing.Closing.{Closing}
+use Rattle.orch_core.proofs.Entries.{entries-closed, entries-with, entries-without, found-open, open-acked, open-ended}
+use Rattle.orch_core.proofs.Recoveries.{HasBegun, mapped-begun}
+
+-- ---- which one ends
+
+abbrev closing_as : Recovery → JobStep → ℕ → Ending → Closing
+closing_as r s id e = record { id = id; outcome = e; acked = is_acknowledged r s }
+
+-- none while the job goes on
+pub closing-going : (u : Unended) (s : JobStep) → is_going s ≡ true → closing_by u s ≡ None
+closing-going (unended.Plan j) s going = refl
+closing-going (unended.Recovery r None) s going = refl
+closing-going (unended.Recovery r (Some id)) s going = ap (option_map (closing_as r s id)) (going-unended r s going)
+
+-- else the job's own
+closing-entry : (u : Unended) (s : JobStep) (c : Closing) → closing_by u s ≡ Some c → entry_id u ≡ Some c.id
+closing-entry (unended.Plan j) s c h = cc
+closing-entry (unended.Recovery r None) s c h = cc
+closing-entry (unended.Recovery r (Some id)) s c h = go (ending_of r s) h
+  where
+    go : (o : Option Ending) → option_map (closing_as r s id) o ≡ Some c → Some id ≡ Some c.id
+    go None h = cc
+    go (Some e) h = ap (λ (x : Closing). Some x.id) (same_Some (closing_as r s id e) c h)
+
+-- a turn leaves the job its entry
+pub flown-entry : (w : World) (b : BookState) (read : ℕ) (now : Moment) (u : Unended) → entry_id (flown w b read now u).next ≡ entry_id u
+flown-entry w b read now (unended.Plan j) = refl
+flown-entry w b read now (unended.Recovery r entry) = refl
+
+-- ---- the audit after it
+
+module _ (a : AuditState) (now : Moment) where
+  others-open : (c : Closing) (id : ℕ) → id ≢ c.id → IsOpenAt a id → IsOpenAt (closed_by a now (Some c)) id
+  others-open c id other h = go c.acked
+    where
+      go : (b : Bool) → IsOpenAt (if b then acknowledged_at (ended a c.id now c.outcome) c.id else ended a c.id now c.outcome) id
+      go true = open-acked (ended a c.id now c.outcome) c.id id (open-ended a c.id now c.outcome id other h)
+      go false = open-ended a c.id now c.outcome id other h
+
+  ended-id : (id : ℕ) (outcome : Ending) (r : KeptRecovery) (b : Bool) → (cond b (ended_so now outcome r) r).id ≡ r.id
+  ended-id id outcome r true = refl
+  ended-id id outcome r false = refl
+
+  acked-id : (r : KeptRecovery) (b : Bool) → (cond b (acked_so r) r).id ≡ r.id
+  acked-id r true = refl
+  acked-id r false = refl
+
+  pub closed_by-is : (o : Option Closing) → IsAudit a → IsAudit (closed_by a now o)
+  closed_by-is None is = is
+  closed_by-is (Some c) is = go c.acked
+    where
+      closed : IsAudit (ended a c.id now c.outcome)
+      closed = IsAudit-map (λ r. cond (r.id == c.id) (ended_so now c.outcome r) r) (λ r. ended-id c.id c.outcome r (r.id == c.id)) a is
+
+      go : (b : Bool) → IsAudit (if b then acknowledged_at (ended a c.id now c.outcome) c.id else ended a c.id now c.outcome)
+      go true = IsAudit-map (λ r. cond (r.id == c.id) (acked_so r) r) (λ r. acked-id r (r.id == c.id)) (ended a c.id now c.outcome) closed
+      go false = closed
+
+  pub closed_by-next : (o : Option Closing) → (closed_by a now o).next ≡ a.next
+  closed_by-next None = refl
+  closed_by-next (Some c) = go c.acked
+    where
+      go : (b : Bool) → (if b then acknowledged_at (ended a c.id now c.outcome) c.id else ended a c.id now c.outcome).next ≡ a.next
+      go true = refl
+      go false = refl
+
+  pub closed_by-begun : (o : Option Closing) → HasBegun a.recoveries → HasBegun (closed_by a now o).recoveries
+  closed_by-begun None all = all
+  closed_by-begun (Some c) all = go c.acked
+    where
+      same : (r : KeptRecovery) (b : Bool) → (cond b (ended_so now c.outcome r) r).begun ≡ r.begun
+      same r true = refl
+      same r false = refl
+
+      acked : (r : KeptRecovery) (b : Bool) → (cond b (acked_so r) r).begun ≡ r.begun
+      acked r true = refl
+      acked r false = refl
+
+      closed : HasBegun (ended a c.id now c.outcome).recoveries
+      closed = mapped-begun (λ r. cond (r.id == c.id) (ended_so now c.outcome r) r) (λ r. same r (r.id == c.id)) a.recoveries all
+
+      go : (b : Bool) → HasBegun (if b then acknowledged_at (ended a c.id now c.outcome) c.id else ended a c.id now c.outcome).recoveries
+      go true = mapped-begun (λ r. cond (r.id == c.id) (acked_so r) r) (λ r. acked r (r.id == c.id)) (ended a c.id now c.outcome).recoveries closed
+      go false = closed
+
+  -- ---- the jobs' entries after it
+
+  pub entries-turned : (jobs : List Unended) (last id : ℕ) (j : Unended) (t : Flown) → Rise 0 jobs last → job_at jobs id ≡ Some j → entry_id t.next ≡ entry_id j → HaveEntries a 0 jobs
+      → HaveEntries (closed_by a now (closing_of (Some t))) 0 (jobs_turned jobs id (Some t))
+  entries-turned jobs last id j t rise found entry h = go (is_going t.step) refl
+    where
+      ends : (o : Option Closing) → closing_by t.next t.step ≡ o → HaveEntries (closed_by a now o) 0 (without_job jobs id)
+      ends None e = entries-without a 0 jobs id h
+      ends (Some c) e = entries-closed a (closed_by a now (Some c)) c.id (others-open c) 0 jobs id j found (sym entry ∙ closing-entry t.next t.step c e) h
+
+      go : (g : Bool) → is_going t.step ≡ g → HaveEntries (closed_by a now (closing_of (Some t))) 0 (if g then with_job jobs id t.next else without_job jobs id)
+      go true e =
+          subst (λ (o : Option Closing). HaveEntries (closed_by a now o) 0 (with_job jobs id t.next)) (sym (closing-going t.next t.step e))
+          (entries-with a 0 0 jobs last id j t.next rise entry found h)
+      go false e = ends (closing_by t.next t.step) refl
+
+-- the entry that ends is open
+pub closing-open : (a : AuditState) (jobs : List Unended) (id : ℕ) (j : Unended) (t : Flown) → job_at jobs id ≡ Some j → entry_id t.next ≡ entry_id j → HaveEntries a 0 jobs
+    → IfSome (closing_of (Some t)) (λ c. IsOpenAt a c.id)
+closing-open a jobs id j t found entry h = go (closing_by t.next t.step) refl
+  where
+    go : (o : Option Closing) → closing_by t.next t.step ≡ o → IfSome o (λ c. IsOpenAt a c.id)
+    go None e = tt
+    go (Some c) e = found-open a 0 jobs id j c.id found (sym entry ∙ closing-entry t.next t.step c e) h

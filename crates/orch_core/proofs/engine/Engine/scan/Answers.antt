@@ -1,0 +1,37 @@
+use Rattle.std.proofs.Common.{◌≡◌, ◌∙◌, ◌≤◌, ◌^◌, sym, ap, subst}
+use Rattle.std.specs.Prelude.{is_ok}
+use Rattle.orch_core.specs.Commands.{Outcome, scan_by}
+use Rattle.orch_core.specs.CommandsBy.{outcome}
+use Rattle.orch_core.specs.declared.command.Numbers.{Numbers}
+use Rattle.orch_core.specs.Keeping.{kept_if}
+use Rattle.orch_core.specs.Polls.{numbers_of, scan_outcome}
+use Rattle.orch_core.specs.Settling.{CanSettle}
+use Rattle.orch_core.specs.States.{State}
+use Rattle.orch_core.specs.EngineBy.{state_of}
+use Rattle.orch_core.proofs.Outcomes.{scan-settles}
+use Rattle.orch_core.proofs.engine.Engine.scan.Goals as goal
+
+pub scan_by-requires-clause-moment : goal.scan_by-requires-clause-moment
+scan_by-requires-clause-moment g c =
+    subst (λ (n : Numbers). n.moment.0 ≤ 2 ^ 63) (sym (c.numbers-numbers.ensures ∙ ap numbers_of (sym c.self.view_is))) c.self.invariant.moment
+
+pub scan_by-requires-clause-block : goal.scan_by-requires-clause-block
+scan_by-requires-clause-block g c =
+    subst (λ (n : Numbers). n.block ≤ 1000000000) (sym (c.numbers-numbers.ensures ∙ ap numbers_of (sym c.self.view_is))) c.self.invariant.block
+
+pub settle-requires-clause-outcome : goal.settle-requires-clause-outcome
+settle-requires-clause-outcome g c =
+    let before = state_of c.self.inside in
+    let numbers : c.numbers-numbers.result ≡ numbers_of before = c.numbers-numbers.ensures ∙ ap numbers_of (sym c.self.view_is) in
+    let same : outcome c.in_ok-outcome.outcome ≡ scan_outcome before =
+    c.in_ok-outcome.ensures.outcome ∙ ap (scan_by before.world before.book before.audit before.configuration) numbers in
+    subst (λ (s : State). CanSettle s (outcome c.in_ok-outcome.outcome)) c.self.view_is
+    (subst (CanSettle before) (sym same) (scan-settles before c.self.invariant c.servers.ensures.holds))
+
+pub returns-clause-kept : goal.returns-clause-kept
+returns-clause-kept g c =
+    let before = state_of c.self.inside in
+    let numbers : c.numbers-numbers.result ≡ numbers_of before = c.numbers-numbers.ensures ∙ ap numbers_of (sym c.self.view_is) in
+    let same : outcome c.in_ok-outcome.outcome ≡ scan_outcome c.args.self.now =
+    c.in_ok-outcome.ensures.outcome ∙ ap (scan_by before.world before.book before.audit before.configuration) numbers ∙ ap scan_outcome c.self.view_is in
+    c.settle.ensures.kept ∙ ap (λ (o : Outcome). kept_if (is_ok c.settle.result) (g.K.Keeper.kept c.args.keeper.now) o.rows) same

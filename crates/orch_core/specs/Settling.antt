@@ -1,0 +1,47 @@
+-- What a command or a scan leaves of a state.
+use Rattle.std.specs.Prelude.{◌≡◌, ◌+◌, ◌<◌, ◌≤◌, ◌^◌, ℕ, ⊤, length, All, None}
+use Rattle.unended_jobs.specs.declared.unended.Unended.{Unended}
+use Rattle.unended_jobs.specs.Unended.{IsUnended, number_of}
+use Rattle.orch_core.specs.declared.command.Update.{Update}
+use Rattle.orch_core.specs.declared.command.Update.TheVariants as update
+use Rattle.orch_core.specs.Commands.{IsUpdate, Outcome, audit_updated, jobs_updated, last_job_updated, updated}
+use Rattle.orch_core.specs.States.{State, entry_id}
+
+abbrev pub settled : State → Outcome → State
+settled s o = record s {
+  book = updated s.book o.book;
+  audit = audit_updated s.audit o.book;
+  reads = o.reads;
+  jobs = jobs_updated s.jobs o.book;
+  last_job = last_job_updated s.last_job o.book;
+}
+
+-- a job that begins has the next number, its numbers are in their ranges, and it has no entry
+pub record IsNextJob (count : ℕ) (last : ℕ) (j : Unended) : Type 0 where
+  pub number : number_of j ≡ last + 1
+  pub range : IsUnended count j
+  pub entry : entry_id j ≡ None
+
+-- of a job that begins; recoveries begin in turn
+abbrev pub IsNext : ℕ → ℕ → Update → Type 0
+IsNext count last update.Stays = ⊤
+IsNext count last (update.Change c) = ⊤
+IsNext count last (update.Discovery o) = ⊤
+IsNext count last (update.Decides e) = ⊤
+IsNext count last (update.Begins x) = IsNextJob count last x.job
+IsNext count last (update.Recovers xs) = ⊤
+
+-- entries begin by 2^63
+abbrev pub BeginInTime : Update → Type 0
+BeginInTime update.Stays = ⊤
+BeginInTime (update.Change c) = ⊤
+BeginInTime (update.Discovery o) = ⊤
+BeginInTime (update.Decides e) = ⊤
+BeginInTime (update.Begins x) = ⊤
+BeginInTime (update.Recovers xs) = All (λ x. x.entry.begun.0 ≤ 2 ^ 63) xs
+
+-- a state can take an outcome, where the number of its last job fits its type
+pub record CanSettle (s : State) (o : Outcome) : Type 0 where
+  pub update : IsUpdate s.book s.audit s.last_job o.book
+  pub next : last_job_updated s.last_job o.book < 2 ^ 64 → IsNext (length s.world.servers) s.last_job o.book
+  pub time : BeginInTime o.book

@@ -1,0 +1,112 @@
+//! How a recovery's entry of the audit ends with the turn that ends its job.
+
+ghost use Rattle.std.specs.Prelude.{◌≡◌, ◌<◌, ◌++◌, IfOk, IfSome, IsSomeAnd, Some, true, length};
+ghost use Rattle.std.specs.Option.{option_to_list};
+ghost use Rattle.audit_log.specs.Audits.{is_unended, recovery_at};
+ghost use Rattle.unended_jobs.specs.Looks.{foretold};
+ghost use Rattle.orch_core.specs.Closings.{closed_by, closed_so, closing_change, closing_changes, closing_of};
+ghost use Rattle.orch_core.specs.Polls.{changes_by};
+
+use audit_log::Audit;
+use instance_keeper::{Book, Change, Observation, Recovery, Row};
+use orch_base::{Ending, Memory, Moment};
+use recovery_core::{ending_of, is_acknowledged};
+use std::alloc::Global;
+use unended_jobs::{Unended, UnendedLook};
+
+/// An entry of the audit that ends.
+#[derive(Clone, Copy)]
+pub(crate) struct Closing {
+    pub(crate) id: u64,
+    pub(crate) outcome: Ending,
+    /// Whether it is acknowledged at once.
+    pub(crate) acked: bool,
+}
+
+/// The entry that ends with this turn of a job: none where the job goes on, or has no entry.
+pub(crate) fn closing_of(job: &Unended, look: &UnendedLook) -> Option<Closing>
+    ensures { result ≡ closing_of (Some (foretold job.now look.now)) }
+{
+    let Unended::Recovery(recovery, Some(id)) = job else {
+        return None;
+    };
+    let after = match look {
+        UnendedLook::Recovery(look) => look.after(),
+        UnendedLook::Plan(_) => recovery,
+    };
+    let outcome = ending_of(after, look.step())?;
+    Some(Closing {
+        id: *id,
+        outcome,
+        acked: is_acknowledged(after, look.step()),
+    })
+}
+
+// The entry as it is then.
+fn closed_so(closing: Closing, now: Moment, mut entry: Recovery) -> Recovery
+    ensures { result ≡ closed_so closing now entry }
+{
+    entry.ended = Some(now);
+    entry.outcome = closing.outcome;
+    if closing.acked {
+        entry.acked = true;
+    }
+    entry
+}
+
+// How the entry's row changes.
+fn closing_change(
+    alloc: Global,
+    audit: &Audit,
+    now: Moment,
+    closing: Closing,
+) -> Result<Option<Change>, Memory>
+    ensures { IfOk result (λ c. c ≡ closing_change audit.now.audit now closing) }
+{
+    let Some(entry) = audit.recovery(closing.id) else {
+        return Ok(None);
+    };
+    let entry = closed_so(closing, now, entry.copy(alloc)?);
+    Ok(Some(Change::Put(Row::Recovery(entry))))
+}
+
+/// How the kept rows change with a turn of a job: by what it observed, and by the entry that ends.
+pub(crate) fn job_changes(
+    alloc: Global,
+    book: &Book,
+    audit: &Audit,
+    now: Moment,
+    observation: &Option<Observation>,
+    closing: Option<Closing>,
+) -> Result<Vec<Change>, Memory>
+    requires { IfSome observation.now (λ o. o.no.0 < length book.now.names) }
+    ensures { IfOk result (λ v. v.items ≡ changes_by book.now observation.now
+        ++ closing_changes audit.now.audit now closing) }
+{
+    let mut changes = Vec::new(alloc);
+    if let Some(o) = observation {
+        if let Some(change) = book.change_by(o)? {
+            changes.push(change)?;
+        }
+    }
+    if let Some(closing) = closing {
+        if let Some(change) = closing_change(alloc, audit, now, closing)? {
+            changes.push(change)?;
+        }
+    }
+    Ok(changes)
+}
+
+/// Ends the entry, and acknowledges it where that is due. It takes no memory.
+pub(crate) fn close_entry(audit: &mut Audit, now: Moment, closing: Option<Closing>)
+    requires { IfSome closing (λ c. IsSomeAnd (recovery_at audit.old.audit c.id)
+        (λ r. is_unended r ≡ true)) }
+    ensures { audit.new.audit ≡ closed_by audit.old.audit now closing }
+{
+    if let Some(closing) = closing {
+        audit.end(closing.id, now, closing.outcome);
+        if closing.acked {
+            audit.acknowledge(closing.id);
+        }
+    }
+}

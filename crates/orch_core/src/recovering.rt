@@ -1,0 +1,200 @@
+//! The commands that begin recoveries, and the scan.
+
+ghost use Rattle.std.specs.Prelude.{◌≡◌, ◌<◌, ◌≤◌, ◌+◌, ◌-◌, ◌^◌, All, IfOk, IsTrue, Ok, Result, length};
+ghost use Rattle.commands.specs.Turns.{is_within};
+ghost use Rattle.commands.specs.declared.refusal.Refusal.{Refusal as Why};
+ghost use Rattle.orch_base.specs.Gives.{Gives};
+ghost use Rattle.permission.specs.Checks.{permit_fault};
+ghost use Rattle.recovery_core.specs.Tries.{Begins};
+ghost use Rattle.orch_core.specs.Commands.{LeavesIds, by_hand, entries_put, recovered, recovery_begun, scan_by, taken_over, terms_of};
+ghost use Rattle.orch_core.specs.CommandsBy.{outcome};
+
+use crate::command::{Numbers, Outcome, Recoveries, Update, refused};
+use crate::{Configuration, Reply};
+use audit_log::Audit;
+use book_views::book_forest;
+use commands::Refusal;
+use instance_keeper::{Book, Change, Row};
+use orch_base::{Memory, ServerNo};
+use recovery_core::{Begun, PermitFault, Scan, Terms, scan, try_recovery, try_takeover};
+use recovery_permits::Attempt;
+use server_model::World;
+use std::alloc::Global;
+
+// An operator asks for it: the switch, downtimes and filters make no difference.
+fn by_hand(numbers: Numbers) -> Attempt
+    ensures { result ≡ by_hand numbers }
+{
+    Attempt {
+        by_master: true,
+        by_intermediate: true,
+        enabled: true,
+        by_hand: true,
+        block: numbers.block,
+        now: numbers.moment,
+    }
+}
+
+// Each entry is kept.
+fn entries_put(alloc: Global, begun: &[Begun]) -> Result<Vec<Change>, Memory>
+    ensures { IfOk result (λ v. v.items ≡ entries_put begun.now) }
+{
+    let mut changes = Vec::with_capacity(alloc, begun.len())?;
+    for one in begun {
+        changes.push(Change::Put(Row::Recovery(one.entry().copy(alloc)?)))?;
+    }
+    Ok(changes)
+}
+
+// A recovery begins with this number.
+fn begins(alloc: Global, numbers: Numbers, number: u64, begun: Begun) -> Result<Outcome, Memory>
+    requires number { number ≡ numbers.last_job + 1 }
+    requires id { begun.entry.id < 2 ^ 64 - 1 }
+    ensures outcome { IfOk result (λ out. outcome out ≡ recovery_begun numbers (Ok begun)) }
+    ensures ids { IfOk result (λ out. LeavesIds out.book) }
+{
+    let mut list = Vec::with_capacity(alloc, 1)?;
+    list.push(begun)?;
+    let rows = entries_put(alloc, &list)?;
+    Ok(Outcome {
+        reply: Reply::Begun(number),
+        book: Update::Recovers(Recoveries::new(list)),
+        rows,
+        reads: numbers.reads,
+    })
+}
+
+// What a try comes to.
+fn recovery_begun(
+    alloc: Global,
+    numbers: Numbers,
+    number: u64,
+    tried: Result<Begun, PermitFault>,
+) -> Result<Outcome, Memory>
+    requires number { number ≡ numbers.last_job + 1 }
+    requires id { IfOk tried (λ x. x.entry.id < 2 ^ 64 - 1) }
+    ensures outcome { IfOk result (λ out. (t : Result Begins Why) →
+        Gives (λ x. x) permit_fault tried t → outcome out ≡ recovery_begun numbers t) }
+    ensures ids { IfOk result (λ out. LeavesIds out.book) }
+{
+    match tried {
+        Ok(begun) => begins(alloc, numbers, number, begun),
+        Err(PermitFault::Refused(why)) => Ok(refused(alloc, numbers.reads, why)),
+        Err(PermitFault::Memory) => Err(Memory),
+    }
+}
+
+// The number of the next job. Where none is left, memory wants.
+fn next_job(numbers: Numbers) -> Result<u64, Memory>
+    ensures { IfOk result (λ n. n ≡ numbers.last_job + 1) }
+{
+    numbers.last_job.checked_add(1).ok_or(Memory)
+}
+
+/// The recovery of a server begins, unless it is refused. Memory comes, too, where no number is left for a job, or no id
+/// in the audit.
+pub(crate) fn recover(
+    alloc: Global,
+    world: &World,
+    book: &Book,
+    audit: &Audit,
+    numbers: Numbers,
+    failed: ServerNo,
+) -> Result<Outcome, Memory>
+    requires server { failed.0 < length book.now.names }
+    requires begun { All (λ r. r.begun.0 ≤ 2 ^ 63) audit.now.audit.recoveries }
+    requires block { numbers.block ≤ 1000000000 }
+    ensures outcome { IfOk result (λ out. outcome out
+        ≡ recovered world.now book.now audit.now.audit numbers failed) }
+    ensures ids { IfOk result (λ out. LeavesIds out.book) }
+{
+    let forest = book_forest(alloc, book)?;
+    let number = next_job(numbers)?;
+    let by = by_hand(numbers);
+    let wait = numbers.wait;
+    let tried = try_recovery(alloc, book, &forest, world, audit, by, wait, number, failed);
+    recovery_begun(alloc, numbers, number, tried)
+}
+
+/// A replica's takeover of its master's place begins, unless it is refused. Memory comes, too, where no number is left for a
+/// job, or no id in the audit.
+pub(crate) fn take_over(
+    alloc: Global,
+    world: &World,
+    book: &Book,
+    audit: &Audit,
+    numbers: Numbers,
+    master: ServerNo,
+    designated: Option<ServerNo>,
+) -> Result<Outcome, Memory>
+    requires i { master.0 < length book.now.names }
+    requires d { IsTrue (is_within (length book.now.names) designated) }
+    requires begun { All (λ r. r.begun.0 ≤ 2 ^ 63) audit.now.audit.recoveries }
+    requires block { numbers.block ≤ 1000000000 }
+    ensures outcome { IfOk result (λ out. outcome out
+        ≡ taken_over world.now book.now audit.now.audit numbers designated master) }
+    ensures ids { IfOk result (λ out. LeavesIds out.book) }
+{
+    let Some(designated) = designated else {
+        return Ok(refused(alloc, numbers.reads, Refusal::UnknownInstance));
+    };
+    let forest = book_forest(alloc, book)?;
+    let number = next_job(numbers)?;
+    let by = by_hand(numbers);
+    let wait = numbers.wait;
+    let tried = try_takeover(
+        alloc, book, &forest, world, audit, by, wait, number, master, designated,
+    );
+    recovery_begun(alloc, numbers, number, tried)
+}
+
+fn terms_of(book: &Book, numbers: Numbers) -> Terms
+    ensures { result ≡ terms_of book.now numbers }
+{
+    Terms {
+        enabled: book.enabled(),
+        block: numbers.block,
+        wait: numbers.wait,
+        now: numbers.moment,
+    }
+}
+
+/// What a scan tells and begins. It changes nothing. Memory comes, too, where no number is left for a job, or no id in the
+/// audit.
+pub(crate) fn scan_by(
+    alloc: Global,
+    world: &World,
+    book: &Book,
+    audit: &Audit,
+    configuration: &Configuration,
+    numbers: Numbers,
+) -> Result<Outcome, Memory>
+    requires begun { All (λ r. r.begun.0 ≤ 2 ^ 63) audit.now.audit.recoveries }
+    requires moment { numbers.moment.0 ≤ 2 ^ 63 }
+    requires block { numbers.block ≤ 1000000000 }
+    ensures outcome { IfOk result (λ out. outcome out
+        ≡ scan_by world.now book.now audit.now.audit configuration.now numbers) }
+    ensures ids { IfOk result (λ out. LeavesIds out.book) }
+{
+    let masters = configuration.master.as_slice();
+    let intermediates = configuration.intermediate.as_slice();
+    let terms = terms_of(book, numbers);
+    let last = numbers.last_job;
+    let Scan { lines, begun } = scan(
+        alloc,
+        book,
+        world,
+        audit,
+        masters,
+        intermediates,
+        terms,
+        last,
+    )?;
+    let rows = entries_put(alloc, &begun)?;
+    Ok(Outcome {
+        reply: Reply::Told(lines),
+        book: Update::Recovers(Recoveries::new(begun)),
+        rows,
+        reads: numbers.reads,
+    })
+}

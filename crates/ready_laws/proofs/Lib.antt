@@ -1,0 +1,4 @@
+pub mod Ready
+pub mod Begun
+pub mod Outcomes
+pub mod Readiness

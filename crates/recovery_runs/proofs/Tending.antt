@@ -1,0 +1,167 @@
+-- What holds of the recoveries in each state of each run.
+use Rattle.std.proofs.Common.{◌≡◌, ◌∙◌, ℕ, Bool, List, [], ◌∷◌, ◌++◌, length, append_assoc, refl, sym, ap, subst, Option, Some}
+use Rattle.std.specs.Option.{option_map}
+use Rattle.std.specs.Prelude.{◌==◌, All, slice_get}
+use Rattle.std.proofs.lemmas.List.{append-nil}
+use Rattle.std.proofs.lemmas.List.Elements.{All-head, All-nil, All-tail}
+use Rattle.orch_base.specs.declared.server.ServerNo.{ServerNo}
+use Rattle.audit_log.specs.Audits.{recovery_at}
+use Rattle.commands.specs.declared.line.Line.{Line}
+use Rattle.commands.specs.declared.line.Lost.{Lost}
+use Rattle.instance_keeper.specs.declared.row.Row.{Row}
+use Rattle.job_laws.proofs.Lists.{All-find}
+use Rattle.jobs_in_flight.specs.Jobs.{job_at}
+use Rattle.jobs_in_flight.proofs.Numbers.{found-number}
+use Rattle.recovery_plans.specs.Recoveries.{Recovery}
+use Rattle.recovery_reasons.specs.Reasons.{AllLost}
+use Rattle.server_model.specs.Safe.{IsQuiet}
+use Rattle.replication_laws.proofs.Runs as exchanges
+use Rattle.scenarios.specs.Turns.{IsTurn}
+use Rattle.scenarios.specs.declared.scenario.Scenario.{Scenario}
+use Rattle.turns.specs.declared.turn.Turn.{Turn}
+use Rattle.turns.specs.declared.turn.Turn.TheVariants as turn
+use Rattle.unended_jobs.specs.declared.unended.Unended.{Unended}
+use Rattle.unended_jobs.specs.declared.unended.Unended.TheVariants as unended
+use Rattle.unended_jobs.specs.Unended.{number_of}
+use Rattle.orch_core.specs.Runs.{engine, run_turns, step, turns_of}
+use Rattle.orch_core.specs.Scenarios.{start}
+use Rattle.orch_core.specs.States.{State}
+use Rattle.orch_core.specs.Turns.{exchanges_at}
+use Rattle.flight_laws.specs.Flights.{moment_at}
+use Rattle.covered_laws.proofs.Beside.{none-speak}
+use Rattle.finish_laws.specs.Finishes.{IsFinish, finished_so, recovery_after}
+use Rattle.finish_laws.specs.Losses.{ExplainedState, ExplainsTurn, HasReasons}
+use Rattle.finish_laws.proofs.Entries.{audit-ends}
+use Rattle.finish_laws.proofs.Finishing.{keeps-histories, owes-nothing, reply-told}
+use Rattle.finish_laws.proofs.Losses.{explained-start, explained-step, last-explained}
+use Rattle.covered_states.specs.States.{CoveredState, KeptState, SpeakingState}
+use Rattle.covered_states.proofs.Goes.{covered-start, covered-step, kept-start, kept-step, speaking-step}
+use Rattle.known_laws.specs.Runs.{ComesTo}
+use Rattle.run_laws.proofs.RunLaws.{Goes, Goes-start, Goes-step}
+use Rattle.recovery_runs.specs.Finishing.{FinishesWell}
+use Rattle.recovery_runs.specs.Origins.{Began, ExplainsAlong}
+use Rattle.recovery_runs.proofs.Origins.{HasOrigin, Step, origins-step, take-all}
+
+-- ---- one state
+
+-- recoveries cover their replicas so far, and speak with those that they may lose; in a quiet state they keep histories
+pub record Cares (s : State) : Type 0 where
+  pub covered : CoveredState s
+  pub speaking : SpeakingState s
+  pub kept : IsQuiet s.world → KeptState s
+
+Cares-step : (count : ℕ) (rows : List Row) (s : State) (t : Turn) → IsTurn count t → Goes count s → Cares s → Cares (step rows s t)
+Cares-step count rows s t is goes cares = record {
+  covered = covered-step count rows s t goes.ready goes.held is cares.covered;
+  speaking = speaking-step count rows s t goes.ready goes.held is cares.speaking;
+  kept = λ q.
+      let before = exchanges.quiet-run s.world (exchanges_at s t) q in
+      kept-step count rows s t goes.ready goes.held (goes.sound before) is cares.covered (cares.kept before);
+}
+
+-- ---- along a run
+
+run-push : (from : State) (xs : List Step) (x : Step) → run_turns engine from (xs ++ x ∷ []) ≡ step x.0 (run_turns engine from xs) x.1
+run-push from [] x = refl
+run-push from (z ∷ zs) x = run-push (step z.0 from z.1) zs x
+
+get-at : (xs ys : List Step) (x : Step) → slice_get (xs ++ x ∷ ys) (length xs) ≡ Some x
+get-at [] ys x = refl
+get-at (z ∷ zs) ys x = get-at zs ys x
+
+module _ (count : ℕ) (from : State) where
+  -- so many turns of a run were taken
+  pub record Tends (xs : List Step) (s : State) : Type 0 where
+    pub here : s ≡ run_turns engine from xs
+    pub goes : Goes count s
+    pub cares : Cares s
+    pub origins : All (HasOrigin from xs) s.jobs
+
+  tends-step : (xs : List Step) (s : State) (x : Step) → IsTurn count x.1 → Tends xs s → Tends (xs ++ x ∷ []) (step x.0 s x.1)
+  tends-step xs s x is t = record {
+    here = ap (λ (z : State). step x.0 z x.1) t.here ∙ sym (run-push from xs x);
+    goes = Goes-step count x.0 s x.1 is t.goes;
+    cares = Cares-step count x.0 s x.1 is t.goes t.cares;
+    origins = origins-step from count xs s x t.here t.goes.ready is t.origins;
+  }
+
+  tends-run : (xs ys : List Step) (s : State) → All (IsTurn count) (turns_of ys) → Tends xs s → Tends (xs ++ ys) (run_turns engine s ys)
+  tends-run xs [] s all t = subst (λ (zs : List Step). Tends zs s) (sym (append-nil xs)) t
+  tends-run xs (y ∷ ys) s all t =
+      subst (λ (zs : List Step). Tends zs (run_turns engine (step y.0 s y.1) ys)) (append_assoc xs (y ∷ []) ys)
+      (tends-run (xs ++ y ∷ []) ys (step y.0 s y.1) (All-tail (IsTurn count) y.1 (turns_of ys) all) (tends-step xs s y (All-head (IsTurn count) y.1 (turns_of ys) all) t))
+
+  module _ (P : ServerNo → Lost → Bool) (id : ℕ) where
+    -- a turn of such a run
+    explains-at : (xs ys : List Step) (x : Step) (s : State) → s ≡ run_turns engine from xs → ExplainsAlong P id from (xs ++ x ∷ ys) → ExplainsTurn P id s x.1
+    explains-at xs ys x s here explains =
+        subst (λ (z : State). ExplainsTurn P id z x.1) (sym here)
+        (subst (λ (zs : List Step). ExplainsTurn P id (run_turns engine from zs) x.1) (take-all xs (x ∷ ys)) (explains (length xs) x (get-at xs ys x)))
+
+    explained-run : (xs ys : List Step) (s : State) → All (IsTurn count) (turns_of ys) → ExplainsAlong P id from (xs ++ ys) → Tends xs s → ExplainedState P id s → ExplainedState P id (run_turns engine s ys)
+    explained-run xs [] s all explains t explained = explained
+    explained-run xs (y ∷ ys) s all explains t explained =
+        let is = All-head (IsTurn count) y.1 (turns_of ys) all in
+        explained-run (xs ++ y ∷ []) ys (step y.0 s y.1) (All-tail (IsTurn count) y.1 (turns_of ys) all)
+        (subst (λ (zs : List Step). ExplainsAlong P id from zs) (sym (append_assoc xs (y ∷ []) ys)) explains) (tends-step xs s y is t)
+        (explained-step P id count y.0 s y.1 t.goes.ready is t.goes.held t.cares.speaking (explains-at xs ys y s t.here explains) explained)
+
+-- ---- from an opening on
+
+module _ (s : Scenario) (xs : List Step) (now : State) (comes : ComesTo s xs now) where
+  abbrev pub begun : State
+  begun = start s comes.wait comes.rows
+
+  opened : Tends (length s.opening.servers) begun [] begun
+  opened = record {
+    here = refl;
+    goes = Goes-start s comes.wait comes.rows comes.scenario;
+    cares = record { covered = covered-start s comes.wait comes.rows; speaking = none-speak; kept = λ q. kept-start s comes.wait comes.rows };
+    origins = All-nil (HasOrigin begun []);
+  }
+
+  pub tends-comes : Tends (length s.opening.servers) begun xs now
+  tends-comes = subst (λ (z : State). Tends (length s.opening.servers) begun xs z) (sym comes.state) (tends-run (length s.opening.servers) begun [] xs begun comes.turns opened)
+
+  -- a recovery began in one of the turns
+  pub began-comes : (id : ℕ) (r : Recovery) (entry : Option ℕ) → job_at now.jobs id ≡ Some (unended.Recovery r entry) → Began begun xs r entry
+  began-comes id r entry at = All-find (HasOrigin begun xs) (λ (k : Unended). number_of k == id) now.jobs (unended.Recovery r entry) tends-comes.origins at
+
+  explained-comes : (P : ServerNo → Lost → Bool) (id : ℕ) → ExplainsAlong P id begun xs → ExplainedState P id now
+  explained-comes P id explains =
+      subst (ExplainedState P id) (sym comes.state)
+      (explained-run (length s.opening.servers) begun P id [] xs begun comes.turns explains opened (explained-start P id s comes.wait comes.rows))
+
+  -- each of its lost has a reason that counts
+  pub lost-comes : (P : ServerNo → Lost → Bool) (id : ℕ) (r : Recovery) (entry : Option ℕ) → ExplainsAlong P id begun xs → job_at now.jobs id ≡ Some (unended.Recovery r entry) → AllLost P r.outcome.lost
+  lost-comes P id r entry explains at =
+      All-find (λ (u : Unended). number_of u ≡ id → HasReasons P u) (λ (k : Unended). number_of k == id) now.jobs (unended.Recovery r entry) (explained-comes P id explains) at
+      (found-number now.jobs id (unended.Recovery r entry) at)
+
+  -- and so has each that its next turn makes
+  pub lost-next : (P : ServerNo → Lost → Bool) (id : ℕ) (r : Recovery) (entry : Option ℕ) → ExplainsAlong P id begun xs → ExplainsTurn P id now (turn.Job id) → job_at now.jobs id ≡ Some (unended.Recovery r entry)
+      → AllLost P (recovery_after now r).outcome.lost
+  lost-next P id r entry explains here at =
+      let t = tends-comes in
+      last-explained P id now r entry at t.goes.held t.cares.speaking (here refl r entry at) (explained-comes P id explains)
+
+  -- what the turn in which a recovery is done owes
+  pub finish-comes : (rows : List Row) (id : ℕ) (r : Recovery) (entry : Option ℕ) (lines : List Line) → IsFinish now id r entry lines → FinishesWell (length s.opening.servers) begun xs rows now id r entry lines
+  finish-comes rows id r entry lines is =
+      let t = tends-comes in
+      let goes = t.goes in
+      record {
+        reply = reply-told now id r entry lines is;
+        owes = owes-nothing now id r entry lines is (length s.opening.servers) rows goes.ready goes.held t.cares.covered;
+        began = began-comes id r entry is.found;
+        histories = λ q.
+            let before = exchanges.quiet-run now.world (exchanges_at now (turn.Job id)) q in
+            keeps-histories now id r entry lines is rows goes.held (goes.sound before) t.cares.covered (t.cares.kept before)
+            ((Goes-step (length s.opening.servers) rows now (turn.Job id) tt goes).sound q).flight.safe;
+        lost = λ P explains here. lost-next P id r entry explains here is.found;
+        ends = λ e n same promoted. ended rows id r entry lines is e n same promoted;
+      }
+    where
+      ended : (rows : List Row) (id : ℕ) (r : Recovery) (entry : Option ℕ) (lines : List Line) → IsFinish now id r entry lines → (e : ℕ) (n : ServerNo) → entry ≡ Some e → (recovery_after now r).outcome.promoted ≡ Some n
+          → recovery_at (step rows now (turn.Job id)).audit e ≡ option_map (finished_so (moment_at now) r.purpose n) (recovery_at now.audit e)
+      ended rows id r entry lines is e n same promoted = audit-ends now id e r lines n (subst (λ (o : Option ℕ). IsFinish now id r o lines) same is) promoted rows

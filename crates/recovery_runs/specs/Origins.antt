@@ -1,0 +1,34 @@
+-- Where the recoveries of a run began, and which reasons were true in its turns.
+use Rattle.std.specs.Prelude.{◌≡◌, ℕ, Bool, List, Option, Some, Contains, slice_get, take}
+use Rattle.orch_base.specs.declared.server.ServerNo.{ServerNo}
+use Rattle.book_views.specs.Sources.{replicas_of}
+use Rattle.commands.specs.declared.line.Lost.{Lost}
+use Rattle.instance_keeper.specs.declared.row.Row.{Row}
+use Rattle.recovery_histories.specs.Kept.{SameAim}
+use Rattle.recovery_plans.specs.Recoveries.{Recovery}
+use Rattle.turns.specs.declared.turn.Turn.{Turn}
+use Rattle.unended_jobs.specs.declared.unended.Unended.TheVariants as unended
+use Rattle.orch_core.specs.Runs.{engine, run_turns}
+use Rattle.orch_core.specs.States.{State}
+use Rattle.finish_laws.specs.Losses.{ExplainsTurn}
+use Rattle.covered_states.specs.Begun.{jobs_begun}
+
+-- A recovery is what one has become that began in a turn of this state, with this entry in the audit, if it has one: it is
+-- about the same, and its replicas are those that the book had attached to the failed server then.
+pub record BeganIn (s : State) (t : Turn) (r : Recovery) (entry : Option ℕ) : Type 0 where
+  pub was : Recovery
+  pub among : Contains (jobs_begun s t) (unended.Recovery was entry)
+  pub number : r.core.id ≡ was.core.id
+  pub aim : SameAim was r
+  pub replicas : r.replicas ≡ replicas_of s.book r.failed
+
+-- It began in one of these turns from this state on.
+pub record Began (from : State) (xs : List (List Row × Turn)) (r : Recovery) (entry : Option ℕ) : Type 0 where
+  pub place : ℕ
+  pub turn : List Row × Turn
+  pub taken : slice_get xs place ≡ Some turn
+  pub begins : BeganIn (run_turns engine from (take place xs)) turn.1 r entry
+
+-- in each of these turns each reason that is true in it, if it is one of the job of this number, counts
+abbrev pub ExplainsAlong : (ServerNo → Lost → Bool) → ℕ → State → List (List Row × Turn) → Type 0
+ExplainsAlong P id from xs = (k : ℕ) (x : List Row × Turn) → slice_get xs k ≡ Some x → ExplainsTurn P id (run_turns engine from (take k xs)) x.1
