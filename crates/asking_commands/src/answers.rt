@@ -144,8 +144,8 @@ fn lines_of(
     }
 }
 
-/// The lines of a command that only asks the book or the audit's recoveries, or `UnknownInstance` exactly where it uses an
-/// instance or a destination that the book hasn't. Any other command has no lines here.
+/// The lines of a command that only asks the book or the audit's recoveries, or `UnknownInstance` exactly where it uses
+/// an instance or a destination that the book hasn't. Any other command has no lines here.
 #[tactic(auto, unfolding(crate::specs::Answers::answer_of))]
 pub fn answer(
     alloc: Global,

@@ -253,8 +253,8 @@ impl Audit {
         }
     }
 
-    /// Acknowledges the recovery of this id, if there is one. It takes no memory, and the time is logarithmic in the number
-    /// of recoveries.
+    /// Acknowledges the recovery of this id, if there is one. It takes no memory, and the time is logarithmic in the
+    /// number of recoveries.
     pub fn acknowledge(&mut self, id: u64)
         ensures { self.new ≡ record self.old { audit = acknowledged_at self.old.audit id } }
     {

@@ -50,7 +50,8 @@ downtime_of now k i = record { no = i; begun = now; until = after now (unwrap_or
 abbrev pub downtime_begun : BookState → Downtime → Decided
 downtime_begun b d = decided_with (line.Downtime d.no d.until) (effect_by (put_change b (row.Downtime d)))
 
--- a downtime that is kept is removed, whether or not it still lasts; one that ends at moment 0, which no command keeps, never lasts
+-- a downtime that is kept is removed, whether or not it still lasts; one that ends at moment 0, which no command keeps,
+-- never lasts
 abbrev pub downtime_removal : BookState → ServerNo → Option Change
 downtime_removal b i = if is_some (downtime_at b i (record { 0 = 0 })) then Some (change.Remove table.Downtime (key.Server i)) else None
 

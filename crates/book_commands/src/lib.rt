@@ -1,5 +1,5 @@
-//! What an operator's decisions answer, and what they make of what is known: downtimes, registrations of candidates, the
-//! switch of recoveries, and acknowledgements (orchestrator's documentation, "Topology recovery").
+//! What an operator's decisions answer, and what they make of what is known: downtimes, registrations of candidates,
+//! the switch of recoveries, and acknowledgements (orchestrator's documentation, "Topology recovery").
 #![tactic(auto)]
 
 mod decided;

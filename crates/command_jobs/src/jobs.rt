@@ -87,8 +87,8 @@ fn regroup_of(
     ))
 }
 
-/// The command's job, with this number, whose operations may wait so often each: the operations of its plan, ended by its
-/// lines, or of a regroup what is done with the replicas. `Err` is want of memory.
+/// The command's job, with this number, whose operations may wait so often each: the operations of its plan, ended by
+/// its lines, or of a regroup what is done with the replicas. `Err` is want of memory.
 #[tactic(auto, using(crate::proofs::Planned::planned))]
 pub fn job(
     alloc: Global,

@@ -1,5 +1,5 @@
-//! The job that a command begins, by the crate whose command it is: what refuses it, of which servers it takes the leases,
-//! and the job itself.
+//! The job that a command begins, by the crate whose command it is: what refuses it, of which servers it takes the
+//! leases, and the job itself.
 #![tactic(auto)]
 
 mod jobs;

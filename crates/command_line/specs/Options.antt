@@ -1,4 +1,5 @@
--- The command line as `clap` knows it: each option takes one text, the flag is set by its presence, and none is required.
+-- The command line as `clap` knows it: each option takes one text, the flag is set by its presence, and none is
+-- required.
 use Rattle.std.specs.Prelude.{ℕ, List, [], ◌∷◌, codes, fold, Some, Result, Ok, Err, if◌then◌else◌}
 use Rattle.std.specs.List.{list_all}
 use Rattle.std.specs.Str.{is_utf8}

@@ -1,5 +1,5 @@
--- Each passage of a turn may pass in a held state, and passes well in a sound one; so each turn leaves a state held, and sound
--- where it is.
+-- Each passage of a turn may pass in a held state, and passes well in a sound one; so each turn leaves a state held,
+-- and sound where it is.
 use Rattle.std.proofs.Common.{ℕ, Bool, true, false, List, [], ◌∷◌, refl, sym, ap, subst}
 use Rattle.std.specs.Prelude.{is_some, if◌then◌else◌}
 use Rattle.orch_base.specs.Memory.{next_count}

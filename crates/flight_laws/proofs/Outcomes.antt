@@ -84,8 +84,8 @@ use Rattle.flight_laws.proofs.Recoveries.{recoveries-flown, recoveries-held, rec
 abbrev flight_with : State → Outcome → Flight
 flight_with s o = record (flight_of s) { rings = (updated s.book o.book).rings; jobs = map core_of (jobs_updated s.jobs o.book); leases = leases_of (updated s.book o.book).leases }
 
--- an outcome leaves what the passages leave, each of which may pass, and passes well; and all that goes on beside stays held, and
--- sound where it is
+-- an outcome leaves what the passages leave, each of which may pass, and passes well; and all that goes on beside stays
+-- held, and sound where it is
 pub record Leaves (s : State) (ps : List Passage) (o : Outcome) : Type 0 where
   pub flown : flight_with s o ≡ passing (flight_of s) ps
   pub may : AllMayPass (flight_of s) ps

@@ -32,8 +32,8 @@ use Rattle.jobs_in_flight.specs.Jobs.{job_at}
 use Rattle.orch_core.specs.Polls.{numbers_of, reading, slot_at}
 use Rattle.orch_core.specs.States.{State}
 
--- what is kept beside the instances: the servers, the bridges, the slots, of each job the operations that are left, of a recovery
--- those of its stage, and who has each lease
+-- what is kept beside the instances: the servers, the bridges, the slots, of each job the operations that are left, of
+-- a recovery those of its stage, and who has each lease
 abbrev pub flight_of : State → Flight
 flight_of s = record { world = s.world; rings = s.book.rings; slots = s.slots; jobs = map core_of s.jobs; leases = leases_of s.book.leases }
 

@@ -13,8 +13,8 @@ use Rattle.job_laws.specs.Flights.{Flight, IsShown, IsShownBridged, exchanged, s
 
 -- What a turn does: an exchange that is no job's; a poll that reads a server into its slot; a slot's reading that is
 -- stored or passed over; a server that is read and stored at once; an instance that is forgotten; a restart; a job
--- that begins; a job's turn by its operations, and one that was decided otherwise, each with a reading that is stored or
--- passed over.
+-- that begins; a job's turn by its operations, and one that was decided otherwise, each with a reading that is stored
+-- or passed over.
 pub data Passage : Type 0 where
   Exchanging : (e : Exchange) → Passage
   Polling : (p : ℕ) (n : ServerNo) (read : ℕ) (now : Moment) → Passage

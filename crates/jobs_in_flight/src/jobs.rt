@@ -83,9 +83,9 @@ fn drop_ended(jobs: &mut Vec<Unended>, book: &mut Book, at: usize, id: u64, step
     }
 }
 
-/// Does what was looked up for this job: the world after its exchanges, what it observed stored, and the job as it is then
-/// or, where it is ended, dropped, with its leases free. At want of memory nothing has changed; it comes only where
-/// the job goes on and nothing is observed.
+/// Does what was looked up for this job: the world after its exchanges, what it observed stored, and the job as it is
+/// then or, where it is ended, dropped, with its leases free. At want of memory nothing has changed; it comes only
+/// where the job goes on and nothing is observed.
 pub fn take_turn(
     alloc: Global,
     jobs: &mut Vec<Unended>,

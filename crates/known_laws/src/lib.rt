@@ -1,5 +1,5 @@
-//! What orchestrator knows through each run: the audit, the kept rows, and what commands and scans answer and begin. Laws
-//! over the definitions of the run, beside it.
+//! What orchestrator knows through each run: the audit, the kept rows, and what commands and scans answer and begin.
+//! Laws over the definitions of the run, beside it.
 #![tactic(auto)]
 
 mod answering;

@@ -258,8 +258,8 @@ fn instance(alloc: Global, no: u32, source: SourceState, behind: u64) -> Result<
     })
 }
 
-// The servers `d`, `c`, `b`, `a` and `e`, by number. `d` isn't valid. `c`, `b` and `a` are below it: `c` replicates, `b`
-// lags, and `a` has its receiver unconnected. `e` is detached from `d`.
+// The servers `d`, `c`, `b`, `a` and `e`, by number. `d` isn't valid. `c`, `b` and `a` are below it: `c` replicates,
+// `b` lags, and `a` has its receiver unconnected. `e` is detached from `d`.
 fn rows(alloc: Global) -> Result<Vec<Row>, Fail> {
     let under = SourceState::Attached(ServerNo(0));
     let mut rows = Vec::new(alloc);

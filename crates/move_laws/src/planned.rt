@@ -17,8 +17,8 @@ ghost use Rattle.server_model.specs.Worlds.{World};
 
 /// A permitted move has its whole plan, by the sources that the book shows: up to the source to which the instance's
 /// source is attached, below a sibling under their source, or anew under the same source, by coordinates, or below any
-/// server by GTIDs; each replica of the instance up to its source, each sibling below it, or the instance and its source
-/// in each other's place.
+/// server by GTIDs; each replica of the instance up to its source, each sibling below it, or the instance and its
+/// source in each other's place.
 pub fn permitted_moves_have_plans()
     ensures up { (w : World) (b : BookState) (i : Number) → refusal_of w b (given MoveUp i None) ≡ None →
         (x : Number) × (g : Number) × (source_of b i ≡ Some x) × (attached_of b x ≡ Some g) ×

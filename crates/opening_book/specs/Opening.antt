@@ -1,5 +1,5 @@
--- What is kept at an opening beyond the rows that count: an instance of each known server that has none, the registrations that the
--- scenario gives, and the recoveries that it interrupts.
+-- What is kept at an opening beyond the rows that count: an instance of each known server that has none, the
+-- registrations that the scenario gives, and the recoveries that it interrupts.
 use Rattle.std.specs.Prelude.{ℕ, ◌+◌, ◌&&◌, Bool, true, if◌then◌else◌, List, [], ◌∷◌, ◌++◌, fold, map, Option, None, Some, is_none, slice_index_or}
 use Rattle.std.specs.List.{cons_option}
 use Rattle.orch_base.specs.declared.rule.Rule.{Rule}

@@ -136,7 +136,8 @@ pub fn interrupting(alloc: Global, audit: &Audit, at: Moment) -> Result<Vec<Chan
 /// The changes of the opening. First the instance of each known server that the book has none of, with read number 0
 /// and this moment, valid exactly where orchestrator reaches the server, and as seen what a status would show, reached
 /// or not. Then the registration of each server that has a rule, which lasts 3600 seconds from this moment, unless the
-/// book has that very registration. Then each unended recovery, as interrupted at this moment. Moments are at most 2^63.
+/// book has that very registration. Then each unended recovery, as interrupted at this moment. Moments are at most
+/// 2^63.
 pub fn opening_changes(
     alloc: Global,
     world: &World,

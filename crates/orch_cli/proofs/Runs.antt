@@ -1,5 +1,5 @@
--- Each run of the turns that words take: its states are safe, its commands answer by the permission table, and its recoveries begin
--- apart and finish well.
+-- Each run of the turns that words take: its states are safe, its commands answer by the permission table, and its
+-- recoveries begin apart and finish well.
 use Rattle.std.proofs.Common.{◌≡◌, ℕ, zero, suc, ◌<◌, Bool, true, false, cond, List, [], ◌∷◌, ◌++◌, length, Option, Some, None, Ok, ◌∙◌, refl, sym, ap, subst, take, inl, inr}
 use Rattle.std.specs.Prelude.{IfSome, All}
 use Rattle.std.proofs.Math.Seq.{take-length}

@@ -30,8 +30,8 @@ status_of way.Sink = 4
 status_of way.Keeper = 5
 status_of way.Memory = 6
 
--- a call: the words, the bytes of the scenario, the kept rows before and after, where the keeper tells them, and what out and err
--- took
+-- a call: the words, the bytes of the scenario, the kept rows before and after, where the keeper tells them, and what
+-- out and err took
 pub record Call : Type 0 where
   pub words : List (List ℕ)
   pub bytes : List ℕ
@@ -81,7 +81,8 @@ pub record Reports (c : Call) (refused : Bool) : Type 0 where
 abbrev pub AreTaken : List (List ℕ) → Type 0
 AreTaken words = (p : Places) × (places_of words ≡ Ok p)
 
--- What a call has done by each way to end. The words are tested first, then the source is read, then the scenario is tested.
+-- What a call has done by each way to end. The words are tested first, then the source is read, then the scenario is
+-- tested.
 abbrev pub Ends : Call → Way → Type 0
 Ends c (way.Reported refused) = Reports c refused
 Ends c way.Usage = (places_of c.words ≡ Err BadWords) × Idles c (codes "usage\n")

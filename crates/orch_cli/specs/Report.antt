@@ -1,4 +1,5 @@
--- The report of a call where the keeper tells its rows: a function of the words, the bytes of the scenario and the kept rows.
+-- The report of a call where the keeper tells its rows: a function of the words, the bytes of the scenario and the kept
+-- rows.
 use Rattle.std.specs.Prelude.{◌≡◌, ℕ, ◌⊎◌, ◌++◌, ◌≤◌, Bool, List, [], codes, if◌then◌else◌, length, take, Option, Some, Result, Ok, Err}
 use Rattle.instance_keeper.specs.declared.row.Row.{Row}
 use Rattle.scenarios.specs.declared.scenario.Scenario.{Scenario}
@@ -53,13 +54,13 @@ report words bytes rows = words_report bytes rows (places_of words)
 abbrev pub IsRun : Report → Type 0
 IsRun r = (r.status ≡ 0) ⊎ (r.status ≡ 7)
 
--- The call ends with the status of the report, or something stopped it: the source, once the words were taken (3), a sink (4) or
--- the keeper (5) of a task's run, or want of memory (6).
+-- The call ends with the status of the report, or something stopped it: the source, once the words were taken (3), a
+-- sink (4) or the keeper (5) of a task's run, or want of memory (6).
 abbrev pub EndsAs : Report → ℕ → Type 0
 EndsAs r status = (status ≡ r.status) ⊎ ((status ≡ 3) × (r.status ≡ 1 → ⊥)) ⊎ ((status ≡ 4) × IsRun r) ⊎ ((status ≡ 5) × IsRun r) ⊎ (status ≡ 6)
 
--- out took the report's part whole where the call ends with its status, a front of it where it was stopped, and nothing where no
--- scenario was read
+-- out took the report's part whole where the call ends with its status, a front of it where it was stopped, and nothing
+-- where no scenario was read
 pub record WritesOut (r : Report) (status : ℕ) (out : End) : Type 0 where
   pub whole : status ≡ r.status → Takes out r.out
   pub nothing : status ≡ 3 → Takes out []

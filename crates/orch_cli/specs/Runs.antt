@@ -1,5 +1,5 @@
--- What holds of each run of the turns that words take over the scenario that bytes are, whatever rows the keeper hands back: of
--- the run of a call's report, too.
+-- What holds of each run of the turns that words take over the scenario that bytes are, whatever rows the keeper hands
+-- back: of the run of a call's report, too.
 use Rattle.std.specs.Prelude.{◌≡◌, ℕ, ◌+◌, Bool, false, List, [], ◌∷◌, ◌++◌, length, slice_get, take, ◌⊎◌, Option, Some}
 use Rattle.instance_keeper.specs.declared.row.Row.{Row}
 use Rattle.server_model.specs.Safe.{Safe, Placed, IsQuiet}
@@ -42,8 +42,8 @@ use Rattle.orch_cli.specs.Ends.{IsTask}
 
 -- ---- states
 
--- What holds of a state with its jobs in flight: it is held, quiet or not, its servers are placed, and its recoveries are apart:
--- each cluster has at most one that isn't ended. Where it is quiet it is sound, and its servers are safe.
+-- What holds of a state with its jobs in flight: it is held, quiet or not, its servers are placed, and its recoveries
+-- are apart: each cluster has at most one that isn't ended. Where it is quiet it is sound, and its servers are safe.
 pub record IsSafeState (s : State) : Type 0 where
   pub placed : Placed s.world
   pub held : HeldState s
@@ -51,15 +51,15 @@ pub record IsSafeState (s : State) : Type 0 where
   pub sound : IsQuiet s.world → SoundState s
   pub safe : IsQuiet s.world → Safe s.world
 
--- So is every state: behind any of the scenario's turns and the command's own, and behind any turn of the rounds that follow until
--- the job that it began has ended.
+-- So is every state: behind any of the scenario's turns and the command's own, and behind any turn of the rounds that
+-- follow until the job that it began has ended.
 abbrev pub IsSafeRun : List (List ℕ) → List ℕ → Type 0
 IsSafeRun words bytes = (w : Work) (run : Recorded) → IsTask words bytes w → IsOn (course_of w) run → IsSafeState run.state
 
 -- ---- commands
 
--- a job that a command turn begins: it has the next number, joins the unended ones, and takes the leases of its command's list; a
--- recovery and a takeover begin with their entry in the audit, which is kept
+-- a job that a command turn begins: it has the next number, joins the unended ones, and takes the leases of its
+-- command's list; a recovery and a takeover begin with their entry in the audit, which is kept
 pub record Begins (rows : List Row) (s : State) (c : CommandTurn) (job : ℕ) : Type 0 where
   pub begun : BegunJob
   pub is_begun : begun_of s c.command ≡ Some begun
@@ -69,8 +69,8 @@ pub record Begins (rows : List Row) (s : State) (c : CommandTurn) (job : ℕ) : 
   pub audit : (step rows s (turn.Command c)).audit ≡ with_entry s.audit begun.entry
   pub kept : changes_of rows s (turn.Command c) ≡ entry_kept begun.entry
 
--- a command turn is refused exactly with the refusal of the permission table, else it begins its job or is done; a refused one
--- changes nothing, and no kept row
+-- a command turn is refused exactly with the refusal of the permission table, else it begins its job or is done; a
+-- refused one changes nothing, and no kept row
 pub record Obeys (rows : List Row) (s : State) (c : CommandTurn) : Type 0 where
   pub answer : IsAnswer (route_of c.command.name) (refusal_at s c.command) (reply_of s (turn.Command c))
   pub refused : (r : Refusal) → reply_of s (turn.Command c) ≡ answered.Refused r
@@ -84,9 +84,9 @@ ObeysTable words bytes = (w : Work) (k : ℕ) (kept : Option (List Row)) (run : 
 
 -- ---- recoveries that begin
 
--- Each recovery that a turn begins, by a command or by a scan, is apart by the block period: of its cluster, with those that the turn
--- began before it, each is ended, and is acknowledged or as old as the period. But for a restart, which loads the kept rows, a turn
--- adds no other recovery, and drops none.
+-- Each recovery that a turn begins, by a command or by a scan, is apart by the block period: of its cluster, with those
+-- that the turn began before it, each is ended, and is acknowledged or as old as the period. But for a restart, which
+-- loads the kept rows, a turn adds no other recovery, and drops none.
 pub record BeginsApart (block : ℕ) (rows : List Row) (s : State) (t : Turn) : Type 0 where
   pub apart : BeginApartInTurn block (moment_at s) s.audit (entries_begun s t)
   pub all : asks t ≡ false → HasMore s.audit (entries_begun s t) (step rows s t).audit
@@ -117,8 +117,8 @@ pub record Through (s : Scenario) (wait : ℕ) (ts : List Turn) (now : State) : 
   pub turns : turns_of xs ≡ ts
   pub state : now ≡ run_turns engine (start s wait rows) xs
 
--- the turn in which a recovery is done leaves nothing owed to its replicas, which are those that the book had attached to the failed
--- server when it began in one of the turns so far
+-- the turn in which a recovery is done leaves nothing owed to its replicas, which are those that the book had attached
+-- to the failed server when it began in one of the turns so far
 pub record Finishes (w : Work) (ts : List Turn) (rows : List Row) (s : State) (id : ℕ) (r : Recovery) (entry : Option ℕ) (lines : List Line) : Type 0 where
   pub through : Through w.scenario w.task.waits ts s
   pub well : FinishesWell (length w.scenario.opening.servers) (start w.scenario w.task.waits through.rows) through.xs rows s id r entry lines
@@ -130,9 +130,9 @@ FinishWell words bytes = (w : Work) (run : Recorded) (ts : List Turn) (rows : Li
 
 -- ---- why replicas are lost
 
--- Each of those that a recovery in flight has lost after its next turn, whether it goes on, is done or fails, has a reason that was true
--- of the servers and the book in one of its turns, from the one on in which it began: where each that was true counts, all have one that
--- counts.
+-- Each of those that a recovery in flight has lost after its next turn, whether it goes on, is done or fails, has a
+-- reason that was true of the servers and the book in one of its turns, from the one on in which it began: where each
+-- that was true counts, all have one that counts.
 pub record LosesTruly (w : Work) (ts : List Turn) (s : State) (id : ℕ) (r : Recovery) (entry : Option ℕ) : Type 0 where
   pub through : Through w.scenario w.task.waits ts s
   pub began : Began (start w.scenario w.task.waits through.rows) through.xs r entry

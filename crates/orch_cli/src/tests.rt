@@ -591,7 +591,8 @@ pub(crate) fn row(alloc: Global, no: u32, read: u64) -> Row {
 #[test]
 fn hostile_rows_stay(rt: HostRuntime) -> Result<(), Fail> {
     let alloc = rt.alloc();
-    // The read number of the master's row counts. That of the replica, which isn't known, doesn't, and there is no third server.
+    // The read number of the master's row counts. That of the replica, which isn't known, doesn't, and there is no
+    // third server.
     let past = (1 << 63) + 1;
     let mut rows = Vec::new(alloc);
     rows.push(row(alloc, 0, 40))?;

@@ -69,8 +69,8 @@ fn an_unended_recovery_is_interrupted(rt: HostRuntime) -> Result<(), Fail> {
     Ok(())
 }
 
-// Two unended recoveries of a cluster, an ended one, and two that don't count: the id of one and the begin of the other are too
-// late.
+// Two unended recoveries of a cluster, an ended one, and two that don't count: the id of one and the begin of the other
+// are too late.
 fn hostile(alloc: Global) -> Result<Vec<Row>, Fail> {
     Ok(vec![in alloc;
         recovery(alloc, 2, 3, Some(4))?,
@@ -272,8 +272,8 @@ fn decisions_are_kept_first(rt: HostRuntime) -> Result<(), Fail> {
     Ok(())
 }
 
-// What is kept of a downtime and of a registration counts at the next opening, and the scenario's own registration stands in the
-// place of a kept one.
+// What is kept of a downtime and of a registration counts at the next opening, and the scenario's own registration
+// stands in the place of a kept one.
 #[test]
 fn kept_decisions_are_loaded(rt: HostRuntime) -> Result<(), Fail> {
     let alloc = rt.alloc();

@@ -4,8 +4,8 @@ use instance_keeper::MemKeeper;
 use orch_base::{MemSink, MemSource};
 use std::test::Fail;
 
-// A master that fails; of its replicas one has executed all, after the first fetch and apply another, too, and one of them is
-// preferred.
+// A master that fails; of its replicas one has executed all, after the first fetch and apply another, too, and one of
+// them is preferred.
 const PREFERRED: &str =
     r#"{"version":1,"servers":[{"name":"m","history":[["m",100,3]]},{"name":"a","source":"m","executed":2},{"name":"b","source":"m","executed":2,"rule":"prefer"},{"name":"c","source":"m","executed":3}],"turns":[["fetch","a"],["apply","a"],["fail","m"],["polls"]]}"#;
 

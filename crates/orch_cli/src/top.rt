@@ -172,17 +172,18 @@ fn answer<S: Source, O: Sink, E: Sink, K: Keeper>(
     }
 }
 
-/// Does what the words ask with the scenario that the source has, writes the report on out and what went wrong on err, and
-/// answers the program's status. What orchestrator knows is kept by the keeper: the run begins with its rows, and each
-/// change is kept before it is made.
+/// Does what the words ask with the scenario that the source has, writes the report on out and what went wrong on err,
+/// and answers the program's status. What orchestrator knows is kept by the keeper: the run begins with its rows, and
+/// each change is kept before it is made.
 ///
 /// - 0: the report is written, and no reply in it is refused or failed.
 /// - 1: the words aren't taken; `usage` on err.
 /// - 2: the scenario has a fault; `scenario fault CODE NAME PATH` on err.
 /// - 3: the source failed; `read fault` on err.
-/// - 4: a sink failed that was to take the report, err before out; all turns were taken, or the keeper failed, too; `write fault`
-///   on err.
-/// - 5: the keeper failed; out took the replies of a run before that turn, which changed nothing; `keeper fault` on err.
+/// - 4: a sink failed that was to take the report, err before out; all turns were taken, or the keeper failed, too;
+/// `write fault`   on err.
+/// - 5: the keeper failed; out took the replies of a run before that turn, which changed nothing; `keeper fault` on
+/// err.
 /// - 6: want of memory; out took a front of a run's replies; `out of memory` on err.
 /// - 7: the report is written, and a reply in it is refused or failed; of a single command that reply is on err.
 ///
@@ -195,7 +196,8 @@ pub fn orch<S: Source, O: Sink, E: Sink, K: Keeper>(
     err: &mut E,
     keeper: &mut K,
 ) -> u8
-    // 1 exactly where the words aren't taken, and 2 exactly where they are and the scenario has a fault, but for 3 and 6.
+    // 1 exactly where the words aren't taken, and 2 exactly where they are and the scenario has a fault, but for 3 and
+    // 6.
     ensures usage { IsUsage (map (λ w. w.items) words.now) result }
     ensures fault { IfSome (S.left scenario.old)
         (λ bytes. FaultsAs (places_of (map (λ w. w.items) words.now)) bytes result) }
@@ -216,8 +218,8 @@ pub fn orch<S: Source, O: Sink, E: Sink, K: Keeper>(
         (between (taken (E.written err.old) (E.faults err.old))
         (taken (E.written err.new) (E.faults err.new)))) result) }
 
-    // Where the keeper tells its rows, all of it against the report, which is a function of the words, the bytes and the rows: the
-    // status, what out and err took, and the rows that are kept.
+    // Where the keeper tells its rows, all of it against the report, which is a function of the words, the bytes and
+    // the rows: the status, what out and err took, and the rows that are kept.
     ensures status { IfSome (S.left scenario.old) (λ bytes. IfSome (K.kept keeper.old) (λ rows.
         EndsAs (report (map (λ w. w.items) words.now) bytes rows) result)) }
     ensures out { IfSome (S.left scenario.old) (λ bytes. IfSome (K.kept keeper.old) (λ rows.
@@ -243,17 +245,17 @@ pub fn orch<S: Source, O: Sink, E: Sink, K: Keeper>(
         (taken (E.written err.new) (E.faults err.new)))
         → IsComplete result) }
 
-    // Every state of each run of these turns, of the report's too, is held with its jobs in flight, its recoveries are apart, and
-    // every quiet one is sound and so safe, whatever rows the keeper hands back; and every command turn of such a run answers by the
-    // permission table, a refused one changing nothing.
+    // Every state of each run of these turns, of the report's too, is held with its jobs in flight, its recoveries are
+    // apart, and every quiet one is sound and so safe, whatever rows the keeper hands back; and every command turn of
+    // such a run answers by the permission table, a refused one changing nothing.
     ensures safe { IfSome (S.left scenario.old)
         (λ bytes. IsSafeRun (map (λ w. w.items) words.now) bytes) }
     ensures commands { IfSome (S.left scenario.old)
         (λ bytes. ObeysTable (map (λ w. w.items) words.now) bytes) }
 
-    // In every such state recoveries begin apart by the scenario's block period, and one that is done, by whatever turns it came
-    // so far, leaves each replica that the book had attached to the failed server when it began promoted, following or lost for a true
-    // reason.
+    // In every such state recoveries begin apart by the scenario's block period, and one that is done, by whatever
+    // turns it came so far, leaves each replica that the book had attached to the failed server when it began promoted,
+    // following or lost for a true reason.
     ensures begins { IfSome (S.left scenario.old)
         (λ bytes. BeginApart (map (λ w. w.items) words.now) bytes) }
     ensures finishes { IfSome (S.left scenario.old)

@@ -135,7 +135,8 @@ HasRoomFor jobs entries (update.Decides e) = ⊤
 HasRoomFor jobs entries (update.Begins x) = 1 ≤ jobs
 HasRoomFor jobs entries (update.Recovers xs) = (length xs ≤ jobs) × (length xs ≤ entries)
 
--- what a command answers, what it makes of what is known, how it changes the kept rows, and the greatest read number after it
+-- what a command answers, what it makes of what is known, how it changes the kept rows, and the greatest read number
+-- after it
 pub record Outcome : Type 0 where
   pub reply : Reply
   pub book : Update

@@ -42,8 +42,8 @@ abbrev pub takeover_refused : World → BookState → AuditState → Numbers →
 takeover_refused w b a n None d = Some UnknownInstance
 takeover_refused w b a n (Some i) d = takeover_given w b a n i d
 
--- 2, an instance that the command uses isn't in the book; and 5 where it reads the server itself, 4 where it removes the
--- instance, or the row of a command that begins a job
+-- 2, an instance that the command uses isn't in the book; and 5 where it reads the server itself, 4 where it removes
+-- the instance, or the row of a command that begins a job
 abbrev pub refusal_by : World → BookState → AuditState → Numbers → Command → Route → Option Refusal
 refusal_by w b a n c Discovers = first_of (unknown_in b c) (unreached w c.i)
 refusal_by w b a n c Forgets = removal_refusal b c

@@ -80,8 +80,8 @@ reads_after s turn.Scan = s.reads
 reads_after s (turn.PollStore p) = s.reads
 reads_after s turn.Restart = s.reads
 
--- the slot's reading is stored, a command's changes are made, what a job observed is stored and the leases of one that is
--- ended are free, and a restart loads the rows that count, without bridges and leases
+-- the slot's reading is stored, a command's changes are made, what a job observed is stored and the leases of one that
+-- is ended are free, and a restart loads the rows that count, without bridges and leases
 abbrev pub book_after : List Row → State → Turn → BookState
 book_after rows s (turn.PollStore p) = stored s.book (slot_at s p)
 book_after rows s (turn.Command c) = updated s.book (command_outcome s c).book

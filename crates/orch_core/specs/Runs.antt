@@ -12,8 +12,8 @@ use Rattle.orch_core.specs.States.{State}
 use Rattle.orch_core.specs.Polls.{book_after, audit_after, slots_after, reads_after, jobs_after, last_job_after, changes_of}
 use Rattle.orch_core.specs.Replies.{reply_of}
 
--- the state after a turn: its exchanges are made, and the moment, the book, the audit, the slots, the read numbers and the jobs
--- change with it; a restart has these rows from the keeper
+-- the state after a turn: its exchanges are made, and the moment, the book, the audit, the slots, the read numbers and
+-- the jobs change with it; a restart has these rows from the keeper
 abbrev pub step : List Row → State → Turn → State
 step rows s t = record s {
   world = run s.world (exchanges_at s t);

@@ -39,13 +39,13 @@ loaded_book s rows = loaded (settings_of s) greatest_id rows
 abbrev pub loaded_audit : Scenario → List Row → AuditState
 loaded_audit s rows = audit_of (last_id rows + 1) (start_rows s rows)
 
--- what is kept anew: the instances of the known servers that no row that counts has, the scenario's registrations, and the
--- unended recoveries as interrupted
+-- what is kept anew: the instances of the known servers that no row that counts has, the scenario's registrations, and
+-- the unended recoveries as interrupted
 abbrev pub start_changes : Scenario → List Row → List Change
 start_changes s rows = opening_changes (start_world s) (start_moment s rows) (loaded_book s rows) s.known s.rules (loaded_audit s rows)
 
--- what holds throughout the run: a job is to wait at most so many times, the block period, and whose recoveries may begin by
--- themselves
+-- what holds throughout the run: a job is to wait at most so many times, the block period, and whose recoveries may
+-- begin by themselves
 abbrev pub configuration_of : ℕ → Scenario → Configuration
 configuration_of wait s = record { wait = wait; block = s.block; master = s.filters.master.passes; intermediate = s.filters.intermediate.passes }
 

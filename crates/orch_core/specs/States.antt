@@ -12,8 +12,9 @@ use Rattle.server_model.specs.declared.server.Server.{Server}
 use Rattle.server_model.specs.Worlds.{World}
 use Rattle.scenarios.specs.Turns.{pollers}
 
--- the servers, the moment, what orchestrator knows, the recoveries that were begun, the pollers' slots, the greatest read number
--- so far, the unended jobs by rising number, the number of the last job that was begun, and what holds throughout the run
+-- the servers, the moment, what orchestrator knows, the recoveries that were begun, the pollers' slots, the greatest
+-- read number so far, the unended jobs by rising number, the number of the last job that was begun, and what holds
+-- throughout the run
 pub record State : Type 0 where
   pub world : World
   pub moment : ℕ
@@ -51,10 +52,10 @@ abbrev pub HaveEntries : AuditState → ℕ → List Unended → Type 0
 HaveEntries a low [] = ⊤
 HaveEntries a low (j ∷ jobs) = HasEntry a low (entry_id j) × HaveEntries a (unwrap_or (entry_id j) low) jobs
 
--- every server is in the book's lists, every poller has its slot, each reading, each source and each job is of the servers,
--- the jobs' numbers rise from 1 on up to that of the last job, and so do their entries, which aren't ended, the ids of
--- recoveries rise from 1 on below the next one, which is in its type's range, each recovery began by 2^63, time stands still
--- then, and the block period is at most 1,000,000,000 seconds
+-- every server is in the book's lists, every poller has its slot, each reading, each source and each job is of the
+-- servers, the jobs' numbers rise from 1 on up to that of the last job, and so do their entries, which aren't ended,
+-- the ids of recoveries rise from 1 on below the next one, which is in its type's range, each recovery began by 2^63,
+-- time stands still then, and the block period is at most 1,000,000,000 seconds
 pub record IsState (s : State) : Type 0 where
   pub names : length s.book.names ≡ length s.world.servers
   pub settings : length s.book.settings ≡ length s.world.servers

@@ -1,7 +1,6 @@
 //! How a recovery's entry of the audit ends with the turn that ends its job.
 
 ghost use Rattle.std.specs.Prelude.{◌≡◌, ◌<◌, ◌++◌, IfOk, IfSome, IsSomeAnd, Some, true, length};
-ghost use Rattle.std.specs.Option.{option_to_list};
 ghost use Rattle.audit_log.specs.Audits.{is_unended, recovery_at};
 ghost use Rattle.unended_jobs.specs.Looks.{foretold};
 ghost use Rattle.orch_core.specs.Closings.{closed_by, closed_so, closing_change, closing_changes, closing_of};

@@ -1,6 +1,6 @@
 //! What a command answers, and what it changes.
 
-ghost use Rattle.std.specs.Prelude.{◌≡◌, ◌<◌, ◌≤◌, ◌+◌, ◌-◌, ◌^◌, ◌∷◌, [], All, IfOk, IfSome, IsSome, IsTrue, OnOk, length, vec_len, vec_capacity};
+ghost use Rattle.std.specs.Prelude.{◌≡◌, ◌<◌, ◌≤◌, ◌+◌, ◌-◌, ◌^◌, ◌∷◌, [], All, IfOk, IfSome, IsTrue, OnOk, length, vec_len, vec_capacity};
 ghost use Rattle.std.specs.Option.{option_to_list};
 ghost use Rattle.instance_keeper.specs.Book.{discovery_change, instance_at};
 ghost use Rattle.commands.specs.Turns.{is_within};
@@ -13,7 +13,7 @@ ghost use Rattle.recovery_core.specs.Scans.{HasRoom};
 ghost use Rattle.orch_core.specs.CommandsBy.{outcome};
 
 use crate::Reply;
-use crate::engine::read_server;
+use crate::exchanging::read_server;
 use crate::recovering::{recover, take_over};
 use asking_commands::{AnswerFault, answer, permit};
 use audit_log::Audit;
@@ -103,8 +103,8 @@ pub(crate) enum Update {
     Recovers(Recoveries),
 }
 
-/// What a command or a scan answers, what it makes of what is known, how it changes the kept rows, and the greatest read number
-/// after it.
+/// What a command or a scan answers, what it makes of what is known, how it changes the kept rows, and the greatest
+/// read number after it.
 #[derive(Drop)]
 pub(crate) struct Outcome {
     pub(crate) reply: Reply,
@@ -486,8 +486,8 @@ fn begin_by(
     })
 }
 
-/// The outcome of a command, by the numbers that it goes by. It changes nothing. Memory comes, too, where no number is left
-/// for a job, or no id in the audit.
+/// The outcome of a command, by the numbers that it goes by. It changes nothing. Memory comes, too, where no number is
+/// left for a job, or no id in the audit.
 #[tactic(auto, unfolding(crate::specs::Commands::outcome_of))]
 pub(crate) fn outcome_of(
     alloc: Global,

@@ -1,50 +1,40 @@
 //! The machine of a run: the servers, the moment, and what orchestrator knows, one turn after another. It writes no
 //! journal.
 
-ghost use Rattle.std.specs.Prelude.{◌≡◌, ◌≢◌, ◌<◌, ◌≤◌, ◌^◌, ℕ, List, [], ◌∷◌, All, Some, None, IfOk, IfSome, IfErr, OnOk, OnErr, Err, true, false, if◌then◌else◌, is_ok, length, map, slice_get};
-ghost use Rattle.instance_keeper.specs.Book.{are_known, observed_servers};
-ghost use Rattle.opening_book.specs.Opening.{opened_book, opening_changes};
-ghost use Rattle.server_model.specs.Run.{run};
+ghost use Rattle.std.specs.Prelude.{◌≡◌, ◌≢◌, ◌<◌, ◌≤◌, ◌^◌, [], ◌∷◌, All, Some, None, IfOk, IfErr, OnOk, OnErr, Err, true, false, if◌then◌else◌, is_ok, length, slice_get};
 ghost use Rattle.scenarios.specs.Turns.{pollers, IsCommand, IsTurn};
 ghost use Rattle.turns.specs.Plain.{is_plain};
-ghost use Rattle.orch_core.specs.Turns.{exchanges_of, is_exchange, later, ticked};
-ghost use Rattle.jobs_in_flight.specs.Jobs.{Rise, is_open, job_at, stored};
-ghost use Rattle.orch_core.specs.Polls.{changes_of, empty_slots, numbers_of};
-ghost use Rattle.orch_core.specs.Readings.{reading_by};
-ghost use Rattle.orch_core.specs.Replies.{exchange_reply, read_reply, reply_by, reply_of, stored_reply, AreReply};
+ghost use Rattle.orch_core.specs.Turns.{is_exchange};
+ghost use Rattle.jobs_in_flight.specs.Jobs.{Rise, is_open, job_at};
+ghost use Rattle.orch_core.specs.Polls.{changes_of, numbers_of};
+ghost use Rattle.orch_core.specs.Replies.{exchange_reply, reply_of, AreReply};
 ghost use Rattle.orch_core.specs.Runs.{engine};
 ghost use Rattle.orch_core.specs.Keeping.{StepsTo, kept_by, kept_if, asks, Calls, HasTurnCause};
 ghost use Rattle.orch_core.specs.Commands.{LeavesIds};
 ghost use Rattle.orch_core.specs.CommandsBy.{outcome as outcome_in};
 ghost use Rattle.orch_core.specs.Settling.{CanSettle, settled};
-ghost use Rattle.orch_core.specs.Scenarios.{configuration_of};
-ghost use Rattle.orch_core.specs.States.{HasKnownSource, IsState};
+ghost use Rattle.orch_core.specs.States.{IsState};
 
 use crate::closing::{close_entry, closing_of, job_changes};
 use crate::command::{Numbers, Outcome, outcome_of};
+use crate::exchanging::{exchange, read_reply, read_server, store, ticked};
 use crate::keep::{given_rows, keep_and_update, keep_some, keep_store};
+use crate::opening::{complete, configure, copy_names, copy_settings, empty_slots, make_slots};
 use crate::recovering::scan_by;
 use crate::{BoxedCommand, Configuration, Reply, Scenario, Turn, TurnFault};
 use audit_log::Audit;
-use instance_keeper::{Book, Keeper, Observation, StoreAnswer};
+use instance_keeper::{Book, Keeper, Observation};
 use jobs_in_flight::{FoundJob, answer, find, others_over, take_turn};
 use opening_book::{
     GREATEST_ID, counted, interrupting, last_id, last_read, latest_moment, latest_recovery,
-    loaded_audit, loaded_book, open_book, opening_changes,
+    loaded_audit, loaded_book,
 };
-use openings::ServerInit;
-use orch_base::{Memory, Moment, Name, ServerNo, Settings};
-use server_model::{StatusFault, World};
+use orch_base::{Memory, Moment, ServerNo};
+use server_model::World;
 use std::alloc::Global;
 use std::marker::Model;
 use unended_jobs::Unended;
 use world_openings::OpenedWorld;
-
-/// The last moment: where it would be passed, time stands still.
-const LAST_MOMENT: u64 = 1 << 63;
-
-/// So many pollers have a slot each.
-const POLLERS: u32 = 64;
 
 /// The servers of a scenario after some turns, the moment, and what orchestrator knows.
 #[derive(Drop)]
@@ -99,211 +89,6 @@ fn copied(alloc: Global, reply: &Reply, written: bool) -> Result<Option<Reply>, 
     } else {
         Ok(None)
     }
-}
-
-// The moment, so many seconds later.
-fn later(now: Moment, seconds: u64) -> Moment
-    ensures { result.0 ≡ later now.0 seconds }
-{
-    Moment(now.0.saturating_add(seconds).min(LAST_MOMENT))
-}
-
-fn ticked(now: Moment, t: &Turn) -> Moment
-    ensures { result.0 ≡ ticked now.0 t.now }
-{
-    match t {
-        Turn::Tick(seconds) => later(now, *seconds),
-        Turn::Write(_, _)
-        | Turn::Fetch(_)
-        | Turn::Apply(_)
-        | Turn::Fail(_)
-        | Turn::Heal(_)
-        | Turn::Cut(_, _)
-        | Turn::Join(_, _)
-        | Turn::Rotate(_)
-        | Turn::PollRead(_, _)
-        | Turn::PollStore(_)
-        | Turn::Command(_)
-        | Turn::Job(_)
-        | Turn::Scan
-        | Turn::Restart => now,
-    }
-}
-
-fn exchange(world: &mut World, now: Moment, t: &Turn) -> Reply
-    requires { IsTurn (length world.old.servers) t.now }
-    ensures reply { result ≡ exchange_reply world.old now.0 t.now }
-    ensures plain { is_plain result ≡ true }
-    ensures world { world.new ≡ run world.old (exchanges_of t.now) }
-    ensures servers { length world.new.servers ≡ length world.old.servers }
-{
-    match t {
-        Turn::Write(no, size) => Reply::Write(world.write(*no, *size)),
-        Turn::Fetch(no) => Reply::Fetch(world.fetch(*no)),
-        Turn::Apply(no) => Reply::Apply(world.apply(*no)),
-        Turn::Fail(no) => {
-            world.fail(*no);
-            Reply::Done
-        }
-        Turn::Heal(no) => {
-            world.heal(*no);
-            Reply::Done
-        }
-        Turn::Cut(no, link) => {
-            world.cut_link(*no, *link);
-            Reply::Done
-        }
-        Turn::Join(no, link) => {
-            world.join_link(*no, *link);
-            Reply::Done
-        }
-        Turn::Rotate(no) => Reply::Rotate(world.rotate(*no)),
-        Turn::Tick(seconds) => Reply::Now(later(now, *seconds)),
-        Turn::Job(_) => Reply::NoJob,
-        Turn::PollRead(_, _) | Turn::PollStore(_) | Turn::Command(_) | Turn::Scan | Turn::Restart =>
-            Reply::Done,
-    }
-}
-
-/// A reading of a server, with this number, at this moment.
-pub(crate) fn read_server(
-    alloc: Global,
-    world: &World,
-    no: ServerNo,
-    read: u64,
-    moment: Moment,
-) -> Result<Observation, Memory>
-    requires { no.0 < length world.now.servers }
-    ensures { IfOk result (λ o. o ≡ reading_by world.now no read moment.0) }
-{
-    let seen = match world.status(alloc, no) {
-        Ok(status) => Some(status),
-        Err(StatusFault::Unreachable) => None,
-        Err(StatusFault::Memory) => return Err(Memory),
-    };
-    Ok(Observation {
-        no,
-        read,
-        moment,
-        seen,
-    })
-}
-
-fn read_reply(o: &Observation) -> Reply
-    ensures reply { result ≡ read_reply o.now }
-    ensures plain { is_plain result ≡ true }
-{
-    if o.seen.is_some() {
-        Reply::Read(o.read)
-    } else {
-        Reply::ReadUnreachable(o.read)
-    }
-}
-
-fn reply_by(answer: StoreAnswer) -> Reply
-    ensures reply { result ≡ reply_by answer }
-    ensures plain { is_plain result ≡ true }
-{
-    match answer {
-        StoreAnswer::Unknown => Reply::Unknown,
-        StoreAnswer::Old(read) => Reply::Old(read),
-        StoreAnswer::Stored => Reply::Stored,
-    }
-}
-
-// Empties the slot and stores its reading, where it has one. It takes no memory.
-fn store(book: &mut Book, slot: Option<Observation>) -> Reply
-    requires { IfSome slot (λ o. are_known (length book.old.names) (observed_servers o) ≡ true) }
-    ensures reply { result ≡ stored_reply book.old slot }
-    ensures plain { is_plain result ≡ true }
-    ensures book { book.new ≡ stored book.old slot }
-{
-    match slot {
-        None => Reply::Nothing,
-        Some(o) => reply_by(book.store_observation(o)),
-    }
-}
-
-// The book with what the opening brings, which is kept first, together with the recoveries that it interrupts.
-fn complete<K: Keeper>(
-    alloc: Global,
-    keeper: &mut K,
-    world: &World,
-    moment: Moment,
-    mut book: Book,
-    s: &Scenario,
-    audit: &Audit,
-) -> Result<Book, TurnFault>
-    requires moment { moment.0 ≤ 2 ^ 63 }
-    requires known { length s.now.known ≡ length world.now.servers }
-    requires rules { length s.now.rules ≡ length world.now.servers }
-    requires names { length book.names ≡ length world.now.servers }
-    requires sources { All (HasKnownSource (length world.now.servers)) world.now.servers }
-    ensures book { IfOk result (λ b. b ≡ opened_book book
-        (opening_changes world.now moment book s.now.known s.now.rules audit.now.audit)) }
-    ensures kept { K.kept keeper.new ≡ kept_if (is_ok result) (K.kept keeper.old)
-        (opening_changes world.now moment book s.now.known s.now.rules audit.now.audit) }
-    ensures cause { HasTurnCause (K.faults keeper.old) (K.faults keeper.new) result }
-    ensures idle { opening_changes world.now moment book s.now.known s.now.rules
-        audit.now.audit ≡ [] → keeper.new ≡ keeper.old }
-{
-    let known = s.known.as_slice();
-    let rules = s.rules.as_slice();
-    let changes = opening_changes(alloc, world, moment, &book, known, rules, audit)?;
-    keep_some(alloc, keeper, book.names(), &changes)?;
-    open_book(&mut book, changes);
-    Ok(book)
-}
-
-fn make_slots(alloc: Global) -> Result<Vec<Option<Observation>>, Memory>
-    ensures { IfOk result (λ slots. slots.items ≡ empty_slots) }
-{
-    let mut slots = Vec::with_capacity(alloc, POLLERS as usize)?;
-    for _ in 0..POLLERS {
-        slots.push(None)?;
-    }
-    Ok(slots)
-}
-
-// Empties all slots.
-fn empty_slots(slots: &mut Vec<Option<Observation>>)
-    requires { length slots.old.items ≡ pollers }
-    ensures { slots.new.items ≡ empty_slots }
-{
-    for poller in 0..POLLERS {
-        slots[poller as usize] = None;
-    }
-}
-
-fn copy_settings(alloc: Global, servers: &[ServerInit]) -> Result<Vec<Settings>, Memory>
-    ensures { IfOk result (λ settings. settings.items ≡ map (λ i. i.settings) servers.now) }
-{
-    let mut settings = Vec::with_capacity(alloc, servers.len())?;
-    'servers: for server in servers {
-        settings.push(server.settings.copy(alloc)?)?;
-    }
-    Ok(settings)
-}
-
-fn copy_names(alloc: Global, settings: &[Settings]) -> Result<Vec<Name>, Memory>
-    ensures { IfOk result (λ names. names.items ≡ map (λ s. s.name) settings.now) }
-{
-    let mut names = Vec::with_capacity(alloc, settings.len())?;
-    'servers: for server in settings {
-        names.push(server.name.copy(alloc)?)?;
-    }
-    Ok(names)
-}
-
-fn configure(alloc: Global, s: &Scenario, wait: u32) -> Result<Configuration, Memory>
-    ensures { IfOk result (λ c. c ≡ configuration_of wait s.now) }
-{
-    Ok(Configuration {
-        wait,
-        block: s.block,
-        master: s.filters.master.passes.copy(alloc)?,
-        intermediate: s.filters.intermediate.passes.copy(alloc)?,
-    })
 }
 
 fn is_number(_number: u64)
@@ -598,13 +383,13 @@ impl Engine {
     ghost use Rattle.scenarios.specs.Scenarios.{IsScenario};
     ghost use Rattle.orch_core.specs.Scenarios.{StartsBy, kept_at_start};
 
-    /// The opening state of a scenario, by the rows that the keeper hands back: its servers as they begin, the book of the
-    /// rows that count and of the known servers that none of these is of, with the bridges that these servers show and the
-    /// scenario's registrations, and the recoveries of these rows, each unended one ended as interrupted. A job is to wait
-    /// at most `wait` times. Each server gets room for all transactions of the listed histories and one more for each
-    /// write turn, and for the longest list of flush points and one more new file for each rotate turn. What there is
-    /// beyond the rows is kept first; where there is nothing beyond them, only the rows are asked for. Keeper comes only
-    /// where the keeper's count of faults rose; after it, and after Memory, the kept rows are as before.
+    /// The opening state of a scenario, by the rows that the keeper hands back: its servers as they begin, the book of
+    /// the rows that count and of the known servers that none of these is of, with the bridges that these servers show
+    /// and the scenario's registrations, and the recoveries of these rows, each unended one ended as interrupted. A job
+    /// is to wait at most `wait` times. Each server gets room for all transactions of the listed histories and one more
+    /// for each write turn, and for the longest list of flush points and one more new file for each rotate turn. What
+    /// there is beyond the rows is kept first; where there is nothing beyond them, only the rows are asked for. Keeper
+    /// comes only where the keeper's count of faults rose; after it, and after Memory, the kept rows are as before.
     pub fn make<K: Keeper>(
         alloc: Global,
         s: &Scenario,
@@ -754,10 +539,10 @@ impl Engine {
         Ok(reply)
     }
 
-    /// Rounds until the job has ended; none where it isn't open. It answers what the job's last turn answered. A round is one
-    /// turn of the job, then fetch and apply on each server in name order, then a poll-read and a poll-store by poller 0 of
-    /// each server in name order. There are at most as many rounds as the job has turns left. They run to the first fault, as
-    /// `run` does. Beside what the servers and the book hold, they take memory for one round only.
+    /// Rounds until the job has ended; none where it isn't open. It answers what the job's last turn answered. A round
+    /// is one turn of the job, then fetch and apply on each server in name order, then a poll-read and a poll-store by
+    /// poller 0 of each server in name order. There are at most as many rounds as the job has turns left. They run to
+    /// the first fault, as `run` does. Beside what the servers and the book hold, they take memory for one round only.
     pub fn finish<K: Keeper>(
         &mut self,
         alloc: Global,

@@ -67,8 +67,8 @@ pub(crate) fn keep_some<K: Keeper>(
     keep(alloc, keeper, names, changes)
 }
 
-/// Keeps the changes, where there are any, and makes of the book, the audit and the jobs what a command or a scan makes of
-/// them.
+/// Keeps the changes, where there are any, and makes of the book, the audit and the jobs what a command or a scan makes
+/// of them.
 pub(crate) fn keep_and_update<K: Keeper>(
     alloc: Global,
     keeper: &mut K,

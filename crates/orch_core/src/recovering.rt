@@ -91,8 +91,8 @@ fn next_job(numbers: Numbers) -> Result<u64, Memory>
     numbers.last_job.checked_add(1).ok_or(Memory)
 }
 
-/// The recovery of a server begins, unless it is refused. Memory comes, too, where no number is left for a job, or no id
-/// in the audit.
+/// The recovery of a server begins, unless it is refused. Memory comes, too, where no number is left for a job, or no
+/// id in the audit.
 pub(crate) fn recover(
     alloc: Global,
     world: &World,
@@ -116,8 +116,8 @@ pub(crate) fn recover(
     recovery_begun(alloc, numbers, number, tried)
 }
 
-/// A replica's takeover of its master's place begins, unless it is refused. Memory comes, too, where no number is left for a
-/// job, or no id in the audit.
+/// A replica's takeover of its master's place begins, unless it is refused. Memory comes, too, where no number is left
+/// for a job, or no id in the audit.
 pub(crate) fn take_over(
     alloc: Global,
     world: &World,
@@ -159,8 +159,8 @@ fn terms_of(book: &Book, numbers: Numbers) -> Terms
     }
 }
 
-/// What a scan tells and begins. It changes nothing. Memory comes, too, where no number is left for a job, or no id in the
-/// audit.
+/// What a scan tells and begins. It changes nothing. Memory comes, too, where no number is left for a job, or no id in
+/// the audit.
 pub(crate) fn scan_by(
     alloc: Global,
     world: &World,

@@ -10,9 +10,9 @@ ghost use Rattle.operations.specs.Jobs.{Job, job_with};
 ghost use Rattle.job_laws.specs.Leases.{Begins, leases_of};
 ghost use Rattle.server_model.specs.Worlds.{World};
 
-/// Where nothing refuses one of these commands, the job of its plan may begin: its operations are held, each server that
-/// one of them may change is in the command's list, and nobody has a lease of a server of that list. So it is for every
-/// book and for servers in any state.
+/// Where nothing refuses one of these commands, the job of its plan may begin: its operations are held, each server
+/// that one of them may change is in the command's list, and nobody has a lease of a server of that list. So it is for
+/// every book and for servers in any state.
 pub fn permitted_relocations_begin()
     ensures { (w : World) (b : BookState) (now : AMoment) (jobs : List Job) (given : ACommand) (id wait : ℕ) →
         refusal_of w b now given ≡ None →

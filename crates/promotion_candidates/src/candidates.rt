@@ -31,7 +31,8 @@ fn is_barred(rule: Rule) -> bool
     }
 }
 
-/// Whether a server may be promoted at a moment: its last reading reached it, it logs, and no rule of promotion bars it.
+/// Whether a server may be promoted at a moment: its last reading reached it, it logs, and no rule of promotion bars
+/// it.
 pub fn is_candidate(book: &Book, world: &World, no: ServerNo, now: Moment) -> bool
     ensures { result ≡ is_candidate world.now book.now now no }
 {

@@ -12,8 +12,8 @@ ghost use Rattle.recovery_plans.specs.Taking.{taken};
 ghost use Rattle.recovery_laws.specs.Rings.{HeldRings};
 ghost use Rattle.recovery_laws.specs.HeldRecoveries.{HeldRecovery, KeepsRecovery};
 
-/// What is decided at the beginning of a turn leaves a recovery held; so does its turn, whose exchanges are allowed, and
-/// whatever others do meanwhile.
+/// What is decided at the beginning of a turn leaves a recovery held; so does its turn, whose exchanges are allowed,
+/// and whatever others do meanwhile.
 pub fn recoveries_stay_held()
     ensures decided { (w : World) (b : BookState) (now : AMoment) (r : Recovery) →
         HeldRings w b.rings → HeldRecovery w r → HeldRecovery w (decided w b now r) }

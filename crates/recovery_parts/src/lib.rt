@@ -1,5 +1,5 @@
-//! The parts of a recovery's turn: the operations of its stages, which replica is promoted and where the others go, what
-//! becomes of a stage whose operation fails, and changes of servers.
+//! The parts of a recovery's turn: the operations of its stages, which replica is promoted and where the others go,
+//! what becomes of a stage whose operation fails, and changes of servers.
 #![tactic(auto)]
 
 mod choices;

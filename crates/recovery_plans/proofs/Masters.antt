@@ -129,7 +129,8 @@ module _ (st : Settings) where
   lives : living.0.step ≡ step.Failed (cause.Reachable (server_no 0))
   lives = refl
 
-  -- ---- lost ones: a is down; of b and c, which executed three and one, b is promoted, and c is behind without a bridge
+  -- ---- lost ones: a is down; of b and c, which executed three and one, b is promoted, and c is behind without a
+  -- bridge
 
   abbrev lossy_servers : World
   lossy_servers = world st (

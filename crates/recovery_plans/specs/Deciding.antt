@@ -133,7 +133,8 @@ moving r n by =
 abbrev pub way_by_set : World → List Sight → ServerNo → Stopped → Option Way
 way_by_set w seen s d = if is_some (seen_of seen s.0) && logs_at w s then Some (way.Auto s d.exec) else None
 
--- below the successor: by its GTIDs, or by the latest kept bridge of the failed server under it where the replica stands
+-- below the successor: by its GTIDs, or by the latest kept bridge of the failed server under it where the replica
+-- stands
 abbrev pub way_below : World → BookState → List Sight → ServerNo → ServerNo → Stopped → Option Way
 way_below w b seen x s d =
     if w.gtid then way_by_set w seen s d else option_map way.Up (latest_that (has_own s d.exec) (ring_at b.rings x))

@@ -26,8 +26,8 @@ pub enum Stage {
     Expelled(ServerNo),
     /// A lost replica is started, if it is reached.
     Release(ServerNo),
-    /// The second, a better one, comes to the end of the promoted one's log; it has no source; the promoted one is below
-    /// it.
+    /// The second, a better one, comes to the end of the promoted one's log; it has no source; the promoted one is
+    /// below it.
     Level(ServerNo, ServerNo),
     Swap(ServerNo, ServerNo),
     Swapped(ServerNo, ServerNo),

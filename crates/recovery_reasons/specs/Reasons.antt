@@ -33,8 +33,8 @@ use Rattle.recovery_plans.specs.Recoveries.{Recovery}
 use Rattle.recovery_plans.specs.Taking.{is_below, spot_by, spot_seen}
 use Rattle.recovery_reasons.specs.Causes.{IsRunning, IsTrueOf, IsUnreached}
 
--- where one is chosen: a drained one that executed more than the chosen one; or that executed less, where the book keeps
--- no bridge of the chosen one below the failed server at that coordinate
+-- where one is chosen: a drained one that executed more than the chosen one; or that executed less, where the book
+-- keeps no bridge of the chosen one below the failed server at that coordinate
 abbrev pub BesideChosen : BookState → ServerNo → Stopped → Stopped → Lost → Type 0
 BesideChosen b f p s (lost.Ahead c) = (c ≡ s.exec) × (is_before p.exec c ≡ true)
 BesideChosen b f p s (lost.Behind c) = (c ≡ s.exec) × (is_before c p.exec ≡ true) × (latest_that (has_exec f c) (ring_at b.rings p.no) ≡ None)
@@ -52,8 +52,8 @@ WithoutChosen w b now s (lost.Behind c) = ⊥
 WithoutChosen w b now s lost.Unreachable = ⊥
 WithoutChosen w b now s (lost.Moved at) = ⊥
 
--- a drained one doesn't go below a successor: the book keeps no bridge of the failed server under it at that coordinate;
--- or, by GTIDs, the successor wasn't read or doesn't log
+-- a drained one doesn't go below a successor: the book keeps no bridge of the failed server under it at that
+-- coordinate; or, by GTIDs, the successor wasn't read or doesn't log
 abbrev pub BelowSuccessor : World → BookState → List Sight → ServerNo → ServerNo → Stopped → Type 0
 BelowSuccessor w b seen f n s =
     ((w.gtid ≡ false) × (latest_that (has_own n s.exec) (ring_at b.rings f) ≡ None))
@@ -157,8 +157,8 @@ abbrev pub AimsAt : List Sight → ServerNo → Bridge → Type 0
 AimsAt seen n x = (n.0 ≡ x.no.0 → ⊥) → option_map (λ s. s.exec) (seen_of seen x.no.0) ≡ Some x.exec
 
 -- Each operation that is left of such a stage speaks with its replica; the bridge is where the designated one was seen
--- to stop, and what is waited for; a replica that has come below its new source is only asked, and one that is to go there
--- is only read at first.
+-- to stop, and what is waited for; a replica that has come below its new source is only asked, and one that is to go
+-- there is only read at first.
 pub record Speaks (r : Recovery) : Type 0 where
   pub ops : (n : ServerNo) → speaks_of r.stage ≡ Some n → All (λ o. spoken_to (deed_of o) ≡ Some n) r.core.ops
   pub lead : (x : Bridge) → lead_of r.stage ≡ Some x → r.lead ≡ Some x

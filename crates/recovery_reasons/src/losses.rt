@@ -15,9 +15,9 @@ ghost use Rattle.recovery_laws.specs.HeldRecoveries.{HeldRecovery};
 ghost use Rattle.recovery_laws.specs.Rings.{HeldRings};
 ghost use Rattle.recovery_reasons.specs.Reasons.{AllLost, ExplainsTruly, Speaks};
 
-/// Each entry of the lost was there before the turn, or is true of its world and its book: whatever holds of the entries
-/// that were there and of each that has a true reason in this turn holds of all afterwards, whether the recovery goes
-/// on, is done or fails.
+/// Each entry of the lost was there before the turn, or is true of its world and its book: whatever holds of the
+/// entries that were there and of each that has a true reason in this turn holds of all afterwards, whether the
+/// recovery goes on, is done or fails.
 pub fn losses_are_true()
     ensures lost { (w : World) (b : BookState) (read : ℕ) (now : AMoment) (r : Recovery)
         (P : Number → Why → Bool) →

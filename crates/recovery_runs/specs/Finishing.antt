@@ -25,10 +25,10 @@ use Rattle.recovery_runs.specs.Origins.{Began, ExplainsAlong}
 abbrev pub world_then : List Row → State → ℕ → World
 world_then rows s id = (step rows s (turn.Job id)).world
 
--- Its reply is the lines; its outcome covers the replicas, which are those that the book had attached to the failed server
--- when it began, and is what the lines tell; in a quiet state the promoted server has the histories; each of its lost has a
--- reason that was true in one of its turns: one that counts where each that was true counts; and its entry ends with the
--- promoted server.
+-- Its reply is the lines; its outcome covers the replicas, which are those that the book had attached to the failed
+-- server when it began, and is what the lines tell; in a quiet state the promoted server has the histories; each of its
+-- lost has a reason that was true in one of its turns: one that counts where each that was true counts; and its entry
+-- ends with the promoted server.
 pub record FinishesWell (count : ℕ) (from : State) (xs : List (List Row × Turn)) (rows : List Row) (s : State) (id : ℕ) (r : Recovery) (entry : Option ℕ) (lines : List Line) : Type 0 where
   pub reply : reply_of s (turn.Job id) ≡ answered.Told lines
   pub owes : OwesNothing count (world_then rows s id) r (recovery_after s r) lines

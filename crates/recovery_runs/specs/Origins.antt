@@ -13,8 +13,8 @@ use Rattle.orch_core.specs.States.{State}
 use Rattle.finish_laws.specs.Losses.{ExplainsTurn}
 use Rattle.covered_states.specs.Begun.{jobs_begun}
 
--- A recovery is what one has become that began in a turn of this state, with this entry in the audit, if it has one: it is
--- about the same, and its replicas are those that the book had attached to the failed server then.
+-- A recovery is what one has become that began in a turn of this state, with this entry in the audit, if it has one: it
+-- is about the same, and its replicas are those that the book had attached to the failed server then.
 pub record BeganIn (s : State) (t : Turn) (r : Recovery) (entry : Option ℕ) : Type 0 where
   pub was : Recovery
   pub among : Contains (jobs_begun s t) (unended.Recovery was entry)

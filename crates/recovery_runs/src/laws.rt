@@ -20,8 +20,8 @@ ghost use Rattle.turns.specs.declared.turn.Turn.TheVariants as turns;
 ghost use Rattle.turns.specs.declared.turn.Turn.{Turn as ATurn};
 ghost use Rattle.unended_jobs.specs.declared.unended.Unended.TheVariants.{Recovery as Recovering};
 
-/// A recovery in flight began in one of the turns of its run, a command's or a scan's, with its entry in the audit. It is
-/// about what it began with, and its replicas are those that the book had attached to the failed server then.
+/// A recovery in flight began in one of the turns of its run, a command's or a scan's, with its entry in the audit. It
+/// is about what it began with, and its replicas are those that the book had attached to the failed server then.
 pub fn recoveries_began()
     ensures { (s : AScenario) (xs : List (List ARow × ATurn)) (now : State)
         (comes : ComesTo s xs now) (id : ℕ) (r : Recovery) (entry : Option ℕ) →
@@ -29,9 +29,9 @@ pub fn recoveries_began()
         Began (start s comes.wait comes.rows) xs r entry }
 {}
 
-/// Each of the lost of a recovery has a reason that was true of the servers and the book in one of its turns: where each that
-/// was true in a turn of the recovery counts, all that it has lost so far have one that counts, and so have all that it
-/// has lost after its next turn.
+/// Each of the lost of a recovery has a reason that was true of the servers and the book in one of its turns: where
+/// each that was true in a turn of the recovery counts, all that it has lost so far have one that counts, and so have
+/// all that it has lost after its next turn.
 pub fn losses_have_true_reasons()
     ensures before { (s : AScenario) (xs : List (List ARow × ATurn)) (now : State)
         (comes : ComesTo s xs now) (P : Number → Why → Bool) (id : ℕ) (r : Recovery)
@@ -45,8 +45,8 @@ pub fn losses_have_true_reasons()
         AllLost P (recovery_after now r).outcome.lost }
 {}
 
-/// The turn of a run in which a recovery is done leaves nothing owed, whatever rows the keeper hands back and in whatever
-/// order the turns came.
+/// The turn of a run in which a recovery is done leaves nothing owed, whatever rows the keeper hands back and in
+/// whatever order the turns came.
 pub fn recoveries_finish_well()
     ensures { (s : AScenario) (xs : List (List ARow × ATurn)) (now : State)
         (comes : ComesTo s xs now) (rows : List ARow) (id : ℕ) (r : Recovery)

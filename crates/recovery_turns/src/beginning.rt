@@ -92,8 +92,8 @@ fn first_tasks(alloc: Global, purpose: Purpose, replicas: &[ServerNo]) -> Result
 }
 
 impl RecoveryJob {
-    /// A recovery begins, as the job of this number, whose operations may wait so often each: of this server, with these
-    /// replicas, and telling of those, both in name order.
+    /// A recovery begins, as the job of this number, whose operations may wait so often each: of this server, with
+    /// these replicas, and telling of those, both in name order.
     pub fn make(
         alloc: Global,
         purpose: Purpose,

@@ -166,8 +166,8 @@ fn plan_of(
 }
 
 /// The operations of `relocate` or `relocate-replicas`, ended by its lines: `r<d` of each server that moves, in name
-/// order. They are those of each server's path in turn, or with GTIDs one attachment each. Where the command's instances
-/// are servers of the book, so are all servers of the operations. `Err` is want of memory.
+/// order. They are those of each server's path in turn, or with GTIDs one attachment each. Where the command's
+/// instances are servers of the book, so are all servers of the operations. `Err` is want of memory.
 pub fn plan(
     alloc: Global,
     book: &Book,

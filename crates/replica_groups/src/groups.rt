@@ -63,9 +63,10 @@ impl Groups {
     }
 }
 
-/// Where a replica goes that stands at `exec` of the source's log, beside the promoted one. One that stands with it goes
-/// to its own end; one that stands after it is ahead; one that stands before it goes to the own coordinate of the latest
-/// kept bridge of the promoted one under the source with that coordinate, and is behind exactly where there is none.
+/// Where a replica goes that stands at `exec` of the source's log, beside the promoted one. One that stands with it
+/// goes to its own end; one that stands after it is ahead; one that stands before it goes to the own coordinate of the
+/// latest kept bridge of the promoted one under the source with that coordinate, and is behind exactly where there is
+/// none.
 pub fn group_of(promoted: ServerNo, by: &Lines<'_>, exec: Coord, source: ServerNo) -> Group
     requires { promoted.0 < length by.now.book.now.names }
     ensures { result ≡ group_of by.now.book.now.rings promoted by.now.own_end by.now.exec source exec }

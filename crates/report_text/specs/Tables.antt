@@ -1,4 +1,5 @@
--- The tables: a line for each server, each recovery and each unended job, and how many writes servers with a source accepted.
+-- The tables: a line for each server, each recovery and each unended job, and how many writes servers with a source
+-- accepted.
 use Rattle.std.specs.Prelude.{ℕ, Bool, List, [], ◌∷◌, ◌++◌, length, map, codes, decimal, Option, Some, None, if◌then◌else◌}
 use Rattle.orch_base.specs.Names.{HostPort, printed}
 use Rattle.orch_base.specs.declared.server.SourceState.{SourceState}
@@ -98,6 +99,7 @@ names_in w = map (λ s. s.settings.name) w.servers
 abbrev pub errant_text : World → List ℕ
 errant_text w = codes "errant " ++ decimal w.errant ++ codes "\n"
 
--- a line for each server in order, then one for each recovery, then one for each unended job, then the count of errant writes
+-- a line for each server in order, then one for each recovery, then one for each unended job, then the count of errant
+-- writes
 abbrev pub tables_text : World → List Line → List ℕ → List ℕ
 tables_text w recoveries jobs = servers_text w w.servers ++ told_lines [] (names_in w) recoveries ++ jobs_text jobs ++ errant_text w

@@ -230,8 +230,9 @@ fn print_line(
     print_lines(r, names, out)
 }
 
-/// Appends the line of a turn with its reply: the number, the turn's words, `: ` and the reply; and behind it the lines of a
-/// command that is done, each after two spaces; or nothing at want of memory. A server has its name in `names` by its number.
+/// Appends the line of a turn with its reply: the number, the turn's words, `: ` and the reply; and behind it the lines
+/// of a command that is done, each after two spaces; or nothing at want of memory. A server has its name in `names` by
+/// its number.
 pub fn reply_text(
     number: u64,
     t: &Turn,
@@ -247,8 +248,8 @@ pub fn reply_text(
     reply_text_by(number, t, r, &names, &mut Vec::new(alloc), out)
 }
 
-/// As `reply_text`, by names that are printed once for many lines. `line` is room for a line, which the caller keeps from one to the
-/// next: what it holds is lost.
+/// As `reply_text`, by names that are printed once for many lines. `line` is room for a line, which the caller keeps
+/// from one to the next: what it holds is lost.
 pub fn reply_text_by(
     number: u64,
     t: &Turn,
@@ -278,8 +279,8 @@ fn print_plain(r: &Reply, names: &PrintedNames<'_>, out: &mut Vec<u8>) -> Result
     }
 }
 
-/// Appends what a single command writes of its reply: the lines of one that is done, else the reply's own line; or nothing at
-/// want of memory. A server has its name in `names` by its number.
+/// Appends what a single command writes of its reply: the lines of one that is done, else the reply's own line; or
+/// nothing at want of memory. A server has its name in `names` by its number.
 pub fn plain_text(r: &Reply, names: &[Name], out: &mut Vec<u8>) -> Result<(), Memory>
     ensures ok { OnOk result (out.new.items ≡ out.old.items ++ plain_text_of names.now r.now) }
     ensures err { OnErr result (out.new.items ≡ out.old.items) }

@@ -31,8 +31,8 @@ pub fn turns_are_passages()
 
 /// Each state of each run is held, quiet or not: the servers are placed, both ends of each kept bridge have places in
 /// the logs of servers that log, what was read is shown for good, each job finds what its operations use, and each
-/// server that it may still change is leased to it; of a recovery also what it goes by later, and each server that it may
-/// change later.
+/// server that it may still change is leased to it; of a recovery also what it goes by later, and each server that it
+/// may change later.
 pub fn every_state_is_held()
     ensures { (s : AScenario) (xs : List (List ARow × ATurn)) (now : State) → ComesTo s xs now →
         HeldState now }

@@ -1,4 +1,5 @@
--- The servers' names and UUIDs, as they are looked up: of every listed server what reads, wherever else the walk may stop.
+-- The servers' names and UUIDs, as they are looked up: of every listed server what reads, wherever else the walk may
+-- stop.
 use Rattle.std.specs.Prelude.{ℕ, ◌+◌, ◌==◌, ◌∷◌, List, [], take, Bool, false, nat_lt, if◌then◌else◌, codes, Option, Some, None, option_and_then, Result, Ok, Err}
 use Rattle.std.specs.List.{list_any}
 use Rattle.serde_json.specs.Data.{Data, Items, no_items, item}

@@ -42,8 +42,8 @@ settings_of label g = record {
   limit = g.setup.limit;
 }
 
--- A server of the cluster of this label. The threads of a server that isn't detached are on, where the text says nothing
--- of them.
+-- A server of the cluster of this label. The threads of a server that isn't detached are on, where the text says
+-- nothing of them.
 abbrev pub init_under : List ℕ → Given → ServerInit
 init_under label g = record {
   settings = settings_of label g;
@@ -75,7 +75,8 @@ inits_from gs n (x ∷ xs) = init_of gs n x ∷ inits_from gs (n + 1) xs
 abbrev pub inits_of : List Given → List ServerInit
 inits_of gs = inits_from gs 0 gs
 
--- 1 to 1,000 servers of different names and UUIDs, each with its numbers in their ranges, and a source that is one of them
+-- 1 to 1,000 servers of different names and UUIDs, each with its numbers in their ranges, and a source that is one of
+-- them
 pub record IsGiven (gtid : Bool) (servers : List ServerInit) : Type 0 where
   pub some : 0 < length servers
   pub few : length servers ≤ 1000

@@ -300,7 +300,8 @@ fn turn_at(
     under_item(alloc, number, turn_in(alloc, names, patterns, value))
 }
 
-/// Each turn in order. A turn that isn't known or has another number of parts is `BadTurn` at the turn, and a part has its own faults at its place. The time is that of the items.
+/// Each turn in order. A turn that isn't known or has another number of parts is `BadTurn` at the turn, and a part has
+/// its own faults at its place. The time is that of the items.
 pub fn each_turn(
     alloc: Global,
     names: &Names,

@@ -34,9 +34,9 @@ settings_of s = map (λ i. i.settings) s.opening.servers
 abbrev pub names_of : Scenario → List HostPort
 names_of s = map (λ i. i.settings.name) s.opening.servers
 
--- The opening is checked, each turn is one of its servers', there are at most 1,000,000 turns, the servers together take
--- room for at most 4,000,000 transactions, the block period is at most 1,000,000,000 seconds, each server is known or not and has
--- a rule or none, and each filter list has an answer for each server.
+-- The opening is checked, each turn is one of its servers', there are at most 1,000,000 turns, the servers together
+-- take room for at most 4,000,000 transactions, the block period is at most 1,000,000,000 seconds, each server is known
+-- or not and has a rule or none, and each filter list has an answer for each server.
 pub record IsScenario (s : Scenario) : Type 0 where
   pub checked : IsChecked s.opening
   pub moment : s.moment.0 ≤ 1000000000000000

@@ -96,8 +96,8 @@ GivesUpOn rows mid ts kept fault.Memory = Gives rows mid ts kept
 abbrev pub GivesUp : Point → List Turn → Option (List Row) → TurnFault → Type 0
 GivesUp from ts kept why = GivesUpOn from.kept (without_turns from.state) ts kept why
 
--- behind a run that ended with this reply: the rounds of the job that it began, if it did, led to another point, and the last
--- reply of the command is then this one
+-- behind a run that ended with this reply: the rounds of the job that it began, if it did, led to another point, and
+-- the last reply of the command is then this one
 pub record Closes (rows : Option (List Row)) (mid : Recorded) (reply : Reply) (to : Point) (told : Reply) : Type 0 where
   pub run : Recorded
   pub ran : Ran recorder rows mid (closing_by (begun_by reply) mid.state) to.kept run

@@ -107,8 +107,8 @@ abbrev pub own_answer : Bool → List HostPort → State → Option Reply → An
 own_answer tables names s None = no_answer
 own_answer tables names s (Some r) = told_answer tables names s r
 
--- what is answered to each thing that words ask, by the last state; tables follow where they are asked for, but not where no turn
--- of the command's own was taken
+-- what is answered to each thing that words ask, by the last state; tables follow where they are asked for, but not
+-- where no turn of the command's own was taken
 abbrev pub asked_answer : Asked → Bool → List HostPort → Recorded → Answer
 asked_answer asked.Run tables names run = run_answer names run
 asked_answer (asked.Turn t) tables names run = own_answer tables names run.state (last_reply run.journal)

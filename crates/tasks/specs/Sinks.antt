@@ -57,7 +57,8 @@ IsOnTheWay e held text true = FailsIn e text
 abbrev pub Carries : End → Pieces → List ℕ → Type 0
 Carries e p text = IsOnTheWay e p.held.items text p.failed
 
--- ---- steps of a text on its way, between two moments of the sink: whatever it was, and from wherever it was on its way
+-- ---- steps of a text on its way, between two moments of the sink: whatever it was, and from wherever it was on its
+-- way
 
 -- this joins the text
 abbrev pub Joins : List ℕ → Pieces → Pieces → Taken → Taken → Type 0

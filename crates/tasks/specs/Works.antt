@@ -21,8 +21,8 @@ pub record Work : Type 0 where
 abbrev pub turns_in : Work → List Turn
 turns_in w = turns_taken w.task.asked w.scenario.turns
 
--- The opening and then these turns lead to these kept rows and to this state: by the kept rows, where the keeper tells them, and by
--- some rows at the opening and at each turn where it doesn't.
+-- The opening and then these turns lead to these kept rows and to this state: by the kept rows, where the keeper tells
+-- them, and by some rows at the opening and at each turn where it doesn't.
 pub record Comes (w : Work) (ts : List Turn) (kept : Option (List Row)) (run : Recorded) : Type 0 where
   pub begun : State
   pub opens : StartsBy w.old w.scenario w.task.waits begun

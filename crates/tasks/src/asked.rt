@@ -182,9 +182,9 @@ fn asked_of(alloc: Global, places: &Places, names: &[Name]) -> Result<Asked, Mem
     asked_named(alloc, places, names, CommandName::read(word))
 }
 
-/// What these words, which are taken, ask of servers of these names, of which there are at most 1,000: `run`, a command's turn
-/// with all options that the command uses, or a command whose instance or destination no server is. `Memory` comes only for
-/// want of memory.
+/// What these words, which are taken, ask of servers of these names, of which there are at most 1,000: `run`, a
+/// command's turn with all options that the command uses, or a command whose instance or destination no server is.
+/// `Memory` comes only for want of memory.
 pub fn task_of(alloc: Global, places: &Places, names: &[Name]) -> Result<Task, Memory>
     requires words { IsTaken places.now }
     requires names { length names.now ≤ 1000 }

@@ -12,14 +12,16 @@ ghost use Rattle.tasks.specs.Works.{Comes, Work};
 ghost use Rattle.tasks.specs.declared.asked.Task.{Task};
 ghost use Rattle.turns.specs.declared.turn.Turn.{Turn};
 
-/// What words that are taken ask is something, and its turn meets the condition of the calls that take turns: its command is built,
-/// what it needs is there, each number and text is in its range, and its instance and destination are among the servers.
+/// What words that are taken ask is something, and its turn meets the condition of the calls that take turns: its
+/// command is built, what it needs is there, each number and text is in its range, and its instance and destination are
+/// among the servers.
 pub fn asked_turns_are_sound()
     ensures { (p : Places) (names : List HostPort) → IsTaken p
         → IsAsked (length names) (asked_of p names) }
 {}
 
-/// Where the keeper tells its rows, they fix the run: the opening and these turns lead to one run and to one list of kept rows.
+/// Where the keeper tells its rows, they fix the run: the opening and these turns lead to one run and to one list of
+/// kept rows.
 pub fn known_rows_fix_the_run()
     ensures { (w : Work) (rows : List Row) (ts : List Turn) (kept : Option (List Row))
         (run : Recorded)

@@ -15,7 +15,8 @@ use turns::{Reply, Turn};
 /// A piece is handed over once it has so many bytes: 64 KiB.
 const PIECE: usize = 65_536;
 
-/// Appends the tables of the state that it is now, with its recoveries and its unended jobs; or nothing at want of memory.
+/// Appends the tables of the state that it is now, with its recoveries and its unended jobs; or nothing at want of
+/// memory.
 pub(crate) fn add_tables(engine: &Engine, out: &mut Vec<u8>) -> Result<(), Memory>
     ensures ok { OnOk result (out.new.items ≡ out.old.items ++ tables_of engine.now) }
     ensures err { OnErr result (out.new.items ≡ out.old.items) }
@@ -72,8 +73,8 @@ impl Pieces {
         self.held.clear();
     }
 
-    /// Adds the line of a turn with its reply, by its number in the run, and hands over what is held once that is a piece. Want
-    /// of memory leaves the text as it was.
+    /// Adds the line of a turn with its reply, by its number in the run, and hands over what is held once that is a
+    /// piece. Want of memory leaves the text as it was.
     pub(crate) fn add_reply<O: Sink>(
         &mut self,
         number: u64,

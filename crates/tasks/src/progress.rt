@@ -87,7 +87,8 @@ impl Progress {
     }
 }
 
-// Takes the turns, each with the line of its reply, to the first fault. Where out fails the turns are taken all the same.
+// Takes the turns, each with the line of its reply, to the first fault. Where out fails the turns are taken all the
+// same.
 fn take_turns<O: Sink, K: Keeper>(
     alloc: Global,
     keeper: &mut K,
@@ -141,8 +142,9 @@ fn printed_report<O: Sink, K: Keeper>(
     }
 }
 
-/// Takes the turns and writes each reply's line on out as it comes, in pieces, and behind the last one the tables. Where out fails
-/// in the midst the turns that are left are taken all the same. After a keeper's fault the replies before that turn are written.
+/// Takes the turns and writes each reply's line on out as it comes, in pieces, and behind the last one the tables.
+/// Where out fails in the midst the turns that are left are taken all the same. After a keeper's fault the replies
+/// before that turn are written.
 pub(crate) fn run_report<O: Sink, K: Keeper>(
     alloc: Global,
     keeper: &mut K,

@@ -58,13 +58,13 @@ fn asked_report<O: Sink, E: Sink, K: Keeper>(
     }
 }
 
-/// Opens a scenario, takes its turns and the task's own, and writes the report: of a run each reply's line on out as it comes, in
-/// pieces of 64 KiB and a line, and then the tables; of a single command its lines on out, or its refusal on err, and the tables
-/// where they are asked for. `names` are the servers' names.
+/// Opens a scenario, takes its turns and the task's own, and writes the report: of a run each reply's line on out as it
+/// comes, in pieces of 64 KiB and a line, and then the tables; of a single command its lines on out, or its refusal on
+/// err, and the tables where they are asked for. `names` are the servers' names.
 ///
-/// Err is written before out. Where a sink fails all turns are taken all the same. A run that a keeper's fault cuts has written
-/// the replies before that turn, a single command nothing. `Keeper` comes only where the keeper's count of faults rose; err's never
-/// falls.
+/// Err is written before out. Where a sink fails all turns are taken all the same. A run that a keeper's fault cuts has
+/// written the replies before that turn, a single command nothing. `Keeper` comes only where the keeper's count of
+/// faults rose; err's never falls.
 pub fn task_report<O: Sink, E: Sink, K: Keeper>(
     alloc: Global,
     task: &Task,

@@ -197,9 +197,9 @@ fn last_reply<K: Keeper>(
     finish(alloc, keeper, engine, reply)
 }
 
-/// Takes the scenario's turns, the command's own and the rounds of the job that it began, and writes what its last reply says: its
-/// lines on out, or its refusal or the failed job's cause on err, and the tables where they are asked for. After a keeper's fault
-/// nothing is written.
+/// Takes the scenario's turns, the command's own and the rounds of the job that it began, and writes what its last
+/// reply says: its lines on out, or its refusal or the failed job's cause on err, and the tables where they are asked
+/// for. After a keeper's fault nothing is written.
 pub(crate) fn command_report<O: Sink, E: Sink, K: Keeper>(
     alloc: Global,
     keeper: &mut K,

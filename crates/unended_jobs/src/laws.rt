@@ -14,8 +14,8 @@ ghost use Rattle.unended_jobs.specs.declared.unended.Unended.{Unended as AnUnend
 ghost use Rattle.unended_jobs.specs.Unended.{IsReady, IsReadyRecovery, IsUnended, flown, number_of, turns_of};
 
 /// A turn's exchanges are allowed, and what it observes is a status of a server that is there. A job that goes on keeps
-/// its number, names servers that are there, and has fewer turns left. Whatever a recovery's turn comes to, the promoted
-/// server is there.
+/// its number, names servers that are there, and has fewer turns left. Whatever a recovery's turn comes to, the
+/// promoted server is there.
 pub fn unended_jobs_go_on()
     ensures allowed { (w : World) (b : BookState) (read : ℕ) (now : AMoment) (u : AnUnended) →
         AllAllowed w (flown w b read now u).exchanges }

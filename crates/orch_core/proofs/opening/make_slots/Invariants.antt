@@ -1,5 +1,5 @@
 use Rattle.std.proofs.Common.{◌≡◌, replicate, None}
-use Rattle.orch_core.proofs.engine.make_slots.Given as goal
+use Rattle.orch_core.proofs.opening.make_slots.Given as goal
 
 abbrev pub invariant-loop : goal.invariant-loop
 invariant-loop l = l.slots.items ≡ replicate l.counter None

@@ -1,6 +1,6 @@
 use Rattle.std.proofs.Common.{◌≡◌, None, length}
 use Rattle.instance_keeper.proofs.Cleared.{cleared}
-use Rattle.orch_core.proofs.engine.empty_slots.Given as goal
+use Rattle.orch_core.proofs.opening.empty_slots.Given as goal
 
 abbrev pub invariant-loop-poller : goal.invariant-loop-poller
 invariant-loop-poller l = record {

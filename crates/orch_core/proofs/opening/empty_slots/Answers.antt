@@ -3,7 +3,7 @@ use Rattle.std.specs.Prelude.{slice_set}
 use Rattle.std.proofs.lemmas.List.{length-set}
 use Rattle.instance_keeper.specs.declared.observation.Observation.{Observation}
 use Rattle.instance_keeper.proofs.Cleared.{cleared, cleared_all, cleared_next}
-use Rattle.orch_core.proofs.engine.empty_slots.Goals as goal
+use Rattle.orch_core.proofs.opening.empty_slots.Goals as goal
 
 pub loop-poller-preserved : goal.loop-poller-preserved
 loop-poller-preserved c =

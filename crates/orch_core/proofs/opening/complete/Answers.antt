@@ -2,7 +2,7 @@ use Rattle.std.proofs.Common.{◌≡◌, length, rules, subst, sym}
 use Rattle.std.specs.Prelude.{All, IsTrue}
 use Rattle.opening_book.specs.Opening.{is_opening_change}
 use Rattle.orch_core.proofs.Starts.{fits-opening}
-use Rattle.orch_core.proofs.engine.complete.Goals as goal
+use Rattle.orch_core.proofs.opening.complete.Goals as goal
 
 pub open_book-requires : goal.open_book-requires
 open_book-requires g c =

@@ -2,7 +2,7 @@ use Rattle.std.proofs.Common.{◌∙◌, length, ap}
 use Rattle.server_model.specs.Run.{Apply}
 use Rattle.server_model.specs.Worlds.{World}
 use Rattle.orch_core.proofs.Servers.{servers-after}
-use Rattle.orch_core.proofs.engine.exchange.Goals as goal
+use Rattle.orch_core.proofs.exchanging.exchange.Goals as goal
 
 pub returns-in-Apply-clause-servers : goal.returns-in-Apply-clause-servers
 returns-in-Apply-clause-servers c = ap (λ (w : World). length w.servers) c.apply.ensures.world ∙ servers-after c.args.world.now (Apply c.in-Apply.no.0)

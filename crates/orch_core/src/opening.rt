@@ -1,0 +1,109 @@
+//! What an opening lays out beside the servers: names and settings, the slots of pollers, the configuration, and the
+//! book with what its rows leave open.
+
+ghost use Rattle.std.specs.Prelude.{◌≡◌, ◌≤◌, ◌^◌, All, IfOk, [], is_ok, length, map};
+ghost use Rattle.opening_book.specs.Opening.{opened_book, opening_changes};
+ghost use Rattle.orch_core.specs.Keeping.{HasTurnCause, kept_if};
+ghost use Rattle.orch_core.specs.Polls.{empty_slots};
+ghost use Rattle.orch_core.specs.Scenarios.{configuration_of};
+ghost use Rattle.orch_core.specs.States.{HasKnownSource};
+ghost use Rattle.scenarios.specs.Turns.{pollers};
+
+use crate::keep::keep_some;
+use crate::{Configuration, Scenario, TurnFault};
+use audit_log::Audit;
+use instance_keeper::{Book, Keeper, Observation};
+use opening_book::{open_book, opening_changes};
+use openings::ServerInit;
+use orch_base::{Memory, Moment, Name, Settings};
+use server_model::World;
+use std::alloc::Global;
+
+/// So many pollers have a slot each.
+const POLLERS: u32 = 64;
+
+/// The book with what the opening brings, which is kept first, together with the recoveries that it interrupts.
+pub(crate) fn complete<K: Keeper>(
+    alloc: Global,
+    keeper: &mut K,
+    world: &World,
+    moment: Moment,
+    mut book: Book,
+    s: &Scenario,
+    audit: &Audit,
+) -> Result<Book, TurnFault>
+    requires moment { moment.0 ≤ 2 ^ 63 }
+    requires known { length s.now.known ≡ length world.now.servers }
+    requires rules { length s.now.rules ≡ length world.now.servers }
+    requires names { length book.names ≡ length world.now.servers }
+    requires sources { All (HasKnownSource (length world.now.servers)) world.now.servers }
+    ensures book { IfOk result (λ b. b ≡ opened_book book
+        (opening_changes world.now moment book s.now.known s.now.rules audit.now.audit)) }
+    ensures kept { K.kept keeper.new ≡ kept_if (is_ok result) (K.kept keeper.old)
+        (opening_changes world.now moment book s.now.known s.now.rules audit.now.audit) }
+    ensures cause { HasTurnCause (K.faults keeper.old) (K.faults keeper.new) result }
+    ensures idle { opening_changes world.now moment book s.now.known s.now.rules
+        audit.now.audit ≡ [] → keeper.new ≡ keeper.old }
+{
+    let known = s.known.as_slice();
+    let rules = s.rules.as_slice();
+    let changes = opening_changes(alloc, world, moment, &book, known, rules, audit)?;
+    keep_some(alloc, keeper, book.names(), &changes)?;
+    open_book(&mut book, changes);
+    Ok(book)
+}
+
+/// An empty slot for each poller.
+pub(crate) fn make_slots(alloc: Global) -> Result<Vec<Option<Observation>>, Memory>
+    ensures { IfOk result (λ slots. slots.items ≡ empty_slots) }
+{
+    let mut slots = Vec::with_capacity(alloc, POLLERS as usize)?;
+    for _ in 0..POLLERS {
+        slots.push(None)?;
+    }
+    Ok(slots)
+}
+
+/// Empties all slots.
+pub(crate) fn empty_slots(slots: &mut Vec<Option<Observation>>)
+    requires { length slots.old.items ≡ pollers }
+    ensures { slots.new.items ≡ empty_slots }
+{
+    for poller in 0..POLLERS {
+        slots[poller as usize] = None;
+    }
+}
+
+/// The settings of all servers.
+pub(crate) fn copy_settings(alloc: Global, servers: &[ServerInit]) -> Result<Vec<Settings>, Memory>
+    ensures { IfOk result (λ settings. settings.items ≡ map (λ i. i.settings) servers.now) }
+{
+    let mut settings = Vec::with_capacity(alloc, servers.len())?;
+    'servers: for server in servers {
+        settings.push(server.settings.copy(alloc)?)?;
+    }
+    Ok(settings)
+}
+
+/// The names in the settings.
+pub(crate) fn copy_names(alloc: Global, settings: &[Settings]) -> Result<Vec<Name>, Memory>
+    ensures { IfOk result (λ names. names.items ≡ map (λ s. s.name) settings.now) }
+{
+    let mut names = Vec::with_capacity(alloc, settings.len())?;
+    'servers: for server in settings {
+        names.push(server.name.copy(alloc)?)?;
+    }
+    Ok(names)
+}
+
+/// The configuration of a scenario whose jobs wait at most `wait` times.
+pub(crate) fn configure(alloc: Global, s: &Scenario, wait: u32) -> Result<Configuration, Memory>
+    ensures { IfOk result (λ c. c ≡ configuration_of wait s.now) }
+{
+    Ok(Configuration {
+        wait,
+        block: s.block,
+        master: s.filters.master.passes.copy(alloc)?,
+        intermediate: s.filters.intermediate.passes.copy(alloc)?,
+    })
+}
