@@ -20,6 +20,7 @@ use commands::{Command, CommandName, CommandTurn, Found, Lines, Refusal, unknown
 use instance_keeper::{Book, Recovery};
 use orch_base::ServerNo;
 use std::alloc::Global;
+use std::fmt;
 
 /// Why there is no answer.
 #[derive(Drop)]
@@ -37,6 +38,15 @@ impl From<Memory> for AnswerFault {
 
     fn from(_e: Memory) -> AnswerFault {
         AnswerFault::Memory
+    }
+}
+
+impl fmt::Display for AnswerFault {
+    fn fmt<W: fmt::Write>(&self, f: &mut fmt::Formatter<W>) -> fmt::Result {
+        match self {
+            AnswerFault::Refused(refusal) => write!(f, "refused {}", refusal.number()),
+            AnswerFault::Memory => write!(f, "out of memory"),
+        }
     }
 }
 

@@ -10,6 +10,7 @@ ghost use Rattle.binlog_coords.specs.Grammar.{is_colon, begins_above_zero, is_pl
 use crate::Coord;
 use itoa::Buffer;
 use std::alloc::AllocError as Memory;
+use std::fmt;
 
 /// The position of a file's first event, behind the four magic bytes.
 const FIRST_POSITION: u64 = 4;
@@ -24,6 +25,16 @@ pub enum CoordFault {
     BadFile,
     /// Behind the last `:` no decimal without a leading zero, 4 to 2^64 - 1.
     BadPos,
+}
+
+impl fmt::Display for CoordFault {
+    fn fmt<W: fmt::Write>(&self, f: &mut fmt::Formatter<W>) -> fmt::Result {
+        match self {
+            CoordFault::NoColon => write!(f, "no colon"),
+            CoordFault::BadFile => write!(f, "no file of a binary log"),
+            CoordFault::BadPos => write!(f, "no position of 4 or more"),
+        }
+    }
 }
 
 // The zeros that a number lacks to have six digits.

@@ -4,6 +4,8 @@ ghost use Rattle.std.specs.Prelude.{◌≡◌};
 ghost use Rattle.gtid_sets.specs.declared.fault.GtidFault.TheVariants.{Memory};
 
 use crate::Memory;
+use crate::interval::LARGEST;
+use std::fmt;
 
 /// The first fault of a text that is no set of GTIDs, with the offset of its byte.
 #[derive(Clone, Copy, Debug, PartialEq, Eq)]
@@ -26,5 +28,17 @@ impl From<Memory> for GtidFault {
 
     fn from(_e: Memory) -> GtidFault {
         GtidFault::Memory
+    }
+}
+
+impl fmt::Display for GtidFault {
+    fn fmt<W: fmt::Write>(&self, f: &mut fmt::Formatter<W>) -> fmt::Result {
+        match self {
+            GtidFault::BadUuid(at) => write!(f, "no UUID at byte {at}"),
+            GtidFault::BadInterval(at) => write!(f, "no interval at byte {at}"),
+            GtidFault::Zero(at) => write!(f, "a number 0 at byte {at}"),
+            GtidFault::TooLarge(at) => write!(f, "a number above {LARGEST} at byte {at}"),
+            GtidFault::Memory => write!(f, "out of memory"),
+        }
     }
 }

@@ -43,6 +43,7 @@ impl Gtid {
 }
 
 impl Interval {
+    /// The first GTID.
     pub fn start(&self) -> Gtid
         ensures uuid { result.uuid ≡ self.now.uuid }
         ensures n { result.n ≡ self.now.first }
@@ -53,6 +54,7 @@ impl Interval {
         }
     }
 
+    /// The last GTID.
     pub fn end(&self) -> Gtid
         ensures uuid { result.uuid ≡ self.now.uuid }
         ensures n { result.n ≡ self.now.last }

@@ -9,6 +9,7 @@ use crate::Memory;
 use crate::row::{Change, Row};
 use orch_base::Name;
 use std::alloc::Global;
+use std::fmt;
 
 /// Why a keeper gave up.
 #[derive(Clone, Copy, Debug, PartialEq, Eq)]
@@ -27,6 +28,15 @@ impl From<Memory> for KeeperFault {
 
     fn from(_e: Memory) -> KeeperFault {
         KeeperFault::Memory
+    }
+}
+
+impl fmt::Display for KeeperFault {
+    fn fmt<W: fmt::Write>(&self, f: &mut fmt::Formatter<W>) -> fmt::Result {
+        match self {
+            KeeperFault::Failed => write!(f, "the keeper failed"),
+            KeeperFault::Memory => write!(f, "out of memory"),
+        }
     }
 }
 

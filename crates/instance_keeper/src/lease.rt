@@ -4,6 +4,7 @@ ghost use Rattle.std.specs.Prelude.{◌≡◌, ◌<◌, All, length};
 ghost use Rattle.instance_keeper.specs.Leases.{first_busy, freed, given_back, taken};
 
 use orch_base::ServerNo;
+use std::fmt;
 
 /// Why leases aren't taken.
 #[derive(Clone, Copy, Debug, PartialEq, Eq)]
@@ -15,6 +16,14 @@ pub enum LeaseFault {
         /// The job that has it.
         job: u64,
     },
+}
+
+impl fmt::Display for LeaseFault {
+    fn fmt<W: fmt::Write>(&self, f: &mut fmt::Formatter<W>) -> fmt::Result {
+        match self {
+            LeaseFault::Busy { no, job } => write!(f, "job {job} has the lease of server {}", no.0),
+        }
+    }
 }
 
 /// The first server of the list that has a lease.

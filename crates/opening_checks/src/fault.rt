@@ -5,10 +5,12 @@ ghost use Rattle.opening_checks.specs.declared.fault.OpeningFault.TheVariants.{M
 
 use openings::Flaw;
 use orch_base::{Memory, ServerNo};
+use std::fmt;
 
 /// The value of a server that is to blame for a flaw.
 #[derive(Clone, Copy, Debug, PartialEq, Eq)]
 pub enum FlawedValue {
+    /// The name of its source.
     Source,
     /// How many of its source's transactions the server has executed.
     Executed,
@@ -44,5 +46,14 @@ impl From<Memory> for OpeningFault {
 
     fn from(_e: Memory) -> OpeningFault {
         OpeningFault::Memory
+    }
+}
+
+impl fmt::Display for OpeningFault {
+    fn fmt<W: fmt::Write>(&self, f: &mut fmt::Formatter<W>) -> fmt::Result {
+        match self {
+            OpeningFault::Flawed(flaw, no, _) => write!(f, "server {}: {flaw}", no.0),
+            OpeningFault::Memory => write!(f, "out of memory"),
+        }
     }
 }

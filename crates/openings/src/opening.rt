@@ -5,6 +5,7 @@ ghost use Rattle.std.specs.Prelude.{◌≡◌, ◌↔◌, IfOk, IsTrue};
 use crate::ServerInit;
 use orch_base::Memory;
 use std::alloc::Global;
+use std::fmt;
 use std::marker::Model;
 
 /// What is wrong with the servers of a scenario, in the order in which it is looked for: each flaw at all servers
@@ -26,6 +27,20 @@ pub enum Flaw {
     BadPlace,
     /// The server's history isn't kin to those of the others.
     NotKin,
+}
+
+impl fmt::Display for Flaw {
+    fn fmt<W: fmt::Write>(&self, f: &mut fmt::Formatter<W>) -> fmt::Result {
+        match self {
+            Flaw::BothGiven => write!(f, "a history beside a source"),
+            Flaw::SourceNotLogging => write!(f, "a source without a binary log"),
+            Flaw::Loop => write!(f, "a loop of sources"),
+            Flaw::OtherCluster => write!(f, "another cluster"),
+            Flaw::TooMany => write!(f, "more transactions than the source has"),
+            Flaw::BadPlace => write!(f, "a coordinate or a flush point out of place"),
+            Flaw::NotKin => write!(f, "a history that isn't kin to the others"),
+        }
+    }
 }
 
 fn copy_servers(alloc: Global, servers: &[ServerInit]) -> Result<Vec<ServerInit>, Memory>

@@ -9,6 +9,7 @@ use crate::Memory;
 use itoa::Buffer;
 use std::alloc::Global;
 use std::cmp::Ordering;
+use std::fmt;
 use std::marker::Model;
 
 /// What is wrong with a text that is no name: the first fault in this order.
@@ -31,6 +32,18 @@ impl From<Memory> for NameFault {
 
     fn from(_e: Memory) -> NameFault {
         NameFault::Memory
+    }
+}
+
+impl fmt::Display for NameFault {
+    fn fmt<W: fmt::Write>(&self, f: &mut fmt::Formatter<W>) -> fmt::Result {
+        match self {
+            NameFault::Empty => write!(f, "no host"),
+            NameFault::TooLong => write!(f, "a host of more than 255 bytes"),
+            NameFault::BadByte(at) => write!(f, "byte {at} is none that a host has"),
+            NameFault::BadPort => write!(f, "no port of 1 to 65535"),
+            NameFault::Memory => write!(f, "out of memory"),
+        }
     }
 }
 

@@ -2,6 +2,7 @@
 
 use instance_keeper::KeeperFault;
 use orch_base::Memory;
+use std::fmt;
 
 /// Why a turn, or the opening, gave up.
 #[derive(Clone, Copy, Debug, PartialEq, Eq)]
@@ -33,6 +34,15 @@ impl From<KeeperFault> for TurnFault {
         match e {
             KeeperFault::Failed => TurnFault::Keeper,
             KeeperFault::Memory => TurnFault::Memory,
+        }
+    }
+}
+
+impl fmt::Display for TurnFault {
+    fn fmt<W: fmt::Write>(&self, f: &mut fmt::Formatter<W>) -> fmt::Result {
+        match self {
+            TurnFault::Keeper => write!(f, "the keeper failed"),
+            TurnFault::Memory => write!(f, "out of memory"),
         }
     }
 }

@@ -21,6 +21,7 @@ use instance_keeper::Book;
 use orch_base::ServerNo;
 use server_model::World;
 use std::alloc::Global;
+use std::fmt;
 use topology_tree::Forest;
 
 /// Why a command may not begin.
@@ -39,6 +40,15 @@ impl From<Memory> for PermitFault {
 
     fn from(_e: Memory) -> PermitFault {
         PermitFault::Memory
+    }
+}
+
+impl fmt::Display for PermitFault {
+    fn fmt<W: fmt::Write>(&self, f: &mut fmt::Formatter<W>) -> fmt::Result {
+        match self {
+            PermitFault::Refused(refusal) => write!(f, "refused {}", refusal.number()),
+            PermitFault::Memory => write!(f, "out of memory"),
+        }
     }
 }
 

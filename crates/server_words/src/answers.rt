@@ -1,6 +1,7 @@
 //! What the exchanges answer.
 
 use binlog_coords::Coord;
+use std::fmt;
 
 /// The answer to an ordinary client's write.
 #[derive(Clone, Copy, Debug, PartialEq, Eq)]
@@ -65,3 +66,9 @@ pub enum RotateAnswer {
 /// Orchestrator doesn't reach the server: it is down, or its link to the desk is cut.
 #[derive(Clone, Copy, Debug, PartialEq, Eq)]
 pub struct Unreachable;
+
+impl fmt::Display for Unreachable {
+    fn fmt<W: fmt::Write>(&self, f: &mut fmt::Formatter<W>) -> fmt::Result {
+        write!(f, "the server isn't reached")
+    }
+}

@@ -6,6 +6,7 @@ ghost use Rattle.server_words.specs.declared.attach.AttachFault.TheVariants.{Mem
 use binlog_coords::Coord;
 use gtid_sets::GtidSet;
 use orch_base::{Memory, ServerNo};
+use std::fmt;
 
 /// Where a server stands.
 #[derive(Clone, Copy, Debug, PartialEq, Eq)]
@@ -14,6 +15,7 @@ pub enum Spot {
     At(ServerNo, Coord),
     /// At this end of its own log.
     OwnEnd(Coord),
+    /// Without a source or a log.
     Nowhere,
 }
 
@@ -39,5 +41,23 @@ impl From<Memory> for AttachFault {
 
     fn from(_e: Memory) -> AttachFault {
         AttachFault::Memory
+    }
+}
+
+impl fmt::Display for AttachFault {
+    fn fmt<W: fmt::Write>(&self, f: &mut fmt::Formatter<W>) -> fmt::Result {
+        match self {
+            AttachFault::Unreachable => write!(f, "the server isn't reached"),
+            AttachFault::Running(_) => write!(f, "a thread of the server is on"),
+            AttachFault::Interfered(_, _) => write!(f, "the server stands elsewhere than expected"),
+            AttachFault::Loop => write!(f, "the new source is the server itself or below it"),
+            AttachFault::Errant(_) => {
+                write!(
+                    f,
+                    "the server has executed what wasn't seen of its new source"
+                )
+            }
+            AttachFault::Memory => write!(f, "out of memory"),
+        }
     }
 }

@@ -6,6 +6,7 @@ ghost use Rattle.server_words.specs.declared.status.StatusFault.TheVariants.{Mem
 use binlog_coords::Coord;
 use gtid_sets::GtidSet;
 use orch_base::{IoState, Memory, SourceState};
+use std::fmt;
 
 /// A server as one exchange shows it (MySQL 8.0 Reference Manual, "SHOW REPLICA STATUS Statement", "SHOW BINARY LOG
 /// STATUS Statement").
@@ -88,5 +89,14 @@ impl From<Memory> for StatusFault {
 
     fn from(_e: Memory) -> StatusFault {
         StatusFault::Memory
+    }
+}
+
+impl fmt::Display for StatusFault {
+    fn fmt<W: fmt::Write>(&self, f: &mut fmt::Formatter<W>) -> fmt::Result {
+        match self {
+            StatusFault::Unreachable => write!(f, "the server isn't reached"),
+            StatusFault::Memory => write!(f, "out of memory"),
+        }
     }
 }

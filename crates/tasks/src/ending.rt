@@ -1,5 +1,7 @@
 //! How a task ends.
 
+use std::fmt;
+
 /// How a task ends.
 #[derive(Clone, Copy, Debug, PartialEq, Eq)]
 pub enum Ending {
@@ -11,4 +13,16 @@ pub enum Ending {
     Keeper,
     /// Want of memory.
     Memory,
+}
+
+impl fmt::Display for Ending {
+    fn fmt<W: fmt::Write>(&self, f: &mut fmt::Formatter<W>) -> fmt::Result {
+        match self {
+            Ending::Written(false) => write!(f, "done"),
+            Ending::Written(true) => write!(f, "refused"),
+            Ending::Unwritten => write!(f, "write fault"),
+            Ending::Keeper => write!(f, "keeper fault"),
+            Ending::Memory => write!(f, "out of memory"),
+        }
+    }
 }
