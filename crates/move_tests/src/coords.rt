@@ -4,6 +4,7 @@ use crate::cases::{Case, assert_cases};
 use crate::made::{
     Server, auto, detached, leased, master, old, replica, unreached, with_set, without_log,
 };
+use orch_base::Moment;
 use std::alloc::Global;
 use std::test::*;
 
@@ -97,13 +98,13 @@ const MOVE_UP: [Case; 15] = [
         "r",
         "u",
         true,
-        "rs: stop r;stop s;status s m;status r s;until r end of s;await r end of s;stop r;up r s;start r;start s;status r;finish r < m;",
+        "rs: stop r; stop s; status s m; status r s; until r end of s; await r end of s; stop r; up r s; start r; start s; status r; finish r < m;",
     ),
 ];
 
 #[test]
 fn move_up(rt: HostRuntime) -> Result<(), Fail> {
-    assert_cases(&rt, rt.alloc(), &servers(rt.alloc())?, &MOVE_UP)
+    assert_cases(&rt, rt.alloc(), &servers(rt.alloc())?, Moment(0), &MOVE_UP)
 }
 
 const MOVE_BELOW: [Case; 19] = [
@@ -130,13 +131,19 @@ const MOVE_BELOW: [Case; 19] = [
         "s",
         "t",
         false,
-        "st: stop s;stop t;status s m;status t m;until s exec of t;await s exec of t;until t exec of s;await t exec of s;stop s;stop t;status t m;down s t;start t;start s;status s;finish s < t;",
+        "st: stop s; stop t; status s m; status t m; until s exec of t; await s exec of t; until t exec of s; await t exec of s; stop s; stop t; status t m; down s t; start t; start s; status s; finish s < t;",
     ),
 ];
 
 #[test]
 fn move_below(rt: HostRuntime) -> Result<(), Fail> {
-    assert_cases(&rt, rt.alloc(), &servers(rt.alloc())?, &MOVE_BELOW)
+    assert_cases(
+        &rt,
+        rt.alloc(),
+        &servers(rt.alloc())?,
+        Moment(0),
+        &MOVE_BELOW,
+    )
 }
 
 const REPOINT: [Case; 23] = [
@@ -156,21 +163,21 @@ const REPOINT: [Case; 23] = [
         "y",
         "",
         false,
-        "y: stop y;status y u;same y;start y;status y;finish y < u;",
+        "y: stop y; status y u; same y; start y; status y; finish y < u;",
     ),
     (
         "repoint",
         "r",
         "",
         true,
-        "r: stop r;status r s;same r;start r;status r;finish r < s;",
+        "r: stop r; status r s; same r; start r; status r; finish r < s;",
     ),
     (
         "repoint",
         "r",
         "s",
         false,
-        "r: stop r;status r s;same r;start r;status r;finish r < s;",
+        "r: stop r; status r s; same r; start r; status r; finish r < s;",
     ),
     ("repoint", "f", "z", true, "9"),
     ("repoint", "g", "j", true, "10"),
@@ -196,20 +203,20 @@ const REPOINT: [Case; 23] = [
         "f",
         "t",
         true,
-        "f: stop f;status f;await-set t f;status t;auto f t;start f;status f;finish f < t;",
+        "f: stop f; status f; await-set t f; status t; auto f t; start f; status f; finish f < t;",
     ),
     (
         "repoint",
         "f",
         "",
         true,
-        "f: stop f;status f;await-set m f;status m;auto f m;start f;status f;finish f < m;",
+        "f: stop f; status f; await-set m f; status m; auto f m; start f; status f; finish f < m;",
     ),
 ];
 
 #[test]
 fn repoint(rt: HostRuntime) -> Result<(), Fail> {
-    assert_cases(&rt, rt.alloc(), &servers(rt.alloc())?, &REPOINT)
+    assert_cases(&rt, rt.alloc(), &servers(rt.alloc())?, Moment(0), &REPOINT)
 }
 
 const SINGLE_SERVERS: [Case; 43] = [
@@ -223,7 +230,7 @@ const SINGLE_SERVERS: [Case; 43] = [
         "r",
         "",
         false,
-        "r: detach r;status r;finish r;",
+        "r: detach r; status r; finish r;",
     ),
     ("reattach-replica", "u", "", false, "2"),
     ("reattach-replica", "h", "", false, "4 h 7"),
@@ -235,7 +242,7 @@ const SINGLE_SERVERS: [Case; 43] = [
         "x",
         "",
         false,
-        "x: reattach x;start x;status x;finish x;",
+        "x: reattach x; start x; status x; finish x;",
     ),
     ("reset-replica", "u", "", false, "2"),
     ("reset-replica", "h", "", false, "4 h 7"),
@@ -246,7 +253,7 @@ const SINGLE_SERVERS: [Case; 43] = [
         "x",
         "",
         false,
-        "x: reset x;status x;finish x;",
+        "x: reset x; status x; finish x;",
     ),
     ("start-replica", "u", "", false, "2"),
     ("start-replica", "h", "", false, "4 h 7"),
@@ -258,7 +265,7 @@ const SINGLE_SERVERS: [Case; 43] = [
         "r",
         "",
         false,
-        "r: start r;status r;finish r;",
+        "r: start r; status r; finish r;",
     ),
     ("stop-replica", "u", "", false, "2"),
     ("stop-replica", "h", "", false, "4 h 7"),
@@ -270,7 +277,7 @@ const SINGLE_SERVERS: [Case; 43] = [
         "r",
         "",
         false,
-        "r: stop r;status r;finish r;",
+        "r: stop r; status r; finish r;",
     ),
     ("restart-replica", "u", "", false, "2"),
     ("restart-replica", "h", "", false, "4 h 7"),
@@ -282,7 +289,7 @@ const SINGLE_SERVERS: [Case; 43] = [
         "r",
         "",
         false,
-        "r: stop r;start r;status r;finish r;",
+        "r: stop r; start r; status r; finish r;",
     ),
     ("set-read-only", "u", "", false, "2"),
     ("set-read-only", "h", "", false, "4 h 7"),
@@ -292,7 +299,7 @@ const SINGLE_SERVERS: [Case; 43] = [
         "m",
         "",
         false,
-        "m: read-only m;status m;finish m;",
+        "m: read-only m; status m; finish m;",
     ),
     ("set-writeable", "u", "", false, "2"),
     ("set-writeable", "h", "", false, "4 h 7"),
@@ -302,11 +309,17 @@ const SINGLE_SERVERS: [Case; 43] = [
         "x",
         "",
         false,
-        "x: writeable x;status x;finish x;",
+        "x: writeable x; status x; finish x;",
     ),
 ];
 
 #[test]
 fn single_servers(rt: HostRuntime) -> Result<(), Fail> {
-    assert_cases(&rt, rt.alloc(), &servers(rt.alloc())?, &SINGLE_SERVERS)
+    assert_cases(
+        &rt,
+        rt.alloc(),
+        &servers(rt.alloc())?,
+        Moment(0),
+        &SINGLE_SERVERS,
+    )
 }

@@ -4,6 +4,7 @@ use crate::cases::{Case, assert_cases};
 use crate::made::{
     Server, detached, leased, master, old, replica, unreached, with_set, without_log,
 };
+use orch_base::Moment;
 use std::alloc::Global;
 use std::test::*;
 
@@ -115,27 +116,33 @@ const MOVE_GTID: [Case; 19] = [
         "a",
         "b",
         true,
-        "ab: stop a;status a;await-set b a;status b;auto a b;start a;status a;finish a < b;",
+        "ab: stop a; status a; await-set b a; status b; auto a b; start a; status a; finish a < b;",
     ),
     (
         "move-gtid",
         "x",
         "a",
         true,
-        "xa: stop x;status x;await-set a x;status a;auto x a;start x;status x;finish x < a;",
+        "xa: stop x; status x; await-set a x; status a; auto x a; start x; status x; finish x < a;",
     ),
     (
         "move-gtid",
         "n",
         "a",
         true,
-        "na: stop n;status n;await-set a n;status a;auto n a;start n;status n;finish n < a;",
+        "na: stop n; status n; await-set a n; status a; auto n a; start n; status n; finish n < a;",
     ),
 ];
 
 #[test]
 fn move_gtid(rt: HostRuntime) -> Result<(), Fail> {
-    assert_cases(&rt, rt.alloc(), &servers(rt.alloc())?, &MOVE_GTID)
+    assert_cases(
+        &rt,
+        rt.alloc(),
+        &servers(rt.alloc())?,
+        Moment(0),
+        &MOVE_GTID,
+    )
 }
 
 const MOVE_REPLICAS_GTID: [Case; 21] = [
@@ -175,20 +182,26 @@ const MOVE_REPLICAS_GTID: [Case; 21] = [
         "p",
         "p1",
         true,
-        "p2p1: stop p2;status p2;await-set p1 p2;status p1;auto p2 p1;start p2;status p2;finish p2 < p1;",
+        "p2p1: stop p2; status p2; await-set p1 p2; status p1; auto p2 p1; start p2; status p2; finish p2 < p1;",
     ),
     (
         "move-replicas-gtid",
         "p",
         "a",
         true,
-        "p1p2a: stop p1;status p1;await-set a p1;status a;auto p1 a;start p1;status p1;stop p2;status p2;await-set a p2;status a;auto p2 a;start p2;status p2;finish p1 < a p2 < a;",
+        "p1p2a: stop p1; status p1; await-set a p1; status a; auto p1 a; start p1; status p1; stop p2; status p2; await-set a p2; status a; auto p2 a; start p2; status p2; finish p1 < a p2 < a;",
     ),
 ];
 
 #[test]
 fn move_replicas_gtid(rt: HostRuntime) -> Result<(), Fail> {
-    assert_cases(&rt, rt.alloc(), &servers(rt.alloc())?, &MOVE_REPLICAS_GTID)
+    assert_cases(
+        &rt,
+        rt.alloc(),
+        &servers(rt.alloc())?,
+        Moment(0),
+        &MOVE_REPLICAS_GTID,
+    )
 }
 
 const ENABLE_GTID: [Case; 11] = [
@@ -213,13 +226,19 @@ const ENABLE_GTID: [Case; 11] = [
         "c",
         "",
         true,
-        "ca: stop c;status c a;status a;auto c a;start c;status c;finish c;",
+        "ca: stop c; status c a; status a; auto c a; start c; status c; finish c;",
     ),
 ];
 
 #[test]
 fn enable_gtid(rt: HostRuntime) -> Result<(), Fail> {
-    assert_cases(&rt, rt.alloc(), &servers(rt.alloc())?, &ENABLE_GTID)
+    assert_cases(
+        &rt,
+        rt.alloc(),
+        &servers(rt.alloc())?,
+        Moment(0),
+        &ENABLE_GTID,
+    )
 }
 
 const DISABLE_GTID: [Case; 8] = [
@@ -234,18 +253,24 @@ const DISABLE_GTID: [Case; 8] = [
         "b",
         "",
         true,
-        "b: stop b;status b m;same b;start b;status b;finish b;",
+        "b: stop b; status b m; same b; start b; status b; finish b;",
     ),
     (
         "disable-gtid",
         "h1",
         "",
         true,
-        "h1: stop h1;status h1 h;same h1;start h1;status h1;finish h1;",
+        "h1: stop h1; status h1 h; same h1; start h1; status h1; finish h1;",
     ),
 ];
 
 #[test]
 fn disable_gtid(rt: HostRuntime) -> Result<(), Fail> {
-    assert_cases(&rt, rt.alloc(), &servers(rt.alloc())?, &DISABLE_GTID)
+    assert_cases(
+        &rt,
+        rt.alloc(),
+        &servers(rt.alloc())?,
+        Moment(0),
+        &DISABLE_GTID,
+    )
 }

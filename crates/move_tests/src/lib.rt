@@ -1,4 +1,5 @@
-//! Tests of the commands that move servers: what refuses each, and the operations of its plan.
+//! Tests of the commands that move servers and take them along paths: what refuses each, and the operations of its plan;
+//! and of what refuses a regroup.
 #![tactic(auto)]
 
 #[cfg(test)]
@@ -11,5 +12,9 @@ mod gtids;
 mod lists;
 #[cfg(test)]
 mod made;
+#[cfg(test)]
+mod paths;
+#[cfg(test)]
+mod refusals;
 #[cfg(test)]
 mod told;

@@ -2,6 +2,7 @@
 
 use crate::cases::{Case, assert_cases};
 use crate::made::{Server, detached, leased, master, old, replica, unreached, without_log};
+use orch_base::Moment;
 use std::alloc::Global;
 use std::test::*;
 
@@ -136,13 +137,19 @@ const MOVE_UP_REPLICAS: [Case; 16] = [
         "s",
         "",
         false,
-        "sbr: stop b;stop s;status s m;status b s;until b end of s;await b end of s;stop b;up b s;start b;start s;status b;stop r;stop s;status s m;status r s;until r end of s;await r end of s;stop r;up r s;start r;start s;status r;finish b < m r < m;",
+        "sbr: stop b; stop s; status s m; status b s; until b end of s; await b end of s; stop b; up b s; start b; start s; status b; stop r; stop s; status s m; status r s; until r end of s; await r end of s; stop r; up r s; start r; start s; status r; finish b < m r < m;",
     ),
 ];
 
 #[test]
 fn move_up_replicas(rt: HostRuntime) -> Result<(), Fail> {
-    assert_cases(&rt, rt.alloc(), &servers(rt.alloc())?, &MOVE_UP_REPLICAS)
+    assert_cases(
+        &rt,
+        rt.alloc(),
+        &servers(rt.alloc())?,
+        Moment(0),
+        &MOVE_UP_REPLICAS,
+    )
 }
 
 const TAKE_SIBLINGS: [Case; 19] = [
@@ -168,20 +175,26 @@ const TAKE_SIBLINGS: [Case; 19] = [
         "o",
         "",
         false,
-        "oe: stop e;stop o;status e k;status o k;until e exec of o;await e exec of o;until o exec of e;await o exec of e;stop e;stop o;status o k;down e o;start o;start e;status e;finish e < o;",
+        "oe: stop e; stop o; status e k; status o k; until e exec of o; await e exec of o; until o exec of e; await o exec of e; stop e; stop o; status o k; down e o; start o; start e; status e; finish e < o;",
     ),
     (
         "take-siblings",
         "r",
         "",
         false,
-        "rb: stop b;stop r;status b s;status r s;until b exec of r;await b exec of r;until r exec of b;await r exec of b;stop b;stop r;status r s;down b r;start r;start b;status b;finish b < r;",
+        "rb: stop b; stop r; status b s; status r s; until b exec of r; await b exec of r; until r exec of b; await r exec of b; stop b; stop r; status r s; down b r; start r; start b; status b; finish b < r;",
     ),
 ];
 
 #[test]
 fn take_siblings(rt: HostRuntime) -> Result<(), Fail> {
-    assert_cases(&rt, rt.alloc(), &servers(rt.alloc())?, &TAKE_SIBLINGS)
+    assert_cases(
+        &rt,
+        rt.alloc(),
+        &servers(rt.alloc())?,
+        Moment(0),
+        &TAKE_SIBLINGS,
+    )
 }
 
 const TAKE_MASTER: [Case; 22] = [
@@ -210,18 +223,24 @@ const TAKE_MASTER: [Case; 22] = [
         "r",
         "",
         false,
-        "rs: stop r;stop s;status s m;status r s;until r end of s;await r end of s;stop r;status r s;up r s;about s r;start r;start s;status r;status s;finish r < m s < r;",
+        "rs: stop r; stop s; status s m; status r s; until r end of s; await r end of s; stop r; status r s; up r s; about s r; start r; start s; status r; status s; finish r < m s < r;",
     ),
     (
         "take-master",
         "l2",
         "",
         false,
-        "l2l1: stop l2;stop l1;status l1 l;status l2 l1;until l2 end of l1;await l2 end of l1;stop l2;status l2 l1;up l2 l1;about l1 l2;start l2;start l1;status l2;status l1;finish l2 < l l1 < l2;",
+        "l2l1: stop l2; stop l1; status l1 l; status l2 l1; until l2 end of l1; await l2 end of l1; stop l2; status l2 l1; up l2 l1; about l1 l2; start l2; start l1; status l2; status l1; finish l2 < l l1 < l2;",
     ),
 ];
 
 #[test]
 fn take_master(rt: HostRuntime) -> Result<(), Fail> {
-    assert_cases(&rt, rt.alloc(), &servers(rt.alloc())?, &TAKE_MASTER)
+    assert_cases(
+        &rt,
+        rt.alloc(),
+        &servers(rt.alloc())?,
+        Moment(0),
+        &TAKE_MASTER,
+    )
 }

@@ -6,11 +6,11 @@ ghost use Rattle.openings.specs.Servers.{parts_of};
 
 use binlog_coords::Coord;
 use gtid_sets::GtidSet;
-use instance_keeper::{Book, Instance, Row};
+use instance_keeper::{Book, Candidate, Instance, Row};
 use made_openings::are_listed;
 use opening_checks::CheckedOpening;
 use openings::{Counts, Opening, ServerInit, parts_of};
-use orch_base::{IoState, Moment, Name, OwnedText, ServerNo, Settings, SourceState, Version};
+use orch_base::{IoState, Moment, Name, OwnedText, Rule, ServerNo, Settings, SourceState, Version};
 use server_model::World;
 use server_words::Status;
 use std::alloc::Global;
@@ -32,6 +32,7 @@ pub(crate) struct Server<'a> {
     pub(crate) auto: bool,
     pub(crate) set: &'a str,
     pub(crate) lease: Option<u64>,
+    pub(crate) rule: Option<Rule>,
 }
 
 /// A valid instance of this name without a source.
@@ -48,6 +49,7 @@ pub(crate) fn master(name: &str, id: u32) -> Server<'_> {
         auto: false,
         set: "",
         lease: None,
+        rule: None,
     }
 }
 
@@ -108,6 +110,14 @@ pub(crate) fn with_set<'a>(server: Server<'a>, set: &'a str) -> Server<'a> {
 pub(crate) fn auto(server: Server<'_>) -> Server<'_> {
     Server {
         auto: true,
+        ..server
+    }
+}
+
+/// The server, with a rule of promotion until moment 10.
+pub(crate) fn with_rule(server: Server<'_>, rule: Rule) -> Server<'_> {
+    Server {
+        rule: Some(rule),
         ..server
     }
 }
@@ -184,6 +194,13 @@ pub(crate) fn book_of(
         all.push(settings(alloc, server, k as u32)?)?;
         if server.known {
             rows.push(row(alloc, server, ServerNo(k as u32))?)?;
+        }
+        if let Some(rule) = server.rule {
+            rows.push(Row::Candidate(Candidate {
+                no: ServerNo(k as u32),
+                rule,
+                until: Moment(10),
+            }))?;
         }
     }
     assert!(rt; all.len() <= 1000);

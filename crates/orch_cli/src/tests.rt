@@ -240,7 +240,7 @@ fn answers(rt: HostRuntime) -> Result<(), Fail> {
         let mut err = MemSink::new(alloc, 100, Vec::new(alloc))?;
         let words = words_of(alloc, words)?;
         let mut keeper = keeper_failing(alloc, 0)?;
-        let result = orch(alloc, &words, &mut source, &mut out, &mut err, &mut keeper);
+        let result = status_of(alloc, &words, &mut source, &mut out, &mut err, &mut keeper);
         assert_eq!(rt; str::from_utf8(err.written()).ok(), Some(err_bytes));
         assert_eq!(rt;
             str::from_utf8(out.written()).ok(),
@@ -250,6 +250,18 @@ fn answers(rt: HostRuntime) -> Result<(), Fail> {
         assert_eq!(rt; result, status, "after {err_bytes}");
     }
     Ok(())
+}
+
+// The status of a call. What the call's contract says ends here, so that the proof of a test carries none of it.
+pub(crate) fn status_of(
+    alloc: Global,
+    words: &[Vec<u8>],
+    source: &mut MemSource,
+    out: &mut MemSink,
+    err: &mut MemSink,
+    keeper: &mut MemKeeper,
+) -> u8 {
+    orch(alloc, words, source, out, err, keeper)
 }
 
 // What a call answers: its status, and what out and err took of at most so many bytes.
@@ -264,7 +276,7 @@ pub(crate) fn call(
     let mut out = MemSink::new(alloc, 2000, Vec::new(alloc))?;
     let mut err = MemSink::new(alloc, err_room, Vec::new(alloc))?;
     let mut keeper = keeper_failing(alloc, 0)?;
-    let status = orch(alloc, words, &mut source, &mut out, &mut err, &mut keeper);
+    let status = status_of(alloc, words, &mut source, &mut out, &mut err, &mut keeper);
     Ok((status, out, err))
 }
 
@@ -472,7 +484,7 @@ fn failed_writes(rt: HostRuntime) -> Result<(), Fail> {
         let mut err = MemSink::new(alloc, 100, Vec::new(alloc))?;
         let words = words_of(alloc, RUN)?;
         let mut keeper = keeper_failing(alloc, 0)?;
-        let result = orch(alloc, &words, &mut source, &mut out, &mut err, &mut keeper);
+        let result = status_of(alloc, &words, &mut source, &mut out, &mut err, &mut keeper);
         assert_eq!(rt; result, status);
         assert_eq!(rt; out.written().len(), taken);
         assert!(rt; CAUGHT_UP.as_bytes().starts_with(out.written()));
@@ -502,7 +514,7 @@ fn out_fails_in_the_midst(rt: HostRuntime) -> Result<(), Fail> {
     let mut err = MemSink::new(alloc, 100, Vec::new(alloc))?;
     let words = words_of(alloc, RUN)?;
     let mut keeper = keeper_failing(alloc, 0)?;
-    let result = orch(alloc, &words, &mut source, &mut out, &mut err, &mut keeper);
+    let result = status_of(alloc, &words, &mut source, &mut out, &mut err, &mut keeper);
     assert_eq!(rt; result, 4);
     assert_eq!(rt; str::from_utf8(err.written()).ok(), Some("write fault\n"));
     assert_eq!(rt; out.written().len(), 100);
@@ -525,7 +537,7 @@ fn one_byte_too_many(rt: HostRuntime) -> Result<(), Fail> {
     let mut err = MemSink::new(alloc, 100, Vec::new(alloc))?;
     let words = words_of(alloc, RUN)?;
     let mut keeper = keeper_failing(alloc, 0)?;
-    let result = orch(alloc, &words, &mut source, &mut out, &mut err, &mut keeper);
+    let result = status_of(alloc, &words, &mut source, &mut out, &mut err, &mut keeper);
     assert_eq!(rt; result, 2);
     assert_eq!(rt;
         str::from_utf8(err.written()).ok(),
@@ -558,7 +570,7 @@ fn keeper_fails(rt: HostRuntime) -> Result<(), Fail> {
         let mut err = MemSink::new(alloc, 100, Vec::new(alloc))?;
         let mut keeper = keeper_failing(alloc, keeper_fails)?;
         let words = words_of(alloc, RUN)?;
-        let result = orch(alloc, &words, &mut source, &mut out, &mut err, &mut keeper);
+        let result = status_of(alloc, &words, &mut source, &mut out, &mut err, &mut keeper);
         assert_eq!(rt; result, status, "at {keeper_fails}");
         assert_eq!(rt; str::from_utf8(out.written()).ok(), Some(out_bytes));
         assert_eq!(rt; str::from_utf8(err.written()).ok(), Some(err_bytes));
@@ -604,7 +616,7 @@ fn hostile_rows_stay(rt: HostRuntime) -> Result<(), Fail> {
     let mut out = MemSink::new(alloc, 2000, Vec::new(alloc))?;
     let mut err = MemSink::new(alloc, 100, Vec::new(alloc))?;
     let words = words_of(alloc, RUN)?;
-    let result = orch(alloc, &words, &mut source, &mut out, &mut err, &mut keeper);
+    let result = status_of(alloc, &words, &mut source, &mut out, &mut err, &mut keeper);
     assert_eq!(rt; result, 0);
     assert!(rt;
         out.written().starts_with(b"1 poll-read 1 m:3306: read 41\n2 poll-read 1 r:3306: unknown\n")
@@ -631,7 +643,7 @@ fn nothing_is_kept_anew(rt: HostRuntime) -> Result<(), Fail> {
     let mut out = MemSink::new(alloc, 2000, Vec::new(alloc))?;
     let mut err = MemSink::new(alloc, 100, Vec::new(alloc))?;
     let words = words_of(alloc, RUN)?;
-    let result = orch(alloc, &words, &mut source, &mut out, &mut err, &mut keeper);
+    let result = status_of(alloc, &words, &mut source, &mut out, &mut err, &mut keeper);
     assert_eq!(rt; str::from_utf8(out.written()).ok(), Some(CAUGHT_UP));
     assert!(rt; err.written().is_empty());
     assert_eq!(rt; result, 0);

@@ -1,7 +1,6 @@
 //! Decisions, the analysis and the audit, by the rows that the keeper has.
 
-use crate::tests::{row, words_of};
-use crate::top::orch;
+use crate::tests::{row, status_of, words_of};
 use instance_keeper::{Candidate, Change, Downtime, Keeper, MemKeeper, Recovery, Row};
 use orch_base::{Ending, Kind, MemSink, MemSource, Moment, OwnedText, Rule, ServerNo};
 use std::alloc::Global;
@@ -22,7 +21,7 @@ fn call(
     let mut source = MemSource::new(text, Vec::new(alloc));
     let mut out = MemSink::new(alloc, 4000, Vec::new(alloc))?;
     let mut err = MemSink::new(alloc, 100, Vec::new(alloc))?;
-    let status = orch(alloc, &words, &mut source, &mut out, &mut err, keeper);
+    let status = status_of(alloc, &words, &mut source, &mut out, &mut err, keeper);
     Ok((status, out, err))
 }
 

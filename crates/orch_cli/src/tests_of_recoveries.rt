@@ -1,5 +1,4 @@
-use crate::tests::{call, words_of};
-use crate::top::orch;
+use crate::tests::{call, status_of, words_of};
 use instance_keeper::MemKeeper;
 use orch_base::{MemSink, MemSource};
 use std::test::Fail;
@@ -322,7 +321,7 @@ fn a_recovery_is_not_reached(rt: HostRuntime) -> Result<(), Fail> {
     let mut out = MemSink::new(alloc, 2000, Vec::new(alloc))?;
     let mut err = MemSink::new(alloc, 100, Vec::new(alloc))?;
     let mut keeper = MemKeeper::new(alloc, Vec::new(alloc), vec![in alloc; 3]?)?;
-    let status = orch(alloc, &words, &mut source, &mut out, &mut err, &mut keeper);
+    let status = status_of(alloc, &words, &mut source, &mut out, &mut err, &mut keeper);
     assert_eq!(rt;
         str::from_utf8(out.written()).ok(),
         Some("1 fail m:3306: done\n2 poll-read 0 a:3306: read 1\n")
