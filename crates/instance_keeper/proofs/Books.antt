@@ -1,9 +1,10 @@
 -- What keeps a book a book.
 use Rattle.std.proofs.Common.{◌≡◌, ℕ, suc, zero, ◌+◌, ◌<◌, ◌^◌, Bool, true, false, List, [], ◌∷◌, length, get_or, replicate, Option, None, Some, refl, sym, ap, ◌∙◌, subst, All, zero-add, add-zero, arith}
-use Rattle.std.specs.Prelude.{◌&&◌, nat_lt, IfSome, slice_set, option_map, unwrap_or}
+use Rattle.std.specs.Prelude.{◌&&◌, nat_lt, IfSome, slice_get, slice_set, option_map, unwrap_or}
 use Rattle.std.proofs.lemmas.List.{length-set, length-replicate, length-map}
 use Rattle.std.proofs.lemmas.List.Elements.{All-set, All-replicate, All-head, All-tail}
 use Rattle.std.proofs.lemmas.Bool.{ltb-true}
+use Rattle.std.proofs.lemmas.Option.{get_or_from_slice_get}
 use Rattle.orch_base.specs.declared.server.ServerNo.{ServerNo}
 use Rattle.orch_base.specs.declared.server.Settings.{Settings}
 use Rattle.instance_keeper.specs.declared.observation.Observation.{Observation}
@@ -244,30 +245,27 @@ set_twice (z ∷ zs) (suc n) x y = ap (λ l. z ∷ l) (set_twice zs n x y)
 abbrev pub renewed_at : BookState → Observation → Option Instance
 renewed_at b o = option_map (λ i. renewed i o) (instance_at b o.no)
 
-renewal_values : (b : BookState) (o : Observation) (kept : Option Instance) (between now : List (Option Instance))
-    → kept ≡ instance_at b o.no → between ≡ slice_set b.instances o.no.0 None → now ≡ slice_set between o.no.0 (option_map (λ i. renewed i o) kept)
+renewal_values : (b : BookState) (o : Observation) (place next : Option Instance) (now : List (Option Instance))
+    → slice_get b.instances o.no.0 ≡ Some place → next ≡ option_map (λ i. renewed i o) place → now ≡ slice_set b.instances o.no.0 next
     → now ≡ slice_set b.instances o.no.0 (renewed_at b o)
-renewal_values b o kept between now k e1 e2 =
-    e2 ∙ (ap (λ l. slice_set l o.no.0 (option_map (λ i. renewed i o) kept)) e1
-    ∙ (set_twice b.instances o.no.0 None (option_map (λ i. renewed i o) kept)
-    ∙ ap (λ q. slice_set b.instances o.no.0 (option_map (λ i. renewed i o) q)) k))
+renewal_values b o place next now at n e =
+    e ∙ ap (slice_set b.instances o.no.0) (n ∙ ap (λ q. option_map (λ i. renewed i o) q) (sym (get_or_from_slice_get b.instances o.no.0 place None at)))
 
-pub renewal_kept : (b view : BookState) (o : Observation) (kept next : Option Instance) (between now : List (Option Instance)) → b ≡ view → IsBook b → are_known (length view.names) (observed_servers o) ≡ true
-    → kept ≡ instance_at b o.no → between ≡ slice_set b.instances o.no.0 None → next ≡ option_map (λ i. renewed i o) kept → now ≡ slice_set between o.no.0 next
+pub renewal_kept : (b view : BookState) (o : Observation) (place next : Option Instance) (now : List (Option Instance)) → b ≡ view → IsBook b → are_known (length view.names) (observed_servers o) ≡ true
+    → slice_get b.instances o.no.0 ≡ Some place → next ≡ option_map (λ i. renewed i o) place → now ≡ slice_set b.instances o.no.0 next
     → IsBook (record b { instances = now })
-renewal_kept b view o kept next between now same is h k e1 n e2 =
+renewal_kept b view o place next now same is h at n e =
     let h2 : are_known (length b.names) (observed_servers o) ≡ true = subst (λ v. are_known (length v.names) (observed_servers o) ≡ true) (sym same) h in
     let g : are_known (length b.names) (seen_servers o.seen) ≡ true = rest_known (length b.names) o.no.0 (seen_servers o.seen) h2 in
-    let e : now ≡ slice_set b.instances o.no.0 (renewed_at b o) = renewal_values b o kept between now k e1 (e2 ∙ ap (slice_set between o.no.0) n) in
-    subst (λ l. IsBook (record b { instances = l })) (sym e)
+    subst (λ l. IsBook (record b { instances = l })) (sym (renewal_values b o place next now at n e))
     (instance_set b o.no.0 (renewed_at b o) is (renewed_own o (instance_at b o.no)) (renewed_known (length b.names) o (instance_at b o.no) (known_at b o.no.0 is) g))
 
-pub renewal_gives : (b view : BookState) (o : Observation) (kept next : Option Instance) (between now : List (Option Instance)) → b ≡ view
-    → kept ≡ instance_at b o.no → between ≡ slice_set b.instances o.no.0 None → next ≡ option_map (λ i. renewed i o) kept → now ≡ slice_set between o.no.0 next
+pub renewal_gives : (b view : BookState) (o : Observation) (place next : Option Instance) (now : List (Option Instance)) → b ≡ view
+    → slice_get b.instances o.no.0 ≡ Some place → next ≡ option_map (λ i. renewed i o) place → now ≡ slice_set b.instances o.no.0 next
     → record b { instances = now } ≡ record view { instances = slice_set view.instances o.no.0 (renewed_at view o) }
-renewal_gives b view o kept next between now same k e1 n e2 =
-    let e : now ≡ slice_set b.instances o.no.0 (renewed_at b o) = renewal_values b o kept between now k e1 (e2 ∙ ap (slice_set between o.no.0) n) in
-    ap (λ (l : List (Option Instance)). record b { instances = l }) e ∙ ap (λ (v : BookState). record v { instances = slice_set v.instances o.no.0 (renewed_at v o) }) same
+renewal_gives b view o place next now same at n e =
+    ap (λ (l : List (Option Instance)). record b { instances = l }) (renewal_values b o place next now at n e)
+    ∙ ap (λ (v : BookState). record v { instances = slice_set v.instances o.no.0 (renewed_at v o) }) same
 
 pub change_is : (b : BookState) (c : Change) → IsBook b → fits (length b.names) c ≡ true → IsBook (after_change b c)
 change_is b (change.Put r) is h = put_is b r is h

@@ -1,11 +1,11 @@
 -- A book has no row in the table of recoveries.
-use Rattle.std.proofs.Common.{◌≡◌, ℕ, ◌+◌, ◌*◌, ◌<◌, ◌≤◌, ◌^◌, Bool, true, false, List, [], ◌∷◌, ◌++◌, All, Option, Some, None, refl, sym, ap, ◌∙◌, append_assoc, arith}
-use Rattle.std.specs.Prelude.{◌==◌, if◌then◌else◌}
+use Rattle.std.proofs.Common.{◌≡◌, ℕ, ◌+◌, ◌*◌, ◌<◌, ◌≤◌, ◌^◌, false, List, [], ◌∷◌, ◌++◌, All, None, refl, sym, ap, ◌∙◌, append_assoc, arith}
+use Rattle.std.specs.Prelude.{◌==◌}
 use Rattle.std.proofs.lemmas.List.Elements.{All-append, All-head, All-tail, All-weaker}
 use Rattle.instance_keeper.specs.declared.row.Row.{Row}
 use Rattle.instance_keeper.specs.Rows.{row_in, sort_key_of}
 use Rattle.instance_keeper.specs.Book.{BookState, IsBook, book_rows}
-use Rattle.instance_keeper.proofs.BookLaws.{High, Low, first, last, last_low, second, third, to_third}
+use Rattle.instance_keeper.proofs.BookLaws.{first, last, last_low, second, third, to_third}
 
 abbrev Elsewhere : ℕ → Row → Type 0
 Elsewhere p r = (sort_key_of r == p) ≡ false

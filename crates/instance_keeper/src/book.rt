@@ -21,6 +21,7 @@ use indexmap::IndexMap;
 use orch_base::{Ending, Moment, Name, ServerNo, Settings, SourceState};
 use std::alloc::Global;
 use std::marker::Model;
+use std::mem::replace;
 
 /// What became of an observation.
 #[derive(Clone, Copy, Debug, PartialEq, Eq)]
@@ -68,7 +69,7 @@ fn put_at(instances: &mut Instances, no: u32, instance: Option<Instance>) -> Opt
     ensures values { values instances.new ≡ slice_set (values instances.old) no instance }
     ensures old { result ≡ slice_index_or (values instances.old) no None }
 {
-    instances.insert(no, instance).unwrap().flatten()
+    replace(&mut instances[no as usize], instance)
 }
 
 fn instance_in(instances: &Instances, no: u32) -> Option<&Instance>
@@ -76,46 +77,21 @@ fn instance_in(instances: &Instances, no: u32) -> Option<&Instance>
     requires within { no < length (values instances.now) }
     ensures { option_copied result ≡ slice_index_or (values instances.now) no None }
 {
-    match instances.get(&no) {
-        Some(place) => place.as_ref(),
-        None => None,
-    }
+    instances[no as usize].as_ref()
 }
 
-// What is known after a reading.
-fn renewed(kept: Instance, o: Observation) -> Instance
-    ensures { result ≡ renewed kept o }
+// Renews what is known of an instance, where it stands.
+fn renew_place(place: &mut Option<Instance>, o: Observation)
+    ensures { place.new ≡ option_map (λ i. renewed i o) place.old }
 {
-    let Observation {
-        no,
-        read,
-        moment,
-        seen,
-    } = o;
-    match seen {
-        Some(seen) => Instance {
-            no,
-            read,
-            moment,
-            valid: true,
-            seen,
-        },
-        None => Instance {
-            no,
-            read,
-            moment,
-            valid: false,
-            seen: kept.seen,
-        },
-    }
-}
-
-fn renewed_if(kept: Option<Instance>, o: Observation) -> Option<Instance>
-    ensures { result ≡ option_map (λ i. renewed i o) kept }
-{
-    match kept {
-        Some(kept) => Some(renewed(kept, o)),
-        None => None,
+    if let Some(kept) = place {
+        kept.no = o.no;
+        kept.read = o.read;
+        kept.moment = o.moment;
+        kept.valid = o.seen.is_some();
+        if let Some(seen) = o.seen {
+            kept.seen = seen;
+        }
     }
 }
 
@@ -568,9 +544,8 @@ impl Book {
         requires { are_known (length self.old.names) (observed_servers o) ≡ true }
         ensures { self.new ≡ record self.old { instances = slice_set self.old.instances o.no.0 (option_map (λ i. renewed i o) (instance_at self.old o.no)) } }
     {
-        let no = o.no.0;
-        let kept = put_at(&mut self.instances, no, None);
-        put_at(&mut self.instances, no, renewed_if(kept, o));
+        let no = o.no.0 as usize;
+        renew_place(&mut self.instances[no], o);
     }
 
     /// How storing this reading changes the kept rows: not at all where it isn't stored, or the instance stays equal.

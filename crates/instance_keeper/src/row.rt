@@ -120,6 +120,15 @@ impl Key {
             _ => false,
         }
     }
+
+    /// Where its row stands if each server with a lower number has a row of the first table: past all rows for a key of
+    /// no server.
+    pub(crate) fn guess(self) -> usize {
+        match self {
+            Key::Server(no) => no.0 as usize,
+            Key::Id(_) | Key::Global => usize::MAX,
+        }
+    }
 }
 
 impl SortKey {

@@ -95,6 +95,18 @@ fn add_part(history: &mut Vec<Txn>, counts: &mut [u64], part: &Part, taken: u64)
     }
 }
 
+// A number past the origins of these parts, which are of so many servers.
+fn past_origins(servers: usize, parts: &[Part]) -> usize
+    requires { All (IsPart servers) parts.now }
+    ensures { All (IsPart result) parts.now }
+{
+    let mut past = 0;
+    for part in parts {
+        past = past.max(part.origin.0 as usize + 1);
+    }
+    past
+}
+
 // The first transactions that these parts list, of so many servers.
 fn history_of(
     alloc: Global,
@@ -110,7 +122,8 @@ fn history_of(
     ensures room { IfOk result (λ v. room ≤ vec_capacity v) }
 {
     let mut history = Vec::with_capacity(alloc, room as usize)?;
-    let mut counts = vec![in alloc; 0; servers]?;
+    let origins = past_origins(servers, parts);
+    let mut counts = vec![in alloc; 0; origins]?;
     let own = counts.as_mut_slice();
     for part in parts {
         let taken = part.count.min(count - history.len() as u64);

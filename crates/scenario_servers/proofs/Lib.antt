@@ -5,5 +5,6 @@ pub mod Reading
 pub mod ServerSteps
 pub mod Steps
 pub mod UuidLists
+pub mod UuidTables
 pub mod Zipped
 pub mod TextTables

@@ -4,3 +4,4 @@ pub mod Names
 pub mod Openings
 pub mod Rules
 pub mod Servers
+pub mod UuidTable

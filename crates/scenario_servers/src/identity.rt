@@ -10,7 +10,7 @@ ghost use Rattle.scenario_servers.specs.Servers.{identity_in};
 
 use crate::given::Identity;
 use crate::names::{Names, own_name};
-use crate::uuids::own_uuid;
+use crate::uuids::{Uuids, own_uuid};
 use orch_base::{Name, Version};
 use scenario_values::{FaultCode, ReadFault, fails, maybe_label, number_in, under, version_at};
 use serde_json::Value;
@@ -56,7 +56,7 @@ fn server_id_at(alloc: Global, number: u32, object: &Value) -> Result<u32, ReadF
 pub(crate) fn identity_in(
     alloc: Global,
     names: &Names,
-    uuids: &[Option<u128>],
+    uuids: &Uuids,
     number: u32,
     object: &Value,
 ) -> Result<Identity, ReadFault>

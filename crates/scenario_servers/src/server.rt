@@ -12,6 +12,7 @@ use crate::history::{flushes_in, history_in};
 use crate::identity::identity_in;
 use crate::names::{Names, server_named};
 use crate::rule::maybe_rule;
+use crate::uuids::Uuids;
 use openings::{Counts, Parts};
 use orch_base::ServerNo;
 use scenario_values::{
@@ -174,7 +175,7 @@ fn server_from(
     alloc: Global,
     gtid: bool,
     names: &Names,
-    uuids: &[Option<u128>],
+    uuids: &Uuids,
     number: u32,
     object: &Value,
 ) -> Result<Given, ReadFault>
@@ -207,7 +208,7 @@ pub(crate) fn server_in(
     alloc: Global,
     gtid: bool,
     names: &Names,
-    uuids: &[Option<u128>],
+    uuids: &Uuids,
     number: u32,
     value: &Value,
 ) -> Result<Given, ReadFault>

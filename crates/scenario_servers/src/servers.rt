@@ -10,7 +10,7 @@ ghost use Rattle.scenario_servers.specs.Servers.{server_in, listed_in, servers_i
 use crate::given::Given;
 use crate::names::Names;
 use crate::server::server_in;
-use crate::uuids::listed_uuids;
+use crate::uuids::Uuids;
 use scenario_values::{FaultCode, ReadFault, holds, items_in, under_item};
 use serde_json::Value;
 use std::alloc::Global;
@@ -50,7 +50,7 @@ fn server_at(
     alloc: Global,
     gtid: bool,
     names: &Names,
-    uuids: &[Option<u128>],
+    uuids: &Uuids,
     number: usize,
     value: &Value,
 ) -> Result<Given, ReadFault>
@@ -65,7 +65,7 @@ fn given_in(
     alloc: Global,
     gtid: bool,
     names: &Names,
-    uuids: &[Option<u128>],
+    uuids: &Uuids,
     items: &[Value],
 ) -> Result<Vec<Given>, ReadFault>
     requires { length items.now ≤ 1000 }
@@ -87,7 +87,7 @@ pub fn servers_in(alloc: Global, gtid: bool, value: &Value) -> Result<Listed, Re
 {
     let items = listed_in(alloc, value)?;
     let names = Names::of(alloc, items)?;
-    let uuids = listed_uuids(alloc, items)?;
+    let uuids = Uuids::of(alloc, items)?;
     let given = given_in(alloc, gtid, &names, &uuids, items)?;
     Ok(Listed { names, given })
 }

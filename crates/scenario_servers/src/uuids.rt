@@ -1,17 +1,19 @@
 //! The UUIDs of a scenario's servers.
 
-ghost use Rattle.std.specs.Prelude.{◌≡◌, ◌≤◌, IfOk, codes, length, option_map, take};
-ghost use Rattle.std.specs.List.{list_any};
+ghost use Rattle.std.specs.Prelude.{◌≡◌, IfOk, OnOk, codes, option_map};
 ghost use Rattle.orch_base.specs.Gives.{Gives};
 ghost use Rattle.serde_json.specs.Find.{get};
-ghost use Rattle.serde_json.specs.View.{view, items_view};
+ghost use Rattle.serde_json.specs.View.{view};
 ghost use Rattle.scenario_values.specs.Faults.{fault_of};
-ghost use Rattle.scenario_servers.specs.Names.{uuid_at, read_uuid, listed_uuids, has_uuid, new_uuid, unplaced_uuid, own_uuid};
+ghost use Rattle.scenario_servers.specs.Names.{uuid_at, read_uuid, new_uuid, unplaced_uuid, own_uuid};
+ghost use Rattle.scenario_servers.specs.UuidTable.{AddsUuid};
 
 use orch_base::Memory;
 use scenario_values::{FaultCode, ReadFault, fails, under, uuid_in};
 use serde_json::Value;
 use std::alloc::Global;
+use std::collections::BTreeMap;
+use std::marker::Model;
 
 // The UUID that is given, and else the server's number plus 1.
 fn uuid_at(alloc: Global, number: u32, given: Option<&Value>) -> Result<u128, ReadFault>
@@ -34,44 +36,77 @@ fn listed_uuid(alloc: Global, number: u32, object: &Value) -> Result<Option<u128
     }
 }
 
-/// The UUIDs of the servers that are listed, at most 1,000, each if it reads.
-pub(crate) fn listed_uuids(alloc: Global, items: &[Value]) -> Result<Vec<Option<u128>>, Memory>
-    requires { length items.now ≤ 1000 }
-    ensures { IfOk result (λ uuids. uuids.items ≡ listed_uuids 0 (items_view items.now)) }
-{
-    let mut uuids = Vec::new(alloc);
-    for (number, value) in items.iter().enumerate() {
-        uuids.push(listed_uuid(alloc, number as u32, value)?)?;
-    }
-    Ok(uuids)
-}
-
-fn has_uuid(uuid: u128, listed: Option<u128>) -> bool
-    ensures { result ≡ has_uuid uuid listed }
-{
-    match listed {
-        Some(other) => other == uuid,
-        None => false,
-    }
-}
-
-// Whether a server before this number has the UUID.
-fn is_taken(uuids: &[Option<u128>], number: u32, uuid: u128) -> bool
-    ensures { result ≡ list_any (has_uuid uuid) (take number uuids.now) }
-{
-    let mut earlier = uuids.iter().take(number as usize);
-    earlier.any(|listed| has_uuid(uuid, *listed))
-}
-
-fn new_uuid(
-    alloc: Global,
-    uuids: &[Option<u128>],
+// Tables the number of a server, unless it has no UUID or an earlier one has it.
+fn add_uuid(
+    numbers: &mut BTreeMap<u128, u32>,
+    uuid: Option<u128>,
     number: u32,
-    uuid: u128,
-) -> Result<u128, ReadFault>
+) -> Result<(), Memory>
+    ensures { OnOk result (AddsUuid numbers.old numbers.new uuid number) }
+{
+    let Some(uuid) = uuid else {
+        return Ok(());
+    };
+    if !numbers.contains_key(&uuid) {
+        numbers.insert(uuid, number)?;
+    }
+    Ok(())
+}
+
+/// The UUIDs of the servers that are listed, each if it reads. They are searched by halves.
+#[derive(Drop)]
+pub(crate) struct Uuids {
+    listed: Vec<Option<u128>>,
+    numbers: BTreeMap<u128, u32>,
+}
+
+impl Model for Uuids {
+    ghost use Rattle.std.specs.Prelude.{ℕ, List, Option};
+    ghost use Rattle.scenario_servers.specs.UuidTable.{IsUuidTable};
+
+    ghost Value = { List (Option ℕ) };
+
+    ghost view = { λ u. u.listed.items };
+
+    ghost invariant = { λ u. IsUuidTable u.numbers u.listed.items };
+}
+
+impl Uuids {
+    ghost use Rattle.std.specs.Prelude.{◌≡◌, ◌≤◌, IfOk, length, take};
+    ghost use Rattle.std.specs.List.{list_any};
+    ghost use Rattle.serde_json.specs.View.{items_view};
+    ghost use Rattle.scenario_servers.specs.Names.{has_uuid, listed_uuids};
+
+    /// Those of the servers that are listed, of which there are at most 1,000.
+    pub(crate) fn of(alloc: Global, items: &[Value]) -> Result<Uuids, Memory>
+        requires { length items.now ≤ 1000 }
+        ensures { IfOk result (λ u. u ≡ listed_uuids 0 (items_view items.now)) }
+    {
+        let mut listed = Vec::new(alloc);
+        let mut numbers = BTreeMap::new(alloc);
+        for (number, value) in items.iter().enumerate() {
+            let uuid = listed_uuid(alloc, number as u32, value)?;
+            add_uuid(&mut numbers, uuid, number as u32)?;
+            listed.push(uuid)?;
+        }
+        Ok(Uuids { listed, numbers })
+    }
+
+    // Whether a server before this number has the UUID.
+    fn has_before(&self, number: u32, uuid: u128) -> bool
+        ensures { result ≡ list_any (has_uuid uuid) (take number self.now) }
+    {
+        match self.numbers.get(&uuid) {
+            Some(first) => *first < number,
+            None => false,
+        }
+    }
+}
+
+fn new_uuid(alloc: Global, uuids: &Uuids, number: u32, uuid: u128) -> Result<u128, ReadFault>
     ensures { Gives (λ u. u) fault_of result (new_uuid uuids.now number uuid) }
 {
-    if is_taken(uuids, number, uuid) {
+    if uuids.has_before(number, uuid) {
         Err(fails(alloc, FaultCode::DuplicateUuid))
     } else {
         Ok(uuid)
@@ -80,7 +115,7 @@ fn new_uuid(
 
 fn unplaced_uuid(
     alloc: Global,
-    uuids: &[Option<u128>],
+    uuids: &Uuids,
     number: u32,
     object: &Value,
 ) -> Result<u128, ReadFault>
@@ -94,7 +129,7 @@ fn unplaced_uuid(
 #[tactic(auto, using(scenario_values::proofs::Unders::gives_under), unfolding(crate::specs::Names::own_uuid))]
 pub(crate) fn own_uuid(
     alloc: Global,
-    uuids: &[Option<u128>],
+    uuids: &Uuids,
     number: u32,
     object: &Value,
 ) -> Result<u128, ReadFault>

@@ -1,25 +1,18 @@
-use Rattle.std.proofs.Common.{None, nat_eq, arith}
-use Rattle.std.specs.Map.{lookup}
-use Rattle.std.proofs.lemmas.Grind.{common_steps}
-use Rattle.instance_keeper.proofs.Counts.{present, ok_if, put_counts, put_values}
+use Rattle.std.proofs.Common.{◌∙◌, None, ap, sym}
+use Rattle.std.specs.Prelude.{slice_set}
+use Rattle.std.proofs.lemmas.Option.{get_or_from_slice_get}
+use Rattle.indexmap.specs.IndexMap.{values}
+use Rattle.instance_keeper.proofs.Counts.{set_counts, set_values}
 use Rattle.instance_keeper.proofs.book.put_at.Goals as goal
 
-pub unwrap-requires : goal.unwrap-requires
-unwrap-requires c =
-    let found = present c.args.instances.now.entries 0 c.args.no c.args.no None c.requires.keys (omega arith) c.requires.within in
-    ok_if c.insert.result (lookup (nat_eq c.args.no) c.args.instances.now.entries) _ found c.insert.ensures.absent
-
 pub returns-clause-keys : goal.returns-clause-keys
-returns-clause-keys c =
-    let up = put_counts c.args.instances.now.entries 0 c.args.no c.args.no c.args.instance c.requires.keys (omega arith) c.requires.within in
-    grind (arith, common_steps, up, c.insert.ensures.entries, c.unwrap.ensures)
+returns-clause-keys c = set_counts c.args.instances.now.entries 0 c.args.no c.replace.new.dest c.requires.keys
 
 pub returns-clause-values : goal.returns-clause-values
 returns-clause-values c =
-    let put = put_values c.args.instances.now.entries 0 c.args.no c.args.no c.args.instance c.requires.keys (omega arith) c.requires.within in
-    grind (arith, common_steps, put, c.insert.ensures.entries, c.unwrap.ensures)
+    set_values c.args.instances.now.entries c.args.no c.replace.new.dest
+    ∙ ap (slice_set (values c.args.instances.now) c.args.no) c.replace.ensures.after
 
 pub returns-clause-old : goal.returns-clause-old
 returns-clause-old c =
-    let found = present c.args.instances.now.entries 0 c.args.no c.args.no None c.requires.keys (omega arith) c.requires.within in
-    grind (arith, common_steps, found, c.insert.ensures.old, c.unwrap.ensures)
+    c.replace.ensures.value ∙ sym (get_or_from_slice_get (values c.args.instances.now) c.args.no _ None c.index_mut.ensures.value)

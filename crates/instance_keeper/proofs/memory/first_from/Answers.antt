@@ -1,4 +1,4 @@
-use Rattle.std.proofs.Common.{ℕ, ◌+◌, ◌-◌, ◌/◌, ◌<◌, ◌≤◌, sym, ◌∙◌, subst, arith}
+use Rattle.std.proofs.Common.{ℕ, ◌<◌, ◌≤◌, sym, ◌∙◌, subst, arith}
 use Rattle.std.proofs.lemmas.Bool.{ltb-true, ltb-false}
 use Rattle.std.proofs.lemmas.List.Elements.{at_read}
 use Rattle.instance_keeper.specs.Rows.{sort_key_of}
@@ -8,7 +8,7 @@ use Rattle.instance_keeper.proofs.memory.first_from.Goals as goal
 
 pub halves-preserved-then-is_before : goal.halves-preserved-then-is_before
 halves-preserved-then-is_before c =
-    let middle : ℕ = c.halves.from + (c.halves.to - c.halves.from) / 2 in
+    let middle : ℕ = c.next_look-middle.result in
     let row = c.index-rows-middle.result in
     let less : at c.sort_key.result < at c.args.sort_key = ltb-true _ _ (sym c.is_before.ensures ∙ c.if-is_before.true) in
     let own : sort_key_of row < at c.args.sort_key = subst (λ p. at p < at c.args.sort_key) c.sort_key.ensures less in
@@ -21,7 +21,7 @@ halves-preserved-then-is_before c =
 
 pub halves-preserved : goal.halves-preserved
 halves-preserved c =
-    let middle : ℕ = c.halves.from + (c.halves.to - c.halves.from) / 2 in
+    let middle : ℕ = c.next_look-middle.result in
     let row = c.index-rows-middle.result in
     let less : at c.args.sort_key ≤ at c.sort_key.result = ltb-false _ _ (sym c.is_before.ensures ∙ c.if-is_before.false) in
     let own : at c.args.sort_key ≤ sort_key_of row = subst (λ p. at c.args.sort_key ≤ at p) c.sort_key.ensures less in

@@ -7,9 +7,10 @@ use Rattle.openings.proofs.histories.history_of.Goals as goal
 
 pub loop-part-init : goal.loop-part-init
 loop-part-init c =
-    let zeros : c.in_ok-counts.counts.items ≡ replicate c.args.servers 0 = search rules in
-    let own : c.as_mut_slice-own.result.now ≡ replicate c.args.servers 0 = c.as_mut_slice-own.ensures.value ∙ zeros in
-    (rw c.in_ok-history.ensures.items (Takes-none c.args.parts.now c.args.count c.as_mut_slice-own.result.now (CountsOwn-none c.args.servers _ own)), search rules, ap length own ∙ length-replicate c.args.servers 0)
+    let origins = c.past_origins-origins.result in
+    let zeros : c.in_ok-counts.counts.items ≡ replicate origins 0 = search rules in
+    let own : c.as_mut_slice-own.result.now ≡ replicate origins 0 = c.as_mut_slice-own.ensures.value ∙ zeros in
+    (rw c.in_ok-history.ensures.items (Takes-none c.args.parts.now c.args.count c.as_mut_slice-own.result.now (CountsOwn-none origins _ own)), search rules, ap length own ∙ length-replicate origins 0)
 
 pub add_part-requires : goal.add_part-requires
 add_part-requires c =
@@ -27,7 +28,7 @@ add_part-requires c =
     let capacity = c.loop-part.invariant.1 in
     let same = c.loop-part.invariant.2 in
     record {
-      origin = let part = (c.requires.parts k d within).origin in omega arith;
+      origin = let part = (c.past_origins-origins.ensures k d within).origin in omega arith;
       counts = c.loop-part.invariant.0.counts;
       room = omega (arith, fits, is, all, capacity, len);
       few = omega (arith, fits, is, all, room, len);

@@ -1,0 +1,7 @@
+use Rattle.std.proofs.Common.{ℕ, ◌<◌, get_or}
+use Rattle.openings.specs.Opening.{IsPart}
+use Rattle.openings.specs.declared.part.Part.{Part}
+use Rattle.openings.proofs.histories.past_origins.Given as goal
+
+abbrev pub invariant-loop-part : goal.invariant-loop-part
+invariant-loop-part l = (k : ℕ) (d : Part) → k < l.part-index → IsPart l.past (get_or l.parts k d)

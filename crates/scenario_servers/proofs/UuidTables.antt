@@ -1,0 +1,115 @@
+-- The table of the first server of each UUID, as UUIDs are listed one after the other.
+use Rattle.std.proofs.Common.{◌≡◌, ℕ, zero, suc, ◌+◌, ◌<◌, ◌≤◌, Bool, true, false, cond, List, [], ◌∷◌, ◌++◌, length, take, get_or, nat_eq, nat_lt, Option, Some, None, refl, sym, ap, ◌∙◌, subst, add-zero, zero-add, arith}
+use Rattle.std.specs.Prelude.{◌==◌, ◌||◌, codes, if◌then◌else◌, is_some}
+use Rattle.std.specs.List.{list_any}
+use Rattle.std.specs.BTreeMap.{BTreeMap, Updates, get}
+use Rattle.std.specs.Option.{option_or}
+use Rattle.std.specs.Ordering.{is_eq, nat_cmp}
+use Rattle.std.proofs.lemmas.Bool.Decides.{nat_tests}
+use Rattle.std.proofs.lemmas.List.{length_push}
+use Rattle.serde_json.specs.declared.value.Value.{Value}
+use Rattle.serde_json.specs.Find.{get as key_at}
+use Rattle.serde_json.specs.View.{view, items_view}
+use Rattle.scenario_servers.specs.Names.{has_uuid, listed_uuids, read_uuid, uuid_at}
+use Rattle.scenario_servers.specs.UuidTable.{AddsUuid, IsUuidTable, first_with, is_before}
+use Rattle.scenario_servers.proofs.UuidLists.{IsUuidsTo, next_uuid}
+
+-- ---- one more UUID
+
+same-tests : (u uuid : ℕ) → is_eq (nat_cmp u uuid) ≡ (u == uuid)
+same-tests u uuid = grind (arith, nat_tests)
+
+or_none : {X : Type 0} (o : Option X) → option_or o None ≡ o
+or_none None = refl
+or_none (Some x) = refl
+
+absent : {X : Type 0} (o : Option X) → is_some o ≡ false → o ≡ None
+absent None e = refl
+absent (Some x) e = absurd (cc)
+
+same : (u uuid : ℕ) → (u == uuid) ≡ true → u ≡ uuid
+same u uuid e = grind (arith, nat_tests)
+
+added_at : (old : BTreeMap ℕ ℕ) (added uuid number : ℕ) (b : Bool) → (added == uuid) ≡ b → is_some (get nat_cmp old added) ≡ false
+    → cond b (Some number) (get nat_cmp old uuid) ≡ option_or (get nat_cmp old uuid) (cond b (Some number) None)
+added_at old added uuid number true e none =
+    let here : get nat_cmp old uuid ≡ None = subst (λ (n : ℕ). get nat_cmp old n ≡ None) (same added uuid e) (absent (get nat_cmp old added) none) in
+    rw here refl
+added_at old added uuid number false e none = sym (or_none (get nat_cmp old uuid))
+
+pub adds_uuid : (old new : BTreeMap ℕ ℕ) (added number : ℕ) → is_some (get nat_cmp old added) ≡ false → Updates nat_cmp old new added (Some number) → AddsUuid old new (Some added) number
+adds_uuid old new added number none updates = record { found = λ uuid. updates.0 uuid ∙ rw (same-tests added uuid) (added_at old added uuid number (added == uuid) refl none) }
+
+pub adds_none : (old new : BTreeMap ℕ ℕ) (number : ℕ) → new ≡ old → AddsUuid old new None number
+adds_none old new number e = record { found = λ uuid. ap (λ m. get nat_cmp m uuid) e ∙ sym (or_none (get nat_cmp old uuid)) }
+
+pub adds_known : (old new : BTreeMap ℕ ℕ) (added number : ℕ) → is_some (get nat_cmp old added) ≡ true → new ≡ old → AddsUuid old new (Some added) number
+adds_known old new added number there e = record { found = λ uuid. ap (λ m. get nat_cmp m uuid) e ∙ kept uuid (added == uuid) refl }
+  where
+    first : {X : Type 0} (o p : Option X) → is_some o ≡ true → o ≡ option_or o p
+    first None p h = absurd (cc)
+    first (Some x) p h = refl
+
+    kept : (uuid : ℕ) (b : Bool) → (added == uuid) ≡ b → get nat_cmp old uuid ≡ option_or (get nat_cmp old uuid) (cond b (Some number) None)
+    kept uuid true e = first (get nat_cmp old uuid) (Some number) (subst (λ (n : ℕ). is_some (get nat_cmp old n) ≡ true) (same added uuid e) there)
+    kept uuid false e = sym (or_none (get nat_cmp old uuid))
+
+-- ---- the list
+
+first_with-push : (uuid n : ℕ) (xs : List (Option ℕ)) (x : Option ℕ) → first_with uuid n (xs ++ x ∷ []) ≡ option_or (first_with uuid n xs) (if has_uuid uuid x then Some (n + length xs) else None)
+first_with-push uuid n [] x = rw add-zero refl
+first_with-push uuid n (y ∷ ys) x = first_at (has_uuid uuid y) (has_uuid uuid x) n (length ys) (first_with uuid (n + 1) (ys ++ x ∷ [])) (first_with uuid (n + 1) ys) (first_with-push uuid (n + 1) ys x)
+  where
+    first_at : (here last : Bool) (n rest : ℕ) (all front : Option ℕ) → all ≡ option_or front (cond last (Some (n + 1 + rest)) None)
+        → cond here (Some n) all ≡ option_or (cond here (Some n) front) (cond last (Some (n + suc rest)) None)
+    first_at true last n rest all front e = refl
+    first_at false last n rest all front e =
+        let more : n + 1 + rest ≡ n + suc rest = omega arith in
+        rw more at e
+
+-- the servers before `at` are listed and tabled
+pub record IsTabledTo (vs : List Value) (at : ℕ) (listed : List (Option ℕ)) (numbers : BTreeMap ℕ ℕ) : Type 0 where
+  pub front : IsUuidsTo vs at listed
+  pub count : length listed ≡ at
+  pub tabled : IsUuidTable numbers listed
+
+pub next_tabled : (vs : List Value) (at : ℕ) (v : Value) (x : Option ℕ) (listed after : List (Option ℕ)) (old new : BTreeMap ℕ ℕ) → after ≡ listed ++ x ∷ [] → at < length vs → v ≡ get_or vs at v
+    → x ≡ read_uuid (uuid_at at (key_at (codes "uuid") (view v))) → AddsUuid old new x at → IsTabledTo vs at listed old → IsTabledTo vs (at + 1) after new
+next_tabled vs at v x listed after old new pushed lt here is adds so_far = record {
+  front = rw pushed (next_uuid vs at v x listed lt here is so_far.front);
+  count = let more : length after ≡ length listed + 1 = rw pushed (length_push listed x) in omega (arith, so_far.count);
+  tabled = λ uuid. adds.found uuid ∙ sym (rw (pushed, first_with-push uuid 0 listed x, zero-add) (rw (so_far.tabled uuid, so_far.count) refl));
+}
+
+-- ---- whether an earlier server has a UUID
+
+before_on : (o : Option ℕ) (m n : ℕ) → m ≡ n → is_before o m ≡ is_before o n
+before_on o m n e = ap (is_before o) e
+
+none_before : (uuid n : ℕ) (xs : List (Option ℕ)) → is_before (first_with uuid n xs) n ≡ false
+none_before uuid n [] = refl
+none_before uuid n (x ∷ xs) = at (has_uuid uuid x) (first_with uuid (n + 1) xs) (none_before uuid (n + 1) xs)
+  where
+    not_less : (n : ℕ) → nat_lt n n ≡ false
+    not_less n = grind (arith, nat_tests)
+
+    sinks : (o : Option ℕ) (n : ℕ) → is_before o (n + 1) ≡ false → is_before o n ≡ false
+    sinks None n e = refl
+    sinks (Some f) n e = grind (arith, nat_tests)
+
+    at : (b : Bool) (o : Option ℕ) → is_before o (n + 1) ≡ false → is_before (cond b (Some n) o) n ≡ false
+    at true o e = not_less n
+    at false o e = sinks o n e
+
+pub taken_before : (uuid n k : ℕ) (xs : List (Option ℕ)) → list_any (has_uuid uuid) (take k xs) ≡ is_before (first_with uuid n xs) (n + k)
+taken_before uuid n zero [] = refl
+taken_before uuid n (suc k) [] = refl
+taken_before uuid n zero (x ∷ xs) = sym (before_on (first_with uuid n (x ∷ xs)) (n + zero) n (add-zero n) ∙ none_before uuid n (x ∷ xs))
+taken_before uuid n (suc k) (x ∷ xs) = taken_at (has_uuid uuid x) (first_with uuid (n + 1) xs) (taken_before uuid (n + 1) k xs)
+  where
+    less : (n k : ℕ) → nat_lt n (n + suc k) ≡ true
+    less n k = grind (arith, nat_tests)
+
+    taken_at : (b : Bool) (o : Option ℕ) → list_any (has_uuid uuid) (take k xs) ≡ is_before o (n + 1 + k) → (b || list_any (has_uuid uuid) (take k xs)) ≡ is_before (cond b (Some n) o) (n + suc k)
+    taken_at true o e = sym (less n k)
+    taken_at false o e = e ∙ before_on o (n + 1 + k) (n + suc k) (omega arith)
