@@ -7,9 +7,7 @@ use instance_keeper::{Book, Instance, Row, Seen};
 use orch_base::{
     IoState, Memory, Moment, Name, OwnedText, ServerNo, Settings, SourceState, Version,
 };
-use std::alloc::Global;
-use std::process::Abort;
-use std::test::Fail;
+use std::alloc::{AllocError, Global};
 
 // Whether an instance has a source and is valid, and of its replicas how many there are, are valid, replicate and lag.
 type Given = (bool, bool, [u32; 4]);
@@ -241,9 +239,18 @@ fn codes_of_the_table(rt: HostRuntime) {
     }
 }
 
-fn server(alloc: Global, name: &str) -> Result<Settings, Fail> {
+// A name that reads.
+fn name(alloc: Global, text: &str) -> Result<Name, Memory> {
+    match Name::read(alloc, text) {
+        Ok(name) => Ok(name),
+        Err(_fault) => Err(AllocError),
+    }
+}
+
+fn server(alloc: Global, text: &str) -> Result<Settings, Memory> {
+    let name = name(alloc, text)?;
     Ok(Settings {
-        name: Name::read(alloc, name)?,
+        name,
         uuid: 1,
         server_id: 1,
         version: Version {
@@ -257,7 +264,7 @@ fn server(alloc: Global, name: &str) -> Result<Settings, Fail> {
     })
 }
 
-fn settings(alloc: Global, names: &[&str]) -> Result<Vec<Settings>, Fail> {
+fn settings(alloc: Global, names: &[&str]) -> Result<Vec<Settings>, Memory> {
     let mut settings = Vec::new(alloc);
     for name in names {
         settings.push(server(alloc, name)?)?;
@@ -311,7 +318,7 @@ fn instance(alloc: Global, no: u32, look: Look) -> Row {
     })
 }
 
-fn rows(alloc: Global, looks: &[(u32, Look)]) -> Result<Vec<Row>, Fail> {
+fn rows(alloc: Global, looks: &[(u32, Look)]) -> Result<Vec<Row>, Memory> {
     let mut rows = Vec::new(alloc);
     for (no, look) in looks {
         rows.push(instance(alloc, *no, *look))?;
@@ -319,14 +326,11 @@ fn rows(alloc: Global, looks: &[(u32, Look)]) -> Result<Vec<Row>, Fail> {
     Ok(rows)
 }
 
-// The analysis of the book of these servers and rows.
-fn analysed(
-    rt: &impl Abort,
-    alloc: Global,
-    settings: &[Settings],
-    rows: &[Row],
-) -> Result<Vec<Entry>, Memory> {
-    assert!(rt; settings.len() <= 50_000);
+// The analysis of the book of these servers and rows; no test has more servers.
+fn analysed(alloc: Global, settings: &[Settings], rows: &[Row]) -> Result<Vec<Entry>, Memory> {
+    if settings.len() > 50_000 {
+        return Err(AllocError);
+    }
     let book = Book::make(alloc, settings, rows)?;
     let entries = analyse(alloc, &book);
     drop(book);
@@ -353,7 +357,7 @@ const SIX: [(u32, Code, Given); 5] = [
 
 // The servers `d`, `c`, `b`, `a`, `e` and `f`, by number. `d` isn't valid. `c`, `b` and `a` are below it: `c`
 // replicates, `b` lags, and `a` has its receiver unconnected. `e` is detached from `d`, and `f` is no instance.
-fn six(rt: &impl Abort, alloc: Global) -> Result<Vec<Entry>, Fail> {
+fn six(alloc: Global) -> Result<Vec<Entry>, Memory> {
     let settings = settings(alloc, &["d", "c", "b", "a", "e", "f"])?;
     let lost = Look {
         valid: false,
@@ -379,7 +383,7 @@ fn six(rt: &impl Abort, alloc: Global) -> Result<Vec<Entry>, Fail> {
         (4, detached),
     ];
     let rows = rows(alloc, &looks)?;
-    Ok(analysed(rt, alloc, &settings, &rows)?)
+    analysed(alloc, &settings, &rows)
 }
 
 // Whether entries begin with those of these servers, in this order.
@@ -392,16 +396,19 @@ fn begins(entries: &[Entry], want: &[(u32, Code, Given)]) -> bool {
     true
 }
 
+fn is_analysed(alloc: Global) -> Result<bool, Memory> {
+    let entries = six(alloc)?;
+    Ok(entries.len() == 5 && begins(&entries, &SIX))
+}
+
 #[test]
-fn a_book_is_analysed_in_name_order(rt: HostRuntime) -> Result<(), Fail> {
-    let entries = six(&rt, rt.alloc())?;
-    assert!(rt; entries.len() == 5 && begins(&entries, &SIX), "{entries:?}");
-    Ok(())
+fn a_book_is_analysed_in_name_order(rt: HostRuntime) {
+    assert_eq!(rt; is_analysed(rt.alloc()), Ok(true));
 }
 
 const MANY: u32 = 50_000;
 
-fn many_settings(alloc: Global) -> Result<Vec<Settings>, Fail> {
+fn many_settings(alloc: Global) -> Result<Vec<Settings>, Memory> {
     let mut settings = Vec::new(alloc);
     for no in 0..MANY {
         let name = format!(in alloc; "s{no}")?;
@@ -411,7 +418,7 @@ fn many_settings(alloc: Global) -> Result<Vec<Settings>, Fail> {
 }
 
 // Of a master all behind it with an even number are replicas, and of the second server those with an odd one.
-fn many_rows(alloc: Global) -> Result<Vec<Row>, Fail> {
+fn many_rows(alloc: Global) -> Result<Vec<Row>, Memory> {
     let mut rows = Vec::new(alloc);
     for no in 0..MANY {
         let source = if no == 0 {
@@ -429,10 +436,10 @@ fn many_rows(alloc: Global) -> Result<Vec<Row>, Fail> {
     Ok(rows)
 }
 
-fn many(rt: &impl Abort, alloc: Global) -> Result<Vec<Entry>, Fail> {
+fn many(alloc: Global) -> Result<Vec<Entry>, Memory> {
     let settings = many_settings(alloc)?;
     let rows = many_rows(alloc)?;
-    Ok(analysed(rt, alloc, &settings, &rows)?)
+    analysed(alloc, &settings, &rows)
 }
 
 const FIRST: [(u32, Code, Given); 2] = [
@@ -448,10 +455,13 @@ const FIRST: [(u32, Code, Given); 2] = [
     ),
 ];
 
+fn are_analysed(alloc: Global) -> Result<bool, Memory> {
+    let entries = many(alloc)?;
+    Ok(entries.len() == 50_000 && begins(&entries, &FIRST))
+}
+
 // The time is linear in the number of servers.
 #[test]
-fn many_instances_are_analysed(rt: HostRuntime) -> Result<(), Fail> {
-    let entries = many(&rt, rt.alloc())?;
-    assert!(rt; entries.len() == 50_000 && begins(&entries, &FIRST));
-    Ok(())
+fn many_instances_are_analysed(rt: HostRuntime) {
+    assert_eq!(rt; are_analysed(rt.alloc()), Ok(true));
 }

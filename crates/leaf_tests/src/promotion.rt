@@ -3,10 +3,9 @@
 ghost use Rattle.std.specs.Prelude.{◌<◌, ◌↔◌, All, IsTrue, length};
 
 use binlog_coords::Coord;
-use orch_base::{Name, Rule, ServerNo};
+use orch_base::{Memory, Name, Rule, ServerNo};
 use promotion_rules::{Drained, better, most_advanced};
-use std::alloc::Global;
-use std::test::Fail;
+use std::alloc::{AllocError, Global};
 
 // A drained replica: its number, file and position, rule, and whether it logs.
 type Given = (u32, u32, u64, Rule, bool);
@@ -22,7 +21,7 @@ fn drained((no, file, pos, rule, logs): Given) -> Drained {
     }
 }
 
-fn all_drained(alloc: Global, given: &[Given]) -> Result<Vec<Drained>, Fail> {
+fn all_drained(alloc: Global, given: &[Given]) -> Result<Vec<Drained>, Memory> {
     let mut list = Vec::new(alloc);
     for one in given {
         list.push(drained(*one))?;
@@ -32,10 +31,18 @@ fn all_drained(alloc: Global, given: &[Given]) -> Result<Vec<Drained>, Fail> {
 
 const NAMES: [&str; 5] = ["a", "b", "c", "B", "a:1"];
 
-fn names(alloc: Global) -> Result<Vec<Name>, Fail> {
+// A name that reads.
+fn name(alloc: Global, text: &str) -> Result<Name, Memory> {
+    match Name::read(alloc, text) {
+        Ok(name) => Ok(name),
+        Err(_fault) => Err(AllocError),
+    }
+}
+
+fn names(alloc: Global) -> Result<Vec<Name>, Memory> {
     let mut names = Vec::new(alloc);
-    for text in NAMES {
-        names.push(Name::read(alloc, text)?)?;
+    for text in &NAMES {
+        names.push(name(alloc, text)?)?;
     }
     Ok(names)
 }
@@ -62,14 +69,14 @@ fn chosen(
     alloc: Global,
     of: Option<Rule>,
     given: &[Given],
-) -> Result<Option<Option<ServerNo>>, Fail> {
+) -> Result<Option<Option<ServerNo>>, Memory> {
     let list = all_drained(alloc, given)?;
     let names = names(alloc)?;
     Ok(choice(of, &list, &names))
 }
 
 // The rule of the one that was promoted already, drained replicas, and the one that is chosen.
-const CHOICES: [(Option<Rule>, &[Given], Option<u32>); 18] = [
+const CHOICES: [(Option<Rule>, &[Given], Option<ServerNo>); 18] = [
     // the greatest coordinate goes before the better rule, and one that must not be promoted is passed over
     (
         None,
@@ -78,7 +85,7 @@ const CHOICES: [(Option<Rule>, &[Given], Option<u32>); 18] = [
             (1, 2, 4, Rule::PreferNot, true),
             (2, 2, 4, Rule::MustNot, true),
         ],
-        Some(1),
+        Some(ServerNo(1)),
     ),
     // files go before positions
     (
@@ -87,7 +94,7 @@ const CHOICES: [(Option<Rule>, &[Given], Option<u32>); 18] = [
             (0, 1, 1_000_000_000_000, Rule::Prefer, true),
             (1, 2, 4, Rule::Neutral, true),
         ],
-        Some(1),
+        Some(ServerNo(1)),
     ),
     // of one coordinate the better rule
     (
@@ -96,7 +103,7 @@ const CHOICES: [(Option<Rule>, &[Given], Option<u32>); 18] = [
             (0, 1, 204, Rule::Neutral, true),
             (1, 1, 204, Rule::Prefer, true),
         ],
-        Some(1),
+        Some(ServerNo(1)),
     ),
     // of one coordinate and rule the first name: by the host's bytes, then by the port
     (
@@ -107,7 +114,7 @@ const CHOICES: [(Option<Rule>, &[Given], Option<u32>); 18] = [
             (4, 1, 204, Rule::Prefer, true),
             (1, 1, 204, Rule::Prefer, true),
         ],
-        Some(4),
+        Some(ServerNo(4)),
     ),
     (
         None,
@@ -115,7 +122,7 @@ const CHOICES: [(Option<Rule>, &[Given], Option<u32>); 18] = [
             (1, 1, 204, Rule::Prefer, true),
             (3, 1, 204, Rule::Prefer, true),
         ],
-        Some(3),
+        Some(ServerNo(3)),
     ),
     // who doesn't log is passed over
     (
@@ -124,7 +131,7 @@ const CHOICES: [(Option<Rule>, &[Given], Option<u32>); 18] = [
             (0, 9, 204, Rule::Prefer, false),
             (1, 1, 4, Rule::PreferNot, true),
         ],
-        Some(1),
+        Some(ServerNo(1)),
     ),
     (None, &[(0, 9, 204, Rule::Prefer, false)], None),
     (None, &[(0, 9, 204, Rule::MustNot, true)], None),
@@ -135,13 +142,13 @@ const CHOICES: [(Option<Rule>, &[Given], Option<u32>); 18] = [
             (0, u32::MAX, u64::MAX, Rule::PreferNot, true),
             (1, u32::MAX, u64::MAX - 1, Rule::Prefer, true),
         ],
-        Some(0),
+        Some(ServerNo(0)),
     ),
     // of followers
     (
         Some(Rule::PreferNot),
         &[(0, 1, 204, Rule::Neutral, true)],
-        Some(0),
+        Some(ServerNo(0)),
     ),
     // the rule must be strictly better
     (
@@ -157,7 +164,7 @@ const CHOICES: [(Option<Rule>, &[Given], Option<u32>); 18] = [
             (0, 9, 204, Rule::Neutral, true),
             (1, 1, 4, Rule::Prefer, true),
         ],
-        Some(1),
+        Some(ServerNo(1)),
     ),
     // of one rule the first name
     (
@@ -167,7 +174,7 @@ const CHOICES: [(Option<Rule>, &[Given], Option<u32>); 18] = [
             (1, 1, 4, Rule::Neutral, true),
             (3, 1, 4, Rule::Neutral, true),
         ],
-        Some(3),
+        Some(ServerNo(3)),
     ),
     // who doesn't log is passed over
     (
@@ -176,7 +183,7 @@ const CHOICES: [(Option<Rule>, &[Given], Option<u32>); 18] = [
             (0, 1, 4, Rule::Prefer, false),
             (1, 1, 4, Rule::Neutral, true),
         ],
-        Some(1),
+        Some(ServerNo(1)),
     ),
     (
         Some(Rule::PreferNot),
@@ -186,11 +193,17 @@ const CHOICES: [(Option<Rule>, &[Given], Option<u32>); 18] = [
     (Some(Rule::MustNot), &[], None),
 ];
 
-#[test]
-fn the_first_by_the_order_is_chosen(rt: HostRuntime) -> Result<(), Fail> {
+// The first case in which another one is chosen.
+fn first_wrong(alloc: Global) -> Result<Option<usize>, Memory> {
     for (place, (of, given, want)) in CHOICES.iter().enumerate() {
-        let found = chosen(rt.alloc(), *of, given)?;
-        assert_eq!(rt; found, Some(want.map(ServerNo)), "at {place}");
+        if chosen(alloc, *of, given)? != Some(*want) {
+            return Ok(Some(place));
+        }
     }
-    Ok(())
+    Ok(None)
+}
+
+#[test]
+fn the_first_by_the_order_is_chosen(rt: HostRuntime) {
+    assert_eq!(rt; first_wrong(rt.alloc()), Ok(None));
 }
