@@ -53,20 +53,22 @@ fn turn(alloc: Global, name: CommandName, i: Option<u32>) -> Result<CommandTurn,
     })
 }
 
-const NOBODY: u32 = u32::MAX;
+// The servers' names by number.
+const LETTERS: [u8; 8] = *b"mxbcdzae";
 
-// The server that a line names.
-fn named(line: &Line) -> u32 {
-    match line {
-        Line::Server(no) => no.0,
-        Line::Instance { no, .. } => no.0,
-        _ => NOBODY,
-    }
+// The name of the server that a line names; a dash where it names none.
+fn letter(line: &Line) -> u8 {
+    let no = match line {
+        Line::Server(no) => *no,
+        Line::Instance { no, .. } => *no,
+        _ => return b'-',
+    };
+    LETTERS.get(no.0 as usize).copied().unwrap_or(b'?')
 }
 
-fn are_named(lines: &[Line], want: &[u32]) -> bool {
-    for (line, no) in lines.iter().zip(want) {
-        if named(line) != *no {
+fn are_named(lines: &[Line], want: &str) -> bool {
+    for (line, name) in lines.iter().zip(want.as_bytes()) {
+        if letter(line) != *name {
             return false;
         }
     }
@@ -74,7 +76,7 @@ fn are_named(lines: &[Line], want: &[u32]) -> bool {
 }
 
 // Whether the lines that are answered name these servers; none where the command is to be refused.
-fn is_answered(alloc: Global, book: &Book, turn: &CommandTurn, want: Option<&[u32]>) -> bool {
+fn is_answered(alloc: Global, book: &Book, turn: &CommandTurn, want: Option<&str>) -> bool {
     if !asks(turn.command.name) || !turn.fits(book.servers()) {
         return false;
     }
@@ -88,7 +90,8 @@ fn is_answered(alloc: Global, book: &Book, turn: &CommandTurn, want: Option<&[u3
     is_wanted
 }
 
-type Ask = (CommandName, Option<u32>, Option<&'static [u32]>);
+// A command, its instance, and the servers that its lines name; none where it is refused.
+type Ask = (CommandName, Option<u32>, Option<&'static str>);
 
 // The first question that is answered otherwise, counted from 0.
 fn surprise_in(alloc: Global, book: &Book, asked: &[Ask]) -> Result<Option<usize>, Memory> {
@@ -111,28 +114,20 @@ fn surprise(alloc: Global, asked: &[Ask]) -> Result<Option<usize>, Memory> {
 }
 
 const ASKED: [Ask; 14] = [
-    (CommandName::Topology, Some(1), Some(&[6, 3, 4, 0, 2, 7, 1])),
-    (CommandName::Topology, Some(7), Some(&[])),
+    (CommandName::Topology, Some(1), Some("acdmbex")),
+    (CommandName::Topology, Some(7), Some("")),
     (CommandName::Topology, Some(5), None),
-    (CommandName::WhichMaster, Some(2), Some(&[0])),
-    (CommandName::WhichMaster, Some(6), Some(&[5])),
-    (CommandName::WhichReplicas, Some(0), Some(&[7, 1])),
-    (CommandName::WhichCluster, Some(7), Some(&[NOBODY])),
+    (CommandName::WhichMaster, Some(2), Some("m")),
+    (CommandName::WhichMaster, Some(6), Some("z")),
+    (CommandName::WhichReplicas, Some(0), Some("ex")),
+    (CommandName::WhichCluster, Some(7), Some("-")),
     (CommandName::WhichCluster, Some(5), None),
-    (
-        CommandName::WhichClusterInstances,
-        Some(0),
-        Some(&[6, 2, 3, 4, 0, 1]),
-    ),
-    (CommandName::Clusters, Some(5), Some(&[NOBODY, NOBODY])),
-    (
-        CommandName::AllInstances,
-        None,
-        Some(&[6, 2, 3, 4, 7, 0, 1]),
-    ),
-    (CommandName::Find, None, Some(&[6, 3, 0])),
-    (CommandName::ReplicationAnalysis, None, Some(&[])),
-    (CommandName::CheckGlobalRecoveries, None, Some(&[NOBODY])),
+    (CommandName::WhichClusterInstances, Some(0), Some("abcdmx")),
+    (CommandName::Clusters, Some(5), Some("--")),
+    (CommandName::AllInstances, None, Some("abcdemx")),
+    (CommandName::Find, None, Some("acm")),
+    (CommandName::ReplicationAnalysis, None, Some("")),
+    (CommandName::CheckGlobalRecoveries, None, Some("-")),
 ];
 
 #[test]

@@ -21,10 +21,12 @@ fn drained((no, file, pos, rule, logs): Given) -> Drained {
     }
 }
 
-fn all_drained(alloc: Global, given: &[Given]) -> Result<Vec<Drained>, Memory> {
+fn all_drained(alloc: Global, given: &[Option<Given>]) -> Result<Vec<Drained>, Memory> {
     let mut list = Vec::new(alloc);
-    for one in given {
-        list.push(drained(*one))?;
+    for place in given {
+        if let Some(one) = place {
+            list.push(drained(*one))?;
+        }
     }
     Ok(list)
 }
@@ -68,7 +70,7 @@ fn choice(of: Option<Rule>, list: &[Drained], names: &[Name]) -> Option<Option<S
 fn chosen(
     alloc: Global,
     of: Option<Rule>,
-    given: &[Given],
+    given: &[Option<Given>],
 ) -> Result<Option<Option<ServerNo>>, Memory> {
     let list = all_drained(alloc, given)?;
     let names = names(alloc)?;
@@ -76,121 +78,139 @@ fn chosen(
 }
 
 // The rule of the one that was promoted already, drained replicas, and the one that is chosen.
-const CHOICES: [(Option<Rule>, &[Given], Option<ServerNo>); 18] = [
+const CHOICES: [(Option<Rule>, [Option<Given>; 3], Option<ServerNo>); 18] = [
     // the greatest coordinate goes before the better rule, and one that must not be promoted is passed over
     (
         None,
-        &[
-            (0, 1, 204, Rule::Neutral, true),
-            (1, 2, 4, Rule::PreferNot, true),
-            (2, 2, 4, Rule::MustNot, true),
+        [
+            Some((0, 1, 204, Rule::Neutral, true)),
+            Some((1, 2, 4, Rule::PreferNot, true)),
+            Some((2, 2, 4, Rule::MustNot, true)),
         ],
         Some(ServerNo(1)),
     ),
     // files go before positions
     (
         None,
-        &[
-            (0, 1, 1_000_000_000_000, Rule::Prefer, true),
-            (1, 2, 4, Rule::Neutral, true),
+        [
+            Some((0, 1, 1_000_000_000_000, Rule::Prefer, true)),
+            Some((1, 2, 4, Rule::Neutral, true)),
+            None,
         ],
         Some(ServerNo(1)),
     ),
     // of one coordinate the better rule
     (
         None,
-        &[
-            (0, 1, 204, Rule::Neutral, true),
-            (1, 1, 204, Rule::Prefer, true),
+        [
+            Some((0, 1, 204, Rule::Neutral, true)),
+            Some((1, 1, 204, Rule::Prefer, true)),
+            None,
         ],
         Some(ServerNo(1)),
     ),
     // of one coordinate and rule the first name: by the host's bytes, then by the port
     (
         None,
-        &[
-            (2, 1, 204, Rule::Prefer, true),
-            (0, 1, 204, Rule::Prefer, true),
-            (4, 1, 204, Rule::Prefer, true),
-            (1, 1, 204, Rule::Prefer, true),
+        [
+            Some((0, 1, 204, Rule::Prefer, true)),
+            Some((4, 1, 204, Rule::Prefer, true)),
+            Some((1, 1, 204, Rule::Prefer, true)),
         ],
         Some(ServerNo(4)),
     ),
     (
         None,
-        &[
-            (1, 1, 204, Rule::Prefer, true),
-            (3, 1, 204, Rule::Prefer, true),
+        [
+            Some((1, 1, 204, Rule::Prefer, true)),
+            Some((3, 1, 204, Rule::Prefer, true)),
+            None,
         ],
         Some(ServerNo(3)),
     ),
     // who doesn't log is passed over
     (
         None,
-        &[
-            (0, 9, 204, Rule::Prefer, false),
-            (1, 1, 4, Rule::PreferNot, true),
+        [
+            Some((0, 9, 204, Rule::Prefer, false)),
+            Some((1, 1, 4, Rule::PreferNot, true)),
+            None,
         ],
         Some(ServerNo(1)),
     ),
-    (None, &[(0, 9, 204, Rule::Prefer, false)], None),
-    (None, &[(0, 9, 204, Rule::MustNot, true)], None),
-    (None, &[], None),
     (
         None,
-        &[
-            (0, u32::MAX, u64::MAX, Rule::PreferNot, true),
-            (1, u32::MAX, u64::MAX - 1, Rule::Prefer, true),
+        [Some((0, 9, 204, Rule::Prefer, false)), None, None],
+        None,
+    ),
+    (
+        None,
+        [Some((0, 9, 204, Rule::MustNot, true)), None, None],
+        None,
+    ),
+    (None, [None, None, None], None),
+    (
+        None,
+        [
+            Some((0, u32::MAX, u64::MAX, Rule::PreferNot, true)),
+            Some((1, u32::MAX, u64::MAX - 1, Rule::Prefer, true)),
+            None,
         ],
         Some(ServerNo(0)),
     ),
     // of followers
     (
         Some(Rule::PreferNot),
-        &[(0, 1, 204, Rule::Neutral, true)],
+        [Some((0, 1, 204, Rule::Neutral, true)), None, None],
         Some(ServerNo(0)),
     ),
     // the rule must be strictly better
     (
         Some(Rule::Neutral),
-        &[(0, 1, 204, Rule::Neutral, true)],
+        [Some((0, 1, 204, Rule::Neutral, true)), None, None],
         None,
     ),
-    (Some(Rule::Prefer), &[(0, 1, 204, Rule::Prefer, true)], None),
+    (
+        Some(Rule::Prefer),
+        [Some((0, 1, 204, Rule::Prefer, true)), None, None],
+        None,
+    ),
     // coordinates don't count
     (
         Some(Rule::PreferNot),
-        &[
-            (0, 9, 204, Rule::Neutral, true),
-            (1, 1, 4, Rule::Prefer, true),
+        [
+            Some((0, 9, 204, Rule::Neutral, true)),
+            Some((1, 1, 4, Rule::Prefer, true)),
+            None,
         ],
         Some(ServerNo(1)),
     ),
     // of one rule the first name
     (
         Some(Rule::PreferNot),
-        &[
-            (2, 1, 4, Rule::Neutral, true),
-            (1, 1, 4, Rule::Neutral, true),
-            (3, 1, 4, Rule::Neutral, true),
+        [
+            Some((2, 1, 4, Rule::Neutral, true)),
+            Some((1, 1, 4, Rule::Neutral, true)),
+            Some((3, 1, 4, Rule::Neutral, true)),
         ],
         Some(ServerNo(3)),
     ),
     // who doesn't log is passed over
     (
         Some(Rule::PreferNot),
-        &[
-            (0, 1, 4, Rule::Prefer, false),
-            (1, 1, 4, Rule::Neutral, true),
+        [
+            Some((0, 1, 4, Rule::Prefer, false)),
+            Some((1, 1, 4, Rule::Neutral, true)),
+            None,
         ],
         Some(ServerNo(1)),
     ),
     (
         Some(Rule::PreferNot),
-        &[(0, 1, 4, Rule::MustNot, true)],
+        [Some((0, 1, 4, Rule::MustNot, true)), None, None],
         None,
     ),
-    (Some(Rule::MustNot), &[], None),
+    (Some(Rule::MustNot), [None, None, None], None),
 ];
 
 // The first case in which another one is chosen.
