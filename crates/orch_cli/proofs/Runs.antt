@@ -26,14 +26,14 @@ use Rattle.orch_core.specs.Runs.{Held, LeadsTo, Recorded, engine, held_run, held
 use Rattle.instance_keeper.specs.Rows.{changed}
 use Rattle.orch_core.specs.Scenarios.{StartsBy, kept_at_start, start, start_changes, without_turns}
 use Rattle.orch_core.specs.States.{State}
-use Rattle.ready_laws.specs.Ready.{Ready}
-use Rattle.finish_laws.specs.Finishes.{IsFinish}
-use Rattle.known_laws.specs.Begun.{BegunJob, begun_of}
-use Rattle.known_laws.specs.Runs.{ComesTo}
-use Rattle.known_laws.proofs.Counting.{apart-comes}
-use Rattle.known_laws.proofs.Entries.{more-after}
-use Rattle.known_laws.proofs.Parts.{apart-by-scenario}
-use Rattle.known_laws.proofs.Permissions.{answers_by_table, begun_joins, begun_kept, begun_leased, begun_logged, begun_number, begun_there, refused_changes_nothing}
+use Rattle.run_laws.specs.Ready.{Ready}
+use Rattle.recovery_runs.specs.Finishes.{IsFinish}
+use Rattle.run_laws.specs.BegunJobs.{BegunJob, begun_of}
+use Rattle.run_laws.specs.Runs.{ComesTo}
+use Rattle.run_laws.proofs.Counting.{apart-comes}
+use Rattle.run_laws.proofs.Entries.{more-after}
+use Rattle.run_laws.proofs.Parts.{apart-by-scenario}
+use Rattle.run_laws.proofs.Permissions.{answers_by_table, begun_joins, begun_kept, begun_leased, begun_logged, begun_number, begun_there, refused_changes_nothing}
 use Rattle.recovery_plans.specs.Recoveries.{Recovery}
 use Rattle.recovery_runs.proofs.Tending.{began-comes, finish-comes, lost-next}
 use Rattle.run_laws.proofs.RunLaws.{Goes, Goes-comes}

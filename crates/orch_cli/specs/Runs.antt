@@ -4,7 +4,7 @@ use Rattle.std.specs.Prelude.{◌≡◌, ℕ, ◌+◌, Bool, false, List, [], �
 use Rattle.instance_keeper.specs.declared.row.Row.{Row}
 use Rattle.server_model.specs.Safe.{Safe, Placed, IsQuiet}
 use Rattle.audit_log.specs.Apart.{IsApart}
-use Rattle.begin_laws.specs.Begins.{BeginApartInTurn}
+use Rattle.run_laws.specs.Begins.{BeginApartInTurn}
 use Rattle.command_routes.specs.Routes.{route_of}
 use Rattle.commands.specs.declared.line.Line.{Line}
 use Rattle.commands.specs.declared.line.Lost.{Lost}
@@ -14,14 +14,14 @@ use Rattle.scenarios.specs.declared.scenario.Scenario.{Scenario}
 use Rattle.turns.specs.declared.turn.Reply.TheVariants as answered
 use Rattle.turns.specs.declared.turn.Turn.{Turn}
 use Rattle.turns.specs.declared.turn.Turn.TheVariants as turn
-use Rattle.finish_laws.specs.Finishes.{IsFinish, recovery_after}
-use Rattle.finish_laws.specs.Losses.{ExplainsTurn}
-use Rattle.flight_laws.specs.Flights.{moment_at}
-use Rattle.flight_laws.specs.Goes.{HeldState, SoundState}
+use Rattle.recovery_runs.specs.Finishes.{IsFinish, recovery_after}
+use Rattle.recovery_runs.specs.Losses.{ExplainsTurn}
+use Rattle.run_laws.specs.Flights.{moment_at}
+use Rattle.run_laws.specs.States.{HeldState, SoundState}
 use Rattle.instance_keeper.specs.Leases.{taken}
 use Rattle.jobs_in_flight.specs.Jobs.{job_at}
-use Rattle.known_laws.specs.Begun.{BegunJob, begun_of, entry_kept, with_entry}
-use Rattle.known_laws.specs.Entries.{HasMore, entries_begun}
+use Rattle.run_laws.specs.BegunJobs.{BegunJob, begun_of, entry_kept, with_entry}
+use Rattle.run_laws.specs.Entries.{HasMore, entries_begun}
 use Rattle.orch_core.specs.Keeping.{asks}
 use Rattle.orch_core.specs.Permission.{IsAnswer, refusal_at}
 use Rattle.orch_core.specs.Polls.{changes_of}
@@ -32,7 +32,7 @@ use Rattle.orch_core.specs.States.{State}
 use Rattle.orch_base.specs.declared.server.ServerNo.{ServerNo}
 use Rattle.recovery_plans.specs.Recoveries.{Recovery}
 use Rattle.recovery_reasons.specs.Reasons.{AllLost}
-use Rattle.recovery_runs.specs.Finishing.{FinishesWell}
+use Rattle.recovery_runs.specs.RunFinishes.{FinishesWell}
 use Rattle.recovery_runs.specs.Origins.{Began, ExplainsAlong}
 use Rattle.tasks.specs.Closing.{closing}
 use Rattle.tasks.specs.Endings.{IsOn, IsOnRounds, IsOnTurns, course_of}

@@ -1,2 +1,6 @@
+pub mod States
+pub mod Begun
+pub mod Finishes
+pub mod Losses
 pub mod Origins
-pub mod Finishing
+pub mod RunFinishes

@@ -1,5 +1,5 @@
-use Rattle.flight_laws.proofs.Flown.{flown}
-use Rattle.flight_laws.proofs.Goes.{may-pass}
+use Rattle.run_laws.proofs.Flown.{flown}
+use Rattle.run_laws.proofs.Passing.{may-pass}
 use Rattle.run_laws.proofs.RunLaws.{Goes-comes}
 use Rattle.std.proofs.Common.{length}
 use Rattle.run_laws.proofs.flights.turns_are_passages.Goals as goal
