@@ -1,5 +1,5 @@
 -- How a call ends.
-use Rattle.std.specs.Prelude.{◌≡◌, ℕ, ◌≤◌, ◌⊎◌, ⊤, Bool, List, [], codes, if◌then◌else◌, Option, Result, Ok, Err}
+use Rattle.std.specs.Prelude.{◌≡◌, ℕ, ◌≤◌, ◌⊎◌, ⊤, Bool, List, [], codes, if◌then◌else◌, IfSome, Option, Result, Ok, Err}
 use Rattle.instance_keeper.specs.declared.row.Row.{Row}
 use Rattle.orch_base.specs.Causes.{Rose}
 use Rattle.scenarios.specs.declared.scenario.Scenario.{Scenario}
@@ -92,6 +92,14 @@ Ends c way.Sink = Closes c ends.Unwritten (codes "write fault\n")
 Ends c way.Keeper = Closes c ends.Keeper (codes "keeper fault\n")
 Ends c way.Memory = Idles c (codes "out of memory\n") ⊎ Closes c ends.Memory (codes "out of memory\n")
 
+-- so ends a call of any words that these places are, over the bytes that the source had, where they are known
+abbrev pub EndsOf : Places → Option (List ℕ) → Option (List Row) → Option (List Row) → End → End → Way → Type 0
+EndsOf p left kept kept_now out err w = (words : List (List ℕ)) → places_of words ≡ Ok p → IfSome left (λ bytes. Ends (call words bytes kept kept_now out err) w)
+
+-- over any bytes that are this scenario
+abbrev pub EndsOver : Places → Scenario → Option (List Row) → Option (List Row) → End → End → Way → Type 0
+EndsOver p s kept kept_now out err w = (words : List (List ℕ)) (bytes : List ℕ) → places_of words ≡ Ok p → scenario_in bytes ≡ Ok s → Ends (call words bytes kept kept_now out err) w
+
 -- it is the way of a whole report
 abbrev pub IsReported : Way → Type 0
 IsReported (way.Reported refused) = ⊤
@@ -122,6 +130,10 @@ pub record FaultsBy (bytes : List ℕ) (status : ℕ) : Type 0 where
 abbrev pub FaultsAs : Result Places Usage → List ℕ → ℕ → Type 0
 FaultsAs (Ok p) bytes status = FaultsBy bytes status
 FaultsAs (Err usage) bytes status = status ≡ 2 → ⊥
+
+-- so it is of words over the bytes that the source had, where they are known
+abbrev pub FaultsOf : List (List ℕ) → Option (List ℕ) → ℕ → Type 0
+FaultsOf words left status = IfSome left (λ bytes. FaultsAs (places_of words) bytes status)
 
 -- no count of faults rose: of the source, of the keeper, of out or of err
 pub record NoneRose (source_before source_after keeper_before keeper_after : ℕ) (out err : End) : Type 0 where

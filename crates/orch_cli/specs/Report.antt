@@ -1,6 +1,6 @@
 -- The report of a call where the keeper tells its rows: a function of the words, the bytes of the scenario and the kept
 -- rows.
-use Rattle.std.specs.Prelude.{◌≡◌, ℕ, ◌⊎◌, ◌++◌, ◌≤◌, Bool, List, [], codes, if◌then◌else◌, length, take, Option, Some, Result, Ok, Err}
+use Rattle.std.specs.Prelude.{◌≡◌, ℕ, ◌⊎◌, ◌++◌, ◌≤◌, Bool, List, [], codes, if◌then◌else◌, length, take, IfSome, Option, Some, Result, Ok, Err}
 use Rattle.instance_keeper.specs.declared.row.Row.{Row}
 use Rattle.scenarios.specs.declared.scenario.Scenario.{Scenario}
 use Rattle.scenarios.specs.Scenarios.{names_of}
@@ -49,6 +49,10 @@ abbrev pub report : List (List ℕ) → List ℕ → List Row → Report
 report words bytes rows = words_report bytes rows (places_of words)
 
 -- ---- a call against its report
+
+-- where the bytes of the scenario and the kept rows are known, this holds of the rows and of the report over them
+abbrev pub ByReport : List (List ℕ) → Option (List ℕ) → Option (List Row) → (List Row → Report → Type 0) → Type 0
+ByReport words left kept P = IfSome left (λ bytes. IfSome kept (λ rows. P rows (report words bytes rows)))
 
 -- all turns of a task were to be taken
 abbrev pub IsRun : Report → Type 0

@@ -1,17 +1,15 @@
 //! The top call.
 
-ghost use Rattle.std.specs.Prelude.{◌≡◌, ◌≤◌, ◌⊎◌, ℕ, List, Ok, codes, map, IfSome};
+ghost use Rattle.std.specs.Prelude.{◌≡◌, ◌≤◌, ◌⊎◌, codes, map, IfSome};
 ghost use Rattle.std.specs.Io.KnownBytes.{Consumes};
 ghost use Rattle.orch_base.specs.Causes.{Rose};
 ghost use Rattle.scenarios.specs.Scenarios.{IsScenario, names_of};
-ghost use Rattle.scenario_reader.specs.Scenarios.{scenario_in};
-ghost use Rattle.command_line.specs.Places.{places_of};
 ghost use Rattle.tasks.specs.Asked.{IsTaken, task_of};
 ghost use Rattle.tasks.specs.Endings.{HasKeepersCause, Tells};
-ghost use Rattle.tasks.specs.Sinks.{TakesLine, between, taken};
-ghost use Rattle.orch_cli.specs.Ends.{Ends, EndsBy, FaultsAs, IsComplete, IsGood, IsReported, IsUsage, NoneRose, call};
+ghost use Rattle.tasks.specs.Sinks.{TakesLine, across};
+ghost use Rattle.orch_cli.specs.Ends.{EndsBy, EndsOf, EndsOver, FaultsOf, IsComplete, IsGood, IsReported, IsUsage, NoneRose, call};
 ghost use Rattle.orch_cli.specs.Faults.{fault_text};
-ghost use Rattle.orch_cli.specs.Report.{EndsAs, KeepsRows, WritesErr, WritesOut, report};
+ghost use Rattle.orch_cli.specs.Report.{ByReport, EndsAs, KeepsRows, WritesErr, WritesOut};
 ghost use Rattle.orch_cli.specs.Runs.{BeginApart, FinishWell, IsSafeRun, LoseTruly, ObeysTable};
 
 use crate::fault::fault_line;
@@ -27,8 +25,9 @@ use tasks::{Ending, names_of, task_of, task_report};
 
 /// Writes a line, as far as the sink takes it.
 pub(crate) fn close<E: Sink>(err: &mut E, line: &[u8])
-    ensures took { TakesLine (between (taken (E.written err.old) (E.faults err.old))
-        (taken (E.written err.new) (E.faults err.new))) line.now }
+    ensures took { TakesLine
+        (across (E.written err.old) (E.faults err.old) (E.written err.new) (E.faults err.new))
+        line.now }
     ensures later { E.faults err.old ≤ E.faults err.new }
 {
     match write_all(err, line) {
@@ -54,10 +53,9 @@ fn told<O: Sink, E: Sink, K: Keeper>(
       old = K.kept keeper.old;
       new = K.kept keeper.new;
     })
-        (between (taken (O.written out.old) (O.faults out.old))
-        (taken (O.written out.new) (O.faults out.new)))
-        (between (taken (E.written err.old) (E.faults err.old))
-        (taken (E.written err.new) (E.faults err.new))) result }
+        (across (O.written out.old) (O.faults out.old) (O.written out.new) (O.faults out.new))
+        (across (E.written err.old) (E.faults err.old) (E.written err.new) (E.faults err.new))
+        result }
     ensures cause { HasKeepersCause (K.faults keeper.old) (K.faults keeper.new) result }
     ensures later { E.faults err.old ≤ E.faults err.new }
 {
@@ -81,13 +79,10 @@ fn report<O: Sink, E: Sink, K: Keeper>(
 ) -> Way
     requires words { IsTaken places.now }
     requires scenario { IsScenario scenario.now }
-    ensures ends { (words : List (List ℕ)) (bytes : List ℕ) → places_of words ≡ Ok places.now
-        → scenario_in bytes ≡ Ok scenario.now
-        → Ends (call words bytes (K.kept keeper.old) (K.kept keeper.new)
-        (between (taken (O.written out.old) (O.faults out.old))
-        (taken (O.written out.new) (O.faults out.new)))
-        (between (taken (E.written err.old) (E.faults err.old))
-        (taken (E.written err.new) (E.faults err.new)))) result }
+    ensures ends { EndsOver places.now scenario.now (K.kept keeper.old) (K.kept keeper.new)
+        (across (O.written out.old) (O.faults out.old) (O.written out.new) (O.faults out.new))
+        (across (E.written err.old) (E.faults err.old) (E.written err.new) (E.faults err.new))
+        result }
     ensures sink { result ≡ Way.Sink → Rose (O.faults out.old) (O.faults out.new)
         ⊎ Rose (E.faults err.old) (E.faults err.new) }
     ensures keeper { result ≡ Way.Keeper → Rose (K.faults keeper.old) (K.faults keeper.new) }
@@ -113,12 +108,12 @@ fn report<O: Sink, E: Sink, K: Keeper>(
 
 // Writes the line of a scenario's fault.
 fn close_fault<E: Sink>(alloc: Global, err: &mut E, fault: &Fault) -> Way
-    ensures { ((result ≡ Way.Fault)
-        × TakesLine (between (taken (E.written err.old) (E.faults err.old))
-        (taken (E.written err.new) (E.faults err.new))) (fault_text fault.now))
+    ensures { ((result ≡ Way.Fault) × TakesLine
+        (across (E.written err.old) (E.faults err.old) (E.written err.new) (E.faults err.new))
+        (fault_text fault.now))
         ⊎ ((result ≡ Way.Memory) × TakesLine
-        (between (taken (E.written err.old) (E.faults err.old))
-        (taken (E.written err.new) (E.faults err.new))) (codes "out of memory\n")) }
+        (across (E.written err.old) (E.faults err.old) (E.written err.new) (E.faults err.new))
+        (codes "out of memory\n")) }
 {
     match fault_line(alloc, fault) {
         Ok(line) => {
@@ -142,13 +137,10 @@ fn answer<S: Source, O: Sink, E: Sink, K: Keeper>(
     keeper: &mut K,
 ) -> Way
     requires { IsTaken places.now }
-    ensures ends { (words : List (List ℕ)) → places_of words ≡ Ok places.now
-        → IfSome (S.left source.old) (λ bytes.
-        Ends (call words bytes (K.kept keeper.old) (K.kept keeper.new)
-        (between (taken (O.written out.old) (O.faults out.old))
-        (taken (O.written out.new) (O.faults out.new)))
-        (between (taken (E.written err.old) (E.faults err.old))
-        (taken (E.written err.new) (E.faults err.new)))) result) }
+    ensures ends { EndsOf places.now (S.left source.old) (K.kept keeper.old) (K.kept keeper.new)
+        (across (O.written out.old) (O.faults out.old) (O.written out.new) (O.faults out.new))
+        (across (E.written err.old) (E.faults err.old) (E.written err.new) (E.faults err.new))
+        result }
     ensures not_usage { result ≡ Way.Usage → ⊥ }
     ensures source { result ≡ Way.Source → Rose (S.faults source.old) (S.faults source.new) }
     ensures sink { result ≡ Way.Sink → Rose (O.faults out.old) (O.faults out.new)
@@ -199,8 +191,7 @@ pub fn orch<S: Source, O: Sink, E: Sink, K: Keeper>(
     // 1 exactly where the words aren't taken, and 2 exactly where they are and the scenario has a fault, but for 3 and
     // 6.
     ensures usage { IsUsage (map (λ w. w.items) words.now) result }
-    ensures fault { IfSome (S.left scenario.old)
-        (λ bytes. FaultsAs (places_of (map (λ w. w.items) words.now)) bytes result) }
+    ensures fault { FaultsOf (map (λ w. w.items) words.now) (S.left scenario.old) result }
 
     // 3, 4 and 5 only where a count of faults rose, and 0 and 7 only where the source was read to its end.
     ensures source { result ≡ 3 → Rose (S.faults scenario.old) (S.faults scenario.new) }
@@ -213,36 +204,30 @@ pub fn orch<S: Source, O: Sink, E: Sink, K: Keeper>(
     // What out and err took and what the keeper has, by the status: exactly, whether the keeper tells its rows or not.
     ensures ends { IfSome (S.left scenario.old) (λ bytes.
         EndsBy (call (map (λ w. w.items) words.now) bytes (K.kept keeper.old) (K.kept keeper.new)
-        (between (taken (O.written out.old) (O.faults out.old))
-        (taken (O.written out.new) (O.faults out.new)))
-        (between (taken (E.written err.old) (E.faults err.old))
-        (taken (E.written err.new) (E.faults err.new)))) result) }
+        (across (O.written out.old) (O.faults out.old) (O.written out.new) (O.faults out.new))
+        (across (E.written err.old) (E.faults err.old) (E.written err.new) (E.faults err.new)))
+        result) }
 
     // Where the keeper tells its rows, all of it against the report, which is a function of the words, the bytes and
     // the rows: the status, what out and err took, and the rows that are kept.
-    ensures status { IfSome (S.left scenario.old) (λ bytes. IfSome (K.kept keeper.old) (λ rows.
-        EndsAs (report (map (λ w. w.items) words.now) bytes rows) result)) }
-    ensures out { IfSome (S.left scenario.old) (λ bytes. IfSome (K.kept keeper.old) (λ rows.
-        WritesOut (report (map (λ w. w.items) words.now) bytes rows) result
-        (between (taken (O.written out.old) (O.faults out.old))
-        (taken (O.written out.new) (O.faults out.new))))) }
-    ensures err { IfSome (S.left scenario.old) (λ bytes. IfSome (K.kept keeper.old) (λ rows.
-        WritesErr (report (map (λ w. w.items) words.now) bytes rows) result
-        (between (taken (E.written err.old) (E.faults err.old))
-        (taken (E.written err.new) (E.faults err.new))))) }
-    ensures kept { IfSome (S.left scenario.old) (λ bytes. IfSome (K.kept keeper.old) (λ rows.
-        KeepsRows (report (map (λ w. w.items) words.now) bytes rows) result rows
-        (K.kept keeper.new))) }
+    ensures status { ByReport (map (λ w. w.items) words.now) (S.left scenario.old)
+        (K.kept keeper.old) (λ rows r. EndsAs r result) }
+    ensures out { ByReport (map (λ w. w.items) words.now) (S.left scenario.old) (K.kept keeper.old)
+        (λ rows r. WritesOut r result
+        (across (O.written out.old) (O.faults out.old) (O.written out.new) (O.faults out.new))) }
+    ensures err { ByReport (map (λ w. w.items) words.now) (S.left scenario.old) (K.kept keeper.old)
+        (λ rows r. WritesErr r result
+        (across (E.written err.old) (E.faults err.old) (E.written err.new) (E.faults err.new))) }
+    ensures kept { ByReport (map (λ w. w.items) words.now) (S.left scenario.old) (K.kept keeper.old)
+        (λ rows r. KeepsRows r result rows (K.kept keeper.new)) }
 
     // Where no count rose, the whole report of good words and bytes is written, or memory ran out.
     ensures complete { IfSome (S.left scenario.old) (λ bytes.
         IsGood (map (λ w. w.items) words.now) bytes
         → NoneRose (S.faults scenario.old) (S.faults scenario.new) (K.faults keeper.old)
         (K.faults keeper.new)
-        (between (taken (O.written out.old) (O.faults out.old))
-        (taken (O.written out.new) (O.faults out.new)))
-        (between (taken (E.written err.old) (E.faults err.old))
-        (taken (E.written err.new) (E.faults err.new)))
+        (across (O.written out.old) (O.faults out.old) (O.written out.new) (O.faults out.new))
+        (across (E.written err.old) (E.faults err.old) (E.written err.new) (E.faults err.new))
         → IsComplete result) }
 
     // Every state of each run of these turns, of the report's too, is held with its jobs in flight, its recoveries are
