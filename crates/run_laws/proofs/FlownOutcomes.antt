@@ -66,7 +66,8 @@ use Rattle.orch_core.specs.Polls.{command_outcome, numbers_of, reading, scan_out
 use Rattle.orch_core.specs.States.{State}
 use Rattle.orch_core.proofs.Beginnings.{may-take}
 use Rattle.scenarios.specs.Turns.{IsCommand}
-use Rattle.run_laws.specs.Flights.{begun_in_scan, by_command, by_discovery, by_instance, by_permission, by_recoveries, by_recovery, by_removal, by_route, by_takeover, by_try, flight_of, moment_at, takes_first}
+use Rattle.run_laws.specs.Entries.{recoveries_scanned}
+use Rattle.run_laws.specs.Flights.{by_command, by_discovery, by_instance, by_permission, by_recoveries, by_recovery, by_removal, by_route, by_takeover, by_try, flight_of, moment_at, takes_first}
 use Rattle.run_laws.specs.States.{HeldState, SoundState}
 use Rattle.run_laws.specs.Ready.{Ready}
 use Rattle.run_laws.proofs.ReadyOutcomes.{within-book}
@@ -323,10 +324,10 @@ module _ (s : State) (is : IsBook s.book) where
 
   -- ---- a scan
 
-  scan-leaves : Leaves s (by_recoveries (begun_in_scan s)) (scan_outcome s)
+  scan-leaves : Leaves s (by_recoveries (recoveries_scanned s)) (scan_outcome s)
   scan-leaves =
       let attempt = attempt_of s.configuration.master s.configuration.intermediate (terms_of s.book (numbers_of s)) in
-      let xs = begun_in_scan s in
+      let xs = recoveries_scanned s in
       let each = scan-in-turn s.world s.book attempt s.configuration.wait s.audit s.last_job is in
       record { flown = begun-flown xs each; may = begun-may xs each; well = recoveries-well (flight_of s) xs; held = begun-held xs each; sound = begun-sound xs each }
 
@@ -363,5 +364,5 @@ Leaves-command count s c ready command =
     let within = within-book count s ready c command in
     Leaves-route s ready.book c within.0 within.1 (route_of c.command.name) refl
 
-pub Leaves-scan : (count : ℕ) (s : State) → Ready count s → Leaves s (by_recoveries (begun_in_scan s)) (scan_outcome s)
+pub Leaves-scan : (count : ℕ) (s : State) → Ready count s → Leaves s (by_recoveries (recoveries_scanned s)) (scan_outcome s)
 Leaves-scan count s ready = scan-leaves s ready.book

@@ -18,7 +18,6 @@ use Rattle.server_words.specs.declared.changes.Event.TheVariants as event
 use Rattle.server_model.specs.Run.{Write, Fetch, Apply, Befall, Rotate}
 use Rattle.turns.specs.declared.turn.Turn.{Turn}
 use Rattle.turns.specs.declared.turn.Turn.TheVariants as turn
-use Rattle.recovery_core.specs.Scans.{attempt_of, scanned}
 use Rattle.recovery_core.specs.Tries.{Begins as RecoveryBegins, recovery_try, takeover_try}
 use Rattle.unended_jobs.specs.declared.unended.Unended.{Unended}
 use Rattle.unended_jobs.specs.Unended.{core_of}
@@ -27,10 +26,11 @@ use Rattle.job_laws.specs.Flights.{Flight}
 use Rattle.job_laws.specs.Leases.{leases_of}
 use Rattle.job_laws.specs.Passages.{Passage}
 use Rattle.job_laws.specs.Passages as pass
-use Rattle.orch_core.specs.Commands.{by_hand, recovery_job, removal_refusal, terms_of}
+use Rattle.orch_core.specs.Commands.{by_hand, recovery_job, removal_refusal}
 use Rattle.jobs_in_flight.specs.Jobs.{job_at}
 use Rattle.orch_core.specs.Polls.{numbers_of, reading, slot_at}
 use Rattle.orch_core.specs.States.{State}
+use Rattle.run_laws.specs.Entries.{recoveries_scanned}
 
 -- what is kept beside the instances: the servers, the bridges, the slots, of each job the operations that are left, of
 -- a recovery those of its stage, and who has each lease
@@ -98,11 +98,6 @@ abbrev pub by_takeover : State → Option ServerNo → ServerNo → List Passage
 by_takeover s None i = []
 by_takeover s (Some d) i = by_try (takeover_try s.world s.book s.audit (by_hand (numbers_of s)) s.configuration.wait (s.last_job + 1) i d)
 
--- what a scan begins, in order
-abbrev pub begun_in_scan : State → List RecoveryBegins
-begun_in_scan s =
-    (scanned s.world s.book s.audit (attempt_of s.configuration.master s.configuration.intermediate (terms_of s.book (numbers_of s))) s.configuration.wait s.last_job).begun
-
 -- a job's turn, by the operations of its plan or as its recovery decides it
 abbrev pub by_job : State → ℕ → Option Unended → List Passage
 by_job s id o = passages_by s.world s.book (next_count s.reads) (moment_at s) (takes s.book) id o
@@ -131,7 +126,7 @@ passages_of s (turn.Join n link) = pass.Exchanging (Befall n.0 (event.Join link)
 passages_of s (turn.Rotate n) = pass.Exchanging (Rotate n.0) ∷ []
 passages_of s (turn.Tick seconds) = []
 passages_of s (turn.Job job) = by_job s job (job_at s.jobs job)
-passages_of s turn.Scan = by_recoveries (begun_in_scan s)
+passages_of s turn.Scan = by_recoveries (recoveries_scanned s)
 passages_of s (turn.PollRead p n) = by_poll s p n
 passages_of s (turn.PollStore p) = pass.Storing p (takes s.book (slot_at s p)) ∷ []
 passages_of s (turn.Command c) = by_command s c.command
