@@ -1,10 +1,9 @@
 //! Which rows count, and what they make of an opening.
 
-use binlog_coords::Coord;
-use gtid_sets::GtidSet;
-use instance_keeper::{Candidate, Downtime, Ending, Instance, Kind, Recovery, Row, Rule, Seen};
+use crate::rows::{Given, are_rows, rows, settings};
+use instance_keeper::{Ending, Row, Rule};
 use opening_book::{counted, last_id, last_read, latest_moment, loaded_book};
-use orch_base::{IoState, Moment, Name, OwnedText, ServerNo, Settings, SourceState, Version};
+use orch_base::{Moment, ServerNo, SourceState};
 use std::alloc::Global;
 use std::test::Fail;
 
@@ -14,190 +13,138 @@ const MOST: u64 = 1 << 63;
 /// The greatest id of a recovery.
 const MOST_ID: u64 = 1 << 62;
 
-fn instance(alloc: Global, no: u32, source: SourceState, read: u64, moment: u64) -> Row {
-    let start = Coord { file: 1, pos: 4 };
-    Row::Instance(Instance {
-        no: ServerNo(no),
-        read,
-        moment: Moment(moment),
-        valid: true,
-        seen: Seen {
-            own_end: Some(start),
-            source,
-            exec: start,
-            read: start,
-            auto: false,
-            io: IoState::Yes,
-            sql: true,
-            read_only: false,
-            set: GtidSet::empty(alloc),
-        },
-    })
-}
-
-fn downtime(alloc: Global, no: u32, begun: u64, until: u64) -> Result<Row, Fail> {
-    Ok(Row::Downtime(Downtime {
-        no: ServerNo(no),
-        begun: Moment(begun),
-        until: Moment(until),
-        owner: OwnedText::new(String::from_str(alloc, "amy")?),
-        reason: OwnedText::new(String::from_str(alloc, "disk")?),
-    }))
-}
-
-fn candidate(no: u32, until: u64) -> Row {
-    Row::Candidate(Candidate {
-        no: ServerNo(no),
-        rule: Rule::Prefer,
-        until: Moment(until),
-    })
-}
-
-fn recovery(
-    alloc: Global,
-    id: u64,
-    begun: u64,
-    ended: Option<Moment>,
-    outcome: Ending,
-) -> Result<Row, Fail> {
-    Ok(Row::Recovery(Recovery {
-        id,
-        cluster: OwnedText::new(String::from_str(alloc, "m:3306")?),
-        kind: Kind::Master,
-        failed: ServerNo(0),
-        begun: Moment(begun),
-        ended,
-        outcome,
-        acked: false,
-    }))
-}
+const ROOT: SourceState = SourceState::Without;
 
 // Rows of two servers that count.
-fn good_rows(alloc: Global) -> Result<Vec<Row>, Fail> {
-    let mut rows = Vec::new(alloc);
-    rows.push(Row::Switch(false))?;
-    rows.push(recovery(
-        alloc,
-        MOST_ID,
-        MOST,
-        Some(Moment(MOST)),
-        Ending::Interrupted,
-    )?)?;
-    rows.push(recovery(alloc, 1, 40, None, Ending::Promoted(ServerNo(1)))?)?;
-    rows.push(candidate(1, MOST))?;
-    rows.push(downtime(alloc, 0, 50, MOST)?)?;
-    rows.push(instance(alloc, 0, SourceState::Without, 9, 3))?;
-    rows.push(instance(alloc, 0, SourceState::Detached(ServerNo(1)), MOST, MOST))?;
-    rows.push(instance(alloc, 1, SourceState::Attached(ServerNo(0)), 7, 0))?;
-    Ok(rows)
+const GOOD: [Given; 8] = [
+    Given::Switch(false),
+    Given::Recovery(MOST_ID, MOST, Some(MOST), Ending::Interrupted),
+    Given::Recovery(1, 40, None, Ending::Promoted(ServerNo(1))),
+    Given::Candidate(1, Rule::Prefer, MOST),
+    Given::Downtime(0, 50, MOST),
+    Given::Instance(0, ROOT, 9, 3),
+    Given::Instance(0, SourceState::Detached(ServerNo(1)), MOST, MOST),
+    Given::Instance(1, SourceState::Attached(ServerNo(0)), 7, 0),
+];
+
+// The same in order: of the two rows of one server the last stands.
+const IN_ORDER: [Given; 7] = [
+    Given::Instance(0, SourceState::Detached(ServerNo(1)), MOST, MOST),
+    Given::Instance(1, SourceState::Attached(ServerNo(0)), 7, 0),
+    Given::Downtime(0, 50, MOST),
+    Given::Candidate(1, Rule::Prefer, MOST),
+    Given::Recovery(1, 40, None, Ending::Promoted(ServerNo(1))),
+    Given::Recovery(MOST_ID, MOST, Some(MOST), Ending::Interrupted),
+    Given::Switch(false),
+];
+
+// Whether of these rows those count, in their order, among so many servers, by the last id that counts.
+fn counts(
+    alloc: Global,
+    servers: u32,
+    last: u64,
+    given: &[Given],
+    want: &[Given],
+) -> Result<bool, Fail> {
+    let rows = counted(alloc, servers, last, rows(alloc, given)?)?;
+    Ok(are_rows(alloc, &rows, want)?)
 }
 
 // Rows that don't count, since a server is unknown or a number is past its greatest.
-fn hostile_rows(alloc: Global) -> Result<Vec<Row>, Fail> {
-    let mut rows = Vec::new(alloc);
-    rows.push(instance(alloc, 2, SourceState::Without, 0, 0))?;
-    rows.push(instance(alloc, 0, SourceState::Attached(ServerNo(2)), 0, 0))?;
-    rows.push(instance(alloc, 0, SourceState::Detached(ServerNo(u32::MAX)), 0, 0))?;
-    rows.push(instance(alloc, 0, SourceState::Without, MOST + 1, 0))?;
-    rows.push(instance(alloc, 0, SourceState::Without, 0, u64::MAX))?;
-    rows.push(downtime(alloc, 2, 0, 0)?)?;
-    rows.push(downtime(alloc, 0, MOST + 1, 0)?)?;
-    rows.push(downtime(alloc, 0, 0, MOST + 1)?)?;
-    rows.push(candidate(2, 0))?;
-    rows.push(candidate(0, u64::MAX))?;
-    rows.push(recovery(alloc, 0, 0, None, Ending::Unended)?)?;
-    rows.push(recovery(alloc, MOST_ID + 1, 0, None, Ending::Unended)?)?;
-    rows.push(recovery(alloc, 1, MOST + 1, None, Ending::Unended)?)?;
-    rows.push(recovery(alloc, 1, 0, Some(Moment(MOST + 1)), Ending::Unended)?)?;
-    rows.push(recovery(alloc, 1, 0, None, Ending::Promoted(ServerNo(2)))?)?;
-    Ok(rows)
-}
-
 #[test]
 fn hostile_rows_do_not_count(rt: HostRuntime) -> Result<(), Fail> {
-    let alloc = rt.alloc();
-    for (number, row) in hostile_rows(alloc)?.into_iter().enumerate() {
-        let rows = Vec::from_array(alloc, [row])?;
-        assert!(rt;
-            counted(alloc, 2, MOST_ID, rows)?.is_empty(),
-            "row {number}"
-        );
+    for (place, row) in [
+        Given::Instance(2, ROOT, 0, 0),
+        Given::Instance(0, SourceState::Attached(ServerNo(2)), 0, 0),
+        Given::Instance(0, SourceState::Detached(ServerNo(u32::MAX)), 0, 0),
+        Given::Instance(0, ROOT, MOST + 1, 0),
+        Given::Instance(0, ROOT, 0, u64::MAX),
+        Given::Downtime(2, 0, 0),
+        Given::Downtime(0, MOST + 1, 0),
+        Given::Downtime(0, 0, MOST + 1),
+        Given::Candidate(2, Rule::Prefer, 0),
+        Given::Candidate(0, Rule::Prefer, u64::MAX),
+        Given::Recovery(0, 0, None, Ending::Unended),
+        Given::Recovery(MOST_ID + 1, 0, None, Ending::Unended),
+        Given::Recovery(1, MOST + 1, None, Ending::Unended),
+        Given::Recovery(1, 0, Some(MOST + 1), Ending::Unended),
+        Given::Recovery(1, 0, None, Ending::Promoted(ServerNo(2))),
+    ]
+    .into_iter()
+    .enumerate()
+    {
+        assert!(rt; counts(rt.alloc(), 2, MOST_ID, &[row], &[])?, "row {place}");
     }
-    assert!(rt; counted(alloc, 0, MOST_ID, good_rows(alloc)?)?.len() == 1);
     Ok(())
 }
 
-// The next id is behind each that is in range, and at a restart the ids that were given count.
-#[test]
-fn given_ids_count(rt: HostRuntime) -> Result<(), Fail> {
-    let alloc = rt.alloc();
-    let mut rows = Vec::new(alloc);
-    for id in [MOST_ID + 7, 9, 8, 0] {
-        rows.push(recovery(alloc, id, 0, None, Ending::Unended)?)?;
-    }
-    assert_eq!(rt; last_id(&rows), 9);
-    let given = counted(alloc, 2, 8, rows)?;
-    assert_eq!(rt; given.len(), 1);
-    assert!(rt; stands(&given, 0, &recovery(alloc, 8, 0, None, Ending::Unended)?));
-    Ok(())
-}
-
-// Whether a row stands at this place.
-fn stands(rows: &[Row], place: usize, row: &Row) -> bool {
-    match rows.get(place) {
-        Some(there) => there.is_same(row),
-        None => false,
-    }
-}
+// Recoveries by ids. The next id is behind each that is in range, and at a restart the ids that were given count.
+const RECOVERIES: [Given; 4] = [
+    Given::Recovery(MOST_ID + 7, 0, None, Ending::Unended),
+    Given::Recovery(9, 0, None, Ending::Unended),
+    Given::Recovery(8, 0, None, Ending::Unended),
+    Given::Recovery(0, 0, None, Ending::Unended),
+];
 
 #[test]
 fn counted_rows_stand_in_order(rt: HostRuntime) -> Result<(), Fail> {
-    let alloc = rt.alloc();
-    let mut rows = counted(alloc, 2, MOST_ID, good_rows(alloc)?)?;
-    assert_eq!(rt; rows.len(), 7);
-    // Of two rows of one server the last stands.
-    let last = instance(alloc, 0, SourceState::Detached(ServerNo(1)), MOST, MOST);
-    assert!(rt; stands(&rows, 0, &last));
-    assert!(rt; stands(&rows, 2, &downtime(alloc, 0, 50, MOST)?));
-    let promoted = Ending::Promoted(ServerNo(1));
-    assert!(rt; stands(&rows, 4, &recovery(alloc, 1, 40, None, promoted)?));
-    assert!(rt; stands(&rows, 6, &Row::Switch(false)));
-    assert_eq!(rt; last_read(&rows), MOST);
-    assert_eq!(rt; latest_moment(Moment(5), &rows), Moment(MOST));
-    // Without the recovery that ended last: the begun moment of the downtime.
-    rows.truncate(5);
-    assert_eq!(rt; latest_moment(Moment(5), &rows), Moment(50));
-    assert_eq!(rt; latest_moment(Moment(60), &rows), Moment(60));
-    rows.truncate(0);
-    assert_eq!(rt; last_read(&rows), 0);
+    // How many servers there are, the last id that counts, the rows, and those that count.
+    let cases: [(u32, u64, &[Given], &[Given]); 3] = [
+        (2, MOST_ID, &GOOD, &IN_ORDER),
+        (0, MOST_ID, &GOOD, &[Given::Switch(false)]),
+        (
+            2,
+            8,
+            &RECOVERIES,
+            &[Given::Recovery(8, 0, None, Ending::Unended)],
+        ),
+    ];
+    for (servers, last, given, want) in cases {
+        assert!(rt;
+            counts(rt.alloc(), servers, last, given, want)?,
+            "by {last}"
+        );
+    }
     Ok(())
 }
 
-fn settings(alloc: Global, name: &str) -> Result<Settings, Fail> {
-    Ok(Settings {
-        name: Name::read(alloc, name)?,
-        uuid: 1,
-        server_id: 1,
-        version: Version {
-            major: 8,
-            minor: 0,
-            patch: 36,
-        },
-        cluster: OwnedText::new(String::from_str(alloc, "m:3306")?),
-        logs: true,
-        limit: 4096,
-    })
+// The last id and reading, and the latest moment from two on.
+fn numbers(alloc: Global, given: &[Given]) -> Result<(u64, u64, [Moment; 2]), Fail> {
+    let rows = rows(alloc, given)?;
+    let latest = [
+        latest_moment(Moment(5), &rows),
+        latest_moment(Moment(60), &rows),
+    ];
+    Ok((last_id(&rows), last_read(&rows), latest))
+}
+
+#[test]
+fn numbers_go_on(rt: HostRuntime) -> Result<(), Fail> {
+    // Without the recovery that ended last the latest moment is the begin of the downtime.
+    for (given, want) in [
+        (&IN_ORDER[..], (MOST_ID, MOST, [Moment(MOST); 2])),
+        (&IN_ORDER[..5], (1, MOST, [Moment(50), Moment(60)])),
+        (&RECOVERIES[..], (9, 0, [Moment(5), Moment(60)])),
+        (&IN_ORDER[..0], (0, 0, [Moment(5), Moment(60)])),
+    ] {
+        assert_eq!(rt; numbers(rt.alloc(), given)?, want);
+    }
+    Ok(())
+}
+
+// How many servers there are, and whether recoveries are enabled.
+fn loaded(alloc: Global) -> Result<Option<(u32, bool)>, Fail> {
+    let settings = settings(alloc, &[("m", "m:3306"), ("r", "m:3306")])?;
+    let rows: Vec<Row> = rows(alloc, &IN_ORDER)?;
+    if settings.len() > 100 {
+        return Ok(None);
+    }
+    let book = loaded_book(alloc, &settings, &rows)?;
+    Ok(Some((book.servers(), book.enabled())))
 }
 
 #[test]
 fn book_is_loaded(rt: HostRuntime) -> Result<(), Fail> {
-    let alloc = rt.alloc();
-    let mut servers = Vec::new(alloc);
-    servers.push(settings(alloc, "m")?)?;
-    servers.push(settings(alloc, "r")?)?;
-    let rows = counted(alloc, 2, MOST_ID, good_rows(alloc)?)?;
-    let book = loaded_book(alloc, &servers, &rows)?;
-    assert_eq!(rt; book.servers(), 2);
-    assert!(rt; !book.enabled());
+    assert_eq!(rt; loaded(rt.alloc())?, Some((2, false)));
     Ok(())
 }

@@ -2,29 +2,28 @@
 
 ghost use Rattle.std.specs.Prelude.{◌≤◌, ◌<◌, ◌↔◌, All, IfSome, IsTrue};
 
-use crate::asking::{MASTER, Server, book_of, print_lines, replica};
+use crate::rows::{Given, book, label};
 use audit_log::{Audit, kept_recoveries_make_an_audit, recoveries_in};
 use book_commands::{Decided, Effect, decide, rows_of};
 use command_routes::Decision;
-use commands::Keys;
-use instance_keeper::{Book, Change, Recovery, Row, last_row_stands, row_map};
-use orch_base::{Ending, Kind, Moment, OwnedText, Rule, ServerNo};
+use commands::{Keys, Line};
+use instance_keeper::{Book, Change, Key, Recovery, Row, last_row_stands, row_map};
+use orch_base::{Ending, Kind, Moment, Rule, ServerNo, SourceState};
 use std::alloc::Global;
-use std::process::Abort;
-use std::test::*;
+use std::test::Fail;
 
 // What a decision is given.
 #[derive(Clone, Copy)]
-struct Given<'a> {
+struct Asked {
     decision: Decision,
     server: u32,
     now: u64,
     duration: Option<u64>,
-    reason: Option<&'a str>,
+    reason: Option<&'static str>,
     rule: Option<Rule>,
 }
 
-const BEGIN: Given<'static> = Given {
+const BEGIN: Asked = Asked {
     decision: Decision::BeginDowntime,
     server: 0,
     now: 0,
@@ -33,14 +32,14 @@ const BEGIN: Given<'static> = Given {
     rule: None,
 };
 
-fn keys(alloc: Global, given: Given<'_>) -> Result<Keys, Fail> {
-    let reason = match given.reason {
-        Some(text) => Some(OwnedText::new(String::from_str(alloc, text)?)),
+fn keys(alloc: Global, asked: Asked) -> Result<Keys, Fail> {
+    let reason = match asked.reason {
+        Some(text) => Some(label(alloc, text)?),
         None => None,
     };
     Ok(Keys {
-        rule: given.rule,
-        duration: given.duration,
+        rule: asked.rule,
+        duration: asked.duration,
         reason,
         owner: None,
         pattern: None,
@@ -56,36 +55,83 @@ fn is_short(duration: Option<u64>) -> bool
     }
 }
 
+// None where the server is unknown, or the moment or the duration too late.
 fn decided(
-    rt: &impl Abort,
     alloc: Global,
     book: &Book,
     audit: &Audit,
-    given: Given<'_>,
-) -> Result<Decided, Fail> {
-    let keys = keys(alloc, given)?;
-    assert!(rt; is_short(keys.duration));
-    assert!(rt; given.now <= 9_223_372_036_854_775_808);
-    assert!(rt; given.server < book.servers());
-    let server = Some(ServerNo(given.server));
-    Ok(decide(
-        alloc,
-        book,
-        audit,
-        Moment(given.now),
-        &keys,
+    asked: Asked,
+) -> Result<Option<Decided>, Fail> {
+    let Asked {
+        decision,
         server,
-        given.decision,
-    )?)
+        now,
+        ..
+    } = asked;
+    let keys = keys(alloc, asked)?;
+    if server >= book.servers() || now > 1 << 63 || !is_short(keys.duration) {
+        return Ok(None);
+    }
+    let no = Some(ServerNo(server));
+    let decided = decide(alloc, book, audit, Moment(now), &keys, no, decision)?;
+    Ok(Some(decided))
+}
+
+// What is answered.
+#[derive(Clone, Copy)]
+enum Want {
+    Server(u32),
+    Downtime(u32, u64),
+    Candidate(u32, Rule, u64),
+    Enabled(bool),
+    Acknowledged(u64),
+}
+
+fn is_line(line: &Line, want: Want) -> bool {
+    match (line, want) {
+        (Line::Server(no), Want::Server(server)) => no.0 == server,
+        (Line::Downtime(no, end), Want::Downtime(server, until)) => {
+            no.0 == server && end.0 == until
+        }
+        (Line::Candidate { no, rule, until }, Want::Candidate(server, kept, end)) => {
+            no.0 == server && *rule == kept && until.0 == end
+        }
+        (Line::Enabled, Want::Enabled(enabled)) => enabled,
+        (Line::Disabled, Want::Enabled(enabled)) => !enabled,
+        (Line::Acknowledged(count), Want::Acknowledged(wanted)) => *count == wanted,
+        _ => false,
+    }
+}
+
+fn is_only_line(lines: &[Line], want: Want) -> bool {
+    match lines {
+        [line] => is_line(line, want),
+        _ => false,
+    }
+}
+
+// The key under which a change keeps or removes a row; none of a recovery that isn't acknowledged.
+fn key_of(change: &Change) -> Option<Key> {
+    match change {
+        Change::Put(Row::Recovery(r)) if !r.acked => None,
+        Change::Put(row) => Some(row.key()),
+        Change::Remove(_, key) => Some(*key),
+    }
+}
+
+fn are_kept(changes: &[Change], want: &[Key]) -> bool {
+    let mut both = changes.iter().zip(want);
+    changes.len() == want.len() && both.all(|(change, key)| key_of(change) == Some(*key))
 }
 
 // Makes the change of the book or of the audit.
-fn make(rt: &impl Abort, book: &mut Book, audit: &mut Audit, effect: Effect) {
+fn make(book: &mut Book, audit: &mut Audit, effect: Effect) {
     match effect {
         Effect::Stays => {}
         Effect::Change(change) => {
-            assert!(rt; change.fits(book.servers()));
-            book.set(change);
+            if change.fits(book.servers()) {
+                book.set(change);
+            }
         }
         Effect::Acks(cluster) => {
             audit.ack(cluster.as_str());
@@ -93,150 +139,27 @@ fn make(rt: &impl Abort, book: &mut Book, audit: &mut Audit, effect: Effect) {
     }
 }
 
-// Decides, and makes the change of the book or the audit; asserts the lines, and how many rows are kept.
-fn assert_decides(
-    rt: &impl Abort,
+// Decides and makes the change: whether this is the line, and whether rows of these keys are kept.
+fn is_decided(
     alloc: Global,
     book: &mut Book,
     audit: &mut Audit,
-    given: Given<'_>,
-    (want, kept): (&str, usize),
-) -> Result<(), Fail> {
-    let Decided { lines, effect } = decided(rt, alloc, book, audit, given)?;
+    (asked, line, kept): Step,
+) -> Result<(bool, bool), Fail> {
+    let decided = decided(alloc, book, audit, asked)?;
+    let Decided { lines, effect } = decided.ok_or("not asked")?;
     let rows = rows_of(alloc, audit, &effect)?;
-    assert_eq!(rt; rows.len(), kept, "at {want}");
-    let mut out = Vec::new(alloc);
-    print_lines(rt, book, &lines, &mut out)?;
-    assert_eq!(rt; str::from_utf8(&out).ok(), Some(want));
-    make(rt, book, audit, effect);
-    Ok(())
+    make(book, audit, effect);
+    Ok((is_only_line(lines.as_slice(), line), are_kept(&rows, kept)))
 }
 
-fn no_recoveries(alloc: Global) -> Audit {
-    Audit::make(Vec::new(alloc), 1)
-}
-
-#[test]
-fn downtimes_begin_and_end(rt: HostRuntime) -> Result<(), Fail> {
-    let alloc = rt.alloc();
-    let mut book = book_of(&rt, alloc, &[MASTER, replica("a", 0)])?;
-    let mut audit = no_recoveries(alloc);
-    let end = Given {
-        decision: Decision::EndDowntime,
-        ..BEGIN
-    };
-    let ten_minutes = Given {
-        duration: Some(600),
-        ..BEGIN
-    };
-    let year = Given {
-        now: 9_223_372_036_854_775_808,
-        duration: Some(31_536_000),
-        ..BEGIN
-    };
-    let why = Given {
-        reason: Some("disk"),
-        ..BEGIN
-    };
-    // Ten minutes where no duration is given; the same again keeps nothing, another reason does.
-    for (given, want, kept) in [
-        (end, "m:3306;", 0),
-        (BEGIN, "m:3306 until 600;", 1),
-        (ten_minutes, "m:3306 until 600;", 0),
-        (why, "m:3306 until 600;", 1),
-        (why, "m:3306 until 600;", 0),
-        (year, "m:3306 until 9223372036886311808;", 1),
-        (Given { now: 7, ..BEGIN }, "m:3306 until 607;", 1),
-    ] {
-        assert_decides(&rt, alloc, &mut book, &mut audit, given, (want, kept))?;
-    }
-    assert_eq!(rt; downtime(&book, 0, 606), Some(Moment(607)));
-    assert_eq!(rt; downtime(&book, 0, 607), None);
-    assert_eq!(rt; downtime(&book, 1, 7), None);
-    // One that no longer lasts is removed, too.
-    let late = Given { now: 9000, ..end };
-    assert_decides(&rt, alloc, &mut book, &mut audit, late, ("m:3306;", 1))?;
-    assert_decides(&rt, alloc, &mut book, &mut audit, late, ("m:3306;", 0))?;
-    assert_eq!(rt; downtime(&book, 0, 7), None);
-    Ok(())
-}
-
-fn downtime(book: &Book, no: u32, now: u64) -> Option<Moment> {
-    if no < book.servers() {
-        book.downtime(ServerNo(no), Moment(now))
-    } else {
-        None
-    }
-}
-
-fn rule(book: &Book, no: u32, now: u64) -> Option<Rule> {
-    if no < book.servers() {
-        Some(book.rule(ServerNo(no), Moment(now)))
-    } else {
-        None
-    }
-}
-
-#[test]
-fn candidates_are_registered_for_an_hour(rt: HostRuntime) -> Result<(), Fail> {
-    let alloc = rt.alloc();
-    let mut book = book_of(&rt, alloc, &[MASTER, replica("a", 0)])?;
-    let mut audit = no_recoveries(alloc);
-    let prefer = Given {
-        decision: Decision::RegisterCandidate,
-        server: 1,
-        now: 40,
-        rule: Some(Rule::Prefer),
-        ..BEGIN
-    };
-    let never = Given {
-        rule: Some(Rule::MustNot),
-        ..prefer
-    };
-    for (given, want, kept) in [
-        (prefer, "a:3306 Prefer until 3640;", 1),
-        (prefer, "a:3306 Prefer until 3640;", 0),
-        (never, "a:3306 MustNot until 3640;", 1),
-        (Given { now: 41, ..never }, "a:3306 MustNot until 3641;", 1),
-    ] {
-        assert_decides(&rt, alloc, &mut book, &mut audit, given, (want, kept))?;
-    }
-    assert_eq!(rt; rule(&book, 1, 3640), Some(Rule::MustNot));
-    assert_eq!(rt; rule(&book, 1, 3641), Some(Rule::Neutral));
-    assert_eq!(rt; rule(&book, 0, 41), Some(Rule::Neutral));
-    Ok(())
-}
-
-#[test]
-fn the_first_row_of_the_switch_is_kept(rt: HostRuntime) -> Result<(), Fail> {
-    let alloc = rt.alloc();
-    let mut book = book_of(&rt, alloc, &[MASTER])?;
-    let mut audit = no_recoveries(alloc);
-    let enable = Given {
-        decision: Decision::EnableRecoveries,
-        ..BEGIN
-    };
-    let disable = Given {
-        decision: Decision::DisableRecoveries,
-        ..BEGIN
-    };
-    assert!(rt; book.enabled());
-    for (given, want, kept) in [
-        (enable, "enabled;", 1),
-        (enable, "enabled;", 0),
-        (disable, "disabled;", 1),
-        (disable, "disabled;", 0),
-    ] {
-        assert_decides(&rt, alloc, &mut book, &mut audit, given, (want, kept))?;
-    }
-    assert!(rt; !book.enabled());
-    Ok(())
-}
+// What is asked, the line that answers it, and the keys of the rows that are kept anew.
+type Step = (Asked, Want, &'static [Key]);
 
 fn recovery(alloc: Global, id: u64, cluster: &str, acked: bool) -> Result<Recovery, Fail> {
     Ok(Recovery {
         id,
-        cluster: OwnedText::new(String::from_str(alloc, cluster)?),
+        cluster: label(alloc, cluster)?,
         kind: Kind::Master,
         failed: ServerNo(0),
         begun: Moment(5),
@@ -264,55 +187,133 @@ fn loaded(alloc: Global, rows: Vec<Row>, next: u64) -> Result<Option<Audit>, Fai
     Ok(Some(Audit::make(list, next)))
 }
 
-// An audit of recoveries of these clusters, each acknowledged or not, with the ids 1, 2 and 3.
-fn audit_of(alloc: Global, clusters: [(&str, bool); 3]) -> Result<Audit, Fail> {
+// An audit of four recoveries, of which one is acknowledged.
+fn audit(alloc: Global) -> Result<Audit, Fail> {
     let mut rows = Vec::new(alloc);
-    for (k, (cluster, acked)) in clusters.iter().enumerate() {
-        rows.push(Row::Recovery(recovery(alloc, k as u64 + 1, cluster, *acked)?))?;
+    for (id, cluster, acked) in [
+        (1, "m:3306", false),
+        (2, "x", false),
+        (3, "m:3306", true),
+        (4, "m:3306", false),
+    ] {
+        rows.push(Row::Recovery(recovery(alloc, id, cluster, acked)?))?;
     }
-    Ok(loaded(alloc, rows, 4)?.ok_or("no audit")?)
+    Ok(loaded(alloc, rows, 5)?.ok_or("no audit")?)
 }
 
+const SERVERS: [(&str, &str); 3] = [("m", "m:3306"), ("a", "m:3306"), ("x", "x")];
+
+const INSTANCES: [Given; 3] = [
+    Given::Instance(0, SourceState::Without, 0, 0),
+    Given::Instance(1, SourceState::Attached(ServerNo(0)), 0, 0),
+    Given::Instance(2, SourceState::Without, 0, 0),
+];
+
+// The first step whose line or rows are others, counted from 0, and whether they are as they should be.
+fn surprise(alloc: Global, steps: &[Step]) -> Result<Option<(usize, bool, bool)>, Fail> {
+    let mut audit = audit(alloc)?;
+    let mut book = book(alloc, &SERVERS, &INSTANCES)?;
+    for (place, step) in steps.iter().enumerate() {
+        let (line, kept) = is_decided(alloc, &mut book, &mut audit, *step)?;
+        if !line || !kept {
+            return Ok(Some((place, line, kept)));
+        }
+    }
+    Ok(None)
+}
+
+const MASTER: Key = Key::Server(ServerNo(0));
+
+const REPLICA: Key = Key::Server(ServerNo(1));
+
 #[test]
-fn acknowledgements_are_of_a_cluster(rt: HostRuntime) -> Result<(), Fail> {
-    let alloc = rt.alloc();
-    let other = Server {
-        name: "x",
-        cluster: "x",
-        ..MASTER
-    };
-    let mut book = book_of(&rt, alloc, &[MASTER, replica("a", 0), other])?;
-    let mut audit = audit_of(alloc, [("m:3306", false), ("x", false), ("m:3306", true)])?;
-    let ack = Given {
-        decision: Decision::AckRecoveries,
-        server: 1,
+fn downtimes_begin_and_end(rt: HostRuntime) -> Result<(), Fail> {
+    let end = Asked {
+        decision: Decision::EndDowntime,
         ..BEGIN
     };
-    for (given, want, kept) in [
-        (ack, "acknowledged 1;", 1),
-        (ack, "acknowledged 0;", 0),
-        (Given { server: 2, ..ack }, "acknowledged 1;", 1),
-        (Given { server: 2, ..ack }, "acknowledged 0;", 0),
-    ] {
-        assert_decides(&rt, alloc, &mut book, &mut audit, given, (want, kept))?;
-    }
-    assert!(rt; audit.recoveries().iter().all(|r| r.acked));
+    let ten_minutes = Asked {
+        duration: Some(600),
+        ..BEGIN
+    };
+    let year = Asked {
+        now: 1 << 63,
+        duration: Some(31_536_000),
+        ..BEGIN
+    };
+    let why = Asked {
+        reason: Some("disk"),
+        ..BEGIN
+    };
+    let late = Asked { now: 9000, ..end };
+    // Ten minutes where no duration is given; the same again keeps nothing, another reason does. One that no longer
+    // lasts is removed, too.
+    let steps: [Step; 9] = [
+        (end, Want::Server(0), &[]),
+        (BEGIN, Want::Downtime(0, 600), &[MASTER]),
+        (ten_minutes, Want::Downtime(0, 600), &[]),
+        (why, Want::Downtime(0, 600), &[MASTER]),
+        (why, Want::Downtime(0, 600), &[]),
+        (year, Want::Downtime(0, 9223372036886311808), &[MASTER]),
+        (Asked { now: 7, ..BEGIN }, Want::Downtime(0, 607), &[MASTER]),
+        (late, Want::Server(0), &[MASTER]),
+        (late, Want::Server(0), &[]),
+    ];
+    assert_eq!(rt; surprise(rt.alloc(), &steps)?, None);
     Ok(())
 }
 
 #[test]
-fn what_is_kept_of_acknowledgements(rt: HostRuntime) -> Result<(), Fail> {
-    let alloc = rt.alloc();
-    let audit = audit_of(alloc, [("m", false), ("m", true), ("m", false)])?;
-    let cluster = OwnedText::new(String::from_str(alloc, "m")?);
-    let rows = rows_of(alloc, &audit, &Effect::Acks(cluster))?;
-    let mut ids = Vec::new(alloc);
-    for change in &rows {
-        if let Change::Put(Row::Recovery(r)) = change {
-            assert!(rt; r.acked);
-            ids.push(r.id)?;
-        }
-    }
-    assert_eq!(rt; ids.as_slice(), [1, 3].as_slice());
+fn candidates_are_registered_for_an_hour(rt: HostRuntime) -> Result<(), Fail> {
+    let prefer = Asked {
+        decision: Decision::RegisterCandidate,
+        server: 1,
+        now: 40,
+        rule: Some(Rule::Prefer),
+        ..BEGIN
+    };
+    let never = Asked {
+        rule: Some(Rule::MustNot),
+        ..prefer
+    };
+    let later = Asked { now: 41, ..never };
+    let steps: [Step; 4] = [
+        (prefer, Want::Candidate(1, Rule::Prefer, 3640), &[REPLICA]),
+        (prefer, Want::Candidate(1, Rule::Prefer, 3640), &[]),
+        (never, Want::Candidate(1, Rule::MustNot, 3640), &[REPLICA]),
+        (later, Want::Candidate(1, Rule::MustNot, 3641), &[REPLICA]),
+    ];
+    assert_eq!(rt; surprise(rt.alloc(), &steps)?, None);
+    Ok(())
+}
+
+// The first row of the switch is kept, though recoveries are enabled without one. Acknowledgements are of a cluster.
+#[test]
+fn switch_and_acknowledgements_are_kept(rt: HostRuntime) -> Result<(), Fail> {
+    let enable = Asked {
+        decision: Decision::EnableRecoveries,
+        ..BEGIN
+    };
+    let disable = Asked {
+        decision: Decision::DisableRecoveries,
+        ..BEGIN
+    };
+    let ack = Asked {
+        decision: Decision::AckRecoveries,
+        server: 1,
+        ..BEGIN
+    };
+    let other = Asked { server: 2, ..ack };
+    let steps: [Step; 8] = [
+        (enable, Want::Enabled(true), &[Key::Global]),
+        (enable, Want::Enabled(true), &[]),
+        (disable, Want::Enabled(false), &[Key::Global]),
+        (disable, Want::Enabled(false), &[]),
+        (ack, Want::Acknowledged(2), &[Key::Id(1), Key::Id(4)]),
+        (ack, Want::Acknowledged(0), &[]),
+        (other, Want::Acknowledged(1), &[Key::Id(2)]),
+        (other, Want::Acknowledged(0), &[]),
+    ];
+    assert_eq!(rt; surprise(rt.alloc(), &steps)?, None);
     Ok(())
 }

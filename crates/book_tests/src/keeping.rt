@@ -1,134 +1,61 @@
 //! The book, its rows and the keeper in memory: each public call once, with ample memory.
 
-ghost use Rattle.std.specs.Prelude.{◌≡◌, ◌<◌, IfOk, length, vec_len};
-
+use crate::rows::{Given, are_rows, book, instance, row, rows, seen};
 use binlog_coords::Coord;
-use gtid_sets::GtidSet;
 use instance_keeper::{
-    Book, Candidate, CauseName, Change, Code, Downtime, Ending, Instance, Keeper, KeeperFault, Key,
-    Kind, MemKeeper, Observation, Recovery, Row, Rule, Seen, StoreAnswer, Table,
+    Book, Change, Ending, Instance, Keeper, KeeperFault, Key, MemKeeper, Observation, Row, Rule,
+    StoreAnswer, Table,
 };
-use orch_base::{IoState, Moment, Name, OwnedText, ServerNo, Settings, SourceState, Version};
+use orch_base::{Memory, Moment, Name, ServerNo, SourceState};
 use std::alloc::Global;
 use std::test::Fail;
 
-fn label(alloc: Global, text: &str) -> Result<OwnedText, Fail> {
-    Ok(OwnedText::new(String::from_str(alloc, text)?))
-}
+const SERVERS: [(&str, &str); 2] = [("m", "m:3306"), ("r:3307", "m:3306")];
 
-fn seen(alloc: Global, source: SourceState, file: u32) -> Result<Seen, Fail> {
-    Ok(Seen {
-        own_end: Some(Coord { file, pos: 4 }),
-        source,
-        exec: Coord { file: 1, pos: 4 },
-        read: Coord { file: 1, pos: 4 },
-        auto: false,
-        io: IoState::Yes,
-        sql: true,
-        read_only: false,
-        set: GtidSet::read(alloc, "3e11fa47-71ca-11e1-9e33-c80aa9429562:1-5")?,
-    })
-}
+const BY_MASTER: SourceState = SourceState::Attached(ServerNo(0));
 
-fn instance(alloc: Global, no: u32, source: SourceState, read: u64) -> Result<Instance, Fail> {
-    Ok(Instance {
-        no: ServerNo(no),
-        read,
-        moment: Moment(7),
-        valid: true,
-        seen: seen(alloc, source, 2)?,
-    })
-}
+// Rows in no order, two of one key, a recovery, and rows of servers that there aren't.
+const ROWS: [Given; 9] = [
+    Given::Switch(true),
+    Given::Recovery(u64::MAX, 5, None, Ending::Unended),
+    Given::Candidate(1, Rule::MustNot, 50),
+    Given::Instance(u32::MAX, SourceState::Without, 9, 7),
+    Given::Instance(1, BY_MASTER, 3, 7),
+    Given::Instance(0, SourceState::Detached(ServerNo(2)), 4, 7),
+    Given::Downtime(1, 1, 20),
+    Given::Candidate(1, Rule::Prefer, 60),
+    Given::Switch(false),
+];
 
-fn downtime(alloc: Global, no: u32, until: u64) -> Result<Downtime, Fail> {
-    Ok(Downtime {
-        no: ServerNo(no),
-        begun: Moment(1),
-        until: Moment(until),
-        owner: label(alloc, "amy")?,
-        reason: label(alloc, "disk")?,
-    })
-}
-
-fn recovery(alloc: Global, id: u64) -> Result<Recovery, Fail> {
-    Ok(Recovery {
-        id,
-        cluster: label(alloc, "m:3306")?,
-        kind: Kind::Master,
-        failed: ServerNo(4_000_000_000),
-        begun: Moment(5),
-        ended: None,
-        outcome: Ending::Unended,
-        acked: false,
-    })
-}
-
-fn candidate(no: u32, rule: Rule, until: u64) -> Candidate {
-    Candidate {
-        no: ServerNo(no),
-        rule,
-        until: Moment(until),
+// What a book of two servers tells of the second: whether this is its name, when its downtime ends as told at moments
+// 19 and 20, and its rule at 59 and 60.
+fn told(book: &Book, name: &Name) -> Option<(bool, [Option<Moment>; 2], [Rule; 2])> {
+    if book.servers() != 2 {
+        return None;
     }
+    let no = ServerNo(1);
+    let ends = [book.downtime(no, Moment(19)), book.downtime(no, Moment(20))];
+    let rules = [book.rule(no, Moment(59)), book.rule(no, Moment(60))];
+    Some((book.name(no).is_same(name), ends, rules))
 }
 
-fn server(alloc: Global, name: &str, server_id: u32) -> Result<Settings, Fail> {
-    Ok(Settings {
-        name: Name::read(alloc, name)?,
-        uuid: u128::from(server_id),
-        server_id,
-        version: Version {
-            major: 8,
-            minor: 0,
-            patch: 36,
-        },
-        cluster: label(alloc, "m:3306")?,
-        logs: true,
-        limit: 4096,
-    })
-}
-
-fn settings(alloc: Global) -> Result<Vec<Settings>, Fail>
-    ensures { IfOk result (λ v. vec_len v ≡ 2) }
-{
-    let mut settings = Vec::new(alloc);
-    settings.push(server(alloc, "m", 1)?)?;
-    settings.push(server(alloc, "r:3307", 2)?)?;
-    Ok(settings)
-}
-
-fn book(alloc: Global, rows: &[Row]) -> Result<Book, Fail>
-    ensures { IfOk result (λ b. length b.names ≡ 2) }
-{
-    let settings = settings(alloc)?;
-    Ok(Book::make(alloc, &settings, rows)?)
-}
-
-// Makes a change that fits.
-fn set(book: &mut Book, change: Change) -> bool
-    ensures { book.new.names ≡ book.old.names }
-{
-    let fits = change.fits(book.servers());
-    if fits {
-        book.set(change);
-    }
-    fits
-}
-
-// Stores an observation of known servers.
-fn store(book: &mut Book, o: Observation) -> Option<StoreAnswer>
-    ensures { book.new.names ≡ book.old.names }
-{
-    if o.are_servers_known(book.servers()) {
-        Some(book.store_observation(o))
-    } else {
-        None
-    }
+#[test]
+fn book_is_made_of_rows(rt: HostRuntime) -> Result<(), Fail> {
+    let name = Name::read(rt.alloc(), "r:3307")?;
+    let told = told(&book(rt.alloc(), &SERVERS, &ROWS)?, &name);
+    let ends = [Some(Moment(20)), None];
+    let rules = [Rule::Prefer, Rule::Neutral];
+    assert_eq!(rt; told, Some((true, ends, rules)));
+    Ok(())
 }
 
 // What is known of an instance: its reading, whether it is valid, and the file of its own end.
-fn known(book: &Book, no: u32) -> Option<(u64, bool, u32)>
-    requires { no < length book.now.names }
-{
+type Known = (u64, bool, u32);
+
+fn known(book: &Book, no: u32) -> Option<Known> {
+    if no >= book.servers() {
+        return None;
+    }
     let instance = book.instance(ServerNo(no))?;
     let file = match instance.seen.own_end {
         Some(end) => end.file,
@@ -137,269 +64,277 @@ fn known(book: &Book, no: u32) -> Option<(u64, bool, u32)>
     Some((instance.read, instance.valid, file))
 }
 
-// Takes in an observation of known servers.
-fn discover(book: &mut Book, o: Observation) -> bool
-    ensures { book.new.names ≡ book.old.names }
-{
-    let fits = o.are_servers_known(book.servers());
-    if fits {
-        book.discover(o);
-    }
-    fits
-}
-
-// Adds an instance of known servers.
-fn add(book: &mut Book, instance: Instance) -> bool
-    ensures { book.new.names ≡ book.old.names }
-{
-    let row = Row::Instance(instance);
-    if !row.are_servers_known(book.servers()) {
-        return false;
-    }
-    match row {
-        Row::Instance(instance) => {
-            book.add(instance);
-            true
-        }
-        Row::Downtime(_downtime) => false,
-        Row::Candidate(_candidate) => false,
-        Row::Recovery(_recovery) => false,
-        Row::Switch(_enabled) => false,
-    }
-}
-
 // The file of the own end in server 1's latest bridge under server 0.
-fn bridge(book: &Book) -> Option<u32>
-    requires { 1 < length book.now.names }
-{
+fn bridge(book: &Book) -> Option<u32> {
+    if book.servers() < 2 {
+        return None;
+    }
     let exec = Coord { file: 1, pos: 4 };
     let bridge = book.bridge_by_exec(ServerNo(1), ServerNo(0), exec)?;
     Some(bridge.own.file)
 }
 
-// Rows in no order, two of one key, a recovery, and rows of servers that there aren't.
-fn rows(alloc: Global) -> Result<Vec<Row>, Fail> {
-    let mut rows = Vec::new(alloc);
-    rows.push(Row::Switch(true))?;
-    rows.push(Row::Recovery(recovery(alloc, u64::MAX)?))?;
-    rows.push(Row::Candidate(candidate(1, Rule::MustNot, 50)))?;
-    rows.push(Row::Instance(instance(alloc, u32::MAX, SourceState::Without, 9)?))?;
-    rows.push(Row::Instance(instance(alloc, 1, SourceState::Attached(ServerNo(0)), 3)?))?;
-    rows.push(Row::Instance(instance(alloc, 0, SourceState::Detached(ServerNo(2)), 4)?))?;
-    rows.push(Row::Downtime(downtime(alloc, 1, 20)?))?;
-    rows.push(Row::Candidate(candidate(1, Rule::Prefer, 60)))?;
-    rows.push(Row::Switch(false))?;
-    Ok(rows)
+// What is known of the servers 0 and 1, the bridge, and whether recoveries are enabled.
+type Shown = (Option<Known>, Option<Known>, Option<u32>, bool);
+
+fn shown(book: &Book) -> Shown {
+    (known(book, 0), known(book, 1), bridge(book), book.enabled())
 }
 
-#[test]
-fn book_is_made_of_rows(rt: HostRuntime) -> Result<(), Fail> {
-    let alloc = rt.alloc();
-    let book = book(alloc, &rows(alloc)?)?;
-    assert_eq!(rt; book.servers(), 2);
-    let name = Name::read(alloc, "r:3307")?;
-    assert!(rt; book.name(ServerNo(1)).is_same(&name));
-    // The source of 0 is no server of the scenario.
-    assert_eq!(rt; known(&book, 0), None);
-    assert_eq!(rt; known(&book, 1), Some((3, true, 2)));
-    assert!(rt; !book.enabled());
-    assert_eq!(rt; book.downtime(ServerNo(1), Moment(19)), Some(Moment(20)));
-    assert_eq!(rt; book.downtime(ServerNo(1), Moment(20)), None);
-    assert_eq!(rt; book.rule(ServerNo(1), Moment(59)), Rule::Prefer);
-    assert_eq!(rt; book.rule(ServerNo(1), Moment(60)), Rule::Neutral);
-    Ok(())
+#[derive(Clone, Copy)]
+enum Act {
+    Put(Given),
+    Remove(Table, Key),
+    // Stores a reading of a server: its number, and the file of the server's own end where it was reached.
+    Store(u32, u64, Option<u32>),
+    // Takes in a reading of server 1.
+    Discover(u64, Option<u32>),
+    // Adds server 1 as it is detached from server 0: whether it is valid, and the file of its own end.
+    Add(bool, u32),
+    Reload,
 }
 
-#[test]
-fn book_is_changed(rt: HostRuntime) -> Result<(), Fail> {
-    let alloc = rt.alloc();
-    let mut book = book(alloc, &rows(alloc)?)?;
-    let server = Key::Server(ServerNo(1));
-    let changes = [
-        (Change::Put(Row::Downtime(downtime(alloc, 0, 90)?)), true),
-        (Change::Put(Row::Downtime(downtime(alloc, 2, 90)?)), false),
-        (Change::Put(Row::Recovery(recovery(alloc, 1)?)), false),
-        (Change::Remove(Table::Instance, server), true),
-        (Change::Remove(Table::Downtime, server), true),
-        (Change::Remove(Table::Candidate, server), true),
-        (Change::Remove(Table::Recovery, Key::Id(1)), false),
-        (Change::Remove(Table::Switch, Key::Global), true),
-    ];
-    for (change, fits) in changes {
-        assert_eq!(rt; set(&mut book, change), fits);
+// `Stored` where a change was made; none where it doesn't fit.
+type Answer = Option<StoreAnswer>;
+
+const MADE: Answer = Some(StoreAnswer::Stored);
+
+fn set(book: &mut Book, change: Change) -> Answer {
+    if !change.fits(book.servers()) {
+        return None;
     }
-    Ok(())
+    book.set(change);
+    MADE
 }
 
-#[test]
-fn book_is_as_changed(rt: HostRuntime) -> Result<(), Fail> {
-    let alloc = rt.alloc();
-    let mut book = book(alloc, &rows(alloc)?)?;
-    let row = Row::Instance(instance(alloc, 0, SourceState::Without, 6)?);
-    assert!(rt; set(&mut book, Change::Put(row)));
-    let server = Key::Server(ServerNo(1));
-    assert!(rt; set(&mut book, Change::Remove(Table::Instance, server)));
-    assert!(rt; set(&mut book, Change::Remove(Table::Switch, Key::Global)));
-    assert_eq!(rt; known(&book, 0), Some((6, true, 2)));
-    assert_eq!(rt; known(&book, 1), None);
-    assert_eq!(rt; book.downtime(ServerNo(1), Moment(7)), Some(Moment(20)));
-    assert!(rt; book.enabled());
-    Ok(())
-}
-
-fn observation(alloc: Global, no: u32, read: u64, file: Option<u32>) -> Result<Observation, Fail> {
+fn observation(alloc: Global, no: u32, read: u64, file: Option<u32>) -> Observation {
     let seen = match file {
-        Some(file) => Some(seen(alloc, SourceState::Attached(ServerNo(0)), file)?),
+        Some(file) => Some(seen(alloc, BY_MASTER, file)),
         None => None,
     };
-    let observation = Observation {
+    Observation {
         no: ServerNo(no),
         read,
         moment: Moment(8),
         seen,
-    };
-    Ok(observation.copy()?)
+    }
+}
+
+fn store(book: &mut Book, o: Observation) -> Answer {
+    if !o.are_servers_known(book.servers()) {
+        return None;
+    }
+    Some(book.store_observation(o))
+}
+
+fn discover(book: &mut Book, o: Observation) -> Answer {
+    if !o.are_servers_known(book.servers()) {
+        return None;
+    }
+    book.discover(o);
+    MADE
+}
+
+fn detached(alloc: Global, valid: bool, file: u32) -> Instance {
+    let mut instance = instance(alloc, 1, SourceState::Detached(ServerNo(0)), 9, 7);
+    instance.valid = valid;
+    instance.seen.own_end = Some(Coord { file, pos: 4 });
+    instance
+}
+
+fn add(book: &mut Book, instance: Instance) -> Answer {
+    let row = Row::Instance(instance);
+    if !row.are_servers_known(book.servers()) {
+        return None;
+    }
+    if let Row::Instance(instance) = row {
+        book.add(instance);
+    }
+    MADE
+}
+
+fn answer(alloc: Global, book: &mut Book, act: Act) -> Result<Answer, Fail> {
+    match act {
+        Act::Put(given) => Ok(set(book, Change::Put(row(alloc, given)?))),
+        Act::Remove(table, key) => Ok(set(book, Change::Remove(table, key))),
+        Act::Store(no, read, file) => Ok(store(book, observation(alloc, no, read, file).copy()?)),
+        Act::Discover(read, file) => Ok(discover(book, observation(alloc, 1, read, file))),
+        Act::Add(valid, file) => Ok(add(book, detached(alloc, valid, file))),
+        Act::Reload => {
+            book.reload(rows(alloc, &ROWS)?);
+            Ok(MADE)
+        }
+    }
+}
+
+// The first act that is answered otherwise or leaves the book otherwise, counted from 0, with both.
+fn surprise(
+    alloc: Global,
+    acts: &[(Act, Answer, Shown)],
+) -> Result<Option<(usize, Answer, Shown)>, Fail> {
+    let mut book = book(alloc, &SERVERS, &ROWS)?;
+    for (place, (act, want, after)) in acts.iter().enumerate() {
+        let answer = answer(alloc, &mut book, *act)?;
+        let shown = shown(&book);
+        if answer != *want || shown != *after {
+            return Ok(Some((place, answer, shown)));
+        }
+    }
+    Ok(None)
 }
 
 #[test]
 fn later_readings_stand(rt: HostRuntime) -> Result<(), Fail> {
-    let alloc = rt.alloc();
-    let mut book = book(alloc, &rows(alloc)?)?;
-    let unknown = observation(alloc, 0, 9, Some(3))?;
-    assert_eq!(rt; store(&mut book, unknown), Some(StoreAnswer::Unknown));
-    // The reading's number, the file of the server's own end where it was reached, and what is known after it.
-    for (read, file, want, after) in [
-        (2, Some(3), StoreAnswer::Old(3), (3, true, 2)),
-        (3, None, StoreAnswer::Stored, (3, false, 2)),
-        (5, Some(8), StoreAnswer::Stored, (5, true, 8)),
-        (7, None, StoreAnswer::Stored, (7, false, 8)),
-        (6, Some(9), StoreAnswer::Old(7), (7, false, 8)),
-    ] {
-        let o = observation(alloc, 1, read, file)?;
-        assert_eq!(rt; store(&mut book, o), Some(want), "at {read}");
-        if book.servers() > 1 {
-            assert_eq!(rt; known(&book, 1), Some(after), "at {read}");
-        }
-    }
+    let made = (None, Some((3, true, 2)), None, false);
+    let lost = (None, Some((3, false, 2)), None, false);
+    let later = (None, Some((5, true, 8)), Some(8), false);
+    let lost_later = (None, Some((7, false, 8)), Some(8), false);
+    let acts = [
+        // the source of 0 is no server of the scenario
+        (Act::Store(0, 9, Some(3)), Some(StoreAnswer::Unknown), made),
+        (Act::Store(1, 2, Some(3)), Some(StoreAnswer::Old(3)), made),
+        (Act::Store(1, 3, None), MADE, lost),
+        (Act::Store(1, 5, Some(8)), MADE, later),
+        (Act::Store(1, 7, None), MADE, lost_later),
+        (
+            Act::Store(1, 6, Some(9)),
+            Some(StoreAnswer::Old(7)),
+            lost_later,
+        ),
+        (Act::Store(2, 9, Some(9)), None, lost_later),
+        // loaded anew, the book is as it was made, without a bridge
+        (Act::Reload, MADE, made),
+    ];
+    assert_eq!(rt; surprise(rt.alloc(), &acts)?, None);
     Ok(())
 }
 
 #[test]
 fn bridges_come_with_what_is_seen(rt: HostRuntime) -> Result<(), Fail> {
-    let alloc = rt.alloc();
-    let mut book = book(alloc, &rows(alloc)?)?;
-    let key = Key::Server(ServerNo(1));
-    assert_eq!(rt; bridge(&book), None, "a kept row brings none");
-    assert_eq!(rt;
-        store(&mut book, observation(alloc, 1, 5, Some(3))?),
-        Some(StoreAnswer::Stored)
-    );
-    assert_eq!(rt; bridge(&book), Some(3));
-    // An earlier reading is passed over, as at a store; a later one stands.
-    assert!(rt; discover(&mut book, observation(alloc, 1, 4, Some(7))?));
-    assert_eq!(rt;
-        (bridge(&book), known(&book, 1)),
-        (Some(3), Some((5, true, 3)))
-    );
-    assert!(rt; discover(&mut book, observation(alloc, 1, 6, Some(9))?));
-    assert_eq!(rt;
-        (bridge(&book), known(&book, 1)),
-        (Some(9), Some((6, true, 9)))
-    );
-    // An instance that was forgotten has no bridge, and is added again where its server is reached.
-    assert!(rt; set(&mut book, Change::Remove(Table::Instance, key)));
-    assert_eq!(rt; bridge(&book), None);
-    assert!(rt; discover(&mut book, observation(alloc, 1, 7, None)?));
-    assert_eq!(rt; known(&book, 1), None);
-    assert!(rt; discover(&mut book, observation(alloc, 1, 8, Some(4))?));
-    assert_eq!(rt;
-        (bridge(&book), known(&book, 1)),
-        (Some(4), Some((8, true, 4)))
-    );
-    // One that isn't valid shows no bridge.
-    let source = SourceState::Detached(ServerNo(0));
-    let mut unreached = instance(alloc, 1, source, 9)?;
-    unreached.valid = false;
-    unreached.seen.own_end = Some(Coord { file: 6, pos: 4 });
-    assert!(rt; add(&mut book, unreached));
-    assert_eq!(rt;
-        (bridge(&book), known(&book, 1)),
-        (Some(4), Some((9, false, 6)))
-    );
-    assert!(rt; add(&mut book, instance(alloc, 1, source, 9)?));
-    assert_eq!(rt;
-        (bridge(&book), known(&book, 1)),
-        (Some(2), Some((9, true, 2)))
-    );
-    // Loaded anew, the book is as it was made, without a bridge.
-    book.reload(rows(alloc)?);
-    assert_eq!(rt;
-        (bridge(&book), known(&book, 1)),
-        (None, Some((3, true, 2)))
-    );
-    assert_eq!(rt; (known(&book, 0), book.enabled()), (None, false));
+    let forget = Act::Remove(Table::Instance, Key::Server(ServerNo(1)));
+    let with = |known: Known, bridge: u32| (None, Some(known), Some(bridge), false);
+    let acts = [
+        (Act::Store(1, 5, Some(3)), MADE, with((5, true, 3), 3)),
+        // an earlier reading is passed over, as at a store; a later one stands
+        (Act::Discover(4, Some(7)), MADE, with((5, true, 3), 3)),
+        (Act::Discover(6, Some(9)), MADE, with((6, true, 9), 9)),
+        // an instance that was forgotten has no bridge, and is added again where its server is reached
+        (forget, MADE, (None, None, None, false)),
+        (Act::Discover(7, None), MADE, (None, None, None, false)),
+        (Act::Discover(8, Some(4)), MADE, with((8, true, 4), 4)),
+        // one that isn't valid shows no bridge
+        (Act::Add(false, 6), MADE, with((9, false, 6), 4)),
+        (Act::Add(true, 2), MADE, with((9, true, 2), 2)),
+    ];
+    assert_eq!(rt; surprise(rt.alloc(), &acts)?, None);
     Ok(())
 }
 
-// A keeper by what its trait says.
-fn keep<K: Keeper>(alloc: Global, keeper: &mut K, changes: &[Change]) -> Result<(), KeeperFault> {
-    keeper.keep(alloc, &[], changes)
+#[test]
+fn book_is_changed(rt: HostRuntime) -> Result<(), Fail> {
+    let master = Given::Instance(0, SourceState::Without, 6, 7);
+    let replica = Key::Server(ServerNo(1));
+    let first = Some((6, true, 2));
+    let both = (first, Some((3, true, 2)), None, false);
+    let one = (first, None, None, false);
+    let enabled = (first, None, None, true);
+    let acts = [
+        (Act::Put(master), MADE, both),
+        (Act::Put(Given::Downtime(0, 1, 90)), MADE, both),
+        (Act::Put(Given::Downtime(2, 1, 90)), None, both),
+        (
+            Act::Put(Given::Recovery(1, 5, None, Ending::Unended)),
+            None,
+            both,
+        ),
+        (Act::Remove(Table::Recovery, Key::Id(1)), None, both),
+        (Act::Remove(Table::Instance, replica), MADE, one),
+        (Act::Remove(Table::Downtime, replica), MADE, one),
+        (Act::Remove(Table::Candidate, replica), MADE, one),
+        (Act::Remove(Table::Switch, Key::Global), MADE, enabled),
+    ];
+    assert_eq!(rt; surprise(rt.alloc(), &acts)?, None);
+    Ok(())
+}
+
+// The rows in order: of two with one table and key the later stands.
+const KEPT: [Given; 7] = [
+    Given::Instance(0, SourceState::Detached(ServerNo(2)), 4, 7),
+    Given::Instance(1, BY_MASTER, 3, 7),
+    Given::Instance(u32::MAX, SourceState::Without, 9, 7),
+    Given::Downtime(1, 1, 20),
+    Given::Candidate(1, Rule::Prefer, 60),
+    Given::Recovery(u64::MAX, 5, None, Ending::Unended),
+    Given::Switch(false),
+];
+
+// What is kept behind the removal of the recovery and a change of the switch.
+const CHANGED: [Given; 6] = [
+    Given::Instance(0, SourceState::Detached(ServerNo(2)), 4, 7),
+    Given::Instance(1, BY_MASTER, 3, 7),
+    Given::Instance(u32::MAX, SourceState::Without, 9, 7),
+    Given::Downtime(1, 1, 20),
+    Given::Candidate(1, Rule::Prefer, 60),
+    Given::Switch(true),
+];
+
+#[derive(Clone, Copy)]
+enum Call {
+    // Asks whether these rows are given.
+    Rows(&'static [Given]),
+    // Removes the recovery and enables recoveries.
+    Keep,
+}
+
+fn gives<K: Keeper>(alloc: Global, keeper: &mut K, given: &[Given]) -> Result<bool, KeeperFault> {
+    let rows = keeper.rows(alloc, &[])?;
+    Ok(are_rows(alloc, &rows, given)?)
+}
+
+fn changes(alloc: Global) -> Result<Vec<Change>, Memory> {
+    let mut changes = Vec::new(alloc);
+    changes.push(Change::Remove(Table::Recovery, Key::Id(u64::MAX)))?;
+    changes.push(Change::Put(Row::Switch(true)))?;
+    Ok(changes)
+}
+
+fn keep<K: Keeper>(alloc: Global, keeper: &mut K) -> Result<bool, KeeperFault> {
+    let changes = changes(alloc)?;
+    keeper.keep(alloc, &[], &changes)?;
+    Ok(true)
+}
+
+// A call by what the trait says.
+fn make_call<K: Keeper>(alloc: Global, keeper: &mut K, call: Call) -> Result<bool, KeeperFault> {
+    match call {
+        Call::Rows(given) => gives(alloc, keeper, given),
+        Call::Keep => keep(alloc, keeper),
+    }
+}
+
+// A keeper whose second and fourth call fail.
+fn keeper(alloc: Global) -> Result<MemKeeper, Fail> {
+    let fail_at = Vec::from_array(alloc, [2, 4])?;
+    let rows = rows(alloc, &ROWS)?;
+    Ok(MemKeeper::new(alloc, rows, fail_at)?)
 }
 
 #[test]
 fn keeper_keeps_all_or_none(rt: HostRuntime) -> Result<(), Fail> {
-    let alloc = rt.alloc();
-    let mut keeper = MemKeeper::new(alloc, rows(alloc)?, vec![in alloc; 2, 4]?)?;
-    let given = keeper.rows(alloc, &[])?;
-    let tables = [
-        Table::Instance,
-        Table::Instance,
-        Table::Instance,
-        Table::Downtime,
-        Table::Candidate,
-        Table::Recovery,
-        Table::Switch,
+    let mut keeper = keeper(rt.alloc())?;
+    // The call, its answer, and how many calls have failed.
+    let failed = Err(KeeperFault::Failed);
+    let calls = [
+        (Call::Rows(&KEPT), Ok(true), 0),
+        (Call::Keep, failed, 1),
+        (Call::Rows(&KEPT), Ok(true), 1),
+        (Call::Rows(&KEPT), failed, 2),
+        (Call::Keep, Ok(true), 2),
+        (Call::Rows(&CHANGED), Ok(true), 2),
     ];
-    assert_eq!(rt; given.len(), tables.len());
-    for (row, table) in given.iter().zip(&tables) {
-        assert_eq!(rt; row.table(), *table);
+    for (place, (given, answer, faults)) in calls.into_iter().enumerate() {
+        let found = make_call(rt.alloc(), &mut keeper, given);
+        assert_eq!(rt; (found, keeper.faults()), (answer, faults), "at {place}");
     }
-    assert_eq!(rt; given[2].key(), Key::Server(ServerNo(u32::MAX)));
-    assert!(rt; given[4].is_same(&Row::Candidate(candidate(1, Rule::Prefer, 60))));
-    let mut changes = Vec::new(alloc);
-    changes.push(Change::Remove(Table::Recovery, Key::Id(u64::MAX)))?;
-    changes.push(Change::Put(Row::Switch(true)))?;
-    assert_eq!(rt;
-        keep(alloc, &mut keeper, &changes),
-        Err(KeeperFault::Failed)
-    );
-    let same = keeper.rows(alloc, &[])?;
-    assert!(rt;
-        same.iter()
-            .zip(&given)
-            .all(|(this, that)| this.is_same(that))
-    );
-    assert!(rt; keeper.rows(alloc, &[]).is_err());
-    assert_eq!(rt; keeper.faults(), 2);
-    assert_eq!(rt; keep(alloc, &mut keeper, &changes), Ok(()));
-    let kept = keeper.rows(alloc, &[])?;
-    assert_eq!(rt; kept.len(), 6);
-    assert!(rt; kept[5].is_same(&Row::Switch(true)));
-    assert_eq!(rt; keeper.faults(), 2);
-    Ok(())
-}
-
-#[test]
-fn rows_are_copied(rt: HostRuntime) -> Result<(), Fail> {
-    let rows = rows(rt.alloc())?;
-    for (i, row) in rows.iter().enumerate() {
-        let copy = row.copy(rt.alloc())?;
-        for (j, other) in rows.iter().enumerate() {
-            assert_eq!(rt; copy.is_same(other), i == j, "at {i}, {j}");
-        }
-    }
-    assert!(rt; Rule::Prefer < Rule::MustNot);
-    assert_eq!(rt; Code::NoProblem, Code::NoProblem);
-    assert_eq!(rt; CauseName::NoCandidate, CauseName::NoCandidate);
     Ok(())
 }

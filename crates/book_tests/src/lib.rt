@@ -9,3 +9,5 @@ mod counting;
 mod deciding;
 #[cfg(test)]
 mod keeping;
+#[cfg(test)]
+mod rows;

@@ -1,30 +1,34 @@
 //! The codes of the table, and the analysis of a book.
 
-ghost use Rattle.std.specs.Prelude.{◌^◌, ◌<◌, IfOk, length, vec_len};
-
 use binlog_coords::Coord;
-use failure_analysis::{
-    Action, Code, Counts, Entry, actionable, analyse, code_of, each_instance_has_one_entry,
-    one_row_applies, the_dead_are_recovered,
-};
+use failure_analysis::{Action, Code, Counts, Entry, actionable, analyse, code_of};
 use gtid_sets::GtidSet;
 use instance_keeper::{Book, Instance, Row, Seen};
 use orch_base::{IoState, Moment, Name, OwnedText, ServerNo, Settings, SourceState, Version};
 use std::alloc::Global;
+use std::process::Abort;
 use std::test::Fail;
 
+// Whether an instance has a source and is valid, and of its replicas how many there are, are valid, replicate and lag.
+type Given = (bool, bool, [u32; 4]);
+
+fn counts((has_source, valid, of_replicas): Given) -> Counts {
+    let [replicas, valid_replicas, replicating, lagging] = of_replicas;
+    Counts {
+        has_source,
+        valid,
+        replicas,
+        valid_replicas,
+        replicating,
+        lagging,
+    }
+}
+
 // The code of these counts: none where they aren't each a part of the one before it.
-fn code(has_source: bool, valid: bool, counts: [u32; 4]) -> Option<Code> {
-    let [replicas, valid_replicas, replicating, lagging] = counts;
-    if lagging <= replicating && replicating <= valid_replicas && valid_replicas <= replicas {
-        Some(code_of(Counts {
-            has_source,
-            valid,
-            replicas,
-            valid_replicas,
-            replicating,
-            lagging,
-        }))
+fn code(c: Counts) -> Option<Code> {
+    let replicating = c.lagging <= c.replicating && c.replicating <= c.valid_replicas;
+    if replicating && c.valid_replicas <= c.replicas {
+        Some(code_of(c))
     } else {
         None
     }
@@ -33,9 +37,10 @@ fn code(has_source: bool, valid: bool, counts: [u32; 4]) -> Option<Code> {
 const MOST: u32 = 4_294_967_295;
 
 #[test]
-fn codes_of_masters(rt: HostRuntime) -> Result<(), Fail> {
-    let cases: [(bool, [u32; 4], Code, Action); 19] = [
+fn codes_of_the_table(rt: HostRuntime) {
+    let cases: [(bool, bool, [u32; 4], Code, Action); 32] = [
         (
+            false,
             false,
             [0, 0, 0, 0],
             Code::DeadMasterWithoutReplicas,
@@ -43,11 +48,13 @@ fn codes_of_masters(rt: HostRuntime) -> Result<(), Fail> {
         ),
         (
             false,
+            false,
             [1, 1, 0, 0],
             Code::DeadMaster,
             Action::MasterRecovery,
         ),
         (
+            false,
             false,
             [3, 3, 0, 0],
             Code::DeadMaster,
@@ -55,17 +62,20 @@ fn codes_of_masters(rt: HostRuntime) -> Result<(), Fail> {
         ),
         (
             false,
+            false,
             [1, 0, 0, 0],
             Code::DeadMasterAndReplicas,
             Action::Nothing,
         ),
         (
             false,
+            false,
             [3, 0, 0, 0],
             Code::DeadMasterAndReplicas,
             Action::Nothing,
         ),
         (
+            false,
             false,
             [3, 2, 0, 0],
             Code::DeadMasterAndSomeReplicas,
@@ -73,11 +83,13 @@ fn codes_of_masters(rt: HostRuntime) -> Result<(), Fail> {
         ),
         (
             false,
+            false,
             [3, 3, 1, 0],
             Code::UnreachableMaster,
             Action::Nothing,
         ),
         (
+            false,
             false,
             [3, 3, 2, 1],
             Code::UnreachableMaster,
@@ -85,11 +97,13 @@ fn codes_of_masters(rt: HostRuntime) -> Result<(), Fail> {
         ),
         (
             false,
+            false,
             [3, 3, 2, 2],
             Code::UnreachableMasterWithLaggingReplicas,
             Action::Nothing,
         ),
         (
+            false,
             false,
             [MOST, MOST, MOST, MOST],
             Code::UnreachableMasterWithLaggingReplicas,
@@ -97,94 +111,94 @@ fn codes_of_masters(rt: HostRuntime) -> Result<(), Fail> {
         ),
         (
             false,
+            false,
             [MOST, MOST, 0, 0],
             Code::DeadMaster,
             Action::MasterRecovery,
         ),
         (
+            false,
             true,
             [1, 0, 0, 0],
             Code::MasterSingleReplicaDead,
             Action::Nothing,
         ),
         (
+            false,
             true,
             [1, 1, 0, 0],
             Code::MasterSingleReplicaNotReplicating,
             Action::Nothing,
         ),
         (
+            false,
             true,
             [3, 3, 0, 0],
             Code::AllMasterReplicasNotReplicating,
             Action::Nothing,
         ),
         (
+            false,
             true,
             [3, 0, 0, 0],
             Code::AllMasterReplicasNotReplicatingOrDead,
             Action::Nothing,
         ),
         (
+            false,
             true,
             [3, 2, 0, 0],
             Code::AllMasterReplicasNotReplicatingOrDead,
             Action::Nothing,
         ),
-        (true, [3, 3, 1, 0], Code::NoProblem, Action::Nothing),
-        (true, [1, 1, 1, 1], Code::NoProblem, Action::Nothing),
-        (true, [0, 0, 0, 0], Code::NoProblem, Action::Nothing),
-    ];
-    for (valid, counts, expected, action) in cases {
-        assert_eq!(rt; code(false, valid, counts), Some(expected));
-        assert_eq!(rt; actionable(expected), action);
-    }
-    one_row_applies();
-    the_dead_are_recovered();
-    Ok(())
-}
-
-#[test]
-fn codes_of_intermediate_masters(rt: HostRuntime) -> Result<(), Fail> {
-    let cases: [(bool, [u32; 4], Code, Action); 13] = [
-        (false, [0, 0, 0, 0], Code::NoProblem, Action::Nothing),
+        (false, true, [3, 3, 1, 0], Code::NoProblem, Action::Nothing),
+        (false, true, [1, 1, 1, 1], Code::NoProblem, Action::Nothing),
+        (false, true, [0, 0, 0, 0], Code::NoProblem, Action::Nothing),
+        (true, false, [0, 0, 0, 0], Code::NoProblem, Action::Nothing),
         (
+            true,
             false,
             [1, 0, 0, 0],
             Code::DeadIntermediateMasterAndReplicas,
             Action::Nothing,
         ),
         (
+            true,
             false,
             [3, 0, 0, 0],
             Code::DeadIntermediateMasterAndReplicas,
             Action::Nothing,
         ),
         (
+            true,
             false,
             [1, 1, 0, 0],
             Code::DeadIntermediateMasterWithSingleReplica,
             Action::IntermediateRecovery,
         ),
         (
+            true,
             false,
             [2, 2, 0, 0],
             Code::DeadIntermediateMaster,
             Action::IntermediateRecovery,
         ),
         (
+            true,
             false,
             [2, 1, 0, 0],
             Code::DeadIntermediateMasterAndSomeReplicas,
             Action::IntermediateRecovery,
         ),
         (
+            true,
             false,
             [2, 2, 1, 1],
             Code::UnreachableIntermediateMasterWithLaggingReplicas,
             Action::Nothing,
         ),
         (
+            true,
             false,
             [1, 1, 1, 0],
             Code::UnreachableIntermediateMaster,
@@ -192,37 +206,40 @@ fn codes_of_intermediate_masters(rt: HostRuntime) -> Result<(), Fail> {
         ),
         (
             true,
+            true,
             [1, 0, 0, 0],
             Code::AllIntermediateMasterReplicasNotReplicating,
             Action::Nothing,
         ),
         (
             true,
+            true,
             [3, 3, 0, 0],
             Code::AllIntermediateMasterReplicasNotReplicating,
             Action::Nothing,
         ),
-        (true, [3, 3, 1, 1], Code::NoProblem, Action::Nothing),
-        (true, [0, 0, 0, 0], Code::NoProblem, Action::Nothing),
+        (true, true, [3, 3, 1, 1], Code::NoProblem, Action::Nothing),
+        (true, true, [0, 0, 0, 0], Code::NoProblem, Action::Nothing),
         (
+            true,
             true,
             [MOST, 0, 0, 0],
             Code::AllIntermediateMasterReplicasNotReplicating,
             Action::Nothing,
         ),
     ];
-    for (valid, counts, expected, action) in cases {
-        assert_eq!(rt; code(true, valid, counts), Some(expected));
-        assert_eq!(rt; actionable(expected), action);
+    for (has_source, valid, of_replicas, expected, action) in cases {
+        let given = (has_source, valid, of_replicas);
+        let answers = (code(counts(given)), actionable(expected));
+        assert_eq!(rt; answers, (Some(expected), action), "at {given:?}");
     }
-    Ok(())
 }
 
-fn server(alloc: Global, name: Name, server_id: u32) -> Result<Settings, Fail> {
+fn server(alloc: Global, name: &str) -> Result<Settings, Fail> {
     Ok(Settings {
-        name,
-        uuid: u128::from(server_id),
-        server_id,
+        name: Name::read(alloc, name)?,
+        uuid: 1,
+        server_id: 1,
         version: Version {
             major: 8,
             minor: 0,
@@ -234,23 +251,53 @@ fn server(alloc: Global, name: Name, server_id: u32) -> Result<Settings, Fail> {
     })
 }
 
-// An instance that replicates, so far behind what it has read.
-fn instance(alloc: Global, no: u32, source: SourceState, behind: u64) -> Result<Instance, Fail> {
-    Ok(Instance {
+fn settings(alloc: Global, names: &[&str]) -> Result<Vec<Settings>, Fail> {
+    let mut settings = Vec::new(alloc);
+    for name in names {
+        settings.push(server(alloc, name)?)?;
+    }
+    Ok(settings)
+}
+
+// How an instance was seen.
+#[derive(Clone, Copy)]
+struct Look {
+    source: SourceState,
+    // How far it is behind what it has read.
+    behind: u64,
+    valid: bool,
+    io: IoState,
+}
+
+const MASTER: Look = Look {
+    source: SourceState::Without,
+    behind: 0,
+    valid: true,
+    io: IoState::Yes,
+};
+
+const REPLICA: Look = Look {
+    source: SourceState::Attached(ServerNo(0)),
+    ..MASTER
+};
+
+fn instance(alloc: Global, no: u32, look: Look) -> Row {
+    let start = Coord { file: 1, pos: 4 };
+    Row::Instance(Instance {
         no: ServerNo(no),
         read: 1,
         moment: Moment(0),
-        valid: true,
+        valid: look.valid,
         seen: Seen {
-            own_end: Some(Coord { file: 1, pos: 4 }),
-            source,
-            exec: Coord { file: 1, pos: 4 },
+            own_end: Some(start),
+            source: look.source,
+            exec: start,
             read: Coord {
                 file: 1,
-                pos: if behind < 1_000_000 { 4 + behind } else { 4 },
+                pos: look.behind.saturating_add(4),
             },
             auto: false,
-            io: IoState::Yes,
+            io: look.io,
             sql: true,
             read_only: true,
             set: GtidSet::empty(alloc),
@@ -258,97 +305,129 @@ fn instance(alloc: Global, no: u32, source: SourceState, behind: u64) -> Result<
     })
 }
 
-// The servers `d`, `c`, `b`, `a` and `e`, by number. `d` isn't valid. `c`, `b` and `a` are below it: `c` replicates,
-// `b` lags, and `a` has its receiver unconnected. `e` is detached from `d`.
-fn rows(alloc: Global) -> Result<Vec<Row>, Fail> {
-    let under = SourceState::Attached(ServerNo(0));
+fn rows(alloc: Global, looks: &[(u32, Look)]) -> Result<Vec<Row>, Fail> {
     let mut rows = Vec::new(alloc);
-    let mut d = instance(alloc, 0, SourceState::Without, 0)?;
-    d.valid = false;
-    rows.push(Row::Instance(d))?;
-    rows.push(Row::Instance(instance(alloc, 1, under, 0)?))?;
-    rows.push(Row::Instance(instance(alloc, 2, under, 100)?))?;
-    let mut a = instance(alloc, 3, under, 100)?;
-    a.seen.io = IoState::Connecting;
-    rows.push(Row::Instance(a))?;
-    let e = instance(alloc, 4, SourceState::Detached(ServerNo(0)), 0)?;
-    rows.push(Row::Instance(e))?;
+    for (no, look) in looks {
+        rows.push(instance(alloc, *no, *look))?;
+    }
     Ok(rows)
 }
 
-fn entry(no: u32, code: Code, flags: (bool, bool), counts: [u32; 4]) -> Entry {
-    let [replicas, valid_replicas, replicating, lagging] = counts;
+// The analysis of the book of these servers and rows.
+fn analysed(
+    rt: &impl Abort,
+    alloc: Global,
+    settings: &[Settings],
+    rows: &[Row],
+) -> Result<Vec<Entry>, Fail> {
+    assert!(rt; settings.len() <= 50_000);
+    let book = Book::make(alloc, settings, rows)?;
+    Ok(analyse(alloc, &book)?)
+}
+
+fn entry(no: u32, code: Code, given: Given) -> Entry {
     Entry {
         no: ServerNo(no),
         code,
-        counts: Counts {
-            has_source: flags.0,
-            valid: flags.1,
-            replicas,
-            valid_replicas,
-            replicating,
-            lagging,
-        },
+        counts: counts(given),
     }
+}
+
+// The servers `d`, `c`, `b`, `a`, `e` and `f`, by number. `d` isn't valid. `c`, `b` and `a` are below it: `c`
+// replicates, `b` lags, and `a` has its receiver unconnected. `e` is detached from `d`, and `f` is no instance.
+fn six(rt: &impl Abort, alloc: Global) -> Result<Vec<Entry>, Fail> {
+    let settings = settings(alloc, &["d", "c", "b", "a", "e", "f"])?;
+    let lost = Look {
+        valid: false,
+        ..MASTER
+    };
+    let lagging = Look {
+        behind: 100,
+        ..REPLICA
+    };
+    let unconnected = Look {
+        io: IoState::Connecting,
+        ..lagging
+    };
+    let detached = Look {
+        source: SourceState::Detached(ServerNo(0)),
+        ..MASTER
+    };
+    let looks = [
+        (0, lost),
+        (1, REPLICA),
+        (2, lagging),
+        (3, unconnected),
+        (4, detached),
+    ];
+    let rows = rows(alloc, &looks)?;
+    analysed(rt, alloc, &settings, &rows)
 }
 
 #[test]
 fn a_book_is_analysed_in_name_order(rt: HostRuntime) -> Result<(), Fail> {
-    let alloc = rt.alloc();
-    let mut settings = Vec::new(alloc);
-    let mut id = 1u32;
-    for name in ["d", "c", "b", "a", "e", "f"] {
-        settings.push(server(alloc, Name::read(alloc, name)?, id)?)?;
-        id = id.saturating_add(1);
-    }
-    assert!(rt; settings.len() == 6);
-    let book = Book::make(alloc, &settings, &rows(alloc)?)?;
+    let without = (true, true, [0, 0, 0, 0]);
     let expected = [
-        entry(3, Code::NoProblem, (true, true), [0, 0, 0, 0]),
-        entry(2, Code::NoProblem, (true, true), [0, 0, 0, 0]),
-        entry(1, Code::NoProblem, (true, true), [0, 0, 0, 0]),
-        entry(0, Code::UnreachableMaster, (false, false), [3, 3, 2, 1]),
-        entry(4, Code::NoProblem, (true, true), [0, 0, 0, 0]),
+        entry(3, Code::NoProblem, without),
+        entry(2, Code::NoProblem, without),
+        entry(1, Code::NoProblem, without),
+        entry(0, Code::UnreachableMaster, (false, false, [3, 3, 2, 1])),
+        entry(4, Code::NoProblem, without),
     ];
-    assert_eq!(rt; analyse(alloc, &book)?.as_slice(), expected.as_slice());
-    each_instance_has_one_entry();
+    let entries = six(&rt, rt.alloc())?;
+    assert_eq!(rt; entries.as_slice(), expected.as_slice());
     Ok(())
 }
 
-#[test]
-fn many_instances_are_analysed(rt: HostRuntime) -> Result<(), Fail> {
-    let alloc = rt.alloc();
+const MANY: u32 = 50_000;
+
+fn many_settings(alloc: Global) -> Result<Vec<Settings>, Fail> {
     let mut settings = Vec::new(alloc);
+    for no in 0..MANY {
+        let name = format!(in alloc; "s{no}")?;
+        settings.push(server(alloc, &name)?)?;
+    }
+    Ok(settings)
+}
+
+// Of a master all behind it with an even number are replicas, and of the second server those with an odd one.
+fn many_rows(alloc: Global) -> Result<Vec<Row>, Fail> {
     let mut rows = Vec::new(alloc);
-    let mut text = String::new(alloc);
-    for no in 0..50_000u32 {
-        text.clear();
-        write!(text, "s{no}")?;
-        settings.push(server(alloc, Name::read(alloc, &text)?, no.saturating_add(1))?)?;
+    for no in 0..MANY {
         let source = if no == 0 {
             SourceState::Without
         } else {
             SourceState::Attached(ServerNo(no % 2))
         };
-        rows.push(Row::Instance(instance(alloc, no, source, u64::from(no))?))?;
+        let look = Look {
+            source,
+            behind: u64::from(no),
+            ..MASTER
+        };
+        rows.push(instance(alloc, no, look))?;
     }
-    assert!(rt; settings.len() == 50_000);
-    let book = Book::make(alloc, &settings, &rows)?;
-    let entries = analyse(alloc, &book)?;
-    assert_eq!(rt; entries.len(), 50_000);
-    let first = entry(
-        0,
-        Code::NoProblem,
-        (false, true),
-        [24_999, 24_999, 24_999, 24_999],
+    Ok(rows)
+}
+
+fn many(rt: &impl Abort, alloc: Global) -> Result<Vec<Entry>, Fail> {
+    let settings = many_settings(alloc)?;
+    let rows = many_rows(alloc)?;
+    analysed(rt, alloc, &settings, &rows)
+}
+
+// The time is linear in the number of servers.
+#[test]
+fn many_instances_are_analysed(rt: HostRuntime) -> Result<(), Fail> {
+    let entries = many(&rt, rt.alloc())?;
+    let even = (false, true, [24_999, 24_999, 24_999, 24_999]);
+    let odd = (true, true, [25_000, 25_000, 25_000, 25_000]);
+    let expected = [
+        entry(0, Code::NoProblem, even),
+        entry(1, Code::NoProblem, odd),
+    ];
+    assert_eq!(rt;
+        (entries.len(), entries.get(..2)),
+        (50_000, Some(expected.as_slice()))
     );
-    assert_eq!(rt; entries.get(0).copied(), Some(first));
-    let second = entry(
-        1,
-        Code::NoProblem,
-        (true, true),
-        [25_000, 25_000, 25_000, 25_000],
-    );
-    assert_eq!(rt; entries.get(1).copied(), Some(second));
     Ok(())
 }

@@ -4,37 +4,37 @@ ghost use Rattle.std.specs.Prelude.{◌<◌, ◌↔◌, All, IsTrue, length};
 
 use binlog_coords::Coord;
 use orch_base::{Name, Rule, ServerNo};
-use promotion_rules::{
-    Drained, better, better_is_the_first, most_advanced, most_advanced_is_the_first,
-    orders_are_total,
-};
+use promotion_rules::{Drained, better, most_advanced};
 use std::alloc::Global;
 use std::test::Fail;
 
 // A drained replica: its number, file and position, rule, and whether it logs.
 type Given = (u32, u32, u64, Rule, bool);
 
-fn drained(alloc: Global, given: &[Given]) -> Result<Vec<Drained>, Fail> {
+fn drained((no, file, pos, rule, logs): Given) -> Drained {
+    let coord = Coord { file, pos };
+    Drained {
+        no: ServerNo(no),
+        exec: coord,
+        own_end: if logs { Some(coord) } else { None },
+        rule,
+        logs,
+    }
+}
+
+fn all_drained(alloc: Global, given: &[Given]) -> Result<Vec<Drained>, Fail> {
     let mut list = Vec::new(alloc);
-    for (no, file, pos, rule, logs) in given {
-        let coord = Coord {
-            file: *file,
-            pos: *pos,
-        };
-        list.push(Drained {
-            no: ServerNo(*no),
-            exec: coord,
-            own_end: if *logs { Some(coord) } else { None },
-            rule: *rule,
-            logs: *logs,
-        })?;
+    for one in given {
+        list.push(drained(*one))?;
     }
     Ok(list)
 }
 
-fn names(alloc: Global, texts: &[&str]) -> Result<Vec<Name>, Fail> {
+const NAMES: [&str; 5] = ["a", "b", "c", "B", "a:1"];
+
+fn names(alloc: Global) -> Result<Vec<Name>, Fail> {
     let mut names = Vec::new(alloc);
-    for text in texts {
+    for text in NAMES {
         names.push(Name::read(alloc, text)?)?;
     }
     Ok(names)
@@ -46,13 +46,31 @@ fn are_known(list: &[Drained], names: &[Name]) -> bool
     list.iter().all(|d| (d.no.0 as usize) < names.len())
 }
 
-const NAMES: [&str; 5] = ["a", "b", "c", "B", "a:1"];
+// The most advanced one or, behind one with this rule, the better follower; none where one isn't among the names.
+fn choice(of: Option<Rule>, list: &[Drained], names: &[Name]) -> Option<Option<ServerNo>> {
+    if !are_known(list, names) {
+        return None;
+    }
+    match of {
+        None => Some(most_advanced(list, names)),
+        Some(rule) => Some(better(rule, list, names)),
+    }
+}
+
+// The same of these replicas.
+fn chosen(
+    alloc: Global,
+    of: Option<Rule>,
+    given: &[Given],
+) -> Result<Option<Option<ServerNo>>, Fail> {
+    let list = all_drained(alloc, given)?;
+    let names = names(alloc)?;
+    Ok(choice(of, &list, &names))
+}
 
 #[test]
 fn the_most_advanced(rt: HostRuntime) -> Result<(), Fail> {
-    let alloc = rt.alloc();
-    let names = names(alloc, &NAMES)?;
-    let cases: [(&[Given], Option<ServerNo>); 10] = [
+    let cases: [(&[Given], Option<u32>); 10] = [
         // the greatest coordinate goes before the better rule, and one that must not be promoted is passed over
         (
             &[
@@ -60,7 +78,7 @@ fn the_most_advanced(rt: HostRuntime) -> Result<(), Fail> {
                 (1, 2, 4, Rule::PreferNot, true),
                 (2, 2, 4, Rule::MustNot, true),
             ],
-            Some(ServerNo(1)),
+            Some(1),
         ),
         // files go before positions
         (
@@ -68,7 +86,7 @@ fn the_most_advanced(rt: HostRuntime) -> Result<(), Fail> {
                 (0, 1, 1_000_000_000_000, Rule::Prefer, true),
                 (1, 2, 4, Rule::Neutral, true),
             ],
-            Some(ServerNo(1)),
+            Some(1),
         ),
         // of one coordinate the better rule
         (
@@ -76,7 +94,7 @@ fn the_most_advanced(rt: HostRuntime) -> Result<(), Fail> {
                 (0, 1, 204, Rule::Neutral, true),
                 (1, 1, 204, Rule::Prefer, true),
             ],
-            Some(ServerNo(1)),
+            Some(1),
         ),
         // of one coordinate and rule the first name: by the host's bytes, then by the port
         (
@@ -86,14 +104,14 @@ fn the_most_advanced(rt: HostRuntime) -> Result<(), Fail> {
                 (4, 1, 204, Rule::Prefer, true),
                 (1, 1, 204, Rule::Prefer, true),
             ],
-            Some(ServerNo(4)),
+            Some(4),
         ),
         (
             &[
                 (1, 1, 204, Rule::Prefer, true),
                 (3, 1, 204, Rule::Prefer, true),
             ],
-            Some(ServerNo(3)),
+            Some(3),
         ),
         // who doesn't log is passed over
         (
@@ -101,50 +119,37 @@ fn the_most_advanced(rt: HostRuntime) -> Result<(), Fail> {
                 (0, 9, 204, Rule::Prefer, false),
                 (1, 1, 4, Rule::PreferNot, true),
             ],
-            Some(ServerNo(1)),
+            Some(1),
         ),
         (&[(0, 9, 204, Rule::Prefer, false)], None),
         (&[(0, 9, 204, Rule::MustNot, true)], None),
         (&[], None),
         (
             &[
-                (
-                    0,
-                    4_294_967_295,
-                    18_446_744_073_709_551_615,
-                    Rule::PreferNot,
-                    true,
-                ),
-                (
-                    1,
-                    4_294_967_295,
-                    18_446_744_073_709_551_614,
-                    Rule::Prefer,
-                    true,
-                ),
+                (0, u32::MAX, u64::MAX, Rule::PreferNot, true),
+                (1, u32::MAX, u64::MAX - 1, Rule::Prefer, true),
             ],
-            Some(ServerNo(0)),
+            Some(0),
         ),
     ];
-    for (given, chosen) in cases {
-        let list = drained(alloc, given)?;
-        assert!(rt; are_known(&list, &names));
-        assert_eq!(rt; most_advanced(&list, &names), chosen);
+    for (given, want) in cases {
+        let want = want.map(ServerNo);
+        assert_eq!(rt;
+            chosen(rt.alloc(), None, given)?,
+            Some(want),
+            "at {given:?}"
+        );
     }
-    most_advanced_is_the_first();
-    orders_are_total();
     Ok(())
 }
 
 #[test]
 fn the_better_follower(rt: HostRuntime) -> Result<(), Fail> {
-    let alloc = rt.alloc();
-    let names = names(alloc, &NAMES)?;
-    let cases: [(Rule, &[Given], Option<ServerNo>); 8] = [
+    let cases: [(Rule, &[Given], Option<u32>); 8] = [
         (
             Rule::PreferNot,
             &[(0, 1, 204, Rule::Neutral, true)],
-            Some(ServerNo(0)),
+            Some(0),
         ),
         // the rule must be strictly better
         (Rule::Neutral, &[(0, 1, 204, Rule::Neutral, true)], None),
@@ -156,7 +161,7 @@ fn the_better_follower(rt: HostRuntime) -> Result<(), Fail> {
                 (0, 9, 204, Rule::Neutral, true),
                 (1, 1, 4, Rule::Prefer, true),
             ],
-            Some(ServerNo(1)),
+            Some(1),
         ),
         // of one rule the first name
         (
@@ -166,7 +171,7 @@ fn the_better_follower(rt: HostRuntime) -> Result<(), Fail> {
                 (1, 1, 4, Rule::Neutral, true),
                 (3, 1, 4, Rule::Neutral, true),
             ],
-            Some(ServerNo(3)),
+            Some(3),
         ),
         // who doesn't log is passed over
         (
@@ -175,16 +180,18 @@ fn the_better_follower(rt: HostRuntime) -> Result<(), Fail> {
                 (0, 1, 4, Rule::Prefer, false),
                 (1, 1, 4, Rule::Neutral, true),
             ],
-            Some(ServerNo(1)),
+            Some(1),
         ),
         (Rule::PreferNot, &[(0, 1, 4, Rule::MustNot, true)], None),
         (Rule::MustNot, &[], None),
     ];
-    for (of, given, chosen) in cases {
-        let followers = drained(alloc, given)?;
-        assert!(rt; are_known(&followers, &names));
-        assert_eq!(rt; better(of, &followers, &names), chosen);
+    for (of, given, want) in cases {
+        let want = want.map(ServerNo);
+        assert_eq!(rt;
+            chosen(rt.alloc(), Some(of), given)?,
+            Some(want),
+            "at {given:?}"
+        );
     }
-    better_is_the_first();
     Ok(())
 }
