@@ -18,18 +18,18 @@ use std::process::Abort;
 use std::test::*;
 use world_openings::OpenedWorld;
 
-// The servers by number: a name, the source that was seen, whether it has a binary log, and whether it was seen to find
+// Each server's number and name, the source that was seen, whether it has a binary log, and whether it was seen to find
 // its place by GTIDs. `a` is its own source, and `l`, which has no log, is that of `k`.
-const SERVERS: [(&str, SourceState, bool, bool); 9] = [
-    ("m", SourceState::Without, true, false),
-    ("s", SourceState::Attached(ServerNo(0)), true, false),
-    ("r", SourceState::Attached(ServerNo(1)), true, false),
-    ("d", SourceState::Attached(ServerNo(0)), true, false),
-    ("a", SourceState::Attached(ServerNo(4)), true, false),
-    ("f", SourceState::Attached(ServerNo(0)), true, true),
-    ("l", SourceState::Attached(ServerNo(0)), false, false),
-    ("k", SourceState::Attached(ServerNo(6)), true, false),
-    ("j", SourceState::Attached(ServerNo(7)), true, false),
+const SERVERS: [(u32, &str, SourceState, bool, bool); 9] = [
+    (0, "m", SourceState::Without, true, false),
+    (1, "s", SourceState::Attached(ServerNo(0)), true, false),
+    (2, "r", SourceState::Attached(ServerNo(1)), true, false),
+    (3, "d", SourceState::Attached(ServerNo(0)), true, false),
+    (4, "a", SourceState::Attached(ServerNo(4)), true, false),
+    (5, "f", SourceState::Attached(ServerNo(0)), true, true),
+    (6, "l", SourceState::Attached(ServerNo(0)), false, false),
+    (7, "k", SourceState::Attached(ServerNo(6)), true, false),
+    (8, "j", SourceState::Attached(ServerNo(7)), true, false),
 ];
 
 fn settings(alloc: Global, no: u32, name: &str, logs: bool) -> Result<Settings, Fail> {
@@ -95,10 +95,9 @@ fn row(alloc: Global, no: u32, source: SourceState, auto: bool) -> Row {
 pub(crate) fn book(rt: &impl Abort, alloc: Global) -> Result<Book, Fail> {
     let mut all = Vec::new(alloc);
     let mut rows = Vec::new(alloc);
-    for (no, (name, source, logs, auto)) in SERVERS.iter().enumerate() {
-        assert!(rt; no < 1000);
-        all.push(settings(alloc, no as u32, name, *logs)?)?;
-        rows.push(row(alloc, no as u32, *source, *auto))?;
+    for (no, name, source, logs, auto) in &SERVERS {
+        all.push(settings(alloc, *no, name, *logs)?)?;
+        rows.push(row(alloc, *no, *source, *auto))?;
     }
     assert!(rt; all.len() <= 1000);
     Ok(Book::make(alloc, &all, &rows)?)
@@ -117,9 +116,8 @@ fn assert_empty(rt: &impl Abort, servers: &[ServerInit])
 /// The world of the servers, none of which has a source or a transaction there.
 pub(crate) fn world(rt: &impl Abort, alloc: Global, gtid: bool) -> Result<World, Fail> {
     let mut inits = Vec::new(alloc);
-    for (no, (name, _, logs, _)) in SERVERS.iter().enumerate() {
-        assert!(rt; no < 1000);
-        inits.push(init(alloc, settings(alloc, no as u32, name, *logs)?))?;
+    for (no, name, _, logs, _) in &SERVERS {
+        inits.push(init(alloc, settings(alloc, *no, name, *logs)?))?;
     }
     assert!(rt; are_listed(&inits, gtid));
     let opening = Opening::check(alloc, inits, gtid)?;

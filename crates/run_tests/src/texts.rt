@@ -7,7 +7,7 @@ use commands::{
     RecoveryLine, Refusal,
 };
 use gtid_sets::GtidSet;
-use orch_base::{Ending, Kind, Moment, Name, OwnedText, Rule, ServerNo};
+use orch_base::{Ending, Kind, Memory, Moment, Name, OwnedText, Rule, ServerNo};
 use report_text::{PrintedNames, plain_text, reply_text, reply_text_by, tables};
 use server_words::{ApplyAnswer, RotateAnswer, Spot, WriteAnswer};
 use std::alloc::Global;
@@ -59,12 +59,12 @@ const TEXTS: [(Said, &str); 7] = [
     ),
 ];
 
-fn text(alloc: Global, text: &str) -> Result<OwnedText, Fail> {
+fn text(alloc: Global, text: &str) -> Result<OwnedText, Memory> {
     Ok(OwnedText::new(String::from_str(alloc, text)?))
 }
 
 // A command with each key.
-fn command(alloc: Global) -> Result<Turn, Fail> {
+fn command(alloc: Global) -> Result<Turn, Memory> {
     let found = Found {
         text: text(alloc, "^r")?,
         answers: Answers::new(vec![in alloc; false, true]?),
@@ -89,7 +89,7 @@ fn refused(alloc: Global) -> Result<Reply, Fail> {
     Ok(Reply::Refused(Refusal::Errant(BoxedSet::new(alloc, set)?)))
 }
 
-fn failed(alloc: Global) -> Result<Reply, Fail> {
+fn failed(alloc: Global) -> Result<Reply, Memory> {
     let cause = Cause::Interfered {
         no: R,
         expected: Spot::At(M, C),
@@ -106,7 +106,7 @@ fn lost(no: ServerNo, why: Lost) -> Line {
     }
 }
 
-fn recovery(alloc: Global) -> Result<Line, Fail> {
+fn recovery(alloc: Global) -> Result<Line, Memory> {
     Ok(Line::Recovery(RecoveryLine {
         id: 1,
         cluster: text(alloc, "m:3306")?,
@@ -119,7 +119,7 @@ fn recovery(alloc: Global) -> Result<Line, Fail> {
     }))
 }
 
-fn told(alloc: Global) -> Result<Reply, Fail> {
+fn told(alloc: Global) -> Result<Reply, Memory> {
     let lines = vec![in alloc;
         lost(R, Lost::NotLogging),
         lost(M, Lost::MustNot),
@@ -147,29 +147,55 @@ fn names(alloc: Global) -> Result<Vec<Name>, Fail> {
     Ok(vec![in alloc; Name::read(alloc, "m")?, Name::read(alloc, "r:3307")?]?)
 }
 
-// Whether copies of the turn and the reply print this, by each call.
-fn prints(alloc: Global, turn: &Turn, reply: &Reply, wanted: &str) -> Result<bool, Fail> {
-    let names = names(alloc)?;
-    let (turn_again, reply_again) = (turn.copy(alloc)?, reply.copy(alloc)?);
-    let mut out = Vec::new(alloc);
-    reply_text(7, &turn_again, &reply_again, &names, &mut out)?;
-    plain_text(&reply_again, &names, &mut out)?;
-    let mut by = Vec::new(alloc);
-    let printed = PrintedNames::new(alloc, &names)?;
-    reply_text_by(7, turn, reply, &printed, &mut Vec::new(alloc), &mut by)?;
-    Ok(out.as_slice() == wanted.as_bytes() && out.starts_with(&by) && turn_again.is_same(turn))
+fn copied(alloc: Global, said: Said) -> Result<(Turn, Reply), Fail> {
+    let (turn, reply) = answered(alloc, said)?;
+    Ok((turn, reply.copy(alloc)?))
 }
 
-fn is_text(alloc: Global, of: Said, wanted: &str) -> Result<bool, Fail> {
-    let (turn, reply) = answered(alloc, of)?;
-    prints(alloc, &turn, &reply, wanted)
+fn printed(alloc: Global, turn: &Turn, reply: &Reply, names: &[Name]) -> Result<Vec<u8>, Memory> {
+    let mut out = Vec::new(alloc);
+    reply_text(7, turn, reply, names, &mut out)?;
+    plain_text(reply, names, &mut out)?;
+    Ok(out)
+}
+
+fn is_text(alloc: Global, said: Said, wanted: &str) -> Result<bool, Fail> {
+    let names = names(alloc)?;
+    let (turn, reply) = copied(alloc, said)?;
+    Ok(printed(alloc, &turn, &reply, &names)?.as_slice() == wanted.as_bytes())
 }
 
 #[test]
 fn replies(rt: HostRuntime) -> Result<(), Fail> {
-    for (said, wanted) in TEXTS {
-        assert!(rt; is_text(rt.alloc(), said, wanted)?, "{wanted}");
+    for (said, wanted) in &TEXTS {
+        assert!(rt; is_text(rt.alloc(), *said, wanted)?, "{wanted}");
     }
+    Ok(())
+}
+
+fn printed_by(alloc: Global, names: &[Name]) -> Result<Vec<u8>, Memory> {
+    let names = PrintedNames::new(alloc, names)?;
+    let mut line = Vec::from_slice(alloc, b"lost")?;
+    let mut out = Vec::from_slice(alloc, b">")?;
+    reply_text_by(7, &Turn::Fail(R), &Reply::Done, &names, &mut line, &mut out)?;
+    Ok(out)
+}
+
+#[test]
+fn replies_by_printed_names(rt: HostRuntime) -> Result<(), Fail> {
+    let out = printed_by(rt.alloc(), &names(rt.alloc())?)?;
+    assert_eq!(rt; str::from_utf8(&out).ok(), Some(">7 fail r:3307: done\n"));
+    Ok(())
+}
+
+fn is_copied(alloc: Global) -> Result<bool, Memory> {
+    let turn = command(alloc)?;
+    Ok(turn.copy(alloc)?.is_same(&turn))
+}
+
+#[test]
+fn commands_are_copied(rt: HostRuntime) -> Result<(), Fail> {
+    assert!(rt; is_copied(rt.alloc())?);
     Ok(())
 }
 
