@@ -74,25 +74,36 @@ fn is_answered(alloc: Global, book: &Book, turn: &CommandTurn, want: Option<&[u3
     if !asks(turn.command.name) || !turn.fits(book.servers()) {
         return false;
     }
-    match answer(alloc, book, &[], turn) {
+    let answer = answer(alloc, book, &[], turn);
+    let is_wanted = match &answer {
         Ok(lines) => want.is_some_and(|want| are_named(lines.as_slice(), want)),
         Err(AnswerFault::Refused(_)) => want.is_none(),
         Err(AnswerFault::Memory) => false,
-    }
+    };
+    drop(answer);
+    is_wanted
 }
 
 type Ask = (CommandName, Option<u32>, Option<&'static [u32]>);
 
 // The first question that is answered otherwise, counted from 0.
-fn surprise(alloc: Global, asked: &[Ask]) -> Result<Option<usize>, Fail> {
-    let book = book(alloc, &SERVERS, &INSTANCES)?;
+fn surprise_in(alloc: Global, book: &Book, asked: &[Ask]) -> Result<Option<usize>, Fail> {
     for (place, (name, i, want)) in asked.iter().enumerate() {
         let turn = turn(alloc, *name, *i)?;
-        if !is_answered(alloc, &book, &turn, *want) {
+        let is_wanted = is_answered(alloc, book, &turn, *want);
+        drop(turn);
+        if !is_wanted {
             return Ok(Some(place));
         }
     }
     Ok(None)
+}
+
+fn surprise(alloc: Global, asked: &[Ask]) -> Result<Option<usize>, Fail> {
+    let book = book(alloc, &SERVERS, &INSTANCES)?;
+    let found = surprise_in(alloc, &book, asked);
+    drop(book);
+    found
 }
 
 #[test]

@@ -140,7 +140,9 @@ fn loaded(alloc: Global) -> Result<Option<(u32, bool)>, Fail> {
         return Ok(None);
     }
     let book = loaded_book(alloc, &settings, &rows)?;
-    Ok(Some((book.servers(), book.enabled())))
+    let told = (book.servers(), book.enabled());
+    drop(book);
+    Ok(Some(told))
 }
 
 #[test]

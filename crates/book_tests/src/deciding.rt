@@ -1,6 +1,6 @@
 //! What operators' decisions answer, what they make of the book and the audit, and which rows they keep.
 
-ghost use Rattle.std.specs.Prelude.{◌≤◌, ◌<◌, ◌↔◌, All, IfSome, IsTrue};
+ghost use Rattle.std.specs.Prelude.{◌≡◌, ◌≤◌, ◌<◌, ◌↔◌, All, IfOk, IfSome, IsTrue};
 
 use crate::rows::{Given, book, label};
 use audit_log::{Audit, kept_recoveries_make_an_audit, recoveries_in};
@@ -8,7 +8,7 @@ use book_commands::{Decided, Effect, decide, rows_of};
 use command_routes::Decision;
 use commands::{Keys, Line};
 use instance_keeper::{Book, Change, Key, Recovery, Row, last_row_stands, row_map};
-use orch_base::{Ending, Kind, Moment, Rule, ServerNo, SourceState};
+use orch_base::{Ending, Kind, Memory, Moment, Rule, ServerNo, SourceState};
 use std::alloc::Global;
 use std::test::Fail;
 
@@ -32,7 +32,9 @@ const BEGIN: Asked = Asked {
     rule: None,
 };
 
-fn keys(alloc: Global, asked: Asked) -> Result<Keys, Fail> {
+fn keys(alloc: Global, asked: Asked) -> Result<Keys, Memory>
+    ensures { IfOk result (λ k. k.duration ≡ asked.duration) }
+{
     let reason = match asked.reason {
         Some(text) => Some(label(alloc, text)?),
         None => None,
@@ -61,20 +63,21 @@ fn decided(
     book: &Book,
     audit: &Audit,
     asked: Asked,
-) -> Result<Option<Decided>, Fail> {
+) -> Result<Option<Decided>, Memory> {
     let Asked {
         decision,
         server,
         now,
         ..
     } = asked;
-    let keys = keys(alloc, asked)?;
-    if server >= book.servers() || now > 1 << 63 || !is_short(keys.duration) {
+    if server >= book.servers() || now > 1 << 63 || !is_short(asked.duration) {
         return Ok(None);
     }
+    let keys = keys(alloc, asked)?;
     let no = Some(ServerNo(server));
-    let decided = decide(alloc, book, audit, Moment(now), &keys, no, decision)?;
-    Ok(Some(decided))
+    let decided = decide(alloc, book, audit, Moment(now), &keys, no, decision);
+    drop(keys);
+    Ok(Some(decided?))
 }
 
 // What is answered.
@@ -139,18 +142,32 @@ fn make(book: &mut Book, audit: &mut Audit, effect: Effect) {
     }
 }
 
-// Decides and makes the change: whether this is the line, and whether rows of these keys are kept.
+// Makes what was decided: whether this is the line, and whether rows of these keys are kept.
+fn carry_out(
+    alloc: Global,
+    book: &mut Book,
+    audit: &mut Audit,
+    decided: Decided,
+    (line, kept): (Want, &[Key]),
+) -> Result<(bool, bool), Memory> {
+    let Decided { lines, effect } = decided;
+    let is_line = is_only_line(lines.as_slice(), line);
+    drop(lines);
+    let rows = rows_of(alloc, audit, &effect);
+    make(book, audit, effect);
+    Ok((is_line, are_kept(&rows?, kept)))
+}
+
 fn is_decided(
     alloc: Global,
     book: &mut Book,
     audit: &mut Audit,
     (asked, line, kept): Step,
-) -> Result<(bool, bool), Fail> {
-    let decided = decided(alloc, book, audit, asked)?;
-    let Decided { lines, effect } = decided.ok_or("not asked")?;
-    let rows = rows_of(alloc, audit, &effect)?;
-    make(book, audit, effect);
-    Ok((is_only_line(lines.as_slice(), line), are_kept(&rows, kept)))
+) -> Result<(bool, bool), Memory> {
+    match decided(alloc, book, audit, asked)? {
+        Some(decided) => carry_out(alloc, book, audit, decided, (line, kept)),
+        None => Ok((false, false)),
+    }
 }
 
 // What is asked, the line that answers it, and the keys of the rows that are kept anew.
@@ -210,16 +227,27 @@ const INSTANCES: [Given; 3] = [
 ];
 
 // The first step whose line or rows are others, counted from 0, and whether they are as they should be.
-fn surprise(alloc: Global, steps: &[Step]) -> Result<Option<(usize, bool, bool)>, Fail> {
-    let mut audit = audit(alloc)?;
-    let mut book = book(alloc, &SERVERS, &INSTANCES)?;
+fn surprise_in(
+    alloc: Global,
+    book: &mut Book,
+    audit: &mut Audit,
+    steps: &[Step],
+) -> Result<Option<(usize, bool, bool)>, Memory> {
     for (place, step) in steps.iter().enumerate() {
-        let (line, kept) = is_decided(alloc, &mut book, &mut audit, *step)?;
+        let (line, kept) = is_decided(alloc, book, audit, *step)?;
         if !line || !kept {
             return Ok(Some((place, line, kept)));
         }
     }
     Ok(None)
+}
+
+fn surprise(alloc: Global, steps: &[Step]) -> Result<Option<(usize, bool, bool)>, Fail> {
+    let mut audit = audit(alloc)?;
+    let mut book = book(alloc, &SERVERS, &INSTANCES)?;
+    let found = surprise_in(alloc, &mut book, &mut audit, steps);
+    drop(book);
+    Ok(found?)
 }
 
 const MASTER: Key = Key::Server(ServerNo(0));

@@ -42,7 +42,9 @@ fn told(book: &Book, name: &Name) -> Option<(bool, [Option<Moment>; 2], [Rule; 2
 #[test]
 fn book_is_made_of_rows(rt: HostRuntime) -> Result<(), Fail> {
     let name = Name::read(rt.alloc(), "r:3307")?;
-    let told = told(&book(rt.alloc(), &SERVERS, &ROWS)?, &name);
+    let book = book(rt.alloc(), &SERVERS, &ROWS)?;
+    let told = told(&book, &name);
+    drop(book);
     let ends = [Some(Moment(20)), None];
     let rules = [Rule::Prefer, Rule::Neutral];
     assert_eq!(rt; told, Some((true, ends, rules)));
@@ -101,6 +103,7 @@ const MADE: Answer = Some(StoreAnswer::Stored);
 
 fn set(book: &mut Book, change: Change) -> Answer {
     if !change.fits(book.servers()) {
+        drop(change);
         return None;
     }
     book.set(change);
@@ -122,6 +125,7 @@ fn observation(alloc: Global, no: u32, read: u64, file: Option<u32>) -> Observat
 
 fn store(book: &mut Book, o: Observation) -> Answer {
     if !o.are_servers_known(book.servers()) {
+        drop(o);
         return None;
     }
     Some(book.store_observation(o))
@@ -129,6 +133,7 @@ fn store(book: &mut Book, o: Observation) -> Answer {
 
 fn discover(book: &mut Book, o: Observation) -> Answer {
     if !o.are_servers_known(book.servers()) {
+        drop(o);
         return None;
     }
     book.discover(o);
@@ -144,20 +149,24 @@ fn detached(alloc: Global, valid: bool, file: u32) -> Instance {
 
 fn add(book: &mut Book, instance: Instance) -> Answer {
     let row = Row::Instance(instance);
-    if !row.are_servers_known(book.servers()) {
-        return None;
+    let fits = row.are_servers_known(book.servers());
+    match row {
+        Row::Instance(instance) if fits => {
+            book.add(instance);
+            MADE
+        }
+        other => {
+            drop(other);
+            None
+        }
     }
-    if let Row::Instance(instance) = row {
-        book.add(instance);
-    }
-    MADE
 }
 
 fn answer(alloc: Global, book: &mut Book, act: Act) -> Result<Answer, Fail> {
     match act {
         Act::Put(given) => Ok(set(book, Change::Put(row(alloc, given)?))),
         Act::Remove(table, key) => Ok(set(book, Change::Remove(table, key))),
-        Act::Store(no, read, file) => Ok(store(book, observation(alloc, no, read, file).copy()?)),
+        Act::Store(no, read, file) => Ok(store(book, observation(alloc, no, read, file))),
         Act::Discover(read, file) => Ok(discover(book, observation(alloc, 1, read, file))),
         Act::Add(valid, file) => Ok(add(book, detached(alloc, valid, file))),
         Act::Reload => {
@@ -168,19 +177,29 @@ fn answer(alloc: Global, book: &mut Book, act: Act) -> Result<Answer, Fail> {
 }
 
 // The first act that is answered otherwise or leaves the book otherwise, counted from 0, with both.
-fn surprise(
+fn surprise_in(
     alloc: Global,
+    book: &mut Book,
     acts: &[(Act, Answer, Shown)],
 ) -> Result<Option<(usize, Answer, Shown)>, Fail> {
-    let mut book = book(alloc, &SERVERS, &ROWS)?;
     for (place, (act, want, after)) in acts.iter().enumerate() {
-        let answer = answer(alloc, &mut book, *act)?;
-        let shown = shown(&book);
+        let answer = answer(alloc, book, *act)?;
+        let shown = shown(book);
         if answer != *want || shown != *after {
             return Ok(Some((place, answer, shown)));
         }
     }
     Ok(None)
+}
+
+fn surprise(
+    alloc: Global,
+    acts: &[(Act, Answer, Shown)],
+) -> Result<Option<(usize, Answer, Shown)>, Fail> {
+    let mut book = book(alloc, &SERVERS, &ROWS)?;
+    let found = surprise_in(alloc, &mut book, acts);
+    drop(book);
+    found
 }
 
 #[test]
@@ -286,7 +305,10 @@ enum Call {
     Keep,
 }
 
-fn gives<K: Keeper>(alloc: Global, keeper: &mut K, given: &[Given]) -> Result<bool, KeeperFault> {
+// Whether these rows are given, or the changes are kept.
+type Kept = Result<bool, KeeperFault>;
+
+fn gives<K: Keeper>(alloc: Global, keeper: &mut K, given: &[Given]) -> Kept {
     let rows = keeper.rows(alloc, &[])?;
     Ok(are_rows(alloc, &rows, given)?)
 }
@@ -298,14 +320,14 @@ fn changes(alloc: Global) -> Result<Vec<Change>, Memory> {
     Ok(changes)
 }
 
-fn keep<K: Keeper>(alloc: Global, keeper: &mut K) -> Result<bool, KeeperFault> {
+fn keep<K: Keeper>(alloc: Global, keeper: &mut K) -> Kept {
     let changes = changes(alloc)?;
     keeper.keep(alloc, &[], &changes)?;
     Ok(true)
 }
 
 // A call by what the trait says.
-fn make_call<K: Keeper>(alloc: Global, keeper: &mut K, call: Call) -> Result<bool, KeeperFault> {
+fn make_call<K: Keeper>(alloc: Global, keeper: &mut K, call: Call) -> Kept {
     match call {
         Call::Rows(given) => gives(alloc, keeper, given),
         Call::Keep => keep(alloc, keeper),
@@ -319,10 +341,24 @@ fn keeper(alloc: Global) -> Result<MemKeeper, Fail> {
     Ok(MemKeeper::new(alloc, rows, fail_at)?)
 }
 
+// The first call that is answered otherwise, or behind which another number of calls has failed, counted from 0, with
+// both.
+fn surprise_of(
+    alloc: Global,
+    keeper: &mut MemKeeper,
+    calls: &[(Call, Kept, u64)],
+) -> Option<(usize, Kept, u64)> {
+    for (place, (call, want, faults)) in calls.iter().enumerate() {
+        let answer = make_call(alloc, keeper, *call);
+        if answer != *want || keeper.faults() != *faults {
+            return Some((place, answer, keeper.faults()));
+        }
+    }
+    None
+}
+
 #[test]
 fn keeper_keeps_all_or_none(rt: HostRuntime) -> Result<(), Fail> {
-    let mut keeper = keeper(rt.alloc())?;
-    // The call, its answer, and how many calls have failed.
     let failed = Err(KeeperFault::Failed);
     let calls = [
         (Call::Rows(&KEPT), Ok(true), 0),
@@ -332,9 +368,9 @@ fn keeper_keeps_all_or_none(rt: HostRuntime) -> Result<(), Fail> {
         (Call::Keep, Ok(true), 2),
         (Call::Rows(&CHANGED), Ok(true), 2),
     ];
-    for (place, (given, answer, faults)) in calls.into_iter().enumerate() {
-        let found = make_call(rt.alloc(), &mut keeper, given);
-        assert_eq!(rt; (found, keeper.faults()), (answer, faults), "at {place}");
-    }
+    let mut keeper = keeper(rt.alloc())?;
+    let found = surprise_of(rt.alloc(), &mut keeper, &calls);
+    drop(keeper);
+    assert_eq!(rt; found, None);
     Ok(())
 }

@@ -116,7 +116,10 @@ pub(crate) fn rows(alloc: Global, given: &[Given]) -> Result<Vec<Row>, Memory> {
 }
 
 fn is_row(alloc: Global, there: &Row, given: Given) -> Result<bool, Memory> {
-    Ok(there.copy(alloc)?.is_same(&row(alloc, given)?))
+    let want = row(alloc, given)?;
+    let same = there.is_same(&want);
+    drop(want);
+    Ok(same)
 }
 
 /// Whether these are the rows that are given, in their order.

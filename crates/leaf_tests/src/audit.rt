@@ -100,7 +100,8 @@ fn kept_row(alloc: Global, (id, cluster, begun, ended, outcome): Kept) -> Result
 
 // The audit of these recoveries, beside which another row is kept.
 fn audit_of(alloc: Global, kept: &[Kept], next: u64) -> Result<Audit, Fail> {
-    let mut rows = Vec::from_array(alloc, [Row::Switch(false)])?;
+    let mut rows = Vec::new(alloc);
+    rows.push(Row::Switch(false))?;
     for one in kept {
         rows.push(kept_row(alloc, *one)?)?;
     }
@@ -125,16 +126,14 @@ fn answer(alloc: Global, audit: &mut Audit, act: Act) -> Result<Answer, Fail> {
     }
 }
 
-// The first act on the audit of these recoveries that is answered otherwise, counted from 0, and its answer.
-fn surprise(
+// The first act that is answered otherwise, counted from 0, and its answer.
+fn surprise_in(
     alloc: Global,
-    kept: &[Kept],
-    next: u64,
+    audit: &mut Audit,
     acts: &[(Act, Answer)],
 ) -> Result<Option<(usize, Answer)>, Fail> {
-    let mut audit = audit_of(alloc, kept, next)?;
     for (place, (act, want)) in acts.iter().enumerate() {
-        let answer = answer(alloc, &mut audit, *act)?;
+        let answer = answer(alloc, audit, *act)?;
         if answer != *want {
             return Ok(Some((place, answer)));
         }
@@ -142,91 +141,158 @@ fn surprise(
     Ok(None)
 }
 
-fn blocked(id: u64, until: u64) -> Answer {
-    let until = Moment(until);
-    Some(Err(Held::Blocked { id, until }))
+// The same of acts on the audit of these recoveries.
+fn surprise(
+    alloc: Global,
+    kept: &[Kept],
+    next: u64,
+    acts: &[(Act, Answer)],
+) -> Result<Option<(usize, Answer)>, Fail> {
+    let mut audit = audit_of(alloc, kept, next)?;
+    let found = surprise_in(alloc, &mut audit, acts);
+    drop(audit);
+    found
 }
 
-fn unended(id: u64) -> Answer {
-    Some(Err(Held::Unended(id)))
-}
+const APART: [(Act, Answer); 18] = [
+    (Act::Ask("m:3306", 0, BLOCK), Some(Ok(1))),
+    (Act::Begin("m:3306", 0), Some(Ok(1))),
+    (Act::Ask("m:3306", 0, BLOCK), Some(Err(Held::Unended(1)))),
+    // another cluster's isn't held back
+    (Act::Ask("m:3307", 0, BLOCK), Some(Ok(2))),
+    (Act::End(1, 7, Ending::Promoted(ServerNo(3))), Some(Ok(1))),
+    // the period counts from the begin
+    (
+        Act::Ask("m:3306", 3599, BLOCK),
+        Some(Err(Held::Blocked {
+            id: 1,
+            until: Moment(3600),
+        })),
+    ),
+    (Act::Ask("m:3306", 3600, BLOCK), Some(Ok(2))),
+    (Act::Ack("m:3307"), Some(Ok(0))),
+    (Act::Ack("m:3306"), Some(Ok(1))),
+    (Act::Ack("m:3306"), Some(Ok(0))),
+    (Act::Ask("m:3306", 3599, BLOCK), Some(Ok(2))),
+    // an acknowledged one that isn't ended still holds others back
+    (Act::Begin("m:3306", 3599), Some(Ok(2))),
+    (Act::Ack("m:3306"), Some(Ok(1))),
+    (
+        Act::Ask("m:3306", 90_000, BLOCK),
+        Some(Err(Held::Unended(2))),
+    ),
+    (Act::Begin("m:3306", 90_000), Some(Err(Held::Unended(2)))),
+    (Act::Ask("m:3307", 90_000, BLOCK), Some(Ok(3))),
+    (Act::End(1, 8, Ending::Interrupted), None),
+    (Act::End(3, 8, Ending::Interrupted), None),
+];
 
 #[test]
 fn recoveries_stand_apart(rt: HostRuntime) -> Result<(), Fail> {
-    let acts = [
-        (Act::Ask("m:3306", 0, BLOCK), Some(Ok(1))),
-        (Act::Begin("m:3306", 0), Some(Ok(1))),
-        (Act::Ask("m:3306", 0, BLOCK), unended(1)),
-        // another cluster's isn't held back
-        (Act::Ask("m:3307", 0, BLOCK), Some(Ok(2))),
-        (Act::End(1, 7, Ending::Promoted(ServerNo(3))), Some(Ok(1))),
-        // the period counts from the begin
-        (Act::Ask("m:3306", 3599, BLOCK), blocked(1, 3600)),
-        (Act::Ask("m:3306", 3600, BLOCK), Some(Ok(2))),
-        (Act::Ack("m:3307"), Some(Ok(0))),
-        (Act::Ack("m:3306"), Some(Ok(1))),
-        (Act::Ack("m:3306"), Some(Ok(0))),
-        (Act::Ask("m:3306", 3599, BLOCK), Some(Ok(2))),
-        // an acknowledged one that isn't ended still holds others back
-        (Act::Begin("m:3306", 3599), Some(Ok(2))),
-        (Act::Ack("m:3306"), Some(Ok(1))),
-        (Act::Ask("m:3306", 90_000, BLOCK), unended(2)),
-        (Act::Begin("m:3306", 90_000), unended(2)),
-        (Act::Ask("m:3307", 90_000, BLOCK), Some(Ok(3))),
-        (Act::End(1, 8, Ending::Interrupted), None),
-        (Act::End(3, 8, Ending::Interrupted), None),
-    ];
-    assert_eq!(rt; surprise(rt.alloc(), &[], 1, &acts)?, None);
+    assert_eq!(rt; surprise(rt.alloc(), &[], 1, &APART)?, None);
     Ok(())
 }
+
+const ENDED: [Kept; 4] = [
+    (
+        4,
+        "a",
+        100,
+        Some(100),
+        Ending::Failed(CauseName::NoCandidate),
+    ),
+    (
+        2,
+        "a",
+        900,
+        Some(900),
+        Ending::Failed(CauseName::NoCandidate),
+    ),
+    (7, "b", 50, Some(50), Ending::Failed(CauseName::NoCandidate)),
+    (
+        5,
+        "a",
+        500,
+        Some(500),
+        Ending::Failed(CauseName::NoCandidate),
+    ),
+];
+
+const LAST: [(Act, Answer); 8] = [
+    // the last by id, not by its moment
+    (
+        Act::Ask("a", 1000, BLOCK),
+        Some(Err(Held::Blocked {
+            id: 5,
+            until: Moment(4100),
+        })),
+    ),
+    // of those that still block
+    (
+        Act::Ask("a", 4200, BLOCK),
+        Some(Err(Held::Blocked {
+            id: 2,
+            until: Moment(4500),
+        })),
+    ),
+    (Act::Ask("a", 4500, BLOCK), Some(Ok(8))),
+    (Act::Ask("c", 0, BLOCK), Some(Ok(8))),
+    // without a period nothing blocks
+    (Act::Ask("a", 1000, 0), Some(Ok(8))),
+    (Act::Ack("a"), Some(Ok(3))),
+    (Act::Ask("a", 1000, BLOCK), Some(Ok(8))),
+    (
+        Act::Ask("b", 0, BLOCK),
+        Some(Err(Held::Blocked {
+            id: 7,
+            until: Moment(3650),
+        })),
+    ),
+];
 
 #[test]
 fn the_last_one_blocks(rt: HostRuntime) -> Result<(), Fail> {
-    let failed = Ending::Failed(CauseName::NoCandidate);
-    let kept = [
-        (4, "a", 100, Some(100), failed),
-        (2, "a", 900, Some(900), failed),
-        (7, "b", 50, Some(50), failed),
-        (5, "a", 500, Some(500), failed),
-    ];
-    let acts = [
-        // the last by id, not by its moment
-        (Act::Ask("a", 1000, BLOCK), blocked(5, 4100)),
-        // of those that still block
-        (Act::Ask("a", 4200, BLOCK), blocked(2, 4500)),
-        (Act::Ask("a", 4500, BLOCK), Some(Ok(8))),
-        (Act::Ask("c", 0, BLOCK), Some(Ok(8))),
-        // without a period nothing blocks
-        (Act::Ask("a", 1000, 0), Some(Ok(8))),
-        (Act::Ack("a"), Some(Ok(3))),
-        (Act::Ask("a", 1000, BLOCK), Some(Ok(8))),
-        (Act::Ask("b", 0, BLOCK), blocked(7, 3650)),
-    ];
-    assert_eq!(rt; surprise(rt.alloc(), &kept, 8, &acts)?, None);
+    assert_eq!(rt; surprise(rt.alloc(), &ENDED, 8, &LAST)?, None);
     Ok(())
 }
 
+const LAST_ID: u64 = 1 << 62;
+
+const LAST_MOMENT: u64 = 1 << 63;
+
+const LONGEST: u64 = 1_000_000_000;
+
+const FAR: [Kept; 1] = [(
+    LAST_ID,
+    "a",
+    LAST_MOMENT,
+    Some(LAST_MOMENT),
+    Ending::Interrupted,
+)];
+
+const FAR_BLOCKED: Answer = Some(Err(Held::Blocked {
+    id: LAST_ID,
+    until: Moment(LAST_MOMENT + LONGEST),
+}));
+
+const FAR_ACTS: [(Act, Answer); 5] = [
+    // a moment before the begin, too
+    (Act::Ask("a", 0, LONGEST), FAR_BLOCKED),
+    (Act::Ask("a", LAST_MOMENT, LONGEST), FAR_BLOCKED),
+    (
+        Act::Ask("a", LAST_MOMENT + LONGEST - 1, LONGEST),
+        FAR_BLOCKED,
+    ),
+    (
+        Act::Ask("a", LAST_MOMENT + LONGEST, LONGEST),
+        Some(Ok(LAST_ID + 1)),
+    ),
+    (Act::Ask("b", 0, LONGEST), Some(Ok(LAST_ID + 1))),
+];
+
 #[test]
 fn far_numbers(rt: HostRuntime) -> Result<(), Fail> {
-    let (last_id, last_moment) = (4_611_686_018_427_387_904, 9_223_372_036_854_775_808);
-    let kept = [(
-        last_id,
-        "a",
-        last_moment,
-        Some(last_moment),
-        Ending::Interrupted,
-    )];
-    let (most, until) = (1_000_000_000, 9_223_372_037_854_775_808);
-    let next = Some(Ok(last_id + 1));
-    let acts = [
-        // a moment before the begin, too
-        (Act::Ask("a", 0, most), blocked(last_id, until)),
-        (Act::Ask("a", last_moment, most), blocked(last_id, until)),
-        (Act::Ask("a", until - 1, most), blocked(last_id, until)),
-        (Act::Ask("a", until, most), next),
-        (Act::Ask("b", 0, most), next),
-    ];
-    assert_eq!(rt; surprise(rt.alloc(), &kept, last_id + 1, &acts)?, None);
+    assert_eq!(rt; surprise(rt.alloc(), &FAR, LAST_ID + 1, &FAR_ACTS)?, None);
     Ok(())
 }
 
@@ -241,39 +307,36 @@ fn shown(alloc: Global, list: &[Recovery]) -> Result<Vec<Shown>, Fail> {
     Ok(all)
 }
 
-// Of the audit of these recoveries, those that a restart closes, and all in a copy of it behind the restart.
-fn closed(
-    alloc: Global,
-    kept: &[Kept],
-    next: u64,
-    at: Moment,
-) -> Result<(Vec<Shown>, Vec<Shown>), Fail> {
-    let mut audit = audit_of(alloc, kept, next)?;
+// The recoveries that a restart closes, and all in a copy of the audit behind it.
+fn close(alloc: Global, audit: &mut Audit, at: Moment) -> Result<(Vec<Shown>, Vec<Shown>), Fail> {
     let closing = shown(alloc, &audit.closing(alloc, at)?)?;
     audit.close(at);
     let all = shown(alloc, audit.copy(alloc)?.recoveries())?;
     Ok((closing, all))
 }
 
+const UNENDED: [Kept; 4] = [
+    (3, "a", 10, None, Ending::Unended),
+    (1, "a", 5, None, Ending::Unended),
+    // it has a moment of its end, and no outcome
+    (2, "b", 6, Some(6), Ending::Unended),
+    (4, "b", 7, Some(8), Ending::Promoted(ServerNo(1))),
+];
+
+const CLOSED: [Shown; 4] = [
+    (1, Some(Moment(20)), Ending::Interrupted, false),
+    (2, Some(Moment(20)), Ending::Interrupted, false),
+    (3, Some(Moment(20)), Ending::Interrupted, false),
+    (4, Some(Moment(8)), Ending::Promoted(ServerNo(1)), false),
+];
+
 #[test]
 fn a_restart_closes_the_unended(rt: HostRuntime) -> Result<(), Fail> {
-    let promoted = Ending::Promoted(ServerNo(1));
-    let kept = [
-        (3, "a", 10, None, Ending::Unended),
-        (1, "a", 5, None, Ending::Unended),
-        // it has a moment of its end, and no outcome
-        (2, "b", 6, Some(6), Ending::Unended),
-        (4, "b", 7, Some(8), promoted),
-    ];
-    let restart = Moment(20);
-    let (closing, all) = closed(rt.alloc(), &kept, 5, restart)?;
-    let want = [
-        (1, Some(restart), Ending::Interrupted, false),
-        (2, Some(restart), Ending::Interrupted, false),
-        (3, Some(restart), Ending::Interrupted, false),
-        (4, Some(Moment(8)), promoted, false),
-    ];
+    let mut audit = audit_of(rt.alloc(), &UNENDED, 5)?;
+    let shown = close(rt.alloc(), &mut audit, Moment(20));
+    drop(audit);
+    let (closing, all) = shown?;
     let found = (closing.as_slice(), all.as_slice());
-    assert_eq!(rt; found, (&want[..3], want.as_slice()));
+    assert_eq!(rt; found, (&CLOSED[..3], CLOSED.as_slice()));
     Ok(())
 }

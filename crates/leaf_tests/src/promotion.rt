@@ -68,130 +68,126 @@ fn chosen(
     Ok(choice(of, &list, &names))
 }
 
+// Drained replicas, and the one that is promoted.
+const PROMOTED: [(&[Given], Option<u32>); 10] = [
+    // the greatest coordinate goes before the better rule, and one that must not be promoted is passed over
+    (
+        &[
+            (0, 1, 204, Rule::Neutral, true),
+            (1, 2, 4, Rule::PreferNot, true),
+            (2, 2, 4, Rule::MustNot, true),
+        ],
+        Some(1),
+    ),
+    // files go before positions
+    (
+        &[
+            (0, 1, 1_000_000_000_000, Rule::Prefer, true),
+            (1, 2, 4, Rule::Neutral, true),
+        ],
+        Some(1),
+    ),
+    // of one coordinate the better rule
+    (
+        &[
+            (0, 1, 204, Rule::Neutral, true),
+            (1, 1, 204, Rule::Prefer, true),
+        ],
+        Some(1),
+    ),
+    // of one coordinate and rule the first name: by the host's bytes, then by the port
+    (
+        &[
+            (2, 1, 204, Rule::Prefer, true),
+            (0, 1, 204, Rule::Prefer, true),
+            (4, 1, 204, Rule::Prefer, true),
+            (1, 1, 204, Rule::Prefer, true),
+        ],
+        Some(4),
+    ),
+    (
+        &[
+            (1, 1, 204, Rule::Prefer, true),
+            (3, 1, 204, Rule::Prefer, true),
+        ],
+        Some(3),
+    ),
+    // who doesn't log is passed over
+    (
+        &[
+            (0, 9, 204, Rule::Prefer, false),
+            (1, 1, 4, Rule::PreferNot, true),
+        ],
+        Some(1),
+    ),
+    (&[(0, 9, 204, Rule::Prefer, false)], None),
+    (&[(0, 9, 204, Rule::MustNot, true)], None),
+    (&[], None),
+    (
+        &[
+            (0, u32::MAX, u64::MAX, Rule::PreferNot, true),
+            (1, u32::MAX, u64::MAX - 1, Rule::Prefer, true),
+        ],
+        Some(0),
+    ),
+];
+
 #[test]
 fn the_most_advanced(rt: HostRuntime) -> Result<(), Fail> {
-    let cases: [(&[Given], Option<u32>); 10] = [
-        // the greatest coordinate goes before the better rule, and one that must not be promoted is passed over
-        (
-            &[
-                (0, 1, 204, Rule::Neutral, true),
-                (1, 2, 4, Rule::PreferNot, true),
-                (2, 2, 4, Rule::MustNot, true),
-            ],
-            Some(1),
-        ),
-        // files go before positions
-        (
-            &[
-                (0, 1, 1_000_000_000_000, Rule::Prefer, true),
-                (1, 2, 4, Rule::Neutral, true),
-            ],
-            Some(1),
-        ),
-        // of one coordinate the better rule
-        (
-            &[
-                (0, 1, 204, Rule::Neutral, true),
-                (1, 1, 204, Rule::Prefer, true),
-            ],
-            Some(1),
-        ),
-        // of one coordinate and rule the first name: by the host's bytes, then by the port
-        (
-            &[
-                (2, 1, 204, Rule::Prefer, true),
-                (0, 1, 204, Rule::Prefer, true),
-                (4, 1, 204, Rule::Prefer, true),
-                (1, 1, 204, Rule::Prefer, true),
-            ],
-            Some(4),
-        ),
-        (
-            &[
-                (1, 1, 204, Rule::Prefer, true),
-                (3, 1, 204, Rule::Prefer, true),
-            ],
-            Some(3),
-        ),
-        // who doesn't log is passed over
-        (
-            &[
-                (0, 9, 204, Rule::Prefer, false),
-                (1, 1, 4, Rule::PreferNot, true),
-            ],
-            Some(1),
-        ),
-        (&[(0, 9, 204, Rule::Prefer, false)], None),
-        (&[(0, 9, 204, Rule::MustNot, true)], None),
-        (&[], None),
-        (
-            &[
-                (0, u32::MAX, u64::MAX, Rule::PreferNot, true),
-                (1, u32::MAX, u64::MAX - 1, Rule::Prefer, true),
-            ],
-            Some(0),
-        ),
-    ];
-    for (given, want) in cases {
-        let want = want.map(ServerNo);
-        assert_eq!(rt;
-            chosen(rt.alloc(), None, given)?,
-            Some(want),
-            "at {given:?}"
-        );
+    for (place, (given, want)) in PROMOTED.iter().enumerate() {
+        let found = chosen(rt.alloc(), None, given)?;
+        assert_eq!(rt; found, Some(want.map(ServerNo)), "at {place}");
     }
     Ok(())
 }
 
+// The rule of the promoted one, its followers, and the one that takes its place.
+const BETTER: [(Rule, &[Given], Option<u32>); 8] = [
+    (
+        Rule::PreferNot,
+        &[(0, 1, 204, Rule::Neutral, true)],
+        Some(0),
+    ),
+    // the rule must be strictly better
+    (Rule::Neutral, &[(0, 1, 204, Rule::Neutral, true)], None),
+    (Rule::Prefer, &[(0, 1, 204, Rule::Prefer, true)], None),
+    // coordinates don't count
+    (
+        Rule::PreferNot,
+        &[
+            (0, 9, 204, Rule::Neutral, true),
+            (1, 1, 4, Rule::Prefer, true),
+        ],
+        Some(1),
+    ),
+    // of one rule the first name
+    (
+        Rule::PreferNot,
+        &[
+            (2, 1, 4, Rule::Neutral, true),
+            (1, 1, 4, Rule::Neutral, true),
+            (3, 1, 4, Rule::Neutral, true),
+        ],
+        Some(3),
+    ),
+    // who doesn't log is passed over
+    (
+        Rule::PreferNot,
+        &[
+            (0, 1, 4, Rule::Prefer, false),
+            (1, 1, 4, Rule::Neutral, true),
+        ],
+        Some(1),
+    ),
+    (Rule::PreferNot, &[(0, 1, 4, Rule::MustNot, true)], None),
+    (Rule::MustNot, &[], None),
+];
+
 #[test]
 fn the_better_follower(rt: HostRuntime) -> Result<(), Fail> {
-    let cases: [(Rule, &[Given], Option<u32>); 8] = [
-        (
-            Rule::PreferNot,
-            &[(0, 1, 204, Rule::Neutral, true)],
-            Some(0),
-        ),
-        // the rule must be strictly better
-        (Rule::Neutral, &[(0, 1, 204, Rule::Neutral, true)], None),
-        (Rule::Prefer, &[(0, 1, 204, Rule::Prefer, true)], None),
-        // coordinates don't count
-        (
-            Rule::PreferNot,
-            &[
-                (0, 9, 204, Rule::Neutral, true),
-                (1, 1, 4, Rule::Prefer, true),
-            ],
-            Some(1),
-        ),
-        // of one rule the first name
-        (
-            Rule::PreferNot,
-            &[
-                (2, 1, 4, Rule::Neutral, true),
-                (1, 1, 4, Rule::Neutral, true),
-                (3, 1, 4, Rule::Neutral, true),
-            ],
-            Some(3),
-        ),
-        // who doesn't log is passed over
-        (
-            Rule::PreferNot,
-            &[
-                (0, 1, 4, Rule::Prefer, false),
-                (1, 1, 4, Rule::Neutral, true),
-            ],
-            Some(1),
-        ),
-        (Rule::PreferNot, &[(0, 1, 4, Rule::MustNot, true)], None),
-        (Rule::MustNot, &[], None),
-    ];
-    for (of, given, want) in cases {
-        let want = want.map(ServerNo);
-        assert_eq!(rt;
-            chosen(rt.alloc(), Some(of), given)?,
-            Some(want),
-            "at {given:?}"
-        );
+    for (place, (of, given, want)) in BETTER.iter().enumerate() {
+        let found = chosen(rt.alloc(), Some(*of), given)?;
+        assert_eq!(rt; found, Some(want.map(ServerNo)), "at {place}");
     }
     Ok(())
 }
