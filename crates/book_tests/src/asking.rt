@@ -106,32 +106,33 @@ fn surprise(alloc: Global, asked: &[Ask]) -> Result<Option<usize>, Fail> {
     found
 }
 
+const ASKED: [Ask; 14] = [
+    (CommandName::Topology, Some(1), Some(&[6, 3, 4, 0, 2, 7, 1])),
+    (CommandName::Topology, Some(7), Some(&[])),
+    (CommandName::Topology, Some(5), None),
+    (CommandName::WhichMaster, Some(2), Some(&[0])),
+    (CommandName::WhichMaster, Some(6), Some(&[5])),
+    (CommandName::WhichReplicas, Some(0), Some(&[7, 1])),
+    (CommandName::WhichCluster, Some(7), Some(&[NOBODY])),
+    (CommandName::WhichCluster, Some(5), None),
+    (
+        CommandName::WhichClusterInstances,
+        Some(0),
+        Some(&[6, 2, 3, 4, 0, 1]),
+    ),
+    (CommandName::Clusters, Some(5), Some(&[NOBODY, NOBODY])),
+    (
+        CommandName::AllInstances,
+        None,
+        Some(&[6, 2, 3, 4, 7, 0, 1]),
+    ),
+    (CommandName::Find, None, Some(&[6, 3, 0])),
+    (CommandName::ReplicationAnalysis, None, Some(&[])),
+    (CommandName::CheckGlobalRecoveries, None, Some(&[NOBODY])),
+];
+
 #[test]
 fn questions_are_answered(rt: HostRuntime) -> Result<(), Fail> {
-    let asked: [Ask; 14] = [
-        (CommandName::Topology, Some(1), Some(&[6, 3, 4, 0, 2, 7, 1])),
-        (CommandName::Topology, Some(7), Some(&[])),
-        (CommandName::Topology, Some(5), None),
-        (CommandName::WhichMaster, Some(2), Some(&[0])),
-        (CommandName::WhichMaster, Some(6), Some(&[5])),
-        (CommandName::WhichReplicas, Some(0), Some(&[7, 1])),
-        (CommandName::WhichCluster, Some(7), Some(&[NOBODY])),
-        (CommandName::WhichCluster, Some(5), None),
-        (
-            CommandName::WhichClusterInstances,
-            Some(0),
-            Some(&[6, 2, 3, 4, 0, 1]),
-        ),
-        (CommandName::Clusters, Some(5), Some(&[NOBODY, NOBODY])),
-        (
-            CommandName::AllInstances,
-            None,
-            Some(&[6, 2, 3, 4, 7, 0, 1]),
-        ),
-        (CommandName::Find, None, Some(&[6, 3, 0])),
-        (CommandName::ReplicationAnalysis, None, Some(&[])),
-        (CommandName::CheckGlobalRecoveries, None, Some(&[NOBODY])),
-    ];
-    assert_eq!(rt; surprise(rt.alloc(), &asked)?, None);
+    assert_eq!(rt; surprise(rt.alloc(), &ASKED)?, None);
     Ok(())
 }

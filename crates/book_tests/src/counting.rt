@@ -5,6 +5,7 @@ use instance_keeper::{Ending, Row, Rule};
 use opening_book::{counted, last_id, last_read, latest_moment, loaded_book};
 use orch_base::{Moment, ServerNo, SourceState};
 use std::alloc::Global;
+use std::slice;
 use std::test::Fail;
 
 /// The greatest read number and moment.
@@ -51,29 +52,29 @@ fn counts(
 }
 
 // Rows that don't count, since a server is unknown or a number is past its greatest.
+const HOSTILE: [Given; 15] = [
+    Given::Instance(2, ROOT, 0, 0),
+    Given::Instance(0, SourceState::Attached(ServerNo(2)), 0, 0),
+    Given::Instance(0, SourceState::Detached(ServerNo(u32::MAX)), 0, 0),
+    Given::Instance(0, ROOT, MOST + 1, 0),
+    Given::Instance(0, ROOT, 0, u64::MAX),
+    Given::Downtime(2, 0, 0),
+    Given::Downtime(0, MOST + 1, 0),
+    Given::Downtime(0, 0, MOST + 1),
+    Given::Candidate(2, Rule::Prefer, 0),
+    Given::Candidate(0, Rule::Prefer, u64::MAX),
+    Given::Recovery(0, 0, None, Ending::Unended),
+    Given::Recovery(MOST_ID + 1, 0, None, Ending::Unended),
+    Given::Recovery(1, MOST + 1, None, Ending::Unended),
+    Given::Recovery(1, 0, Some(MOST + 1), Ending::Unended),
+    Given::Recovery(1, 0, None, Ending::Promoted(ServerNo(2))),
+];
+
 #[test]
 fn hostile_rows_do_not_count(rt: HostRuntime) -> Result<(), Fail> {
-    for (place, row) in [
-        Given::Instance(2, ROOT, 0, 0),
-        Given::Instance(0, SourceState::Attached(ServerNo(2)), 0, 0),
-        Given::Instance(0, SourceState::Detached(ServerNo(u32::MAX)), 0, 0),
-        Given::Instance(0, ROOT, MOST + 1, 0),
-        Given::Instance(0, ROOT, 0, u64::MAX),
-        Given::Downtime(2, 0, 0),
-        Given::Downtime(0, MOST + 1, 0),
-        Given::Downtime(0, 0, MOST + 1),
-        Given::Candidate(2, Rule::Prefer, 0),
-        Given::Candidate(0, Rule::Prefer, u64::MAX),
-        Given::Recovery(0, 0, None, Ending::Unended),
-        Given::Recovery(MOST_ID + 1, 0, None, Ending::Unended),
-        Given::Recovery(1, MOST + 1, None, Ending::Unended),
-        Given::Recovery(1, 0, Some(MOST + 1), Ending::Unended),
-        Given::Recovery(1, 0, None, Ending::Promoted(ServerNo(2))),
-    ]
-    .into_iter()
-    .enumerate()
-    {
-        assert!(rt; counts(rt.alloc(), 2, MOST_ID, &[row], &[])?, "row {place}");
+    for (place, row) in HOSTILE.iter().enumerate() {
+        let counts = counts(rt.alloc(), 2, MOST_ID, slice::from_ref(row), &[])?;
+        assert!(rt; counts, "row {place}");
     }
     Ok(())
 }
@@ -86,30 +87,31 @@ const RECOVERIES: [Given; 4] = [
     Given::Recovery(0, 0, None, Ending::Unended),
 ];
 
+// How many servers there are, the last id that counts, the rows, and those that count.
+const COUNTED: [(u32, u64, &[Given], &[Given]); 3] = [
+    (2, MOST_ID, &GOOD, &IN_ORDER),
+    (0, MOST_ID, &GOOD, &[Given::Switch(false)]),
+    (
+        2,
+        8,
+        &RECOVERIES,
+        &[Given::Recovery(8, 0, None, Ending::Unended)],
+    ),
+];
+
 #[test]
 fn counted_rows_stand_in_order(rt: HostRuntime) -> Result<(), Fail> {
-    // How many servers there are, the last id that counts, the rows, and those that count.
-    let cases: [(u32, u64, &[Given], &[Given]); 3] = [
-        (2, MOST_ID, &GOOD, &IN_ORDER),
-        (0, MOST_ID, &GOOD, &[Given::Switch(false)]),
-        (
-            2,
-            8,
-            &RECOVERIES,
-            &[Given::Recovery(8, 0, None, Ending::Unended)],
-        ),
-    ];
-    for (servers, last, given, want) in cases {
-        assert!(rt;
-            counts(rt.alloc(), servers, last, given, want)?,
-            "by {last}"
-        );
+    for (servers, last, given, want) in &COUNTED {
+        let counts = counts(rt.alloc(), *servers, *last, given, want)?;
+        assert!(rt; counts, "by {last}");
     }
     Ok(())
 }
 
 // The last id and reading, and the latest moment from two on.
-fn numbers(alloc: Global, given: &[Given]) -> Result<(u64, u64, [Moment; 2]), Fail> {
+type Numbers = (u64, u64, [Moment; 2]);
+
+fn numbers(alloc: Global, given: &[Given]) -> Result<Numbers, Fail> {
     let rows = rows(alloc, given)?;
     let latest = [
         latest_moment(Moment(5), &rows),
@@ -118,16 +120,22 @@ fn numbers(alloc: Global, given: &[Given]) -> Result<(u64, u64, [Moment; 2]), Fa
     Ok((last_id(&rows), last_read(&rows), latest))
 }
 
+const UNENDED: [Given; 2] = [
+    Given::Downtime(0, 50, MOST),
+    Given::Recovery(1, 40, None, Ending::Promoted(ServerNo(1))),
+];
+
+const NUMBERS: [(&[Given], Numbers); 4] = [
+    (&IN_ORDER, (MOST_ID, MOST, [Moment(MOST), Moment(MOST)])),
+    (&UNENDED, (1, 0, [Moment(50), Moment(60)])),
+    (&RECOVERIES, (9, 0, [Moment(5), Moment(60)])),
+    (&[], (0, 0, [Moment(5), Moment(60)])),
+];
+
 #[test]
 fn numbers_go_on(rt: HostRuntime) -> Result<(), Fail> {
-    // Without the recovery that ended last the latest moment is the begin of the downtime.
-    for (given, want) in [
-        (&IN_ORDER[..], (MOST_ID, MOST, [Moment(MOST); 2])),
-        (&IN_ORDER[..5], (1, MOST, [Moment(50), Moment(60)])),
-        (&RECOVERIES[..], (9, 0, [Moment(5), Moment(60)])),
-        (&IN_ORDER[..0], (0, 0, [Moment(5), Moment(60)])),
-    ] {
-        assert_eq!(rt; numbers(rt.alloc(), given)?, want);
+    for (place, (given, want)) in NUMBERS.iter().enumerate() {
+        assert_eq!(rt; numbers(rt.alloc(), given)?, *want, "at {place}");
     }
     Ok(())
 }

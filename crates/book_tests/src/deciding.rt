@@ -204,16 +204,18 @@ fn loaded(alloc: Global, rows: Vec<Row>, next: u64) -> Result<Option<Audit>, Fai
     Ok(Some(Audit::make(list, next)))
 }
 
-// An audit of four recoveries, of which one is acknowledged.
+// Recoveries by their ids, their clusters, and whether they are acknowledged.
+const RECOVERIES: [(u64, &str, bool); 4] = [
+    (1, "m:3306", false),
+    (2, "x", false),
+    (3, "m:3306", true),
+    (4, "m:3306", false),
+];
+
 fn audit(alloc: Global) -> Result<Audit, Fail> {
     let mut rows = Vec::new(alloc);
-    for (id, cluster, acked) in [
-        (1, "m:3306", false),
-        (2, "x", false),
-        (3, "m:3306", true),
-        (4, "m:3306", false),
-    ] {
-        rows.push(Row::Recovery(recovery(alloc, id, cluster, acked)?))?;
+    for (id, cluster, acked) in &RECOVERIES {
+        rows.push(Row::Recovery(recovery(alloc, *id, cluster, *acked)?))?;
     }
     Ok(loaded(alloc, rows, 5)?.ok_or("no audit")?)
 }
@@ -254,94 +256,115 @@ const MASTER: Key = Key::Server(ServerNo(0));
 
 const REPLICA: Key = Key::Server(ServerNo(1));
 
+const END: Asked = Asked {
+    decision: Decision::EndDowntime,
+    ..BEGIN
+};
+
+const TEN_MINUTES: Asked = Asked {
+    duration: Some(600),
+    ..BEGIN
+};
+
+const YEAR: Asked = Asked {
+    now: 1 << 63,
+    duration: Some(31_536_000),
+    ..BEGIN
+};
+
+const WHY: Asked = Asked {
+    reason: Some("disk"),
+    ..BEGIN
+};
+
+// Ten minutes where no duration is given; the same again keeps nothing, another reason does. One that no longer lasts
+// is removed, too.
+const DOWNTIMES: [Step; 9] = [
+    (END, Want::Server(0), &[]),
+    (BEGIN, Want::Downtime(0, 600), &[MASTER]),
+    (TEN_MINUTES, Want::Downtime(0, 600), &[]),
+    (WHY, Want::Downtime(0, 600), &[MASTER]),
+    (WHY, Want::Downtime(0, 600), &[]),
+    (
+        YEAR,
+        Want::Downtime(0, 9_223_372_036_886_311_808),
+        &[MASTER],
+    ),
+    (Asked { now: 7, ..BEGIN }, Want::Downtime(0, 607), &[MASTER]),
+    (Asked { now: 9000, ..END }, Want::Server(0), &[MASTER]),
+    (Asked { now: 9000, ..END }, Want::Server(0), &[]),
+];
+
 #[test]
 fn downtimes_begin_and_end(rt: HostRuntime) -> Result<(), Fail> {
-    let end = Asked {
-        decision: Decision::EndDowntime,
-        ..BEGIN
-    };
-    let ten_minutes = Asked {
-        duration: Some(600),
-        ..BEGIN
-    };
-    let year = Asked {
-        now: 1 << 63,
-        duration: Some(31_536_000),
-        ..BEGIN
-    };
-    let why = Asked {
-        reason: Some("disk"),
-        ..BEGIN
-    };
-    let late = Asked { now: 9000, ..end };
-    // Ten minutes where no duration is given; the same again keeps nothing, another reason does. One that no longer
-    // lasts is removed, too.
-    let steps: [Step; 9] = [
-        (end, Want::Server(0), &[]),
-        (BEGIN, Want::Downtime(0, 600), &[MASTER]),
-        (ten_minutes, Want::Downtime(0, 600), &[]),
-        (why, Want::Downtime(0, 600), &[MASTER]),
-        (why, Want::Downtime(0, 600), &[]),
-        (year, Want::Downtime(0, 9223372036886311808), &[MASTER]),
-        (Asked { now: 7, ..BEGIN }, Want::Downtime(0, 607), &[MASTER]),
-        (late, Want::Server(0), &[MASTER]),
-        (late, Want::Server(0), &[]),
-    ];
-    assert_eq!(rt; surprise(rt.alloc(), &steps)?, None);
+    assert_eq!(rt; surprise(rt.alloc(), &DOWNTIMES)?, None);
     Ok(())
 }
+
+const PREFER: Asked = Asked {
+    decision: Decision::RegisterCandidate,
+    server: 1,
+    now: 40,
+    rule: Some(Rule::Prefer),
+    ..BEGIN
+};
+
+const NEVER: Asked = Asked {
+    rule: Some(Rule::MustNot),
+    ..PREFER
+};
+
+const CANDIDATES: [Step; 4] = [
+    (PREFER, Want::Candidate(1, Rule::Prefer, 3640), &[REPLICA]),
+    (PREFER, Want::Candidate(1, Rule::Prefer, 3640), &[]),
+    (NEVER, Want::Candidate(1, Rule::MustNot, 3640), &[REPLICA]),
+    (
+        Asked { now: 41, ..NEVER },
+        Want::Candidate(1, Rule::MustNot, 3641),
+        &[REPLICA],
+    ),
+];
 
 #[test]
 fn candidates_are_registered_for_an_hour(rt: HostRuntime) -> Result<(), Fail> {
-    let prefer = Asked {
-        decision: Decision::RegisterCandidate,
-        server: 1,
-        now: 40,
-        rule: Some(Rule::Prefer),
-        ..BEGIN
-    };
-    let never = Asked {
-        rule: Some(Rule::MustNot),
-        ..prefer
-    };
-    let later = Asked { now: 41, ..never };
-    let steps: [Step; 4] = [
-        (prefer, Want::Candidate(1, Rule::Prefer, 3640), &[REPLICA]),
-        (prefer, Want::Candidate(1, Rule::Prefer, 3640), &[]),
-        (never, Want::Candidate(1, Rule::MustNot, 3640), &[REPLICA]),
-        (later, Want::Candidate(1, Rule::MustNot, 3641), &[REPLICA]),
-    ];
-    assert_eq!(rt; surprise(rt.alloc(), &steps)?, None);
+    assert_eq!(rt; surprise(rt.alloc(), &CANDIDATES)?, None);
     Ok(())
 }
 
+const ENABLE: Asked = Asked {
+    decision: Decision::EnableRecoveries,
+    ..BEGIN
+};
+
+const DISABLE: Asked = Asked {
+    decision: Decision::DisableRecoveries,
+    ..BEGIN
+};
+
+const ACK: Asked = Asked {
+    decision: Decision::AckRecoveries,
+    server: 1,
+    ..BEGIN
+};
+
 // The first row of the switch is kept, though recoveries are enabled without one. Acknowledgements are of a cluster.
+const OTHERS: [Step; 8] = [
+    (ENABLE, Want::Enabled(true), &[Key::Global]),
+    (ENABLE, Want::Enabled(true), &[]),
+    (DISABLE, Want::Enabled(false), &[Key::Global]),
+    (DISABLE, Want::Enabled(false), &[]),
+    (ACK, Want::Acknowledged(2), &[Key::Id(1), Key::Id(4)]),
+    (ACK, Want::Acknowledged(0), &[]),
+    (
+        Asked { server: 2, ..ACK },
+        Want::Acknowledged(1),
+        &[Key::Id(2)],
+    ),
+    (Asked { server: 2, ..ACK }, Want::Acknowledged(0), &[]),
+];
+
 #[test]
 fn switch_and_acknowledgements_are_kept(rt: HostRuntime) -> Result<(), Fail> {
-    let enable = Asked {
-        decision: Decision::EnableRecoveries,
-        ..BEGIN
-    };
-    let disable = Asked {
-        decision: Decision::DisableRecoveries,
-        ..BEGIN
-    };
-    let ack = Asked {
-        decision: Decision::AckRecoveries,
-        server: 1,
-        ..BEGIN
-    };
-    let other = Asked { server: 2, ..ack };
-    let steps: [Step; 8] = [
-        (enable, Want::Enabled(true), &[Key::Global]),
-        (enable, Want::Enabled(true), &[]),
-        (disable, Want::Enabled(false), &[Key::Global]),
-        (disable, Want::Enabled(false), &[]),
-        (ack, Want::Acknowledged(2), &[Key::Id(1), Key::Id(4)]),
-        (ack, Want::Acknowledged(0), &[]),
-        (other, Want::Acknowledged(1), &[Key::Id(2)]),
-        (other, Want::Acknowledged(0), &[]),
-    ];
-    assert_eq!(rt; surprise(rt.alloc(), &steps)?, None);
+    assert_eq!(rt; surprise(rt.alloc(), &OTHERS)?, None);
     Ok(())
 }

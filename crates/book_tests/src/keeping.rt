@@ -149,20 +149,23 @@ fn detached(alloc: Global, valid: bool, file: u32) -> Instance {
 
 fn add(book: &mut Book, instance: Instance) -> Answer {
     let row = Row::Instance(instance);
-    let fits = row.are_servers_known(book.servers());
+    if !row.are_servers_known(book.servers()) {
+        drop(row);
+        return None;
+    }
     match row {
-        Row::Instance(instance) if fits => {
+        Row::Instance(instance) => {
             book.add(instance);
             MADE
         }
-        other => {
-            drop(other);
-            None
-        }
+        Row::Downtime(_downtime) => None,
+        Row::Candidate(_candidate) => None,
+        Row::Recovery(_recovery) => None,
+        Row::Switch(_enabled) => None,
     }
 }
 
-fn answer(alloc: Global, book: &mut Book, act: Act) -> Result<Answer, Fail> {
+fn answer(alloc: Global, book: &mut Book, act: Act) -> Result<Answer, Memory> {
     match act {
         Act::Put(given) => Ok(set(book, Change::Put(row(alloc, given)?))),
         Act::Remove(table, key) => Ok(set(book, Change::Remove(table, key))),
@@ -176,13 +179,16 @@ fn answer(alloc: Global, book: &mut Book, act: Act) -> Result<Answer, Fail> {
     }
 }
 
-// The first act that is answered otherwise or leaves the book otherwise, counted from 0, with both.
+// An act, its answer, and what is shown behind it.
+type Step = (Act, Answer, Shown);
+
+// The first step that is answered or shown otherwise, counted from 0, with both.
 fn surprise_in(
     alloc: Global,
     book: &mut Book,
-    acts: &[(Act, Answer, Shown)],
-) -> Result<Option<(usize, Answer, Shown)>, Fail> {
-    for (place, (act, want, after)) in acts.iter().enumerate() {
+    steps: &[Step],
+) -> Result<Option<(usize, Answer, Shown)>, Memory> {
+    for (place, (act, want, after)) in steps.iter().enumerate() {
         let answer = answer(alloc, book, *act)?;
         let shown = shown(book);
         if answer != *want || shown != *after {
@@ -192,87 +198,130 @@ fn surprise_in(
     Ok(None)
 }
 
-fn surprise(
-    alloc: Global,
-    acts: &[(Act, Answer, Shown)],
-) -> Result<Option<(usize, Answer, Shown)>, Fail> {
+// The same of the book of the rows.
+fn surprise(alloc: Global, steps: &[Step]) -> Result<Option<(usize, Answer, Shown)>, Fail> {
     let mut book = book(alloc, &SERVERS, &ROWS)?;
-    let found = surprise_in(alloc, &mut book, acts);
+    let found = surprise_in(alloc, &mut book, steps);
     drop(book);
-    found
+    Ok(found?)
 }
+
+// The source of 0 is no server of the scenario.
+const LOADED: Shown = (None, Some((3, true, 2)), None, false);
+
+const LOST: Shown = (None, Some((7, false, 8)), Some(8), false);
+
+const READINGS: [Step; 8] = [
+    (
+        Act::Store(0, 9, Some(3)),
+        Some(StoreAnswer::Unknown),
+        LOADED,
+    ),
+    (Act::Store(1, 2, Some(3)), Some(StoreAnswer::Old(3)), LOADED),
+    (
+        Act::Store(1, 3, None),
+        MADE,
+        (None, Some((3, false, 2)), None, false),
+    ),
+    (
+        Act::Store(1, 5, Some(8)),
+        MADE,
+        (None, Some((5, true, 8)), Some(8), false),
+    ),
+    (Act::Store(1, 7, None), MADE, LOST),
+    (Act::Store(1, 6, Some(9)), Some(StoreAnswer::Old(7)), LOST),
+    (Act::Store(2, 9, Some(9)), None, LOST),
+    // loaded anew, the book is as it was made, without a bridge
+    (Act::Reload, MADE, LOADED),
+];
 
 #[test]
 fn later_readings_stand(rt: HostRuntime) -> Result<(), Fail> {
-    let made = (None, Some((3, true, 2)), None, false);
-    let lost = (None, Some((3, false, 2)), None, false);
-    let later = (None, Some((5, true, 8)), Some(8), false);
-    let lost_later = (None, Some((7, false, 8)), Some(8), false);
-    let acts = [
-        // the source of 0 is no server of the scenario
-        (Act::Store(0, 9, Some(3)), Some(StoreAnswer::Unknown), made),
-        (Act::Store(1, 2, Some(3)), Some(StoreAnswer::Old(3)), made),
-        (Act::Store(1, 3, None), MADE, lost),
-        (Act::Store(1, 5, Some(8)), MADE, later),
-        (Act::Store(1, 7, None), MADE, lost_later),
-        (
-            Act::Store(1, 6, Some(9)),
-            Some(StoreAnswer::Old(7)),
-            lost_later,
-        ),
-        (Act::Store(2, 9, Some(9)), None, lost_later),
-        // loaded anew, the book is as it was made, without a bridge
-        (Act::Reload, MADE, made),
-    ];
-    assert_eq!(rt; surprise(rt.alloc(), &acts)?, None);
+    assert_eq!(rt; surprise(rt.alloc(), &READINGS)?, None);
     Ok(())
 }
+
+const REPLICA: Key = Key::Server(ServerNo(1));
+
+const BRIDGES: [Step; 8] = [
+    (
+        Act::Store(1, 5, Some(3)),
+        MADE,
+        (None, Some((5, true, 3)), Some(3), false),
+    ),
+    // an earlier reading is passed over, as at a store; a later one stands
+    (
+        Act::Discover(4, Some(7)),
+        MADE,
+        (None, Some((5, true, 3)), Some(3), false),
+    ),
+    (
+        Act::Discover(6, Some(9)),
+        MADE,
+        (None, Some((6, true, 9)), Some(9), false),
+    ),
+    // an instance that was forgotten has no bridge, and is added again where its server is reached
+    (
+        Act::Remove(Table::Instance, REPLICA),
+        MADE,
+        (None, None, None, false),
+    ),
+    (Act::Discover(7, None), MADE, (None, None, None, false)),
+    (
+        Act::Discover(8, Some(4)),
+        MADE,
+        (None, Some((8, true, 4)), Some(4), false),
+    ),
+    // one that isn't valid shows no bridge
+    (
+        Act::Add(false, 6),
+        MADE,
+        (None, Some((9, false, 6)), Some(4), false),
+    ),
+    (
+        Act::Add(true, 2),
+        MADE,
+        (None, Some((9, true, 2)), Some(2), false),
+    ),
+];
 
 #[test]
 fn bridges_come_with_what_is_seen(rt: HostRuntime) -> Result<(), Fail> {
-    let forget = Act::Remove(Table::Instance, Key::Server(ServerNo(1)));
-    let with = |known: Known, bridge: u32| (None, Some(known), Some(bridge), false);
-    let acts = [
-        (Act::Store(1, 5, Some(3)), MADE, with((5, true, 3), 3)),
-        // an earlier reading is passed over, as at a store; a later one stands
-        (Act::Discover(4, Some(7)), MADE, with((5, true, 3), 3)),
-        (Act::Discover(6, Some(9)), MADE, with((6, true, 9), 9)),
-        // an instance that was forgotten has no bridge, and is added again where its server is reached
-        (forget, MADE, (None, None, None, false)),
-        (Act::Discover(7, None), MADE, (None, None, None, false)),
-        (Act::Discover(8, Some(4)), MADE, with((8, true, 4), 4)),
-        // one that isn't valid shows no bridge
-        (Act::Add(false, 6), MADE, with((9, false, 6), 4)),
-        (Act::Add(true, 2), MADE, with((9, true, 2), 2)),
-    ];
-    assert_eq!(rt; surprise(rt.alloc(), &acts)?, None);
+    assert_eq!(rt; surprise(rt.alloc(), &BRIDGES)?, None);
     Ok(())
 }
 
+const BOTH: Shown = (Some((6, true, 2)), Some((3, true, 2)), None, false);
+
+const FIRST: Shown = (Some((6, true, 2)), None, None, false);
+
+const CHANGES: [Step; 9] = [
+    (
+        Act::Put(Given::Instance(0, SourceState::Without, 6, 7)),
+        MADE,
+        BOTH,
+    ),
+    (Act::Put(Given::Downtime(0, 1, 90)), MADE, BOTH),
+    (Act::Put(Given::Downtime(2, 1, 90)), None, BOTH),
+    (
+        Act::Put(Given::Recovery(1, 5, None, Ending::Unended)),
+        None,
+        BOTH,
+    ),
+    (Act::Remove(Table::Recovery, Key::Id(1)), None, BOTH),
+    (Act::Remove(Table::Instance, REPLICA), MADE, FIRST),
+    (Act::Remove(Table::Downtime, REPLICA), MADE, FIRST),
+    (Act::Remove(Table::Candidate, REPLICA), MADE, FIRST),
+    (
+        Act::Remove(Table::Switch, Key::Global),
+        MADE,
+        (Some((6, true, 2)), None, None, true),
+    ),
+];
+
 #[test]
 fn book_is_changed(rt: HostRuntime) -> Result<(), Fail> {
-    let master = Given::Instance(0, SourceState::Without, 6, 7);
-    let replica = Key::Server(ServerNo(1));
-    let first = Some((6, true, 2));
-    let both = (first, Some((3, true, 2)), None, false);
-    let one = (first, None, None, false);
-    let enabled = (first, None, None, true);
-    let acts = [
-        (Act::Put(master), MADE, both),
-        (Act::Put(Given::Downtime(0, 1, 90)), MADE, both),
-        (Act::Put(Given::Downtime(2, 1, 90)), None, both),
-        (
-            Act::Put(Given::Recovery(1, 5, None, Ending::Unended)),
-            None,
-            both,
-        ),
-        (Act::Remove(Table::Recovery, Key::Id(1)), None, both),
-        (Act::Remove(Table::Instance, replica), MADE, one),
-        (Act::Remove(Table::Downtime, replica), MADE, one),
-        (Act::Remove(Table::Candidate, replica), MADE, one),
-        (Act::Remove(Table::Switch, Key::Global), MADE, enabled),
-    ];
-    assert_eq!(rt; surprise(rt.alloc(), &acts)?, None);
+    assert_eq!(rt; surprise(rt.alloc(), &CHANGES)?, None);
     Ok(())
 }
 
@@ -357,19 +406,19 @@ fn surprise_of(
     None
 }
 
+const CALLS: [(Call, Kept, u64); 6] = [
+    (Call::Rows(&KEPT), Ok(true), 0),
+    (Call::Keep, Err(KeeperFault::Failed), 1),
+    (Call::Rows(&KEPT), Ok(true), 1),
+    (Call::Rows(&KEPT), Err(KeeperFault::Failed), 2),
+    (Call::Keep, Ok(true), 2),
+    (Call::Rows(&CHANGED), Ok(true), 2),
+];
+
 #[test]
 fn keeper_keeps_all_or_none(rt: HostRuntime) -> Result<(), Fail> {
-    let failed = Err(KeeperFault::Failed);
-    let calls = [
-        (Call::Rows(&KEPT), Ok(true), 0),
-        (Call::Keep, failed, 1),
-        (Call::Rows(&KEPT), Ok(true), 1),
-        (Call::Rows(&KEPT), failed, 2),
-        (Call::Keep, Ok(true), 2),
-        (Call::Rows(&CHANGED), Ok(true), 2),
-    ];
     let mut keeper = keeper(rt.alloc())?;
-    let found = surprise_of(rt.alloc(), &mut keeper, &calls);
+    let found = surprise_of(rt.alloc(), &mut keeper, &CALLS);
     drop(keeper);
     assert_eq!(rt; found, None);
     Ok(())
