@@ -6,9 +6,8 @@ use instance_keeper::{
     Book, Change, Ending, Instance, Keeper, KeeperFault, Key, MemKeeper, Observation, Row, Rule,
     StoreAnswer, Table,
 };
-use orch_base::{Memory, Moment, Name, ServerNo, SourceState};
+use orch_base::{Memory, Moment, ServerNo, SourceState};
 use std::alloc::Global;
-use std::test::Fail;
 
 const SERVERS: [(&str, &str); 2] = [("m", "m:3306"), ("r:3307", "m:3306")];
 
@@ -27,28 +26,32 @@ const ROWS: [Given; 9] = [
     Given::Switch(false),
 ];
 
-// What a book of two servers tells of the second: whether this is its name, when its downtime ends as told at moments
-// 19 and 20, and its rule at 59 and 60.
-fn told(book: &Book, name: &Name) -> Option<(bool, [Option<Moment>; 2], [Rule; 2])> {
+// When a downtime ends as it is told at two moments, and a rule at two moments.
+type Told = ([Option<Moment>; 2], [Rule; 2]);
+
+const MADE_OF_ROWS: Told = ([Some(Moment(20)), None], [Rule::Prefer, Rule::Neutral]);
+
+// What a book of two servers tells of the second's downtime at moments 19 and 20, and of its rule at 59 and 60.
+fn told(book: &Book) -> Option<Told> {
     if book.servers() != 2 {
         return None;
     }
     let no = ServerNo(1);
     let ends = [book.downtime(no, Moment(19)), book.downtime(no, Moment(20))];
     let rules = [book.rule(no, Moment(59)), book.rule(no, Moment(60))];
-    Some((book.name(no).is_same(name), ends, rules))
+    Some((ends, rules))
+}
+
+fn made(alloc: Global) -> Result<Option<Told>, Memory> {
+    let book = book(alloc, &SERVERS, &ROWS)?;
+    let told = told(&book);
+    drop(book);
+    Ok(told)
 }
 
 #[test]
-fn book_is_made_of_rows(rt: HostRuntime) -> Result<(), Fail> {
-    let name = Name::read(rt.alloc(), "r:3307")?;
-    let book = book(rt.alloc(), &SERVERS, &ROWS)?;
-    let told = told(&book, &name);
-    drop(book);
-    let ends = [Some(Moment(20)), None];
-    let rules = [Rule::Prefer, Rule::Neutral];
-    assert_eq!(rt; told, Some((true, ends, rules)));
-    Ok(())
+fn book_is_made_of_rows(rt: HostRuntime) {
+    assert_eq!(rt; made(rt.alloc()), Ok(Some(MADE_OF_ROWS)));
 }
 
 // What is known of an instance: its reading, whether it is valid, and the file of its own end.
@@ -182,28 +185,23 @@ fn answer(alloc: Global, book: &mut Book, act: Act) -> Result<Answer, Memory> {
 // An act, its answer, and what is shown behind it.
 type Step = (Act, Answer, Shown);
 
-// The first step that is answered or shown otherwise, counted from 0, with both.
-fn surprise_in(
-    alloc: Global,
-    book: &mut Book,
-    steps: &[Step],
-) -> Result<Option<(usize, Answer, Shown)>, Memory> {
+// The first step that is answered or shown otherwise, counted from 0.
+fn surprise_in(alloc: Global, book: &mut Book, steps: &[Step]) -> Result<Option<usize>, Memory> {
     for (place, (act, want, after)) in steps.iter().enumerate() {
         let answer = answer(alloc, book, *act)?;
-        let shown = shown(book);
-        if answer != *want || shown != *after {
-            return Ok(Some((place, answer, shown)));
+        if (answer, shown(book)) != (*want, *after) {
+            return Ok(Some(place));
         }
     }
     Ok(None)
 }
 
 // The same of the book of the rows.
-fn surprise(alloc: Global, steps: &[Step]) -> Result<Option<(usize, Answer, Shown)>, Fail> {
+fn surprise(alloc: Global, steps: &[Step]) -> Result<Option<usize>, Memory> {
     let mut book = book(alloc, &SERVERS, &ROWS)?;
     let found = surprise_in(alloc, &mut book, steps);
     drop(book);
-    Ok(found?)
+    found
 }
 
 // The source of 0 is no server of the scenario.
@@ -234,12 +232,6 @@ const READINGS: [Step; 8] = [
     // loaded anew, the book is as it was made, without a bridge
     (Act::Reload, MADE, LOADED),
 ];
-
-#[test]
-fn later_readings_stand(rt: HostRuntime) -> Result<(), Fail> {
-    assert_eq!(rt; surprise(rt.alloc(), &READINGS)?, None);
-    Ok(())
-}
 
 const REPLICA: Key = Key::Server(ServerNo(1));
 
@@ -285,12 +277,6 @@ const BRIDGES: [Step; 8] = [
     ),
 ];
 
-#[test]
-fn bridges_come_with_what_is_seen(rt: HostRuntime) -> Result<(), Fail> {
-    assert_eq!(rt; surprise(rt.alloc(), &BRIDGES)?, None);
-    Ok(())
-}
-
 const BOTH: Shown = (Some((6, true, 2)), Some((3, true, 2)), None, false);
 
 const FIRST: Shown = (Some((6, true, 2)), None, None, false);
@@ -319,10 +305,21 @@ const CHANGES: [Step; 9] = [
     ),
 ];
 
+const STORIES: [&[Step]; 3] = [&READINGS, &BRIDGES, &CHANGES];
+
+// The first story with a surprise, and the step.
+fn first_surprise(alloc: Global) -> Result<Option<(usize, usize)>, Memory> {
+    for (story, steps) in STORIES.iter().enumerate() {
+        if let Some(step) = surprise(alloc, steps)? {
+            return Ok(Some((story, step)));
+        }
+    }
+    Ok(None)
+}
+
 #[test]
-fn book_is_changed(rt: HostRuntime) -> Result<(), Fail> {
-    assert_eq!(rt; surprise(rt.alloc(), &CHANGES)?, None);
-    Ok(())
+fn book_is_changed(rt: HostRuntime) {
+    assert_eq!(rt; first_surprise(rt.alloc()), Ok(None));
 }
 
 // The rows in order: of two with one table and key the later stands.
@@ -384,23 +381,22 @@ fn make_call<K: Keeper>(alloc: Global, keeper: &mut K, call: Call) -> Kept {
 }
 
 // A keeper whose second and fourth call fail.
-fn keeper(alloc: Global) -> Result<MemKeeper, Fail> {
+fn keeper(alloc: Global) -> Result<MemKeeper, Memory> {
     let fail_at = Vec::from_array(alloc, [2, 4])?;
     let rows = rows(alloc, &ROWS)?;
-    Ok(MemKeeper::new(alloc, rows, fail_at)?)
+    MemKeeper::new(alloc, rows, fail_at)
 }
 
-// The first call that is answered otherwise, or behind which another number of calls has failed, counted from 0, with
-// both.
-fn surprise_of(
+// The first call that is answered otherwise, or behind which another number of calls has failed, counted from 0.
+fn first_wrong(
     alloc: Global,
     keeper: &mut MemKeeper,
     calls: &[(Call, Kept, u64)],
-) -> Option<(usize, Kept, u64)> {
+) -> Option<usize> {
     for (place, (call, want, faults)) in calls.iter().enumerate() {
         let answer = make_call(alloc, keeper, *call);
-        if answer != *want || keeper.faults() != *faults {
-            return Some((place, answer, keeper.faults()));
+        if (answer, keeper.faults()) != (*want, *faults) {
+            return Some(place);
         }
     }
     None
@@ -415,11 +411,14 @@ const CALLS: [(Call, Kept, u64); 6] = [
     (Call::Rows(&CHANGED), Ok(true), 2),
 ];
 
-#[test]
-fn keeper_keeps_all_or_none(rt: HostRuntime) -> Result<(), Fail> {
-    let mut keeper = keeper(rt.alloc())?;
-    let found = surprise_of(rt.alloc(), &mut keeper, &CALLS);
+fn keeper_surprise(alloc: Global) -> Result<Option<usize>, Memory> {
+    let mut keeper = keeper(alloc)?;
+    let found = first_wrong(alloc, &mut keeper, &CALLS);
     drop(keeper);
-    assert_eq!(rt; found, None);
-    Ok(())
+    Ok(found)
+}
+
+#[test]
+fn keeper_keeps_all_or_none(rt: HostRuntime) {
+    assert_eq!(rt; keeper_surprise(rt.alloc()), Ok(None));
 }

@@ -1,5 +1,7 @@
 //! Rows as data, and books of them.
 
+ghost use Rattle.std.specs.Prelude.{◌≡◌, ◌<◌, ◌^◌, IfOk, length};
+
 use binlog_coords::Coord;
 use gtid_sets::GtidSet;
 use instance_keeper::{Book, Candidate, Downtime, Instance, Recovery, Row, Seen};
@@ -7,8 +9,7 @@ use orch_base::{
     Ending, IoState, Kind, Memory, Moment, Name, OwnedText, Rule, ServerNo, Settings, SourceState,
     Version,
 };
-use std::alloc::Global;
-use std::test::Fail;
+use std::alloc::{AllocError, Global};
 
 /// A row, its server by number.
 #[derive(Clone, Copy)]
@@ -132,9 +133,18 @@ pub(crate) fn are_rows(alloc: Global, rows: &[Row], given: &[Given]) -> Result<b
     Ok(rows.len() == given.len())
 }
 
-fn server(alloc: Global, name: &str, cluster: &str) -> Result<Settings, Fail> {
+// A name that reads.
+fn name(alloc: Global, text: &str) -> Result<Name, Memory> {
+    match Name::read(alloc, text) {
+        Ok(name) => Ok(name),
+        Err(_fault) => Err(AllocError),
+    }
+}
+
+fn server(alloc: Global, text: &str, cluster: &str) -> Result<Settings, Memory> {
+    let name = name(alloc, text)?;
     Ok(Settings {
-        name: Name::read(alloc, name)?,
+        name,
         uuid: 1,
         server_id: 1,
         version: Version {
@@ -149,7 +159,9 @@ fn server(alloc: Global, name: &str, cluster: &str) -> Result<Settings, Fail> {
 }
 
 /// Servers by their names and clusters.
-pub(crate) fn settings(alloc: Global, servers: &[(&str, &str)]) -> Result<Vec<Settings>, Fail> {
+pub(crate) fn settings(alloc: Global, servers: &[(&str, &str)]) -> Result<Vec<Settings>, Memory>
+    ensures { IfOk result (λ v. length v.items ≡ length servers.now) }
+{
     let mut settings = Vec::new(alloc);
     for (name, cluster) in servers {
         settings.push(server(alloc, name, cluster)?)?;
@@ -158,11 +170,10 @@ pub(crate) fn settings(alloc: Global, servers: &[(&str, &str)]) -> Result<Vec<Se
 }
 
 /// The book of these servers and rows.
-pub(crate) fn book(alloc: Global, servers: &[(&str, &str)], given: &[Given]) -> Result<Book, Fail> {
+pub(crate) fn book(alloc: Global, servers: &[(&str, &str)], given: &[Given]) -> Result<Book, Memory>
+    requires { length servers.now < 2 ^ 32 }
+{
     let settings = settings(alloc, servers)?;
     let rows = rows(alloc, given)?;
-    if settings.len() > 100 {
-        return Err(Fail::new("too many servers"));
-    }
-    Ok(Book::make(alloc, &settings, &rows)?)
+    Book::make(alloc, &settings, &rows)
 }

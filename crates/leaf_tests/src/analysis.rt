@@ -382,17 +382,20 @@ fn six(rt: &impl Abort, alloc: Global) -> Result<Vec<Entry>, Fail> {
     Ok(analysed(rt, alloc, &settings, &rows)?)
 }
 
-// Whether these are the entries of these servers, in this order.
-fn are_entries(entries: &[Entry], want: &[(u32, Code, Given)]) -> bool {
-    let mut both = entries.iter().zip(want);
-    entries.len() == want.len()
-        && both.all(|(e, (no, code, given))| *e == entry(*no, *code, *given))
+// Whether entries begin with those of these servers, in this order.
+fn begins(entries: &[Entry], want: &[(u32, Code, Given)]) -> bool {
+    for (place, (no, code, given)) in want.iter().enumerate() {
+        if entries.get(place) != Some(&entry(*no, *code, *given)) {
+            return false;
+        }
+    }
+    true
 }
 
 #[test]
 fn a_book_is_analysed_in_name_order(rt: HostRuntime) -> Result<(), Fail> {
     let entries = six(&rt, rt.alloc())?;
-    assert!(rt; are_entries(&entries, &SIX), "{entries:?}");
+    assert!(rt; entries.len() == 5 && begins(&entries, &SIX), "{entries:?}");
     Ok(())
 }
 
@@ -445,17 +448,10 @@ const FIRST: [(u32, Code, Given); 2] = [
     ),
 ];
 
-fn are_many(entries: &[Entry]) -> bool {
-    entries.len() == 50_000
-        && entries
-            .get(..2)
-            .is_some_and(|first| are_entries(first, &FIRST))
-}
-
 // The time is linear in the number of servers.
 #[test]
 fn many_instances_are_analysed(rt: HostRuntime) -> Result<(), Fail> {
     let entries = many(&rt, rt.alloc())?;
-    assert!(rt; are_many(&entries), "{} entries", entries.len());
+    assert!(rt; entries.len() == 50_000 && begins(&entries, &FIRST));
     Ok(())
 }

@@ -126,16 +126,15 @@ fn answer(alloc: Global, audit: &mut Audit, act: Act) -> Result<Answer, Fail> {
     }
 }
 
-// The first act that is answered otherwise, counted from 0, and its answer.
+// The first act that is answered otherwise, counted from 0.
 fn surprise_in(
     alloc: Global,
     audit: &mut Audit,
     acts: &[(Act, Answer)],
-) -> Result<Option<(usize, Answer)>, Fail> {
+) -> Result<Option<usize>, Fail> {
     for (place, (act, want)) in acts.iter().enumerate() {
-        let answer = answer(alloc, audit, *act)?;
-        if answer != *want {
-            return Ok(Some((place, answer)));
+        if answer(alloc, audit, *act)? != *want {
+            return Ok(Some(place));
         }
     }
     Ok(None)
@@ -147,7 +146,7 @@ fn surprise(
     kept: &[Kept],
     next: u64,
     acts: &[(Act, Answer)],
-) -> Result<Option<(usize, Answer)>, Fail> {
+) -> Result<Option<usize>, Fail> {
     let mut audit = audit_of(alloc, kept, next)?;
     let found = surprise_in(alloc, &mut audit, acts);
     drop(audit);
@@ -186,12 +185,6 @@ const APART: [(Act, Answer); 18] = [
     (Act::End(1, 8, Ending::Interrupted), None),
     (Act::End(3, 8, Ending::Interrupted), None),
 ];
-
-#[test]
-fn recoveries_stand_apart(rt: HostRuntime) -> Result<(), Fail> {
-    assert_eq!(rt; surprise(rt.alloc(), &[], 1, &APART)?, None);
-    Ok(())
-}
 
 const ENDED: [Kept; 4] = [
     (
@@ -250,12 +243,6 @@ const LAST: [(Act, Answer); 8] = [
     ),
 ];
 
-#[test]
-fn the_last_one_blocks(rt: HostRuntime) -> Result<(), Fail> {
-    assert_eq!(rt; surprise(rt.alloc(), &ENDED, 8, &LAST)?, None);
-    Ok(())
-}
-
 const LAST_ID: u64 = 1 << 62;
 
 const LAST_MOMENT: u64 = 1 << 63;
@@ -290,9 +277,22 @@ const FAR_ACTS: [(Act, Answer); 5] = [
     (Act::Ask("b", 0, LONGEST), Some(Ok(LAST_ID + 1))),
 ];
 
+// The recoveries that are kept, the next id, and what is done.
+const STORIES: [(&[Kept], u64, &[(Act, Answer)]); 3] = [
+    (&[], 1, &APART),
+    (&ENDED, 8, &LAST),
+    (&FAR, LAST_ID + 1, &FAR_ACTS),
+];
+
 #[test]
-fn far_numbers(rt: HostRuntime) -> Result<(), Fail> {
-    assert_eq!(rt; surprise(rt.alloc(), &FAR, LAST_ID + 1, &FAR_ACTS)?, None);
+fn recoveries_stand_apart(rt: HostRuntime) -> Result<(), Fail> {
+    for (kept, next, acts) in &STORIES {
+        assert_eq!(rt;
+            surprise(rt.alloc(), kept, *next, acts)?,
+            None,
+            "with {next}"
+        );
+    }
     Ok(())
 }
 

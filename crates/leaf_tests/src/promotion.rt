@@ -68,10 +68,11 @@ fn chosen(
     Ok(choice(of, &list, &names))
 }
 
-// Drained replicas, and the one that is promoted.
-const PROMOTED: [(&[Given], Option<u32>); 10] = [
+// The rule of the one that was promoted already, drained replicas, and the one that is chosen.
+const CHOICES: [(Option<Rule>, &[Given], Option<u32>); 18] = [
     // the greatest coordinate goes before the better rule, and one that must not be promoted is passed over
     (
+        None,
         &[
             (0, 1, 204, Rule::Neutral, true),
             (1, 2, 4, Rule::PreferNot, true),
@@ -81,6 +82,7 @@ const PROMOTED: [(&[Given], Option<u32>); 10] = [
     ),
     // files go before positions
     (
+        None,
         &[
             (0, 1, 1_000_000_000_000, Rule::Prefer, true),
             (1, 2, 4, Rule::Neutral, true),
@@ -89,6 +91,7 @@ const PROMOTED: [(&[Given], Option<u32>); 10] = [
     ),
     // of one coordinate the better rule
     (
+        None,
         &[
             (0, 1, 204, Rule::Neutral, true),
             (1, 1, 204, Rule::Prefer, true),
@@ -97,6 +100,7 @@ const PROMOTED: [(&[Given], Option<u32>); 10] = [
     ),
     // of one coordinate and rule the first name: by the host's bytes, then by the port
     (
+        None,
         &[
             (2, 1, 204, Rule::Prefer, true),
             (0, 1, 204, Rule::Prefer, true),
@@ -106,6 +110,7 @@ const PROMOTED: [(&[Given], Option<u32>); 10] = [
         Some(4),
     ),
     (
+        None,
         &[
             (1, 1, 204, Rule::Prefer, true),
             (3, 1, 204, Rule::Prefer, true),
@@ -114,46 +119,40 @@ const PROMOTED: [(&[Given], Option<u32>); 10] = [
     ),
     // who doesn't log is passed over
     (
+        None,
         &[
             (0, 9, 204, Rule::Prefer, false),
             (1, 1, 4, Rule::PreferNot, true),
         ],
         Some(1),
     ),
-    (&[(0, 9, 204, Rule::Prefer, false)], None),
-    (&[(0, 9, 204, Rule::MustNot, true)], None),
-    (&[], None),
+    (None, &[(0, 9, 204, Rule::Prefer, false)], None),
+    (None, &[(0, 9, 204, Rule::MustNot, true)], None),
+    (None, &[], None),
     (
+        None,
         &[
             (0, u32::MAX, u64::MAX, Rule::PreferNot, true),
             (1, u32::MAX, u64::MAX - 1, Rule::Prefer, true),
         ],
         Some(0),
     ),
-];
-
-#[test]
-fn the_most_advanced(rt: HostRuntime) -> Result<(), Fail> {
-    for (place, (given, want)) in PROMOTED.iter().enumerate() {
-        let found = chosen(rt.alloc(), None, given)?;
-        assert_eq!(rt; found, Some(want.map(ServerNo)), "at {place}");
-    }
-    Ok(())
-}
-
-// The rule of the promoted one, its followers, and the one that takes its place.
-const BETTER: [(Rule, &[Given], Option<u32>); 8] = [
+    // of followers
     (
-        Rule::PreferNot,
+        Some(Rule::PreferNot),
         &[(0, 1, 204, Rule::Neutral, true)],
         Some(0),
     ),
     // the rule must be strictly better
-    (Rule::Neutral, &[(0, 1, 204, Rule::Neutral, true)], None),
-    (Rule::Prefer, &[(0, 1, 204, Rule::Prefer, true)], None),
+    (
+        Some(Rule::Neutral),
+        &[(0, 1, 204, Rule::Neutral, true)],
+        None,
+    ),
+    (Some(Rule::Prefer), &[(0, 1, 204, Rule::Prefer, true)], None),
     // coordinates don't count
     (
-        Rule::PreferNot,
+        Some(Rule::PreferNot),
         &[
             (0, 9, 204, Rule::Neutral, true),
             (1, 1, 4, Rule::Prefer, true),
@@ -162,7 +161,7 @@ const BETTER: [(Rule, &[Given], Option<u32>); 8] = [
     ),
     // of one rule the first name
     (
-        Rule::PreferNot,
+        Some(Rule::PreferNot),
         &[
             (2, 1, 4, Rule::Neutral, true),
             (1, 1, 4, Rule::Neutral, true),
@@ -172,21 +171,25 @@ const BETTER: [(Rule, &[Given], Option<u32>); 8] = [
     ),
     // who doesn't log is passed over
     (
-        Rule::PreferNot,
+        Some(Rule::PreferNot),
         &[
             (0, 1, 4, Rule::Prefer, false),
             (1, 1, 4, Rule::Neutral, true),
         ],
         Some(1),
     ),
-    (Rule::PreferNot, &[(0, 1, 4, Rule::MustNot, true)], None),
-    (Rule::MustNot, &[], None),
+    (
+        Some(Rule::PreferNot),
+        &[(0, 1, 4, Rule::MustNot, true)],
+        None,
+    ),
+    (Some(Rule::MustNot), &[], None),
 ];
 
 #[test]
-fn the_better_follower(rt: HostRuntime) -> Result<(), Fail> {
-    for (place, (of, given, want)) in BETTER.iter().enumerate() {
-        let found = chosen(rt.alloc(), Some(*of), given)?;
+fn the_first_by_the_order_is_chosen(rt: HostRuntime) -> Result<(), Fail> {
+    for (place, (of, given, want)) in CHOICES.iter().enumerate() {
+        let found = chosen(rt.alloc(), *of, given)?;
         assert_eq!(rt; found, Some(want.map(ServerNo)), "at {place}");
     }
     Ok(())
