@@ -2,8 +2,37 @@ ghost use Rattle.std.specs.Prelude.{◌≡◌, ◌<◌, length, IfOk};
 ghost use Rattle.topology_tree.specs.Forests.{IsClosed};
 
 use std::alloc::Global;
-use std::test::*;
-use topology_tree::{Forest, Memory, sources_have_one_forest, walks_list_their_tree};
+use topology_tree::{Forest, Memory};
+
+// Whether these are the node's children.
+fn has_children(alloc: Global, forest: &Forest, node: u32, children: &[u32]) -> Result<bool, Memory>
+    requires { node < length forest.now }
+{
+    Ok(forest.children(alloc, node)?.as_slice() == children)
+}
+
+// What a tree of four nodes shows.
+fn is_tree(alloc: Global) -> Result<bool, Memory> {
+    let forest = Forest::make(alloc, &[None, Some(0), Some(1), Some(1)])?;
+    let parents = (forest.parent(3), forest.parent(0)) == (Some(1), None);
+    let below = forest.below(3, 0) && !forest.below(0, 3);
+    let listed = forest.walk(alloc, 0)?.as_slice() == [(0, 0), (1, 1), (2, 2), (3, 2)].as_slice();
+    let root = has_children(alloc, &forest, 0, &[1])?;
+    Ok(parents && below && listed && root && has_children(alloc, &forest, 1, &[2, 3])?)
+}
+
+// What a loop of two nodes, and one under them, shows.
+fn is_cut(alloc: Global) -> Result<bool, Memory> {
+    let forest = Forest::make(alloc, &[Some(1), Some(0), Some(0)])?;
+    let parents = (forest.parent(0), forest.parent(1)) == (None, None);
+    let root = has_children(alloc, &forest, 0, &[2])?;
+    Ok(parents && root && has_children(alloc, &forest, 1, &[])?)
+}
+
+#[test]
+fn trees_and_loops(rt: HostRuntime) {
+    assert!(rt; (is_tree(rt.alloc()), is_cut(rt.alloc())) == (Ok(true), Ok(true)));
+}
 
 // A root, and each other node under the one before it, or all under the root.
 fn under_one_root(alloc: Global, len: u32, star: bool) -> Result<Vec<Option<u32>>, Memory>
@@ -24,55 +53,19 @@ fn under_one_root(alloc: Global, len: u32, star: bool) -> Result<Vec<Option<u32>
     Ok(sources)
 }
 
-#[test]
-fn a_tree_of_four(rt: HostRuntime) -> Result<(), Fail> {
-    let alloc = rt.alloc();
-    let forest = Forest::make(alloc, &[None, Some(0), Some(1), Some(1)])?;
-    assert_eq!(rt; forest.children(alloc, 0)?.as_slice(), [1].as_slice());
-    assert_eq!(rt; forest.children(alloc, 1)?.as_slice(), [2, 3].as_slice());
-    assert_eq!(rt;
-        forest.walk(alloc, 0)?.as_slice(),
-        [(0, 0), (1, 1), (2, 2), (3, 2)].as_slice()
-    );
-    assert_eq!(rt; forest.parent(3), Some(1));
-    assert_eq!(rt; forest.parent(0), None);
-    assert!(rt; forest.below(3, 0));
-    assert!(rt; !forest.below(0, 3));
-    forest.edges_have_no_loop();
-    sources_have_one_forest();
-    walks_list_their_tree();
-    Ok(())
-}
-
-#[test]
-fn a_loop_gives_roots(rt: HostRuntime) -> Result<(), Fail> {
-    let alloc = rt.alloc();
-    let forest = Forest::make(alloc, &[Some(1), Some(0), Some(0)])?;
-    assert_eq!(rt; forest.parent(0), None);
-    assert_eq!(rt; forest.parent(1), None);
-    assert_eq!(rt; forest.children(alloc, 0)?.as_slice(), [2].as_slice());
-    assert_eq!(rt; forest.children(alloc, 1)?.len(), 0);
-    Ok(())
-}
-
-#[test]
-fn a_long_chain(rt: HostRuntime) -> Result<(), Fail> {
-    let alloc = rt.alloc();
-    let forest = Forest::make(alloc, &under_one_root(alloc, 100_000, false)?)?;
+// How many nodes are listed of 100,000, and the last of them.
+fn last_listed(alloc: Global, star: bool) -> Result<(usize, Option<(u32, u32)>), Memory> {
+    let forest = Forest::make(alloc, &under_one_root(alloc, 100_000, star)?)?;
     let listed = forest.walk(alloc, 0)?;
-    assert_eq!(rt; listed.len(), 100_000);
-    assert_eq!(rt; listed.get(99_999).copied(), Some((99_999, 99_999)));
-    assert!(rt; forest.below(99_999, 0));
-    Ok(())
+    Ok((listed.len(), listed.last().copied()))
 }
 
 #[test]
-fn a_wide_star(rt: HostRuntime) -> Result<(), Fail> {
-    let alloc = rt.alloc();
-    let forest = Forest::make(alloc, &under_one_root(alloc, 100_000, true)?)?;
-    let listed = forest.walk(alloc, 0)?;
-    assert_eq!(rt; listed.len(), 100_000);
-    assert_eq!(rt; listed.get(99_999).copied(), Some((99_999, 1)));
-    assert_eq!(rt; forest.children(alloc, 0)?.len(), 99_999);
-    Ok(())
+fn long_chains_and_wide_stars(rt: HostRuntime) {
+    for (star, depth) in [(false, 99_999), (true, 1)] {
+        assert!(rt;
+            last_listed(rt.alloc(), star) == Ok((100_000, Some((99_999, depth)))),
+            "{star}"
+        );
+    }
 }

@@ -14,10 +14,4 @@ mod names;
 #[cfg(test)]
 mod order;
 #[cfg(test)]
-mod servers;
-#[cfg(test)]
 mod sets;
-#[cfg(test)]
-mod sinks;
-#[cfg(test)]
-mod sources;

@@ -1,69 +1,60 @@
 use orch_base::*;
+use std::alloc::Global;
 use std::cmp::Ordering;
-use std::test::Fail;
+
+// The name that this text is, as it is printed.
+fn printed(alloc: Global, text: &str) -> Result<Vec<u8>, NameFault> {
+    let name = Name::read(alloc, text)?;
+    let mut out = Vec::new(alloc);
+    name.print(&mut out)?;
+    Ok(out)
+}
+
+fn reads_as(alloc: Global, text: &str, want: Result<&str, NameFault>) -> bool {
+    match (printed(alloc, text), want) {
+        (Ok(out), Ok(want)) => out.as_slice() == want.as_bytes(),
+        (Err(fault), Err(want)) => fault == want,
+        (Ok(_), Err(_)) | (Err(_), Ok(_)) => false,
+    }
+}
+
+static TEXTS: [(&str, Result<&str, NameFault>); 17] = [
+    ("m", Ok("m:3306")),
+    ("m:3306", Ok("m:3306")),
+    ("m:1", Ok("m:1")),
+    ("m:65535", Ok("m:65535")),
+    ("Db-1.eu_west:13306", Ok("Db-1.eu_west:13306")),
+    ("", Err(NameFault::Empty)),
+    (":1", Err(NameFault::Empty)),
+    (":x", Err(NameFault::Empty)),
+    ("a b", Err(NameFault::BadByte(1))),
+    ("é", Err(NameFault::BadByte(0))),
+    ("a/:x", Err(NameFault::BadByte(1))),
+    ("m:", Err(NameFault::BadPort)),
+    ("m:0", Err(NameFault::BadPort)),
+    ("m:01", Err(NameFault::BadPort)),
+    ("m:+1", Err(NameFault::BadPort)),
+    ("m:65536", Err(NameFault::BadPort)),
+    ("a:b:c", Err(NameFault::BadPort)),
+];
 
 #[test]
-fn reads(rt: HostRuntime) -> Result<(), Fail> {
-    let cases = [
-        ("m", Ok("m:3306")),
-        ("m:3306", Ok("m:3306")),
-        ("m:1", Ok("m:1")),
-        ("m:65535", Ok("m:65535")),
-        ("Db-1.eu_west:13306", Ok("Db-1.eu_west:13306")),
-        ("", Err(NameFault::Empty)),
-        (":1", Err(NameFault::Empty)),
-        (":x", Err(NameFault::Empty)),
-        ("a b", Err(NameFault::BadByte(1))),
-        ("é", Err(NameFault::BadByte(0))),
-        ("a/:x", Err(NameFault::BadByte(1))),
-        ("m:", Err(NameFault::BadPort)),
-        ("m:0", Err(NameFault::BadPort)),
-        ("m:01", Err(NameFault::BadPort)),
-        ("m:+1", Err(NameFault::BadPort)),
-        ("m:65536", Err(NameFault::BadPort)),
-        ("a:b:c", Err(NameFault::BadPort)),
-    ];
-    for (text, want) in cases {
-        let mut out = vec![in rt.alloc(); b'>']?;
-        match Name::read(rt.alloc(), text) {
-            Ok(name) => {
-                name.print(&mut out)?;
-                assert_eq!(rt; str::from_utf8(&out[1..]).ok(), want.ok(), "at {text}");
-            }
-            Err(fault) => assert_eq!(rt; Some(fault), want.err(), "at {text}"),
-        }
+fn reads(rt: HostRuntime) {
+    for (text, want) in &TEXTS {
+        assert!(rt; reads_as(rt.alloc(), text, *want), "at {text}");
     }
-    Ok(())
+}
+
+// How a copy of the name `m` stands to this one, and whether the two are the same.
+fn compared(alloc: Global, other: &str) -> Result<(Ordering, bool), NameFault> {
+    let name = Name::read(alloc, "m")?.copy(alloc)?;
+    let other = Name::read(alloc, other)?;
+    Ok((name.compare(&other), name.is_same(&other)))
 }
 
 #[test]
-fn reads_hosts_of_255_bytes(rt: HostRuntime) -> Result<(), Fail> {
-    for (len, tail, want) in [
-        (255, "", None),
-        (255, ":1", None),
-        (255, ":0", Some(NameFault::BadPort)),
-        (256, "", Some(NameFault::TooLong)),
-        (256, "/:0", Some(NameFault::TooLong)),
-    ] {
-        let mut text = String::new(rt.alloc());
-        for _ in 0..len {
-            text.push('h')?;
-        }
-        text.push_str(tail)?;
-        assert_eq!(rt;
-            Name::read(rt.alloc(), &text).err(),
-            want,
-            "at {len}, {tail}"
-        );
-    }
-    Ok(())
-}
-
-#[test]
-fn compares(rt: HostRuntime) -> Result<(), Fail> {
-    let name = Name::read(rt.alloc(), "m")?;
-    let copy = name.copy(rt.alloc())?;
-    for (other, want) in [
+fn compares(rt: HostRuntime) {
+    for (other, order) in [
         ("m:3306", Ordering::Equal),
         ("M", Ordering::Greater),
         ("m:3307", Ordering::Less),
@@ -71,13 +62,31 @@ fn compares(rt: HostRuntime) -> Result<(), Fail> {
         ("m0:1", Ordering::Less),
         ("n:1", Ordering::Less),
     ] {
-        let other_name = Name::read(rt.alloc(), other)?;
-        assert_eq!(rt; copy.compare(&other_name), want, "at {other}");
-        assert_eq!(rt;
-            name.is_same(&other_name),
-            want == Ordering::Equal,
-            "at {other}"
-        );
+        let want = Ok((order, order == Ordering::Equal));
+        assert!(rt; compared(rt.alloc(), other) == want, "at {other}");
     }
-    Ok(())
+}
+
+// Whether a copy of settings is the same.
+fn are_copied(alloc: Global) -> Result<bool, NameFault> {
+    let settings = Settings {
+        name: Name::read(alloc, "m:3307")?,
+        uuid: 7,
+        server_id: 2,
+        version: Version {
+            major: 8,
+            minor: 0,
+            patch: 36,
+        },
+        cluster: OwnedText::new(String::from_str(alloc, "main")?),
+        logs: true,
+        limit: 4096,
+    };
+    let copy = settings.copy(alloc)?;
+    Ok(copy.is_same(&settings) && copy.uuid == 7 && copy.cluster.as_str() == "main")
+}
+
+#[test]
+fn settings_are_copied(rt: HostRuntime) {
+    assert!(rt; are_copied(rt.alloc()) == Ok(true));
 }

@@ -1,2 +1,1 @@
 pub mod CheckedOnes
-pub mod Listings

@@ -1,7 +1,13 @@
-//! Tests of the modelled servers: the check of an opening, and exchange by exchange.
+//! Tests of the modelled servers and of jobs: openings, exchanges as rows of data, and a job's turns.
 #![tactic(auto)]
 
 #[cfg(test)]
-mod checks;
+mod exchanges;
 #[cfg(test)]
-mod tests;
+mod given;
+#[cfg(test)]
+mod jobs;
+#[cfg(test)]
+mod servers;
+#[cfg(test)]
+mod starts;

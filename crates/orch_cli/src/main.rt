@@ -1,34 +1,15 @@
 //! Does what the words of the command line ask with a scenario.
 #![tactic(auto)]
 
-mod edge;
-mod fault;
-mod reading;
-#[cfg(test)]
-mod tests;
-#[cfg(test)]
-mod tests_of_audit;
-#[cfg(test)]
-mod tests_of_jobs;
-#[cfg(test)]
-mod tests_of_moves;
-#[cfg(test)]
-mod tests_of_paths;
-#[cfg(test)]
-mod tests_of_recoveries;
-mod top;
-mod way;
-
+use adapters::{FileSource, Input, StreamSink};
 use command_line::{Usage, places};
-use edge::{FileSource, Input, StreamSink};
 use instance_keeper::MemKeeper;
 use orch_base::{OwnedText, Sink};
 use std::alloc::Global;
 use std::fs::File;
 use std::process::ExitCode;
 use std::{env, io};
-use top::{close, orch};
-use way::Way;
+use top_call::{Way, close, orch};
 
 fn words_of(rt: &HostRuntime, alloc: Global) -> io::Result<Vec<Vec<u8>>> {
     let mut words = Vec::new(alloc);

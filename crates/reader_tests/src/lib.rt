@@ -1,8 +1,7 @@
-//! Tests of what is read: scenarios, their values, servers and commands, and the words of the command line.
+//! Tests of the calls that read scenarios, their values, servers and commands, and the words of the command line: one of each call
+//! with ample memory, and what no run of the program shows. What runs show stands in the repository's cases.
 #![tactic(auto)]
 
-#[cfg(test)]
-mod flaws;
 #[cfg(test)]
 mod keys;
 #[cfg(test)]

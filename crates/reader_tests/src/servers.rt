@@ -1,152 +1,41 @@
-//! What servers are given, and their faults.
+//! What servers are given, and what they are at the opening.
 
-use orch_base::{ServerNo, Version};
-use scenario_servers::{known_of, servers_in};
-use scenario_values::ReadFault;
+ghost use Rattle.std.specs.Prelude.{IsTrue};
+ghost use Rattle.scenario_servers.specs.Openings.{IsGiven};
+
+use made_openings::{are_apart, are_servers};
+use openings::ServerInit;
+use orch_base::{Rule, ServerNo, Version};
+use scenario_openings::opening_in;
+use scenario_servers::{Given, inits_of, known_of, rules_of, servers_in};
+use scenario_values::{FaultCode, ReadFault};
 use serde_json::Value;
 use std::alloc::Global;
-use std::test::*;
 
-// The code of a text's first fault, and its place.
-fn fault_of(alloc: Global, text: &str) -> Result<String, Fail> {
-    let value = Value::from_str(alloc, text)?;
-    match servers_in(alloc, false, &value) {
-        Err(ReadFault::Fault(fault)) => {
-            let path = str::from_utf8(fault.path.as_bytes()).unwrap_or("?");
-            Ok(format!(in alloc; "{:?} {path}", fault.code)?)
-        }
-        _ => Ok(String::new(alloc)),
-    }
+const TWO: &str =
+    r#"[{"name":"m"},{"name":"r","source":"m:3306","version":"08.4.0","io":false,"known":false,"rule":"must_not"}]"#;
+
+// UUID, server_id, version and source.
+fn identity(given: &Given) -> (u128, u32, Version, Option<ServerNo>) {
+    let identity = &given.identity;
+    (
+        identity.uuid,
+        identity.server_id,
+        identity.version,
+        given.source,
+    )
 }
 
-#[test]
-fn faults_have_their_places(rt: HostRuntime) -> Result<(), Fail> {
-    let alloc = rt.alloc();
-    for (text, want) in [
-        (r#"{"name":"a"}"#, "BadType "),
-        (r#"[]"#, "BadNumber "),
-        (r#"[{"name":"a"},7]"#, "BadType /1"),
-        (r#"[{"x/y~z":1,"name":7}]"#, "UnknownKey /0/x~1y~0z"),
-        (r#"[{"name":"a","until":7}]"#, "UnknownKey /0/until"),
-        (r#"[{"uuid":7}]"#, "Missing /0"),
-        (r#"[{"name":"a:0","uuid":7}]"#, "BadName /0/name"),
-        (
-            r#"[{"name":"a"},{"name":"a:3306"}]"#,
-            "DuplicateName /1/name",
-        ),
-        (
-            r#"[{"name":"a","uuid":"{00000000-0000-0000-0000-000000000000}"}]"#,
-            "BadUuid /0/uuid",
-        ),
-        (
-            r#"[{"name":"a","uuid":"00000000-0000-0000-0000-000000000002"},{"name":"b"}]"#,
-            "DuplicateUuid /1/uuid",
-        ),
-        (
-            r#"[{"name":"a","version":"8.0","server_id":4294967296}]"#,
-            "BadNumber /0/server_id",
-        ),
-        (
-            r#"[{"name":"a","version":"8.0.65536"}]"#,
-            "BadVersion /0/version",
-        ),
-        (r#"[{"name":"a","cluster":""}]"#, "BadNumber /0/cluster"),
-        (r#"[{"name":"a","limit":99,"logs":1}]"#, "BadType /0/logs"),
-        (r#"[{"name":"a","feed":1,"known":1}]"#, "BadType /0/feed"),
-        (
-            r#"[{"name":"a","known":1,"rule":"prefer"}]"#,
-            "BadType /0/known",
-        ),
-        (
-            r#"[{"name":"a","known":false,"rule":7,"history":7}]"#,
-            "BadType /0/rule",
-        ),
-        (r#"[{"name":"a","rule":"must"}]"#, "BadNumber /0/rule"),
-        (
-            r#"[{"name":"a","rule":"must_not","history":7}]"#,
-            "BadType /0/history",
-        ),
-        (
-            r#"[{"name":"a","history":[["a",1,1],["a",1]]}]"#,
-            "BadNumber /0/history/1",
-        ),
-        (
-            r#"[{"name":"a","history":[["b",0,0]]}]"#,
-            "UnknownName /0/history/0/0",
-        ),
-        (
-            r#"[{"name":"a","history":[["a",1000001,0]]}]"#,
-            "BadNumber /0/history/0/1",
-        ),
-        (
-            r#"[{"name":"a","history":[["a",1,4000001]]}]"#,
-            "BadNumber /0/history/0/2",
-        ),
-        (r#"[{"name":"a","source":"b"}]"#, "UnknownName /0/source"),
-        (
-            r#"[{"name":"a","source":"a","at":"1:4"}]"#,
-            "BadCoord /0/at",
-        ),
-        (
-            r#"[{"name":"a","source":"a","auto":true}]"#,
-            "AutoWithoutGtid /0/auto",
-        ),
-        (
-            r#"[{"name":"a","flushes":[1,-1]}]"#,
-            "BadNumber /0/flushes/1",
-        ),
-    ] {
-        let fault = fault_of(alloc, text)?;
-        assert_eq!(rt; fault.as_str(), want, "{text}");
-    }
-    Ok(())
-}
-
-#[test]
-fn servers_have_defaults(rt: HostRuntime) -> Result<(), Fail> {
-    let alloc = rt.alloc();
-    let text = r#"[{"name":"m"},{"name":"r","source":"m:3306","version":"08.4.0","io":false}]"#;
-    let value = Value::from_str(alloc, text)?;
-    let Ok(listed) = servers_in(alloc, true, &value) else {
-        panic!(rt; "a fault");
-    };
-    let [master, replica] = listed.given.as_slice() else {
-        panic!(rt; "another number of servers");
-    };
-    assert_eq!(rt; (master.identity.uuid, replica.identity.uuid), (1, 2));
-    assert_eq!(rt;
-        (master.identity.server_id, replica.identity.server_id),
-        (1, 2)
-    );
-    assert_eq!(rt; master.identity.version, version(8, 0, 36));
-    assert_eq!(rt; replica.identity.version, version(8, 4, 0));
-    assert_eq!(rt; (master.source, replica.source), (None, Some(ServerNo(0))));
-    assert_eq!(rt;
-        (master.setup.read_only, replica.setup.read_only),
-        (false, true)
-    );
-    assert_eq!(rt;
-        (master.setup.logs, master.setup.limit),
-        (true, 1_073_741_824)
-    );
-    assert_eq!(rt;
-        (replica.replication.io, replica.replication.sql),
-        (Some(false), None)
-    );
-    Ok(())
-}
-
-#[test]
-fn servers_are_known_or_not(rt: HostRuntime) -> Result<(), Fail> {
-    let alloc = rt.alloc();
-    let text = r#"[{"name":"a"},{"name":"b","known":false},{"name":"c","known":true}]"#;
-    let value = Value::from_str(alloc, text)?;
-    let Ok(listed) = servers_in(alloc, false, &value) else {
-        panic!(rt; "a fault");
-    };
-    let known = known_of(alloc, &listed.given)?;
-    assert_eq!(rt; known.as_slice(), [true, false, true].as_slice());
-    Ok(())
+// Whether it logs and refuses writes, the limit of a file, and whether its threads are on.
+fn setup(given: &Given) -> (bool, bool, u64, Option<bool>, Option<bool>) {
+    let (setup, replication) = (given.setup, given.replication);
+    (
+        setup.logs,
+        setup.read_only,
+        setup.limit,
+        replication.io,
+        replication.sql,
+    )
 }
 
 fn version(major: u16, minor: u16, patch: u16) -> Version {
@@ -154,5 +43,99 @@ fn version(major: u16, minor: u16, patch: u16) -> Version {
         major,
         minor,
         patch,
+    }
+}
+
+fn are_default(master: &Given, replica: &Given) -> bool {
+    let source = Some(ServerNo(0));
+    identity(master) == (1, 1, version(8, 0, 36), None)
+        && identity(replica) == (2, 2, version(8, 4, 0), source)
+        && setup(master) == (true, false, 1_073_741_824, None, None)
+        && setup(replica) == (true, true, 1_073_741_824, Some(false), None)
+}
+
+// Whether the two servers of `TWO` have what is given, or else what stands for it.
+fn have_defaults(alloc: Global) -> Result<bool, ReadFault> {
+    let Ok(value) = Value::from_str(alloc, TWO) else {
+        return Ok(false);
+    };
+    let given = servers_in(alloc, true, &value)?.given;
+    let known = known_of(alloc, &given)?;
+    let rules = rules_of(alloc, &given)?;
+    let [master, replica] = given.as_slice() else {
+        return Ok(false);
+    };
+    Ok(
+        are_default(master, replica)
+            && known.as_slice() == [true, false].as_slice()
+            && rules.as_slice() == [None, Some(Rule::MustNot)].as_slice(),
+    )
+}
+
+#[test]
+fn servers_have_defaults(rt: HostRuntime) {
+    assert!(rt; have_defaults(rt.alloc()).ok() == Some(true));
+}
+
+// Whether the opening of these servers may be asked for.
+fn are_given(servers: &[ServerInit], gtid: bool) -> bool
+    ensures { IsTrue result → IsGiven gtid servers.now }
+{
+    if servers.is_empty() || servers.len() > 1000 || !are_servers(servers, gtid) {
+        return false;
+    }
+    are_apart(servers)
+}
+
+// Whether all are of the cluster of this label.
+fn are_labelled(servers: &[ServerInit], label: &str) -> bool {
+    for server in servers {
+        if server.settings.cluster.as_str() != label {
+            return false;
+        }
+    }
+    true
+}
+
+// How many servers the opening of these has, all of the cluster of `m`.
+fn opened(alloc: Global, text: &str) -> Result<usize, ReadFault> {
+    let Ok(value) = Value::from_str(alloc, text) else {
+        return Ok(0);
+    };
+    let inits = inits_of(alloc, servers_in(alloc, false, &value)?.given)?;
+    if !are_given(&inits, false) || !are_labelled(&inits, "m:3306") {
+        return Ok(0);
+    }
+    Ok(opening_in(alloc, inits, false)?.servers().len())
+}
+
+// A text of servers, and their number, or the code and the path of their fault.
+type Row = (&'static str, Result<usize, (FaultCode, &'static str)>);
+
+static ROWS: [Row; 2] = [
+    (
+        r#"[{"name":"m","history":[["m",100,3]]},{"name":"r","source":"m","executed":1},{"name":"s","source":"r","detached":true}]"#,
+        Ok(3),
+    ),
+    (
+        r#"[{"name":"m","history":[["m",100,3]]},{"name":"r","source":"m","executed":2,"at":"mysql-bin.000001:104"}]"#,
+        Err((FaultCode::BadPlace, "/servers/1/at")),
+    ),
+];
+
+fn opens_as(alloc: Global, text: &str, want: Result<usize, (FaultCode, &str)>) -> bool {
+    match (opened(alloc, text), want) {
+        (Ok(found), Ok(want)) => found == want,
+        (Err(ReadFault::Fault(fault)), Err((code, path))) => {
+            fault.code == code && fault.path.as_bytes() == path.as_bytes()
+        }
+        (Err(ReadFault::Memory), _) | (Ok(_), Err(_)) | (Err(_), Ok(_)) => false,
+    }
+}
+
+#[test]
+fn openings_are_checked(rt: HostRuntime) {
+    for (text, want) in &ROWS {
+        assert!(rt; opens_as(rt.alloc(), text, *want), "{text}");
     }
 }

@@ -1,2 +1,9 @@
+pub mod Begun
+pub mod Joining
+pub mod Covering
+pub mod Coming
+pub mod Finishing
+pub mod Entries
+pub mod Losses
 pub mod Origins
 pub mod Tending

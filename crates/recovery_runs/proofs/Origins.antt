@@ -13,10 +13,10 @@ use Rattle.unended_jobs.specs.declared.unended.Unended.{Unended}
 use Rattle.unended_jobs.specs.declared.unended.Unended.TheVariants as unended
 use Rattle.orch_core.specs.Runs.{engine, run_turns, step}
 use Rattle.orch_core.specs.States.{State}
-use Rattle.ready_laws.specs.Ready.{Ready}
-use Rattle.covered_states.specs.Begun.{jobs_begun, BeginsOnce, ComesOf}
-use Rattle.covered_states.proofs.Begun.{begun-once}
-use Rattle.covered_states.proofs.Coming.{all-come}
+use Rattle.run_laws.specs.Ready.{Ready}
+use Rattle.recovery_runs.specs.Begun.{jobs_begun, BeginsOnce, ComesOf}
+use Rattle.recovery_runs.proofs.Begun.{begun-once}
+use Rattle.recovery_runs.proofs.Coming.{all-come}
 use Rattle.recovery_runs.specs.Origins.{Began, BeganIn}
 
 -- a turn, with the rows that the keeper hands back

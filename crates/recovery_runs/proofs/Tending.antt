@@ -27,18 +27,18 @@ use Rattle.orch_core.specs.Runs.{engine, run_turns, step, turns_of}
 use Rattle.orch_core.specs.Scenarios.{start}
 use Rattle.orch_core.specs.States.{State}
 use Rattle.orch_core.specs.Turns.{exchanges_at}
-use Rattle.flight_laws.specs.Flights.{moment_at}
+use Rattle.run_laws.specs.Flights.{moment_at}
 use Rattle.covered_laws.proofs.Beside.{none-speak}
-use Rattle.finish_laws.specs.Finishes.{IsFinish, finished_so, recovery_after}
-use Rattle.finish_laws.specs.Losses.{ExplainedState, ExplainsTurn, HasReasons}
-use Rattle.finish_laws.proofs.Entries.{audit-ends}
-use Rattle.finish_laws.proofs.Finishing.{keeps-histories, owes-nothing, reply-told}
-use Rattle.finish_laws.proofs.Losses.{explained-start, explained-step, last-explained}
-use Rattle.covered_states.specs.States.{CoveredState, KeptState, SpeakingState}
-use Rattle.covered_states.proofs.Goes.{covered-start, covered-step, kept-start, kept-step, speaking-step}
-use Rattle.known_laws.specs.Runs.{ComesTo}
+use Rattle.recovery_runs.specs.Finishes.{IsFinish, finished_so, recovery_after}
+use Rattle.recovery_runs.specs.Losses.{ExplainedState, ExplainsTurn, HasReasons}
+use Rattle.recovery_runs.proofs.Entries.{audit-ends}
+use Rattle.recovery_runs.proofs.Finishing.{keeps-histories, owes-nothing, reply-told}
+use Rattle.recovery_runs.proofs.Losses.{explained-start, explained-step, last-explained}
+use Rattle.recovery_runs.specs.States.{CoveredState, KeptState, SpeakingState}
+use Rattle.recovery_runs.proofs.Covering.{covered-start, covered-step, kept-start, kept-step, speaking-step}
+use Rattle.run_laws.specs.Runs.{ComesTo}
 use Rattle.run_laws.proofs.RunLaws.{Goes, Goes-start, Goes-step}
-use Rattle.recovery_runs.specs.Finishing.{FinishesWell}
+use Rattle.recovery_runs.specs.RunFinishes.{FinishesWell}
 use Rattle.recovery_runs.specs.Origins.{Began, ExplainsAlong}
 use Rattle.recovery_runs.proofs.Origins.{HasOrigin, Step, origins-step, take-all}
 

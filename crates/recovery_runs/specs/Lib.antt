@@ -1,2 +1,9 @@
+pub mod States
+pub mod Begun
+pub mod Turns
+pub mod Finishes
+pub mod Losses
+pub mod Finished
 pub mod Origins
-pub mod Finishing
+pub mod RunFinishes
+pub mod Everywhere

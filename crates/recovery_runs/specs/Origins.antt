@@ -10,8 +10,8 @@ use Rattle.turns.specs.declared.turn.Turn.{Turn}
 use Rattle.unended_jobs.specs.declared.unended.Unended.TheVariants as unended
 use Rattle.orch_core.specs.Runs.{engine, run_turns}
 use Rattle.orch_core.specs.States.{State}
-use Rattle.finish_laws.specs.Losses.{ExplainsTurn}
-use Rattle.covered_states.specs.Begun.{jobs_begun}
+use Rattle.recovery_runs.specs.Losses.{ExplainsTurn}
+use Rattle.recovery_runs.specs.Begun.{jobs_begun}
 
 -- A recovery is what one has become that began in a turn of this state, with this entry in the audit, if it has one: it
 -- is about the same, and its replicas are those that the book had attached to the failed server then.

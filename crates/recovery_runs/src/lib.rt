@@ -1,7 +1,15 @@
-//! The recoveries of every run: where each began, what its lost replicas were lost for, and what it owes its replicas
-//! when it is done.
+//! The recoveries of every run: what each turn leaves of them, where each began, what its lost replicas were lost for,
+//! and what it owes its replicas when it is done.
 #![tactic(auto)]
 
-mod laws;
+mod finished;
+mod runs;
+mod steps;
 
-pub use laws::{losses_have_true_reasons, recoveries_began, recoveries_finish_well};
+pub use finished::{
+    finished_recoveries_end_their_entries, finished_recoveries_owe_nothing, losses_are_true,
+};
+pub use runs::{losses_have_true_reasons, recoveries_began, recoveries_finish_well};
+pub use steps::{
+    openings_cover, recoveries_come_of_those_begun, turns_begin_jobs_once, turns_cover,
+};

@@ -26,10 +26,10 @@ use Rattle.orch_core.specs.Runs.{step}
 use Rattle.orch_core.specs.States.{State}
 use Rattle.orch_core.proofs.Finishing.{fewer}
 use Rattle.job_laws.specs.Passages.{AllMayPass}
-use Rattle.flight_laws.specs.Flights.{by_job, flight_of, moment_at}
-use Rattle.flight_laws.specs.Goes.{HeldState}
-use Rattle.ready_laws.specs.Ready.{Ready}
-use Rattle.flight_laws.proofs.Goes.{job-may}
+use Rattle.run_laws.specs.Flights.{by_job, flight_of, moment_at}
+use Rattle.run_laws.specs.States.{HeldState}
+use Rattle.run_laws.specs.Ready.{Ready}
+use Rattle.run_laws.proofs.Passing.{job-may}
 
 -- ---- leases
 

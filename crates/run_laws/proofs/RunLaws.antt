@@ -53,14 +53,14 @@ use Rattle.job_laws.proofs.Lists.{All-find}
 use Rattle.job_laws.proofs.Turns.{turn-sound}
 use Rattle.jobs_in_flight.specs.Jobs.{job_at, job_exchanges}
 use Rattle.orch_core.specs.Jobs.{turn_of}
-use Rattle.flight_laws.specs.Flights.{moment_at}
-use Rattle.flight_laws.specs.Goes.{HeldState, SoundState}
-use Rattle.known_laws.specs.Runs.{ComesBy, ComesTo, ComesWithin}
-use Rattle.flight_laws.proofs.Goes.{Held-step, Sound-step}
-use Rattle.flight_laws.proofs.Openings.{Held-start, Sound-start}
+use Rattle.run_laws.specs.Flights.{moment_at}
+use Rattle.run_laws.specs.States.{HeldState, SoundState}
+use Rattle.run_laws.specs.Runs.{ComesBy, ComesTo, ComesWithin}
+use Rattle.run_laws.proofs.Passing.{Held-step, Sound-step}
+use Rattle.run_laws.proofs.Openings.{Held-start, Sound-start}
 use Rattle.run_laws.proofs.Plain.{IsPlain, flown-plain, none-counts}
-use Rattle.ready_laws.specs.Ready.{Ready}
-use Rattle.ready_laws.proofs.Readiness.{Ready-start, Ready-step}
+use Rattle.run_laws.specs.Ready.{Ready}
+use Rattle.run_laws.proofs.Readiness.{Ready-start, Ready-step}
 
 -- ---- what holds of each state
 

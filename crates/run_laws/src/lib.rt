@@ -1,14 +1,27 @@
-//! What holds of every run over a scenario's servers: laws over the definitions of the run, beside it.
+//! Laws over the definitions of the run, beside it: what single turns and openings leave, what holds of every run over
+//! a scenario's servers, what orchestrator knows through it, and what commands and scans answer and begin.
 #![tactic(auto)]
 
+mod answering;
+mod blocks;
 mod flights;
-mod laws;
+mod keeping;
+mod logging;
+mod replicas;
+mod runs;
+mod steps;
 
+pub use answering::{commands_answer_by_the_table, scans_tell_each_try};
+pub use blocks::begins_keep_the_block;
 pub use flights::{
     every_quiet_state_is_sound, every_state_is_held, jobs_keep_to_their_leases,
     jobs_leave_fewer_turns, turns_are_passages,
 };
-pub use laws::{
+pub use keeping::kept_rows_follow;
+pub use logging::{every_audit_is_apart, recoveries_begin_apart};
+pub use replicas::begins_name_replicas_once;
+pub use runs::{
     every_quiet_state_is_safe, every_state_is_placed, full_never_comes, own_turns_are_turns,
     quiet_runs_were_quiet, skipped_never_comes,
 };
+pub use steps::{openings_are_flights, openings_are_ready, turns_are_flown, turns_leave_all_ready};

@@ -1,7 +1,9 @@
-//! Tests of what a run says: commands, and the texts of replies.
+//! Tests of what no run shows: calls with ample memory, books that no run comes to, and texts that none prints.
 #![tactic(auto)]
 
 #[cfg(test)]
-mod texts;
+mod made;
 #[cfg(test)]
-mod words;
+mod moves;
+#[cfg(test)]
+mod texts;

@@ -2,8 +2,10 @@ pub mod Asked
 pub mod Closing
 pub mod Endings
 pub mod Known
+pub mod Laws
 pub mod Progress
 pub mod Report
 pub mod Singles
 pub mod Sinks
+pub mod Stands
 pub mod Works

@@ -21,6 +21,10 @@ pub record End : Type 0 where
 abbrev pub between : Taken → Taken → End
 between old new = record { old = old; new = new }
 
+-- a sink across a call, by what it has taken and its count of faults
+abbrev pub across : Option (List ℕ) → ℕ → Option (List ℕ) → ℕ → End
+across bytes faults bytes_then faults_then = between (taken bytes faults) (taken bytes_then faults_then)
+
 -- it took this text
 abbrev pub Takes : End → List ℕ → Type 0
 Takes e text = Appends e.old.bytes e.new.bytes text

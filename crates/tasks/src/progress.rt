@@ -1,13 +1,11 @@
 //! A run's report, written as the turns are taken.
 
-ghost use Rattle.std.specs.Prelude.{◌≡◌, All, IfErr, OnErr, OnOk, length};
-ghost use Rattle.scenarios.specs.Turns.{IsTurn};
+ghost use Rattle.std.specs.Prelude.{IfErr, OnErr, OnOk};
 ghost use Rattle.orch_core.specs.Keeping.{HasTurnCause};
-ghost use Rattle.tasks.specs.declared.asked.Asked.TheVariants as asks;
-ghost use Rattle.tasks.specs.declared.asked.Task.{Task as ATask};
-ghost use Rattle.tasks.specs.Endings.{HasKeepersCause, Stands};
-ghost use Rattle.tasks.specs.Progress.{Adds, EndsCut, EndsWhole, Follows, GaveUp, IsFresh, course_from, point};
-ghost use Rattle.tasks.specs.Sinks.{Stays, Taken, between, taken};
+ghost use Rattle.tasks.specs.Endings.{HasKeepersCause};
+ghost use Rattle.tasks.specs.Progress.{Adds, EndsCut, EndsWhole, Follows, GaveUp, IsFresh, point};
+ghost use Rattle.tasks.specs.Sinks.{Stays, across, taken};
+ghost use Rattle.tasks.specs.Stands.{AreTurnsIn, RunStands};
 
 use crate::Ending;
 use crate::pieces::Pieces;
@@ -98,16 +96,16 @@ fn take_turns<O: Sink, K: Keeper>(
     out: &mut O,
     progress: &mut Progress,
 ) -> Result<(), TurnFault>
-    requires turns { All (IsTurn (length engine.old.world.servers)) turns.now }
+    requires turns { AreTurnsIn engine.old turns.now }
     requires fresh { IsFresh progress.old }
     ensures ok { OnOk result (Follows names.now (point (K.kept keeper.old) engine.old) turns.now
         (point (K.kept keeper.new) engine.new)
-        (between (taken (O.written out.old) (O.faults out.old))
-        (taken (O.written out.new) (O.faults out.new))) progress.new) }
+        (across (O.written out.old) (O.faults out.old) (O.written out.new) (O.faults out.new))
+        progress.new) }
     ensures err { IfErr result (GaveUp names.now (point (K.kept keeper.old) engine.old) turns.now
         (point (K.kept keeper.new) engine.new)
-        (between (taken (O.written out.old) (O.faults out.old))
-        (taken (O.written out.new) (O.faults out.new))) progress.new) }
+        (across (O.written out.old) (O.faults out.old) (O.written out.new) (O.faults out.new))
+        progress.new) }
     ensures cause { HasTurnCause (K.faults keeper.old) (K.faults keeper.new) result }
 {
     for (i, t) in turns.iter().enumerate() {
@@ -126,12 +124,11 @@ fn printed_report<O: Sink, K: Keeper>(
     names: &PrintedNames<'_>,
     out: &mut O,
 ) -> Ending
-    requires { All (IsTurn (length engine.old.world.servers)) turns.now }
-    ensures stands { (task : ATask) (err : Taken) → task.asked ≡ asks.Run
-        → Stands (course_from task names.now turns.now (point (K.kept keeper.old) engine.old)
-        (K.kept keeper.new))
-        (between (taken (O.written out.old) (O.faults out.old))
-        (taken (O.written out.new) (O.faults out.new))) (between err err) result }
+    requires { AreTurnsIn engine.old turns.now }
+    ensures stands { RunStands names.now turns.now (point (K.kept keeper.old) engine.old)
+        (K.kept keeper.new)
+        (across (O.written out.old) (O.faults out.old) (O.written out.new) (O.faults out.new))
+        result }
     ensures cause { HasKeepersCause (K.faults keeper.old) (K.faults keeper.new) result }
 {
     let mut progress = Progress::new(alloc);
@@ -153,12 +150,11 @@ pub(crate) fn run_report<O: Sink, K: Keeper>(
     names: &[Name],
     out: &mut O,
 ) -> Ending
-    requires { All (IsTurn (length engine.old.world.servers)) turns.now }
-    ensures stands { (task : ATask) (err : Taken) → task.asked ≡ asks.Run
-        → Stands (course_from task names.now turns.now (point (K.kept keeper.old) engine.old)
-        (K.kept keeper.new))
-        (between (taken (O.written out.old) (O.faults out.old))
-        (taken (O.written out.new) (O.faults out.new))) (between err err) result }
+    requires { AreTurnsIn engine.old turns.now }
+    ensures stands { RunStands names.now turns.now (point (K.kept keeper.old) engine.old)
+        (K.kept keeper.new)
+        (across (O.written out.old) (O.faults out.old) (O.written out.new) (O.faults out.new))
+        result }
     ensures cause { HasKeepersCause (K.faults keeper.old) (K.faults keeper.new) result }
 {
     match PrintedNames::new(alloc, names) {

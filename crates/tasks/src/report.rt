@@ -1,12 +1,12 @@
 //! The report of a task over a scenario.
 
-ghost use Rattle.std.specs.Prelude.{◌≡◌, ◌≤◌, All, length};
+ghost use Rattle.std.specs.Prelude.{◌≡◌, ◌≤◌, length};
 ghost use Rattle.scenarios.specs.Scenarios.{IsScenario, names_of};
-ghost use Rattle.scenarios.specs.Turns.{IsTurn};
 ghost use Rattle.tasks.specs.Asked.{IsAsked, turns_taken};
 ghost use Rattle.tasks.specs.Endings.{HasKeepersCause, Stands, Tells};
 ghost use Rattle.tasks.specs.Progress.{course_from, point};
-ghost use Rattle.tasks.specs.Sinks.{between, taken};
+ghost use Rattle.tasks.specs.Sinks.{across};
+ghost use Rattle.tasks.specs.Stands.{AreTurnsIn};
 
 use crate::progress::run_report;
 use crate::single::{command_report, unknown_report};
@@ -29,14 +29,13 @@ fn asked_report<O: Sink, E: Sink, K: Keeper>(
     err: &mut E,
     keeper: &mut K,
 ) -> Ending
-    requires turns { All (IsTurn (length engine.old.world.servers)) turns.now }
+    requires turns { AreTurnsIn engine.old turns.now }
     requires asked { IsAsked (length engine.old.world.servers) task.now.asked }
     ensures stands { Stands (course_from task.now names.now (turns_taken task.now.asked turns.now)
         (point (K.kept keeper.old) engine.old) (K.kept keeper.new))
-        (between (taken (O.written out.old) (O.faults out.old))
-        (taken (O.written out.new) (O.faults out.new)))
-        (between (taken (E.written err.old) (E.faults err.old))
-        (taken (E.written err.new) (E.faults err.new))) result }
+        (across (O.written out.old) (O.faults out.old) (O.written out.new) (O.faults out.new))
+        (across (E.written err.old) (E.faults err.old) (E.written err.new) (E.faults err.new))
+        result }
     ensures cause { HasKeepersCause (K.faults keeper.old) (K.faults keeper.new) result }
     ensures later { E.faults err.old ≤ E.faults err.new }
 {
@@ -83,10 +82,9 @@ pub fn task_report<O: Sink, E: Sink, K: Keeper>(
       old = K.kept keeper.old;
       new = K.kept keeper.new;
     })
-        (between (taken (O.written out.old) (O.faults out.old))
-        (taken (O.written out.new) (O.faults out.new)))
-        (between (taken (E.written err.old) (E.faults err.old))
-        (taken (E.written err.new) (E.faults err.new))) result }
+        (across (O.written out.old) (O.faults out.old) (O.written out.new) (O.faults out.new))
+        (across (E.written err.old) (E.faults err.old) (E.written err.new) (E.faults err.new))
+        result }
     ensures cause { HasKeepersCause (K.faults keeper.old) (K.faults keeper.new) result }
     ensures later { E.faults err.old ≤ E.faults err.new }
 {

@@ -1,17 +1,14 @@
 //! A single command's report, written at its end.
 
-ghost use Rattle.std.specs.Prelude.{◌≡◌, ◌≤◌, ◌++◌, ◌∷◌, [], All, IfOk, IfErr, OnOk, length, if◌then◌else◌};
-ghost use Rattle.scenarios.specs.Turns.{IsCommand, IsTurn};
+ghost use Rattle.std.specs.Prelude.{◌≡◌, ◌≤◌, [], IfOk, IfErr, if◌then◌else◌};
 ghost use Rattle.orch_core.specs.Keeping.{HasTurnCause};
 ghost use Rattle.tasks.specs.Closing.{begun_by};
-ghost use Rattle.tasks.specs.Endings.{HasKeepersCause, Stands};
-ghost use Rattle.tasks.specs.Progress.{Answers, ClosesEach, GivesUp, GivesUpEach, Replies, Stops, course_from, point};
+ghost use Rattle.tasks.specs.Endings.{HasKeepersCause};
+ghost use Rattle.tasks.specs.Progress.{Answers, ClosesEach, GivesUp, GivesUpEach, Replies, Stops, point};
 ghost use Rattle.tasks.specs.Report.{tables_of, told_answer};
 ghost use Rattle.tasks.specs.Singles.{Writes, view};
-ghost use Rattle.tasks.specs.Sinks.{Taken, between, taken};
-ghost use Rattle.tasks.specs.declared.asked.Task.{Task as ATask};
-ghost use Rattle.tasks.specs.declared.asked.Asked.TheVariants as asks;
-ghost use Rattle.turns.specs.declared.turn.Turn.TheVariants as turning;
+ghost use Rattle.tasks.specs.Sinks.{across};
+ghost use Rattle.tasks.specs.Stands.{AreTurnsIn, CommandStands, IsCommandIn, UnknownStands, with_own};
 
 use crate::Ending;
 use crate::pieces::add_tables;
@@ -74,10 +71,9 @@ fn told_report(
 // Writes a report: what err is to take, then what out is.
 fn write_report<O: Sink, E: Sink>(out: &mut O, err: &mut E, report: &Report) -> Ending
     ensures writes { Writes (view report.now)
-        (between (taken (O.written out.old) (O.faults out.old))
-        (taken (O.written out.new) (O.faults out.new)))
-        (between (taken (E.written err.old) (E.faults err.old))
-        (taken (E.written err.new) (E.faults err.new))) result }
+        (across (O.written out.old) (O.faults out.old) (O.written out.new) (O.faults out.new))
+        (across (E.written err.old) (E.faults err.old) (E.written err.new) (E.faults err.new))
+        result }
     ensures later { E.faults err.old ≤ E.faults err.new }
 {
     if write_all(err, &report.err).is_err() || write_all(out, &report.out).is_err() {
@@ -97,10 +93,9 @@ fn write_told<O: Sink, E: Sink>(
     err: &mut E,
 ) -> Ending
     ensures writes { Writes (told_answer asked names.now engine.now reply.now)
-        (between (taken (O.written out.old) (O.faults out.old))
-        (taken (O.written out.new) (O.faults out.new)))
-        (between (taken (E.written err.old) (E.faults err.old))
-        (taken (E.written err.new) (E.faults err.new))) result }
+        (across (O.written out.old) (O.faults out.old) (O.written out.new) (O.faults out.new))
+        (across (E.written err.old) (E.faults err.old) (E.written err.new) (E.faults err.new))
+        result }
     ensures later { E.faults err.old ≤ E.faults err.new }
 {
     match told_report(alloc, asked, names, engine, reply) {
@@ -117,12 +112,12 @@ fn own_reply<K: Keeper>(
     turns: &[Turn],
     own: &BoxedCommand,
 ) -> Result<Reply, TurnFault>
-    requires turns { All (IsTurn (length engine.old.world.servers)) turns.now }
-    requires own { IsCommand (length engine.old.world.servers) own.now }
+    requires turns { AreTurnsIn engine.old turns.now }
+    requires own { IsCommandIn engine.old own.now }
     ensures ok { IfOk result (Replies (point (K.kept keeper.old) engine.old)
-        (turns.now ++ turning.Command own.now ∷ []) (point (K.kept keeper.new) engine.new)) }
+        (with_own turns.now own.now) (point (K.kept keeper.new) engine.new)) }
     ensures err { IfErr result (GivesUp (point (K.kept keeper.old) engine.old)
-        (turns.now ++ turning.Command own.now ∷ []) (K.kept keeper.new)) }
+        (with_own turns.now own.now) (K.kept keeper.new)) }
     ensures cause { HasTurnCause (K.faults keeper.old) (K.faults keeper.new) result }
 {
     engine.run(alloc, keeper, turns)?;
@@ -185,12 +180,12 @@ fn last_reply<K: Keeper>(
     turns: &[Turn],
     own: &BoxedCommand,
 ) -> Result<Reply, TurnFault>
-    requires turns { All (IsTurn (length engine.old.world.servers)) turns.now }
-    requires own { IsCommand (length engine.old.world.servers) own.now }
+    requires turns { AreTurnsIn engine.old turns.now }
+    requires own { IsCommandIn engine.old own.now }
     ensures ok { IfOk result (Answers (point (K.kept keeper.old) engine.old)
-        (turns.now ++ turning.Command own.now ∷ []) (point (K.kept keeper.new) engine.new)) }
+        (with_own turns.now own.now) (point (K.kept keeper.new) engine.new)) }
     ensures err { IfErr result (Stops (point (K.kept keeper.old) engine.old)
-        (turns.now ++ turning.Command own.now ∷ []) (K.kept keeper.new)) }
+        (with_own turns.now own.now) (K.kept keeper.new)) }
     ensures cause { HasTurnCause (K.faults keeper.old) (K.faults keeper.new) result }
 {
     let reply = own_reply(alloc, keeper, engine, turns, own)?;
@@ -211,15 +206,13 @@ pub(crate) fn command_report<O: Sink, E: Sink, K: Keeper>(
     out: &mut O,
     err: &mut E,
 ) -> Ending
-    requires turns { All (IsTurn (length engine.old.world.servers)) turns.now }
-    requires own { IsCommand (length engine.old.world.servers) own.now }
-    ensures stands { (task : ATask) → task.asked ≡ asks.Turn own.now → task.tables ≡ tables
-        → Stands (course_from task names.now (turns.now ++ turning.Command own.now ∷ [])
-        (point (K.kept keeper.old) engine.old) (K.kept keeper.new))
-        (between (taken (O.written out.old) (O.faults out.old))
-        (taken (O.written out.new) (O.faults out.new)))
-        (between (taken (E.written err.old) (E.faults err.old))
-        (taken (E.written err.new) (E.faults err.new))) result }
+    requires turns { AreTurnsIn engine.old turns.now }
+    requires own { IsCommandIn engine.old own.now }
+    ensures stands { CommandStands own.now tables names.now turns.now
+        (point (K.kept keeper.old) engine.old) (K.kept keeper.new)
+        (across (O.written out.old) (O.faults out.old) (O.written out.new) (O.faults out.new))
+        (across (E.written err.old) (E.faults err.old) (E.written err.new) (E.faults err.new))
+        result }
     ensures cause { HasKeepersCause (K.faults keeper.old) (K.faults keeper.new) result }
     ensures later { E.faults err.old ≤ E.faults err.new }
 {
@@ -240,14 +233,12 @@ pub(crate) fn unknown_report<O: Sink, E: Sink, K: Keeper>(
     out: &mut O,
     err: &mut E,
 ) -> Ending
-    requires { All (IsTurn (length engine.old.world.servers)) turns.now }
-    ensures stands { (task : ATask) → task.asked ≡ asks.Unknown
-        → Stands (course_from task names.now turns.now (point (K.kept keeper.old) engine.old)
-        (K.kept keeper.new))
-        (between (taken (O.written out.old) (O.faults out.old))
-        (taken (O.written out.new) (O.faults out.new)))
-        (between (taken (E.written err.old) (E.faults err.old))
-        (taken (E.written err.new) (E.faults err.new))) result }
+    requires { AreTurnsIn engine.old turns.now }
+    ensures stands { UnknownStands names.now turns.now (point (K.kept keeper.old) engine.old)
+        (K.kept keeper.new)
+        (across (O.written out.old) (O.faults out.old) (O.written out.new) (O.faults out.new))
+        (across (E.written err.old) (E.faults err.old) (E.written err.new) (E.faults err.new))
+        result }
     ensures cause { HasKeepersCause (K.faults keeper.old) (K.faults keeper.new) result }
     ensures later { E.faults err.old ≤ E.faults err.new }
 {

@@ -5,10 +5,10 @@ use Rattle.run_laws.proofs.RunLaws.{Goes-comes}
 use Rattle.run_laws.proofs.flights.jobs_keep_to_their_leases.Goals as goal
 
 pub returns-clause-named : goal.returns-clause-named
-returns-clause-named c = λ s xs now n id comes leased. named-job now.jobs id (ap is_some ((Goes-comes s xs now comes).held.flight.leased.named n id leased).1)
+returns-clause-named c = λ s xs now comes n id leased. named-job now.jobs id (ap is_some ((Goes-comes s xs now comes).held.flight.leased.named n id leased).1)
 
 pub returns-clause-leased : goal.returns-clause-leased
 returns-clause-leased c = λ s xs now comes. (Goes-comes s xs now comes).held.flight.leased.each
 
 pub returns-clause-others : goal.returns-clause-others
-returns-clause-others c = λ s xs now rows id n comes apart. others-stay rows now id n (Goes-comes s xs now comes).held apart
+returns-clause-others c = λ s xs now comes rows id n apart. others-stay rows now id n (Goes-comes s xs now comes).held apart

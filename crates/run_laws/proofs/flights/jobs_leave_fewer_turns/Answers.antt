@@ -4,4 +4,4 @@ use Rattle.std.proofs.Common.{length}
 use Rattle.run_laws.proofs.flights.jobs_leave_fewer_turns.Goals as goal
 
 pub returns : goal.returns
-returns c = λ s xs now rows id comes still. fewer-left (length s.opening.servers) rows now id (Goes-comes s xs now comes).ready still
+returns c = λ s xs now comes rows id still. fewer-left (length s.opening.servers) rows now id (Goes-comes s xs now comes).ready still

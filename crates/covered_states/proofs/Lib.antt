@@ -1,4 +1,0 @@
-pub mod Begun
-pub mod Joining
-pub mod Goes
-pub mod Coming

@@ -1,8 +1,0 @@
-use Rattle.finish_laws.proofs.Entries.{audit-ends, entry-kept}
-use Rattle.finish_laws.proofs.laws.finished_recoveries_end_their_entries.Goals as goal
-
-pub returns-clause-audit : goal.returns-clause-audit
-returns-clause-audit c rows s id e r lines n is promoted = audit-ends s id e r lines n is promoted rows
-
-pub returns-clause-kept : goal.returns-clause-kept
-returns-clause-kept c had s id e r lines n k is promoted at = entry-kept s id e r lines n is promoted had k at

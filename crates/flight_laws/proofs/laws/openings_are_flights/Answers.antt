@@ -1,8 +1,0 @@
-use Rattle.flight_laws.proofs.Openings.{Held-start, Sound-start}
-use Rattle.flight_laws.proofs.laws.openings_are_flights.Goals as goal
-
-pub returns-clause-held : goal.returns-clause-held
-returns-clause-held c = Held-start
-
-pub returns-clause-sound : goal.returns-clause-sound
-returns-clause-sound c = Sound-start

@@ -1,2 +1,0 @@
-pub mod Underway
-pub mod Listings

@@ -1,9 +1,0 @@
-use Rattle.known_laws.proofs.Entries.{more-after}
-use Rattle.known_laws.proofs.Parts.{apart-by-scenario}
-use Rattle.known_laws.proofs.logging.recoveries_begin_apart.Goals as goal
-
-pub returns-clause-apart : goal.returns-clause-apart
-returns-clause-apart c = apart-by-scenario
-
-pub returns-clause-all : goal.returns-clause-all
-returns-clause-all c = more-after

@@ -1,4 +1,0 @@
-pub mod Runs
-pub mod Entries
-pub mod Begun
-pub mod Lines

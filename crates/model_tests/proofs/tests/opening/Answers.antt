@@ -1,5 +1,0 @@
-use Rattle.model_tests.proofs.Listings.{checked_is}
-use Rattle.model_tests.proofs.tests.opening.Goals as goal
-
-pub returns : goal.returns
-returns c = checked_is c.args.servers.items c.args.gtid c.in_ok-opening.opening c.in_ok-opening.ensures

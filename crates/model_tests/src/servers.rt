@@ -1,0 +1,313 @@
+//! Exchanges with servers: what each answers, and what is seen then.
+
+use crate::exchanges::{Answer, Gtids, Seen, Step, take};
+use crate::given::{Given, MASTER, REPLICA, world_of};
+use binlog_coords::Coord;
+use openings::Part;
+use orch_base::{IoState, ServerNo, SourceState};
+use server_model::{ApplyAnswer, FetchAnswer, Link, Plain, Spot, Threads, World, WriteAnswer};
+use std::alloc::Global;
+use std::test::Fail;
+
+const M: ServerNo = ServerNo(0);
+
+const R: ServerNo = ServerNo(1);
+
+const S: ServerNo = ServerNo(2);
+
+/// Two and three transactions of 100 bytes of the first server.
+const TWO: &[Part] = &[Part {
+    origin: ServerNo(0),
+    size: 100,
+    count: 2,
+}];
+
+const THREE: &[Part] = &[Part {
+    origin: ServerNo(0),
+    size: 100,
+    count: 3,
+}];
+
+/// The beginning of a log, and the ends of its first transactions of 100 bytes, where they are in one file.
+const START: Coord = Coord { file: 1, pos: 4 };
+
+const FIRST: Coord = Coord { file: 1, pos: 104 };
+
+const SECOND: Coord = Coord { file: 1, pos: 204 };
+
+const THIRD: Coord = Coord { file: 1, pos: 304 };
+
+/// Servers, and steps in order with what each answers.
+#[derive(Clone, Copy)]
+struct Story {
+    servers: &'static [Given],
+    gtid: bool,
+    rows: &'static [(ServerNo, Step, Answer)],
+}
+
+/// A replica of the first server over a rotation.
+const ROTATED: Plain = Plain {
+    up: true,
+    desk: true,
+    feed: true,
+    read_only: true,
+    source: SourceState::Attached(M),
+    exec: Coord { file: 2, pos: 4 },
+    read: Coord { file: 2, pos: 104 },
+    auto: false,
+    receiver: true,
+    applier: true,
+    until: None,
+};
+
+/// A source with files of 200 bytes and a flush after its first transaction; a replica without a log that has read one
+/// transaction more than it has executed, over a rotation; and a detached server.
+const OPENS: Story = Story {
+    servers: &[
+        Given {
+            limit: 200,
+            history: THREE,
+            flushes: &[1],
+            ..MASTER
+        },
+        Given {
+            logs: false,
+            executed: 1,
+            at: Some(Coord { file: 2, pos: 4 }),
+            read: Some(Coord { file: 2, pos: 104 }),
+            ..REPLICA
+        },
+        Given {
+            name: "s",
+            executed: 2,
+            detached: true,
+            ..REPLICA
+        },
+    ],
+    gtid: false,
+    rows: &[
+        (M, Step::Executed, Answer::Count(3)),
+        (M, Step::End, Answer::Ends(Some(Coord { file: 3, pos: 4 }))),
+        (
+            M,
+            Step::Plain,
+            Answer::Is(Plain {
+                read_only: false,
+                source: SourceState::Without,
+                exec: START,
+                read: START,
+                receiver: false,
+                applier: false,
+                ..ROTATED
+            }),
+        ),
+        (R, Step::Executed, Answer::Count(1)),
+        (R, Step::End, Answer::Ends(None)),
+        (R, Step::Plain, Answer::Is(ROTATED)),
+        (S, Step::Executed, Answer::Count(2)),
+        (S, Step::End, Answer::Ends(Some(SECOND))),
+        (
+            S,
+            Step::Plain,
+            Answer::Is(Plain {
+                source: SourceState::Detached(M),
+                exec: Coord { file: 2, pos: 104 },
+                receiver: false,
+                applier: false,
+                ..ROTATED
+            }),
+        ),
+    ],
+};
+
+/// A replica goes on at the beginning of its source's log once it has stopped where it is expected.
+const ATTACHES: Story = Story {
+    servers: &[
+        Given {
+            history: TWO,
+            ..MASTER
+        },
+        REPLICA,
+    ],
+    gtid: false,
+    rows: &[
+        (R, Step::Fetch, Answer::Fetched(FetchAnswer::Got(FIRST))),
+        (
+            R,
+            Step::AttachAt(Spot::At(M, START), M, START),
+            Answer::Running(Spot::At(M, START)),
+        ),
+        (R, Step::Stop(Threads::Both), Answer::Done),
+        (
+            R,
+            Step::AttachAt(Spot::At(M, FIRST), M, START),
+            Answer::Interfered(Spot::At(M, FIRST), Spot::At(M, START)),
+        ),
+        (
+            R,
+            Step::AttachAt(Spot::At(M, START), M, START),
+            Answer::Done,
+        ),
+        (
+            M,
+            Step::AttachAt(Spot::OwnEnd(SECOND), R, START),
+            Answer::Loop,
+        ),
+        (R, Step::Start, Answer::Done),
+        (R, Step::Fetch, Answer::Fetched(FetchAnswer::Got(FIRST))),
+        (R, Step::Apply, Answer::Applied(ApplyAnswer::Done(FIRST))),
+        (R, Step::Executed, Answer::Count(1)),
+    ],
+};
+
+/// An applier stops where it was to stop.
+const STOPS: Story = Story {
+    servers: &[
+        Given {
+            history: TWO,
+            ..MASTER
+        },
+        Given {
+            executed: 1,
+            ..REPLICA
+        },
+    ],
+    gtid: false,
+    rows: &[
+        (R, Step::Stop(Threads::Both), Answer::Done),
+        (R, Step::StartUntil(FIRST), Answer::Done),
+        (R, Step::Fetch, Answer::Fetched(FetchAnswer::Got(SECOND))),
+        (R, Step::Apply, Answer::Applied(ApplyAnswer::AtUntil)),
+        (R, Step::Apply, Answer::Applied(ApplyAnswer::Stopped)),
+    ],
+};
+
+/// A replica goes below its sibling by GTIDs, and skips what it has executed; the sibling has a transaction of its own.
+const BY_SETS: Story = Story {
+    servers: &[
+        Given {
+            history: TWO,
+            ..MASTER
+        },
+        Given {
+            executed: 2,
+            ..REPLICA
+        },
+        Given {
+            name: "s",
+            executed: 1,
+            read_only: false,
+            ..REPLICA
+        },
+    ],
+    gtid: true,
+    rows: &[
+        (S, Step::Write(100), Answer::Wrote(WriteAnswer::Done(1))),
+        (S, Step::Fetch, Answer::Fetched(FetchAnswer::Got(SECOND))),
+        (S, Step::Apply, Answer::Applied(ApplyAnswer::Done(SECOND))),
+        (
+            S,
+            Step::Status,
+            Answer::Saw(Seen {
+                own_end: Some(THIRD),
+                source: SourceState::Attached(M),
+                exec: SECOND,
+                read: SECOND,
+                auto: false,
+                io: IoState::Yes,
+                sql: true,
+                read_only: false,
+                set: Gtids(3, [true, true, true]),
+            }),
+        ),
+        (R, Step::Stop(Threads::Both), Answer::Done),
+        (R, Step::AttachAuto(S), Answer::Done),
+        (
+            R,
+            Step::Status,
+            Answer::Saw(Seen {
+                own_end: Some(SECOND),
+                source: SourceState::Attached(S),
+                exec: FIRST,
+                read: FIRST,
+                auto: true,
+                io: IoState::No,
+                sql: false,
+                read_only: true,
+                set: Gtids(2, [true, true, false]),
+            }),
+        ),
+        (R, Step::Start, Answer::Done),
+        (R, Step::Fetch, Answer::Fetched(FetchAnswer::Got(SECOND))),
+        (R, Step::Apply, Answer::Applied(ApplyAnswer::Done(SECOND))),
+        (R, Step::Fetch, Answer::Fetched(FetchAnswer::Got(THIRD))),
+        (R, Step::Apply, Answer::Applied(ApplyAnswer::Skipped(THIRD))),
+        (R, Step::Executed, Answer::Count(3)),
+        (R, Step::Errant, Answer::Count(1)),
+        (S, Step::Stop(Threads::Both), Answer::Done),
+        (
+            S,
+            Step::AttachAuto(M),
+            Answer::Errant(Gtids(1, [false, false, true])),
+        ),
+    ],
+};
+
+/// What a status would show of a server that isn't reached.
+const UNREACHED: Story = Story {
+    servers: &[MASTER, REPLICA],
+    gtid: false,
+    rows: &[
+        (R, Step::Cut(Link::Feed), Answer::Done),
+        (R, Step::Cut(Link::Desk), Answer::Done),
+        (R, Step::Status, Answer::Unreachable),
+        (
+            R,
+            Step::Shows,
+            Answer::Saw(Seen {
+                own_end: Some(START),
+                source: SourceState::Attached(M),
+                exec: START,
+                read: START,
+                auto: false,
+                io: IoState::Connecting,
+                sql: true,
+                read_only: true,
+                set: Gtids(0, [false, false, false]),
+            }),
+        ),
+    ],
+};
+
+// The first row, counted from 0, whose step answers otherwise.
+fn differing(alloc: Global, world: &mut World, rows: &[(ServerNo, Step, Answer)]) -> Option<usize> {
+    for (k, (no, step, answer)) in rows.iter().enumerate() {
+        if take(alloc, world, *no, *step) != *answer {
+            return Some(k);
+        }
+    }
+    None
+}
+
+fn differing_row(alloc: Global, story: &Story) -> Result<Option<usize>, Fail> {
+    let mut world = world_of(alloc, story.servers, story.gtid, 4, 2)?;
+    Ok(differing(alloc, &mut world, story.rows))
+}
+
+const STORIES: &[Story] = &[OPENS, ATTACHES, STOPS, BY_SETS, UNREACHED];
+
+// The first story and its row, counted from 0, that go otherwise.
+fn differing_story(alloc: Global) -> Result<Option<(usize, usize)>, Fail> {
+    for (n, story) in STORIES.iter().enumerate() {
+        if let Some(k) = differing_row(alloc, story)? {
+            return Ok(Some((n, k)));
+        }
+    }
+    Ok(None)
+}
+
+#[test]
+fn steps_answer_as_told(rt: HostRuntime) -> Result<(), Fail> {
+    assert_eq!(rt; differing_story(rt.alloc())?, None);
+    Ok(())
+}

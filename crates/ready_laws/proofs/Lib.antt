@@ -1,4 +1,0 @@
-pub mod Ready
-pub mod Begun
-pub mod Outcomes
-pub mod Readiness

@@ -1,0 +1,79 @@
+-- Each recovery after a turn was there before it, or begins in it.
+use Rattle.std.proofs.Common.{◌≡◌, ℕ, true, List, [], ◌++◌, refl, Option, Some, None}
+use Rattle.std.specs.Prelude.{◌==◌, All, Contains}
+use Rattle.std.specs.Option.{option_map}
+use Rattle.std.proofs.lemmas.List.Elements.{All-contains_itself, All-nil, All-weaker, Contains-append_left, Contains-append_right}
+use Rattle.orch_base.specs.Memory.{next_count}
+use Rattle.instance_keeper.specs.declared.row.Row.{Row}
+use Rattle.job_laws.proofs.Lists.{All-find}
+use Rattle.jobs_in_flight.specs.Jobs.{job_at, jobs_turned}
+use Rattle.operations.specs.Turns.{is_going}
+use Rattle.recovery_histories.proofs.Staying.{same-choice, taken-aim}
+use Rattle.turns.specs.declared.turn.Turn.{Turn}
+use Rattle.turns.specs.declared.turn.Turn.TheVariants as turn
+use Rattle.unended_jobs.specs.declared.unended.Unended.{Unended}
+use Rattle.unended_jobs.specs.declared.unended.Unended.TheVariants as unended
+use Rattle.unended_jobs.specs.Unended.{IsReady, number_of}
+use Rattle.unended_jobs.proofs.Going.{flown-number}
+use Rattle.covered_laws.proofs.Turning.{all-turned}
+use Rattle.orch_core.specs.Commands.{jobs_updated}
+use Rattle.orch_core.specs.Jobs.{turn_of}
+use Rattle.orch_core.specs.Polls.{command_outcome, scan_outcome}
+use Rattle.orch_core.specs.Runs.{step}
+use Rattle.orch_core.specs.States.{State}
+use Rattle.run_laws.specs.Ready.{Ready}
+use Rattle.run_laws.specs.Flights.{moment_at}
+use Rattle.recovery_runs.specs.Begun.{jobs_begun, ComesOf}
+use Rattle.recovery_runs.proofs.Joining.{command-joins, joined, scan-joins}
+
+of-itself : (us : List Unended) (u : Unended) → Contains us u → ComesOf us u
+of-itself us (unended.Plan j) among = tt
+of-itself us (unended.Recovery r entry) among = record { was = r; among = among; number = refl; aim = (same-choice r).aim }
+
+module _ (us vs : List Unended) where
+  all-stay : All (ComesOf (us ++ vs)) us
+  all-stay = All-weaker (Contains us) (ComesOf (us ++ vs)) (λ u among. of-itself (us ++ vs) u (Contains-append_left us vs u among)) us (All-contains_itself us)
+
+  all-join : All (ComesOf (us ++ vs)) vs
+  all-join = All-weaker (Contains vs) (ComesOf (us ++ vs)) (λ u among. of-itself (us ++ vs) u (Contains-append_right us vs u among)) vs (All-contains_itself vs)
+
+come-joined : (us vs ws : List Unended) → ws ≡ us ++ vs → All (ComesOf (us ++ vs)) ws
+come-joined us vs ws is = joined (ComesOf (us ++ vs)) us vs ws is (all-stay us vs) (all-join us vs)
+
+-- ---- a job's turn
+
+module _ (count : ℕ) (s : State) (id : ℕ) (ready : Ready count s) where
+  next-comes : (u : Unended) → Contains s.jobs u → IsReady count u → is_going (turn_of s u).step ≡ true → ComesOf (s.jobs ++ []) (turn_of s u).next
+  next-comes (unended.Plan j) among is going = tt
+  next-comes (unended.Recovery r entry) among is going = record {
+    was = r;
+    among = Contains-append_left s.jobs [] (unended.Recovery r entry) among;
+    number = flown-number count s.world s.book (next_count s.reads) (moment_at s) (unended.Recovery r entry) is going;
+    aim = taken-aim s.world s.book (next_count s.reads) (moment_at s) r;
+  }
+
+  turn-come : (o : Option Unended) → job_at s.jobs id ≡ o → All (ComesOf (s.jobs ++ [])) (jobs_turned s.jobs id (option_map (turn_of s) o))
+  turn-come None at = all-stay s.jobs []
+  turn-come (Some u) at =
+      all-turned (Contains s.jobs) (ComesOf (s.jobs ++ [])) id (λ k apart among. of-itself (s.jobs ++ []) k (Contains-append_left s.jobs [] k among)) s.jobs (turn_of s u)
+      (next-comes u (All-find (Contains s.jobs) (λ (k : Unended). number_of k == id) s.jobs u (All-contains_itself s.jobs) at)
+      (All-find (IsReady count) (λ (k : Unended). number_of k == id) s.jobs u ready.jobs at)) (All-contains_itself s.jobs)
+
+-- ---- any turn
+
+pub all-come : (count : ℕ) (rows : List Row) (s : State) (t : Turn) → Ready count s → All (ComesOf (s.jobs ++ jobs_begun s t)) (step rows s t).jobs
+all-come count rows s (turn.Write n size) ready = all-stay s.jobs []
+all-come count rows s (turn.Fetch n) ready = all-stay s.jobs []
+all-come count rows s (turn.Apply n) ready = all-stay s.jobs []
+all-come count rows s (turn.Fail n) ready = all-stay s.jobs []
+all-come count rows s (turn.Heal n) ready = all-stay s.jobs []
+all-come count rows s (turn.Cut n link) ready = all-stay s.jobs []
+all-come count rows s (turn.Join n link) ready = all-stay s.jobs []
+all-come count rows s (turn.Rotate n) ready = all-stay s.jobs []
+all-come count rows s (turn.Tick seconds) ready = all-stay s.jobs []
+all-come count rows s (turn.PollRead p n) ready = all-stay s.jobs []
+all-come count rows s (turn.PollStore p) ready = all-stay s.jobs []
+all-come count rows s (turn.Job id) ready = turn-come count s id ready (job_at s.jobs id) refl
+all-come count rows s turn.Scan ready = come-joined s.jobs (jobs_updated [] (scan_outcome s).book) (jobs_updated s.jobs (scan_outcome s).book) (scan-joins s)
+all-come count rows s (turn.Command c) ready = come-joined s.jobs (jobs_updated [] (command_outcome s c).book) (jobs_updated s.jobs (command_outcome s c).book) (command-joins s c)
+all-come count rows s turn.Restart ready = All-nil (ComesOf (s.jobs ++ []))

@@ -1,0 +1,83 @@
+-- The turn of a recovery in a state is one of its flight.
+use Rattle.std.proofs.Common.{◌≡◌, ◌∙◌, ℕ, Bool, List, refl, sym, ap, subst, Option, Some}
+use Rattle.std.specs.Prelude.{◌==◌, All}
+use Rattle.std.specs.Option.{option_map}
+use Rattle.orch_base.specs.Memory.{next_count}
+use Rattle.orch_base.specs.declared.server.ServerNo.{ServerNo}
+use Rattle.commands.specs.declared.line.Line.{Line}
+use Rattle.commands.specs.declared.line.Lost.{Lost}
+use Rattle.instance_keeper.specs.declared.row.Row.{Row}
+use Rattle.operations.specs.declared.step.JobStep.{JobStep}
+use Rattle.server_model.specs.Run.{run}
+use Rattle.server_model.specs.Safe.{Safe}
+use Rattle.server_model.specs.Worlds.{World}
+use Rattle.job_laws.proofs.Lists.{All-find}
+use Rattle.jobs_in_flight.specs.Jobs.{job_at, job_exchanges, job_reply, step_reply}
+use Rattle.recovery_covers.specs.Covers.{IsTold}
+use Rattle.recovery_histories.specs.Kept.{IsBeginning, Keeps, SameAim}
+use Rattle.recovery_plans.specs.Named.{IsNamedRecovery}
+use Rattle.recovery_plans.specs.Recoveries.{Recovery}
+use Rattle.recovery_reasons.specs.Reasons.{AllLost, ExplainsTruly}
+use Rattle.turns.specs.declared.turn.Reply.TheVariants as answered
+use Rattle.turns.specs.declared.turn.Turn.TheVariants as turn
+use Rattle.unended_jobs.specs.declared.unended.Unended.{Unended}
+use Rattle.unended_jobs.specs.declared.unended.Unended.TheVariants as unended
+use Rattle.unended_jobs.specs.Unended.{IsReady, number_of}
+use Rattle.covered_laws.specs.Turns.{RecoveryTurn}
+use Rattle.covered_laws.proofs.Ending.{done-named, done-old, done-placed, done-promoted, done-told, last-aim, turn-aim, turn-explained}
+use Rattle.orch_core.specs.Jobs.{turn_of}
+use Rattle.orch_core.specs.Replies.{reply_of}
+use Rattle.orch_core.specs.Runs.{step}
+use Rattle.orch_core.specs.States.{State}
+use Rattle.run_laws.specs.Ready.{Ready}
+use Rattle.run_laws.specs.Flights.{flight_of, moment_at}
+use Rattle.run_laws.specs.States.{HeldState, SoundState}
+use Rattle.recovery_runs.specs.States.{AimedState, CoveredState, KeptState, SpeakingState}
+use Rattle.recovery_runs.specs.Finishes.{recovery_after, turn_taken, IsFinish, KeepsHistories, OwesNothing}
+
+module _ (s : State) (id : ℕ) (r : Recovery) (entry : Option ℕ) where
+  module _ (found : job_at s.jobs id ≡ Some (unended.Recovery r entry)) where
+    abbrev turn_in : RecoveryTurn (flight_of s) s.jobs
+    turn_in = record { id = id; recovery = r; entry = entry; found = found; book = s.book; rings = refl; at_read = next_count s.reads; at_moment = moment_at s }
+
+    world-then : (rows : List Row) → (step rows s (turn.Job id)).world ≡ run s.world (turn_taken s r).exchanges
+    world-then rows = ap (λ (o : Option Unended). run s.world (job_exchanges (option_map (turn_of s) o))) found
+
+    -- its servers are there
+    named-at : (count : ℕ) → Ready count s → IsNamedRecovery count r
+    named-at count ready = (All-find (IsReady count) (λ (k : Unended). number_of k == id) s.jobs (unended.Recovery r entry) ready.jobs found).named
+
+    pub aim-at : SameAim r (recovery_after s r)
+    aim-at = turn-aim (flight_of s) s.jobs turn_in
+
+    pub losses-true : (P : ServerNo → Lost → Bool) → HeldState s → SpeakingState s → ExplainsTruly s.world s.book (moment_at s) r P → AllLost P r.outcome.lost
+        → AllLost P (recovery_after s r).outcome.lost
+    losses-true P held speaking explains lost = turn-explained (flight_of s) s.jobs turn_in held P speaking explains lost
+
+  module _ (lines : List Line) (is : IsFinish s id r entry lines) where
+    pub reply-told : reply_of s (turn.Job id) ≡ answered.Told lines
+    reply-told = ap (λ (o : Option Unended). job_reply (option_map (turn_of s) o)) is.found ∙ ap (λ (x : JobStep). step_reply x) is.done
+
+    pub owes-nothing : (count : ℕ) (rows : List Row) → Ready count s → HeldState s → CoveredState s → OwesNothing count (step rows s (turn.Job id)).world r (recovery_after s r) lines
+    owes-nothing count rows ready held covered = record {
+      aim = aim-at is.found;
+      told =
+          subst (λ (w : World). IsTold w (recovery_after s r) lines) (sym (world-then is.found rows))
+          (done-told (flight_of s) s.jobs (turn_in is.found) held covered lines is.done);
+      placed = done-placed (flight_of s) s.jobs (turn_in is.found) held covered lines is.done;
+      named = done-named (flight_of s) s.jobs (turn_in is.found) held covered lines is.done count (named-at is.found count ready);
+    }
+
+    pub keeps-histories : (rows : List Row) → HeldState s → SoundState s → CoveredState s → KeptState s → Safe (step rows s (turn.Job id)).world
+        → KeepsHistories (step rows s (turn.Job id)).world r (recovery_after s r)
+    keeps-histories rows held sound covered kept safe = record {
+      promoted = λ n has.
+          subst (λ (w : World). All (λ x. Keeps w r.failed.0 x.exec n.0) (recovery_after s r).eligible) (sym (world-then is.found rows))
+          (done-promoted (flight_of s) s.jobs (turn_in is.found) held covered lines is.done n sound kept (subst Safe (world-then is.found rows) safe) has);
+      old = λ d has.
+          subst (λ (w : World). IsBeginning w r.failed.0 d.0) (sym (world-then is.found rows))
+          (done-old (flight_of s) s.jobs (turn_in is.found) held covered lines is.done d (subst Safe (world-then is.found rows) safe) has);
+    }
+
+    pub aim-began : (begun : ℕ → Recovery) → HeldState s → AimedState begun s → SameAim (begun id) (recovery_after s r)
+    aim-began begun held aimed = last-aim (flight_of s) s.jobs (turn_in is.found) held begun aimed

@@ -1,0 +1,104 @@
+-- The lost of a recovery have reasons, from its beginning on.
+use Rattle.std.proofs.Common.{◌≡◌, ◌∙◌, ℕ, Bool, true, List, [], ◌++◌, refl, sym, subst, Option, Some, None}
+use Rattle.std.specs.Prelude.{◌==◌, All}
+use Rattle.std.specs.Option.{option_map}
+use Rattle.std.proofs.lemmas.List.Elements.{All-nil, All-weaker}
+use Rattle.orch_base.specs.Memory.{next_count}
+use Rattle.orch_base.specs.declared.server.ServerNo.{ServerNo}
+use Rattle.commands.specs.declared.line.Lost.{Lost}
+use Rattle.instance_keeper.specs.Book.{BookState}
+use Rattle.instance_keeper.specs.declared.row.Row.{Row}
+use Rattle.job_laws.proofs.Lists.{All-find}
+use Rattle.jobs_in_flight.specs.Jobs.{job_at, jobs_turned}
+use Rattle.jobs_in_flight.proofs.Numbers.{found-number}
+use Rattle.operations.specs.Turns.{is_going}
+use Rattle.recovery_plans.specs.declared.outcome.LostReplica.{LostReplica}
+use Rattle.recovery_plans.specs.Recoveries.{Recovery}
+use Rattle.recovery_reasons.specs.Reasons.{AllLost, ExplainsTruly}
+use Rattle.scenarios.specs.Turns.{IsTurn}
+use Rattle.scenarios.specs.declared.scenario.Scenario.{Scenario}
+use Rattle.turns.specs.declared.turn.Turn.{Turn}
+use Rattle.turns.specs.declared.turn.Turn.TheVariants as turn
+use Rattle.unended_jobs.specs.declared.unended.Unended.{Unended}
+use Rattle.unended_jobs.specs.declared.unended.Unended.TheVariants as unended
+use Rattle.unended_jobs.specs.Unended.{IsReady, number_of}
+use Rattle.unended_jobs.proofs.Going.{flown-number}
+use Rattle.covered_laws.proofs.Turning.{all-turned}
+use Rattle.orch_core.specs.Commands.{jobs_updated}
+use Rattle.orch_core.specs.Jobs.{turn_of}
+use Rattle.orch_core.specs.Polls.{command_outcome, scan_outcome}
+use Rattle.orch_core.specs.Runs.{step}
+use Rattle.orch_core.specs.Scenarios.{start}
+use Rattle.orch_core.specs.States.{State}
+use Rattle.run_laws.specs.Ready.{Ready}
+use Rattle.run_laws.specs.Flights.{moment_at}
+use Rattle.run_laws.specs.States.{HeldState}
+use Rattle.recovery_runs.specs.Begun.{BeginsOnce}
+use Rattle.recovery_runs.specs.States.{SpeakingState}
+use Rattle.recovery_runs.proofs.Begun.{command-once, scan-once}
+use Rattle.recovery_runs.proofs.Joining.{command-joins, joined, scan-joins}
+use Rattle.recovery_runs.specs.Finishes.{recovery_after}
+use Rattle.recovery_runs.specs.Losses.{ExplainedState, ExplainsTurn, HasReasons}
+use Rattle.recovery_runs.proofs.Finishing.{losses-true}
+
+module _ (P : ServerNo → Lost → Bool) (id : ℕ) where
+  abbrev Explained : Unended → Type 0
+  Explained u = number_of u ≡ id → HasReasons P u
+
+  -- what begins has lost nothing yet
+  once-explained : (b : BookState) (u : Unended) → BeginsOnce b u → Explained u
+  once-explained b (unended.Plan j) once e = tt
+  once-explained b (unended.Recovery r entry) once e =
+      subst (λ (x : Recovery). AllLost P x.outcome.lost) (sym once.fresh) (All-nil (λ (l : LostReplica). P l.no l.why ≡ true))
+
+  with-begun : (s : State) (vs ws : List Unended) → ws ≡ s.jobs ++ vs → All (BeginsOnce s.book) vs → ExplainedState P id s → All Explained ws
+  with-begun s vs ws is once explained = joined Explained s.jobs vs ws is explained (All-weaker (BeginsOnce s.book) Explained (once-explained s.book) vs once)
+
+  pub last-explained : (s : State) (r : Recovery) (entry : Option ℕ) → job_at s.jobs id ≡ Some (unended.Recovery r entry) → HeldState s → SpeakingState s
+      → ExplainsTruly s.world s.book (moment_at s) r P → ExplainedState P id s → AllLost P (recovery_after s r).outcome.lost
+  last-explained s r entry found held speaking explains explained =
+      losses-true s id r entry found P held speaking explains
+      (All-find Explained (λ (k : Unended). number_of k == id) s.jobs (unended.Recovery r entry) explained found (found-number s.jobs id (unended.Recovery r entry) found))
+
+  -- ---- a job's turn
+
+  module _ (count : ℕ) (s : State) (job : ℕ) (ready : Ready count s) (held : HeldState s) (speaking : SpeakingState s) (explained : ExplainedState P id s)
+      (explains : job ≡ id → (r : Recovery) (entry : Option ℕ) → job_at s.jobs id ≡ Some (unended.Recovery r entry) → ExplainsTruly s.world s.book (moment_at s) r P) where
+    next-explained : (u : Unended) → job_at s.jobs job ≡ Some u → is_going (turn_of s u).step ≡ true → Explained (turn_of s u).next
+    next-explained (unended.Plan j) at going e = tt
+    next-explained (unended.Recovery r entry) at going e =
+        let u = unended.Recovery r entry in
+        let fits = All-find (IsReady count) (λ (k : Unended). number_of k == job) s.jobs u ready.jobs at in
+        let same : job ≡ id = sym (found-number s.jobs job u at) ∙ (sym (flown-number count s.world s.book (next_count s.reads) (moment_at s) u fits going) ∙ e) in
+        let found : job_at s.jobs id ≡ Some (unended.Recovery r entry) = subst (λ (n : ℕ). job_at s.jobs n ≡ Some (unended.Recovery r entry)) same at in
+        last-explained s r entry found held speaking (explains same r entry found) explained
+
+    turn-explained : (o : Option Unended) → job_at s.jobs job ≡ o → All Explained (jobs_turned s.jobs job (option_map (turn_of s) o))
+    turn-explained None at = explained
+    turn-explained (Some u) at = all-turned Explained Explained job (λ k apart h. h) s.jobs (turn_of s u) (next-explained u at) explained
+
+  -- ---- every turn
+
+  pub explained-step : (count : ℕ) (rows : List Row) (s : State) (t : Turn) → Ready count s → IsTurn count t → HeldState s → SpeakingState s → ExplainsTurn P id s t
+      → ExplainedState P id s → ExplainedState P id (step rows s t)
+  explained-step count rows s (turn.Write n size) ready is held speaking explains explained = explained
+  explained-step count rows s (turn.Fetch n) ready is held speaking explains explained = explained
+  explained-step count rows s (turn.Apply n) ready is held speaking explains explained = explained
+  explained-step count rows s (turn.Fail n) ready is held speaking explains explained = explained
+  explained-step count rows s (turn.Heal n) ready is held speaking explains explained = explained
+  explained-step count rows s (turn.Cut n link) ready is held speaking explains explained = explained
+  explained-step count rows s (turn.Join n link) ready is held speaking explains explained = explained
+  explained-step count rows s (turn.Rotate n) ready is held speaking explains explained = explained
+  explained-step count rows s (turn.Tick seconds) ready is held speaking explains explained = explained
+  explained-step count rows s (turn.PollRead p n) ready is held speaking explains explained = explained
+  explained-step count rows s (turn.PollStore p) ready is held speaking explains explained = explained
+  explained-step count rows s (turn.Job job) ready is held speaking explains explained =
+      turn-explained count s job ready held speaking explained explains (job_at s.jobs job) refl
+  explained-step count rows s turn.Scan ready is held speaking explains explained =
+      with-begun s (jobs_updated [] (scan_outcome s).book) (jobs_updated s.jobs (scan_outcome s).book) (scan-joins s) (scan-once count s ready) explained
+  explained-step count rows s (turn.Command c) ready is held speaking explains explained =
+      with-begun s (jobs_updated [] (command_outcome s c).book) (jobs_updated s.jobs (command_outcome s c).book) (command-joins s c) (command-once count s ready c is) explained
+  explained-step count rows s turn.Restart ready is held speaking explains explained = All-nil Explained
+
+  pub explained-start : (s : Scenario) (wait : ℕ) (rows : List Row) → ExplainedState P id (start s wait rows)
+  explained-start s wait rows = All-nil Explained

@@ -1,5 +1,0 @@
-use Rattle.recovery_runs.proofs.Tending.{began-comes}
-use Rattle.recovery_runs.proofs.laws.recoveries_began.Goals as goal
-
-pub returns : goal.returns
-returns c = λ s xs now comes id r entry at. began-comes s xs now comes id r entry at

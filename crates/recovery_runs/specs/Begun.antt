@@ -1,0 +1,55 @@
+-- The jobs that a turn begins.
+use Rattle.std.specs.Prelude.{◌≡◌, ℕ, Contains, List, [], Option}
+use Rattle.book_views.specs.Sources.{replicas_of}
+use Rattle.instance_keeper.specs.Book.{BookState}
+use Rattle.orch_core.specs.Commands.{jobs_updated}
+use Rattle.orch_core.specs.Polls.{command_outcome, scan_outcome}
+use Rattle.orch_core.specs.States.{State}
+use Rattle.recovery_core.specs.Begun.{IsFresh}
+use Rattle.recovery_covers.specs.Covers.{AreReplicas}
+use Rattle.recovery_histories.specs.Kept.{SameAim}
+use Rattle.recovery_plans.specs.Recoveries.{Recovery}
+use Rattle.turns.specs.declared.turn.Turn.{Turn}
+use Rattle.turns.specs.declared.turn.Turn.TheVariants as turn
+use Rattle.unended_jobs.specs.declared.unended.Unended.{Unended}
+use Rattle.unended_jobs.specs.declared.unended.Unended.TheVariants as unended
+
+-- a command begins one at most, and a scan a recovery for each try that isn't refused
+abbrev pub jobs_begun : State → Turn → List Unended
+jobs_begun s (turn.Command c) = jobs_updated [] (command_outcome s c).book
+jobs_begun s turn.Scan = jobs_updated [] (scan_outcome s).book
+jobs_begun s (turn.Write n size) = []
+jobs_begun s (turn.Fetch n) = []
+jobs_begun s (turn.Apply n) = []
+jobs_begun s (turn.Fail n) = []
+jobs_begun s (turn.Heal n) = []
+jobs_begun s (turn.Cut n link) = []
+jobs_begun s (turn.Join n link) = []
+jobs_begun s (turn.Rotate n) = []
+jobs_begun s (turn.Tick seconds) = []
+jobs_begun s (turn.Job job) = []
+jobs_begun s (turn.PollRead p n) = []
+jobs_begun s (turn.PollStore p) = []
+jobs_begun s turn.Restart = []
+
+-- a recovery as it begins, of the replicas that the book has of the failed server, which names none twice
+pub record IsBegunOnce (b : BookState) (r : Recovery) : Type 0 where
+  pub fresh : IsFresh r
+  pub replicas : r.replicas ≡ replicas_of b r.failed
+  pub once : AreReplicas r.purpose r.failed r.replicas
+
+-- so a job begins
+abbrev pub BeginsOnce : BookState → Unended → Type 0
+BeginsOnce b (unended.Plan j) = Unit {0}
+BeginsOnce b (unended.Recovery r entry) = IsBegunOnce b r
+
+-- a recovery was one of these, with its number and its entry, and is about whom it was about
+pub record WasAmong (us : List Unended) (r : Recovery) (entry : Option ℕ) : Type 0 where
+  pub was : Recovery
+  pub among : Contains us (unended.Recovery was entry)
+  pub number : r.core.id ≡ was.core.id
+  pub aim : SameAim was r
+
+abbrev pub ComesOf : List Unended → Unended → Type 0
+ComesOf us (unended.Plan j) = Unit {0}
+ComesOf us (unended.Recovery r entry) = WasAmong us r entry

@@ -1,0 +1,85 @@
+-- What the turn in which a recovery is done leaves, and for what its replicas were lost.
+use Rattle.std.specs.Prelude.{◌≡◌, ℕ, Bool, Contains, List, Option, Some}
+use Rattle.std.specs.Option.{option_map}
+use Rattle.audit_log.specs.Audits.{recovery_at}
+use Rattle.commands.specs.declared.line.Line.{Line}
+use Rattle.commands.specs.declared.line.Lost.{Lost}
+use Rattle.instance_keeper.specs.declared.recovery.Recovery.{Recovery as KeptRecovery}
+use Rattle.instance_keeper.specs.declared.row.Change.TheVariants as change
+use Rattle.instance_keeper.specs.declared.row.Row.{Row}
+use Rattle.instance_keeper.specs.declared.row.Row.TheVariants as row
+use Rattle.jobs_in_flight.specs.Jobs.{job_at}
+use Rattle.orch_base.specs.declared.server.ServerNo.{ServerNo}
+use Rattle.orch_core.specs.Polls.{changes_of}
+use Rattle.orch_core.specs.Replies.{reply_of}
+use Rattle.orch_core.specs.Runs.{step}
+use Rattle.orch_core.specs.Scenarios.{start}
+use Rattle.orch_core.specs.States.{State}
+use Rattle.recovery_histories.specs.Kept.{SameAim}
+use Rattle.recovery_plans.specs.Recoveries.{Recovery}
+use Rattle.recovery_reasons.specs.Reasons.{AllLost, ExplainsTruly}
+use Rattle.scenarios.specs.declared.scenario.Scenario.{Scenario}
+use Rattle.scenarios.specs.Turns.{IsTurn}
+use Rattle.server_model.specs.Safe.{Safe}
+use Rattle.turns.specs.declared.turn.Reply.TheVariants as answered
+use Rattle.turns.specs.declared.turn.Turn.{Turn}
+use Rattle.turns.specs.declared.turn.Turn.TheVariants as turn
+use Rattle.unended_jobs.specs.declared.unended.Unended.TheVariants as unended
+use Rattle.run_laws.specs.Flights.{moment_at}
+use Rattle.run_laws.specs.Ready.{Ready}
+use Rattle.run_laws.specs.States.{HeldState, SoundState}
+use Rattle.recovery_runs.specs.Finishes.{IsFinish, KeepsHistories, OwesNothing, finished_so, recovery_after}
+use Rattle.recovery_runs.specs.Losses.{ExplainedState, ExplainsTurn}
+use Rattle.recovery_runs.specs.States.{AimedState, CoveredState, KeptState, SpeakingState}
+
+-- ---- the turn
+
+-- it answers the recovery's lines
+abbrev pub FinishedTellLines : Type 0
+FinishedTellLines = (s : State) (id : ℕ) (r : Recovery) (entry : Option ℕ) (lines : List Line) → IsFinish s id r entry lines → reply_of s (turn.Job id) ≡ answered.Told lines
+
+-- it leaves nothing owed to the replicas
+abbrev pub FinishedOweNothing : Type 0
+FinishedOweNothing = (count : ℕ) (rows : List Row) (s : State) (id : ℕ) (r : Recovery) (entry : Option ℕ) (lines : List Line) → Ready count s → HeldState s → CoveredState s → IsFinish s id r entry lines
+    → OwesNothing count (step rows s (turn.Job id)).world r (recovery_after s r) lines
+
+-- where the servers are safe afterwards, histories are kept
+abbrev pub FinishedKeepHistories : Type 0
+FinishedKeepHistories = (rows : List Row) (s : State) (id : ℕ) (r : Recovery) (entry : Option ℕ) (lines : List Line) → HeldState s → SoundState s → CoveredState s → KeptState s → IsFinish s id r entry lines
+    → Safe (step rows s (turn.Job id)).world → KeepsHistories (step rows s (turn.Job id)).world r (recovery_after s r)
+
+-- the recovery is about what it began with
+abbrev pub FinishedKeepAims : Type 0
+FinishedKeepAims = (begun : ℕ → Recovery) (s : State) (id : ℕ) (r : Recovery) (entry : Option ℕ) (lines : List Line) → HeldState s → AimedState begun s → IsFinish s id r entry lines
+    → SameAim (begun id) (recovery_after s r)
+
+-- ---- its entry
+
+-- it ends with the server that was promoted, at the moment of the turn
+abbrev pub FinishedEndEntries : Type 0
+FinishedEndEntries = (rows : List Row) (s : State) (id e : ℕ) (r : Recovery) (lines : List Line) (n : ServerNo) → IsFinish s id r (Some e) lines → (recovery_after s r).outcome.promoted ≡ Some n
+    → recovery_at (step rows s (turn.Job id)).audit e ≡ option_map (finished_so (moment_at s) r.purpose n) (recovery_at s.audit e)
+
+-- and is kept so
+abbrev pub FinishedKeepEntries : Type 0
+FinishedKeepEntries = (had : List Row) (s : State) (id e : ℕ) (r : Recovery) (lines : List Line) (n : ServerNo) (k : KeptRecovery) → IsFinish s id r (Some e) lines → (recovery_after s r).outcome.promoted ≡ Some n
+    → recovery_at s.audit e ≡ Some k → Contains (changes_of had s (turn.Job id)) (change.Put (row.Recovery (finished_so (moment_at s) r.purpose n k)))
+
+-- ---- the lost
+
+-- where each reason that is true in a turn counts, and each of those lost before it has one that counts, so has each
+-- after it
+abbrev pub LossesAreTrue : Type 0
+LossesAreTrue = (s : State) (id : ℕ) (r : Recovery) (entry : Option ℕ) (P : ServerNo → Lost → Bool) → job_at s.jobs id ≡ Some (unended.Recovery r entry) → HeldState s → SpeakingState s
+    → ExplainsTruly s.world s.book (moment_at s) r P → AllLost P r.outcome.lost → AllLost P (recovery_after s r).outcome.lost
+
+abbrev pub OpeningsAreExplained : Type 0
+OpeningsAreExplained = (P : ServerNo → Lost → Bool) (id : ℕ) (s : Scenario) (wait : ℕ) (rows : List Row) → ExplainedState P id (start s wait rows)
+
+abbrev pub TurnsStayExplained : Type 0
+TurnsStayExplained = (P : ServerNo → Lost → Bool) (id count : ℕ) (rows : List Row) (s : State) (t : Turn) → Ready count s → IsTurn count t → HeldState s → SpeakingState s → ExplainsTurn P id s t
+    → ExplainedState P id s → ExplainedState P id (step rows s t)
+
+abbrev pub LastLossesAreTrue : Type 0
+LastLossesAreTrue = (P : ServerNo → Lost → Bool) (s : State) (id : ℕ) (r : Recovery) (entry : Option ℕ) → job_at s.jobs id ≡ Some (unended.Recovery r entry) → HeldState s → SpeakingState s
+    → ExplainsTruly s.world s.book (moment_at s) r P → ExplainedState P id s → AllLost P (recovery_after s r).outcome.lost

@@ -1,0 +1,42 @@
+-- That the lost of a recovery have reasons, from its beginning on.
+use Rattle.std.specs.Prelude.{◌≡◌, ℕ, Bool, All, Option, Some}
+use Rattle.orch_base.specs.declared.server.ServerNo.{ServerNo}
+use Rattle.commands.specs.declared.line.Lost.{Lost}
+use Rattle.run_laws.specs.Flights.{moment_at}
+use Rattle.jobs_in_flight.specs.Jobs.{job_at}
+use Rattle.orch_core.specs.States.{State}
+use Rattle.recovery_plans.specs.Recoveries.{Recovery}
+use Rattle.recovery_reasons.specs.Reasons.{AllLost, ExplainsTruly}
+use Rattle.turns.specs.declared.turn.Turn.{Turn}
+use Rattle.turns.specs.declared.turn.Turn.TheVariants as turn
+use Rattle.unended_jobs.specs.declared.unended.Unended.{Unended}
+use Rattle.unended_jobs.specs.declared.unended.Unended.TheVariants as unended
+use Rattle.unended_jobs.specs.Unended.{number_of}
+
+-- each of the lost of a recovery has a reason that counts
+abbrev pub HasReasons : (ServerNo → Lost → Bool) → Unended → Type 0
+HasReasons P (unended.Plan j) = Unit {0}
+HasReasons P (unended.Recovery r entry) = AllLost P r.outcome.lost
+
+-- of the job of this number
+abbrev pub ExplainedState : (ServerNo → Lost → Bool) → ℕ → State → Type 0
+ExplainedState P id s = All (λ u. number_of u ≡ id → HasReasons P u) s.jobs
+
+-- each reason that is true in the turn of that job counts
+abbrev pub ExplainsTurn : (ServerNo → Lost → Bool) → ℕ → State → Turn → Type 0
+ExplainsTurn P id s (turn.Job job) =
+    job ≡ id → (r : Recovery) (entry : Option ℕ) → job_at s.jobs id ≡ Some (unended.Recovery r entry) → ExplainsTruly s.world s.book (moment_at s) r P
+ExplainsTurn P id s (turn.Write n size) = Unit {0}
+ExplainsTurn P id s (turn.Fetch n) = Unit {0}
+ExplainsTurn P id s (turn.Apply n) = Unit {0}
+ExplainsTurn P id s (turn.Fail n) = Unit {0}
+ExplainsTurn P id s (turn.Heal n) = Unit {0}
+ExplainsTurn P id s (turn.Cut n link) = Unit {0}
+ExplainsTurn P id s (turn.Join n link) = Unit {0}
+ExplainsTurn P id s (turn.Rotate n) = Unit {0}
+ExplainsTurn P id s (turn.Tick seconds) = Unit {0}
+ExplainsTurn P id s turn.Scan = Unit {0}
+ExplainsTurn P id s (turn.PollRead p n) = Unit {0}
+ExplainsTurn P id s (turn.PollStore p) = Unit {0}
+ExplainsTurn P id s (turn.Command c) = Unit {0}
+ExplainsTurn P id s turn.Restart = Unit {0}

@@ -1,0 +1,355 @@
+-- Kept rows follow the audit of a run.
+use Rattle.std.proofs.Common.{◌≡◌, ◌∙◌, ℕ, ◌+◌, ◌<◌, ◌≤◌, ◌^◌, Bool, true, false, List, [], ◌∷◌, ◌++◌, length, refl, sym, subst, Option, Some, None, Result, Ok, Err, arith}
+use Rattle.std.specs.Prelude.{All, IfSome, nat_lt, if◌then◌else◌}
+use Rattle.std.specs.Option.{option_map, option_to_list}
+use Rattle.std.proofs.lemmas.Bool.{ltb-true}
+use Rattle.std.proofs.lemmas.List.Elements.{All-cons, All-head, All-nil, All-tail}
+use Rattle.std.proofs.lemmas.List.Sums.{fold-append}
+use Rattle.audit_log.specs.Audits.{AuditState, begun as begun_with, closed}
+use Rattle.book_commands.specs.declared.decided.Decided.{Decided}
+use Rattle.book_commands.specs.declared.decided.Effect.{Effect}
+use Rattle.book_commands.specs.declared.decided.Effect.TheVariants as effect
+use Rattle.book_commands.specs.Decisions.{audit_after as audit_decided, decided_of, rows_of}
+use Rattle.orch_base.specs.Memory.{next_count}
+use Rattle.orch_base.specs.declared.server.Moment.{Moment}
+use Rattle.orch_base.specs.declared.server.ServerNo.{ServerNo}
+use Rattle.server_words.specs.declared.status.Status.{Status as Seen}
+use Rattle.instance_keeper.specs.Book.{BookState, IsBook, are_known, discovery_change, first_seen, fits, instance_at, observed_servers, renewed, seen_servers, store_change}
+use Rattle.instance_keeper.specs.Ranges.{IsInRange}
+use Rattle.instance_keeper.specs.Rows.{changed, changed_by, IsRising}
+use Rattle.instance_keeper.specs.Same.{same_instance}
+use Rattle.instance_keeper.specs.declared.observation.Instance.{Instance}
+use Rattle.instance_keeper.specs.declared.observation.Observation.{Observation}
+use Rattle.instance_keeper.specs.declared.row.Change.{Change}
+use Rattle.instance_keeper.specs.declared.row.Change.TheVariants as change
+use Rattle.instance_keeper.specs.declared.row.Row.{Row}
+use Rattle.instance_keeper.specs.declared.row.Row.TheVariants as row
+use Rattle.opening_book.specs.Following.{Follow, FollowAudit}
+use Rattle.opening_book.specs.Opening.{interrupting, missing_from, put_recovery, registering_from}
+use Rattle.opening_book.proofs.Recoveries.{FollowAudit-acknowledged, FollowAudit-book, FollowAudit-closed, FollowAudit-loaded, FollowAudit-opened}
+use Rattle.opening_book.specs.Audits.{audit_of}
+use Rattle.opening_book.specs.Counting.{counted}
+use Rattle.commands.specs.declared.line.Line.{Line}
+use Rattle.commands.specs.declared.refusal.Refusal.{Refusal}
+use Rattle.commands.specs.declared.refusal.Refusal.TheVariants.{UnknownInstance}
+use Rattle.commands.specs.declared.turn.CommandTurn.{CommandTurn}
+use Rattle.commands.specs.Turns.{is_within}
+use Rattle.command_routes.specs.declared.route.Planner.{Planner}
+use Rattle.command_routes.specs.declared.route.Route.{Route}
+use Rattle.command_routes.specs.declared.route.Route.TheVariants.{Discovers, Forgets, Asks, Decides, Begins, Recovers, TakesOver}
+use Rattle.command_routes.specs.Routes.{route_of}
+use Rattle.command_jobs.specs.Jobs.{job_by, leases_by, refusal_by}
+use Rattle.asking_commands.specs.Answers.{allowed, lines_of, permitted}
+use Rattle.jobs_in_flight.specs.Jobs.{job_at, job_observation}
+use Rattle.job_laws.proofs.Lists.{All-at}
+use Rattle.run_laws.proofs.Readiness.{job-sees}
+use Rattle.unended_jobs.specs.declared.unended.Unended.{Unended}
+use Rattle.operations.specs.Turns.{observed}
+use Rattle.turns.specs.declared.turn.Turn.{Turn}
+use Rattle.turns.specs.declared.turn.Turn.TheVariants as turn
+use Rattle.scenarios.specs.declared.scenario.Scenario.{Scenario}
+use Rattle.scenarios.specs.Scenarios.{IsScenario}
+use Rattle.scenarios.specs.Turns.{IsCommand, IsTurn}
+use Rattle.orch_core.specs.Closings.{closed_by, closing_changes, closing_of}
+use Rattle.orch_core.specs.Commands.{Outcome, about as given_or, asked, audit_updated, begun, by_hand, decided, discovered, entries_put, forgotten, next_reading, outcome_by, outcome_of, question, recovered, recovery_begun, refusal, removal, removal_refusal, taken_over}
+use Rattle.recovery_core.specs.Begun.{audit_after}
+use Rattle.recovery_core.specs.Tries.{Begins as RecoveryBegins, recovery_begins, takeover_begins, unless_refused}
+use Rattle.recovery_permits.specs.Recoveries.{recovery_refusal}
+use Rattle.recovery_permits.specs.Takeovers.{takeover_refusal}
+use Rattle.orch_core.specs.Jobs.{turn_of, turned_at}
+use Rattle.orch_core.specs.Polls.{changes_by, changes_of, command_outcome, numbers_of, slot_at}
+use Rattle.orch_core.specs.Restarts.{interrupted_at, last_given, reloaded_audit, restart_changes}
+use Rattle.orch_core.specs.Runs.{Held, engine, held_run, held_step, step}
+use Rattle.orch_core.specs.Scenarios.{loaded_audit, loaded_book, start, start_changes, start_moment, start_world}
+use Rattle.orch_core.specs.States.{State, IsSlot, IsState}
+use Rattle.orch_core.proofs.Outcomes.{IsEffectFor, decided-effect}
+use Rattle.orch_core.proofs.Servers.{servers-start}
+use Rattle.orch_core.proofs.Starts.{all-missing, all-registering, sources-start}
+use Rattle.orch_core.proofs.States.{one_known}
+use Rattle.run_laws.specs.Begins.{BeginApartInTurn, entries_of}
+use Rattle.run_laws.proofs.Ready.{observed-known, put-kept, settings-count}
+use Rattle.run_laws.proofs.Readiness.{Ready-start, Ready-step}
+use Rattle.run_laws.specs.Ready.{Ready}
+use Rattle.run_laws.proofs.Beginnings.{next-after, turn-apart}
+use Rattle.run_laws.proofs.Closings.{follow-end, turned-ends}
+use Rattle.run_laws.proofs.Counting.{next-goes-on}
+use Rattle.run_laws.proofs.Entering.{follow-entry}
+use Rattle.run_laws.proofs.Follows.{Follow-start, Follow-turn, ready-of, reading-known, within-given}
+use Rattle.run_laws.specs.Entries.{recoveries_begun}
+use Rattle.run_laws.specs.Flights.{moment_at}
+
+-- ---- changes of the book's rows
+
+-- the book takes the change, and its key is in its type's range
+abbrev IsBooked : ℕ → Change → Type 0
+IsBooked count c = (fits count c ≡ true) × IsInRange c
+
+booked-follow : (count : ℕ) (rows : List Row) (a : AuditState) (cs : List Change) → count ≤ 2 ^ 32 → All (IsBooked count) cs → FollowAudit count rows a → FollowAudit count (changed rows cs) a
+booked-follow count rows a [] few all follow = follow
+booked-follow count rows a (c ∷ cs) few all follow =
+    let here = All-head (IsBooked count) c cs all in
+    booked-follow count (changed_by rows c) a cs few (All-tail (IsBooked count) c cs all) (FollowAudit-book count rows a c few follow here.0 here.1)
+
+one-booked : (count : ℕ) (c : Change) → IsBooked count c → All (IsBooked count) (c ∷ [])
+one-booked count c is = All-cons (IsBooked count) c [] is (All-nil (IsBooked count))
+
+-- a reading of servers that the book knows
+module _ (b : BookState) (o : Observation) (is : IsBook b) (known : are_known (length b.names) (observed_servers o) ≡ true) where
+  stored-booked : (x : Option Instance) → instance_at b o.no ≡ x → All (IsBooked (length b.names)) (option_to_list (store_change x o))
+  stored-booked None at = All-nil (IsBooked (length b.names))
+  stored-booked (Some kept) at = go (nat_lt o.read kept.read) (same_instance kept (renewed kept o))
+    where
+      go : (old same : Bool) → All (IsBooked (length b.names)) (option_to_list (if old then None else (if same then None else Some (change.Put (row.Instance (renewed kept o))))))
+      go true same = All-nil (IsBooked (length b.names))
+      go false true = All-nil (IsBooked (length b.names))
+      go false false = one-booked (length b.names) (change.Put (row.Instance (renewed kept o))) (put-kept b o is known kept at, tt)
+
+  discovery-booked : (seen : Seen) → o.seen ≡ Some seen → (x : Option Instance) → instance_at b o.no ≡ x → All (IsBooked (length b.names)) (option_to_list (discovery_change x o seen))
+  discovery-booked seen at None lacks =
+      one-booked (length b.names) (change.Put (row.Instance (first_seen o seen))) (subst (λ (x : Option Seen). are_known (length b.names) (o.no.0 ∷ seen_servers x) ≡ true) at known, tt)
+  discovery-booked seen at (Some kept) there = stored-booked (Some kept) there
+
+slot-booked : (b : BookState) (slot : Option Observation) → IsBook b → IfSome slot (λ o. are_known (length b.names) (observed_servers o) ≡ true) → All (IsBooked (length b.names)) (changes_by b slot)
+slot-booked b None is known = All-nil (IsBooked (length b.names))
+slot-booked b (Some o) is known = stored-booked b o is known (instance_at b o.no) refl
+
+-- what a job observed, whichever server it read
+observed-booked : (count : ℕ) (s : State) (read : ℕ) (now : Moment) (o : Option Observation) → Ready count s → ((x : Observation) → o ≡ Some x → (n : ServerNo) × (x ≡ observed s.world read now n))
+    → All (IsBooked (length s.book.names)) (changes_by s.book o)
+observed-booked count s read now None ready is = All-nil (IsBooked (length s.book.names))
+observed-booked count s read now (Some x) ready is =
+    let same = (is x refl).1 in
+    subst (λ (y : Observation). All (IsBooked (length s.book.names)) (changes_by s.book (Some y))) (sym same) (go (is x refl).0 (instance_at s.book (is x refl).0) refl)
+  where
+    go : (n : ServerNo) (k : Option Instance) → instance_at s.book n ≡ k → All (IsBooked (length s.book.names)) (option_to_list (store_change k (observed s.world read now n)))
+    go n None at = All-nil (IsBooked (length s.book.names))
+    go n (Some kept) at = stored-booked s.book (observed s.world read now n) ready.book (observed-known count s ready n read now kept at) (Some kept) at
+
+job-booked : (count : ℕ) (s : State) (id : ℕ) (o : Option Unended) → job_at s.jobs id ≡ o → Ready count s → All (IsBooked (length s.book.names)) (changes_by s.book (job_observation (option_map (turn_of s) o)))
+job-booked count s id None at ready = All-nil (IsBooked (length s.book.names))
+job-booked count s id (Some u) at ready = observed-booked count s (next_count s.reads) (moment_at s) (turn_of s u).observation ready (job-sees count s id u ready at)
+
+-- ---- recoveries that begin
+
+follow-begins : (count block : ℕ) (now : Moment) (rows : List Row) (a : AuditState) (xs : List RecoveryBegins) → BeginApartInTurn block now a (entries_of xs) → (audit_after a xs).next ≤ 2 ^ 64
+    → FollowAudit count rows a → FollowAudit count (changed rows (entries_put xs)) (audit_after a xs)
+follow-begins count block now rows a [] each most follow = follow
+follow-begins count block now rows a (x ∷ xs) each most follow =
+    let on = next-after block now (begun_with a x.entry) xs each.1 in
+    follow-begins count block now (changed_by rows (put_recovery x.entry)) (begun_with a x.entry) xs each.1 most
+    (follow-entry count rows a x.entry each.0.number follow (omega (arith, on, most)))
+
+-- ---- a command
+
+-- the kept rows follow the audit that an outcome leaves
+abbrev FollowsOutcome : ℕ → List Row → AuditState → Outcome → Type 0
+FollowsOutcome count rows a o = FollowAudit count (changed rows o.rows) (audit_updated a o.book)
+
+module _ (count : ℕ) (few : count < 2 ^ 32) (rows : List Row) (a : AuditState) (b : BookState) (reads : ℕ) (is : IsBook b) (names : length b.names ≡ count) (follow : FollowAudit count rows a) where
+  follow-all : (cs : List Change) → All (IsBooked (length b.names)) cs → FollowAudit count (changed rows cs) a
+  follow-all cs all = booked-follow count rows a cs (omega (arith, few)) (subst (λ (n : ℕ). All (IsBooked n) cs) names all) follow
+
+  follow-asked : (p : Result Unit Refusal) (lines : List Line) → FollowsOutcome count rows a (asked reads p lines)
+  follow-asked (Ok permit) lines = follow
+  follow-asked (Err r) lines = follow
+
+  follow-forgotten : (p : Result Unit Refusal) (i : ServerNo) → nat_lt i.0 (length b.names) ≡ true → FollowsOutcome count rows a (forgotten reads p i)
+  follow-forgotten (Ok permit) i known =
+      let within = ltb-true i.0 (length b.names) known in
+      follow-all (removal i ∷ []) (one-booked (length b.names) (removal i) (one_known (length b.names) i.0 within, omega (arith, within, few, names)))
+  follow-forgotten (Err r) i known = follow
+
+  follow-discovered : (o : Observation) → are_known (length b.names) (observed_servers o) ≡ true → (x : Option Seen) → o.seen ≡ x → FollowsOutcome count rows a (discovered b reads o x)
+  follow-discovered o known None at = follow
+  follow-discovered o known (Some seen) at = follow-all (option_to_list (discovery_change (instance_at b o.no) o seen)) (discovery-booked b o is known seen at (instance_at b o.no) refl)
+
+  follow-effect : (e : Effect) → IsEffectFor (length b.names) e → FollowAudit count (changed rows (rows_of a e)) (audit_decided a e)
+  follow-effect effect.Stays fits = follow
+  follow-effect (effect.Change c) fits = follow-all (c ∷ []) (one-booked (length b.names) c fits)
+  follow-effect (effect.Acks cluster) fits = FollowAudit-acknowledged count rows a cluster follow
+
+  follow-decided : (p : Result Unit Refusal) (d : Decided) → IsEffectFor (length b.names) d.effect → FollowsOutcome count rows a (decided reads a p d)
+  follow-decided (Ok permit) d fits = follow-effect d.effect fits
+  follow-decided (Err r) d fits = follow
+
+  -- a recovery that begins, where nothing refuses it
+  follow-try : (s : State) (o : Option Refusal) (x : RecoveryBegins) → x.entry.id ≡ a.next → (audit_updated a (recovery_begun (numbers_of s) (unless_refused o x)).book).next ≤ 2 ^ 64
+      → FollowsOutcome count rows a (recovery_begun (numbers_of s) (unless_refused o x))
+  follow-try s None x next most = follow-entry count rows a x.entry next follow most
+  follow-try s (Some why) x next most = follow
+
+follow-command : (rows : List Row) (count : ℕ) (s : State) (c : CommandTurn) → Ready count s → (audit_updated s.audit (command_outcome s c).book).next ≤ 2 ^ 64 → IsCommand count c → FollowAudit count rows s.audit
+    → FollowAudit count (changed rows (command_outcome s c).rows) (audit_updated s.audit (command_outcome s c).book)
+unfolding outcome_of
+follow-command rows count s c ready most command follow = by (route_of c.command.name) most
+  where
+    few : count < 2 ^ 32
+    few = subst (λ (n : ℕ). n < 2 ^ 32) ready.names ready.book.small
+
+    asks : FollowsOutcome count rows s.audit (question s.book s.audit s.reads c)
+    asks = follow-asked count few rows s.audit s.book s.reads ready.book ready.names follow (permitted s.book c.command) (lines_of s.book s.audit.recoveries c c.command.name)
+
+    given : (some : ServerNo → Outcome) → ((i : ServerNo) → nat_lt i.0 (length s.book.names) ≡ true → FollowsOutcome count rows s.audit (some i)) → (i : Option ServerNo) → is_within (length s.book.names) i ≡ true
+        → FollowsOutcome count rows s.audit (given_or (question s.book s.audit s.reads c) some i)
+    given some each None within = asks
+    given some each (Some i) within = each i within
+
+    begins : (p : Planner) (r : Option Refusal) → FollowsOutcome count rows s.audit (begun (numbers_of s) r (leases_by s.world s.book c.command p) (job_by s.world s.book c.command p (s.last_job + 1) s.configuration.wait))
+    begins p (Some why) = follow
+    begins p None = follow
+
+    recovers : (i : Option ServerNo) → (audit_updated s.audit (given_or (refusal s.reads UnknownInstance) (recovered s.world s.book s.audit (numbers_of s)) i).book).next ≤ 2 ^ 64
+        → FollowsOutcome count rows s.audit (given_or (refusal s.reads UnknownInstance) (recovered s.world s.book s.audit (numbers_of s)) i)
+    recovers None most = follow
+    recovers (Some i) most =
+        follow-try count few rows s.audit s.book s.reads ready.book ready.names follow s (recovery_refusal s.world s.book s.audit (by_hand (numbers_of s)) i)
+        (recovery_begins s.book s.audit (moment_at s) s.configuration.wait (s.last_job + 1) i) refl most
+
+    takes : (i : ServerNo) (d : Option ServerNo) → (audit_updated s.audit (taken_over s.world s.book s.audit (numbers_of s) d i).book).next ≤ 2 ^ 64
+        → FollowsOutcome count rows s.audit (taken_over s.world s.book s.audit (numbers_of s) d i)
+    takes i None most = follow
+    takes i (Some d) most =
+        follow-try count few rows s.audit s.book s.reads ready.book ready.names follow s (takeover_refusal s.world s.book s.audit (by_hand (numbers_of s)) i d)
+        (takeover_begins s.book s.audit (moment_at s) s.configuration.wait (s.last_job + 1) i d) refl most
+
+    takes-over : (i d : Option ServerNo) → (audit_updated s.audit (given_or (refusal s.reads UnknownInstance) (taken_over s.world s.book s.audit (numbers_of s) d) i).book).next ≤ 2 ^ 64
+        → FollowsOutcome count rows s.audit (given_or (refusal s.reads UnknownInstance) (taken_over s.world s.book s.audit (numbers_of s) d) i)
+    takes-over None d most = follow
+    takes-over (Some i) d most = takes i d most
+
+    by : (r : Route) → (audit_updated s.audit (outcome_by s.world s.book s.audit (numbers_of s) c r).book).next ≤ 2 ^ 64 → FollowsOutcome count rows s.audit (outcome_by s.world s.book s.audit (numbers_of s) c r)
+    by Discovers most =
+        given (λ i. discovered s.book s.reads (next_reading s.world (numbers_of s) i) (next_reading s.world (numbers_of s) i).seen)
+        (λ i h. follow-discovered count few rows s.audit s.book s.reads ready.book ready.names follow (next_reading s.world (numbers_of s) i) (reading-known count s i ready (ltb-true i.0 (length s.book.names) h)) (next_reading s.world (numbers_of s) i).seen refl)
+        c.command.i (within-given count s c ready command)
+    by Forgets most =
+        given (forgotten s.reads (allowed (removal_refusal s.book c.command))) (follow-forgotten count few rows s.audit s.book s.reads ready.book ready.names follow (allowed (removal_refusal s.book c.command)))
+        c.command.i (within-given count s c ready command)
+    by (Asks q) most = asks
+    by (Decides d) most =
+        follow-decided count few rows s.audit s.book s.reads ready.book ready.names follow (permitted s.book c.command) (decided_of s.book s.audit (moment_at s) c.keys c.command.i d)
+        (decided-effect s.book (length s.book.names) ready.book.small s.audit (moment_at s) c.keys c.command.i d (within-given count s c ready command))
+    by (Begins p) most = begins p (refusal_by s.world s.book (moment_at s) c.command p)
+    by Recovers most = recovers c.command.i most
+    by TakesOver most = takes-over c.command.i c.command.d most
+
+-- ---- every turn
+
+settings-are : (count : ℕ) (s : State) → Ready count s → length s.book.settings ≡ count
+settings-are count s ready = settings-count s.book ready.book ∙ ready.names
+
+follow-restart : (count : ℕ) (rows : List Row) (s : State) → Ready count s → IsRising rows → FollowAudit count rows s.audit → FollowAudit count (changed rows (restart_changes rows s)) (closed (reloaded_audit rows s) (interrupted_at rows s))
+follow-restart count rows s ready rising follow =
+    let few = ready.book.small in
+    let names = ready.names in
+    let loads = FollowAudit-loaded count s.audit.next rows (omega (arith, few, names)) follow.audit.first follow.small rising in
+    FollowAudit-closed count rows (reloaded_audit rows s) (interrupted_at rows s)
+    (subst (λ (n : ℕ). FollowAudit count rows (audit_of s.audit.next (counted n (last_given s) rows))) (sym (settings-are count s ready)) loads)
+
+-- a job's turn: what it observed, and the entry that ends
+follow-job : (count : ℕ) (rows : List Row) (s : State) (id : ℕ) → Ready count s → FollowAudit count rows s.audit
+    → FollowAudit count (changed rows (changes_by s.book (job_observation (turned_at s id)) ++ closing_changes s.audit (moment_at s) (closing_of (turned_at s id)))) (closed_by s.audit (moment_at s) (closing_of (turned_at s id)))
+follow-job count rows s id is follow =
+    let small = is.book.small in
+    let names = is.names in
+    let cs = changes_by s.book (job_observation (turned_at s id)) in
+    let booked = booked-follow count rows s.audit cs (omega (arith, small, names)) (subst (λ (n : ℕ). All (IsBooked n) cs) is.names (job-booked count s id (job_at s.jobs id) refl is)) follow in
+    subst (λ (xs : List Row). FollowAudit count xs (closed_by s.audit (moment_at s) (closing_of (turned_at s id)))) (sym (fold-append changed_by rows cs (closing_changes s.audit (moment_at s) (closing_of (turned_at s id)))))
+    (turned-ends count s id (λ a ds. FollowAudit count (changed (changed rows cs) ds) a) booked (λ entry e acked closes there. follow-end (moment_at s) entry e count (changed rows cs) s.audit acked booked))
+
+pub follow-turn : (count : ℕ) (rows : List Row) (s : State) (t : Turn) → Ready count s → IsTurn count t → IsRising rows → (step rows s t).audit.next ≤ 2 ^ 64 → FollowAudit count rows s.audit
+    → FollowAudit count (changed rows (changes_of rows s t)) (step rows s t).audit
+follow-turn count rows s (turn.Write n size) is within rising most follow = follow
+follow-turn count rows s (turn.Fetch n) is within rising most follow = follow
+follow-turn count rows s (turn.Apply n) is within rising most follow = follow
+follow-turn count rows s (turn.Fail n) is within rising most follow = follow
+follow-turn count rows s (turn.Heal n) is within rising most follow = follow
+follow-turn count rows s (turn.Cut n link) is within rising most follow = follow
+follow-turn count rows s (turn.Join n link) is within rising most follow = follow
+follow-turn count rows s (turn.Rotate n) is within rising most follow = follow
+follow-turn count rows s (turn.Tick seconds) is within rising most follow = follow
+follow-turn count rows s (turn.Job job) is within rising most follow = follow-job count rows s job is follow
+follow-turn count rows s turn.Scan is within rising most follow =
+    follow-begins count s.configuration.block (moment_at s) rows s.audit (recoveries_begun s turn.Scan) (turn-apart s turn.Scan) most follow
+follow-turn count rows s (turn.PollRead p n) is within rising most follow = follow
+follow-turn count rows s (turn.PollStore p) is within rising most follow =
+    let known : IsSlot count (slot_at s p) = All-at (IsSlot count) s.slots p None tt is.observed in
+    let small = is.book.small in
+    let names = is.names in
+    booked-follow count rows s.audit (changes_by s.book (slot_at s p)) (omega (arith, small, names))
+    (subst (λ (n : ℕ). All (IsBooked n) (changes_by s.book (slot_at s p))) is.names
+    (slot-booked s.book (slot_at s p) is.book (subst (λ n. IfSome (slot_at s p) (λ o. are_known n (observed_servers o) ≡ true)) (sym is.names) known))) follow
+follow-turn count rows s (turn.Command c) is command rising most follow = follow-command rows count s c is most command follow
+follow-turn count rows s turn.Restart is within rising most follow = follow-restart count rows s is rising follow
+
+pub FollowAudit-step : (rows : List Row) (s : State) (t : Turn) → IsState s → IsTurn (length s.world.servers) t → (step rows s t).audit.next ≤ 2 ^ 64 → Follow rows s.book → FollowAudit (length s.world.servers) rows s.audit
+    → FollowAudit (length s.world.servers) (changed rows (changes_of rows s t)) (step rows s t).audit
+FollowAudit-step rows s t is turn most book follow = follow-turn (length s.world.servers) rows s t (ready-of s is book.book) turn book.rising most follow
+
+-- ---- an opening
+
+module _ (s : Scenario) (wait : ℕ) (rows : List Row) (is : IsScenario s) where
+  pub FollowAudit-start : IsRising rows → FollowAudit (length s.opening.servers) (changed rows (start_changes s rows)) (start s wait rows).audit
+  FollowAudit-start rising =
+      let n = length s.opening.servers in
+      let w = start_world s in
+      let at = start_moment s rows in
+      let b = loaded_book s rows in
+      let a = loaded_audit s rows in
+      let least = is.checked.listed.few in
+      let few : n ≤ 2 ^ 32 = omega (arith, least) in
+      let instances = missing_from w at b 0 s.known in
+      let candidates = registering_from at b 0 s.rules in
+      let P : Change → Type 0 = IsBooked n in
+      let first = booked-follow n rows a instances few (all-missing P n (λ i h. (h, tt)) w at b (sources-start s is) (servers-start s) s.known) (FollowAudit-opened n rows few rising) in
+      let second = booked-follow n (changed rows instances) a candidates few (all-registering P n (λ c h. (h, tt)) at b s.rules is.rules) first in
+      let third = FollowAudit-closed n (changed (changed rows instances) candidates) a at second in
+      subst (λ (x : List Row). FollowAudit n x (closed a at))
+      (sym (fold-append changed_by rows instances (candidates ++ interrupting a at) ∙ fold-append changed_by (changed rows instances) candidates (interrupting a at))) third
+
+-- ---- over a whole run
+
+-- both the book and the audit are followed
+record FollowsBoth (count : ℕ) (h : Held State) : Type 0 where
+  ready : Ready count h.state
+  book : Follow h.rows h.state.book
+  audit : FollowAudit count h.rows h.state.audit
+
+-- the next id of each state is at most that of the last one
+next-run : (h : Held State) (ts : List Turn) → h.state.audit.next ≤ (held_run engine h ts).state.audit.next
+next-run h [] = omega arith
+next-run h (t ∷ ts) =
+    let here = next-goes-on h.rows h.state t in
+    let rest = next-run (held_step engine h t) ts in
+    omega (arith, here, rest)
+
+both-run : (count : ℕ) (h : Held State) (ts : List Turn) → All (IsTurn count) ts → (held_run engine h ts).state.audit.next ≤ 2 ^ 64 → FollowsBoth count h → FollowsBoth count (held_run engine h ts)
+both-run count h [] all most both = both
+both-run count h (t ∷ ts) all most both =
+    let here = All-head (IsTurn count) t ts all in
+    let rest = next-run (held_step engine h t) ts in
+    let small : (step h.rows h.state t).audit.next ≤ 2 ^ 64 = omega (arith, rest, most) in
+    both-run count (held_step engine h t) ts (All-tail (IsTurn count) t ts all) most (record {
+      ready = Ready-step count h.rows h.state t both.ready here;
+      book = Follow-turn count h.rows h.state t both.ready both.audit.audit small here both.book;
+      audit = follow-turn count h.rows h.state t both.ready here both.book.rising small both.audit;
+    })
+
+-- with which the run begins
+abbrev pub held-start : Scenario → ℕ → List Row → Held State
+held-start s wait rows = record { rows = changed rows (start_changes s rows); state = start s wait rows }
+
+module _ (s : Scenario) (wait : ℕ) (rows : List Row) (ts : List Turn) (is : IsScenario s) (rising : IsRising rows) (all : All (IsTurn (length s.opening.servers)) ts) where
+  abbrev whole : Held State
+  whole = held_run engine (held-start s wait rows) ts
+
+  both-whole : whole.state.audit.next ≤ 2 ^ 64 → FollowsBoth (length s.opening.servers) whole
+  both-whole most =
+      both-run (length s.opening.servers) (held-start s wait rows) ts all most
+      (record { ready = Ready-start s wait rows is; book = Follow-start s wait rows is rising; audit = FollowAudit-start s wait rows is rising })
+
+  pub Follow-whole : whole.state.audit.next ≤ 2 ^ 64 → Follow whole.rows whole.state.book
+  Follow-whole most = (both-whole most).book
+
+  pub FollowAudit-whole : whole.state.audit.next ≤ 2 ^ 64 → FollowAudit (length s.opening.servers) whole.rows whole.state.audit
+  FollowAudit-whole most = (both-whole most).audit

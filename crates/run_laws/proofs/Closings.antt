@@ -1,0 +1,208 @@
+-- What ends with a job's turn: how, and what is kept of it.
+use Rattle.std.proofs.Common.{◌≡◌, ◌∙◌, ℕ, ◌<◌, ◌≤◌, ◌^◌, Bool, true, false, cond, List, [], ◌∷◌, map, refl, sym, ap, subst, Option, Some, None, arith}
+use Rattle.std.specs.Prelude.{◌==◌, All, AllPairs, IfSome, filter, find, if◌then◌else◌}
+use Rattle.std.specs.Option.{option_map, option_to_list}
+use Rattle.std.proofs.lemmas.Bool.{eqb-true, ne_eqb}
+use Rattle.std.proofs.lemmas.List.Elements.{All-cons, All-head, All-nil, All-tail, All-weaker}
+use Rattle.std.proofs.lemmas.Option.{same_Some}
+use Rattle.audit_log.proofs.Finding.{All-found, found-passes}
+use Rattle.audit_log.proofs.Parting.{acknowledged_at-apart, ended-apart}
+use Rattle.audit_log.specs.Apart.{IsApart}
+use Rattle.audit_log.specs.Audits.{AuditState, IsAudit, acked_so, acknowledged_at, ended, ended_so, is_open, recovery_at}
+use Rattle.commands.specs.Causes.{cause_name}
+use Rattle.instance_keeper.proofs.Lists.{pairs_head, pairs_tail}
+use Rattle.instance_keeper.specs.Book.{are_known, ending_servers}
+use Rattle.instance_keeper.specs.Rows.{changed}
+use Rattle.instance_keeper.specs.declared.recovery.Recovery.{Recovery}
+use Rattle.instance_keeper.specs.declared.row.Change.{Change}
+use Rattle.instance_keeper.specs.declared.row.Change.TheVariants as change
+use Rattle.instance_keeper.specs.declared.row.Row.{Row}
+use Rattle.instance_keeper.specs.declared.row.Row.TheVariants as row
+use Rattle.job_laws.proofs.Lists.{All-find}
+use Rattle.jobs_in_flight.specs.Jobs.{job_at}
+use Rattle.opening_book.proofs.Recoveries.{FollowAudit-mapped}
+use Rattle.opening_book.specs.Following.{FollowAudit}
+use Rattle.opening_book.specs.Opening.{put_recovery}
+use Rattle.operations.specs.declared.step.JobStep.{JobStep}
+use Rattle.operations.specs.declared.step.JobStep.TheVariants as step
+use Rattle.orch_base.specs.Memory.{next_count}
+use Rattle.orch_base.specs.declared.recovery.Ending.{Ending}
+use Rattle.orch_base.specs.declared.recovery.Ending.TheVariants as ending
+use Rattle.orch_base.specs.declared.server.Moment.{Moment}
+use Rattle.orch_base.specs.declared.server.ServerNo.{ServerNo}
+use Rattle.orch_core.proofs.States.{one_known}
+use Rattle.recovery_core.proofs.Ended.{ending-closed}
+use Rattle.recovery_core.specs.Endings.{done_with, ending_of, is_acknowledged}
+use Rattle.recovery_plans.specs.Recoveries.{Recovery as RecoveryJob}
+use Rattle.recovery_plans.specs.Taking.{taken}
+use Rattle.unended_jobs.proofs.Going.{recovery-promotes}
+use Rattle.unended_jobs.specs.Unended.{IsReady, number_of}
+use Rattle.unended_jobs.specs.declared.unended.Unended.{Unended}
+use Rattle.unended_jobs.specs.declared.unended.Unended.TheVariants as unended
+use Rattle.orch_core.specs.Closings.{closed_by, closing_by, closing_changes, closing_of}
+use Rattle.orch_core.specs.Jobs.{turn_of, turned_at}
+use Rattle.orch_core.specs.States.{State}
+use Rattle.run_laws.specs.Ready.{Ready}
+
+-- ---- the audit and the kept rows with an end
+
+-- the entry of an id ends, and is acknowledged or not
+abbrev pub ended_with : AuditState → Moment → ℕ → Ending → Bool → AuditState
+ended_with a now id e acked = if acked then acknowledged_at (ended a id now e) id else ended a id now e
+
+abbrev pub ended_as : Moment → Ending → Bool → Recovery → Recovery
+ended_as now e acked r = if acked then acked_so (ended_so now e r) else ended_so now e r
+
+abbrev pub ended_in : Moment → ℕ → Ending → Bool → Recovery → Recovery
+ended_in now id e acked r = if r.id == id then ended_as now e acked r else r
+
+-- how it is kept then
+abbrev pub end_changes : AuditState → Moment → ℕ → Ending → Bool → List Change
+end_changes a now id e acked = option_to_list (option_map (λ r. change.Put (row.Recovery (ended_as now e acked r))) (recovery_at a id))
+
+module _ (now : Moment) (id : ℕ) (e : Ending) where
+  abbrev ends : Recovery → Recovery
+  ends r = if r.id == id then ended_so now e r else r
+
+  abbrev acks : Recovery → Recovery
+  acks r = if r.id == id then acked_so r else r
+
+  one-both : (r : Recovery) → acks (ends r) ≡ ended_in now id e true r
+  one-both r = go (r.id == id) refl
+    where
+      go : (b : Bool) → (r.id == id) ≡ b → acks (if b then ended_so now e r else r) ≡ (if b then acked_so (ended_so now e r) else r)
+      go true is = ap (λ (b : Bool). if b then acked_so (ended_so now e r) else ended_so now e r) is
+      go false is = ap (λ (b : Bool). if b then acked_so r else r) is
+
+  all-both : (xs : List Recovery) → map acks (map ends xs) ≡ map (ended_in now id e true) xs
+  all-both [] = refl
+  all-both (x ∷ xs) = λ i. one-both x i ∷ all-both xs i
+
+  -- only the entry of its id changes
+  pub ended-map : (a : AuditState) (acked : Bool) → ended_with a now id e acked ≡ record a { recoveries = map (ended_in now id e acked) a.recoveries }
+  ended-map a true = ap (λ (xs : List Recovery). record a { recoveries = xs }) (all-both a.recoveries)
+  ended-map a false = refl
+
+  pub ended-next : (a : AuditState) (acked : Bool) → (ended_with a now id e acked).next ≡ a.next
+  ended-next a true = refl
+  ended-next a false = refl
+
+  as-id : (acked : Bool) (r : Recovery) → (ended_as now e acked r).id ≡ r.id
+  as-id true r = refl
+  as-id false r = refl
+
+  in-id : (acked : Bool) (r : Recovery) → (ended_in now id e acked r).id ≡ r.id
+  in-id acked r = go (r.id == id)
+    where
+      go : (b : Bool) → (if b then ended_as now e acked r else r).id ≡ r.id
+      go true = as-id acked r
+      go false = refl
+
+  abbrev is-its : Recovery → Bool
+  is-its r = r.id == id
+
+  pub end-puts : (a : AuditState) (acked : Bool) → end_changes a now id e acked ≡ map put_recovery (option_to_list (option_map (ended_as now e acked) (recovery_at a id)))
+  end-puts a acked = go (recovery_at a id)
+    where
+      go : (o : Option Recovery) → option_to_list (option_map (λ r. change.Put (row.Recovery (ended_as now e acked r))) o) ≡ map put_recovery (option_to_list (option_map (ended_as now e acked) o))
+      go None = refl
+      go (Some r) = refl
+
+  -- its id is in its type's range
+  pub end-small : (a : AuditState) (acked : Bool) → IsAudit a → a.next ≤ 2 ^ 64 → All (λ r. r.id < 2 ^ 64) (option_to_list (option_map (ended_as now e acked) (recovery_at a id)))
+  end-small a acked is most = go (recovery_at a id) refl
+    where
+      go : (o : Option Recovery) → recovery_at a id ≡ o → All (λ r. r.id < 2 ^ 64) (option_to_list (option_map (ended_as now e acked) o))
+      go None at = All-nil (λ (r : Recovery). r.id < 2 ^ 64)
+      go (Some r) at =
+          let less = All-found is-its (λ (x : Recovery). x.id < a.next) a.recoveries r is.below at in
+          let same = as-id acked r in
+          All-cons (λ (x : Recovery). x.id < 2 ^ 64) (ended_as now e acked r) [] (omega (arith, less, same, most)) (All-nil (λ (x : Recovery). x.id < 2 ^ 64))
+
+  none-its : (xs : List Recovery) → All (λ r. is-its r ≡ false) xs → filter is-its xs ≡ []
+  none-its [] none = refl
+  none-its (x ∷ xs) none =
+      ap (λ (b : Bool). cond b (x ∷ filter is-its xs) (filter is-its xs)) (All-head (λ (r : Recovery). is-its r ≡ false) x xs none)
+      ∙ none-its xs (All-tail (λ (r : Recovery). is-its r ≡ false) x xs none)
+
+  -- where ids rise, at most one has it
+  one-its : (xs : List Recovery) → AllPairs (λ x y. x.id < y.id) xs → filter is-its xs ≡ option_to_list (find is-its xs)
+  one-its [] rising = refl
+  one-its (x ∷ xs) rising = go (x.id == id) refl (one-its xs (pairs_tail (λ (x y : Recovery). x.id < y.id) x xs rising))
+    where
+      above : All (λ y. x.id < y.id) xs
+      above = pairs_head (λ (x y : Recovery). x.id < y.id) x xs rising
+
+      go : (b : Bool) → (x.id == id) ≡ b → filter is-its xs ≡ option_to_list (find is-its xs)
+          → cond b (x ∷ filter is-its xs) (filter is-its xs) ≡ option_to_list (cond b (Some x) (find is-its xs))
+      go true here rest =
+          let same = eqb-true x.id id here in
+          ap (λ (ys : List Recovery). x ∷ ys)
+          (none-its xs (All-weaker (λ (y : Recovery). x.id < y.id) (λ y. is-its y ≡ false) (λ y more. ne_eqb y.id id (λ e. absurd (omega (arith, more, e, same)))) xs above))
+      go false here rest = rest
+
+  put-one : (a : AuditState) (acked : Bool) → AllPairs (λ x y. x.id < y.id) a.recoveries → map put_recovery (map (ended_in now id e acked) (filter is-its a.recoveries)) ≡ end_changes a now id e acked
+  put-one a acked rising = ap (λ (xs : List Recovery). map put_recovery (map (ended_in now id e acked) xs)) (one-its a.recoveries rising) ∙ go (recovery_at a id) refl
+    where
+      go : (o : Option Recovery) → recovery_at a id ≡ o
+          → map put_recovery (map (ended_in now id e acked) (option_to_list o)) ≡ option_to_list (option_map (λ r. change.Put (row.Recovery (ended_as now e acked r))) o)
+      go None at = refl
+      go (Some r) at = ap (λ (b : Bool). put_recovery (if b then ended_as now e acked r else r) ∷ []) (found-passes is-its a.recoveries r at)
+
+  -- the entry that ends is kept as it is then
+  pub follow-end : (count : ℕ) (rows : List Row) (a : AuditState) (acked : Bool) → FollowAudit count rows a → FollowAudit count (changed rows (end_changes a now id e acked)) (ended_with a now id e acked)
+  follow-end count rows a acked follow =
+      subst (FollowAudit count (changed rows (end_changes a now id e acked))) (sym (ended-map a acked))
+      (subst (λ (cs : List Change). FollowAudit count (changed rows cs) (record a { recoveries = map (ended_in now id e acked) a.recoveries })) (put-one a acked follow.audit.rising)
+      (FollowAudit-mapped (ended_in now id e acked) (in-id acked) is-its (λ r off. ap (λ (b : Bool). if b then ended_as now e acked r else r) off) count rows a follow))
+
+  -- an audit stays apart
+  pub end-apart : (a : AuditState) (acked : Bool) → is_open e ≡ false → IsApart a → IsApart (ended_with a now id e acked)
+  end-apart a true closes apart = acknowledged_at-apart (ended a id now e) id (ended-apart a id now e closes apart)
+  end-apart a false closes apart = ended-apart a id now e closes apart
+
+-- ---- how a recovery ends
+
+module _ (count : ℕ) where
+  done-known : (o : Option ServerNo) → IfSome o (λ n. n.0 < count) → are_known count (ending_servers (done_with o)) ≡ true
+  done-known None there = refl
+  done-known (Some n) there = one_known count n.0 there
+
+  -- by a server that is there
+  ending-known : (r : RecoveryJob) (s : JobStep) (e : Ending) → IfSome r.outcome.promoted (λ n. n.0 < count) → ending_of r s ≡ Some e → are_known count (ending_servers e) ≡ true
+  ending-known r step.Going e there is = cc
+  ending-known r (step.Done lines) e there is =
+      subst (λ (x : Ending). are_known count (ending_servers x) ≡ true) (same_Some (done_with r.outcome.promoted) e is) (done-known r.outcome.promoted there)
+  ending-known r (step.Failed c) e there is =
+      subst (λ (x : Ending). are_known count (ending_servers x) ≡ true) (same_Some (ending.Failed (cause_name c)) e is) refl
+
+-- what a job's turn leaves of the audit and the kept rows: nothing ends, or the entry of its recovery does
+module _ (count : ℕ) (s : State) (id : ℕ) (P : AuditState → List Change → Type 0) (none : P s.audit [])
+    (some : (entry : ℕ) (e : Ending) (acked : Bool) → is_open e ≡ false → (Ready count s → are_known count (ending_servers e) ≡ true)
+    → P (ended_with s.audit (record { 0 = s.moment }) entry e acked) (end_changes s.audit (record { 0 = s.moment }) entry e acked)) where
+  abbrev now : Moment
+  now = record { 0 = s.moment }
+
+  recovery-ends : (r : RecoveryJob) (entry : ℕ) (x : JobStep) → (Ready count s → IfSome r.outcome.promoted (λ n. n.0 < count))
+      → P (closed_by s.audit now (closing_by (unended.Recovery r (Some entry)) x)) (closing_changes s.audit now (closing_by (unended.Recovery r (Some entry)) x))
+  recovery-ends r entry step.Going there = none
+  recovery-ends r entry (step.Done lines) there =
+      some entry (done_with r.outcome.promoted) (is_acknowledged r (step.Done lines)) (ending-closed r (step.Done lines) (done_with r.outcome.promoted) refl)
+      (λ ready. ending-known count r (step.Done lines) (done_with r.outcome.promoted) (there ready) refl)
+  recovery-ends r entry (step.Failed c) there =
+      some entry (ending.Failed (cause_name c)) false (ending-closed r (step.Failed c) (ending.Failed (cause_name c)) refl)
+      (λ ready. ending-known count r (step.Failed c) (ending.Failed (cause_name c)) (there ready) refl)
+
+  flown-ends : (u : Unended) → (Ready count s → IsReady count u) → P (closed_by s.audit now (closing_by (turn_of s u).next (turn_of s u).step)) (closing_changes s.audit now (closing_by (turn_of s u).next (turn_of s u).step))
+  flown-ends (unended.Plan j) is = none
+  flown-ends (unended.Recovery r None) is = none
+  flown-ends (unended.Recovery r (Some entry)) is =
+      let t = taken s.world s.book (next_count s.reads) now r in
+      recovery-ends t.recovery entry t.step (λ ready. recovery-promotes count s.world s.book (next_count s.reads) now r (is ready))
+
+  pub turned-ends : P (closed_by s.audit now (closing_of (turned_at s id))) (closing_changes s.audit now (closing_of (turned_at s id)))
+  turned-ends = go (job_at s.jobs id) refl
+    where
+      go : (o : Option Unended) → job_at s.jobs id ≡ o → P (closed_by s.audit now (closing_of (option_map (turn_of s) o))) (closing_changes s.audit now (closing_of (option_map (turn_of s) o)))
+      go None at = none
+      go (Some u) at = flown-ends u (λ ready. All-find (IsReady count) (λ (k : Unended). number_of k == id) s.jobs u ready.jobs at)

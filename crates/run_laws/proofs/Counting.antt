@@ -1,0 +1,283 @@
+-- In every state of a run the audit is apart, and each of its recoveries counts at a restart.
+use Rattle.std.proofs.Common.{◌≡◌, ◌∙◌, ℕ, ◌<◌, ◌≤◌, Bool, true, false, leb, List, [], ◌∷◌, get_or, length, map, refl, sym, ap, subst, inl, inr, Option, arith}
+use Rattle.std.specs.Prelude.{All, ◌==◌, ◌&&◌, nat_lt, if◌then◌else◌}
+use Rattle.std.proofs.lemmas.Bool.{le-leb, leb-true}
+use Rattle.std.proofs.lemmas.List.Elements.{All-head, All-map, All-push, All-tail, All-weaker}
+use Rattle.audit_log.proofs.Parting.{acknowledged-apart, closed-apart}
+use Rattle.audit_log.specs.Apart.{IsApart}
+use Rattle.audit_log.specs.Audits.{AuditState, acked_so, acknowledged, acknowledged_for, begun, closed, ended_so, interrupted, is_of, is_unended}
+use Rattle.instance_keeper.proofs.Books.{both_true}
+use Rattle.instance_keeper.specs.Book.{are_known, ending_servers}
+use Rattle.instance_keeper.specs.declared.recovery.Recovery.{Recovery}
+use Rattle.instance_keeper.specs.declared.row.Row.{Row}
+use Rattle.instance_keeper.specs.declared.row.Row.TheVariants as row
+use Rattle.opening_book.specs.Counting.{counts, greatest, greatest_id, is_end_in_range, is_in_range}
+use Rattle.orch_base.specs.declared.recovery.Ending.{Ending}
+use Rattle.orch_base.specs.declared.recovery.Ending.TheVariants as ending
+use Rattle.orch_base.specs.declared.server.Moment.{Moment}
+use Rattle.orch_base.specs.declared.server.ServerNo.{ServerNo}
+use Rattle.recovery_core.proofs.InTurn.{apart-after}
+use Rattle.recovery_core.specs.Begun.{BeginInTurn, CanBegin, audit_after}
+use Rattle.recovery_core.specs.Tries.{Begins}
+use Rattle.scenarios.specs.Scenarios.{IsScenario}
+use Rattle.scenarios.specs.Turns.{IsTurn}
+use Rattle.scenarios.specs.declared.scenario.Scenario.{Scenario}
+use Rattle.turns.specs.declared.turn.Turn.{Turn}
+use Rattle.turns.specs.declared.turn.Turn.TheVariants as turn
+use Rattle.orch_core.proofs.Closed.{closed_by-next}
+use Rattle.orch_core.proofs.Recoveries.{reloaded-most}
+use Rattle.orch_core.proofs.Starts.{moment-within, opened-is}
+use Rattle.orch_core.proofs.States.{one_known}
+use Rattle.orch_core.specs.Closings.{closing_of}
+use Rattle.orch_core.specs.Commands.{audit_updated}
+use Rattle.orch_core.specs.Jobs.{turned_at}
+use Rattle.orch_core.specs.Polls.{command_outcome}
+use Rattle.orch_core.specs.Restarts.{interrupted_at, last_given, reloaded_audit}
+use Rattle.orch_core.specs.Runs.{engine, run_turns, step, turns_of}
+use Rattle.orch_core.specs.Scenarios.{loaded_audit, start, start_moment, start_rows}
+use Rattle.orch_core.specs.States.{State}
+use Rattle.orch_core.specs.Turns.{later, moment_after}
+use Rattle.run_laws.specs.Begins.{BeginApartInTurn, entries_of}
+use Rattle.run_laws.proofs.Readiness.{Ready-start, Ready-step}
+use Rattle.run_laws.proofs.Ready.{settings-count}
+use Rattle.run_laws.specs.Ready.{Ready}
+use Rattle.run_laws.proofs.Beginnings.{began-then, next-after, turn-apart, turn-can}
+use Rattle.run_laws.proofs.Closings.{end-apart, ended-map, ended_as, ended_in, ended_with, turned-ends}
+use Rattle.run_laws.proofs.Loads.{audit-of, counted-counts}
+use Rattle.run_laws.proofs.Logged.{Becomes, command-becomes}
+use Rattle.run_laws.specs.Entries.{recoveries_begun, recoveries_scanned}
+use Rattle.run_laws.specs.Runs.{ComesTo}
+
+-- ---- recoveries that count, whatever their ids
+
+-- their servers are there, and their moments in their range
+pub record IsKnown (count : ℕ) (r : Recovery) : Type 0 where
+  pub servers : are_known count (r.failed.0 ∷ ending_servers r.outcome) ≡ true
+  pub begins : r.begun.0 ≤ greatest
+  pub ends : is_end_in_range r.ended ≡ true
+
+module _ (count : ℕ) where
+  -- of a row that counts
+  known-of : (last : ℕ) (r : Recovery) → counts count last (row.Recovery r) ≡ true → IsKnown count r
+  known-of last r is =
+      let parts = both_true (are_known count (r.failed.0 ∷ ending_servers r.outcome)) (is_in_range last (row.Recovery r)) is in
+      let moments = (both_true (leb 1 r.id && leb r.id last) (leb r.begun.0 greatest && is_end_in_range r.ended) parts.1).1 in
+      let both = both_true (leb r.begun.0 greatest) (is_end_in_range r.ended) moments in
+      record { servers = parts.0; begins = leb-true r.begun.0 greatest both.0; ends = both.1 }
+
+  -- and back
+  known-counts : (last : ℕ) (r : Recovery) → IsKnown count r → 1 ≤ r.id → r.id ≤ last → counts count last (row.Recovery r) ≡ true
+  known-counts last r is low high = λ i. is.servers i && ((le-leb 1 r.id low i && le-leb r.id last high i) && (le-leb r.begun.0 greatest is.begins i && is.ends i))
+
+  -- with an end by servers that are there, at a moment in its range
+  known-ended : (now : Moment) (e : Ending) (r : Recovery) → now.0 ≤ greatest → are_known count (ending_servers e) ≡ true → IsKnown count r → IsKnown count (ended_so now e r)
+  known-ended now e r most there is = record {
+    servers = λ i. (both_true (nat_lt r.failed.0 count) (are_known count (ending_servers r.outcome)) is.servers).0 i && there i;
+    begins = is.begins;
+    ends = le-leb now.0 greatest most;
+  }
+
+  known-acked : (r : Recovery) → IsKnown count r → IsKnown count (acked_so r)
+  known-acked r is = record { servers = is.servers; begins = is.begins; ends = is.ends }
+
+  known-mapped : (f : Recovery → Recovery) → ((r : Recovery) → IsKnown count r → IsKnown count (f r)) → (xs : List Recovery) → All (IsKnown count) xs → All (IsKnown count) (map f xs)
+  known-mapped f stays xs all = All-map (IsKnown count) f xs (All-weaker (IsKnown count) (λ r. IsKnown count (f r)) stays xs all)
+
+  known-interrupted : (a : AuditState) (now : Moment) → now.0 ≤ greatest → All (IsKnown count) a.recoveries → All (IsKnown count) (closed a now).recoveries
+  known-interrupted a now most all = known-mapped (interrupted now) (λ r is. one r (is_unended r) is) a.recoveries all
+    where
+      one : (r : Recovery) (b : Bool) → IsKnown count r → IsKnown count (if b then ended_so now ending.Interrupted r else r)
+      one r true is = known-ended now ending.Interrupted r most refl is
+      one r false is = is
+
+  known-acknowledged : (a : AuditState) (cluster : List ℕ) → All (IsKnown count) a.recoveries → All (IsKnown count) (acknowledged a cluster).recoveries
+  known-acknowledged a cluster all = known-mapped (acknowledged_for cluster) (λ r is. one r (is_of cluster r) is) a.recoveries all
+    where
+      one : (r : Recovery) (b : Bool) → IsKnown count r → IsKnown count (if b then record r { acked = true } else r)
+      one r true is = known-acked r is
+      one r false is = is
+
+  known-end : (a : AuditState) (now : Moment) (id : ℕ) (e : Ending) (acked : Bool) → now.0 ≤ greatest → are_known count (ending_servers e) ≡ true → All (IsKnown count) a.recoveries
+      → All (IsKnown count) (ended_with a now id e acked).recoveries
+  known-end a now id e acked most there all =
+      subst (λ (x : AuditState). All (IsKnown count) x.recoveries) (sym (ended-map now id e a acked)) (known-mapped (ended_in now id e acked) (λ r is. one r (r.id == id) is) a.recoveries all)
+    where
+      so : (r : Recovery) (b : Bool) → IsKnown count r → IsKnown count (if b then acked_so (ended_so now e r) else ended_so now e r)
+      so r true is = known-acked (ended_so now e r) (known-ended now e r most there is)
+      so r false is = known-ended now e r most there is
+
+      one : (r : Recovery) (b : Bool) → IsKnown count r → IsKnown count (if b then ended_as now e acked r else r)
+      one r true is = so r acked is
+      one r false is = is
+
+  -- one that begins is of a server of its list, and has no end
+  known-entry : (n : ℕ) (leases : List (Option ℕ)) (a : AuditState) (last : ℕ) (now : Moment) (x : Begins) → n ≡ count → now.0 ≤ greatest → CanBegin n leases a last x → x.entry.begun ≡ now → IsKnown count x.entry
+  known-entry n leases a last now x same most can at = record {
+    servers = subst (λ (k : ℕ). are_known k (x.entry.failed.0 ∷ ending_servers x.entry.outcome) ≡ true) same
+        (subst (λ (e : Ending). are_known n (x.entry.failed.0 ∷ ending_servers e) ≡ true) (sym can.outcome) (one_known n x.entry.failed.0 there));
+    begins = subst (λ (m : Moment). m.0 ≤ greatest) (sym at) most;
+    ends = ap is_end_in_range can.ended;
+  }
+    where
+      first : x.job.failed.0 < n
+      first = All-head (λ (k : ServerNo). k.0 < n) x.job.failed x.job.replicas (subst (λ (ks : List ServerNo). All (λ (k : ServerNo). k.0 < n) ks) can.list can.within)
+
+      there : x.entry.failed.0 < n
+      there = subst (λ (k : ServerNo). k.0 < n) (sym can.failed) first
+
+  known-after : (n : ℕ) (leases : List (Option ℕ)) (a : AuditState) (last : ℕ) (now : Moment) (xs : List Begins) → n ≡ count → now.0 ≤ greatest → BeginInTurn n leases a last xs → All (λ x. x.entry.begun ≡ now) xs
+      → All (IsKnown count) a.recoveries → All (IsKnown count) (audit_after a xs).recoveries
+  known-after n leases a last now [] same most each at all = all
+  known-after n leases a last now (x ∷ xs) same most each at all =
+      known-after n _ (begun a x.entry) x.job.core.id now xs same most each.1 (All-tail (λ (y : Begins). y.entry.begun ≡ now) x xs at)
+      (All-push (IsKnown count) a.recoveries x.entry all (known-entry n leases a last now x same most each.0 (All-head (λ (y : Begins). y.entry.begun ≡ now) x xs at)))
+
+-- ---- the moment
+
+later-most : (now seconds : ℕ) → later now seconds ≤ greatest
+later-most now seconds = omega arith
+
+-- time stands still at the end of its range
+moment-stays : (rows : List Row) (s : State) (t : Turn) → s.moment ≤ greatest → moment_after rows s t ≤ greatest
+moment-stays rows s (turn.Tick seconds) most = later-most s.moment seconds
+moment-stays rows s turn.Restart most = reloaded-most (length s.book.settings) (last_given s) s.moment rows most
+moment-stays rows s (turn.Job job) most = most
+moment-stays rows s turn.Scan most = most
+moment-stays rows s (turn.PollRead p n) most = most
+moment-stays rows s (turn.PollStore p) most = most
+moment-stays rows s (turn.Command c) most = most
+moment-stays rows s (turn.Write n size) most = most
+moment-stays rows s (turn.Fetch n) most = most
+moment-stays rows s (turn.Apply n) most = most
+moment-stays rows s (turn.Fail n) most = most
+moment-stays rows s (turn.Heal n) most = most
+moment-stays rows s (turn.Cut n link) most = most
+moment-stays rows s (turn.Join n link) most = most
+moment-stays rows s (turn.Rotate n) most = most
+
+-- ---- each turn
+
+-- what holds of each state of a run
+pub record IsReckoned (count : ℕ) (s : State) : Type 0 where
+  pub ready : Ready count s
+  pub moment : s.moment ≤ greatest
+  pub apart : IsApart s.audit
+  pub known : All (IsKnown count) s.audit.recoveries
+
+-- of the audit
+record IsLogged (count : ℕ) (a : AuditState) : Type 0 where
+  apart : IsApart a
+  known : All (IsKnown count) a.recoveries
+
+logged-becomes : (count : ℕ) (s : State) (xs : List Begins) (a : AuditState) → IsReckoned count s → BeginInTurn (length s.book.names) s.book.leases s.audit s.last_job xs
+    → BeginApartInTurn s.configuration.block (record { 0 = s.moment }) s.audit (entries_of xs) → Becomes s.audit xs a → IsLogged count a
+logged-becomes count s xs a is each apart (inl (cluster, same, none)) =
+    subst (IsLogged count) (sym same) (record { apart = acknowledged-apart s.audit cluster is.apart; known = known-acknowledged count s.audit cluster is.known })
+logged-becomes count s xs a is each apart (inr same) =
+    let now : Moment = record { 0 = s.moment } in
+    subst (IsLogged count) (sym same) (record {
+      apart = apart-after (length s.book.names) s.book.leases s.audit s.last_job xs each is.apart;
+      known = known-after count (length s.book.names) s.book.leases s.audit s.last_job now xs is.ready.names is.moment each (began-then s.configuration.block now s.audit xs apart) is.known;
+    })
+
+logged-restart : (count : ℕ) (rows : List Row) (s : State) → IsReckoned count s → IsLogged count (closed (reloaded_audit rows s) (interrupted_at rows s))
+logged-restart count rows s is =
+    let first = is.apart.audit.first in
+    let settings : length s.book.settings ≡ count = settings-count s.book is.ready.book ∙ is.ready.names in
+    record {
+      apart = closed-apart (reloaded_audit rows s) (interrupted_at rows s) (audit-of (length s.book.settings) (last_given s) s.audit.next rows first (omega (arith, first)));
+      known = known-interrupted count (reloaded_audit rows s) (interrupted_at rows s) (moment-stays rows s turn.Restart is.moment)
+          (All-weaker (λ (r : Recovery). counts (length s.book.settings) (last_given s) (row.Recovery r) ≡ true) (IsKnown count)
+          (λ r here. known-of count (last_given s) r (subst (λ (n : ℕ). counts n (last_given s) (row.Recovery r) ≡ true) settings here))
+          (reloaded_audit rows s).recoveries (counted-counts (length s.book.settings) (last_given s) rows));
+    }
+
+logged-step : (count : ℕ) (rows : List Row) (s : State) (t : Turn) → IsReckoned count s → IsTurn count t → IsLogged count (step rows s t).audit
+logged-step count rows s (turn.Command c) is fits =
+    logged-becomes count s (recoveries_begun s (turn.Command c)) (audit_updated s.audit (command_outcome s c).book) is (turn-can count s (turn.Command c) is.ready fits)
+    (turn-apart s (turn.Command c)) (command-becomes s c)
+logged-step count rows s turn.Scan is fits =
+    logged-becomes count s (recoveries_scanned s) (audit_after s.audit (recoveries_scanned s)) is (turn-can count s turn.Scan is.ready fits) (turn-apart s turn.Scan) (inr refl)
+logged-step count rows s (turn.Job job) is fits =
+    let now : Moment = record { 0 = s.moment } in
+    turned-ends count s job (λ a cs. IsLogged count a) (record { apart = is.apart; known = is.known })
+    (λ id e acked closes there. record { apart = end-apart now id e s.audit acked closes is.apart; known = known-end count s.audit now id e acked is.moment (there is.ready) is.known })
+logged-step count rows s turn.Restart is fits = logged-restart count rows s is
+logged-step count rows s (turn.PollRead p n) is fits = record { apart = is.apart; known = is.known }
+logged-step count rows s (turn.PollStore p) is fits = record { apart = is.apart; known = is.known }
+logged-step count rows s (turn.Write n size) is fits = record { apart = is.apart; known = is.known }
+logged-step count rows s (turn.Fetch n) is fits = record { apart = is.apart; known = is.known }
+logged-step count rows s (turn.Apply n) is fits = record { apart = is.apart; known = is.known }
+logged-step count rows s (turn.Fail n) is fits = record { apart = is.apart; known = is.known }
+logged-step count rows s (turn.Heal n) is fits = record { apart = is.apart; known = is.known }
+logged-step count rows s (turn.Cut n link) is fits = record { apart = is.apart; known = is.known }
+logged-step count rows s (turn.Join n link) is fits = record { apart = is.apart; known = is.known }
+logged-step count rows s (turn.Rotate n) is fits = record { apart = is.apart; known = is.known }
+logged-step count rows s (turn.Tick seconds) is fits = record { apart = is.apart; known = is.known }
+
+reckoned-step : (count : ℕ) (rows : List Row) (s : State) (t : Turn) → IsReckoned count s → IsTurn count t → IsReckoned count (step rows s t)
+reckoned-step count rows s t is fits =
+    let logged = logged-step count rows s t is fits in
+    record { ready = Ready-step count rows s t is.ready fits; moment = moment-stays rows s t is.moment; apart = logged.apart; known = logged.known }
+
+reckoned-run : (count : ℕ) (s : State) (xs : List (List Row × Turn)) → All (IsTurn count) (turns_of xs) → IsReckoned count s → IsReckoned count (run_turns engine s xs)
+reckoned-run count s [] all is = is
+reckoned-run count s (x ∷ xs) all is =
+    reckoned-run count (step x.0 s x.1) xs (All-tail (IsTurn count) x.1 (turns_of xs) all) (reckoned-step count x.0 s x.1 is (All-head (IsTurn count) x.1 (turns_of xs) all))
+
+reckoned-start : (s : Scenario) (wait : ℕ) (rows : List Row) → IsScenario s → IsReckoned (length s.opening.servers) (start s wait rows)
+reckoned-start s wait rows is =
+    let n = length s.opening.servers in
+    let most = moment-within s rows (start_rows s rows) (start_moment s rows).0 is refl refl in
+    record {
+      ready = Ready-start s wait rows is;
+      moment = most;
+      apart = closed-apart (loaded_audit s rows) (start_moment s rows) (opened-is s rows is);
+      known = known-interrupted n (loaded_audit s rows) (start_moment s rows) most
+          (All-weaker (λ (r : Recovery). counts n greatest_id (row.Recovery r) ≡ true) (IsKnown n) (known-of n greatest_id) (loaded_audit s rows).recoveries (counted-counts n greatest_id rows));
+    }
+
+pub reckoned-comes : (s : Scenario) (xs : List (List Row × Turn)) (now : State) → ComesTo s xs now → IsReckoned (length s.opening.servers) now
+reckoned-comes s xs now comes =
+    subst (IsReckoned (length s.opening.servers)) (sym comes.state)
+    (reckoned-run (length s.opening.servers) (start s comes.wait comes.rows) xs comes.turns (reckoned-start s comes.wait comes.rows comes.scenario))
+
+pub apart-comes : (s : Scenario) (xs : List (List Row × Turn)) (now : State) → ComesTo s xs now → IsApart now.audit
+apart-comes s xs now comes = (reckoned-comes s xs now comes).apart
+
+-- each recovery of the audit counts at a restart
+pub counting-recoveries : (count : ℕ) (s : State) → IsReckoned count s → All (λ r. counts count (last_given s) (row.Recovery r) ≡ true) s.audit.recoveries
+counting-recoveries count s is k d within =
+    let r = get_or s.audit.recoveries k d in
+    let low = is.apart.audit.above k d within in
+    let high = is.apart.audit.below k d within in
+    known-counts count (last_given s) r (is.known k d within) low (omega (arith, high))
+
+pub counts-comes : (s : Scenario) (xs : List (List Row × Turn)) (now : State) → ComesTo s xs now → All (λ r. counts (length s.opening.servers) (last_given now) (row.Recovery r) ≡ true) now.audit.recoveries
+counts-comes s xs now comes = counting-recoveries (length s.opening.servers) now (reckoned-comes s xs now comes)
+
+-- ---- ids go on
+
+next-becomes : (s : State) (xs : List Begins) (a : AuditState) → BeginApartInTurn s.configuration.block (record { 0 = s.moment }) s.audit (entries_of xs) → Becomes s.audit xs a → s.audit.next ≤ a.next
+next-becomes s xs a apart (inl (cluster, same, none)) = let next : a.next ≡ s.audit.next = ap (λ (x : AuditState). x.next) same in omega (arith, next)
+next-becomes s xs a apart (inr same) =
+    let next : a.next ≡ (audit_after s.audit xs).next = ap (λ (x : AuditState). x.next) same in
+    let more = next-after s.configuration.block (record { 0 = s.moment }) s.audit xs apart in
+    omega (arith, next, more)
+
+pub next-goes-on : (rows : List Row) (s : State) (t : Turn) → s.audit.next ≤ (step rows s t).audit.next
+next-goes-on rows s (turn.Command c) = next-becomes s (recoveries_begun s (turn.Command c)) (audit_updated s.audit (command_outcome s c).book) (turn-apart s (turn.Command c)) (command-becomes s c)
+next-goes-on rows s turn.Scan = next-after s.configuration.block (record { 0 = s.moment }) s.audit (recoveries_scanned s) (turn-apart s turn.Scan)
+next-goes-on rows s (turn.Job job) = let same = closed_by-next s.audit (record { 0 = s.moment }) (closing_of (turned_at s job)) in omega (arith, same)
+next-goes-on rows s turn.Restart = omega arith
+next-goes-on rows s (turn.PollRead p n) = omega arith
+next-goes-on rows s (turn.PollStore p) = omega arith
+next-goes-on rows s (turn.Write n size) = omega arith
+next-goes-on rows s (turn.Fetch n) = omega arith
+next-goes-on rows s (turn.Apply n) = omega arith
+next-goes-on rows s (turn.Fail n) = omega arith
+next-goes-on rows s (turn.Heal n) = omega arith
+next-goes-on rows s (turn.Cut n link) = omega arith
+next-goes-on rows s (turn.Join n link) = omega arith
+next-goes-on rows s (turn.Rotate n) = omega arith
+next-goes-on rows s (turn.Tick seconds) = omega arith

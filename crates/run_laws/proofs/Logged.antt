@@ -1,0 +1,105 @@
+-- What a command makes of the audit.
+use Rattle.std.proofs.Common.{◌≡◌, ℕ, ◌+◌, List, [], refl, inl, inr, Option, Some, None, Result, Ok, Err}
+use Rattle.std.specs.Prelude.{◌⊎◌}
+use Rattle.asking_commands.specs.Answers.{allowed, lines_of, permitted}
+use Rattle.audit_log.specs.Audits.{AuditState, acknowledged}
+use Rattle.book_commands.specs.Decisions.{audit_after as audit_decided, decided_of}
+use Rattle.book_commands.specs.declared.decided.Decided.{Decided}
+use Rattle.book_commands.specs.declared.decided.Effect.{Effect}
+use Rattle.book_commands.specs.declared.decided.Effect.TheVariants as effect
+use Rattle.command_jobs.specs.Jobs.{job_by, leases_by, refusal_by}
+use Rattle.command_routes.specs.declared.route.Route.{Route}
+use Rattle.command_routes.specs.declared.route.Route.TheVariants.{Discovers, Forgets, Asks, Decides, Begins, Recovers, TakesOver}
+use Rattle.command_routes.specs.Routes.{route_of}
+use Rattle.commands.specs.declared.line.Line.{Line}
+use Rattle.commands.specs.declared.refusal.Refusal.{Refusal}
+use Rattle.commands.specs.declared.refusal.Refusal.TheVariants.{UnknownInstance}
+use Rattle.commands.specs.declared.turn.CommandTurn.{CommandTurn}
+use Rattle.instance_keeper.specs.Book.{BookState}
+use Rattle.instance_keeper.specs.declared.observation.Observation.{Observation}
+use Rattle.orch_base.specs.declared.server.ServerNo.{ServerNo}
+use Rattle.server_words.specs.declared.status.Status.{Status as Seen}
+use Rattle.recovery_core.specs.Begun.{audit_after}
+use Rattle.recovery_core.specs.Tries.{Begins as RecoveryBegins, recovery_try, takeover_try}
+use Rattle.turns.specs.declared.turn.Turn.TheVariants as turn
+use Rattle.unended_jobs.specs.declared.unended.Unended.{Unended}
+use Rattle.orch_core.specs.Commands.{Outcome, about as given_or, asked, audit_updated, begun as job_begun, by_hand, decided, discovered, forgotten, next_reading, outcome_by, outcome_of, question, recovered, recovery_begun, refusal, removal_refusal, taken_over}
+use Rattle.orch_core.specs.Polls.{command_outcome, numbers_of}
+use Rattle.orch_core.specs.States.{State}
+use Rattle.run_laws.specs.Entries.{recoveries_begun, recoveries_by, recoveries_of, takeovers_by, takeovers_of, tried}
+
+-- what a command makes of an audit: a cluster's recoveries are acknowledged, or these begin
+abbrev pub Becomes : AuditState → List RecoveryBegins → AuditState → Type 0
+Becomes a xs now = ((cluster : List ℕ) × (now ≡ acknowledged a cluster) × (xs ≡ [])) ⊎ (now ≡ audit_after a xs)
+
+module _ (s : State) (c : CommandTurn) where
+  -- by an outcome
+  abbrev By : List RecoveryBegins → Outcome → Type 0
+  By xs o = Becomes s.audit xs (audit_updated s.audit o.book)
+
+  by-discovered : (b : BookState) (reads : ℕ) (o : Observation) (x : Option Seen) → By [] (discovered b reads o x)
+  by-discovered b reads o None = inr refl
+  by-discovered b reads o (Some seen) = inr refl
+
+  by-forgotten : (reads : ℕ) (p : Result Unit Refusal) (i : ServerNo) → By [] (forgotten reads p i)
+  by-forgotten reads (Ok permit) i = inr refl
+  by-forgotten reads (Err r) i = inr refl
+
+  by-asked : (reads : ℕ) (p : Result Unit Refusal) (lines : List Line) → By [] (asked reads p lines)
+  by-asked reads (Ok permit) lines = inr refl
+  by-asked reads (Err r) lines = inr refl
+
+  by-effect : (e : Effect) → Becomes s.audit [] (audit_decided s.audit e)
+  by-effect effect.Stays = inr refl
+  by-effect (effect.Change x) = inr refl
+  by-effect (effect.Acks cluster) = inl (cluster, refl, refl)
+
+  by-decided : (reads : ℕ) (a : AuditState) (p : Result Unit Refusal) (d : Decided) → By [] (decided reads a p d)
+  by-decided reads a (Ok permit) d = by-effect d.effect
+  by-decided reads a (Err r) d = inr refl
+
+  by-job : (r : Option Refusal) (list : List ServerNo) (job : Unended) → By [] (job_begun (numbers_of s) r list job)
+  by-job None list job = inr refl
+  by-job (Some r) list job = inr refl
+
+  by-try : (r : Result RecoveryBegins Refusal) → By (tried r) (recovery_begun (numbers_of s) r)
+  by-try (Ok x) = inr refl
+  by-try (Err why) = inr refl
+
+  by-recovery : (i : Option ServerNo) → By (recoveries_of s i) (given_or (refusal s.reads UnknownInstance) (recovered s.world s.book s.audit (numbers_of s)) i)
+  by-recovery None = inr refl
+  by-recovery (Some i) = by-try (recovery_try s.world s.book s.audit (by_hand (numbers_of s)) s.configuration.wait (s.last_job + 1) i)
+
+  by-taken : (i : ServerNo) (d : Option ServerNo) → By (takeovers_by s i d) (taken_over s.world s.book s.audit (numbers_of s) d i)
+  by-taken i None = inr refl
+  by-taken i (Some d) = by-try (takeover_try s.world s.book s.audit (by_hand (numbers_of s)) s.configuration.wait (s.last_job + 1) i d)
+
+  by-takeover : (i d : Option ServerNo) → By (takeovers_of s i d) (given_or (refusal s.reads UnknownInstance) (taken_over s.world s.book s.audit (numbers_of s) d) i)
+  by-takeover None d = inr refl
+  by-takeover (Some i) d = by-taken i d
+
+  by-given : (alone : Outcome) (some : ServerNo → Outcome) → By [] alone → ((i : ServerNo) → By [] (some i)) → (i : Option ServerNo) → By [] (given_or alone some i)
+  by-given alone some here each None = here
+  by-given alone some here each (Some i) = each i
+
+  by-question : By [] (question s.book s.audit s.reads c)
+  by-question = by-asked s.reads (permitted s.book c.command) (lines_of s.book s.audit.recoveries c c.command.name)
+
+  by-route : (r : Route) → By (recoveries_by s c.command r) (outcome_by s.world s.book s.audit (numbers_of s) c r)
+  by-route Discovers =
+      by-given (question s.book s.audit s.reads c) (λ i. discovered s.book s.reads (next_reading s.world (numbers_of s) i) (next_reading s.world (numbers_of s) i).seen) by-question
+      (λ i. by-discovered s.book s.reads (next_reading s.world (numbers_of s) i) (next_reading s.world (numbers_of s) i).seen) c.command.i
+  by-route Forgets =
+      by-given (question s.book s.audit s.reads c) (forgotten s.reads (allowed (removal_refusal s.book c.command))) by-question
+      (by-forgotten s.reads (allowed (removal_refusal s.book c.command))) c.command.i
+  by-route (Asks q) = by-question
+  by-route (Decides d) = by-decided s.reads s.audit (permitted s.book c.command) (decided_of s.book s.audit (record { 0 = s.moment }) c.keys c.command.i d)
+  by-route (Begins p) =
+      by-job (refusal_by s.world s.book (record { 0 = s.moment }) c.command p) (leases_by s.world s.book c.command p)
+      (job_by s.world s.book c.command p (s.last_job + 1) s.configuration.wait)
+  by-route Recovers = by-recovery c.command.i
+  by-route TakesOver = by-takeover c.command.i c.command.d
+
+  pub command-becomes : Becomes s.audit (recoveries_begun s (turn.Command c)) (audit_updated s.audit (command_outcome s c).book)
+  unfolding outcome_of
+  command-becomes = by-route (route_of c.command.name)

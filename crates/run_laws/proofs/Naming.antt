@@ -1,0 +1,201 @@
+-- What begins names no replica twice.
+use Rattle.std.proofs.Common.{◌≡◌, ℕ, ◌+◌, ◌<◌, ◌≤◌, ◌∙◌, ◌&&◌, Bool, true, false, cond, not, List, [], ◌∷◌, length, refl, sym, ap, subst, Option, Some, None, Ok, arith}
+use Rattle.std.specs.Prelude.{◌==◌, All, is_some, nat_lt, option_map}
+use Rattle.std.proofs.lemmas.Bool.{and_parts, eqb-true, false≢true}
+use Rattle.std.proofs.lemmas.List.Elements.{All-nil, All-push}
+use Rattle.std.proofs.lemmas.Option.{none-some, same_Some}
+use Rattle.orch_base.specs.declared.code.Code.{Code}
+use Rattle.orch_base.specs.declared.server.ServerNo.{ServerNo}
+use Rattle.orch_base.specs.declared.server.SourceState.{SourceState}
+use Rattle.orch_base.specs.declared.server.SourceState.TheVariants.{Without, Attached, Detached}
+use Rattle.commands.specs.declared.refusal.Refusal.{Refusal}
+use Rattle.commands.specs.declared.refusal.Refusal.TheVariants.{NoCandidate, NotMaster, NotReplica, UnknownInstance}
+use Rattle.name_order.specs.NameOrder.{by_name}
+use Rattle.instance_keeper.specs.Book.{BookState, instance_at}
+use Rattle.instance_keeper.specs.declared.observation.Instance.{Instance}
+use Rattle.book_views.specs.Sources.{is_attached_to, is_instance, is_replica_of, replicas_of, seen_source, source_in}
+use Rattle.audit_log.specs.Audits.{AuditState}
+use Rattle.failure_analysis.specs.Analysis.{counts_of, entry_of}
+use Rattle.failure_analysis.specs.Table.{action_of, code_of, none_replicates, AreCounts}
+use Rattle.failure_analysis.specs.declared.code.Action.{Action}
+use Rattle.failure_analysis.specs.declared.code.Action.TheVariants as action
+use Rattle.failure_analysis.specs.declared.entry.Entry.{Entry}
+use Rattle.failure_analysis.proofs.Counting.{tally-parts}
+use Rattle.failure_analysis.proofs.Rows.{action-of}
+use Rattle.permission.specs.Checks.{first_refusal, is_given}
+use Rattle.permission.specs.Lists.{first_of, only_if}
+use Rattle.permission.specs.Views.{attached_in, attached_of, has_log, is_valid, same_label, source_of}
+use Rattle.permission.proofs.Free.{neither}
+use Rattle.recovery_plans.specs.declared.purpose.Purpose.TheVariants as purpose
+use Rattle.recovery_permits.specs.declared.attempt.Attempt.{Attempt}
+use Rattle.recovery_permits.specs.Checks.{can_succeed, code_at, has_successor, held_back, no_master, no_replica, without_successor}
+use Rattle.recovery_permits.specs.Recoveries.{held_off, purpose_by, recovery_purpose, recovery_refusal, refusal_by, refusal_for}
+use Rattle.recovery_permits.specs.Takeovers.{case_of, row, takeover_refusal}
+use Rattle.recovery_core.specs.Scans.{Staged, actionable_in, after_try, from_start, scan_step, scanned, scanned_over, staged_refusal}
+use Rattle.recovery_core.specs.Tries.{Begins, recovery_begins, recovery_try, takeover_begins, takeover_try, unless_refused}
+use Rattle.recovery_core.proofs.Beginning.{unrefused}
+use Rattle.recovery_covers.specs.Covers.{times, AreReplicas}
+use Rattle.server_model.specs.Worlds.{World}
+use Rattle.run_laws.specs.Begins.{NamesReplicasOnce}
+use Rattle.run_laws.proofs.Once.{few-none, filtered-all, filtered-few, filtered-none, hit-few, none-few, ordered-few, ordered-once}
+
+-- ---- single tests
+
+not-true : (b : Bool) → not b ≡ true → b ≡ false
+not-true true h = absurd (false≢true h)
+not-true false h = refl
+
+passed : (b : Bool) (r : Refusal) → only_if (not b) r ≡ None → b ≡ true
+passed true r h = refl
+passed false r h = cc
+
+absent : (o : Option ServerNo) (r : Refusal) → only_if (is_some o) r ≡ None → o ≡ None
+absent None r h = refl
+absent (Some s) r h = cc
+
+sourceless : (o : Option ServerNo) → is_some o ≡ false → o ≡ None
+sourceless None h = refl
+sourceless (Some s) h = absurd (false≢true (sym h))
+
+unattached : (i : ServerNo) (s : SourceState) → source_in s ≡ None → is_attached_to i s ≡ false
+unattached i Without h = refl
+unattached i (Attached m) h = cc
+unattached i (Detached m) h = refl
+
+attached-replica : (i : ServerNo) (s : SourceState) → is_given i (attached_in s) ≡ is_attached_to i s
+attached-replica i Without = refl
+attached-replica i (Attached m) = refl
+attached-replica i (Detached m) = refl
+
+last-two : (x1 x2 x3 x4 x5 : Option Refusal) → first_of (x1 ∷ x2 ∷ x3 ∷ x4 ∷ x5 ∷ []) ≡ None → (x4 ≡ None) × (x5 ≡ None)
+last-two None None None None None h = (refl, refl)
+last-two None None None None (Some r) h = cc
+last-two None None None (Some r) x5 h = cc
+last-two None None (Some r) x4 x5 h = cc
+last-two None (Some r) x3 x4 x5 h = cc
+last-two (Some r) x2 x3 x4 x5 h = cc
+
+-- what is asked for of a server with a source is no master's recovery
+abbrev is_masters : Action → Bool
+is_masters action.MasterRecovery = true
+is_masters action.IntermediateRecovery = false
+is_masters action.Nothing = false
+
+asked-without : (dead sourced : Bool) → cond dead (cond sourced action.IntermediateRecovery action.MasterRecovery) action.Nothing ≡ action.MasterRecovery → sourced ≡ false
+asked-without true true h = absurd (false≢true (ap is_masters h))
+asked-without true false h = refl
+asked-without false sourced h = absurd (false≢true (ap is_masters h))
+
+-- ---- by the book
+
+module _ (b : BookState) where
+  replicas-few : (f : ServerNo) (n : ℕ) → times n (replicas_of b f) ≤ 1
+  replicas-few f n = let less = filtered-few n (is_replica_of b f) (by_name b.names) in let few = ordered-few n b.names in omega (arith, less, few)
+
+  pub regroup-are : (f : ServerNo) → AreReplicas purpose.Regroup f (replicas_of b f)
+  regroup-are f = record { distinct = replicas-few f; placed = tt }
+
+  no-replica : (f s : ServerNo) → is_replica_of b f s ≡ false → times s.0 (replicas_of b f) ≡ 0
+  no-replica f s fails = filtered-none (is_replica_of b f) s (by_name b.names) fails
+
+  one-replica : (f d : ServerNo) → d.0 < length b.names → is_replica_of b f d ≡ true → times d.0 (replicas_of b f) ≡ 1
+  one-replica f d within is = filtered-all (is_replica_of b f) d (by_name b.names) is ∙ ordered-once b.names d within
+
+  counts : (f : ServerNo) (i : Instance) → AreCounts (counts_of b f i)
+  counts f i = let parts = tally-parts b.instances f in record { lagging = parts.lagging; replicating = parts.replicating; valid = parts.valid }
+
+  -- a master is what has no source
+  master-source : (f : ServerNo) (code : Code) → code_at b f ≡ Some code → action_of code ≡ action.MasterRecovery → source_of b f ≡ None
+  master-source f code at asks = go (instance_at b f) at
+    where
+      go : (o : Option Instance) → option_map (λ (e : Entry). e.code) (option_map (entry_of b f) o) ≡ Some code → source_in (seen_source o) ≡ None
+      go None h = refl
+      go (Some i) h =
+          let c = counts_of b f i in
+          sourceless (source_in i.seen.source)
+          (asked-without (not i.valid && (nat_lt 0 c.valid_replicas && none_replicates c)) (is_some (source_in i.seen.source))
+          (sym (action-of c (counts f i)) ∙ ap action_of (same_Some (code_of c) code h) ∙ asks))
+
+-- ---- by what isn't refused
+
+module _ (w : World) (b : BookState) (audit : AuditState) (a : Attempt) where
+  -- the source of an intermediate master is none of its replicas
+  successor : (f s : ServerNo) → recovery_refusal w b audit a f ≡ None → source_of b f ≡ Some s → is_replica_of b f s ≡ false
+  successor f s free at = by-code (code_at b f) refl free
+    where
+      can : can_succeed w b f s ≡ true → is_replica_of b f s ≡ false
+      can h =
+          let one = and_parts (is_valid b s) (has_log w s && (same_label w s f && not (is_replica_of b f s))) h in
+          let two = and_parts (has_log w s) (same_label w s f && not (is_replica_of b f s)) one.1 in
+          not-true (is_replica_of b f s) (and_parts (same_label w s f) (not (is_replica_of b f s)) two.1).1
+
+      by-action : (code : Code) (what : Action) → (what ≡ action.MasterRecovery → source_of b f ≡ None) → refusal_for w b audit a f code what ≡ None → is_replica_of b f s ≡ false
+      by-action code action.Nothing masters h = cc
+      by-action code action.MasterRecovery masters h = absurd (none-some s (sym (masters refl) ∙ at))
+      by-action code action.IntermediateRecovery masters h =
+          let has = passed (has_successor w b f (source_of b f)) NoCandidate (neither (held_off b audit a f a.by_intermediate) (without_successor w b f) h).1 in
+          can (sym (ap (has_successor w b f) at) ∙ has)
+
+      by-code : (o : Option Code) → code_at b f ≡ o → refusal_by w b audit a f o ≡ None → is_replica_of b f s ≡ false
+      by-code None e h = cc
+      by-code (Some code) e h = by-action code (action_of code) (master-source b f code e) (neither _ (refusal_for w b audit a f code (action_of code)) h).1
+
+  recovery-are : (f : ServerNo) → recovery_refusal w b audit a f ≡ None → AreReplicas (recovery_purpose b f) f (replicas_of b f)
+  recovery-are f free = go (source_of b f) refl
+    where
+      go : (o : Option ServerNo) → source_of b f ≡ o → AreReplicas (purpose_by o) f (replicas_of b f)
+      go None e = record { distinct = replicas-few b f; placed = tt }
+      go (Some s) e = record { distinct = replicas-few b f; placed = no-replica b f s (successor f s free e) }
+
+  takeover-are : (i d : ServerNo) → d.0 < length b.names → takeover_refusal w b audit a i d ≡ None → AreReplicas (purpose.Takeover d) i (replicas_of b i)
+  takeover-are i d within free = record { distinct = λ n. few n (i.0 == n) refl; placed = one-replica b i d within attached }
+    where
+      two : (no_master b i ≡ None) × (no_replica b i d ≡ None)
+      two =
+          last-two (only_if (not (is_instance b i && is_instance b d)) UnknownInstance) (first_refusal w b (case_of b i d) row) (held_back b audit a i) (no_master b i)
+          (no_replica b i d) free
+
+      attached : is_replica_of b i d ≡ true
+      attached = sym (attached-replica i (seen_source (instance_at b d))) ∙ passed (is_given i (attached_of b d)) NotReplica two.1
+
+      -- a master is no replica of its own
+      own : is_replica_of b i i ≡ false
+      own = unattached i (seen_source (instance_at b i)) (absent (source_of b i) NotMaster two.0)
+
+      few : (n : ℕ) (c : Bool) → (i.0 == n) ≡ c → times n (i ∷ replicas_of b i) ≤ 1
+      few n true e =
+          few-none (cond (i.0 == n) 1 0) (times n (replicas_of b i)) (hit-few n i.0) (ap (λ m. times m (replicas_of b i)) (sym (eqb-true i.0 n e)) ∙ no-replica b i i own)
+      few n false e = none-few (cond (i.0 == n) 1 0) (times n (replicas_of b i)) (ap (λ c. cond c 1 0) e) (replicas-few b i n)
+
+  pub recovery-names : (wait job : ℕ) (f : ServerNo) (x : Begins) → recovery_try w b audit a wait job f ≡ Ok x → NamesReplicasOnce b x
+  recovery-names wait job f x h =
+      let parts = unrefused (recovery_refusal w b audit a f) (recovery_begins b audit a.now wait job f) x h in
+      subst (NamesReplicasOnce b) parts.1 (record { replicas = refl; once = recovery-are f parts.0 })
+
+  pub takeover-names : (wait job : ℕ) (i d : ServerNo) (x : Begins) → d.0 < length b.names → takeover_try w b audit a wait job i d ≡ Ok x → NamesReplicasOnce b x
+  takeover-names wait job i d x within h =
+      let parts = unrefused (takeover_refusal w b audit a i d) (takeover_begins b audit a.now wait job i d) x h in
+      subst (NamesReplicasOnce b) parts.1 (record { replicas = refl; once = takeover-are i d within parts.0 })
+
+-- ---- by a scan
+
+module _ (w : World) (b : BookState) (by : ServerNo → Attempt) (wait : ℕ) where
+  abbrev begins_at : Staged → Entry → Begins
+  begins_at s e = recovery_begins (record b { leases = s.leases }) s.audit (by e.no).now wait (s.last + 1) e.no
+
+  abbrev Names : Begins → Type 0
+  Names x = NamesReplicasOnce b x
+
+  step-names : (s : Staged) (e : Entry) → All Names s.begun → All Names (scan_step w b by wait s e).begun
+  step-names s e named = go (staged_refusal w b (by e.no) s e.no) refl
+    where
+      go : (o : Option Refusal) → staged_refusal w b (by e.no) s e.no ≡ o → All Names (after_try s e (unless_refused o (begins_at s e))).begun
+      go None free = All-push Names s.begun (begins_at s e) named (record { replicas = refl; once = recovery-are w (record b { leases = s.leases }) s.audit (by e.no) e.no free })
+      go (Some r) why = named
+
+  over-names : (s : Staged) (es : List Entry) → All Names s.begun → All Names (scanned_over w b by wait s es).begun
+  over-names s [] named = named
+  over-names s (e ∷ es) named = over-names (scan_step w b by wait s e) es (step-names s e named)
+
+  pub scan-names : (audit : AuditState) (last : ℕ) → All Names (scanned w b audit by wait last).begun
+  scan-names audit last = over-names (from_start b audit last) (actionable_in b) (All-nil Names)

@@ -1,0 +1,341 @@
+-- Commands answer by the permission table, and a refused one changes nothing.
+use Rattle.std.proofs.Common.{◌≡◌, ◌∙◌, ℕ, ◌+◌, Bool, List, [], ◌∷◌, ◌++◌, refl, sym, ap, subst, Option, Some, None, Ok}
+use Rattle.std.specs.Prelude.{is_some, if◌then◌else◌}
+use Rattle.orch_base.specs.declared.server.ServerNo.{ServerNo}
+use Rattle.instance_keeper.specs.declared.observation.Observation.{Observation}
+use Rattle.server_words.specs.declared.status.Status.{Status as Seen}
+use Rattle.instance_keeper.specs.declared.row.Row.{Row}
+use Rattle.instance_keeper.specs.Book.{BookState}
+use Rattle.commands.specs.declared.line.Line.{Line}
+use Rattle.commands.specs.declared.line.Line.TheVariants as line
+use Rattle.commands.specs.declared.name.CommandName.{CommandName}
+use Rattle.commands.specs.declared.name.CommandName.TheVariants as name
+use Rattle.commands.specs.declared.refusal.Refusal.{Refusal}
+use Rattle.commands.specs.declared.refusal.Refusal.TheVariants.{UnknownInstance, Unreachable}
+use Rattle.commands.specs.declared.turn.CommandTurn.{CommandTurn}
+use Rattle.commands.specs.Unknown.{unknown_of}
+use Rattle.asking_commands.specs.Answers.{allowed, is_known, lines_of}
+use Rattle.turns.specs.declared.turn.Reply.TheVariants as answered
+use Rattle.turns.specs.declared.turn.Turn.TheVariants as turn
+use Rattle.command_routes.specs.declared.route.Planner.{Planner}
+use Rattle.command_jobs.specs.Jobs.{job_by, leases_by, refusal_by as planned_refusal}
+use Rattle.command_jobs.proofs.Begun.{job-number}
+use Rattle.unended_jobs.specs.declared.unended.Unended.{Unended}
+use Rattle.orch_core.specs.Commands.{Outcome, about as given_or, asked, audit_updated, begun, busy_given, by_hand, decided, discovered, first_of, forgotten, jobs_updated, last_job_updated, next_reading, outcome_by, outcome_of, recovered, recovery_begun, refusal, stays, taken_over, updated}
+use Rattle.audit_log.specs.Audits.{AuditState}
+use Rattle.book_commands.specs.declared.decided.Decided.{Decided}
+use Rattle.book_commands.specs.Decisions.{decided_of}
+use Rattle.command_routes.specs.declared.route.Route.{Route}
+use Rattle.command_routes.specs.declared.route.Route.TheVariants.{Discovers, Forgets, Asks, Decides, Begins, Recovers, TakesOver}
+use Rattle.command_routes.specs.Routes.{route_of}
+use Rattle.instance_keeper.specs.Leases.{taken}
+use Rattle.orch_core.specs.Permission.{IsAnswer, IsDone, recovery_refused, refusal_at, refusal_by, takeover_given, takeover_refused, unreached}
+use Rattle.recovery_core.specs.Tries.{Begins as RecoveryBegins, recovery_begins, takeover_begins, unless_refused}
+use Rattle.recovery_permits.specs.Recoveries.{recovery_refusal}
+use Rattle.recovery_permits.specs.Takeovers.{takeover_refusal}
+use Rattle.turns.specs.declared.turn.Reply.{Reply}
+use Rattle.unended_jobs.specs.Unended.{number_of}
+use Rattle.run_laws.specs.BegunJobs.{BegunJob, begun_by, begun_of, entry_kept, of_plan, of_try, recovering, taking_by, taking_over, with_entry}
+use Rattle.run_laws.specs.Runs.{IsBegun}
+use Rattle.orch_core.specs.Polls.{changes_of, command_outcome, numbers_of}
+use Rattle.orch_core.specs.Replies.{reply_of}
+use Rattle.orch_core.specs.Runs.{step}
+use Rattle.orch_core.specs.States.{State}
+
+-- refused exactly with the refusal that applies, else so
+abbrev AnswersBy : (Reply → Type 0) → Option Refusal → Reply → Type 0
+AnswersBy D None r = D r
+AnswersBy D (Some refusal) r = r ≡ answered.Refused refusal
+
+by-table : (route : Route) (o : Option Refusal) (r : Reply) → AnswersBy (λ x. IsDone route x) o r → IsAnswer route o r
+by-table route None r h = h
+by-table route (Some why) r h = h
+
+abbrev IsTold : Reply → Type 0
+IsTold r = (lines : List Line) × (r ≡ answered.Told lines)
+
+abbrev IsJob : Reply → Type 0
+IsJob r = (job : ℕ) × (r ≡ answered.Begun job)
+
+-- an outcome answers by the table: begun or done, or refused and without a change
+record Answers (reads : ℕ) (D : Reply → Type 0) (r : Option Refusal) (o : Outcome) : Type 0 where
+  answer : AnswersBy D r o.reply
+  book : (why : Refusal) → o.reply ≡ answered.Refused why → o.book ≡ stays
+  rows : (why : Refusal) → o.reply ≡ answered.Refused why → o.rows ≡ []
+  reads_stay : (why : Refusal) → o.reply ≡ answered.Refused why → o.reads ≡ reads
+
+done_answers : (reads : ℕ) (lines : List Line) (o : Outcome) → o.reply ≡ answered.Told lines → Answers reads IsTold None o
+done_answers reads lines o is = record { answer = (lines, is); book = λ why refused. cc; rows = λ why refused. cc; reads_stay = λ why refused. cc }
+
+job_answers : (reads job : ℕ) (o : Outcome) → o.reply ≡ answered.Begun job → Answers reads IsJob None o
+job_answers reads job o is = record { answer = (job, is); book = λ why refused. cc; rows = λ why refused. cc; reads_stay = λ why refused. cc }
+
+refused_answers : (reads : ℕ) (D : Reply → Type 0) (r : Refusal) → Answers reads D (Some r) (refusal reads r)
+refused_answers reads D r = record { answer = refl; book = λ why refused. refl; rows = λ why refused. refl; reads_stay = λ why refused. refl }
+
+-- only discover reads the server itself
+route_discovers : (n : CommandName) → route_of n ≡ Discovers → n ≡ name.Discover
+route_discovers name.MoveUp is = cc
+route_discovers name.MoveUpReplicas is = cc
+route_discovers name.MoveBelow is = cc
+route_discovers name.Repoint is = cc
+route_discovers name.TakeSiblings is = cc
+route_discovers name.TakeMaster is = cc
+route_discovers name.MoveGtid is = cc
+route_discovers name.MoveReplicasGtid is = cc
+route_discovers name.EnableGtid is = cc
+route_discovers name.DisableGtid is = cc
+route_discovers name.Relocate is = cc
+route_discovers name.RelocateReplicas is = cc
+route_discovers name.RegroupReplicas is = cc
+route_discovers name.DetachReplica is = cc
+route_discovers name.ReattachReplica is = cc
+route_discovers name.ResetReplica is = cc
+route_discovers name.StartReplica is = cc
+route_discovers name.StopReplica is = cc
+route_discovers name.RestartReplica is = cc
+route_discovers name.SetReadOnly is = cc
+route_discovers name.SetWriteable is = cc
+route_discovers name.Discover is = refl
+route_discovers name.Forget is = cc
+route_discovers name.BeginDowntime is = cc
+route_discovers name.EndDowntime is = cc
+route_discovers name.RegisterCandidate is = cc
+route_discovers name.Recover is = cc
+route_discovers name.GracefulMasterTakeover is = cc
+route_discovers name.AckClusterRecoveries is = cc
+route_discovers name.Topology is = cc
+route_discovers name.WhichMaster is = cc
+route_discovers name.WhichReplicas is = cc
+route_discovers name.WhichCluster is = cc
+route_discovers name.WhichClusterInstances is = cc
+route_discovers name.Clusters is = cc
+route_discovers name.AllInstances is = cc
+route_discovers name.Find is = cc
+route_discovers name.ReplicationAnalysis is = cc
+route_discovers name.AuditRecoveries is = cc
+route_discovers name.DisableGlobalRecoveries is = cc
+route_discovers name.EnableGlobalRecoveries is = cc
+route_discovers name.CheckGlobalRecoveries is = cc
+
+-- and it takes any server
+discover_takes : (n : CommandName) (i : ServerNo) (d : Option ServerNo) (i_known d_known : Bool) → route_of n ≡ Discovers → unknown_of (record { name = n; i = Some i; d = d }) i_known d_known ≡ None
+discover_takes n i d i_known d_known is = subst (λ (m : CommandName). unknown_of (record { name = m; i = Some i; d = d }) i_known d_known ≡ None) (sym (route_discovers n is)) (takes d)
+  where
+    takes : (d : Option ServerNo) → unknown_of (record { name = name.Discover; i = Some i; d = d }) i_known d_known ≡ None
+    takes None = refl
+    takes (Some m) = refl
+
+first_alone : (r : Option Refusal) → first_of r None ≡ r
+first_alone None = refl
+first_alone (Some r) = refl
+
+asked_by : (reads : ℕ) (unknown : Option Refusal) (lines : List Line) → Answers reads IsTold unknown (asked reads (allowed unknown) lines)
+asked_by reads None lines = done_answers reads lines (asked reads (Ok tt) lines) refl
+asked_by reads (Some r) lines = refused_answers reads IsTold r
+
+forgotten_by : (reads : ℕ) (refused : Option Refusal) (i : ServerNo) → Answers reads IsTold refused (forgotten reads (allowed refused) i)
+forgotten_by reads None i = done_answers reads (line.Server i ∷ []) (forgotten reads (Ok tt) i) refl
+forgotten_by reads (Some r) i = refused_answers reads IsTold r
+
+decided_by : (reads : ℕ) (a : AuditState) (unknown : Option Refusal) (d : Decided) → Answers reads IsTold unknown (decided reads a (allowed unknown) d)
+decided_by reads a None d = done_answers reads d.lines (decided reads a (Ok tt) d) refl
+decided_by reads a (Some r) d = refused_answers reads IsTold r
+
+discovered_by : (b : BookState) (reads : ℕ) (o : Observation) (x : Option Seen) → Answers reads IsTold (if is_some x then None else Some (Unreachable o.no)) (discovered b reads o x)
+discovered_by b reads o None = refused_answers reads IsTold (Unreachable o.no)
+discovered_by b reads o (Some seen) = done_answers reads (line.Server o.no ∷ []) (discovered b reads o (Some seen)) refl
+
+-- a command that begins a job
+begun_answers : (s : State) (r : Option Refusal) (list : List ServerNo) (job : Unended) → Answers s.reads IsJob r (begun (numbers_of s) r list job)
+begun_answers s None list job = job_answers s.reads (s.last_job + 1) (begun (numbers_of s) None list job) refl
+begun_answers s (Some r) list job = refused_answers s.reads IsJob r
+
+try_answers : (s : State) (r : Option Refusal) (x : RecoveryBegins) → Answers s.reads IsJob r (recovery_begun (numbers_of s) (unless_refused r x))
+try_answers s None x = job_answers s.reads (s.last_job + 1) (recovery_begun (numbers_of s) (unless_refused None x)) refl
+try_answers s (Some r) x = refused_answers s.reads IsJob r
+
+module _ (s : State) (c : CommandTurn) where
+  abbrev lines : List Line
+  lines = lines_of s.book s.audit.recoveries c c.command.name
+
+  -- what is unknown, by the instance that is given
+  abbrev unknown : Option ServerNo → Option Refusal
+  unknown i = unknown_of (record { name = c.command.name; i = i; d = c.command.d }) (is_known s.book i) (is_known s.book c.command.d)
+
+  abbrev read_of : ServerNo → Observation
+  read_of k = next_reading s.world (numbers_of s) k
+
+  -- without an instance nothing is read or removed
+  without : Answers s.reads IsTold (first_of (unknown None) None) (asked s.reads (allowed (unknown None)) lines)
+  without = subst (λ (r : Option Refusal). Answers s.reads IsTold r (asked s.reads (allowed (unknown None)) lines)) (sym (first_alone (unknown None))) (asked_by s.reads (unknown None) lines)
+
+  at_discovery : route_of c.command.name ≡ Discovers → (i : Option ServerNo)
+      → Answers s.reads IsTold (first_of (unknown i) (unreached s.world i)) (given_or (asked s.reads (allowed (unknown i)) lines) (λ k. discovered s.book s.reads (read_of k) (read_of k).seen) i)
+  at_discovery is None = without
+  at_discovery is (Some k) =
+      subst (λ (u : Option Refusal). Answers s.reads IsTold (first_of u (unreached s.world (Some k))) (discovered s.book s.reads (read_of k) (read_of k).seen))
+      (sym (discover_takes c.command.name k c.command.d (is_known s.book (Some k)) (is_known s.book c.command.d) is)) (discovered_by s.book s.reads (read_of k) (read_of k).seen)
+
+  at_removal : (i : Option ServerNo)
+      → Answers s.reads IsTold (first_of (unknown i) (busy_given s.book i)) (given_or (asked s.reads (allowed (unknown i)) lines) (forgotten s.reads (allowed (first_of (unknown i) (busy_given s.book i)))) i)
+  at_removal None = without
+  at_removal (Some k) = forgotten_by s.reads (first_of (unknown (Some k)) (busy_given s.book (Some k))) k
+
+  at_recovery : (i : Option ServerNo) → Answers s.reads IsJob (recovery_refused s.world s.book s.audit (numbers_of s) i) (given_or (refusal s.reads UnknownInstance) (recovered s.world s.book s.audit (numbers_of s)) i)
+  at_recovery None = refused_answers s.reads IsJob UnknownInstance
+  at_recovery (Some i) =
+      try_answers s (recovery_refusal s.world s.book s.audit (by_hand (numbers_of s)) i) (recovery_begins s.book s.audit (record { 0 = s.moment }) s.configuration.wait (s.last_job + 1) i)
+
+  at_taking : (i : ServerNo) (d : Option ServerNo) → Answers s.reads IsJob (takeover_given s.world s.book s.audit (numbers_of s) i d) (taken_over s.world s.book s.audit (numbers_of s) d i)
+  at_taking i None = refused_answers s.reads IsJob UnknownInstance
+  at_taking i (Some d) =
+      try_answers s (takeover_refusal s.world s.book s.audit (by_hand (numbers_of s)) i d) (takeover_begins s.book s.audit (record { 0 = s.moment }) s.configuration.wait (s.last_job + 1) i d)
+
+  at_takeover : (i d : Option ServerNo)
+      → Answers s.reads IsJob (takeover_refused s.world s.book s.audit (numbers_of s) i d) (given_or (refusal s.reads UnknownInstance) (taken_over s.world s.book s.audit (numbers_of s) d) i)
+  at_takeover None d = refused_answers s.reads IsJob UnknownInstance
+  at_takeover (Some i) d = at_taking i d
+
+  answers_by : (r : Route) → route_of c.command.name ≡ r
+      → Answers s.reads (λ x. IsDone r x) (refusal_by s.world s.book s.audit (numbers_of s) c.command r) (outcome_by s.world s.book s.audit (numbers_of s) c r)
+  answers_by Discovers is = at_discovery is c.command.i
+  answers_by Forgets is = at_removal c.command.i
+  answers_by (Asks q) is = asked_by s.reads (unknown c.command.i) lines
+  answers_by (Decides d) is = decided_by s.reads s.audit (unknown c.command.i) (decided_of s.book s.audit (record { 0 = s.moment }) c.keys c.command.i d)
+  answers_by (Begins p) is =
+      begun_answers s (planned_refusal s.world s.book (record { 0 = s.moment }) c.command p) (leases_by s.world s.book c.command p) (job_by s.world s.book c.command p (s.last_job + 1) s.configuration.wait)
+  answers_by Recovers is = at_recovery c.command.i
+  answers_by TakesOver is = at_takeover c.command.i c.command.d
+
+outcome_answers : (s : State) (c : CommandTurn) → Answers s.reads (λ x. IsDone (route_of c.command.name) x) (refusal_at s c.command) (command_outcome s c)
+unfolding outcome_of
+outcome_answers s c = answers_by s c (route_of c.command.name) refl
+
+pub answers_by_table : (s : State) (c : CommandTurn) → IsAnswer (route_of c.command.name) (refusal_at s c.command) (reply_of s (turn.Command c))
+answers_by_table s c = by-table (route_of c.command.name) (refusal_at s c.command) (reply_of s (turn.Command c)) (outcome_answers s c).answer
+
+-- a refused command changes nothing
+pub refused_changes_nothing : (rows : List Row) (s : State) (c : CommandTurn) (r : Refusal) → reply_of s (turn.Command c) ≡ answered.Refused r
+    → (changes_of rows s (turn.Command c) ≡ []) × (step rows s (turn.Command c) ≡ s)
+refused_changes_nothing rows s c r is =
+    let o = outcome_answers s c in
+    let u = (command_outcome s c).book in
+    let reads = (command_outcome s c).reads in
+    let after : BookState → AuditState → List Unended → ℕ → ℕ → State = λ b a jobs last reads. record s { book = b; audit = a; jobs = jobs; last_job = last; reads = reads } in
+    let book : updated s.book u ≡ s.book = ap (updated s.book) (o.book r is) in
+    let audit : audit_updated s.audit u ≡ s.audit = ap (audit_updated s.audit) (o.book r is) in
+    let jobs : jobs_updated s.jobs u ≡ s.jobs = ap (jobs_updated s.jobs) (o.book r is) in
+    let last : last_job_updated s.last_job u ≡ s.last_job = ap (last_job_updated s.last_job) (o.book r is) in (
+      o.rows r is,
+      ap (λ b. after b (audit_updated s.audit u) (jobs_updated s.jobs u) (last_job_updated s.last_job u) reads) book
+          ∙ (ap (λ a. after s.book a (jobs_updated s.jobs u) (last_job_updated s.last_job u) reads) audit
+          ∙ (ap (λ js. after s.book s.audit js (last_job_updated s.last_job u) reads) jobs
+          ∙ (ap (λ last. after s.book s.audit s.jobs last reads) last ∙ ap (after s.book s.audit s.jobs s.last_job) (o.reads_stay r is)))),
+    )
+
+-- ---- what a job that is begun leaves
+
+-- it has the next number, and joins the others with its leases, and its entry the audit
+record LeavesJob (s : State) (x : BegunJob) (o : Outcome) : Type 0 where
+  reply : o.reply ≡ answered.Begun (s.last_job + 1)
+  number : number_of x.job ≡ s.last_job + 1
+  jobs : jobs_updated s.jobs o.book ≡ s.jobs ++ x.job ∷ []
+  last : last_job_updated s.last_job o.book ≡ s.last_job + 1
+  leases : (updated s.book o.book).leases ≡ taken s.book.leases x.list (s.last_job + 1)
+  audit : audit_updated s.audit o.book ≡ with_entry s.audit x.entry
+  rows : o.rows ≡ entry_kept x.entry
+
+-- where none begins, the outcome doesn't answer so
+abbrev LeavesBegun : State → Option BegunJob → Outcome → Type 0
+LeavesBegun s None o = (id : ℕ) → o.reply ≡ answered.Begun id → ⊥
+LeavesBegun s (Some x) o = LeavesJob s x o
+
+refusal_begins : (reads : ℕ) (r : Refusal) (id : ℕ) → (refusal reads r).reply ≡ answered.Begun id → ⊥
+refusal_begins reads r id begun = cc
+
+-- nor where it tells lines
+told_begins : (reads : ℕ) (r : Option Refusal) (o : Outcome) → Answers reads IsTold r o → (id : ℕ) → o.reply ≡ answered.Begun id → ⊥
+told_begins reads None o answers id begun = let told : answered.Begun id ≡ answered.Told answers.answer.0 = sym begun ∙ answers.answer.1 in cc
+told_begins reads (Some why) o answers id begun = let refused : answered.Begun id ≡ answered.Refused why = sym begun ∙ answers.answer in cc
+
+module _ (s : State) (c : CommandTurn) where
+  plan_leaves : (p : Planner) (r : Option Refusal)
+      → LeavesBegun s (of_plan r (leases_by s.world s.book c.command p) (job_by s.world s.book c.command p (s.last_job + 1) s.configuration.wait))
+      (begun (numbers_of s) r (leases_by s.world s.book c.command p) (job_by s.world s.book c.command p (s.last_job + 1) s.configuration.wait))
+  plan_leaves p None =
+      let same = job-number s.world s.book c.command p (s.last_job + 1) s.configuration.wait in
+      record { reply = refl; number = same; jobs = refl; last = same; leases = ap (taken s.book.leases (leases_by s.world s.book c.command p)) same; audit = refl; rows = refl }
+  plan_leaves p (Some why) = refusal_begins s.reads why
+
+  try_leaves : (r : Option Refusal) (x : RecoveryBegins) → x.job.core.id ≡ s.last_job + 1 → LeavesBegun s (of_try (unless_refused r x)) (recovery_begun (numbers_of s) (unless_refused r x))
+  try_leaves None x same = record { reply = refl; number = same; jobs = refl; last = same; leases = ap (taken s.book.leases x.list) same; audit = refl; rows = refl }
+  try_leaves (Some why) x same = refusal_begins s.reads why
+
+  recovery_leaves : (i : Option ServerNo) → LeavesBegun s (recovering s i) (given_or (refusal s.reads UnknownInstance) (recovered s.world s.book s.audit (numbers_of s)) i)
+  recovery_leaves None = refusal_begins s.reads UnknownInstance
+  recovery_leaves (Some i) =
+      try_leaves (recovery_refusal s.world s.book s.audit (by_hand (numbers_of s)) i) (recovery_begins s.book s.audit (record { 0 = s.moment }) s.configuration.wait (s.last_job + 1) i) refl
+
+  taking_leaves : (i : ServerNo) (d : Option ServerNo) → LeavesBegun s (taking_by s i d) (taken_over s.world s.book s.audit (numbers_of s) d i)
+  taking_leaves i None = refusal_begins s.reads UnknownInstance
+  taking_leaves i (Some d) =
+      try_leaves (takeover_refusal s.world s.book s.audit (by_hand (numbers_of s)) i d) (takeover_begins s.book s.audit (record { 0 = s.moment }) s.configuration.wait (s.last_job + 1) i d) refl
+
+  takeover_leaves : (i d : Option ServerNo) → LeavesBegun s (taking_over s i d) (given_or (refusal s.reads UnknownInstance) (taken_over s.world s.book s.audit (numbers_of s) d) i)
+  takeover_leaves None d = refusal_begins s.reads UnknownInstance
+  takeover_leaves (Some i) d = taking_leaves i d
+
+  route_leaves : (r : Route) → route_of c.command.name ≡ r → LeavesBegun s (begun_by s c.command r) (outcome_by s.world s.book s.audit (numbers_of s) c r)
+  route_leaves Discovers is = told_begins s.reads _ _ (answers_by s c Discovers is)
+  route_leaves Forgets is = told_begins s.reads _ _ (answers_by s c Forgets is)
+  route_leaves (Asks q) is = told_begins s.reads _ _ (answers_by s c (Asks q) is)
+  route_leaves (Decides d) is = told_begins s.reads _ _ (answers_by s c (Decides d) is)
+  route_leaves (Begins p) is = plan_leaves p (planned_refusal s.world s.book (record { 0 = s.moment }) c.command p)
+  route_leaves Recovers is = recovery_leaves c.command.i
+  route_leaves TakesOver is = takeover_leaves c.command.i c.command.d
+
+  command_leaves : LeavesBegun s (begun_of s c.command) (command_outcome s c)
+  unfolding outcome_of
+  command_leaves = route_leaves (route_of c.command.name) refl
+
+  -- a command that answers a number begins a job
+  pub begun_there : (id : ℕ) → IsBegun s c id → (x : BegunJob) × (begun_of s c.command ≡ Some x)
+  begun_there id begun = go (begun_of s c.command) command_leaves
+    where
+      go : (o : Option BegunJob) → LeavesBegun s o (command_outcome s c) → (x : BegunJob) × (o ≡ Some x)
+      go None leaves = absurd (leaves id begun)
+      go (Some x) leaves = (x, refl)
+
+  -- with the next number
+  pub begun_number : (id : ℕ) → IsBegun s c id → id ≡ s.last_job + 1
+  begun_number id begun = go (begun_of s c.command) command_leaves
+    where
+      go : (o : Option BegunJob) → LeavesBegun s o (command_outcome s c) → id ≡ s.last_job + 1
+      go None leaves = absurd (leaves id begun)
+      go (Some x) leaves = let same : answered.Begun id ≡ answered.Begun (s.last_job + 1) = sym begun ∙ leaves.reply in cc
+
+  module _ (x : BegunJob) (is : begun_of s c.command ≡ Some x) where
+    leaves : LeavesJob s x (command_outcome s c)
+    leaves = subst (λ (o : Option BegunJob). LeavesBegun s o (command_outcome s c)) is command_leaves
+
+    pub begun_replies : IsBegun s c (s.last_job + 1)
+    begun_replies = leaves.reply
+
+    pub begun_numbered : number_of x.job ≡ s.last_job + 1
+    begun_numbered = leaves.number
+
+    pub begun_joins : (rows : List Row) → (step rows s (turn.Command c)).jobs ≡ s.jobs ++ x.job ∷ []
+    begun_joins rows = leaves.jobs
+
+    pub begun_counts : (rows : List Row) → (step rows s (turn.Command c)).last_job ≡ s.last_job + 1
+    begun_counts rows = leaves.last
+
+    pub begun_leased : (rows : List Row) → (step rows s (turn.Command c)).book.leases ≡ taken s.book.leases x.list (s.last_job + 1)
+    begun_leased rows = leaves.leases
+
+    pub begun_logged : (rows : List Row) → (step rows s (turn.Command c)).audit ≡ with_entry s.audit x.entry
+    begun_logged rows = leaves.audit
+
+    pub begun_kept : (rows : List Row) → changes_of rows s (turn.Command c) ≡ entry_kept x.entry
+    begun_kept rows = leaves.rows

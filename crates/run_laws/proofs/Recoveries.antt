@@ -1,0 +1,147 @@
+-- Recoveries that begin one after another leave what their passages leave.
+use Rattle.std.proofs.Common.{◌≡◌, ◌∙◌, ℕ, ◌<◌, true, List, [], ◌∷◌, ◌++◌, length, map, append_assoc, refl, sym, ap, subst, Option, Some}
+use Rattle.std.specs.Prelude.{All}
+use Rattle.std.proofs.lemmas.List.{append-nil}
+use Rattle.orch_base.specs.declared.server.ServerNo.{ServerNo}
+use Rattle.instance_keeper.specs.Leases.{taken}
+use Rattle.audit_log.specs.Audits.{AuditState, begun}
+use Rattle.server_model.specs.Worlds.{World}
+use Rattle.operations.specs.Jobs.{Job}
+use Rattle.job_laws.specs.Flights.{Flight, leased_to}
+use Rattle.job_laws.specs.Footing.{are_held, footing}
+use Rattle.job_laws.specs.Leases.{Begins as JobBegins, Leases, are_listed, leases_of}
+use Rattle.job_laws.specs.Passages.{AllMayPass, AllPassWell, Beginning, passed, passing}
+use Rattle.job_laws.proofs.Listed.{taken-leases}
+use Rattle.recovery_plans.specs.Beginning.{first_ops}
+use Rattle.recovery_plans.specs.Named.{IsListOf}
+use Rattle.recovery_plans.specs.Recoveries.{Recovery}
+use Rattle.recovery_plans.specs.declared.purpose.Purpose.{Purpose}
+use Rattle.recovery_plans.specs.declared.purpose.Purpose.TheVariants as purpose
+use Rattle.recovery_laws.specs.LeasedRecoveries.{IsAny}
+use Rattle.recovery_core.specs.Begun.{BeginInTurn, CanBegin, leases_after}
+use Rattle.recovery_core.specs.Tries.{Begins}
+use Rattle.unended_jobs.specs.declared.unended.Unended.{Unended}
+use Rattle.unended_jobs.specs.declared.unended.Unended.TheVariants as unended
+use Rattle.unended_jobs.specs.Unended.{core_of}
+use Rattle.unended_laws.specs.Beside.{IsHeldBeside, IsSoundBeside}
+use Rattle.unended_laws.specs.Flights.{HeldJobs, SoundJobs}
+use Rattle.unended_laws.specs.Passages.{IsListed}
+use Rattle.unended_laws.proofs.Begun.{begin-held, begin-sound, recovery-held, recovery-sound}
+use Rattle.unended_laws.proofs.Cores.{cores-joined}
+use Rattle.orch_core.specs.Commands.{recovery_job}
+use Rattle.run_laws.proofs.BegunInTurn.{length-taken}
+use Rattle.run_laws.specs.Flights.{by_recoveries}
+use Rattle.run_laws.proofs.Listing.{listed-behind}
+
+-- ---- one that begins
+
+first-held : (w : World) (u : Purpose) (f : ServerNo) → are_held (footing w []) (first_ops u f) ≡ true
+first-held w purpose.Regroup f = refl
+first-held w purpose.Master f = refl
+first-held w (purpose.Intermediate s) f = refl
+first-held w (purpose.Takeover d) f = refl
+
+-- it only reads at first
+first-listed : (list : List ServerNo) (u : Purpose) (f : ServerNo) → are_listed list (first_ops u f) ≡ true
+first-listed list purpose.Regroup f = refl
+first-listed list purpose.Master f = refl
+first-listed list (purpose.Intermediate s) f = refl
+first-listed list (purpose.Takeover d) f = refl
+
+-- whatever it may read
+listed-any : (P Q : ℕ → Type 0) (u : Purpose) (f : ServerNo) → IsListOf P Q u f → IsListOf P IsAny u f
+listed-any P Q purpose.Regroup f h = h
+listed-any P Q purpose.Master f h = h
+listed-any P Q (purpose.Intermediate s) f h = tt
+listed-any P Q (purpose.Takeover d) f h = h
+
+module _ (count : ℕ) (leases : List (Option ℕ)) (a : AuditState) (last : ℕ) (x : Begins) (can : CanBegin count leases a last x) where
+  job-begins : (w : World) (js : List Job) (l : Leases) → l ≡ leases_of leases → JobBegins w js l x.list (core_of (recovery_job x))
+  job-begins w js l same =
+      subst (λ (r : Recovery). JobBegins w js l x.list r.core) (sym can.fresh) (record {
+        seen = refl;
+        hands = refl;
+        left = first-held w x.job.purpose x.job.failed;
+        listed = first-listed x.list x.job.purpose x.job.failed;
+        free = λ n h. ap (λ (k : Leases). k n) same ∙ can.free n h;
+      })
+
+  job-beside : (w : World) (l : Leases) → IsHeldBeside w (leased_to l x.list x.job.core.id) (recovery_job x)
+  job-beside w l =
+      subst (λ (r : Recovery). IsHeldBeside w (leased_to l x.list x.job.core.id) (unended.Recovery r (Some x.entry.id))) (sym can.fresh)
+      (recovery-held w l x.list x.job.purpose x.job.core.id x.job.core.wait x.job.failed x.job.replicas x.job.order (Some x.entry.id)
+      (subst (λ (list : List ServerNo). All (λ (n : ServerNo). IsListed list n.0) x.job.replicas) (sym can.list) (listed-behind x.job.failed x.job.replicas))
+      (listed-any (IsListed x.list) (λ n. n < count) x.job.purpose x.job.failed can.listed))
+
+  job-sound : (w : World) → IsSoundBeside w (recovery_job x)
+  job-sound w =
+      subst (λ (r : Recovery). IsSoundBeside w (unended.Recovery r (Some x.entry.id))) (sym can.fresh)
+      (recovery-sound w x.job.purpose x.job.core.id x.job.core.wait x.job.failed x.job.replicas x.job.order (Some x.entry.id))
+
+  -- its leases, as the list has them
+  job-leases : length leases ≡ count → leased_to (leases_of leases) x.list x.job.core.id ≡ leases_of (taken leases x.list x.job.core.id)
+  job-leases fits = sym (taken-leases leases x.list x.job.core.id (subst (λ (n : ℕ). All (λ (k : ServerNo). k.0 < n) x.list) (sym fits) can.within))
+
+-- ---- several
+
+-- a flight with these jobs and leases
+abbrev flight_on : Flight → List Unended → List (Option ℕ) → Flight
+flight_on f us leases = record f { jobs = map core_of us; leases = leases_of leases }
+
+-- one more, and then the others
+joined : (us : List Unended) (x : Begins) (xs : List Begins) → (us ++ recovery_job x ∷ []) ++ map recovery_job xs ≡ us ++ map recovery_job (x ∷ xs)
+joined us x xs = append_assoc us (recovery_job x ∷ []) (map recovery_job xs)
+
+pub recoveries-well : (f : Flight) (xs : List Begins) → AllPassWell f (by_recoveries xs)
+recoveries-well f [] = tt
+recoveries-well f (x ∷ xs) = (tt, recoveries-well (passed f (Beginning x.list (core_of (recovery_job x)))) xs)
+
+module _ (count : ℕ) where
+  pub recoveries-flown : (f : Flight) (us : List Unended) (leases : List (Option ℕ)) (a : AuditState) (last : ℕ) (xs : List Begins) → BeginInTurn count leases a last xs → length leases ≡ count
+      → flight_on f (us ++ map recovery_job xs) (leases_after leases xs) ≡ passing (flight_on f us leases) (by_recoveries xs)
+  recoveries-flown f us leases a last [] each fits = ap (λ (vs : List Unended). flight_on f vs leases) (append-nil us)
+  recoveries-flown f us leases a last (x ∷ xs) each fits =
+      let next = taken leases x.list x.job.core.id in
+      let one : flight_on f (us ++ recovery_job x ∷ []) next ≡ passed (flight_on f us leases) (Beginning x.list (core_of (recovery_job x))) =
+      ap (λ (l : Leases). record f { jobs = map core_of (us ++ recovery_job x ∷ []); leases = l }) (sym (job-leases count leases a last x each.0 fits))
+      ∙ ap (λ (js : List Job). record f { jobs = js; leases = leased_to (leases_of leases) x.list x.job.core.id }) (cores-joined us (recovery_job x)) in
+      ap (λ (vs : List Unended). flight_on f vs (leases_after next xs)) (sym (joined us x xs))
+      ∙ recoveries-flown f (us ++ recovery_job x ∷ []) next (begun a x.entry) x.job.core.id xs each.1 (length-taken x.list leases x.job.core.id ∙ fits)
+      ∙ ap (λ (g : Flight). passing g (by_recoveries xs)) one
+
+  -- the leases of a flight, after one that begins
+  after-one : (f : Flight) (leases : List (Option ℕ)) (a : AuditState) (last : ℕ) (x : Begins) → CanBegin count leases a last x → length leases ≡ count → f.leases ≡ leases_of leases
+      → leased_to f.leases x.list x.job.core.id ≡ leases_of (taken leases x.list x.job.core.id)
+  after-one f leases a last x can fits same = ap (λ (l : Leases). leased_to l x.list x.job.core.id) same ∙ job-leases count leases a last x can fits
+
+  pub recoveries-may : (f : Flight) (leases : List (Option ℕ)) (a : AuditState) (last : ℕ) (xs : List Begins) → BeginInTurn count leases a last xs → length leases ≡ count → f.leases ≡ leases_of leases
+      → AllMayPass f (by_recoveries xs)
+  recoveries-may f leases a last [] each fits same = tt
+  recoveries-may f leases a last (x ∷ xs) each fits same = (
+    job-begins count leases a last x each.0 f.world f.jobs f.leases same,
+    recoveries-may (passed f (Beginning x.list (core_of (recovery_job x)))) (taken leases x.list x.job.core.id) (begun a x.entry) x.job.core.id xs each.1
+        (length-taken x.list leases x.job.core.id ∙ fits) (after-one f leases a last x each.0 fits same),
+  )
+
+  pub recoveries-held : (f : Flight) (us : List Unended) (leases : List (Option ℕ)) (a : AuditState) (last : ℕ) (xs : List Begins) → BeginInTurn count leases a last xs → length leases ≡ count
+      → f.leases ≡ leases_of leases → HeldJobs f us → HeldJobs (passing f (by_recoveries xs)) (us ++ map recovery_job xs)
+  recoveries-held f us leases a last [] each fits same held = subst (HeldJobs f) (sym (append-nil us)) held
+  recoveries-held f us leases a last (x ∷ xs) each fits same held =
+      let may = job-begins count leases a last x each.0 f.world f.jobs f.leases same in
+      let next = passed f (Beginning x.list (core_of (recovery_job x))) in
+      subst (HeldJobs (passing next (by_recoveries xs))) (joined us x xs)
+      (recoveries-held next (us ++ recovery_job x ∷ []) (taken leases x.list x.job.core.id) (begun a x.entry) x.job.core.id xs each.1
+      (length-taken x.list leases x.job.core.id ∙ fits) (after-one f leases a last x each.0 fits same)
+      (begin-held f us x.list (recovery_job x) may (job-beside count leases a last x each.0 f.world f.leases) held))
+
+  pub recoveries-sound : (f : Flight) (us : List Unended) (leases : List (Option ℕ)) (a : AuditState) (last : ℕ) (xs : List Begins) → BeginInTurn count leases a last xs → length leases ≡ count
+      → f.leases ≡ leases_of leases → HeldJobs f us → SoundJobs f us → SoundJobs (passing f (by_recoveries xs)) (us ++ map recovery_job xs)
+  recoveries-sound f us leases a last [] each fits same held sound = subst (SoundJobs f) (sym (append-nil us)) sound
+  recoveries-sound f us leases a last (x ∷ xs) each fits same held sound =
+      let may = job-begins count leases a last x each.0 f.world f.jobs f.leases same in
+      let next = passed f (Beginning x.list (core_of (recovery_job x))) in
+      subst (SoundJobs (passing next (by_recoveries xs))) (joined us x xs)
+      (recoveries-sound next (us ++ recovery_job x ∷ []) (taken leases x.list x.job.core.id) (begun a x.entry) x.job.core.id xs each.1
+      (length-taken x.list leases x.job.core.id ∙ fits) (after-one f leases a last x each.0 fits same)
+      (begin-held f us x.list (recovery_job x) may (job-beside count leases a last x each.0 f.world f.leases) held)
+      (begin-sound f us x.list (recovery_job x) may (job-sound count leases a last x each.0 f.world) held sound))

@@ -1,5 +1,0 @@
-use Rattle.run_laws.proofs.RunLaws.{Holds-comes}
-use Rattle.run_laws.proofs.laws.every_quiet_state_is_safe.Goals as goal
-
-pub returns : goal.returns
-returns c = λ s xs now comes. (Holds-comes s xs now comes).safe

@@ -1,5 +1,0 @@
-use Rattle.run_laws.proofs.RunLaws.{quiet_before}
-use Rattle.run_laws.proofs.laws.quiet_runs_were_quiet.Goals as goal
-
-pub returns : goal.returns
-returns c = quiet_before

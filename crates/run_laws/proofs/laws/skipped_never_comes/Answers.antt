@@ -1,5 +1,0 @@
-use Rattle.run_laws.proofs.RunLaws.{not_skipped}
-use Rattle.run_laws.proofs.laws.skipped_never_comes.Goals as goal
-
-pub returns : goal.returns
-returns c = not_skipped

@@ -1,0 +1,41 @@
+-- That what begins names no replica twice, and begins apart by the block period.
+use Rattle.std.specs.Prelude.{◌≡◌, ◌<◌, ℕ, All, Ok, length}
+use Rattle.orch_base.specs.declared.server.Moment.{Moment}
+use Rattle.orch_base.specs.declared.server.ServerNo.{ServerNo}
+use Rattle.instance_keeper.specs.Book.{BookState}
+use Rattle.book_views.specs.Sources.{replicas_of}
+use Rattle.audit_log.specs.Audits.{AuditState}
+use Rattle.recovery_permits.specs.declared.attempt.Attempt.{Attempt}
+use Rattle.recovery_plans.specs.declared.purpose.Purpose.TheVariants as purpose
+use Rattle.recovery_covers.specs.Covers.{AreReplicas}
+use Rattle.recovery_core.specs.Scans.{scanned}
+use Rattle.recovery_core.specs.Tries.{Begins, recovery_try, takeover_try}
+use Rattle.server_model.specs.Worlds.{World}
+use Rattle.run_laws.specs.Begins.{BeginApartInTurn, BeginsApart, NamesReplicasOnce, entries_of}
+
+-- ---- the replicas
+
+abbrev pub RecoveriesNameOnce : Type 0
+RecoveriesNameOnce = (w : World) (b : BookState) (audit : AuditState) (a : Attempt) (wait job : ℕ) (f : ServerNo) (x : Begins) → recovery_try w b audit a wait job f ≡ Ok x → NamesReplicasOnce b x
+
+abbrev pub TakeoversNameOnce : Type 0
+TakeoversNameOnce = (w : World) (b : BookState) (audit : AuditState) (a : Attempt) (wait job : ℕ) (i d : ServerNo) (x : Begins) → d.0 < length b.names → takeover_try w b audit a wait job i d ≡ Ok x → NamesReplicasOnce b x
+
+abbrev pub ScansNameOnce : Type 0
+ScansNameOnce = (w : World) (b : BookState) (audit : AuditState) (by : ServerNo → Attempt) (wait last : ℕ) → All (NamesReplicasOnce b) (scanned w b audit by wait last).begun
+
+abbrev pub RegroupsNameOnce : Type 0
+RegroupsNameOnce = (b : BookState) (f : ServerNo) → AreReplicas purpose.Regroup f (replicas_of b f)
+
+-- ---- the block period
+
+abbrev pub RecoveriesBeginApart : Type 0
+RecoveriesBeginApart = (w : World) (b : BookState) (audit : AuditState) (a : Attempt) (wait job : ℕ) (f : ServerNo) (x : Begins) → recovery_try w b audit a wait job f ≡ Ok x → BeginsApart a.block a.now audit x.entry
+
+abbrev pub TakeoversBeginApart : Type 0
+TakeoversBeginApart = (w : World) (b : BookState) (audit : AuditState) (a : Attempt) (wait job : ℕ) (i d : ServerNo) (x : Begins) → takeover_try w b audit a wait job i d ≡ Ok x → BeginsApart a.block a.now audit x.entry
+
+-- of a scan each begins so, beside the audit with those before it
+abbrev pub ScansBeginApart : Type 0
+ScansBeginApart = (w : World) (b : BookState) (audit : AuditState) (by : ServerNo → Attempt) (wait last block : ℕ) (now : Moment) → ((n : ServerNo) → (by n).block ≡ block) → ((n : ServerNo) → (by n).now ≡ now)
+    → BeginApartInTurn block now audit (entries_of (scanned w b audit by wait last).begun)

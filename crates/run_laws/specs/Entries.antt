@@ -1,0 +1,95 @@
+-- The recoveries that a turn begins, and their entries in the audit.
+use Rattle.std.specs.Prelude.{◌≡◌, ◌+◌, false, List, [], ◌∷◌, ◌++◌, map, Option, Some, None, Result, Ok, Err}
+use Rattle.audit_log.specs.Audits.{AuditState}
+use Rattle.command_routes.specs.declared.route.Route.{Route}
+use Rattle.command_routes.specs.declared.route.Route.TheVariants.{Discovers, Forgets, Asks, Decides, Begins, Recovers, TakesOver}
+use Rattle.command_routes.specs.Routes.{route_of}
+use Rattle.commands.specs.declared.refusal.Refusal.{Refusal}
+use Rattle.commands.specs.declared.turn.Command.{Command}
+use Rattle.instance_keeper.specs.declared.recovery.Recovery.{Recovery}
+use Rattle.orch_base.specs.declared.recovery.Ending.TheVariants as ending
+use Rattle.orch_base.specs.declared.server.ServerNo.{ServerNo}
+use Rattle.recovery_core.specs.Scans.{attempt_of, scanned}
+use Rattle.recovery_core.specs.Tries.{Begins as RecoveryBegins, recovery_try, takeover_try}
+use Rattle.recovery_permits.specs.declared.attempt.Attempt.{Attempt}
+use Rattle.turns.specs.declared.turn.Turn.{Turn}
+use Rattle.turns.specs.declared.turn.Turn.TheVariants as turn
+use Rattle.run_laws.specs.Begins.{entries_of}
+use Rattle.orch_core.specs.Commands.{by_hand, terms_of}
+use Rattle.orch_core.specs.Polls.{numbers_of}
+use Rattle.orch_core.specs.States.{State}
+
+-- ---- by a command
+
+-- one, where nothing refuses it
+abbrev pub tried : Result RecoveryBegins Refusal → List RecoveryBegins
+tried (Ok x) = x ∷ []
+tried (Err why) = []
+
+-- of the instance that is given
+abbrev pub recoveries_of : State → Option ServerNo → List RecoveryBegins
+recoveries_of s None = []
+recoveries_of s (Some i) = tried (recovery_try s.world s.book s.audit (by_hand (numbers_of s)) s.configuration.wait (s.last_job + 1) i)
+
+-- by the designated server that is given
+abbrev pub takeovers_by : State → ServerNo → Option ServerNo → List RecoveryBegins
+takeovers_by s i None = []
+takeovers_by s i (Some d) = tried (takeover_try s.world s.book s.audit (by_hand (numbers_of s)) s.configuration.wait (s.last_job + 1) i d)
+
+abbrev pub takeovers_of : State → Option ServerNo → Option ServerNo → List RecoveryBegins
+takeovers_of s None d = []
+takeovers_of s (Some i) d = takeovers_by s i d
+
+-- by what the command does
+abbrev pub recoveries_by : State → Command → Route → List RecoveryBegins
+recoveries_by s c Discovers = []
+recoveries_by s c Forgets = []
+recoveries_by s c (Asks question) = []
+recoveries_by s c (Decides decision) = []
+recoveries_by s c (Begins p) = []
+recoveries_by s c Recovers = recoveries_of s c.i
+recoveries_by s c TakesOver = takeovers_of s c.i c.d
+
+-- ---- by a scan
+
+-- how it tries each instance
+abbrev pub attempt_in : State → ServerNo → Attempt
+attempt_in s = attempt_of s.configuration.master s.configuration.intermediate (terms_of s.book (numbers_of s))
+
+-- one after another
+abbrev pub recoveries_scanned : State → List RecoveryBegins
+recoveries_scanned s = (scanned s.world s.book s.audit (attempt_in s) s.configuration.wait s.last_job).begun
+
+-- ---- by a turn
+
+-- no turn but a command and a scan begins one
+abbrev pub recoveries_begun : State → Turn → List RecoveryBegins
+recoveries_begun s (turn.Command c) = recoveries_by s c.command (route_of c.command.name)
+recoveries_begun s turn.Scan = recoveries_scanned s
+recoveries_begun s (turn.Job job) = []
+recoveries_begun s turn.Restart = []
+recoveries_begun s (turn.PollRead p n) = []
+recoveries_begun s (turn.PollStore p) = []
+recoveries_begun s (turn.Write n size) = []
+recoveries_begun s (turn.Fetch n) = []
+recoveries_begun s (turn.Apply n) = []
+recoveries_begun s (turn.Fail n) = []
+recoveries_begun s (turn.Heal n) = []
+recoveries_begun s (turn.Cut n link) = []
+recoveries_begun s (turn.Join n link) = []
+recoveries_begun s (turn.Rotate n) = []
+recoveries_begun s (turn.Tick seconds) = []
+
+-- their entries, in order
+abbrev pub entries_begun : State → Turn → List Recovery
+entries_begun s t = entries_of (recoveries_begun s t)
+
+-- an entry as it began: without its end, and not acknowledged
+abbrev pub as_begun : Recovery → Recovery
+as_begun r = record r { ended = None; outcome = ending.Unended; acked = false }
+
+-- an audit has just these entries more, behind those that it had, which may have ended or been acknowledged since
+pub record HasMore (before : AuditState) (entries : List Recovery) (now : AuditState) : Type 0 where
+  pub kept : List Recovery
+  pub same : map as_begun kept ≡ map as_begun before.recoveries
+  pub all : now.recoveries ≡ kept ++ entries

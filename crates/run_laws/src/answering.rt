@@ -1,0 +1,32 @@
+//! Laws of what commands and scans answer and begin.
+
+ghost use Rattle.run_laws.specs.Answering.{BegunAreTheCommands, BegunHaveNextNumber, CommandsAnswerByTable, EntersAudit, HasNextNumber, IsLastJob, IsReplied, JoinsJobs, KeepsEntry, RefusedChangeNothing, ScannedAreLastJobs, ScannedJoinJobs, ScannedKeepEntries, ScannedTakeLeases, ScansTellEachTry, TakesLeases, WhereBegun};
+
+/// A command turn is refused exactly with the refusal of the permission table, and otherwise begins its job or is
+/// done. A refused one changes nothing: no kept row, and nothing of the state, such as a server, a ring, a lease, a
+/// job or a number. A job that is begun has the next number, joins the unended ones, and takes the leases of its
+/// command's list; a recovery and a takeover begin with their entry in the audit, which is kept.
+pub fn commands_answer_by_the_table()
+    ensures answer { CommandsAnswerByTable }
+    ensures refused { RefusedChangeNothing }
+    ensures number { BegunHaveNextNumber }
+    ensures job { BegunAreTheCommands }
+    ensures begun { WhereBegun IsReplied }
+    ensures numbered { WhereBegun HasNextNumber }
+    ensures joins { WhereBegun JoinsJobs }
+    ensures last { WhereBegun IsLastJob }
+    ensures leases { WhereBegun TakesLeases }
+    ensures audit { WhereBegun EntersAudit }
+    ensures kept { WhereBegun KeepsEntry }
+{}
+
+/// A scan tells a line for each instance whose analysis asks for a recovery, in name order: begun, with the next job's
+/// number, or refused. What begins is just what it tells so: it joins the unended jobs, takes its leases, and its
+/// entries are kept.
+pub fn scans_tell_each_try()
+    ensures lines { ScansTellEachTry }
+    ensures joins { ScannedJoinJobs }
+    ensures last { ScannedAreLastJobs }
+    ensures leases { ScannedTakeLeases }
+    ensures kept { ScannedKeepEntries }
+{}

@@ -1,0 +1,23 @@
+//! Laws of the audit through runs.
+
+ghost use Rattle.audit_log.specs.Apart.{IsApart};
+ghost use Rattle.run_laws.specs.Audits.{AnyTurnBeginsApart, EachRecoveryCounts, NextNeverSinks, TurnsAddWhatBegins};
+ghost use Rattle.run_laws.specs.Runs.{InEveryState, InEveryStateOf};
+
+/// In each state of each run the audit is apart, whatever rows the keeper hands back: each cluster has at most one
+/// unended recovery, and ids rise below the next one. No turn lets the next id sink. Each recovery of the audit counts
+/// at a restart: its servers are there, and its numbers are in their ranges.
+pub fn every_audit_is_apart()
+    ensures apart { InEveryState (λ now. IsApart now.audit) }
+    ensures next { NextNeverSinks }
+    ensures counted { InEveryStateOf EachRecoveryCounts }
+{}
+
+/// Recoveries begin apart by the scenario's block period, in every state of every run and at each turn: each has the
+/// next id and the turn's moment, and every recovery of its cluster that the audit has by then, with those that the
+/// turn began before it, is ended, and is acknowledged or as old as the block period. But for a restart, which loads
+/// the kept rows, a turn adds no other recovery, and drops none.
+pub fn recoveries_begin_apart()
+    ensures apart { InEveryStateOf AnyTurnBeginsApart }
+    ensures all { TurnsAddWhatBegins }
+{}

@@ -1,0 +1,24 @@
+-- Laws of tasks.
+use Rattle.std.specs.Prelude.{◌≡◌, ℕ, List, Option, Some, length}
+use Rattle.instance_keeper.specs.declared.row.Row.{Row}
+use Rattle.orch_base.specs.Names.{HostPort}
+use Rattle.orch_core.specs.Runs.{Recorded}
+use Rattle.command_line.specs.declared.parts.Places.{Places}
+use Rattle.scenarios.specs.declared.scenario.Scenario.{Scenario}
+use Rattle.turns.specs.declared.turn.Turn.{Turn}
+use Rattle.tasks.specs.declared.asked.Task.{Task}
+use Rattle.tasks.specs.Asked.{IsAsked, IsTaken, asked_of}
+use Rattle.tasks.specs.Known.{Begins, IsFixed, cut_answer, task_answer}
+use Rattle.tasks.specs.Works.{Comes, Work}
+
+-- what words that are taken ask is sound over the servers
+abbrev pub TakenAreAsked : Type 0
+TakenAreAsked = (p : Places) (names : List HostPort) → IsTaken p → IsAsked (length names) (asked_of p names)
+
+-- kept rows that are known fix the run
+abbrev pub KnownRowsFixRuns : Type 0
+KnownRowsFixRuns = (w : Work) (rows : List Row) (ts : List Turn) (kept : Option (List Row)) (run : Recorded) → w.old ≡ Some rows → Comes w ts kept run → IsFixed w rows ts kept run
+
+-- what is left of a task that is cut begins what it answers
+abbrev pub CutTextsBeginAnswers : Type 0
+CutTextsBeginAnswers = (c : Task) (s : Scenario) (rows : List Row) (k : ℕ) → Begins (cut_answer c s rows k) (task_answer c s rows).out

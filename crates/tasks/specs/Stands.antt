@@ -1,0 +1,40 @@
+-- What the turns of a task are over, and what its report comes to by what is asked.
+use Rattle.std.specs.Prelude.{◌≡◌, ◌∷◌, ◌++◌, Bool, List, [], All, Option, length}
+use Rattle.commands.specs.declared.turn.CommandTurn.{CommandTurn}
+use Rattle.instance_keeper.specs.declared.row.Row.{Row}
+use Rattle.orch_base.specs.Names.{HostPort}
+use Rattle.orch_core.specs.States.{State}
+use Rattle.scenarios.specs.Turns.{IsCommand, IsTurn}
+use Rattle.turns.specs.declared.turn.Turn.{Turn}
+use Rattle.turns.specs.declared.turn.Turn.TheVariants as turn
+use Rattle.tasks.specs.declared.asked.Asked.TheVariants as asked
+use Rattle.tasks.specs.declared.asked.Task.{Task}
+use Rattle.tasks.specs.declared.ending.Ending.{Ending}
+use Rattle.tasks.specs.Endings.{Stands}
+use Rattle.tasks.specs.Progress.{Point, course_from}
+use Rattle.tasks.specs.Sinks.{End, Taken, between}
+
+-- turns over the servers of a state
+abbrev pub AreTurnsIn : State → List Turn → Type 0
+AreTurnsIn s ts = All (IsTurn (length s.world.servers)) ts
+
+abbrev pub IsCommandIn : State → CommandTurn → Type 0
+IsCommandIn s c = IsCommand (length s.world.servers) c
+
+-- a command's own turn behind a scenario's
+abbrev pub with_own : List Turn → CommandTurn → List Turn
+with_own ts own = ts ++ turn.Command own ∷ []
+
+-- ---- reports from a point on
+
+-- of any task that asks for a run; err takes nothing
+abbrev pub RunStands : List HostPort → List Turn → Point → Option (List Row) → End → Ending → Type 0
+RunStands names ts from kept out ending = (task : Task) (err : Taken) → task.asked ≡ asked.Run → Stands (course_from task names ts from kept) out (between err err) ending
+
+-- of any task that asks for this command, with the tables or without
+abbrev pub CommandStands : CommandTurn → Bool → List HostPort → List Turn → Point → Option (List Row) → End → End → Ending → Type 0
+CommandStands own tables names ts from kept out err ending = (task : Task) → task.asked ≡ asked.Turn own → task.tables ≡ tables → Stands (course_from task names (with_own ts own) from kept) out err ending
+
+-- of any task that asks about an instance that no server is
+abbrev pub UnknownStands : List HostPort → List Turn → Point → Option (List Row) → End → End → Ending → Type 0
+UnknownStands names ts from kept out err ending = (task : Task) → task.asked ≡ asked.Unknown → Stands (course_from task names ts from kept) out err ending

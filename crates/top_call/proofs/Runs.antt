@@ -1,0 +1,233 @@
+-- Each run of the turns that words take: its states are safe, its commands answer by the permission table, and its
+-- recoveries begin apart and finish well.
+use Rattle.std.proofs.Common.{◌≡◌, ℕ, zero, suc, ◌<◌, Bool, true, false, cond, List, [], ◌∷◌, ◌++◌, length, Option, Some, None, Ok, ◌∙◌, refl, sym, ap, subst, take, inl, inr}
+use Rattle.std.specs.Prelude.{IfSome, All}
+use Rattle.std.proofs.Math.Seq.{take-length}
+use Rattle.std.proofs.lemmas.List.{length-map}
+use Rattle.std.proofs.lemmas.List.Elements.{All-append, All-cons, All-nil, All-take}
+use Rattle.instance_keeper.specs.declared.row.Row.{Row}
+use Rattle.commands.specs.declared.line.Line.{Line}
+use Rattle.command_line.specs.declared.parts.Places.{Places}
+use Rattle.command_line.specs.Places.{places_of}
+use Rattle.orch_base.specs.Names.{HostPort}
+use Rattle.orch_base.specs.declared.server.ServerNo.{ServerNo}
+use Rattle.name_order.specs.NameOrder.{by_name}
+use Rattle.name_order.proofs.Arranged.{by_name-within}
+use Rattle.scenarios.specs.declared.scenario.Scenario.{Scenario}
+use Rattle.scenarios.specs.Scenarios.{IsScenario, names_of}
+use Rattle.scenarios.specs.Turns.{IsTurn}
+use Rattle.turns.specs.declared.turn.Turn.{Turn}
+use Rattle.turns.specs.declared.turn.Turn.TheVariants as turn
+use Rattle.jobs_in_flight.specs.Jobs.{is_open, job_at, most_turns}
+use Rattle.orch_core.specs.Keeping.{Ran}
+use Rattle.orch_core.specs.Rounds.{after_turns, round_of}
+use Rattle.orch_core.proofs.Finishing.{Ran-append, turns-round}
+use Rattle.orch_core.specs.Runs.{Held, LeadsTo, Recorded, engine, held_run, held_step, recorder, record_turn, run_turns, turns_of}
+use Rattle.instance_keeper.specs.Rows.{changed}
+use Rattle.orch_core.specs.Scenarios.{StartsBy, kept_at_start, start, start_changes, without_turns}
+use Rattle.orch_core.specs.States.{State}
+use Rattle.run_laws.specs.Ready.{Ready}
+use Rattle.recovery_runs.specs.Finishes.{IsFinish}
+use Rattle.run_laws.specs.BegunJobs.{BegunJob, begun_of}
+use Rattle.run_laws.specs.Runs.{ComesTo}
+use Rattle.run_laws.proofs.Counting.{apart-comes}
+use Rattle.run_laws.proofs.Entries.{more-after}
+use Rattle.run_laws.proofs.Parts.{apart-by-scenario}
+use Rattle.run_laws.proofs.Permissions.{answers_by_table, begun_joins, begun_kept, begun_leased, begun_logged, begun_number, begun_there, refused_changes_nothing}
+use Rattle.recovery_plans.specs.Recoveries.{Recovery}
+use Rattle.recovery_runs.proofs.Tending.{began-comes, finish-comes, lost-next}
+use Rattle.run_laws.proofs.RunLaws.{Goes, Goes-comes}
+use Rattle.scenario_reader.proofs.Sound.{scenario_in_sound}
+use Rattle.tasks.specs.declared.asked.Asked.{Asked}
+use Rattle.tasks.specs.declared.asked.Asked.TheVariants as asked
+use Rattle.tasks.specs.declared.asked.Task.{Task}
+use Rattle.tasks.specs.Asked.{IsAsked, IsTaken, asked_of, own_turns, task_of, turns_taken}
+use Rattle.tasks.specs.Closing.{closing, closing_by, own_job, rounds_of, rounds_while}
+use Rattle.tasks.specs.Endings.{IsOn, IsOnRounds, IsOnTurns, course_of}
+use Rattle.tasks.specs.Works.{Comes, Work, turns_in}
+use Rattle.tasks.proofs.Courses.{run_state}
+use Rattle.tasks.proofs.Words.{asked_is}
+use Rattle.unended_jobs.specs.declared.unended.Unended.TheVariants as unended
+use Rattle.top_call.specs.Ends.{IsTask}
+use Rattle.top_call.specs.Runs.{BeginApart, BeginsApart, Finishes, FinishWell, IsSafeRun, IsSafeState, LoseTruly, LosesTruly, Obeys, ObeysTable, AreSoFar, Through}
+
+-- ---- the turns
+
+own_taken : (count : ℕ) (a : Asked) → IsAsked count a → All (IsTurn count) (own_turns a)
+own_taken count asked.Run is = All-nil (IsTurn count)
+own_taken count asked.Unknown is = All-nil (IsTurn count)
+own_taken count (asked.Turn t) is = All-cons (IsTurn count) (turn.Command t) [] is (All-nil (IsTurn count))
+own_taken count asked.Nothing is = absurd is
+
+-- the task of words that are taken has a turn over the servers
+pub asked_in_task : (p : Places) (names : List HostPort) (s : Scenario) (t : Task) → IsTaken p → names ≡ names_of s → t ≡ task_of p names → IsAsked (length s.opening.servers) t.asked
+asked_in_task p names s t taken named is =
+    let own : IsAsked (length (names_of s)) (asked_of p (names_of s)) = asked_is p (names_of s) taken in
+    let here : IsAsked (length s.opening.servers) (asked_of p (names_of s)) = subst (λ (n : ℕ). IsAsked n (asked_of p (names_of s))) (length-map s.opening.servers (λ i. i.settings.name)) own in
+    subst (λ (u : Task). IsAsked (length s.opening.servers) u.asked) (sym (is ∙ ap (task_of p) named)) here
+
+work_turns : (words : List (List ℕ)) (bytes : List ℕ) (w : Work) (k : ℕ) → IsTask words bytes w → IsScenario w.scenario → All (IsTurn (length w.scenario.opening.servers)) (take k (turns_in w))
+work_turns words bytes w k is scenario =
+    let count = length w.scenario.opening.servers in
+    let own : IsAsked count w.task.asked = asked_in_task is.places (names_of w.scenario) w.scenario w.task (words, is.taken) refl is.task in
+    All-take (IsTurn count) k (w.scenario.turns ++ own_turns w.task.asked) (All-append (IsTurn count) w.scenario.turns (own_turns w.task.asked) scenario.turns (own_taken count w.task.asked own))
+
+-- ---- the rows at each turn
+
+record Rows (h : Held Recorded) (ts : List Turn) : Type 0 where
+  xs : List (List Row × Turn)
+  turns : turns_of xs ≡ ts
+  state : (held_run recorder h ts).state ≡ run_turns recorder h.state xs
+
+rows_at : (h : Held Recorded) (ts : List Turn) → Rows h ts
+rows_at h [] = record { xs = []; turns = refl; state = refl }
+rows_at h (t ∷ ts) =
+    let rest = rows_at (held_step recorder h t) ts in
+    record { xs = (h.rows, t) ∷ rest.xs; turns = ap (λ (us : List Turn). t ∷ us) rest.turns; state = rest.state }
+
+along : (s : Scenario) (wait : ℕ) (old : Option (List Row)) (begun : State) (ts : List Turn) (run : Recorded) → StartsBy old s wait begun → LeadsTo recorder (kept_at_start true old s) (without_turns begun) ts run → Through s wait ts run.state
+along s wait None begun ts run opens leads = record {
+  rows = opens.0;
+  xs = leads.0;
+  turns = leads.1;
+  state = ap (λ (r : Recorded). r.state) leads.2 ∙ (run_state (without_turns begun) leads.0 ∙ ap (λ (b : State). run_turns engine b leads.0) opens.1);
+}
+along s wait (Some rows) begun ts run opens leads =
+    let found = rows_at (record { rows = changed rows (start_changes s rows); state = without_turns begun }) ts in
+    record {
+      rows = rows;
+      xs = found.xs;
+      turns = found.turns;
+      state = ap (λ (r : Recorded). r.state) (leads ∙ found.state) ∙ (run_state (without_turns begun) found.xs ∙ ap (λ (b : State). run_turns engine b found.xs) opens);
+    }
+
+-- ---- laws of each run
+
+-- any turns over the servers
+module _ (w : Work) (ts : List Turn) (kept : Option (List Row)) (run : Recorded) (scenario : IsScenario w.scenario) (all : All (IsTurn (length w.scenario.opening.servers)) ts) (comes : Comes w ts kept run) where
+  found : Through w.scenario w.task.waits ts run.state
+  found = along w.scenario w.task.waits w.old comes.begun ts run comes.opens comes.ran.state
+
+  comes_to : ComesTo w.scenario found.xs run.state
+  comes_to = record {
+    scenario = scenario;
+    wait = w.task.waits;
+    rows = found.rows;
+    turns = subst (All (IsTurn (length w.scenario.opening.servers))) (sym found.turns) all;
+    state = found.state;
+  }
+
+  goes : Goes (length w.scenario.opening.servers) run.state
+  goes = Goes-comes w.scenario found.xs run.state comes_to
+
+  holds : IsSafeState run.state
+  holds = record { placed = goes.held.flight.placed; held = goes.held; apart = apart-comes w.scenario found.xs run.state comes_to; sound = goes.sound; safe = λ q. (goes.sound q).flight.safe }
+
+  ready : Ready (length w.scenario.opening.servers) run.state
+  ready = goes.ready
+
+  begins : (rows : List Row) (t : Turn) → BeginsApart w.scenario.block rows run.state t
+  begins rows t = record { apart = apart-by-scenario w.scenario found.xs run.state t comes_to; all = more-after rows run.state t }
+
+  finishes : (rows : List Row) (id : ℕ) (r : Recovery) (entry : Option ℕ) (lines : List Line) → IsFinish run.state id r entry lines → Finishes w ts rows run.state id r entry lines
+  unfolding comes_to
+  finishes rows id r entry lines is = record { through = found; well = finish-comes w.scenario found.xs run.state comes_to rows id r entry lines is }
+
+  loses : (id : ℕ) (r : Recovery) (entry : Option ℕ) → job_at run.state.jobs id ≡ Some (unended.Recovery r entry) → LosesTruly w ts run.state id r entry
+  unfolding comes_to
+  loses id r entry at = record {
+    through = found;
+    began = began-comes w.scenario found.xs run.state comes_to id r entry at;
+    lost = λ P explains here. lost-next w.scenario found.xs run.state comes_to P id r entry explains here at;
+  }
+
+-- the turns of rounds are turns over the servers
+module _ (count : ℕ) where
+  while_turns : (round : List Turn) → All (IsTurn count) round → (n : ℕ) (s : State) (job : ℕ) → All (IsTurn count) (rounds_while round n s job)
+  while_turns round all zero s job = All-nil (IsTurn count)
+  while_turns round all (suc n) s job = go (is_open s.jobs job) (while_turns round all n (after_turns s round) job)
+    where
+      go : (b : Bool) → All (IsTurn count) (rounds_while round n (after_turns s round) job) → All (IsTurn count) (cond b (round ++ rounds_while round n (after_turns s round) job) [])
+      go true later = All-append (IsTurn count) round (rounds_while round n (after_turns s round) job) all later
+      go false later = All-nil (IsTurn count)
+
+  rounds_turns : (s : State) (job : ℕ) → length s.book.names ≡ count → All (IsTurn count) (rounds_of s job)
+  unfolding rounds_of
+  rounds_turns s job counts =
+      while_turns (round_of s job)
+      (turns-round count (by_name s.book.names) job (subst (λ (n : ℕ). All (λ (server : ServerNo). server.0 < n) (by_name s.book.names)) counts (by_name-within s.book.names)))
+      (most_turns s.jobs job) s job
+
+  closing_turns : (a : Asked) (run : Recorded) → length run.state.book.names ≡ count → All (IsTurn count) (closing a run)
+  closing_turns a run counts = go (own_job a run)
+    where
+      go : (o : Option ℕ) → All (IsTurn count) (closing_by o run.state)
+      go None = All-nil (IsTurn count)
+      go (Some job) = rounds_turns run.state job counts
+
+-- what holds behind any turns over the servers holds behind those so far
+module _ (words : List (List ℕ)) (bytes : List ℕ) (w : Work) (run : Recorded) (is : IsTask words bytes w) (P : List Turn → Type 0)
+    (each : (ts : List Turn) (kept : Option (List Row)) → IsScenario w.scenario → All (IsTurn (length w.scenario.opening.servers)) ts → Comes w ts kept run → P ts) where
+  in_turns : (at : IsOnTurns (course_of w) run) → P (take at.k (turns_in w))
+  in_turns at =
+      let scenario = scenario_in_sound bytes w.scenario is.read in
+      each (take at.k (turns_in w)) w.new scenario (work_turns words bytes w at.k is scenario) at.comes
+
+  in_rounds : (at : IsOnRounds (course_of w) run) → P (turns_in w ++ take at.k (closing w.task.asked at.mid))
+  in_rounds at =
+      let scenario = scenario_in_sound bytes w.scenario is.read in
+      let count = length w.scenario.opening.servers in
+      let own : All (IsTurn count) (turns_in w) = subst (All (IsTurn count)) (take-length (turns_in w)) (work_turns words bytes w (length (turns_in w)) is scenario) in
+      let mid = ready w (turns_in w) at.rows at.mid scenario own at.came in
+      let us = take at.k (closing w.task.asked at.mid) in
+      let more : All (IsTurn count) us = All-take (IsTurn count) at.k (closing w.task.asked at.mid) (closing_turns count w.task.asked at.mid mid.names) in
+      each (turns_in w ++ us) w.new scenario (All-append (IsTurn count) (turns_in w) us own more)
+      (record { begun = at.came.begun; opens = at.came.opens; ran = Ran-append recorder (kept_at_start true w.old w.scenario) at.rows w.new (without_turns at.came.begun) at.mid run (turns_in w) us at.came.ran at.ran })
+
+  so_far : (ts : List Turn) → AreSoFar w run ts → P ts
+  so_far ts (inl x) = subst P (sym x.are) (in_turns x.at)
+  so_far ts (inr x) = subst P (sym x.are) (in_rounds x.at)
+
+-- where it says nothing of the turns
+module _ (words : List (List ℕ)) (bytes : List ℕ) (w : Work) (run : Recorded) (is : IsTask words bytes w) (Q : Type 0)
+    (each : (ts : List Turn) (kept : Option (List Row)) → IsScenario w.scenario → All (IsTurn (length w.scenario.opening.servers)) ts → Comes w ts kept run → Q) where
+  on_each : IsOn (course_of w) run → Q
+  on_each (inl at) = in_turns words bytes w run is (λ ts. Q) each at
+  on_each (inr at) = in_rounds words bytes w run is (λ ts. Q) each at
+
+pub safe_run : (words : List (List ℕ)) (left : Option (List ℕ)) → IfSome left (λ bytes. IsSafeRun words bytes)
+safe_run words None = tt
+safe_run words (Some bytes) = λ w run is on. on_each words bytes w run is (IsSafeState run.state) (λ ts kept scenario all comes. holds w ts kept run scenario all comes) on
+
+pub begin_apart : (words : List (List ℕ)) (left : Option (List ℕ)) → IfSome left (λ bytes. BeginApart words bytes)
+begin_apart words None = tt
+begin_apart words (Some bytes) = λ w run rows t is on.
+    on_each words bytes w run is (BeginsApart w.scenario.block rows run.state t) (λ ts kept scenario all comes. begins w ts kept run scenario all comes rows t) on
+
+pub finish_well : (words : List (List ℕ)) (left : Option (List ℕ)) → IfSome left (λ bytes. FinishWell words bytes)
+finish_well words None = tt
+finish_well words (Some bytes) = λ w run ts rows id r entry lines is on done.
+    so_far words bytes w run is (λ us. Finishes w us rows run.state id r entry lines) (λ us kept scenario all comes. finishes w us kept run scenario all comes rows id r entry lines done) ts on
+
+pub lose_truly : (words : List (List ℕ)) (left : Option (List ℕ)) → IfSome left (λ bytes. LoseTruly words bytes)
+lose_truly words None = tt
+lose_truly words (Some bytes) = λ w run ts id r entry is on at.
+    so_far words bytes w run is (λ us. LosesTruly w us run.state id r entry) (λ us kept scenario all comes. loses w us kept run scenario all comes id r entry at) ts on
+
+pub obeys : (words : List (List ℕ)) (left : Option (List ℕ)) → IfSome left (λ bytes. ObeysTable words bytes)
+obeys words None = tt
+obeys words (Some bytes) = λ w k kept run rows c is comes here. record {
+  answer = answers_by_table run.state c;
+  refused = refused_changes_nothing rows run.state c;
+  begun = λ job begins.
+      let x = begun_there run.state c job begins in
+      record {
+        begun = x.0;
+        is_begun = x.1;
+        number = begun_number run.state c job begins;
+        joins = begun_joins run.state c x.0 x.1 rows;
+        leases = begun_leased run.state c x.0 x.1 rows;
+        audit = begun_logged run.state c x.0 x.1 rows;
+        kept = begun_kept run.state c x.0 x.1 rows;
+      };
+}

@@ -1,0 +1,153 @@
+-- How a call ends.
+use Rattle.std.specs.Prelude.{◌≡◌, ℕ, ◌≤◌, ◌⊎◌, ⊤, Bool, List, [], codes, if◌then◌else◌, IfSome, Option, Result, Ok, Err}
+use Rattle.instance_keeper.specs.declared.row.Row.{Row}
+use Rattle.orch_base.specs.Causes.{Rose}
+use Rattle.scenarios.specs.declared.scenario.Scenario.{Scenario}
+use Rattle.scenarios.specs.Scenarios.{names_of}
+use Rattle.scenario_values.specs.declared.fault.Fault.{Fault}
+use Rattle.scenario_reader.specs.Scenarios.{scenario_in}
+use Rattle.command_line.specs.declared.parts.Places.{Places}
+use Rattle.command_line.specs.declared.usage.Usage.{Usage}
+use Rattle.command_line.specs.declared.usage.Usage.TheVariants.{BadWords}
+use Rattle.command_line.specs.Places.{places_of}
+use Rattle.tasks.specs.declared.ending.Ending.{Ending}
+use Rattle.tasks.specs.declared.ending.Ending.TheVariants as ends
+use Rattle.tasks.specs.Asked.{task_of}
+use Rattle.tasks.specs.Endings.{IsWritten, Tells, course_of}
+use Rattle.tasks.specs.Sinks.{End, Fails, Taken, Takes, TakesLine, between}
+use Rattle.tasks.specs.Works.{Work}
+use Rattle.top_call.specs.Faults.{fault_text}
+use Rattle.top_call.specs.declared.way.Way.{Way}
+use Rattle.top_call.specs.declared.way.Way.TheVariants as way
+
+-- the status of each way to end
+abbrev pub status_of : Way → ℕ
+status_of (way.Reported refused) = if refused then 7 else 0
+status_of way.Usage = 1
+status_of way.Fault = 2
+status_of way.Source = 3
+status_of way.Sink = 4
+status_of way.Keeper = 5
+status_of way.Memory = 6
+
+-- a call: the words, the bytes of the scenario, the kept rows before and after, where the keeper tells them, and what
+-- out and err took
+pub record Call : Type 0 where
+  pub words : List (List ℕ)
+  pub bytes : List ℕ
+  pub kept : Option (List Row)
+  pub kept_now : Option (List Row)
+  pub out : End
+  pub err : End
+
+abbrev pub call : List (List ℕ) → List ℕ → Option (List Row) → Option (List Row) → End → End → Call
+call words bytes kept kept_now out err = record { words = words; bytes = bytes; kept = kept; kept_now = kept_now; out = out; err = err }
+
+-- the task that words ask over the scenario that bytes are
+pub record IsTask (words : List (List ℕ)) (bytes : List ℕ) (w : Work) : Type 0 where
+  pub places : Places
+  pub taken : places_of words ≡ Ok places
+  pub read : scenario_in bytes ≡ Ok w.scenario
+  pub task : w.task ≡ task_of places (names_of w.scenario)
+
+-- the call's task, with its kept rows
+pub record Asks (c : Call) (w : Work) : Type 0 where
+  pub is : IsTask c.words c.bytes w
+  pub old : w.old ≡ c.kept
+  pub new : w.new ≡ c.kept_now
+
+-- nothing was done, but for this line on err
+pub record Idles (c : Call) (line : List ℕ) : Type 0 where
+  pub kept : c.kept_now ≡ c.kept
+  pub out : Takes c.out []
+  pub err : TakesLine c.err line
+
+-- the call's task ended so, and this line followed on err what the task had written there
+pub record Closes (c : Call) (ending : Ending) (line : List ℕ) : Type 0 where
+  pub work : Work
+  pub asks : Asks c work
+  pub mid : Taken
+  pub tells : Tells work c.out (between c.err.old mid) ending
+  pub later : c.err.old.faults ≤ mid.faults
+  pub err : TakesLine (between mid c.err.new) line
+
+-- the call's task ended with its whole report
+pub record Reports (c : Call) (refused : Bool) : Type 0 where
+  pub work : Work
+  pub asks : Asks c work
+  pub written : IsWritten (course_of work) c.out c.err refused
+
+-- the words are taken
+abbrev pub AreTaken : List (List ℕ) → Type 0
+AreTaken words = (p : Places) × (places_of words ≡ Ok p)
+
+-- What a call has done by each way to end. The words are tested first, then the source is read, then the scenario is
+-- tested.
+abbrev pub Ends : Call → Way → Type 0
+Ends c (way.Reported refused) = Reports c refused
+Ends c way.Usage = (places_of c.words ≡ Err BadWords) × Idles c (codes "usage\n")
+Ends c way.Fault = AreTaken c.words × ((f : Fault) × (scenario_in c.bytes ≡ Err f) × Idles c (fault_text f))
+Ends c way.Source = AreTaken c.words × Idles c (codes "read fault\n")
+Ends c way.Sink = Closes c ends.Unwritten (codes "write fault\n")
+Ends c way.Keeper = Closes c ends.Keeper (codes "keeper fault\n")
+Ends c way.Memory = Idles c (codes "out of memory\n") ⊎ Closes c ends.Memory (codes "out of memory\n")
+
+-- so ends a call of any words that these places are, over the bytes that the source had, where they are known
+abbrev pub EndsOf : Places → Option (List ℕ) → Option (List Row) → Option (List Row) → End → End → Way → Type 0
+EndsOf p left kept kept_now out err w = (words : List (List ℕ)) → places_of words ≡ Ok p → IfSome left (λ bytes. Ends (call words bytes kept kept_now out err) w)
+
+-- over any bytes that are this scenario
+abbrev pub EndsOver : Places → Scenario → Option (List Row) → Option (List Row) → End → End → Way → Type 0
+EndsOver p s kept kept_now out err w = (words : List (List ℕ)) (bytes : List ℕ) → places_of words ≡ Ok p → scenario_in bytes ≡ Ok s → Ends (call words bytes kept kept_now out err) w
+
+-- it is the way of a whole report
+abbrev pub IsReported : Way → Type 0
+IsReported (way.Reported refused) = ⊤
+IsReported way.Usage = ⊥
+IsReported way.Fault = ⊥
+IsReported way.Source = ⊥
+IsReported way.Sink = ⊥
+IsReported way.Keeper = ⊥
+IsReported way.Memory = ⊥
+
+-- a call with this status ends by one of these ways
+abbrev pub EndsBy : Call → ℕ → Type 0
+EndsBy c status = (w : Way) × (status ≡ status_of w) × Ends c w
+
+-- ---- statuses
+
+-- 1 only where the words aren't taken, and always there, but for want of memory while they are read
+pub record IsUsage (words : List (List ℕ)) (status : ℕ) : Type 0 where
+  pub only : status ≡ 1 → places_of words ≡ Err BadWords
+  pub always : places_of words ≡ Err BadWords → (status ≡ 1) ⊎ (status ≡ 6)
+
+-- 2 exactly where the bytes have a fault, unless the source failed or memory ran out
+pub record FaultsBy (bytes : List ℕ) (status : ℕ) : Type 0 where
+  pub only : status ≡ 2 → (f : Fault) × (scenario_in bytes ≡ Err f)
+  pub always : (f : Fault) → scenario_in bytes ≡ Err f → (status ≡ 2) ⊎ (status ≡ 3) ⊎ (status ≡ 6)
+
+-- so it is where the words are taken, and elsewhere it isn't 2
+abbrev pub FaultsAs : Result Places Usage → List ℕ → ℕ → Type 0
+FaultsAs (Ok p) bytes status = FaultsBy bytes status
+FaultsAs (Err usage) bytes status = status ≡ 2 → ⊥
+
+-- so it is of words over the bytes that the source had, where they are known
+abbrev pub FaultsOf : List (List ℕ) → Option (List ℕ) → ℕ → Type 0
+FaultsOf words left status = IfSome left (λ bytes. FaultsAs (places_of words) bytes status)
+
+-- no count of faults rose: of the source, of the keeper, of out or of err
+pub record NoneRose (source_before source_after keeper_before keeper_after : ℕ) (out err : End) : Type 0 where
+  pub no_source : ¬ (Rose source_before source_after)
+  pub no_keeper : ¬ (Rose keeper_before keeper_after)
+  pub no_out : ¬ (Fails out)
+  pub no_err : ¬ (Fails err)
+
+-- the words are taken and the bytes are a scenario
+pub record IsGood (words : List (List ℕ)) (bytes : List ℕ) : Type 0 where
+  pub taken : AreTaken words
+  pub scenario : Scenario
+  pub read : scenario_in bytes ≡ Ok scenario
+
+-- the report is written whole, or memory ran out
+abbrev pub IsComplete : ℕ → Type 0
+IsComplete status = (status ≡ 0) ⊎ (status ≡ 7) ⊎ (status ≡ 6)

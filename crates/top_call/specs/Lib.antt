@@ -1,0 +1,5 @@
+pub mod Ends
+pub mod Faults
+pub mod Reads
+pub mod Report
+pub mod Runs

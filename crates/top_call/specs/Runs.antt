@@ -1,0 +1,144 @@
+-- What holds of each run of the turns that words take over the scenario that bytes are, whatever rows the keeper hands
+-- back: of the run of a call's report, too.
+use Rattle.std.specs.Prelude.{◌≡◌, ℕ, ◌+◌, Bool, false, List, [], ◌∷◌, ◌++◌, length, slice_get, take, ◌⊎◌, Option, Some}
+use Rattle.instance_keeper.specs.declared.row.Row.{Row}
+use Rattle.server_model.specs.Safe.{Safe, Placed, IsQuiet}
+use Rattle.audit_log.specs.Apart.{IsApart}
+use Rattle.run_laws.specs.Begins.{BeginApartInTurn}
+use Rattle.command_routes.specs.Routes.{route_of}
+use Rattle.commands.specs.declared.line.Line.{Line}
+use Rattle.commands.specs.declared.line.Lost.{Lost}
+use Rattle.commands.specs.declared.refusal.Refusal.{Refusal}
+use Rattle.commands.specs.declared.turn.CommandTurn.{CommandTurn}
+use Rattle.scenarios.specs.declared.scenario.Scenario.{Scenario}
+use Rattle.turns.specs.declared.turn.Reply.TheVariants as answered
+use Rattle.turns.specs.declared.turn.Turn.{Turn}
+use Rattle.turns.specs.declared.turn.Turn.TheVariants as turn
+use Rattle.recovery_runs.specs.Finishes.{IsFinish, recovery_after}
+use Rattle.recovery_runs.specs.Losses.{ExplainsTurn}
+use Rattle.run_laws.specs.Flights.{moment_at}
+use Rattle.run_laws.specs.States.{HeldState, SoundState}
+use Rattle.instance_keeper.specs.Leases.{taken}
+use Rattle.jobs_in_flight.specs.Jobs.{job_at}
+use Rattle.run_laws.specs.BegunJobs.{BegunJob, begun_of, entry_kept, with_entry}
+use Rattle.run_laws.specs.Entries.{HasMore, entries_begun}
+use Rattle.orch_core.specs.Keeping.{asks}
+use Rattle.orch_core.specs.Permission.{IsAnswer, refusal_at}
+use Rattle.orch_core.specs.Polls.{changes_of}
+use Rattle.orch_core.specs.Replies.{reply_of}
+use Rattle.orch_core.specs.Runs.{Recorded, engine, run_turns, step, turns_of}
+use Rattle.orch_core.specs.Scenarios.{start}
+use Rattle.orch_core.specs.States.{State}
+use Rattle.orch_base.specs.declared.server.ServerNo.{ServerNo}
+use Rattle.recovery_plans.specs.Recoveries.{Recovery}
+use Rattle.recovery_reasons.specs.Reasons.{AllLost}
+use Rattle.recovery_runs.specs.RunFinishes.{FinishesWell}
+use Rattle.recovery_runs.specs.Origins.{Began, ExplainsAlong}
+use Rattle.tasks.specs.Closing.{closing}
+use Rattle.tasks.specs.Endings.{IsOn, IsOnRounds, IsOnTurns, course_of}
+use Rattle.tasks.specs.Works.{Comes, Work, turns_in}
+use Rattle.unended_jobs.specs.declared.unended.Unended.TheVariants as unended
+use Rattle.top_call.specs.Ends.{IsTask}
+
+-- ---- states
+
+-- What holds of a state with its jobs in flight: it is held, quiet or not, its servers are placed, and its recoveries
+-- are apart: each cluster has at most one that isn't ended. Where it is quiet it is sound, and its servers are safe.
+pub record IsSafeState (s : State) : Type 0 where
+  pub placed : Placed s.world
+  pub held : HeldState s
+  pub apart : IsApart s.audit
+  pub sound : IsQuiet s.world → SoundState s
+  pub safe : IsQuiet s.world → Safe s.world
+
+-- So is every state: behind any of the scenario's turns and the command's own, and behind any turn of the rounds that
+-- follow until the job that it began has ended.
+abbrev pub IsSafeRun : List (List ℕ) → List ℕ → Type 0
+IsSafeRun words bytes = (w : Work) (run : Recorded) → IsTask words bytes w → IsOn (course_of w) run → IsSafeState run.state
+
+-- ---- commands
+
+-- a job that a command turn begins: it has the next number, joins the unended ones, and takes the leases of its
+-- command's list; a recovery and a takeover begin with their entry in the audit, which is kept
+pub record Begins (rows : List Row) (s : State) (c : CommandTurn) (job : ℕ) : Type 0 where
+  pub begun : BegunJob
+  pub is_begun : begun_of s c.command ≡ Some begun
+  pub number : job ≡ s.last_job + 1
+  pub joins : (step rows s (turn.Command c)).jobs ≡ s.jobs ++ begun.job ∷ []
+  pub leases : (step rows s (turn.Command c)).book.leases ≡ taken s.book.leases begun.list (s.last_job + 1)
+  pub audit : (step rows s (turn.Command c)).audit ≡ with_entry s.audit begun.entry
+  pub kept : changes_of rows s (turn.Command c) ≡ entry_kept begun.entry
+
+-- a command turn is refused exactly with the refusal of the permission table, else it begins its job or is done; a
+-- refused one changes nothing, and no kept row
+pub record Obeys (rows : List Row) (s : State) (c : CommandTurn) : Type 0 where
+  pub answer : IsAnswer (route_of c.command.name) (refusal_at s c.command) (reply_of s (turn.Command c))
+  pub refused : (r : Refusal) → reply_of s (turn.Command c) ≡ answered.Refused r
+      → (changes_of rows s (turn.Command c) ≡ []) × (step rows s (turn.Command c) ≡ s)
+  pub begun : (job : ℕ) → reply_of s (turn.Command c) ≡ answered.Begun job → Begins rows s c job
+
+-- so each command turn does, in the state before it; rounds have none
+abbrev pub ObeysTable : List (List ℕ) → List ℕ → Type 0
+ObeysTable words bytes = (w : Work) (k : ℕ) (kept : Option (List Row)) (run : Recorded) (rows : List Row) (c : CommandTurn) → IsTask words bytes w → Comes w (take k (turns_in w)) kept run
+    → slice_get (turns_in w) k ≡ Some (turn.Command c) → Obeys rows run.state c
+
+-- ---- recoveries that begin
+
+-- Each recovery that a turn begins, by a command or by a scan, is apart by the block period: of its cluster, with those
+-- that the turn began before it, each is ended, and is acknowledged or as old as the period. But for a restart, which
+-- loads the kept rows, a turn adds no other recovery, and drops none.
+pub record BeginsApart (block : ℕ) (rows : List Row) (s : State) (t : Turn) : Type 0 where
+  pub apart : BeginApartInTurn block (moment_at s) s.audit (entries_begun s t)
+  pub all : asks t ≡ false → HasMore s.audit (entries_begun s t) (step rows s t).audit
+
+-- so any turn would in every state of the run, by the scenario's block period
+abbrev pub BeginApart : List (List ℕ) → List ℕ → Type 0
+BeginApart words bytes = (w : Work) (run : Recorded) (rows : List Row) (t : Turn) → IsTask words bytes w → IsOn (course_of w) run → BeginsApart w.scenario.block rows run.state t
+
+-- ---- recoveries that are done
+
+-- the turns so far are some of the scenario's and the command's own
+pub record IsInTurns (w : Work) (run : Recorded) (ts : List Turn) : Type 0 where
+  pub at : IsOnTurns (course_of w) run
+  pub are : ts ≡ take at.k (turns_in w)
+
+-- or all of these and some of the rounds behind them
+pub record IsInRounds (w : Work) (run : Recorded) (ts : List Turn) : Type 0 where
+  pub at : IsOnRounds (course_of w) run
+  pub are : ts ≡ turns_in w ++ take at.k (closing w.task.asked at.mid)
+
+abbrev pub AreSoFar : Work → Recorded → List Turn → Type 0
+AreSoFar w run ts = IsInTurns w run ts ⊎ IsInRounds w run ts
+
+-- they lead from an opening of the scenario to this state, by some rows at the opening and at each turn
+pub record Through (s : Scenario) (wait : ℕ) (ts : List Turn) (now : State) : Type 0 where
+  pub rows : List Row
+  pub xs : List (List Row × Turn)
+  pub turns : turns_of xs ≡ ts
+  pub state : now ≡ run_turns engine (start s wait rows) xs
+
+-- the turn in which a recovery is done leaves nothing owed to its replicas, which are those that the book had attached
+-- to the failed server when it began in one of the turns so far
+pub record Finishes (w : Work) (ts : List Turn) (rows : List Row) (s : State) (id : ℕ) (r : Recovery) (entry : Option ℕ) (lines : List Line) : Type 0 where
+  pub through : Through w.scenario w.task.waits ts s
+  pub well : FinishesWell (length w.scenario.opening.servers) (start w.scenario w.task.waits through.rows) through.xs rows s id r entry lines
+
+-- so each does, in the scenario's turns and in the rounds
+abbrev pub FinishWell : List (List ℕ) → List ℕ → Type 0
+FinishWell words bytes = (w : Work) (run : Recorded) (ts : List Turn) (rows : List Row) (id : ℕ) (r : Recovery) (entry : Option ℕ) (lines : List Line) → IsTask words bytes w → AreSoFar w run ts
+    → IsFinish run.state id r entry lines → Finishes w ts rows run.state id r entry lines
+
+-- ---- why replicas are lost
+
+-- Each of those that a recovery in flight has lost after its next turn, whether it goes on, is done or fails, has a
+-- reason that was true of the servers and the book in one of its turns, from the one on in which it began: where each
+-- that was true counts, all have one that counts.
+pub record LosesTruly (w : Work) (ts : List Turn) (s : State) (id : ℕ) (r : Recovery) (entry : Option ℕ) : Type 0 where
+  pub through : Through w.scenario w.task.waits ts s
+  pub began : Began (start w.scenario w.task.waits through.rows) through.xs r entry
+  pub lost : (P : ServerNo → Lost → Bool) → ExplainsAlong P id (start w.scenario w.task.waits through.rows) through.xs → ExplainsTurn P id s (turn.Job id) → AllLost P (recovery_after s r).outcome.lost
+
+-- so each does, in the scenario's turns and in the rounds
+abbrev pub LoseTruly : List (List ℕ) → List ℕ → Type 0
+LoseTruly words bytes = (w : Work) (run : Recorded) (ts : List Turn) (id : ℕ) (r : Recovery) (entry : Option ℕ) → IsTask words bytes w → AreSoFar w run ts
+    → job_at run.state.jobs id ≡ Some (unended.Recovery r entry) → LosesTruly w ts run.state id r entry

@@ -1,0 +1,59 @@
+//! The scenario that a source has.
+
+ghost use Rattle.std.specs.Prelude.{◌≡◌, IfOk, IfSome, Err};
+ghost use Rattle.std.specs.Io.KnownBytes.{Consumes};
+ghost use Rattle.orch_base.specs.Causes.{Rose};
+ghost use Rattle.scenarios.specs.Scenarios.{IsScenario};
+ghost use Rattle.top_call.specs.Reads.{ReadsAs, stop_by};
+
+use orch_base::{NotRead, Source, read_all};
+use scenario_reader::{Fault, ReadFault, read, too_long};
+use scenarios::Scenario;
+use std::alloc::Global;
+
+/// Why there is no scenario.
+#[derive(Drop)]
+pub(crate) enum Stop {
+    Memory,
+    Source,
+    Fault(Fault),
+}
+
+// What stops where reading has this fault.
+fn stop_by(fault: ReadFault) -> Stop
+    ensures { result ≡ stop_by fault }
+{
+    match fault {
+        ReadFault::Memory => Stop::Memory,
+        ReadFault::Fault(fault) => Stop::Fault(fault),
+    }
+}
+
+// The scenario that these bytes are.
+fn scenario_in(alloc: Global, bytes: &[u8]) -> Result<Scenario, Stop>
+    ensures read { ReadsAs bytes.now result }
+    ensures sound { IfOk result IsScenario }
+    ensures not_source { result ≡ Err Stop.Source → ⊥ }
+{
+    match read(alloc, bytes) {
+        Ok(scenario) => Ok(scenario),
+        Err(fault) => Err(stop_by(fault)),
+    }
+}
+
+/// Reads the source to its end: the scenario that its bytes are, or their fault.
+pub(crate) fn scenario_from<S: Source>(alloc: Global, source: &mut S) -> Result<Scenario, Stop>
+    ensures read { IfSome (S.left source.old) (λ bytes. ReadsAs bytes result) }
+    ensures sound { IfOk result IsScenario }
+    ensures consumed { IfOk result (λ _.
+        IfSome (S.left source.old) (λ bytes.
+        Consumes (S.left source.old) (S.left source.new) bytes)) }
+    ensures source { result ≡ Err Stop.Source → Rose (S.faults source.old) (S.faults source.new) }
+{
+    match read_all(alloc, source) {
+        Ok(bytes) => scenario_in(alloc, &bytes),
+        Err(NotRead::Memory) => Err(Stop::Memory),
+        Err(NotRead::Source) => Err(Stop::Source),
+        Err(NotRead::TooLong) => Err(stop_by(too_long(alloc))),
+    }
+}

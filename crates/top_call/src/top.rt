@@ -1,0 +1,262 @@
+//! The top call.
+
+ghost use Rattle.std.specs.Prelude.{◌≡◌, ◌≤◌, ◌⊎◌, codes, map, IfSome};
+ghost use Rattle.std.specs.Io.KnownBytes.{Consumes};
+ghost use Rattle.orch_base.specs.Causes.{Rose};
+ghost use Rattle.scenarios.specs.Scenarios.{IsScenario, names_of};
+ghost use Rattle.tasks.specs.Asked.{IsTaken, task_of};
+ghost use Rattle.tasks.specs.Endings.{HasKeepersCause, Tells};
+ghost use Rattle.tasks.specs.Sinks.{TakesLine, across};
+ghost use Rattle.top_call.specs.Ends.{EndsBy, EndsOf, EndsOver, FaultsOf, IsComplete, IsGood, IsReported, IsUsage, NoneRose, call};
+ghost use Rattle.top_call.specs.Faults.{fault_text};
+ghost use Rattle.top_call.specs.Report.{ByReport, EndsAs, KeepsRows, WritesErr, WritesOut};
+ghost use Rattle.top_call.specs.Runs.{BeginApart, FinishWell, IsSafeRun, LoseTruly, ObeysTable};
+
+use crate::fault::fault_line;
+use crate::reading::{Stop, scenario_from};
+use crate::way::Way;
+use command_line::{Places, Usage, places};
+use instance_keeper::Keeper;
+use orch_base::{Sink, Source, write_all};
+use scenario_reader::Fault;
+use scenarios::Scenario;
+use std::alloc::Global;
+use tasks::{Ending, names_of, task_of, task_report};
+
+/// Writes a line, as far as the sink takes it.
+pub fn close<E: Sink>(err: &mut E, line: &[u8])
+    ensures took { TakesLine
+        (across (E.written err.old) (E.faults err.old) (E.written err.new) (E.faults err.new))
+        line.now }
+    ensures later { E.faults err.old ≤ E.faults err.new }
+{
+    match write_all(err, line) {
+        Ok(()) => {}
+        Err(_) => {}
+    }
+}
+
+// Does what the words ask with the scenario, and writes the report.
+fn told<O: Sink, E: Sink, K: Keeper>(
+    alloc: Global,
+    places: &Places,
+    scenario: &Scenario,
+    out: &mut O,
+    err: &mut E,
+    keeper: &mut K,
+) -> Ending
+    requires words { IsTaken places.now }
+    requires scenario { IsScenario scenario.now }
+    ensures tells { Tells (record {
+      task = task_of places.now (names_of scenario.now);
+      scenario = scenario.now;
+      old = K.kept keeper.old;
+      new = K.kept keeper.new;
+    })
+        (across (O.written out.old) (O.faults out.old) (O.written out.new) (O.faults out.new))
+        (across (E.written err.old) (E.faults err.old) (E.written err.new) (E.faults err.new))
+        result }
+    ensures cause { HasKeepersCause (K.faults keeper.old) (K.faults keeper.new) result }
+    ensures later { E.faults err.old ≤ E.faults err.new }
+{
+    let Ok(names) = names_of(alloc, scenario) else {
+        return Ending::Memory;
+    };
+    let Ok(task) = task_of(alloc, places, &names) else {
+        return Ending::Memory;
+    };
+    task_report(alloc, &task, &names, scenario, out, err, keeper)
+}
+
+// Does what the words ask with the scenario.
+fn report<O: Sink, E: Sink, K: Keeper>(
+    alloc: Global,
+    places: &Places,
+    scenario: &Scenario,
+    out: &mut O,
+    err: &mut E,
+    keeper: &mut K,
+) -> Way
+    requires words { IsTaken places.now }
+    requires scenario { IsScenario scenario.now }
+    ensures ends { EndsOver places.now scenario.now (K.kept keeper.old) (K.kept keeper.new)
+        (across (O.written out.old) (O.faults out.old) (O.written out.new) (O.faults out.new))
+        (across (E.written err.old) (E.faults err.old) (E.written err.new) (E.faults err.new))
+        result }
+    ensures sink { result ≡ Way.Sink → Rose (O.faults out.old) (O.faults out.new)
+        ⊎ Rose (E.faults err.old) (E.faults err.new) }
+    ensures keeper { result ≡ Way.Keeper → Rose (K.faults keeper.old) (K.faults keeper.new) }
+    ensures not_source { result ≡ Way.Source → ⊥ }
+    ensures not_usage { result ≡ Way.Usage → ⊥ }
+{
+    match told(alloc, places, scenario, out, err, keeper) {
+        Ending::Written(refused) => Way::Reported(refused),
+        Ending::Unwritten => {
+            close(err, b"write fault\n");
+            Way::Sink
+        }
+        Ending::Keeper => {
+            close(err, b"keeper fault\n");
+            Way::Keeper
+        }
+        Ending::Memory => {
+            close(err, b"out of memory\n");
+            Way::Memory
+        }
+    }
+}
+
+// Writes the line of a scenario's fault.
+fn close_fault<E: Sink>(alloc: Global, err: &mut E, fault: &Fault) -> Way
+    ensures { ((result ≡ Way.Fault) × TakesLine
+        (across (E.written err.old) (E.faults err.old) (E.written err.new) (E.faults err.new))
+        (fault_text fault.now))
+        ⊎ ((result ≡ Way.Memory) × TakesLine
+        (across (E.written err.old) (E.faults err.old) (E.written err.new) (E.faults err.new))
+        (codes "out of memory\n")) }
+{
+    match fault_line(alloc, fault) {
+        Ok(line) => {
+            close(err, &line);
+            Way::Fault
+        }
+        Err(_) => {
+            close(err, b"out of memory\n");
+            Way::Memory
+        }
+    }
+}
+
+// Answers words that are taken.
+fn answer<S: Source, O: Sink, E: Sink, K: Keeper>(
+    alloc: Global,
+    places: &Places,
+    source: &mut S,
+    out: &mut O,
+    err: &mut E,
+    keeper: &mut K,
+) -> Way
+    requires { IsTaken places.now }
+    ensures ends { EndsOf places.now (S.left source.old) (K.kept keeper.old) (K.kept keeper.new)
+        (across (O.written out.old) (O.faults out.old) (O.written out.new) (O.faults out.new))
+        (across (E.written err.old) (E.faults err.old) (E.written err.new) (E.faults err.new))
+        result }
+    ensures not_usage { result ≡ Way.Usage → ⊥ }
+    ensures source { result ≡ Way.Source → Rose (S.faults source.old) (S.faults source.new) }
+    ensures sink { result ≡ Way.Sink → Rose (O.faults out.old) (O.faults out.new)
+        ⊎ Rose (E.faults err.old) (E.faults err.new) }
+    ensures keeper { result ≡ Way.Keeper → Rose (K.faults keeper.old) (K.faults keeper.new) }
+    ensures read { IsReported result
+        → IfSome (S.left source.old)
+        (λ bytes. Consumes (S.left source.old) (S.left source.new) bytes) }
+{
+    match scenario_from(alloc, source) {
+        Ok(scenario) => report(alloc, places, &scenario, out, err, keeper),
+        Err(Stop::Memory) => {
+            close(err, b"out of memory\n");
+            Way::Memory
+        }
+        Err(Stop::Source) => {
+            close(err, b"read fault\n");
+            Way::Source
+        }
+        Err(Stop::Fault(fault)) => close_fault(alloc, err, &fault),
+    }
+}
+
+/// Does what the words ask with the scenario that the source has, writes the report on out and what went wrong on err,
+/// and answers the program's status. What orchestrator knows is kept by the keeper: the run begins with its rows, and
+/// each change is kept before it is made.
+///
+/// - 0: the report is written, and no reply in it is refused or failed.
+/// - 1: the words aren't taken; `usage` on err.
+/// - 2: the scenario has a fault; `scenario fault CODE NAME PATH` on err.
+/// - 3: the source failed; `read fault` on err.
+/// - 4: a sink failed that was to take the report, err before out; all turns were taken, or the keeper failed, too;
+/// `write fault`   on err.
+/// - 5: the keeper failed; out took the replies of a run before that turn, which changed nothing; `keeper fault` on
+/// err.
+/// - 6: want of memory; out took a front of a run's replies; `out of memory` on err.
+/// - 7: the report is written, and a reply in it is refused or failed; of a single command that reply is on err.
+///
+/// Elsewhere than at 4, where err fails it has a front of its line, and the status is the same.
+pub fn orch<S: Source, O: Sink, E: Sink, K: Keeper>(
+    alloc: Global,
+    words: &[Vec<u8>],
+    scenario: &mut S,
+    out: &mut O,
+    err: &mut E,
+    keeper: &mut K,
+) -> u8
+    // 1 exactly where the words aren't taken, and 2 exactly where they are and the scenario has a fault, but for 3 and
+    // 6.
+    ensures usage { IsUsage (map (λ w. w.items) words.now) result }
+    ensures fault { FaultsOf (map (λ w. w.items) words.now) (S.left scenario.old) result }
+
+    // 3, 4 and 5 only where a count of faults rose, and 0 and 7 only where the source was read to its end.
+    ensures source { result ≡ 3 → Rose (S.faults scenario.old) (S.faults scenario.new) }
+    ensures sink { result ≡ 4 → Rose (O.faults out.old) (O.faults out.new)
+        ⊎ Rose (E.faults err.old) (E.faults err.new) }
+    ensures keeper { result ≡ 5 → Rose (K.faults keeper.old) (K.faults keeper.new) }
+    ensures read { IfSome (S.left scenario.old) (λ bytes.
+        (result ≡ 0) ⊎ (result ≡ 7) → Consumes (S.left scenario.old) (S.left scenario.new) bytes) }
+
+    // What out and err took and what the keeper has, by the status: exactly, whether the keeper tells its rows or not.
+    ensures ends { IfSome (S.left scenario.old) (λ bytes.
+        EndsBy (call (map (λ w. w.items) words.now) bytes (K.kept keeper.old) (K.kept keeper.new)
+        (across (O.written out.old) (O.faults out.old) (O.written out.new) (O.faults out.new))
+        (across (E.written err.old) (E.faults err.old) (E.written err.new) (E.faults err.new)))
+        result) }
+
+    // Where the keeper tells its rows, all of it against the report, which is a function of the words, the bytes and
+    // the rows: the status, what out and err took, and the rows that are kept.
+    ensures status { ByReport (map (λ w. w.items) words.now) (S.left scenario.old)
+        (K.kept keeper.old) (λ rows r. EndsAs r result) }
+    ensures out { ByReport (map (λ w. w.items) words.now) (S.left scenario.old) (K.kept keeper.old)
+        (λ rows r. WritesOut r result
+        (across (O.written out.old) (O.faults out.old) (O.written out.new) (O.faults out.new))) }
+    ensures err { ByReport (map (λ w. w.items) words.now) (S.left scenario.old) (K.kept keeper.old)
+        (λ rows r. WritesErr r result
+        (across (E.written err.old) (E.faults err.old) (E.written err.new) (E.faults err.new))) }
+    ensures kept { ByReport (map (λ w. w.items) words.now) (S.left scenario.old) (K.kept keeper.old)
+        (λ rows r. KeepsRows r result rows (K.kept keeper.new)) }
+
+    // Where no count rose, the whole report of good words and bytes is written, or memory ran out.
+    ensures complete { IfSome (S.left scenario.old) (λ bytes.
+        IsGood (map (λ w. w.items) words.now) bytes
+        → NoneRose (S.faults scenario.old) (S.faults scenario.new) (K.faults keeper.old)
+        (K.faults keeper.new)
+        (across (O.written out.old) (O.faults out.old) (O.written out.new) (O.faults out.new))
+        (across (E.written err.old) (E.faults err.old) (E.written err.new) (E.faults err.new))
+        → IsComplete result) }
+
+    // Every state of each run of these turns, of the report's too, is held with its jobs in flight, its recoveries are
+    // apart, and every quiet one is sound and so safe, whatever rows the keeper hands back; and every command turn of
+    // such a run answers by the permission table, a refused one changing nothing.
+    ensures safe { IfSome (S.left scenario.old)
+        (λ bytes. IsSafeRun (map (λ w. w.items) words.now) bytes) }
+    ensures commands { IfSome (S.left scenario.old)
+        (λ bytes. ObeysTable (map (λ w. w.items) words.now) bytes) }
+
+    // In every such state recoveries begin apart by the scenario's block period, and one that is done, by whatever
+    // turns it came so far, leaves each replica that the book had attached to the failed server when it began promoted,
+    // following or lost for a true reason.
+    ensures begins { IfSome (S.left scenario.old)
+        (λ bytes. BeginApart (map (λ w. w.items) words.now) bytes) }
+    ensures finishes { IfSome (S.left scenario.old)
+        (λ bytes. FinishWell (map (λ w. w.items) words.now) bytes) }
+    ensures losses { IfSome (S.left scenario.old)
+        (λ bytes. LoseTruly (map (λ w. w.items) words.now) bytes) }
+{
+    match places(alloc, words) {
+        Ok(places) => answer(alloc, &places, scenario, out, err, keeper).status(),
+        Err(Usage::BadWords) => {
+            close(err, b"usage\n");
+            Way::Usage.status()
+        }
+        Err(Usage::Memory) => {
+            close(err, b"out of memory\n");
+            Way::Memory.status()
+        }
+    }
+}

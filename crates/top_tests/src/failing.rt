@@ -1,0 +1,279 @@
+//! Sources, sinks and keepers that fail at one of their calls.
+
+use crate::calls::{Kept, Objects, RUN, Told, WHOLE, Words, call, keeper_of, keeps};
+use orch_base::MAX_SCENARIO_LEN;
+use std::alloc::Global;
+use std::test::Fail;
+
+// A master with five transactions of 100 bytes, and a replica that catches up.
+const CATCHES_UP: &str =
+    "{\"version\":1,\"servers\":[{\"name\":\"m\",\"history\":[[\"m\",100,5]]},{\"name\":\"r\",\"source\":\"m\",\"executed\":2}],\"turns\":[[\"fetch\",\"r\"],[\"apply\",\"r\"],[\"fetch\",\"r\"],[\"apply\",\"r\"],[\"fetch\",\"r\"],[\"apply\",\"r\"]]}";
+
+const CAUGHT_UP: &str = "1 fetch r:3306: got mysql-bin.000001:304
+2 apply r:3306: done mysql-bin.000001:304
+3 fetch r:3306: got mysql-bin.000001:404
+4 apply r:3306: done mysql-bin.000001:404
+5 fetch r:3306: got mysql-bin.000001:504
+6 apply r:3306: done mysql-bin.000001:504
+server m:3306 up rw executed 5 end mysql-bin.000001:504 source none
+server r:3306 up ro executed 5 end mysql-bin.000001:504 source m:3306 at mysql-bin.000001:504 read mysql-bin.000001:504 io on sql on
+errant 0
+";
+
+// The first hundred bytes of it.
+const FRONT: &str =
+    "1 fetch r:3306: got mysql-bin.000001:304\n2 apply r:3306: done mysql-bin.000001:304\n3 fetch r:3306: g";
+
+// A server alone.
+const ALONE: &str = "{\"version\":1,\"servers\":[{\"name\":\"m\"}]}";
+
+// The servers that catch up, and one poll of each.
+const POLLS: &str =
+    "{\"version\":1,\"servers\":[{\"name\":\"m\",\"history\":[[\"m\",100,5]]},{\"name\":\"r\",\"source\":\"m\",\"executed\":2}],\"turns\":[[\"polls\"]]}";
+
+const POLLED: &str = "1 poll-read 0 m:3306: read 1
+2 poll-store 0: stored
+3 poll-read 0 r:3306: read 2
+4 poll-store 0: stored
+server m:3306 up rw executed 5 end mysql-bin.000001:504 source none
+server r:3306 up ro executed 2 end mysql-bin.000001:204 source m:3306 at mysql-bin.000001:204 read mysql-bin.000001:204 io on sql on
+errant 0
+";
+
+const POLLED_ONE: &str = "1 poll-read 0 m:3306: read 1
+2 poll-store 0: stored
+3 poll-read 0 r:3306: read 2
+";
+
+// A recovery is interrupted by a restart, and blocks the next.
+const RESTARTS: &str =
+    r#"{"version":1,"servers":[{"name":"m","history":[["m",100,1]]},{"name":"a","source":"m","executed":1}],"turns":[["fail","m"],["polls"],["command","recover",{"i":"m"}],["restart"],["command","recover",{"i":"m"}]]}"#;
+
+// The switch is enabled as it is, enabled again, disabled; then one more turn.
+const SWITCHES: &str =
+    r#"{"version":1,"servers":[{"name":"m"}],"turns":[["command","enable-global-recoveries",{}],["command","enable-global-recoveries",{}],["command","disable-global-recoveries",{}],["tick",1]]}"#;
+
+const INTERRUPTED: &str =
+    r#"{"version":1,"servers":[{"name":"m"},{"name":"a","source":"m"}],"turns":[["command","audit-recoveries",{}],["command","ack-cluster-recoveries",{"i":"m"}],["restart"]]}"#;
+
+const IS_INTERRUPTED: &str = "1 command audit-recoveries: done
+  recovery 1 m:3306 master m:3306 begun 5 ended 5 interrupted unacked
+2 command ack-cluster-recoveries m:3306: done
+  acknowledged 1
+3 restart: done
+server m:3306 up rw executed 0 end mysql-bin.000001:4 source none
+server a:3306 up ro executed 0 end mysql-bin.000001:4 source m:3306 at mysql-bin.000001:4 read mysql-bin.000001:4 io on sql on
+recovery 1 m:3306 master m:3306 begun 5 ended 5 interrupted acked
+errant 0
+";
+
+const SWITCHED: &str =
+    "1 command enable-global-recoveries: done\n  enabled\n2 command enable-global-recoveries: done\n  enabled\n";
+
+fn over_no_rows(alloc: Global, words: Words, text: &[u8], objects: Objects) -> Result<Told, Fail> {
+    let mut keeper = keeper_of(alloc, &[], 0)?;
+    call(alloc, words, text, objects, &mut keeper)
+}
+
+#[test]
+fn words_sources_and_sinks(rt: HostRuntime) -> Result<(), Fail> {
+    let alloc = rt.alloc();
+    let forget: Words = &[b"orch", b"-c", b"forget", b"-i", b"z", b"--tables"];
+    // The words and the scenario, the calls of the source and of out that fail, the room of out and of err; the status,
+    // and what out and err took.
+    let cases: [(Words, &str, [u64; 2], [usize; 2], (u8, &str, &str)); 9] = [
+        (&[], ALONE, [0, 0], [100, 100], (1, "", "usage\n")),
+        (&[b"orch"], ALONE, [0, 0], [100, 100], (1, "", "usage\n")),
+        (
+            &[b"orch", b"-c", b"run", b"\xff"],
+            ALONE,
+            [0, 0],
+            [100, 100],
+            (1, "", "usage\n"),
+        ),
+        (
+            RUN,
+            CATCHES_UP,
+            [1, 0],
+            [2000, 100],
+            (3, "", "read fault\n"),
+        ),
+        (
+            RUN,
+            CATCHES_UP,
+            [0, 1],
+            [2000, 100],
+            (4, "", "write fault\n"),
+        ),
+        (RUN, CATCHES_UP, [0, 2], [2000, 100], (0, CAUGHT_UP, "")),
+        (
+            RUN,
+            CATCHES_UP,
+            [0, 2],
+            [100, 100],
+            (4, FRONT, "write fault\n"),
+        ),
+        (
+            RUN,
+            CATCHES_UP,
+            [0, 0],
+            [100, 100],
+            (4, FRONT, "write fault\n"),
+        ),
+        (forget, ALONE, [0, 0], [100, 12], (4, "", "refused 2 Un")),
+    ];
+    for (
+        words,
+        text,
+        [source_fails, out_fails],
+        [out_room, err_room],
+        (status, out, err),
+    ) in cases {
+        let objects = Objects {
+            source_fails,
+            out_fails,
+            out_room,
+            err_room,
+            ..WHOLE
+        };
+        let told = over_no_rows(alloc, words, text.as_bytes(), objects)?;
+        assert_eq!(rt; told.all(), (status, Some(out), Some(err)));
+    }
+    Ok(())
+}
+
+// What a run answers over these rows, the keeper of which fails at this call; and whether the keeper then has so many
+// rows, these among them.
+fn over_rows(
+    alloc: Global,
+    text: &str,
+    kept: &[Kept],
+    objects: Objects,
+    (count, some): (usize, &[Kept]),
+) -> Result<(Told, bool), Fail> {
+    let mut keeper = keeper_of(alloc, kept, objects.keeper_fails)?;
+    let told = call(alloc, RUN, text.as_bytes(), objects, &mut keeper)?;
+    let keeps = keeps(alloc, &mut keeper, count, some)?;
+    Ok((told, keeps))
+}
+
+#[test]
+fn keepers(rt: HostRuntime) -> Result<(), Fail> {
+    let alloc = rt.alloc();
+    let master: &[Kept] = &[Kept::Instance(0, 0, 0)];
+    let both: &[Kept] = &[Kept::Instance(0, 0, 0), Kept::Instance(1, 0, 0)];
+    let fault = "keeper fault\n";
+    // The scenario, the rows, the call of the keeper that fails (the first asks for the rows, the second keeps what the
+    // opening changes), the room of out; the status, what out and err took, how many rows are kept then, and some of
+    // them.
+    let cases: [(
+        &str,
+        &[Kept],
+        u64,
+        usize,
+        (u8, &str, &str),
+        (usize, &[Kept]),
+    ); 11] = [
+        (POLLS, &[], 1, 2000, (5, "", fault), (0, &[])),
+        (POLLS, &[], 2, 2000, (5, "", fault), (0, &[])),
+        (
+            POLLS,
+            &[],
+            3,
+            2000,
+            (5, "1 poll-read 0 m:3306: read 1\n", fault),
+            (2, &[]),
+        ),
+        (POLLS, &[], 4, 2000, (5, POLLED_ONE, fault), (2, &[])),
+        (POLLS, &[], 4, 7, (4, "1 poll-", "write fault\n"), (2, &[])),
+        (POLLS, &[], 5, 2000, (0, POLLED, ""), (2, &[])),
+        (
+            RESTARTS,
+            &[],
+            3,
+            2000,
+            (
+                5,
+                "1 fail m:3306: done\n2 poll-read 0 a:3306: read 1\n",
+                fault,
+            ),
+            (2, &[]),
+        ),
+        (
+            INTERRUPTED,
+            &[Kept::Recovery(1, 5, None)],
+            0,
+            2000,
+            (0, IS_INTERRUPTED, ""),
+            (3, &[]),
+        ),
+        (CATCHES_UP, both, 2, 2000, (0, CAUGHT_UP, ""), (2, both)),
+        (SWITCHES, master, 2, 2000, (5, "", fault), (1, master)),
+        (
+            SWITCHES,
+            master,
+            3,
+            2000,
+            (5, SWITCHED, fault),
+            (2, &[Kept::Instance(0, 0, 0), Kept::Switch(true)]),
+        ),
+    ];
+    for (text, kept, keeper_fails, out_room, (status, out, err), after) in cases {
+        let objects = Objects {
+            keeper_fails,
+            out_room,
+            ..WHOLE
+        };
+        let (told, keeps) = over_rows(alloc, text, kept, objects, after)?;
+        assert_eq!(rt;
+            (told.all(), keeps),
+            ((status, Some(out), Some(err)), true),
+            "at {keeper_fails}"
+        );
+    }
+    Ok(())
+}
+
+// More than a piece of lines, and then a poll that changes the kept row.
+fn ticks_and_polls(alloc: Global) -> Result<String, Fail> {
+    let mut text = String::from_str(
+        alloc,
+        "{\"version\":1,\"servers\":[{\"name\":\"m\"}],\"turns\":[",
+    )?;
+    for _ in 0..4000 {
+        text.push_str("[\"tick\",1],")?;
+    }
+    text.push_str("[\"polls\"]]}")?;
+    Ok(text)
+}
+
+#[test]
+fn all_turns_are_taken_where_out_fails(rt: HostRuntime) -> Result<(), Fail> {
+    let alloc = rt.alloc();
+    let text = ticks_and_polls(alloc)?;
+    let objects = Objects {
+        out_room: 100,
+        ..WHOLE
+    };
+    let polled = (1, [Kept::Instance(0, 1, 4000)].as_slice());
+    let (told, keeps) = over_rows(alloc, text.as_str(), &[], objects, polled)?;
+    let out =
+        "1 tick 1: now 1\n2 tick 1: now 2\n3 tick 1: now 3\n4 tick 1: now 4\n5 tick 1: now 5\n6 tick 1: now 6\n7 ti";
+    assert_eq!(rt;
+        (told.all(), keeps),
+        ((4, Some(out), Some("write fault\n")), true)
+    );
+    Ok(())
+}
+
+#[test]
+fn one_byte_too_many(rt: HostRuntime) -> Result<(), Fail> {
+    let alloc = rt.alloc();
+    let spaces = vec![in alloc; b' '; MAX_SCENARIO_LEN + 1]?;
+    let told = over_no_rows(alloc, RUN, &spaces, WHOLE)?;
+    assert_eq!(rt;
+        told.all(),
+        (2, Some(""), Some("scenario fault 1 TooLong\n"))
+    );
+    Ok(())
+}

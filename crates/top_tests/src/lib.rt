@@ -1,0 +1,9 @@
+//! Tests of the top call over objects in memory: what sources, sinks and keepers that fail make of it, and kept rows.
+#![tactic(auto)]
+
+#[cfg(test)]
+mod calls;
+#[cfg(test)]
+mod failing;
+#[cfg(test)]
+mod keeping;
