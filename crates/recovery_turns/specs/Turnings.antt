@@ -11,11 +11,11 @@ use Rattle.operations.specs.Turns.{Turned, ended}
 use Rattle.job_plans.specs.declared.act.Look.{Look}
 use Rattle.job_plans.specs.Acts.{foretold}
 use Rattle.recovery_plans.specs.Recoveries.{Recovery}
-use Rattle.recovery_plans.specs.Taking.{Taken, barred_by, fails, fate, goes_on, is_waiting, met}
-use Rattle.recovery_turns.specs.Steps.{progressed_by}
+use Rattle.recovery_plans.specs.Taking.{Taken, barred_by, fails, fate, goes_on, met}
+use Rattle.recovery_turns.specs.Steps.{followed}
 
 abbrev pub going_unless : World → Recovery → Bool → Option Observation → List Exchange → Job → Option Cause → Taken
-going_unless w r ending o es j None = goes_on o es (progressed_by (record r { core = j }) ending (is_waiting j))
+going_unless w r ending o es j None = goes_on o es (followed r ending j)
 going_unless w r ending o es j (Some c) = fails w r c o
 
 -- its job goes on, by an operation that ended the stage or didn't

@@ -10,7 +10,7 @@ use commands::Lost;
 use instance_keeper::Bridge;
 use operations::Op;
 use orch_base::{Memory, ServerNo};
-use recovery_parts::sight_of;
+use recovery_parts::{one, sight_of};
 use recovery_plans::{Follower, LostReplica, Stage, Way};
 use std::alloc::Global;
 
@@ -30,6 +30,14 @@ impl RecoveryJob {
         self.core.begin(ops)?;
         self.stage = stage;
         Ok(())
+    }
+
+    // A stage of one operation begins.
+    pub(crate) fn work_one(&mut self, alloc: Global, stage: Stage, op: Op) -> Result<(), Memory>
+        ensures { OnOk result (self.new ≡ working self.old stage (op ∷ [])) }
+    {
+        let ops = one(alloc, op)?;
+        self.work(stage, ops)
     }
 
     pub(crate) fn idle(&mut self)

@@ -1,13 +1,15 @@
 //! What the next turn of a recovery does.
 
-ghost use Rattle.std.specs.Prelude.{◌≡◌, IfOk, None, length, map, true};
+ghost use Rattle.std.specs.Prelude.{◌≡◌, IfOk, None, OnOk, length, map, true};
 ghost use Rattle.std.specs.Option.{option_copied};
 ghost use Rattle.operations.specs.Jobs.{seen_of, with_seen};
 ghost use Rattle.job_plans.specs.Acts.{CanFollow, IsNext, IsSpare as IsSpareJob, exchanges_of as made_by, job_after, takes_memory};
 ghost use Rattle.recovery_plans.specs.Named.{IsNamedRecovery};
-ghost use Rattle.recovery_plans.specs.Taking.{barred_by, fails, fate, goes_back, met, settled, taken, undone, way_back};
-ghost use Rattle.recovery_parts.specs.Doings.{exchange_of};
+ghost use Rattle.recovery_plans.specs.Taking.{barred_by, fails, fate, goes_back, last_exchanges, met, settled, taken, undone, way_back};
+ghost use Rattle.recovery_parts.specs.Doings.{exchange_of, exchanges_of, takes_memory as may_take};
+ghost use Rattle.recovery_parts.specs.Fates.{fate_told};
 ghost use Rattle.recovery_turns.specs.Looks.{CanTake, IsSpare, foretold};
+ghost use Rattle.recovery_turns.specs.Steps.{borne, followed};
 ghost use Rattle.recovery_turns.specs.Turnings.{going_by, looked_by};
 
 use crate::RecoveryJob;
@@ -17,7 +19,7 @@ use job_plans::{Act, Job, Look, has_place};
 use operations::{Crossing, JobStep, Op, Sight};
 use orch_base::{Memory, Moment, ServerNo, SourceState};
 use recovery_parts::{
-    Change, Doing, Fate, Ground, doing_of, ends, fate_of, one, only, then_starts, two,
+    Change, Doing, Fate, Ground, doing_of, ends, fate_of, only, then_starts, two,
 };
 use recovery_plans::{Purpose, Stage};
 use server_model::World;
@@ -156,7 +158,15 @@ impl RecoveryJob {
         }
     }
 
-    // It fails: it goes its way back, and starts each server that it stopped and hasn't started.
+    // What it does where it fails: it goes its way back, and starts each server that it stopped and hasn't started.
+    fn last_changes(&self, alloc: Global, world: &World) -> Result<Vec<Change>, Memory>
+        ensures { IfOk result (λ v. map exchange_of v.items ≡ last_exchanges world.now self.now) }
+    {
+        let back = self.undone(alloc, world)?;
+        then_starts(alloc, back, self.core.hands())
+    }
+
+    // It fails.
     fn fail(
         mut self,
         alloc: Global,
@@ -167,8 +177,7 @@ impl RecoveryJob {
         ensures turn { IfOk result (λ l. foretold l ≡ fails world.now self cause observation) }
         ensures spare { IfOk result IsSpare }
     {
-        let back = self.undone(alloc, world)?;
-        let changes = then_starts(alloc, back, self.core.hands())?;
+        let changes = self.last_changes(alloc, world)?;
         self.core.end();
         Ok(RecoveryLook {
             step: JobStep::Failed(cause),
@@ -224,6 +233,21 @@ impl RecoveryJob {
         }
     }
 
+    // Its job follows an act: what that does to servers.
+    fn pursue(&mut self, alloc: Global, ending: bool, act: Act) -> Result<Doing, Memory>
+        requires { CanFollow self.old.core act }
+        ensures exchanges { IfOk result (λ d. exchanges_of d ≡ made_by self.old.core act) }
+        ensures memory { IfOk result (λ d. may_take d ≡ true → takes_memory act ≡ true) }
+        ensures recovery { OnOk result (self.new
+            ≡ followed self.old ending (job_after self.old.core act)) }
+    {
+        let doing = doing_of(alloc, &self.core, &act)?;
+        self.core.follow(act)?;
+        let waiting = self.core.waited() != 0;
+        self.progress(alloc, ending, waiting)?;
+        Ok(doing)
+    }
+
     // Its job goes on.
     fn go_on(
         mut self,
@@ -242,16 +266,33 @@ impl RecoveryJob {
         if let Some(cause) = self.barred_by(&act) {
             return self.fail(alloc, world, cause, observation);
         }
-        let doing = doing_of(alloc, &self.core, &act)?;
-        self.core.follow(act)?;
-        let waiting = self.core.waited() != 0;
-        self.progress(alloc, ending, waiting)?;
+        let doing = self.pursue(alloc, ending, act)?;
         Ok(RecoveryLook {
             step: JobStep::Going,
             observation,
             doing,
             after: self,
         })
+    }
+
+    // What becomes of it where an operation fails and it goes on.
+    fn bear(&mut self, alloc: Global, fate: Fate) -> Result<(), Memory>
+        ensures { OnOk result (self.new ≡ borne self.old (fate_told fate)) }
+    {
+        match fate {
+            Fate::Fails => Ok(()),
+            Fate::Drops => self.work(Stage::Idle, Vec::new(alloc)),
+            Fate::Loses(no, why) => {
+                self.lose(no, why)?;
+                self.work(Stage::Idle, Vec::new(alloc))
+            }
+            Fate::Frees(no, why) => self.free(alloc, no, why),
+            Fate::Releases(q) => self.work_one(alloc, Stage::Release(q), Op::Start(q)),
+            Fate::Returns(p, q) => {
+                let ops = two(alloc, Op::Cross(Crossing::Back, q, p), Op::Start(q))?;
+                self.work(Stage::Return(p, q), ops)
+            }
+        }
     }
 
     // An operation fails.
@@ -266,20 +307,16 @@ impl RecoveryJob {
             (fate world.now self.purpose self.stage cause)) }
         ensures spare { IfOk result IsSpare }
     {
-        match fate_of(world, self.purpose, &self.stage, &cause) {
+        let fate = fate_of(world, self.purpose, &self.stage, &cause);
+        match fate {
             Fate::Fails => return self.fail(alloc, world, cause, observation),
-            Fate::Drops => self.work(Stage::Idle, Vec::new(alloc))?,
-            Fate::Loses(n, why) => {
-                self.lose(n, why)?;
-                self.work(Stage::Idle, Vec::new(alloc))?;
-            }
-            Fate::Frees(n, why) => self.free(alloc, n, why)?,
-            Fate::Releases(q) => self.work(Stage::Release(q), one(alloc, Op::Start(q))?)?,
-            Fate::Returns(p, q) => {
-                let ops = two(alloc, Op::Cross(Crossing::Back, q, p), Op::Start(q))?;
-                self.work(Stage::Return(p, q), ops)?;
-            }
+            Fate::Drops
+            | Fate::Loses(_, _)
+            | Fate::Frees(_, _)
+            | Fate::Releases(_)
+            | Fate::Returns(_, _) => {}
         }
+        self.bear(alloc, fate)?;
         Ok(RecoveryLook {
             step: JobStep::Going,
             observation,

@@ -129,7 +129,7 @@ impl RecoveryJob {
                 self.give_up(alloc);
                 Ok(())
             }
-            Some(lead) => self.work(Stage::Look(no, lead), one(alloc, Op::Status(no, None))?),
+            Some(lead) => self.work_one(alloc, Stage::Look(no, lead), Op::Status(no, None)),
         }
     }
 
@@ -154,14 +154,17 @@ impl RecoveryJob {
             self.old task) }
     {
         match task {
-            Task::Reading(no) => self.work(Stage::Read(no), one(alloc, Op::Status(no, None))?),
-            Task::Draining(no) => self.work(Stage::Drain(no), drain(alloc, no)?),
+            Task::Reading(no) => self.work_one(alloc, Stage::Read(no), Op::Status(no, None)),
+            Task::Draining(no) => {
+                let ops = drain(alloc, no)?;
+                self.work(Stage::Drain(no), ops)
+            }
             Task::Choosing => self.choose(alloc, by),
             Task::Handing => self.hand_over(alloc, by),
             Task::Moving(no, way) => self.go(alloc, no, way),
             Task::Sorting => self.sort(alloc),
-            Task::Expelling(no) => self.work(Stage::Expel(no), one(alloc, Op::Detach(no))?),
-            Task::Releasing(no) => self.work(Stage::Release(no), one(alloc, Op::Start(no))?),
+            Task::Expelling(no) => self.work_one(alloc, Stage::Expel(no), Op::Detach(no)),
+            Task::Releasing(no) => self.work_one(alloc, Stage::Release(no), Op::Start(no)),
             Task::Trailing(no) => self.look_at(alloc, no),
             Task::Yielding => self.give_place(alloc),
         }

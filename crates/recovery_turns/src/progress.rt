@@ -3,7 +3,9 @@
 ghost use Rattle.std.specs.Prelude.{◌≡◌, IfOk, OnOk, map};
 ghost use Rattle.instance_keeper.specs.Bridges.{bridge_in as bridge_of};
 ghost use Rattle.operations.specs.Jobs.{seen_of};
-ghost use Rattle.recovery_plans.specs.Taking.{at_end, completed, expelled, frees, gathered, halted, idle, is_below, judged, last_looks, lead_under, looked, marked, swapped};
+ghost use Rattle.recovery_plans.specs.Taking.{completed, frees, gathered, halted, idle, is_below, last_looks, lead_under, looked, marked, swapped};
+ghost use Rattle.recovery_plans.specs.Deciding.{closing};
+ghost use Rattle.recovery_plans.specs.Recoveries.{follows};
 ghost use Rattle.recovery_turns.specs.Steps.{progressed_by, stepped_by};
 
 use crate::RecoveryJob;
@@ -61,24 +63,38 @@ fn marked(alloc: Global, lost: &[LostReplica], no: ServerNo) -> Result<Vec<LostR
 impl RecoveryJob {
     // A replica that was stopped is drained where its source is the failed server, and is lost else.
     fn judge(&mut self, no: ServerNo) -> Result<(), Memory>
-        ensures { OnOk result (self.new ≡ judged self.old no (seen_of self.old.core.seen no.0)) }
+        ensures { OnOk result (self.new ≡ completed self.old (Stage.Judged no)) }
     {
         let Some(seen) = self.core.sight(no) else {
+            self.idle();
             return self.lose(no, Lost::Unreachable);
         };
         let (exec, own_end) = (seen.exec, seen.own_end);
         if is_below(seen, self.failed) {
             self.drained.push(Stopped { no, exec, own_end })?;
+            self.idle();
             return Ok(());
         }
         let spot = spot_seen(seen.source, exec);
+        self.idle();
         self.lose(no, Lost::Moved(spot))
     }
 
+    // A replica is below its source.
+    fn join(&mut self, no: ServerNo, source: ServerNo) -> Result<(), Memory>
+        ensures { OnOk result (self.new ≡ idle (follows self.old no source)) }
+    {
+        self.follow(no, source)?;
+        self.idle();
+        Ok(())
+    }
+
+    // A lost one is detached.
     fn expel(&mut self, alloc: Global, no: ServerNo) -> Result<(), Memory>
-        ensures { OnOk result (self.new ≡ expelled self.old no) }
+        ensures { OnOk result (self.new ≡ completed self.old (Stage.Expelled no)) }
     {
         self.outcome.lost = marked(alloc, &self.outcome.lost, no)?;
+        self.idle();
         Ok(())
     }
 
@@ -99,9 +115,10 @@ impl RecoveryJob {
 
     // Where the designated replica stopped.
     fn gather(&mut self, d: ServerNo)
-        ensures { self.new ≡ gathered self.old d }
+        ensures { self.new ≡ idle (gathered self.old d) }
     {
         self.lead = lead_under(self.failed, self.bridge(d));
+        self.idle();
     }
 
     // A lost one is started at once.
@@ -109,7 +126,7 @@ impl RecoveryJob {
         ensures { OnOk result (self.new ≡ frees self.old no why) }
     {
         self.lose(no, why)?;
-        self.work(Stage::Release(no), one(alloc, Op::Start(no))?)
+        self.work_one(alloc, Stage::Release(no), Op::Start(no))
     }
 
     // A replica of the master goes to where the designated one stopped; one that stands elsewhere is lost.
@@ -122,7 +139,8 @@ impl RecoveryJob {
             Some(seen) => {
                 if is_below(seen, self.failed) {
                     self.see_bridge(alloc, lead)?;
-                    return self.work(Stage::Trail(no, lead), trail(alloc, no, lead.no)?);
+                    let ops = trail(alloc, no, lead.no)?;
+                    return self.work(Stage::Trail(no, lead), ops);
                 }
                 Lost::Moved(spot_seen(seen.source, seen.exec))
             }
@@ -163,15 +181,30 @@ impl RecoveryJob {
         }
     }
 
+    // The new source takes writes: nothing more is changed.
+    fn pass_open(&mut self, alloc: Global, no: ServerNo) -> Result<(), Memory>
+        ensures { OnOk result (self.new ≡ closing self.old
+            (last_looks self.old self.old.purpose no)) }
+    {
+        let ops = self.last_looks(alloc, no)?;
+        self.close(alloc, ops)
+    }
+
+    // The master is made to refuse writes.
+    fn pass_meet(&mut self, alloc: Global, m: ServerNo, d: ServerNo) -> Result<(), Memory>
+        ensures { OnOk result (self.new ≡ completed self.old (Stage.Meet m d)) }
+    {
+        let ops = shut(alloc, m, d)?;
+        self.work(Stage::Shut(m, d), ops)
+    }
+
     // The better one, which has the promoted one's place, takes writes.
     fn pass_swap(&mut self, alloc: Global, p: ServerNo, q: ServerNo) -> Result<(), Memory>
         ensures { OnOk result (self.new ≡ completed self.old (Stage.Swapped p q)) }
     {
         self.swap_places(p, q)?;
-        self.work(
-            Stage::Open(q),
-            two(alloc, Op::Start(p), Op::ReadOnly(q, false))?,
-        )
+        let ops = two(alloc, Op::Start(p), Op::ReadOnly(q, false))?;
+        self.work(Stage::Open(q), ops)
     }
 
     // The designated replica, below which its master is, takes writes.
@@ -179,7 +212,7 @@ impl RecoveryJob {
         ensures { OnOk result (self.new ≡ completed self.old (Stage.Switched m d)) }
     {
         self.follow(m, d)?;
-        self.work(Stage::Open(d), one(alloc, Op::ReadOnly(d, false))?)
+        self.work_one(alloc, Stage::Open(d), Op::ReadOnly(d, false))
     }
 
     // What comes after the last operation of a stage.
@@ -189,44 +222,44 @@ impl RecoveryJob {
         match &self.stage {
             Stage::Judged(n) => {
                 let n = *n;
-                self.judge(n)?;
+                self.judge(n)
             }
             Stage::Join(n, p) | Stage::Resume(p, n) => {
                 let (n, p) = (*n, *p);
-                self.follow(n, p)?;
+                self.join(n, p)
             }
             Stage::Expelled(n) => {
                 let n = *n;
-                self.expel(alloc, n)?;
+                self.expel(alloc, n)
             }
             Stage::Gather(_, d) => {
                 let d = *d;
                 self.gather(d);
+                Ok(())
             }
             Stage::Swapped(p, q) => {
                 let (p, q) = (*p, *q);
-                return self.pass_swap(alloc, p, q);
+                self.pass_swap(alloc, p, q)
             }
             Stage::Opened(n) => {
                 let n = *n;
-                let ops = self.last_looks(alloc, n)?;
-                return self.close(alloc, ops);
+                self.pass_open(alloc, n)
             }
             Stage::Meet(m, d) => {
                 let (m, d) = (*m, *d);
-                return self.work(Stage::Shut(m, d), shut(alloc, m, d)?);
+                self.pass_meet(alloc, m, d)
             }
             Stage::Looked(n, lead) => {
                 let (n, lead) = (*n, *lead);
-                return self.pass_look(alloc, n, lead);
+                self.pass_look(alloc, n, lead)
             }
             Stage::Halted(n, lead) => {
                 let (n, lead) = (*n, *lead);
-                return self.halt(alloc, n, lead);
+                self.halt(alloc, n, lead)
             }
             Stage::Switched(m, d) => {
                 let (m, d) = (*m, *d);
-                return self.pass_switch(alloc, m, d);
+                self.pass_switch(alloc, m, d)
             }
             Stage::Idle
             | Stage::Check
@@ -245,10 +278,11 @@ impl RecoveryJob {
             | Stage::Trail(_, _)
             | Stage::Yield(_, _)
             | Stage::Switch(_, _)
-            | Stage::Close(_) => {}
+            | Stage::Close(_) => {
+                self.idle();
+                Ok(())
+            }
         }
-        self.idle();
-        Ok(())
     }
 
     // The stage changes where its last operation is done.

@@ -1,6 +1,6 @@
 //! A recovery as a job.
 
-ghost use Rattle.std.specs.Prelude.{◌≡◌, IfOk};
+ghost use Rattle.std.specs.Prelude.{◌≡◌, IfOk, OnOk};
 
 use crate::Outcome;
 use instance_keeper::Bridge;
@@ -49,25 +49,49 @@ impl Model for RecoveryJob {
 }
 
 impl RecoveryJob {
+    // All that another holds in lists.
+    fn copy_lists(&mut self, alloc: Global, other: &RecoveryJob) -> Result<(), Memory>
+        ensures { OnOk result (self.new ≡ record self.old {
+          stage = other.now.stage;
+          queue = other.now.queue;
+          replicas = other.now.replicas;
+          order = other.now.order;
+          drained = other.now.drained;
+          eligible = other.now.eligible;
+          outcome = other.now.outcome;
+        }) }
+    {
+        self.stage = copy_stage(alloc, &other.stage)?;
+        self.queue = other.queue.to_vec(alloc)?;
+        self.replicas = other.replicas.to_vec(alloc)?;
+        self.order = other.order.to_vec(alloc)?;
+        self.drained = other.drained.to_vec(alloc)?;
+        self.eligible = other.eligible.to_vec(alloc)?;
+        self.outcome = other.outcome.copy(alloc)?;
+        Ok(())
+    }
+
     /// The same recovery once more.
     pub fn copy(&self, alloc: Global) -> Result<RecoveryJob, Memory>
         ensures { IfOk result (λ r. r ≡ self.now) }
     {
-        Ok(RecoveryJob {
+        let mut copy = RecoveryJob {
             purpose: self.purpose,
             core: self.core.copy(alloc)?,
-            stage: copy_stage(alloc, &self.stage)?,
-            queue: self.queue.to_vec(alloc)?,
+            stage: Stage::Idle,
+            queue: Vec::new(alloc),
             failed: self.failed,
-            replicas: self.replicas.to_vec(alloc)?,
-            order: self.order.to_vec(alloc)?,
-            drained: self.drained.to_vec(alloc)?,
+            replicas: Vec::new(alloc),
+            order: Vec::new(alloc),
+            drained: Vec::new(alloc),
             chosen: self.chosen,
             lead: self.lead,
-            eligible: self.eligible.to_vec(alloc)?,
+            eligible: Vec::new(alloc),
             swaps: self.swaps,
-            outcome: self.outcome.copy(alloc)?,
-        })
+            outcome: Outcome::new(alloc, None),
+        };
+        copy.copy_lists(alloc, self)?;
+        Ok(copy)
     }
 
     /// Its job, whose operations are those that are left of the present stage.
