@@ -9,7 +9,7 @@ use Rattle.orch_base.specs.declared.server.SourceState.{SourceState}
 use Rattle.orch_base.specs.declared.server.SourceState.TheVariants.{Without, Attached, Detached}
 use Rattle.orch_base.specs.declared.server.Version.{Version}
 use Rattle.instance_keeper.specs.Book.{BookState, instance_at}
-use Rattle.instance_keeper.specs.declared.observation.Instance.{Instance}
+use Rattle.kept_rows.specs.declared.observation.Instance.{Instance}
 use Rattle.topology_tree.specs.Forests.{above, walk_of}
 use Rattle.book_views.specs.Forests.{book_forest, server_at}
 use Rattle.commands.specs.declared.line.Line.{Line}

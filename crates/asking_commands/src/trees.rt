@@ -30,7 +30,7 @@ fn state_of(instance: &Instance) -> StateWord
     match instance.seen.source {
         SourceState::Detached(_) => StateWord::Detached,
         SourceState::Attached(_) if !replicates(instance) => StateWord::Stopped,
-        _ => StateWord::Ok,
+        SourceState::Attached(_) | SourceState::Without => StateWord::Ok,
     }
 }
 

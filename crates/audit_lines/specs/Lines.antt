@@ -1,6 +1,6 @@
 -- The lines of recoveries.
 use Rattle.std.specs.Prelude.{List, map}
-use Rattle.instance_keeper.specs.declared.recovery.Recovery.{Recovery}
+use Rattle.kept_rows.specs.declared.recovery.Recovery.{Recovery}
 use Rattle.commands.specs.declared.line.Line.{Line}
 use Rattle.commands.specs.declared.line.Line.TheVariants as line
 use Rattle.commands.specs.declared.line.RecoveryLine.{RecoveryLine}

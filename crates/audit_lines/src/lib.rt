@@ -5,7 +5,7 @@ ghost use Rattle.std.specs.Prelude.{◌≡◌, IfOk};
 ghost use Rattle.audit_lines.specs.Lines.{line_of, recovery_lines};
 
 use commands::{Line, Lines, RecoveryLine};
-use instance_keeper::Recovery;
+use kept_rows::Recovery;
 /// Want of memory.
 pub use orch_base::Memory;
 use std::alloc::Global;

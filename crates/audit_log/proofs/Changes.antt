@@ -7,8 +7,8 @@ use Rattle.std.proofs.Math.Numerals.{add-one}
 use Rattle.std.proofs.lemmas.List.Elements.{All-head, All-tail, All-map, All-push, All-weaker}
 use Rattle.std.proofs.lemmas.List.Sums.{sum_by_more}
 use Rattle.std.proofs.lemmas.List.Quantifiers.{all_pairs_push}
-use Rattle.instance_keeper.specs.declared.recovery.Recovery.{Recovery}
-use Rattle.audit_log.specs.Audits.{AuditState, begun, IsAudit}
+use Rattle.kept_rows.specs.declared.recovery.Recovery.{Recovery}
+use Rattle.audit_log.specs.Audits.{AuditState, begun, longest_block, IsAudit}
 
 -- ---- a list that is mapped from its front on
 
@@ -34,9 +34,9 @@ mapped_all f zero (x ∷ xs) past = absurd (omega (arith, past))
 mapped_all f (suc k) [] past = refl
 mapped_all f (suc k) (x ∷ xs) past = ap (λ ys. f x ∷ ys) (mapped_all f k xs (omega (arith, past)))
 
--- ---- ids
+-- ---- ids and block periods
 
-module _ (f : Recovery → Recovery) (same : (r : Recovery) → (f r).id ≡ r.id) where
+module _ (f : Recovery → Recovery) (same : (r : Recovery) → (f r).id ≡ r.id) (lasts : (r : Recovery) → (f r).block ≡ r.block) where
   rising-map : (xs : List Recovery) → AllPairs (λ (x y : Recovery). x.id < y.id) xs → AllPairs (λ (x y : Recovery). x.id < y.id) (map f xs)
   rising-map xs rising i j d before within =
       let within' : j < length xs = subst (λ n. j < n) (length-map xs f) within in
@@ -45,7 +45,7 @@ module _ (f : Recovery → Recovery) (same : (r : Recovery) → (f r).id ≡ r.i
       let less = rising i j d before within' in
       omega (arith, first, second, less)
 
-  -- a change that keeps ids keeps an audit
+  -- a change that keeps ids and block periods keeps an audit
   pub IsAudit-map : (a : AuditState) → IsAudit a → IsAudit (record a { recoveries = map f a.recoveries })
   IsAudit-map a is = record {
     first = is.first;
@@ -54,16 +54,19 @@ module _ (f : Recovery → Recovery) (same : (r : Recovery) → (f r).id ≡ r.i
         (All-weaker (λ (r : Recovery). 1 ≤ r.id) (λ r. 1 ≤ (f r).id) (λ r h. let e = same r in omega (arith, h, e)) a.recoveries is.above);
     below = All-map (λ (r : Recovery). r.id < a.next) f a.recoveries
         (All-weaker (λ (r : Recovery). r.id < a.next) (λ r. (f r).id < a.next) (λ r h. let e = same r in omega (arith, h, e)) a.recoveries is.below);
+    short = All-map (λ (r : Recovery). r.block ≤ longest_block) f a.recoveries
+        (All-weaker (λ (r : Recovery). r.block ≤ longest_block) (λ r. (f r).block ≤ longest_block) (λ r h. let e = lasts r in omega (arith, h, e)) a.recoveries is.short);
   }
 
 -- one more, with the next id
-pub IsAudit-begun : (a : AuditState) (r : Recovery) → r.id ≡ a.next → IsAudit a → IsAudit (begun a r)
-IsAudit-begun a r next is = record {
+pub IsAudit-begun : (a : AuditState) (r : Recovery) → r.id ≡ a.next → r.block ≤ longest_block → IsAudit a → IsAudit (begun a r)
+IsAudit-begun a r next short is = record {
   first = omega arith;
   rising = all_pairs_push (λ (x y : Recovery). x.id < y.id) a.recoveries r is.rising (λ k d within. let h = is.below k d within in omega (arith, h, next));
   above = All-push (λ (x : Recovery). 1 ≤ x.id) a.recoveries r is.above (let h = is.first in omega (arith, h, next));
   below = All-push (λ (x : Recovery). x.id < r.id + 1) a.recoveries r
       (All-weaker (λ (x : Recovery). x.id < a.next) (λ x. x.id < r.id + 1) (λ x h. omega (arith, h, next)) a.recoveries is.below) (omega arith);
+  short = All-push (λ (x : Recovery). x.block ≤ longest_block) a.recoveries r is.short short;
 }
 
 -- ---- the recovery of an id

@@ -1,19 +1,23 @@
 -- Recoveries are looked up.
-use Rattle.std.proofs.Common.{◌≡◌, ℕ, ◌+◌, ◌-◌, ◌<◌, ◌≤◌, Bool, true, false, cond, List, [], ◌∷◌, length, get_or, refl, sym, ◌∙◌, ap, subst, Some, None, Result, Ok, Err, inl, inr, ◌⊎◌, arith}
+use Rattle.std.proofs.Common.{◌≡◌, ℕ, ◌+◌, ◌-◌, ◌<◌, ◌≤◌, Bool, true, false, cond, List, [], ◌∷◌, length, get_or, refl, sym, ◌∙◌, ap, subst, Option, Some, None, Result, Ok, Err, inl, inr, ◌⊎◌, arith}
 use Rattle.std.specs.Prelude.{◌==◌, All, AllPairs, find, reverse}
 use Rattle.std.specs.List.{AllWithin}
 use Rattle.std.specs.List.Sorted.{IsBinarySearchResult, IsSearchInRange, IsSortedBy}
 use Rattle.std.specs.Ordering.{is_lt, nat_cmp}
+use Rattle.std.specs.Option.{option_or}
 use Rattle.std.specs.Result.{result_ok}
+use mathlib.Core.List.{reverse-cons}
 use Rattle.std.specs.declared.cmp.Ordering.TheVariants.{Less, Equal, Greater}
 use Rattle.std.proofs.lemmas.Bool.{cases_lt, ne_eqb}
 use Rattle.std.proofs.lemmas.Bool.Decides.{nat_tests}
 use Rattle.std.proofs.lemmas.Cmp.{nat_cmp_total, ranked}
 use Rattle.std.proofs.lemmas.List.{get_or-reverse, length-reverse}
-use Rattle.std.proofs.lemmas.List.Elements.{All-nil, All-cons, All-head, All-tail}
+use Rattle.std.proofs.lemmas.List.Elements.{All-nil, All-cons, All-head, All-tail, All-weaker}
+use Rattle.std.proofs.lemmas.List.Folds.{find-append}
 use Rattle.std.proofs.lemmas.List.Sorted.{searchable_from_sorted}
 use Rattle.std.proofs.lemmas.Option.{same_Some}
-use Rattle.instance_keeper.specs.declared.recovery.Recovery.{Recovery}
+use Rattle.kept_rows.specs.declared.recovery.Recovery.{Recovery}
+use Rattle.kept_rows.proofs.Lists.{pairs_head, pairs_tail}
 use Rattle.audit_log.specs.Audits.{StandsAt}
 
 -- ---- what holds of a list holds of it from its end on
@@ -59,6 +63,31 @@ module _ {X : Type 0} (p : X → Bool) where
   none-found [] all = refl
   none-found (x ∷ xs) all =
       ap (λ b. cond b (Some x) (find p xs)) (All-head (λ y. p y ≡ false) x xs all) ∙ none-found xs (All-tail (λ y. p y ≡ false) x xs all)
+
+-- behind the last one that passes none does
+module _ (p : Recovery → Bool) where
+  abbrev FailsBehind : Recovery → Recovery → Type 0
+  FailsBehind r y = r.id < y.id → p y ≡ false
+
+  pub last-found : (xs : List Recovery) (r : Recovery) → AllPairs (λ (x y : Recovery). x.id < y.id) xs → find p (reverse xs) ≡ Some r → All (FailsBehind r) xs
+  last-found [] r rising e = All-nil (FailsBehind r)
+  last-found (x ∷ xs) r rising e = go (last-found xs r (pairs_tail (λ (x y : Recovery). x.id < y.id) x xs rising)) (find p (reverse xs)) refl (sym (find-append p (reverse xs) (x ∷ [])) ∙ (ap (find p) (sym (reverse-cons x xs)) ∙ e))
+    where
+      before : find p (reverse xs) ≡ Some r → x.id < r.id
+      before found = All-found p (λ (y : Recovery). x.id < y.id) (reverse xs) r (All-reverse (λ (y : Recovery). x.id < y.id) xs (pairs_head (λ (x y : Recovery). x.id < y.id) x xs rising)) found
+
+      alone : (b : Bool) → cond b (Some x) None ≡ Some r → p x ≡ b → r.id < x.id → p x ≡ false
+      alone true h is later = let same = ap (λ (y : Recovery). y.id) (same_Some x r h) in absurd (omega (arith, same, later))
+      alone false h is later = is
+
+      go : (find p (reverse xs) ≡ Some r → All (FailsBehind r) xs) → (o : Option Recovery) → find p (reverse xs) ≡ o → option_or o (cond (p x) (Some x) None) ≡ Some r → All (FailsBehind r) (x ∷ xs)
+      go rest (Some y) found h =
+          let is : find p (reverse xs) ≡ Some r = found ∙ h in
+          let first = before is in
+          All-cons (FailsBehind r) x xs (λ later. absurd (omega (arith, later, first))) (rest is)
+      go rest None found h =
+          All-cons (FailsBehind r) x xs (alone (p x) h refl)
+          (All-weaker (λ y. p y ≡ false) (FailsBehind r) (λ y fails later. fails) xs (All-reversed (λ y. p y ≡ false) xs (none-passes p (reverse xs) found)))
 
 -- ---- by halves
 

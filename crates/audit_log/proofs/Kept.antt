@@ -2,7 +2,7 @@
 use Rattle.std.proofs.Common.{◌≡◌, ℕ, Bool, true, false, cond, List, refl}
 use Rattle.orch_base.specs.declared.recovery.Ending.TheVariants as ending
 use Rattle.orch_base.specs.declared.server.Moment.{Moment}
-use Rattle.instance_keeper.specs.declared.recovery.Recovery.{Recovery}
+use Rattle.kept_rows.specs.declared.recovery.Recovery.{Recovery}
 use Rattle.audit_log.specs.Audits.{acknowledged_for, ended_so, interrupted, is_of, is_unended}
 
 pub interrupted-id : (at : Moment) (r : Recovery) → (interrupted at r).id ≡ r.id
@@ -16,5 +16,19 @@ pub acknowledged-id : (cluster : List ℕ) (r : Recovery) → (acknowledged_for 
 acknowledged-id cluster r = go (is_of cluster r)
   where
     go : (b : Bool) → (cond b (record r { acked = true }) r).id ≡ r.id
+    go true = refl
+    go false = refl
+
+pub interrupted-block : (at : Moment) (r : Recovery) → (interrupted at r).block ≡ r.block
+interrupted-block at r = go (is_unended r)
+  where
+    go : (b : Bool) → (cond b (ended_so at ending.Interrupted r) r).block ≡ r.block
+    go true = refl
+    go false = refl
+
+pub acknowledged-block : (cluster : List ℕ) (r : Recovery) → (acknowledged_for cluster r).block ≡ r.block
+acknowledged-block cluster r = go (is_of cluster r)
+  where
+    go : (b : Bool) → (cond b (record r { acked = true }) r).block ≡ r.block
     go true = refl
     go false = refl

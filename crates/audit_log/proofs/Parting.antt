@@ -1,5 +1,5 @@
 -- Recoveries of a cluster are apart.
-use Rattle.std.proofs.Common.{◌≡◌, ℕ, ◌+◌, ◌-◌, ◌≤◌, Bool, true, false, cond, not, ◌&&◌, List, [], ◌∷◌, ◌++◌, get_or, map, zero, refl, sym, ◌∙◌, ap, subst, Option, Some, None, Result, Ok, Err, ◌⊎◌, inl, inr, arith}
+use Rattle.std.proofs.Common.{◌≡◌, ℕ, ◌+◌, ◌-◌, ◌<◌, ◌≤◌, Bool, true, false, cond, not, ◌&&◌, List, [], ◌∷◌, ◌++◌, get_or, map, zero, refl, sym, ◌∙◌, ap, subst, Option, Some, None, Result, Ok, Err, ◌⊎◌, inl, inr, arith}
 use Rattle.std.specs.Prelude.{◌==◌, All, Any, Contains, nat_eq, nat_lt, reverse}
 use Rattle.std.specs.Cmp.Lexicographic.{nat_list_eq_equiv, pointwise, same_text}
 use Rattle.std.proofs.lemmas.Bool.{and_parts, false≢true, le-ltb, ltb-false}
@@ -9,14 +9,14 @@ use Rattle.std.proofs.lemmas.List.Sums.{sum_by-cons, sum_by_push}
 use Rattle.orch_base.specs.declared.recovery.Ending.{Ending}
 use Rattle.orch_base.specs.declared.recovery.Ending.TheVariants as ending
 use Rattle.orch_base.specs.declared.server.Moment.{Moment}
-use Rattle.instance_keeper.specs.declared.recovery.Recovery.{Recovery}
+use Rattle.kept_rows.specs.declared.recovery.Recovery.{Recovery}
 use Rattle.audit_log.specs.declared.held.Held.{Held}
 use Rattle.audit_log.specs.declared.held.Held.TheVariants as held
-use Rattle.audit_log.specs.Apart.{count_unended, IsApart, IsClear, IsHeldBack, MayBegin}
+use Rattle.audit_log.specs.Apart.{count_unended, IsApart, IsClear, IsFree, IsHeldBack, MayBegin}
 use Rattle.audit_log.specs.Audits.{acked_so, acknowledged, acknowledged_at, acknowledged_for, begun, closed, ended, ended_so, held_by, interrupted, is_blocking, is_of, is_open, is_unended, last_blocking, may_begin, unended_of, AuditState, IsAudit}
 use Rattle.audit_log.proofs.Changes.{IsAudit-begun, IsAudit-map}
-use Rattle.audit_log.proofs.Finding.{All-found, All-reverse, All-reversed, found-passes, none-found, none-passes}
-use Rattle.audit_log.proofs.Kept.{acknowledged-id, interrupted-id}
+use Rattle.audit_log.proofs.Finding.{All-found, All-reverse, All-reversed, found-passes, last-found, none-found, none-passes}
+use Rattle.audit_log.proofs.Kept.{acknowledged-block, acknowledged-id, interrupted-block, interrupted-id}
 
 -- ---- clusters are told apart by their texts
 
@@ -28,67 +28,67 @@ cluster-of cluster r e = subst (λ (c : List ℕ). pointwise nat_eq r.cluster c 
 
 -- ---- a begin
 
-module _ (cluster : List ℕ) (now block : ℕ) where
+module _ (cluster : List ℕ) (now : ℕ) where
   abbrev open-one : Recovery → Bool
   open-one r = is_of cluster r && is_unended r
 
   abbrev blocking-one : Recovery → Bool
-  blocking-one r = is_of cluster r && is_blocking now block r
+  blocking-one r = is_of cluster r && is_blocking now r
 
-  clear-of : (r : Recovery) → open-one r ≡ false → blocking-one r ≡ false → IsClear cluster now block r
-  clear-of r u b here = (sym (ap (λ x. x && is_unended r) same) ∙ u, acked r.acked (nat_lt (now - r.begun.0) block) refl (sym (ap (λ x. x && is_blocking now block r) same) ∙ b))
+  free-of : (r : Recovery) → blocking-one r ≡ false → IsFree cluster now r
+  free-of r b here = acked r.acked (nat_lt (now - r.begun.0) r.block) refl (sym (ap (λ x. x && is_blocking now r) (cluster-of cluster r here)) ∙ b)
     where
-      same : is_of cluster r ≡ true
-      same = cluster-of cluster r here
-
-      acked : (x y : Bool) → nat_lt (now - r.begun.0) block ≡ y → (not x && y) ≡ false → (x ≡ true) ⊎ (block ≤ now - r.begun.0)
+      acked : (x y : Bool) → nat_lt (now - r.begun.0) r.block ≡ y → (not x && y) ≡ false → (x ≡ true) ⊎ (r.block ≤ now - r.begun.0)
       acked true y f h = inl refl
       acked false true f h = absurd (false≢true (sym h))
-      acked false false f h = inr (ltb-false (now - r.begun.0) block f)
+      acked false false f h = inr (ltb-false (now - r.begun.0) r.block f)
 
-  clear-closed : (r : Recovery) → IsClear cluster now block r → open-one r ≡ false
+  clear-of : (r : Recovery) → open-one r ≡ false → blocking-one r ≡ false → IsClear cluster now r
+  clear-of r u b here = (sym (ap (λ x. x && is_unended r) (cluster-of cluster r here)) ∙ u, free-of r b here)
+
+  clear-closed : (r : Recovery) → IsClear cluster now r → open-one r ≡ false
   clear-closed r clear = go (is_of cluster r) refl
     where
       go : (b : Bool) → is_of cluster r ≡ b → (b && is_unended r) ≡ false
       go true f = (clear (of-cluster cluster r f)).0
       go false f = refl
 
-  clear-free : (r : Recovery) → IsClear cluster now block r → blocking-one r ≡ false
+  clear-free : (r : Recovery) → IsClear cluster now r → blocking-one r ≡ false
   clear-free r clear = go (is_of cluster r) refl
     where
-      by : (x : Bool) → r.acked ≡ x → ((r.acked ≡ true) ⊎ (block ≤ now - r.begun.0)) → (not x && nat_lt (now - r.begun.0) block) ≡ false
+      by : (x : Bool) → r.acked ≡ x → ((r.acked ≡ true) ⊎ (r.block ≤ now - r.begun.0)) → (not x && nat_lt (now - r.begun.0) r.block) ≡ false
       by true f h = refl
       by false f (inl h) = absurd (false≢true (sym f ∙ h))
-      by false f (inr h) = le-ltb (now - r.begun.0) block h
+      by false f (inr h) = le-ltb (now - r.begun.0) r.block h
 
-      go : (b : Bool) → is_of cluster r ≡ b → (b && is_blocking now block r) ≡ false
+      go : (b : Bool) → is_of cluster r ≡ b → (b && is_blocking now r) ≡ false
       go true f = by r.acked refl (clear (of-cluster cluster r f)).1
       go false f = refl
 
-  both : (xs : List Recovery) → All (λ r. open-one r ≡ false) xs → All (λ r. blocking-one r ≡ false) xs → All (IsClear cluster now block) xs
+  both : (xs : List Recovery) → All (λ r. open-one r ≡ false) xs → All (λ r. blocking-one r ≡ false) xs → All (IsClear cluster now) xs
   both xs us bs k d within = clear-of (get_or xs k d) (us k d within) (bs k d within)
 
-  pub apart-begins : (a : AuditState) (id : ℕ) → may_begin a cluster now block ≡ Ok id → (id ≡ a.next) × All (IsClear cluster now block) a.recoveries
-  apart-begins a id h = go (unended_of a cluster) refl (last_blocking a cluster now block) refl h
+  pub apart-begins : (a : AuditState) (id : ℕ) → may_begin a cluster now ≡ Ok id → (id ≡ a.next) × All (IsClear cluster now) a.recoveries
+  apart-begins a id h = go (unended_of a cluster) refl (last_blocking a cluster now) refl h
     where
       number : (x : Result ℕ Held) → ℕ
       number (Ok n) = n
       number (Err e) = 0
 
-      go : (u : Option Recovery) → unended_of a cluster ≡ u → (l : Option Recovery) → last_blocking a cluster now block ≡ l → held_by a block u l ≡ Ok id
-          → (id ≡ a.next) × All (IsClear cluster now block) a.recoveries
+      go : (u : Option Recovery) → unended_of a cluster ≡ u → (l : Option Recovery) → last_blocking a cluster now ≡ l → held_by a u l ≡ Ok id
+          → (id ≡ a.next) × All (IsClear cluster now) a.recoveries
       go (Some r) f l g h = cc
       go None f (Some r) g h = cc
       go None f None g h =
           (sym (ap number h), both a.recoveries (none-passes open-one a.recoveries f) (All-reversed (λ r. blocking-one r ≡ false) a.recoveries (none-passes blocking-one (reverse a.recoveries) g)))
 
-  pub begins-apart : (a : AuditState) → All (IsClear cluster now block) a.recoveries → may_begin a cluster now block ≡ Ok a.next
+  pub begins-apart : (a : AuditState) → All (IsClear cluster now) a.recoveries → may_begin a cluster now ≡ Ok a.next
   begins-apart a all =
-      ap (λ u. held_by a block u (last_blocking a cluster now block))
-      (none-found open-one a.recoveries (All-weaker (IsClear cluster now block) (λ r. open-one r ≡ false) clear-closed a.recoveries all))
-      ∙ ap (held_by a block None)
+      ap (λ u. held_by a u (last_blocking a cluster now))
+      (none-found open-one a.recoveries (All-weaker (IsClear cluster now) (λ r. open-one r ≡ false) clear-closed a.recoveries all))
+      ∙ ap (held_by a None)
       (none-found blocking-one (reverse a.recoveries)
-      (All-reverse (λ r. blocking-one r ≡ false) a.recoveries (All-weaker (IsClear cluster now block) (λ r. blocking-one r ≡ false) clear-free a.recoveries all)))
+      (All-reverse (λ r. blocking-one r ≡ false) a.recoveries (All-weaker (IsClear cluster now) (λ r. blocking-one r ≡ false) clear-free a.recoveries all)))
 
   -- who holds others back is one of the list
   among : (P : Recovery → Type 0) (xs : List Recovery) (r : Recovery) → Contains xs r → P r → Any P xs
@@ -98,7 +98,7 @@ module _ (cluster : List ℕ) (now block : ℕ) where
   why (Ok n) = held.Unended n
   why (Err h) = h
 
-  open-holds : (r : Recovery) → open-one r ≡ true → IsHeldBack cluster now block (held.Unended r.id) r
+  open-holds : (r : Recovery) → open-one r ≡ true → IsHeldBack cluster now (held.Unended r.id) r
   open-holds r e =
       let parts = and_parts (is_of cluster r) (is_unended r) e in
       (of-cluster cluster r parts.0, refl, parts.1)
@@ -107,25 +107,44 @@ module _ (cluster : List ℕ) (now block : ℕ) where
   not-true true e = absurd (false≢true e)
   not-true false e = refl
 
-  blocking-holds : (r : Recovery) → blocking-one r ≡ true → IsHeldBack cluster now block (held.Blocked r.id (record { 0 = r.begun.0 + block })) r
+  blocking-holds : (r : Recovery) → blocking-one r ≡ true → IsHeldBack cluster now (held.Blocked r.id (record { 0 = r.begun.0 + r.block })) r
   blocking-holds r e =
-      let parts = and_parts (is_of cluster r) (is_blocking now block r) e in
-      let two = and_parts (not r.acked) (nat_lt (now - r.begun.0) block) parts.1 in
-      (of-cluster cluster r parts.0, refl, refl, not-true r.acked two.0, ltb-true (now - r.begun.0) block two.1)
+      let parts = and_parts (is_of cluster r) (is_blocking now r) e in
+      let two = and_parts (not r.acked) (nat_lt (now - r.begun.0) r.block) parts.1 in
+      (of-cluster cluster r parts.0, refl, refl, not-true r.acked two.0, ltb-true (now - r.begun.0) r.block two.1)
 
-  pub held-back : (a : AuditState) (h : Held) → may_begin a cluster now block ≡ Err h → Any (IsHeldBack cluster now block h) a.recoveries
-  held-back a h e = go (unended_of a cluster) refl (last_blocking a cluster now block) refl e
+  pub held-back : (a : AuditState) (h : Held) → may_begin a cluster now ≡ Err h → Any (IsHeldBack cluster now h) a.recoveries
+  held-back a h e = go (unended_of a cluster) refl (last_blocking a cluster now) refl e
     where
-      go : (u : Option Recovery) → unended_of a cluster ≡ u → (l : Option Recovery) → last_blocking a cluster now block ≡ l → held_by a block u l ≡ Err h
-          → Any (IsHeldBack cluster now block h) a.recoveries
+      go : (u : Option Recovery) → unended_of a cluster ≡ u → (l : Option Recovery) → last_blocking a cluster now ≡ l → held_by a u l ≡ Err h
+          → Any (IsHeldBack cluster now h) a.recoveries
       go (Some r) f l g e =
-          among (IsHeldBack cluster now block h) a.recoveries r (All-found open-one (Contains a.recoveries) a.recoveries r (All-contains_itself a.recoveries) f)
-          (subst (λ (x : Held). IsHeldBack cluster now block x r) (ap why e) (open-holds r (found-passes open-one a.recoveries r f)))
+          among (IsHeldBack cluster now h) a.recoveries r (All-found open-one (Contains a.recoveries) a.recoveries r (All-contains_itself a.recoveries) f)
+          (subst (λ (x : Held). IsHeldBack cluster now x r) (ap why e) (open-holds r (found-passes open-one a.recoveries r f)))
       go None f (Some r) g e =
-          among (IsHeldBack cluster now block h) a.recoveries r
+          among (IsHeldBack cluster now h) a.recoveries r
           (All-found blocking-one (Contains a.recoveries) (reverse a.recoveries) r (All-reverse (Contains a.recoveries) a.recoveries (All-contains_itself a.recoveries)) g)
-          (subst (λ (x : Held). IsHeldBack cluster now block x r) (ap why e) (blocking-holds r (found-passes blocking-one (reverse a.recoveries) r g)))
+          (subst (λ (x : Held). IsHeldBack cluster now x r) (ap why e) (blocking-holds r (found-passes blocking-one (reverse a.recoveries) r g)))
       go None f None g e = cc
+
+  -- of those that block the last is named
+  pub last-held : (a : AuditState) (id : ℕ) (until : Moment) → IsAudit a → may_begin a cluster now ≡ Err (held.Blocked id until)
+      → All (λ r. id < r.id → IsFree cluster now r) a.recoveries
+  last-held a id until is e = go (unended_of a cluster) (last_blocking a cluster now) refl e
+    where
+      number : Result ℕ Held → ℕ
+      number (Ok n) = n
+      number (Err (held.Unended n)) = n
+      number (Err (held.Blocked n m)) = n
+
+      go : (u l : Option Recovery) → last_blocking a cluster now ≡ l → held_by a u l ≡ Err (held.Blocked id until)
+          → All (λ r. id < r.id → IsFree cluster now r) a.recoveries
+      go (Some r) l g e = cc
+      go None (Some r) g e =
+          let same : r.id ≡ id = ap number e in
+          All-weaker (λ x. r.id < x.id → blocking-one x ≡ false) (λ x. id < x.id → IsFree cluster now x)
+          (λ x h later. free-of x (h (omega (arith, same, later)))) a.recoveries (last-found blocking-one a.recoveries r is.rising g)
+      go None None g e = cc
 
 -- ---- what stays apart
 
@@ -133,11 +152,11 @@ module _ (cluster : List ℕ) (now block : ℕ) where
 abbrev tick : List ℕ → Recovery → ℕ
 tick cluster r = cond (is_of cluster r && is_unended r) 1 0
 
-none-unended : (cluster : List ℕ) (now block : ℕ) (xs : List Recovery) → All (IsClear cluster now block) xs → count_unended cluster xs ≡ 0
-none-unended cluster now block [] all = refl
-none-unended cluster now block (x ∷ xs) all =
-    let here : tick cluster x ≡ 0 = ap (λ b. cond b 1 0) (clear-closed cluster now block x (All-head (IsClear cluster now block) x xs all)) in
-    let rest = none-unended cluster now block xs (All-tail (IsClear cluster now block) x xs all) in
+none-unended : (cluster : List ℕ) (now : ℕ) (xs : List Recovery) → All (IsClear cluster now) xs → count_unended cluster xs ≡ 0
+none-unended cluster now [] all = refl
+none-unended cluster now (x ∷ xs) all =
+    let here : tick cluster x ≡ 0 = ap (λ b. cond b 1 0) (clear-closed cluster now x (All-head (IsClear cluster now) x xs all)) in
+    let rest = none-unended cluster now xs (All-tail (IsClear cluster now) x xs all) in
     let sum = sum_by-cons (tick cluster) x xs in
     omega (arith, here, rest, sum)
 
@@ -151,16 +170,16 @@ small cluster r = go (is_of cluster r && is_unended r)
 pub begun-apart : (a : AuditState) (r : Recovery) → MayBegin a r → IsApart a → IsApart (begun a r)
 begun-apart a r may apart = record {
   one = λ cluster. go cluster (is_of cluster r) refl;
-  audit = IsAudit-begun a r parts.0 apart.audit;
+  audit = IsAudit-begun a r parts.0 may.short apart.audit;
 }
   where
-    parts : (r.id ≡ a.next) × All (IsClear r.cluster r.begun.0 may.block) a.recoveries
-    parts = apart-begins r.cluster r.begun.0 may.block a r.id may.answered
+    parts : (r.id ≡ a.next) × All (IsClear r.cluster r.begun.0) a.recoveries
+    parts = apart-begins r.cluster r.begun.0 a r.id may.answered
 
     go : (cluster : List ℕ) (b : Bool) → is_of cluster r ≡ b → count_unended cluster (a.recoveries ++ r ∷ []) ≤ 1
     go cluster true e =
         let none : count_unended cluster a.recoveries ≡ 0 =
-        subst (λ (c : List ℕ). count_unended c a.recoveries ≡ 0) (of-cluster cluster r e) (none-unended r.cluster r.begun.0 may.block a.recoveries parts.1) in
+        subst (λ (c : List ℕ). count_unended c a.recoveries ≡ 0) (of-cluster cluster r e) (none-unended r.cluster r.begun.0 a.recoveries parts.1) in
         let push = sum_by_push (tick cluster) a.recoveries r in
         let most = small cluster r in
         omega (arith, none, push, most)
@@ -170,8 +189,8 @@ begun-apart a r may apart = record {
         let old = apart.one cluster in
         omega (arith, none, push, old)
 
--- a change that keeps ids and clusters, and after which none is unended that was ended
-module _ (f : Recovery → Recovery) (same : (r : Recovery) → (f r).id ≡ r.id) (cluster-same : (r : Recovery) → (f r).cluster ≡ r.cluster)
+-- a change that keeps ids, block periods and clusters, and after which none is unended that was ended
+module _ (f : Recovery → Recovery) (same : (r : Recovery) → (f r).id ≡ r.id) (lasts : (r : Recovery) → (f r).block ≡ r.block) (cluster-same : (r : Recovery) → (f r).cluster ≡ r.cluster)
     (stays : (r : Recovery) → is_unended (f r) ≡ true → is_unended r ≡ true) where
   less : (cluster : List ℕ) (r : Recovery) → tick cluster (f r) ≤ tick cluster r
   less cluster r =
@@ -195,16 +214,20 @@ module _ (f : Recovery → Recovery) (same : (r : Recovery) → (f r).id ≡ r.i
   changed-apart : (a : AuditState) → IsApart a → IsApart (record a { recoveries = map f a.recoveries })
   changed-apart a apart = record {
     one = λ cluster. let x = fewer cluster a.recoveries in let y = apart.one cluster in omega (arith, x, y);
-    audit = IsAudit-map f same a apart.audit;
+    audit = IsAudit-map f same lasts a apart.audit;
   }
 
 pub ended-apart : (a : AuditState) (id : ℕ) (at : Moment) (outcome : Ending) → is_open outcome ≡ false → IsApart a → IsApart (ended a id at outcome)
 ended-apart a id at outcome closes apart =
-    changed-apart (λ r. cond (r.id == id) (ended_so at outcome r) r) (λ r. ids r (r.id == id)) (λ r. clusters r (r.id == id)) (λ r. opens r (r.id == id)) a apart
+    changed-apart (λ r. cond (r.id == id) (ended_so at outcome r) r) (λ r. ids r (r.id == id)) (λ r. blocks r (r.id == id)) (λ r. clusters r (r.id == id)) (λ r. opens r (r.id == id)) a apart
   where
     ids : (r : Recovery) (b : Bool) → (cond b (ended_so at outcome r) r).id ≡ r.id
     ids r true = refl
     ids r false = refl
+
+    blocks : (r : Recovery) (b : Bool) → (cond b (ended_so at outcome r) r).block ≡ r.block
+    blocks r true = refl
+    blocks r false = refl
 
     clusters : (r : Recovery) (b : Bool) → (cond b (ended_so at outcome r) r).cluster ≡ r.cluster
     clusters r true = refl
@@ -216,7 +239,7 @@ ended-apart a id at outcome closes apart =
 
 pub acknowledged-apart : (a : AuditState) (cluster : List ℕ) → IsApart a → IsApart (acknowledged a cluster)
 acknowledged-apart a cluster apart =
-    changed-apart (acknowledged_for cluster) (acknowledged-id cluster) (λ r. clusters r (is_of cluster r)) (λ r. opens r (is_of cluster r)) a apart
+    changed-apart (acknowledged_for cluster) (acknowledged-id cluster) (acknowledged-block cluster) (λ r. clusters r (is_of cluster r)) (λ r. opens r (is_of cluster r)) a apart
   where
     clusters : (r : Recovery) (b : Bool) → (cond b (record r { acked = true }) r).cluster ≡ r.cluster
     clusters r true = refl
@@ -228,11 +251,15 @@ acknowledged-apart a cluster apart =
 
 pub acknowledged_at-apart : (a : AuditState) (id : ℕ) → IsApart a → IsApart (acknowledged_at a id)
 acknowledged_at-apart a id apart =
-    changed-apart (λ r. cond (r.id == id) (acked_so r) r) (λ r. ids r (r.id == id)) (λ r. clusters r (r.id == id)) (λ r. opens r (r.id == id)) a apart
+    changed-apart (λ r. cond (r.id == id) (acked_so r) r) (λ r. ids r (r.id == id)) (λ r. blocks r (r.id == id)) (λ r. clusters r (r.id == id)) (λ r. opens r (r.id == id)) a apart
   where
     ids : (r : Recovery) (b : Bool) → (cond b (acked_so r) r).id ≡ r.id
     ids r true = refl
     ids r false = refl
+
+    blocks : (r : Recovery) (b : Bool) → (cond b (acked_so r) r).block ≡ r.block
+    blocks r true = refl
+    blocks r false = refl
 
     clusters : (r : Recovery) (b : Bool) → (cond b (acked_so r) r).cluster ≡ r.cluster
     clusters r true = refl
@@ -268,5 +295,5 @@ none-open cluster (x ∷ xs) all =
 pub closed-apart : (a : AuditState) (at : Moment) → IsAudit a → IsApart (closed a at)
 closed-apart a at is = record {
   one = λ cluster. let none = none-open cluster (closed a at).recoveries (closed-ends a at) in omega (arith, none);
-  audit = IsAudit-map (interrupted at) (interrupted-id at) a is;
+  audit = IsAudit-map (interrupted at) (interrupted-id at) (interrupted-block at) a is;
 }

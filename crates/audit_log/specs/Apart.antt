@@ -1,18 +1,22 @@
 -- Recoveries of a cluster are apart.
 use Rattle.std.specs.Prelude.{◌≡◌, ℕ, ◌+◌, ◌-◌, ◌<◌, ◌≤◌, ◌&&◌, ◌⊎◌, true, false, List, count_by, Ok}
-use Rattle.instance_keeper.specs.declared.recovery.Recovery.{Recovery}
+use Rattle.kept_rows.specs.declared.recovery.Recovery.{Recovery}
 use Rattle.audit_log.specs.declared.held.Held.{Held}
 use Rattle.audit_log.specs.declared.held.Held.TheVariants as held
-use Rattle.audit_log.specs.Audits.{AuditState, is_of, is_unended, may_begin, IsAudit}
+use Rattle.audit_log.specs.Audits.{AuditState, is_of, is_unended, longest_block, may_begin, IsAudit}
 
--- a recovery of the cluster holds none back: it is ended, and is acknowledged or as old as the block period
-abbrev pub IsClear : List ℕ → ℕ → ℕ → Recovery → Type 0
-IsClear cluster now block r = r.cluster ≡ cluster → (is_unended r ≡ false) × ((r.acked ≡ true) ⊎ (block ≤ now - r.begun.0))
+-- a recovery of the cluster holds none back: it is ended, and is acknowledged or began at least its own block period ago
+abbrev pub IsClear : List ℕ → ℕ → Recovery → Type 0
+IsClear cluster now r = r.cluster ≡ cluster → (is_unended r ≡ false) × ((r.acked ≡ true) ⊎ (r.block ≤ now - r.begun.0))
 
--- a recovery that may begin, by a block period
+-- a recovery of the cluster that doesn't block others
+abbrev pub IsFree : List ℕ → ℕ → Recovery → Type 0
+IsFree cluster now r = r.cluster ≡ cluster → (r.acked ≡ true) ⊎ (r.block ≤ now - r.begun.0)
+
+-- a recovery that may begin, with a block period that isn't too long
 pub record MayBegin (a : AuditState) (r : Recovery) : Type 0 where
-  pub block : ℕ
-  pub answered : may_begin a r.cluster r.begun.0 block ≡ Ok r.id
+  pub answered : may_begin a r.cluster r.begun.0 ≡ Ok r.id
+  pub short : r.block ≤ longest_block
 
 -- how many recoveries of a cluster are unended
 abbrev pub count_unended : List ℕ → List Recovery → ℕ
@@ -24,7 +28,7 @@ pub record IsApart (a : AuditState) : Type 0 where
   pub audit : IsAudit a
 
 -- a recovery of the cluster that holds others back, and how
-abbrev pub IsHeldBack : List ℕ → ℕ → ℕ → Held → Recovery → Type 0
-IsHeldBack cluster now block (held.Unended id) r = (r.cluster ≡ cluster) × (r.id ≡ id) × (is_unended r ≡ true)
-IsHeldBack cluster now block (held.Blocked id until) r =
-    (r.cluster ≡ cluster) × (r.id ≡ id) × (until.0 ≡ r.begun.0 + block) × (r.acked ≡ false) × (now - r.begun.0 < block)
+abbrev pub IsHeldBack : List ℕ → ℕ → Held → Recovery → Type 0
+IsHeldBack cluster now (held.Unended id) r = (r.cluster ≡ cluster) × (r.id ≡ id) × (is_unended r ≡ true)
+IsHeldBack cluster now (held.Blocked id until) r =
+    (r.cluster ≡ cluster) × (r.id ≡ id) × (until.0 ≡ r.begun.0 + r.block) × (r.acked ≡ false) × (now - r.begun.0 < r.block)

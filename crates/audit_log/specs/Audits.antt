@@ -5,7 +5,7 @@ use Rattle.std.specs.Cmp.Lexicographic.{pointwise}
 use Rattle.orch_base.specs.declared.recovery.Ending.{Ending}
 use Rattle.orch_base.specs.declared.recovery.Ending.TheVariants as ending
 use Rattle.orch_base.specs.declared.server.Moment.{Moment}
-use Rattle.instance_keeper.specs.declared.recovery.Recovery.{Recovery}
+use Rattle.kept_rows.specs.declared.recovery.Recovery.{Recovery}
 use Rattle.audit_log.specs.declared.held.Held.{Held}
 use Rattle.audit_log.specs.declared.held.Held.TheVariants as held
 
@@ -19,12 +19,17 @@ pub record AuditRoom : Type 0 where
   pub audit : AuditState
   pub spare : ℕ
 
--- ids rise from 1 on, and are below the next one
+-- a block period is at most so many seconds long
+abbrev pub longest_block : ℕ
+longest_block = 1000000000
+
+-- ids rise from 1 on, and are below the next one; no block period is too long
 pub record IsAudit (a : AuditState) : Type 0 where
   pub first : 1 ≤ a.next
   pub rising : AllPairs (λ x y. x.id < y.id) a.recoveries
   pub above : All (λ r. 1 ≤ r.id) a.recoveries
   pub below : All (λ r. r.id < a.next) a.recoveries
+  pub short : All (λ r. r.block ≤ longest_block) a.recoveries
 
 -- ---- one recovery
 
@@ -41,9 +46,9 @@ is_open ending.Interrupted = false
 abbrev pub is_unended : Recovery → Bool
 is_unended r = is_none r.ended || is_open r.outcome
 
--- it isn't acknowledged, and began less than the block period ago
-abbrev pub is_blocking : ℕ → ℕ → Recovery → Bool
-is_blocking now block r = not r.acked && nat_lt (now - r.begun.0) block
+-- it isn't acknowledged, and began less than its own block period ago
+abbrev pub is_blocking : ℕ → Recovery → Bool
+is_blocking now r = not r.acked && nat_lt (now - r.begun.0) r.block
 
 -- ---- whether a recovery of a cluster may begin
 
@@ -52,17 +57,17 @@ abbrev pub unended_of : AuditState → List ℕ → Option Recovery
 unended_of a cluster = find (λ r. is_of cluster r && is_unended r) a.recoveries
 
 -- the cluster's last recovery that blocks
-abbrev pub last_blocking : AuditState → List ℕ → ℕ → ℕ → Option Recovery
-last_blocking a cluster now block = find (λ r. is_of cluster r && is_blocking now block r) (reverse a.recoveries)
+abbrev pub last_blocking : AuditState → List ℕ → ℕ → Option Recovery
+last_blocking a cluster now = find (λ r. is_of cluster r && is_blocking now r) (reverse a.recoveries)
 
-abbrev pub held_by : AuditState → ℕ → Option Recovery → Option Recovery → Result ℕ Held
-held_by a block (Some r) last = Err (held.Unended r.id)
-held_by a block None (Some r) = Err (held.Blocked r.id (record { 0 = r.begun.0 + block }))
-held_by a block None None = Ok a.next
+abbrev pub held_by : AuditState → Option Recovery → Option Recovery → Result ℕ Held
+held_by a (Some r) last = Err (held.Unended r.id)
+held_by a None (Some r) = Err (held.Blocked r.id (record { 0 = r.begun.0 + r.block }))
+held_by a None None = Ok a.next
 
 -- the next id, where no recovery of the cluster holds it back: one that isn't ended, else the last one that blocks
-abbrev pub may_begin : AuditState → List ℕ → ℕ → ℕ → Result ℕ Held
-may_begin a cluster now block = held_by a block (unended_of a cluster) (last_blocking a cluster now block)
+abbrev pub may_begin : AuditState → List ℕ → ℕ → Result ℕ Held
+may_begin a cluster now = held_by a (unended_of a cluster) (last_blocking a cluster now)
 
 -- ---- changes
 

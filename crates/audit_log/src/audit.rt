@@ -3,13 +3,13 @@
 
 ghost use Rattle.std.specs.Prelude.{◌≡◌, ◌<◌, ◌≤◌, ◌^◌, ◌+◌, ◌-◌, ◌&&◌, ◌==◌, All, count_by, if◌then◌else◌, IfOk, IsSomeAnd, OnErr, OnOk, length, map, true, vec_len, vec_capacity};
 ghost use Rattle.std.specs.Option.{option_copied};
-ghost use Rattle.instance_keeper.specs.declared.recovery.Recovery.{Recovery as ARecovery};
+ghost use Rattle.kept_rows.specs.declared.recovery.Recovery.{Recovery as ARecovery};
 ghost use Rattle.audit_log.specs.Apart.{MayBegin};
 ghost use Rattle.audit_log.specs.Audits.{acked_so, acking, acknowledged, acknowledged_at, acknowledged_for, begun, closed, closing, count_new, ended, ended_so, interrupted, is_blocking, is_new, is_of, is_unended, last_blocking, may_begin, recovery_at, unended_of, IsAudit, StandsAt};
 
 use crate::Memory;
 use crate::held::Held;
-use instance_keeper::Recovery;
+use kept_rows::Recovery;
 use orch_base::{Ending, Moment};
 use std::alloc::Global;
 use std::marker::Model;
@@ -27,10 +27,10 @@ pub fn is_unended(recovery: &Recovery) -> bool
     recovery.ended.is_none() || recovery.outcome == Ending::Unended
 }
 
-fn is_blocking(recovery: &Recovery, now: Moment, block: u64) -> bool
-    ensures { result ≡ is_blocking now.0 block recovery.now }
+fn is_blocking(recovery: &Recovery, now: Moment) -> bool
+    ensures { result ≡ is_blocking now.0 recovery.now }
 {
-    !recovery.acked && now.0.saturating_sub(recovery.begun.0) < block
+    !recovery.acked && now.0.saturating_sub(recovery.begun.0) < recovery.block
 }
 
 // Ends a recovery.
@@ -114,8 +114,8 @@ impl Model for Audit {
 }
 
 impl Audit {
-    /// The audit of these recoveries, by rising id from 1 on, and of the next id, which is above theirs. It takes
-    /// no memory.
+    /// The audit of these recoveries, by rising id from 1 on, and of the next id, which is above theirs. Their block
+    /// periods are at most 1,000,000,000 seconds. It takes no memory.
     pub fn make(list: Vec<Recovery>, next: u64) -> Audit
         requires { IsAudit (record { recoveries = list.items; next = next }) }
         ensures { result.audit ≡ record { recoveries = list.items; next = next } }
@@ -182,31 +182,29 @@ impl Audit {
     }
 
     // The cluster's last recovery that blocks.
-    fn last_blocking(&self, cluster: &str, now: Moment, block: u64) -> Option<&Recovery>
-        ensures { option_copied result ≡ last_blocking self.now.audit cluster.now now.0 block }
+    fn last_blocking(&self, cluster: &str, now: Moment) -> Option<&Recovery>
+        ensures { option_copied result ≡ last_blocking self.now.audit cluster.now now.0 }
     {
         self.recoveries
             .iter()
             .rev()
-            .find(|r| is_of(r, cluster) && is_blocking(r, now, block))
+            .find(|r| is_of(r, cluster) && is_blocking(r, now))
     }
 
     /// The id of a recovery of a cluster that begins now. `Unended` names the cluster's recovery that isn't ended; else
-    /// `Blocked` names its last one that isn't acknowledged and began less than `block` seconds ago, and the first
-    /// moment at which it no longer blocks. Moments are at most 2^63, and `block` at most 1,000,000,000. It takes no
-    /// memory.
-    pub fn may_begin(&self, cluster: &str, now: Moment, block: u64) -> Result<u64, Held>
-        requires begun { All (λ r. r.begun.0 ≤ 2 ^ 63) self.now.audit.recoveries }
-        requires block { block ≤ 1000000000 }
-        ensures { result ≡ may_begin self.now.audit cluster.now now.0 block }
+    /// `Blocked` names its last one that isn't acknowledged and began less than its own block period ago, and the first
+    /// moment at which it no longer blocks. Moments are at most 2^63. It takes no memory.
+    pub fn may_begin(&self, cluster: &str, now: Moment) -> Result<u64, Held>
+        requires { All (λ r. r.begun.0 ≤ 2 ^ 63) self.now.audit.recoveries }
+        ensures { result ≡ may_begin self.now.audit cluster.now now.0 }
     {
         if let Some(unended) = self.unended_of(cluster) {
             return Err(Held::Unended(unended.id));
         }
-        match self.last_blocking(cluster, now, block) {
+        match self.last_blocking(cluster, now) {
             Some(last) => Err(Held::Blocked {
                 id: last.id,
-                until: Moment(last.begun.0 + block),
+                until: Moment(last.begun.0 + last.block),
             }),
             None => Ok(self.next),
         }
@@ -230,7 +228,8 @@ impl Audit {
         Ok(())
     }
 
-    /// Begins a recovery for which there is room. `may_begin` gave its id, which is below 2^64 - 1. It takes no memory.
+    /// Begins a recovery for which there is room. `may_begin` gave its id, which is below 2^64 - 1, and its block period
+    /// is at most 1,000,000,000 seconds. It takes no memory.
     pub fn begin(&mut self, r: Recovery)
         requires spare { 1 ≤ self.old.spare }
         requires may { MayBegin self.old.audit r }

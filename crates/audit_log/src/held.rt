@@ -7,11 +7,11 @@ use orch_base::Moment;
 pub enum Held {
     /// The cluster's recovery of this id isn't ended.
     Unended(u64),
-    /// A recovery of the cluster isn't acknowledged and began within the block period.
+    /// A recovery of the cluster isn't acknowledged and began within its own block period.
     Blocked {
         /// The last one that does.
         id: u64,
-        /// The first moment at which it no longer does: its own and the block period.
+        /// The first moment at which it no longer does: that of its begin and its block period.
         until: Moment,
     },
 }

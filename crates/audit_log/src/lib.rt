@@ -5,6 +5,7 @@ mod audit;
 mod held;
 mod laws;
 mod loading;
+mod periods;
 mod threads;
 
 pub use audit::{Audit, is_unended};
@@ -12,6 +13,7 @@ pub use held::Held;
 pub use laws::{
     audits_stay_apart, begins_are_apart, kept_recoveries_make_an_audit, restarts_end_recoveries,
 };
-pub use loading::recoveries_in;
+pub use loading::{loaded_by, recoveries_in};
 /// Want of memory.
 pub use orch_base::Memory;
+pub use periods::Periods;

@@ -81,9 +81,11 @@ fn are_copied(alloc: Global) -> Result<bool, NameFault> {
         cluster: OwnedText::new(String::from_str(alloc, "main")?),
         logs: true,
         limit: 4096,
+        dc: OwnedText::new(String::from_str(alloc, "east")?),
     };
     let copy = settings.copy(alloc)?;
-    Ok(copy.is_same(&settings) && copy.uuid == 7 && copy.cluster.as_str() == "main")
+    let is_told = copy.cluster.as_str() == "main" && copy.dc.as_str() == "east";
+    Ok(copy.is_same(&settings) && copy.uuid == 7 && is_told)
 }
 
 #[test]

@@ -3,14 +3,14 @@ use Rattle.std.specs.Prelude.{ℕ, ◌+◌, Bool, true, false, List, [], ◌∷�
 use Rattle.orch_base.specs.declared.rule.Rule.TheVariants as rule
 use Rattle.orch_base.specs.declared.server.Moment.{Moment}
 use Rattle.orch_base.specs.declared.server.ServerNo.{ServerNo}
-use Rattle.instance_keeper.specs.declared.recovery.Recovery.{Recovery}
-use Rattle.instance_keeper.specs.declared.row.Candidate.{Candidate}
-use Rattle.instance_keeper.specs.declared.row.Change.{Change}
-use Rattle.instance_keeper.specs.declared.row.Change.TheVariants as change
-use Rattle.instance_keeper.specs.declared.row.Downtime.{Downtime}
-use Rattle.instance_keeper.specs.declared.row.Key.TheVariants as key
-use Rattle.instance_keeper.specs.declared.row.Row.TheVariants as row
-use Rattle.instance_keeper.specs.declared.row.Table.TheVariants as table
+use Rattle.kept_rows.specs.Recoveries.{put_recovery}
+use Rattle.kept_rows.specs.declared.row.Candidate.{Candidate}
+use Rattle.kept_rows.specs.declared.row.Change.{Change}
+use Rattle.kept_rows.specs.declared.row.Change.TheVariants as change
+use Rattle.kept_rows.specs.declared.row.Downtime.{Downtime}
+use Rattle.kept_rows.specs.declared.row.Key.TheVariants as key
+use Rattle.kept_rows.specs.declared.row.Row.TheVariants as row
+use Rattle.kept_rows.specs.declared.row.Table.TheVariants as table
 use Rattle.instance_keeper.specs.Book.{BookState, after_change, downtime_at}
 use Rattle.instance_keeper.specs.Had.{put_change}
 use Rattle.audit_log.specs.Audits.{AuditState, acking, acknowledged, count_new}
@@ -93,9 +93,6 @@ decided_of b a now k i decision.EnableRecoveries = switched b true
 decided_of b a now k i decision.AckRecoveries = about (acked b a) i
 
 -- ---- effects
-
-abbrev pub put_recovery : Recovery → Change
-put_recovery r = change.Put (row.Recovery r)
 
 -- the changes of the kept rows
 abbrev pub rows_of : AuditState → Effect → List Change

@@ -3,7 +3,8 @@
 ghost use Rattle.std.specs.Prelude.{◌≡◌, ◌<◌, ◌≤◌, ◌^◌, ◌∷◌, [], IfOk, IfSome, length, map, unwrap_or};
 ghost use Rattle.audit_log.specs.Audits.{acking, count_new, is_new};
 ghost use Rattle.asking_commands.specs.Asking.{label_at};
-ghost use Rattle.book_commands.specs.Decisions.{acked, after, candidate_of, decided_of, decided_with, downtime_begun, downtime_ended, downtime_of, downtime_removal, effect_by, put_recovery, registered, rows_of, switched, undecided};
+ghost use Rattle.kept_rows.specs.Recoveries.{put_recovery};
+ghost use Rattle.book_commands.specs.Decisions.{acked, after, candidate_of, decided_of, decided_with, downtime_begun, downtime_ended, downtime_of, downtime_removal, effect_by, registered, rows_of, switched, undecided};
 
 use crate::{Decided, Effect, Memory};
 use asking_commands::switch_line;
@@ -207,7 +208,7 @@ fn acked_rows(alloc: Global, audit: &Audit, cluster: &str) -> Result<Vec<Change>
 {
     let mut rows = Vec::new(alloc);
     'acked: for recovery in audit.acking(alloc, cluster)? {
-        rows.push(Change::Put(Row::Recovery(recovery)))?;
+        rows.push(Change::Put(Row::Recovery(recovery.into_row())))?;
     }
     Ok(rows)
 }

@@ -15,10 +15,16 @@ const MOST_ID: u64 = 1 << 62;
 
 const ROOT: SourceState = SourceState::Without;
 
+/// The longest block period.
+const LONGEST: u64 = 1_000_000_000;
+
 // Rows of two servers that count.
-const GOOD: [Given; 8] = [
+const GOOD: [Given; 11] = [
+    Given::Claim(16, MOST),
     Given::Switch(false),
     Given::Recovery(MOST_ID, MOST, Some(MOST), Ending::Interrupted),
+    Given::Blocking(3, None, Ending::Unended, Some(LONGEST)),
+    Given::Blocking(2, None, Ending::Unended, None),
     Given::Recovery(1, 40, None, Ending::Promoted(ServerNo(1))),
     Given::Candidate(1, Rule::Prefer, MOST),
     Given::Downtime(0, 50, MOST),
@@ -28,14 +34,17 @@ const GOOD: [Given; 8] = [
 ];
 
 // The same in order: of the two rows of one server the last stands.
-const IN_ORDER: [Given; 7] = [
+const IN_ORDER: [Given; 10] = [
     Given::Instance(0, SourceState::Detached(ServerNo(1)), MOST, MOST),
     Given::Instance(1, SourceState::Attached(ServerNo(0)), 7, 0),
     Given::Downtime(0, 50, MOST),
     Given::Candidate(1, Rule::Prefer, MOST),
     Given::Recovery(1, 40, None, Ending::Promoted(ServerNo(1))),
+    Given::Blocking(2, None, Ending::Unended, None),
+    Given::Blocking(3, None, Ending::Unended, Some(LONGEST)),
     Given::Recovery(MOST_ID, MOST, Some(MOST), Ending::Interrupted),
     Given::Switch(false),
+    Given::Claim(16, MOST),
 ];
 
 // Whether of these rows those count, in their order, among so many servers, by the last id that counts.
@@ -51,7 +60,7 @@ fn counts(
 }
 
 // Rows that don't count, since a server is unknown or a number is past its greatest.
-const HOSTILE: [Given; 15] = [
+const HOSTILE: [Given; 19] = [
     Given::Instance(2, ROOT, 0, 0),
     Given::Instance(0, SourceState::Attached(ServerNo(2)), 0, 0),
     Given::Instance(0, SourceState::Detached(ServerNo(u32::MAX)), 0, 0),
@@ -67,6 +76,10 @@ const HOSTILE: [Given; 15] = [
     Given::Recovery(1, MOST + 1, None, Ending::Unended),
     Given::Recovery(1, 0, Some(MOST + 1), Ending::Unended),
     Given::Recovery(1, 0, None, Ending::Promoted(ServerNo(2))),
+    Given::Blocking(1, None, Ending::Unended, Some(LONGEST + 1)),
+    Given::Claim(0, 0),
+    Given::Claim(17, 0),
+    Given::Claim(1, MOST + 1),
 ];
 
 // The first of these rows that counts by itself.
@@ -95,7 +108,12 @@ const RECOVERIES: [Given; 4] = [
 // How many servers there are, the last id that counts, the rows, and those that count.
 const COUNTED: [(u32, u64, &[Given], &[Given]); 3] = [
     (2, MOST_ID, &GOOD, &IN_ORDER),
-    (0, MOST_ID, &GOOD, &[Given::Switch(false)]),
+    (
+        0,
+        MOST_ID,
+        &GOOD,
+        &[Given::Switch(false), Given::Claim(16, MOST)],
+    ),
     (
         2,
         8,

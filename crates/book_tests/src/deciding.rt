@@ -2,7 +2,7 @@
 
 ghost use Rattle.std.specs.Prelude.{◌≡◌, ◌≤◌, ◌<◌, ◌↔◌, All, IfOk, IfSome, IsTrue};
 
-use crate::rows::{Given, book, label};
+use crate::rows::{Given, OnePeriod, book, label};
 use audit_log::{Audit, kept_recoveries_make_an_audit, recoveries_in};
 use book_commands::{Decided, Effect, decide, rows_of};
 use command_routes::Decision;
@@ -186,19 +186,27 @@ fn recovery(alloc: Global, id: u64, cluster: &str, acked: bool) -> Result<Recove
         ended: Some(Moment(6)),
         outcome: Ending::Promoted(ServerNo(1)),
         acked,
+        block: 3600,
     })
 }
 
 fn are_in_range(list: &[Recovery], next: u64) -> bool
-    ensures { IsTrue result ↔ All (λ r. (1 ≤ r.id) × (r.id < next)) list.now }
+    ensures { IsTrue result ↔ All (λ r. (1 ≤ r.id) × (r.id < next) × (r.block ≤ 1000000000)) list.now }
 {
-    list.iter().all(|r| r.id >= 1 && r.id < next)
+    list.iter()
+        .all(|r| (r.id >= 1 && r.id < next) && r.block <= 1_000_000_000)
 }
 
-// The audit of some kept rows; none where their ids aren't from 1 on and below the next one.
-fn loaded(alloc: Global, rows: Vec<Row>, next: u64) -> Result<Option<Audit>, Memory> {
+/// The audit of some kept rows, by a block period for those that have none; none where their ids aren't from 1 on and
+/// below the next one, or a period is too long.
+pub(crate) fn loaded(
+    alloc: Global,
+    rows: Vec<Row>,
+    period: u64,
+    next: u64,
+) -> Result<Option<Audit>, Memory> {
     let rows = row_map(alloc, rows)?;
-    let list = recoveries_in(alloc, &rows)?;
+    let list = recoveries_in(alloc, &OnePeriod(period), &rows)?;
     last_row_stands();
     kept_recoveries_make_an_audit();
     if next == 0 || !are_in_range(&list, next) {
@@ -218,9 +226,10 @@ const RECOVERIES: [(u64, &str, bool); 4] = [
 fn audit(alloc: Global) -> Result<Option<Audit>, Memory> {
     let mut rows = Vec::new(alloc);
     for (id, cluster, acked) in &RECOVERIES {
-        rows.push(Row::Recovery(recovery(alloc, *id, cluster, *acked)?))?;
+        let recovery = recovery(alloc, *id, cluster, *acked)?;
+        rows.push(Row::Recovery(recovery.into_row()))?;
     }
-    loaded(alloc, rows, 5)
+    loaded(alloc, rows, 3600, 5)
 }
 
 const SERVERS: [(&str, &str); 3] = [("m", "m:3306"), ("a", "m:3306"), ("x", "x")];

@@ -13,8 +13,9 @@ const SERVERS: [(&str, &str); 2] = [("m", "m:3306"), ("r:3307", "m:3306")];
 
 const BY_MASTER: SourceState = SourceState::Attached(ServerNo(0));
 
-// Rows in no order, two of one key, a recovery, and rows of servers that there aren't.
-const ROWS: [Given; 9] = [
+// Rows in no order, two of one key, a recovery, a claim, and rows of servers that there aren't.
+const ROWS: [Given; 10] = [
+    Given::Claim(3, 50),
     Given::Switch(true),
     Given::Recovery(u64::MAX, 5, None, Ending::Unended),
     Given::Candidate(1, Rule::MustNot, 50),
@@ -165,6 +166,7 @@ fn add(book: &mut Book, instance: Instance) -> Answer {
         Row::Candidate(_candidate) => None,
         Row::Recovery(_recovery) => None,
         Row::Switch(_enabled) => None,
+        Row::Active { .. } => None,
     }
 }
 
@@ -281,7 +283,7 @@ const BOTH: Shown = (Some((6, true, 2)), Some((3, true, 2)), None, false);
 
 const FIRST: Shown = (Some((6, true, 2)), None, None, false);
 
-const CHANGES: [Step; 9] = [
+const CHANGES: [Step; 11] = [
     (
         Act::Put(Given::Instance(0, SourceState::Without, 6, 7)),
         MADE,
@@ -295,6 +297,8 @@ const CHANGES: [Step; 9] = [
         BOTH,
     ),
     (Act::Remove(Table::Recovery, Key::Id(1)), None, BOTH),
+    (Act::Put(Given::Claim(1, 90)), None, BOTH),
+    (Act::Remove(Table::Active, Key::Active), None, BOTH),
     (Act::Remove(Table::Instance, REPLICA), MADE, FIRST),
     (Act::Remove(Table::Downtime, REPLICA), MADE, FIRST),
     (Act::Remove(Table::Candidate, REPLICA), MADE, FIRST),
@@ -323,7 +327,7 @@ fn book_is_changed(rt: HostRuntime) {
 }
 
 // The rows in order: of two with one table and key the later stands.
-const KEPT: [Given; 7] = [
+const KEPT: [Given; 8] = [
     Given::Instance(0, SourceState::Detached(ServerNo(2)), 4, 7),
     Given::Instance(1, BY_MASTER, 3, 7),
     Given::Instance(u32::MAX, SourceState::Without, 9, 7),
@@ -331,16 +335,18 @@ const KEPT: [Given; 7] = [
     Given::Candidate(1, Rule::Prefer, 60),
     Given::Recovery(u64::MAX, 5, None, Ending::Unended),
     Given::Switch(false),
+    Given::Claim(3, 50),
 ];
 
 // What is kept behind the removal of the recovery and a change of the switch.
-const CHANGED: [Given; 6] = [
+const CHANGED: [Given; 7] = [
     Given::Instance(0, SourceState::Detached(ServerNo(2)), 4, 7),
     Given::Instance(1, BY_MASTER, 3, 7),
     Given::Instance(u32::MAX, SourceState::Without, 9, 7),
     Given::Downtime(1, 1, 20),
     Given::Candidate(1, Rule::Prefer, 60),
     Given::Switch(true),
+    Given::Claim(3, 50),
 ];
 
 #[derive(Clone, Copy)]

@@ -10,4 +10,6 @@ mod deciding;
 #[cfg(test)]
 mod keeping;
 #[cfg(test)]
+mod loading;
+#[cfg(test)]
 mod rows;

@@ -2,9 +2,10 @@
 
 ghost use Rattle.std.specs.Prelude.{◌≡◌, ◌<◌, ◌^◌, IfOk, length};
 
+use audit_log::Periods;
 use binlog_coords::Coord;
 use gtid_sets::GtidSet;
-use instance_keeper::{Book, Candidate, Downtime, Instance, Recovery, Row, Seen};
+use instance_keeper::{Book, Candidate, Downtime, Instance, RecoveryRow, Row, Seen};
 use orch_base::{
     Ending, IoState, Kind, Memory, Moment, Name, OwnedText, Rule, ServerNo, Settings, SourceState,
     Version,
@@ -20,9 +21,25 @@ pub(crate) enum Given {
     Downtime(u32, u64, u64),
     /// A server's rule, and the moment at which its registration ends.
     Candidate(u32, Rule, u64),
-    /// A recovery's id, its begin, end and outcome.
+    /// A recovery's id, its begin, end and outcome. Its block period is an hour.
     Recovery(u64, u64, Option<u64>, Ending),
+    /// The id, end, outcome and block period of a recovery that began at 0.
+    Blocking(u64, Option<u64>, Ending, Option<u64>),
     Switch(bool),
+    /// The node that is active, and the moment at which its claim ends.
+    Claim(u32, u64),
+}
+
+/// One block period for all clusters.
+#[derive(Clone, Copy)]
+pub(crate) struct OnePeriod(pub(crate) u64);
+
+impl Periods for OnePeriod {
+    ghost period_of = { λ p _. p.0 };
+
+    fn period(&self, _cluster: &str) -> u64 {
+        self.0
+    }
 }
 
 pub(crate) fn label(alloc: Global, text: &str) -> Result<OwnedText, Memory> {
@@ -42,6 +59,8 @@ pub(crate) fn seen(alloc: Global, source: SourceState, file: u32) -> Seen {
         sql: true,
         read_only: false,
         set: GtidSet::empty(alloc),
+        first: 1,
+        purged: GtidSet::empty(alloc),
     }
 }
 
@@ -79,8 +98,9 @@ fn recovery(
     begun: u64,
     ended: Option<u64>,
     outcome: Ending,
+    block: Option<u64>,
 ) -> Result<Row, Memory> {
-    Ok(Row::Recovery(Recovery {
+    Ok(Row::Recovery(RecoveryRow {
         id,
         cluster: label(alloc, "m:3306")?,
         kind: Kind::Master,
@@ -89,6 +109,7 @@ fn recovery(
         ended: ended.map(Moment),
         outcome,
         acked: false,
+        block,
     }))
 }
 
@@ -103,8 +124,17 @@ pub(crate) fn row(alloc: Global, given: Given) -> Result<Row, Memory> {
             rule,
             until: Moment(until),
         })),
-        Given::Recovery(id, begun, ended, outcome) => recovery(alloc, id, begun, ended, outcome),
+        Given::Recovery(id, begun, ended, outcome) => {
+            recovery(alloc, id, begun, ended, outcome, Some(3600))
+        }
+        Given::Blocking(id, ended, outcome, block) => {
+            recovery(alloc, id, 0, ended, outcome, block)
+        }
         Given::Switch(enabled) => Ok(Row::Switch(enabled)),
+        Given::Claim(node, until) => Ok(Row::Active {
+            node,
+            until: Moment(until),
+        }),
     }
 }
 
@@ -155,6 +185,7 @@ fn server(alloc: Global, text: &str, cluster: &str) -> Result<Settings, Memory> 
         cluster: label(alloc, cluster)?,
         logs: true,
         limit: 4096,
+        dc: label(alloc, "")?,
     })
 }
 

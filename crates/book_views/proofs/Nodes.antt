@@ -8,7 +8,8 @@ use Rattle.std.proofs.lemmas.Option.{same_Some}
 use Rattle.orch_base.specs.declared.server.ServerNo.{ServerNo}
 use Rattle.orch_base.specs.declared.server.SourceState.{SourceState}
 use Rattle.orch_base.specs.declared.server.SourceState.TheVariants.{Without, Attached, Detached}
-use Rattle.instance_keeper.specs.Book.{BookState, IsBook, are_known, instance_at, source_servers}
+use Rattle.kept_rows.specs.Servers.{are_known, source_servers}
+use Rattle.instance_keeper.specs.Book.{BookState, IsBook, instance_at}
 use Rattle.topology_tree.specs.Forests.{IsClosed}
 use Rattle.topology_tree.specs.Making.{forest_of}
 use Rattle.topology_tree.specs.Making as making

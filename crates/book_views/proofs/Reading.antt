@@ -7,8 +7,9 @@ use Rattle.std.proofs.lemmas.List.Elements.{All-get_or}
 use Rattle.std.proofs.lemmas.Option.{slice_get_within, get_or_from_slice_get}
 use Rattle.orch_base.specs.Names.{HostPort}
 use Rattle.orch_base.specs.declared.server.ServerNo.{ServerNo}
-use Rattle.instance_keeper.specs.Book.{BookState, IsBook, HasKnownSource, are_known, instance_at, source_servers}
-use Rattle.instance_keeper.specs.declared.observation.Instance.{Instance}
+use Rattle.kept_rows.specs.Servers.{are_known, source_servers}
+use Rattle.instance_keeper.specs.Book.{BookState, IsBook, HasKnownSource, instance_at}
+use Rattle.kept_rows.specs.declared.observation.Instance.{Instance}
 use Rattle.name_order.specs.NameOrder.{by_name}
 use Rattle.name_order.proofs.Arranged.{by_name-within}
 use Rattle.book_views.specs.Sources.{seen_source}

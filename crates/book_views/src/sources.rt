@@ -1,7 +1,8 @@
 //! Instances, their sources and their replicas.
 
 ghost use Rattle.std.specs.Prelude.{◌≡◌, ◌<◌, IfOk, length, true};
-ghost use Rattle.instance_keeper.specs.Book.{are_known, instance_at, source_servers};
+ghost use Rattle.kept_rows.specs.Servers.{are_known, source_servers};
+ghost use Rattle.instance_keeper.specs.Book.{instance_at};
 ghost use Rattle.book_views.specs.Sources.{is_attached_to, is_instance, replicas_of, seen_source};
 
 use crate::Memory;

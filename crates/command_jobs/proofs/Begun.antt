@@ -7,7 +7,8 @@ use Rattle.orch_base.specs.declared.server.Moment.{Moment}
 use Rattle.commands.specs.declared.turn.Command.{Command}
 use Rattle.commands.specs.Turns.{is_within}
 use Rattle.command_routes.specs.declared.route.Planner.{Planner}
-use Rattle.command_routes.specs.declared.route.Planner.TheVariants.{Coordinates, Gtids, Paths, Regroups}
+use Rattle.command_routes.specs.declared.kinds.Regrouping.TheVariants.{ByBridges, ByMatches}
+use Rattle.command_routes.specs.declared.route.Planner.TheVariants.{Coordinates, Gtids, Matches, Paths, Regroups}
 use Rattle.instance_keeper.specs.Book.{BookState, IsBook}
 use Rattle.instance_keeper.specs.Leases.{first_busy}
 use Rattle.operations.specs.declared.op.Op.{Op}
@@ -32,17 +33,21 @@ use Rattle.regroup.proofs.Named as named_paths
 use Rattle.command_jobs.specs.Jobs.{job_by, leases_by, refusal_by, regroup_about}
 
 pub leases-free : (w : World) (b : BookState) (now : Moment) (c : Command) (p : Planner) → refusal_by w b now c p ≡ None → first_busy b.leases (leases_by w b c p) ≡ None
-leases-free w b now c Coordinates h = free_coords.leases-free w b c h
-leases-free w b now c Gtids h = free_gtids.leases-free w b c h
-leases-free w b now c Paths h = free_paths.leases-free w b now c h
-leases-free w b now c Regroups h = free_paths.leases-free w b now c h
+leases-free w b now c (Coordinates kind) h = free_coords.leases-free w b c h
+leases-free w b now c (Gtids kind) h = free_gtids.leases-free w b c h
+leases-free w b now c (Paths kind) h = free_paths.leases-free w b now c h
+leases-free w b now c (Regroups ByBridges) h = free_paths.leases-free w b now c h
+leases-free w b now c (Regroups ByMatches) h = refl
+leases-free w b now c (Matches kind) h = refl
 
 module _ (w : World) (b : BookState) (c : Command) (is : IsBook b) (i_there : is_within (length b.names) c.i ≡ true) (d_there : is_within (length b.names) c.d ≡ true) where
   pub leases-within : (p : Planner) → All (λ n. n.0 < length b.names) (leases_by w b c p)
-  leases-within Coordinates = named_coords.leases-within b c is i_there d_there
-  leases-within Gtids = named_gtids.leases-within b c is i_there d_there
-  leases-within Paths = named_paths.leases-within w b c i_there d_there
-  leases-within Regroups = named_paths.leases-within w b c i_there d_there
+  leases-within (Coordinates kind) = named_coords.leases-within b c is i_there d_there
+  leases-within (Gtids kind) = named_gtids.leases-within b c is i_there d_there
+  leases-within (Paths kind) = named_paths.leases-within w b c i_there d_there
+  leases-within (Regroups ByBridges) = named_paths.leases-within w b c i_there d_there
+  leases-within (Regroups ByMatches) = All-nil (λ (n : ServerNo). n.0 < length b.names)
+  leases-within (Matches kind) = All-nil (λ (n : ServerNo). n.0 < length b.names)
 
   in-range : (id wait : ℕ) (ops : List Op) → id < 2 ^ 64 → wait < 2 ^ 32 → are_named (length b.names) ops ≡ true → IsInRange (length b.names) (job_with id wait ops)
   in-range id wait ops id_fits wait_fits named = record {
@@ -77,17 +82,21 @@ module _ (w : World) (b : BookState) (c : Command) (is : IsBook b) (i_there : is
 
   -- a turn of the job can be taken, whatever its number
   pub job-ready : (p : Planner) (id wait : ℕ) → IsReady (length b.names) (job_by w b c p id wait)
-  job-ready Coordinates id wait = ready-by id wait (coords_plans.plan_of w b c) (named_coords.plan-named w b c is i_there d_there)
-  job-ready Gtids id wait = ready-by id wait (gtid_plans.plan_of b c) (named_gtids.plan-named b c is i_there d_there)
-  job-ready Paths id wait = ready-by id wait (path_plans.plan_of w b c) (named_paths.plan-named w b c i_there d_there)
-  job-ready Regroups id wait = regroup-ready c.i i_there id wait
+  job-ready (Coordinates kind) id wait = ready-by id wait (coords_plans.plan_of w b c) (named_coords.plan-named w b c is i_there d_there)
+  job-ready (Gtids kind) id wait = ready-by id wait (gtid_plans.plan_of b c) (named_gtids.plan-named b c is i_there d_there)
+  job-ready (Paths kind) id wait = ready-by id wait (path_plans.plan_of w b c) (named_paths.plan-named w b c i_there d_there)
+  job-ready (Regroups ByBridges) id wait = regroup-ready c.i i_there id wait
+  job-ready (Regroups ByMatches) id wait = ready-by id wait [] refl
+  job-ready (Matches kind) id wait = ready-by id wait [] refl
 
   -- the numbers of the job, and the servers that it names, are in their ranges
   pub job-unended : (p : Planner) (id wait : ℕ) → id < 2 ^ 64 → wait < 2 ^ 32 → IsUnended (length b.names) (job_by w b c p id wait)
-  job-unended Coordinates id wait id_fits wait_fits = in-range id wait (coords_plans.plan_of w b c) id_fits wait_fits (named_coords.plan-named w b c is i_there d_there)
-  job-unended Gtids id wait id_fits wait_fits = in-range id wait (gtid_plans.plan_of b c) id_fits wait_fits (named_gtids.plan-named b c is i_there d_there)
-  job-unended Paths id wait id_fits wait_fits = in-range id wait (path_plans.plan_of w b c) id_fits wait_fits (named_paths.plan-named w b c i_there d_there)
-  job-unended Regroups id wait id_fits wait_fits = regrouped c.i i_there id wait id_fits wait_fits
+  job-unended (Coordinates kind) id wait id_fits wait_fits = in-range id wait (coords_plans.plan_of w b c) id_fits wait_fits (named_coords.plan-named w b c is i_there d_there)
+  job-unended (Gtids kind) id wait id_fits wait_fits = in-range id wait (gtid_plans.plan_of b c) id_fits wait_fits (named_gtids.plan-named b c is i_there d_there)
+  job-unended (Paths kind) id wait id_fits wait_fits = in-range id wait (path_plans.plan_of w b c) id_fits wait_fits (named_paths.plan-named w b c i_there d_there)
+  job-unended (Regroups ByBridges) id wait id_fits wait_fits = regrouped c.i i_there id wait id_fits wait_fits
+  job-unended (Regroups ByMatches) id wait id_fits wait_fits = in-range id wait [] id_fits wait_fits refl
+  job-unended (Matches kind) id wait id_fits wait_fits = in-range id wait [] id_fits wait_fits refl
 
 regroup-number : (b : BookState) (id wait : ℕ) (i : Option ServerNo) → number_of (regroup_about b id wait i) ≡ id
 regroup-number b id wait None = refl
@@ -95,7 +104,9 @@ regroup-number b id wait (Some i) = refl
 
 -- it has that number
 pub job-number : (w : World) (b : BookState) (c : Command) (p : Planner) (id wait : ℕ) → number_of (job_by w b c p id wait) ≡ id
-job-number w b c Coordinates id wait = refl
-job-number w b c Gtids id wait = refl
-job-number w b c Paths id wait = refl
-job-number w b c Regroups id wait = regroup-number b id wait c.i
+job-number w b c (Coordinates kind) id wait = refl
+job-number w b c (Gtids kind) id wait = refl
+job-number w b c (Paths kind) id wait = refl
+job-number w b c (Regroups ByBridges) id wait = regroup-number b id wait c.i
+job-number w b c (Regroups ByMatches) id wait = refl
+job-number w b c (Matches kind) id wait = refl

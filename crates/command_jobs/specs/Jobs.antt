@@ -1,16 +1,20 @@
 -- The job that a command begins: what refuses it, of which servers it takes the leases, and the job itself.
 use Rattle.std.specs.Prelude.{ℕ, List, [], Option, Some, None}
+use Rattle.std.specs.Option.{option_or}
 use Rattle.orch_base.specs.declared.server.Moment.{Moment}
 use Rattle.orch_base.specs.declared.server.ServerNo.{ServerNo}
 use Rattle.commands.specs.declared.name.CommandName.{CommandName}
 use Rattle.commands.specs.declared.refusal.Refusal.{Refusal}
+use Rattle.commands.specs.declared.refusal.Refusal.TheVariants.{PseudoOff}
 use Rattle.commands.specs.declared.turn.Command.{Command}
 use Rattle.command_routes.specs.declared.route.Planner.{Planner}
-use Rattle.command_routes.specs.declared.route.Planner.TheVariants.{Coordinates, Gtids, Paths, Regroups}
+use Rattle.command_routes.specs.declared.kinds.Regrouping.TheVariants.{ByBridges, ByMatches}
+use Rattle.command_routes.specs.declared.route.Planner.TheVariants.{Coordinates, Gtids, Matches, Paths, Regroups}
 use Rattle.command_routes.specs.Routes.{planner_of, route_of}
 use Rattle.instance_keeper.specs.Book.{BookState}
 use Rattle.book_views.specs.Sources.{replicas_of}
 use Rattle.operations.specs.Jobs.{job_with}
+use Rattle.permission.specs.Checks.{unknown_in}
 use Rattle.recovery_plans.specs.Beginning.{begun_recovery}
 use Rattle.recovery_plans.specs.declared.purpose.Purpose.TheVariants as purpose
 use Rattle.unended_jobs.specs.declared.unended.Unended.{Unended}
@@ -27,30 +31,42 @@ use Rattle.regroup.specs.Plans as path_plans
 abbrev pub planner_for : CommandName → Option Planner
 planner_for name = planner_of (route_of name)
 
+-- no log has marks by which it could be matched
+abbrev pub unmatched : BookState → Command → Option Refusal
+unmatched b c = option_or (unknown_in b c) (Some PseudoOff)
+
 -- the refusal with the lowest number that applies at a moment
 abbrev pub refusal_by : World → BookState → Moment → Command → Planner → Option Refusal
-refusal_by w b now c Coordinates = coords.refusal_of w b c
-refusal_by w b now c Gtids = gtids.refusal_of w b c
-refusal_by w b now c Paths = paths.refusal_of w b now c
-refusal_by w b now c Regroups = paths.refusal_of w b now c
+refusal_by w b now c (Coordinates kind) = coords.refusal_of w b c
+refusal_by w b now c (Gtids kind) = gtids.refusal_of w b c
+refusal_by w b now c (Paths kind) = paths.refusal_of w b now c
+refusal_by w b now c (Regroups ByBridges) = paths.refusal_of w b now c
+refusal_by w b now c (Regroups ByMatches) = unmatched b c
+refusal_by w b now c (Matches kind) = unmatched b c
 
+-- a command that is refused always takes none
 abbrev pub leases_by : World → BookState → Command → Planner → List ServerNo
-leases_by w b c Coordinates = coords.leased_by b c
-leases_by w b c Gtids = gtids.leased_by b c
-leases_by w b c Paths = paths.leased_by w b c
-leases_by w b c Regroups = paths.leased_by w b c
+leases_by w b c (Coordinates kind) = coords.leased_by b c
+leases_by w b c (Gtids kind) = gtids.leased_by b c
+leases_by w b c (Paths kind) = paths.leased_by w b c
+leases_by w b c (Regroups ByBridges) = paths.leased_by w b c
+leases_by w b c (Regroups ByMatches) = []
+leases_by w b c (Matches kind) = []
 
 -- the replicas of an instance are regrouped, in name order; without one nothing is done
 abbrev pub regroup_about : BookState → ℕ → ℕ → Option ServerNo → Unended
 regroup_about b id wait None = unended.Plan (job_with id wait [])
 regroup_about b id wait (Some i) = unended.Recovery (begun_recovery purpose.Regroup id wait i (replicas_of b i) (replicas_of b i)) None
 
--- the command's job, with this number, whose operations may wait so often each
+-- the command's job, with this number, whose operations may wait so often each; that of one that is refused always does
+-- nothing
 abbrev pub job_by : World → BookState → Command → Planner → ℕ → ℕ → Unended
-job_by w b c Coordinates id wait = unended.Plan (job_with id wait (coords_plans.plan_of w b c))
-job_by w b c Gtids id wait = unended.Plan (job_with id wait (gtid_plans.plan_of b c))
-job_by w b c Paths id wait = unended.Plan (job_with id wait (path_plans.plan_of w b c))
-job_by w b c Regroups id wait = regroup_about b id wait c.i
+job_by w b c (Coordinates kind) id wait = unended.Plan (job_with id wait (coords_plans.plan_of w b c))
+job_by w b c (Gtids kind) id wait = unended.Plan (job_with id wait (gtid_plans.plan_of b c))
+job_by w b c (Paths kind) id wait = unended.Plan (job_with id wait (path_plans.plan_of w b c))
+job_by w b c (Regroups ByBridges) id wait = regroup_about b id wait c.i
+job_by w b c (Regroups ByMatches) id wait = unended.Plan (job_with id wait [])
+job_by w b c (Matches kind) id wait = unended.Plan (job_with id wait [])
 
 -- the servers of which any command takes the leases: none of one that begins no job
 abbrev pub leases_with : World → BookState → Command → Option Planner → List ServerNo

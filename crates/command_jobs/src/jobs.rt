@@ -4,21 +4,31 @@ ghost use Rattle.std.specs.Prelude.{◌≡◌, IfOk, Some};
 ghost use Rattle.orch_base.specs.Gives.{Gives};
 ghost use Rattle.book_views.specs.Forests.{book_forest};
 ghost use Rattle.permission.specs.Checks.{permit_fault, permitted};
-ghost use Rattle.command_jobs.specs.Jobs.{job_by, leases_by, planner_for, refusal_by, regroup_about};
+ghost use Rattle.command_jobs.specs.Jobs.{job_by, leases_by, planner_for, refusal_by, regroup_about, unmatched};
 
 use book_views::replicas;
-use command_routes::Planner;
-use commands::Command;
+use command_routes::{Planner, Regrouping};
+use commands::{Command, Refusal};
 use instance_keeper::Book;
 use job_plans::Job;
 use orch_base::{Memory, Moment, ServerNo};
-use permission::PermitFault;
+use permission::{PermitFault, unknown_in};
 use recovery_plans::Purpose;
 use recovery_turns::RecoveryJob;
 use server_model::World;
 use std::alloc::Global;
 use topology_tree::Forest;
 use unended_jobs::Unended;
+
+// Commands that match logs are refused: no log has marks by which it could be matched.
+fn unmatched(book: &Book, command: Command) -> Refusal
+    ensures { Some result ≡ unmatched book.now command }
+{
+    match unknown_in(book, command) {
+        Some(unknown) => unknown,
+        None => Refusal::PseudoOff,
+    }
+}
 
 /// `Refused` exactly with the lowest refusal of the permission table that applies to the command. It changes nothing.
 /// `Memory` comes only for want of memory.
@@ -37,11 +47,14 @@ pub fn permit(
     ensures { Gives (λ _. tt) permit_fault result (permitted (refusal_by world.now book.now now command planner)) }
 {
     match planner {
-        Planner::Coordinates => moves_coords::permit(alloc, book, forest, world, command, now),
-        Planner::Gtids => moves_gtid::permit(alloc, book, forest, world, command, now),
-        Planner::Paths | Planner::Regroups => regroup::permit(
-            alloc, book, forest, world, command, now,
-        ),
+        Planner::Coordinates(_) => moves_coords::permit(alloc, book, forest, world, command, now),
+        Planner::Gtids(_) => moves_gtid::permit(alloc, book, forest, world, command, now),
+        Planner::Paths(_) | Planner::Regroups(Regrouping::ByBridges) => {
+            regroup::permit(alloc, book, forest, world, command, now)
+        }
+        Planner::Regroups(Regrouping::ByMatches) | Planner::Matches(_) => {
+            Err(PermitFault::Refused(unmatched(book, command)))
+        }
     }
 }
 
@@ -60,9 +73,12 @@ pub fn leases(
     ensures { IfOk result (λ list. list.items ≡ leases_by world.now book.now command planner) }
 {
     match planner {
-        Planner::Coordinates => moves_coords::leases(alloc, book, command),
-        Planner::Gtids => moves_gtid::leases(alloc, book, command),
-        Planner::Paths | Planner::Regroups => regroup::leases(alloc, book, forest, world, command),
+        Planner::Coordinates(_) => moves_coords::leases(alloc, book, command),
+        Planner::Gtids(_) => moves_gtid::leases(alloc, book, command),
+        Planner::Paths(_) | Planner::Regroups(Regrouping::ByBridges) => {
+            regroup::leases(alloc, book, forest, world, command)
+        }
+        Planner::Regroups(Regrouping::ByMatches) | Planner::Matches(_) => Ok(Vec::new(alloc)),
     }
 }
 
@@ -105,10 +121,13 @@ pub fn job(
     ensures { IfOk result (λ job. job ≡ job_by world.now book.now command planner id wait) }
 {
     let ops = match planner {
-        Planner::Coordinates => moves_coords::plan(alloc, book, forest, world, command)?,
-        Planner::Gtids => moves_gtid::plan(alloc, book, forest, world, command)?,
-        Planner::Paths => regroup::plan(alloc, book, forest, world, command)?,
-        Planner::Regroups => return regroup_of(alloc, book, command.i, id, wait),
+        Planner::Coordinates(_) => moves_coords::plan(alloc, book, forest, world, command)?,
+        Planner::Gtids(_) => moves_gtid::plan(alloc, book, forest, world, command)?,
+        Planner::Paths(_) => regroup::plan(alloc, book, forest, world, command)?,
+        Planner::Regroups(Regrouping::ByBridges) => {
+            return regroup_of(alloc, book, command.i, id, wait);
+        }
+        Planner::Regroups(Regrouping::ByMatches) | Planner::Matches(_) => Vec::new(alloc),
     };
     Ok(Unended::Plan(Job::make(alloc, id, ops, wait)?))
 }

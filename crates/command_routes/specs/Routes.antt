@@ -1,8 +1,14 @@
 -- What each command does, and which commands are built.
-use Rattle.std.specs.Prelude.{◌≡◌, ◌⊎◌, ◌||◌, ℕ, Bool, List, codes, is_some, Option, Some, None}
+use Rattle.std.specs.Prelude.{◌≡◌, ◌⊎◌, ◌||◌, ℕ, Bool, true, false, List, codes, Option, Some, None}
 use Rattle.std.specs.Str.{bytes_eq}
 use Rattle.commands.specs.declared.name.CommandName.{CommandName}
 use Rattle.commands.specs.declared.name.CommandName.TheVariants as name
+use Rattle.command_routes.specs.declared.kinds.CoordsCommand.TheVariants as coords
+use Rattle.command_routes.specs.declared.kinds.GtidCommand.TheVariants as gtid
+use Rattle.command_routes.specs.declared.kinds.PathCommand.TheVariants as path
+use Rattle.command_routes.specs.declared.kinds.Regrouping.{Regrouping}
+use Rattle.command_routes.specs.declared.kinds.Regrouping.TheVariants as regrouping
+use Rattle.command_routes.specs.declared.kinds.MatchCommand.TheVariants as matching
 use Rattle.command_routes.specs.declared.route.Decision.TheVariants as decision
 use Rattle.command_routes.specs.declared.route.Question.TheVariants as question
 use Rattle.command_routes.specs.declared.route.Planner.{Planner}
@@ -13,27 +19,31 @@ use Rattle.commands.specs.Names.{name_of, word_of}
 
 -- what a command does
 abbrev pub route_of : CommandName → Route
-route_of name.MoveUp = Begins planner.Coordinates
-route_of name.MoveUpReplicas = Begins planner.Coordinates
-route_of name.MoveBelow = Begins planner.Coordinates
-route_of name.Repoint = Begins planner.Coordinates
-route_of name.TakeSiblings = Begins planner.Coordinates
-route_of name.TakeMaster = Begins planner.Coordinates
-route_of name.MoveGtid = Begins planner.Gtids
-route_of name.MoveReplicasGtid = Begins planner.Gtids
-route_of name.EnableGtid = Begins planner.Gtids
-route_of name.DisableGtid = Begins planner.Gtids
-route_of name.Relocate = Begins planner.Paths
-route_of name.RelocateReplicas = Begins planner.Paths
-route_of name.RegroupReplicas = Begins planner.Regroups
-route_of name.DetachReplica = Begins planner.Coordinates
-route_of name.ReattachReplica = Begins planner.Coordinates
-route_of name.ResetReplica = Begins planner.Coordinates
-route_of name.StartReplica = Begins planner.Coordinates
-route_of name.StopReplica = Begins planner.Coordinates
-route_of name.RestartReplica = Begins planner.Coordinates
-route_of name.SetReadOnly = Begins planner.Coordinates
-route_of name.SetWriteable = Begins planner.Coordinates
+route_of name.MoveUp = Begins (planner.Coordinates coords.MoveUp)
+route_of name.MoveUpReplicas = Begins (planner.Coordinates coords.MoveUpReplicas)
+route_of name.MoveBelow = Begins (planner.Coordinates coords.MoveBelow)
+route_of name.Repoint = Begins (planner.Coordinates coords.Repoint)
+route_of name.TakeSiblings = Begins (planner.Coordinates coords.TakeSiblings)
+route_of name.TakeMaster = Begins (planner.Coordinates coords.TakeMaster)
+route_of name.MoveGtid = Begins (planner.Gtids gtid.MoveGtid)
+route_of name.MoveReplicasGtid = Begins (planner.Gtids gtid.MoveReplicasGtid)
+route_of name.EnableGtid = Begins (planner.Gtids gtid.EnableGtid)
+route_of name.DisableGtid = Begins (planner.Gtids gtid.DisableGtid)
+route_of name.Relocate = Begins (planner.Paths path.Relocate)
+route_of name.RelocateReplicas = Begins (planner.Paths path.RelocateReplicas)
+route_of name.RegroupReplicas = Begins (planner.Regroups regrouping.ByBridges)
+route_of name.Match = Begins (planner.Matches matching.Match)
+route_of name.MatchUp = Begins (planner.Matches matching.MatchUp)
+route_of name.MatchReplicas = Begins (planner.Matches matching.MatchReplicas)
+route_of name.RegroupReplicasPgtid = Begins (planner.Regroups regrouping.ByMatches)
+route_of name.DetachReplica = Begins (planner.Coordinates coords.DetachReplica)
+route_of name.ReattachReplica = Begins (planner.Coordinates coords.ReattachReplica)
+route_of name.ResetReplica = Begins (planner.Coordinates coords.ResetReplica)
+route_of name.StartReplica = Begins (planner.Coordinates coords.StartReplica)
+route_of name.StopReplica = Begins (planner.Coordinates coords.StopReplica)
+route_of name.RestartReplica = Begins (planner.Coordinates coords.RestartReplica)
+route_of name.SetReadOnly = Begins (planner.Coordinates coords.SetReadOnly)
+route_of name.SetWriteable = Begins (planner.Coordinates coords.SetWriteable)
 route_of name.Discover = Discovers
 route_of name.Forget = Forgets
 route_of name.BeginDowntime = Decides decision.BeginDowntime
@@ -66,10 +76,38 @@ planner_of (Begins planner) = Some planner
 planner_of Recovers = None
 planner_of TakesOver = None
 
--- run, or the word of a command
+-- the commands that match logs aren't built
+abbrev pub is_built_regrouping : Regrouping → Bool
+is_built_regrouping regrouping.ByBridges = true
+is_built_regrouping regrouping.ByMatches = false
+
+abbrev pub is_built_planner : Planner → Bool
+is_built_planner (planner.Coordinates c) = true
+is_built_planner (planner.Gtids c) = true
+is_built_planner (planner.Paths c) = true
+is_built_planner (planner.Regroups c) = is_built_regrouping c
+is_built_planner (planner.Matches c) = false
+
+abbrev pub is_built_route : Route → Bool
+is_built_route Discovers = true
+is_built_route Forgets = true
+is_built_route (Asks question) = true
+is_built_route (Decides decision) = true
+is_built_route (Begins planner) = is_built_planner planner
+is_built_route Recovers = true
+is_built_route TakesOver = true
+
+abbrev pub is_built_name : CommandName → Bool
+is_built_name n = is_built_route (route_of n)
+
+abbrev pub is_built_found : Option CommandName → Bool
+is_built_found None = false
+is_built_found (Some n) = is_built_name n
+
+-- run, or the word of a command that is built
 abbrev pub is_built_command : List ℕ → Bool
-is_built_command word = bytes_eq word (codes "run") || is_some (name_of word)
+is_built_command word = bytes_eq word (codes "run") || is_built_found (name_of word)
 
 -- run, or such a word
 abbrev pub IsBuiltWord : List ℕ → Type 0
-IsBuiltWord text = (text ≡ codes "run") ⊎ ((name : CommandName) × (text ≡ word_of name))
+IsBuiltWord text = (text ≡ codes "run") ⊎ ((name : CommandName) × (is_built_name name ≡ true) × (text ≡ word_of name))

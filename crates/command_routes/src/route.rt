@@ -1,8 +1,9 @@
 //! What a command does.
 
 ghost use Rattle.std.specs.Prelude.{◌≡◌};
-ghost use Rattle.command_routes.specs.Routes.{is_built_command, planner_of, route_of};
+ghost use Rattle.command_routes.specs.Routes.{is_built_command, is_built_name, is_built_planner, is_built_route, planner_of, route_of};
 
+use crate::kinds::{CoordsCommand, GtidCommand, MatchCommand, PathCommand, Regrouping};
 use commands::CommandName;
 
 /// What a command asks the book or the audit.
@@ -49,17 +50,19 @@ pub enum Decision {
     AckRecoveries,
 }
 
-/// Which commands' permission and plan a job goes by.
+/// Which commands' permission and plan a job goes by, and which of them the command is.
 #[derive(Clone, Copy, Debug, PartialEq, Eq)]
 pub enum Planner {
     /// The commands that move or change servers by binary log coordinates.
-    Coordinates,
+    Coordinates(CoordsCommand),
     /// The commands that move servers by GTIDs, or have them find their places by them.
-    Gtids,
+    Gtids(GtidCommand),
     /// The commands that take servers below another one by whatever path.
-    Paths,
-    /// The command that takes replicas of one server below the best of them.
-    Regroups,
+    Paths(PathCommand),
+    /// The commands that take replicas of one server below the best of them.
+    Regroups(Regrouping),
+    /// The commands that take servers below another one where their logs match.
+    Matches(MatchCommand),
 }
 
 /// What a command does.
@@ -106,26 +109,61 @@ impl Route {
             CommandName::DisableGlobalRecoveries => Route::Decides(Decision::DisableRecoveries),
             CommandName::EnableGlobalRecoveries => Route::Decides(Decision::EnableRecoveries),
             CommandName::AckClusterRecoveries => Route::Decides(Decision::AckRecoveries),
-            CommandName::MoveUp
-            | CommandName::MoveUpReplicas
-            | CommandName::MoveBelow
-            | CommandName::Repoint
-            | CommandName::TakeSiblings
-            | CommandName::TakeMaster
-            | CommandName::DetachReplica
-            | CommandName::ReattachReplica
-            | CommandName::ResetReplica
-            | CommandName::StartReplica
-            | CommandName::StopReplica
-            | CommandName::RestartReplica
-            | CommandName::SetReadOnly
-            | CommandName::SetWriteable => Route::Begins(Planner::Coordinates),
-            CommandName::MoveGtid
-            | CommandName::MoveReplicasGtid
-            | CommandName::EnableGtid
-            | CommandName::DisableGtid => Route::Begins(Planner::Gtids),
-            CommandName::Relocate | CommandName::RelocateReplicas => Route::Begins(Planner::Paths),
-            CommandName::RegroupReplicas => Route::Begins(Planner::Regroups),
+            CommandName::MoveUp => Route::Begins(Planner::Coordinates(CoordsCommand::MoveUp)),
+            CommandName::MoveUpReplicas => Route::Begins(Planner::Coordinates(
+                CoordsCommand::MoveUpReplicas,
+            )),
+            CommandName::MoveBelow => Route::Begins(Planner::Coordinates(CoordsCommand::MoveBelow)),
+            CommandName::Repoint => Route::Begins(Planner::Coordinates(CoordsCommand::Repoint)),
+            CommandName::TakeSiblings => Route::Begins(Planner::Coordinates(
+                CoordsCommand::TakeSiblings,
+            )),
+            CommandName::TakeMaster => Route::Begins(Planner::Coordinates(
+                CoordsCommand::TakeMaster,
+            )),
+            CommandName::DetachReplica => Route::Begins(Planner::Coordinates(
+                CoordsCommand::DetachReplica,
+            )),
+            CommandName::ReattachReplica => Route::Begins(Planner::Coordinates(
+                CoordsCommand::ReattachReplica,
+            )),
+            CommandName::ResetReplica => Route::Begins(Planner::Coordinates(
+                CoordsCommand::ResetReplica,
+            )),
+            CommandName::StartReplica => Route::Begins(Planner::Coordinates(
+                CoordsCommand::StartReplica,
+            )),
+            CommandName::StopReplica => Route::Begins(Planner::Coordinates(
+                CoordsCommand::StopReplica,
+            )),
+            CommandName::RestartReplica => Route::Begins(Planner::Coordinates(
+                CoordsCommand::RestartReplica,
+            )),
+            CommandName::SetReadOnly => Route::Begins(Planner::Coordinates(
+                CoordsCommand::SetReadOnly,
+            )),
+            CommandName::SetWriteable => Route::Begins(Planner::Coordinates(
+                CoordsCommand::SetWriteable,
+            )),
+            CommandName::MoveGtid => Route::Begins(Planner::Gtids(GtidCommand::MoveGtid)),
+            CommandName::MoveReplicasGtid => Route::Begins(Planner::Gtids(
+                GtidCommand::MoveReplicasGtid,
+            )),
+            CommandName::EnableGtid => Route::Begins(Planner::Gtids(GtidCommand::EnableGtid)),
+            CommandName::DisableGtid => Route::Begins(Planner::Gtids(GtidCommand::DisableGtid)),
+            CommandName::Relocate => Route::Begins(Planner::Paths(PathCommand::Relocate)),
+            CommandName::RelocateReplicas => Route::Begins(Planner::Paths(
+                PathCommand::RelocateReplicas,
+            )),
+            CommandName::RegroupReplicas => Route::Begins(Planner::Regroups(Regrouping::ByBridges)),
+            CommandName::RegroupReplicasPgtid => Route::Begins(Planner::Regroups(
+                Regrouping::ByMatches,
+            )),
+            CommandName::Match => Route::Begins(Planner::Matches(MatchCommand::Match)),
+            CommandName::MatchUp => Route::Begins(Planner::Matches(MatchCommand::MatchUp)),
+            CommandName::MatchReplicas => Route::Begins(Planner::Matches(
+                MatchCommand::MatchReplicas,
+            )),
             CommandName::Recover => Route::Recovers,
             CommandName::GracefulMasterTakeover => Route::TakesOver,
         }
@@ -147,9 +185,53 @@ impl Route {
     }
 }
 
-/// Whether a command of this word is built: `run`, and each command. It takes no memory.
+impl Planner {
+    /// Whether the command is built: all are, but those that match logs.
+    pub fn is_built(self) -> bool
+        ensures { result ≡ is_built_planner self }
+    {
+        match self {
+            Planner::Coordinates(_)
+            | Planner::Gtids(_)
+            | Planner::Paths(_)
+            | Planner::Regroups(Regrouping::ByBridges) => true,
+            Planner::Regroups(Regrouping::ByMatches) | Planner::Matches(_) => false,
+        }
+    }
+}
+
+impl Route {
+    /// Whether the command is built.
+    pub fn is_built(self) -> bool
+        ensures { result ≡ is_built_route self }
+    {
+        match self {
+            Route::Begins(planner) => planner.is_built(),
+            Route::Discovers
+            | Route::Forgets
+            | Route::Asks(_)
+            | Route::Decides(_)
+            | Route::Recovers
+            | Route::TakesOver => true,
+        }
+    }
+}
+
+fn is_built_name(name: CommandName) -> bool
+    ensures { result ≡ is_built_name name }
+{
+    Route::of(name).is_built()
+}
+
+/// Whether a command of this word is built: `run`, and each command but those that match logs. It takes no memory.
 pub fn is_built_command(word: &str) -> bool
     ensures { result ≡ is_built_command word.now }
 {
-    word == "run" || CommandName::read(word).is_some()
+    if word == "run" {
+        return true;
+    }
+    match CommandName::read(word) {
+        Some(name) => is_built_name(name),
+        None => false,
+    }
 }

@@ -5,7 +5,7 @@ use Rattle.std.specs.Str.{bytes_eq}
 use Rattle.std.specs.Cmp.Lexicographic.{same_text}
 use Rattle.std.proofs.lemmas.Option.{same_Some}
 use Rattle.commands.specs.declared.name.CommandName.{CommandName}
-use Rattle.commands.specs.declared.name.CommandName.TheVariants.{MoveUp, MoveUpReplicas, MoveBelow, Repoint, TakeSiblings, TakeMaster, MoveGtid, MoveReplicasGtid, EnableGtid, DisableGtid, Relocate, RelocateReplicas, RegroupReplicas, DetachReplica, ReattachReplica, ResetReplica, StartReplica, StopReplica, RestartReplica, SetReadOnly, SetWriteable, Discover, Forget, BeginDowntime, EndDowntime, RegisterCandidate, Recover, GracefulMasterTakeover, AckClusterRecoveries, Topology, WhichMaster, WhichReplicas, WhichCluster, WhichClusterInstances, Clusters, AllInstances, Find, ReplicationAnalysis, AuditRecoveries, DisableGlobalRecoveries, EnableGlobalRecoveries, CheckGlobalRecoveries}
+use Rattle.commands.specs.declared.name.CommandName.TheVariants.{MoveUp, MoveUpReplicas, MoveBelow, Repoint, TakeSiblings, TakeMaster, MoveGtid, MoveReplicasGtid, EnableGtid, DisableGtid, Relocate, RelocateReplicas, RegroupReplicas, Match, MatchUp, MatchReplicas, RegroupReplicasPgtid, DetachReplica, ReattachReplica, ResetReplica, StartReplica, StopReplica, RestartReplica, SetReadOnly, SetWriteable, Discover, Forget, BeginDowntime, EndDowntime, RegisterCandidate, Recover, GracefulMasterTakeover, AckClusterRecoveries, Topology, WhichMaster, WhichReplicas, WhichCluster, WhichClusterInstances, Clusters, AllInstances, Find, ReplicationAnalysis, AuditRecoveries, DisableGlobalRecoveries, EnableGlobalRecoveries, CheckGlobalRecoveries}
 use Rattle.commands.specs.Names.{name_of, names, word_of}
 
 pub name_of-word_of : (name : CommandName) → name_of (word_of name) ≡ Some name
@@ -23,6 +23,10 @@ name_of-word_of DisableGtid = refl
 name_of-word_of Relocate = refl
 name_of-word_of RelocateReplicas = refl
 name_of-word_of RegroupReplicas = refl
+name_of-word_of Match = refl
+name_of-word_of MatchUp = refl
+name_of-word_of MatchReplicas = refl
+name_of-word_of RegroupReplicasPgtid = refl
 name_of-word_of DetachReplica = refl
 name_of-word_of ReattachReplica = refl
 name_of-word_of ResetReplica = refl

@@ -14,3 +14,7 @@ cause_name (cause.Errant n set) = named.Errant
 cause_name (cause.Moved n source) = named.Moved
 cause_name (cause.Reachable n) = named.Reachable
 cause_name cause.NoCandidate = named.NoCandidate
+cause_name (cause.Purged n first) = named.Purged
+cause_name (cause.NoMark n) = named.NoMark
+cause_name (cause.Mismatch n entry) = named.Mismatch
+cause_name (cause.HookFailed number exit) = named.HookFailed

@@ -2,7 +2,7 @@
 use Rattle.std.specs.Prelude.{ℕ, Bool, true, false, ◌&&◌, ◌||◌, not, List, [], ◌∷◌, codes, find, Option}
 use Rattle.std.specs.Str.{bytes_eq}
 use Rattle.commands.specs.declared.name.CommandName.{CommandName}
-use Rattle.commands.specs.declared.name.CommandName.TheVariants.{MoveUp, MoveUpReplicas, MoveBelow, Repoint, TakeSiblings, TakeMaster, MoveGtid, MoveReplicasGtid, EnableGtid, DisableGtid, Relocate, RelocateReplicas, RegroupReplicas, DetachReplica, ReattachReplica, ResetReplica, StartReplica, StopReplica, RestartReplica, SetReadOnly, SetWriteable, Discover, Forget, BeginDowntime, EndDowntime, RegisterCandidate, Recover, GracefulMasterTakeover, AckClusterRecoveries, Topology, WhichMaster, WhichReplicas, WhichCluster, WhichClusterInstances, Clusters, AllInstances, Find, ReplicationAnalysis, AuditRecoveries, DisableGlobalRecoveries, EnableGlobalRecoveries, CheckGlobalRecoveries}
+use Rattle.commands.specs.declared.name.CommandName.TheVariants.{MoveUp, MoveUpReplicas, MoveBelow, Repoint, TakeSiblings, TakeMaster, MoveGtid, MoveReplicasGtid, EnableGtid, DisableGtid, Relocate, RelocateReplicas, RegroupReplicas, Match, MatchUp, MatchReplicas, RegroupReplicasPgtid, DetachReplica, ReattachReplica, ResetReplica, StartReplica, StopReplica, RestartReplica, SetReadOnly, SetWriteable, Discover, Forget, BeginDowntime, EndDowntime, RegisterCandidate, Recover, GracefulMasterTakeover, AckClusterRecoveries, Topology, WhichMaster, WhichReplicas, WhichCluster, WhichClusterInstances, Clusters, AllInstances, Find, ReplicationAnalysis, AuditRecoveries, DisableGlobalRecoveries, EnableGlobalRecoveries, CheckGlobalRecoveries}
 use Rattle.commands.specs.declared.needs.Needs.{Needs}
 use Rattle.commands.specs.declared.needs.Uses.{Uses}
 
@@ -21,6 +21,10 @@ word_of DisableGtid = codes "disable-gtid"
 word_of Relocate = codes "relocate"
 word_of RelocateReplicas = codes "relocate-replicas"
 word_of RegroupReplicas = codes "regroup-replicas"
+word_of Match = codes "match"
+word_of MatchUp = codes "match-up"
+word_of MatchReplicas = codes "match-replicas"
+word_of RegroupReplicasPgtid = codes "regroup-replicas-pgtid"
 word_of DetachReplica = codes "detach-replica"
 word_of ReattachReplica = codes "reattach-replica"
 word_of ResetReplica = codes "reset-replica"
@@ -53,7 +57,7 @@ word_of CheckGlobalRecoveries = codes "check-global-recoveries"
 
 -- all commands
 abbrev pub names : List CommandName
-names = MoveUp ∷ MoveUpReplicas ∷ MoveBelow ∷ Repoint ∷ TakeSiblings ∷ TakeMaster ∷ MoveGtid ∷ MoveReplicasGtid ∷ EnableGtid ∷ DisableGtid ∷ Relocate ∷ RelocateReplicas ∷ RegroupReplicas ∷ DetachReplica ∷ ReattachReplica ∷ ResetReplica ∷ StartReplica ∷ StopReplica ∷ RestartReplica ∷ SetReadOnly ∷ SetWriteable ∷ Discover ∷ Forget ∷ BeginDowntime ∷ EndDowntime ∷ RegisterCandidate ∷ Recover ∷ GracefulMasterTakeover ∷ AckClusterRecoveries ∷ Topology ∷ WhichMaster ∷ WhichReplicas ∷ WhichCluster ∷ WhichClusterInstances ∷ Clusters ∷ AllInstances ∷ Find ∷ ReplicationAnalysis ∷ AuditRecoveries ∷ DisableGlobalRecoveries ∷ EnableGlobalRecoveries ∷ CheckGlobalRecoveries ∷ []
+names = MoveUp ∷ MoveUpReplicas ∷ MoveBelow ∷ Repoint ∷ TakeSiblings ∷ TakeMaster ∷ MoveGtid ∷ MoveReplicasGtid ∷ EnableGtid ∷ DisableGtid ∷ Relocate ∷ RelocateReplicas ∷ RegroupReplicas ∷ Match ∷ MatchUp ∷ MatchReplicas ∷ RegroupReplicasPgtid ∷ DetachReplica ∷ ReattachReplica ∷ ResetReplica ∷ StartReplica ∷ StopReplica ∷ RestartReplica ∷ SetReadOnly ∷ SetWriteable ∷ Discover ∷ Forget ∷ BeginDowntime ∷ EndDowntime ∷ RegisterCandidate ∷ Recover ∷ GracefulMasterTakeover ∷ AckClusterRecoveries ∷ Topology ∷ WhichMaster ∷ WhichReplicas ∷ WhichCluster ∷ WhichClusterInstances ∷ Clusters ∷ AllInstances ∷ Find ∷ ReplicationAnalysis ∷ AuditRecoveries ∷ DisableGlobalRecoveries ∷ EnableGlobalRecoveries ∷ CheckGlobalRecoveries ∷ []
 
 -- the command of a word
 unfoldable pub name_of : List ℕ → Option CommandName
@@ -77,6 +81,10 @@ needs_of DisableGtid = record nothing { i = true }
 needs_of Relocate = record nothing { i = true; d = true }
 needs_of RelocateReplicas = record nothing { i = true; d = true }
 needs_of RegroupReplicas = record nothing { i = true }
+needs_of Match = record nothing { i = true; d = true }
+needs_of MatchUp = record nothing { i = true }
+needs_of MatchReplicas = record nothing { i = true; d = true }
+needs_of RegroupReplicasPgtid = record nothing { i = true }
 needs_of DetachReplica = record nothing { i = true }
 needs_of ReattachReplica = record nothing { i = true }
 needs_of ResetReplica = record nothing { i = true }
@@ -125,6 +133,10 @@ uses_of DisableGtid = record unused { i = true }
 uses_of Relocate = record unused { i = true; d = true }
 uses_of RelocateReplicas = record unused { i = true; d = true }
 uses_of RegroupReplicas = record unused { i = true }
+uses_of Match = record unused { i = true; d = true }
+uses_of MatchUp = record unused { i = true }
+uses_of MatchReplicas = record unused { i = true; d = true }
+uses_of RegroupReplicasPgtid = record unused { i = true }
 uses_of DetachReplica = record unused { i = true }
 uses_of ReattachReplica = record unused { i = true }
 uses_of ResetReplica = record unused { i = true }

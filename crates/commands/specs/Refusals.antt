@@ -1,7 +1,7 @@
 -- The refusals' numbers.
 use Rattle.std.specs.Prelude.{ℕ}
 use Rattle.commands.specs.declared.refusal.Refusal.{Refusal}
-use Rattle.commands.specs.declared.refusal.Refusal.TheVariants.{UnknownInstance, SameInstance, Busy, Unreachable, NoSource, NotDetached, AlreadyDetached, OtherCluster, Below, SourceHasNoSource, NotSibling, NotSameLog, DestNotLogging, SameServerId, VersionLower, GtidOff, Errant, NoPath, NotActionable, GloballyDisabled, Downtimed, FilteredOut, OpenRecovery, Blocked, NoCandidate, NotMaster, NotReplica, NotQuiet}
+use Rattle.commands.specs.declared.refusal.Refusal.TheVariants.{UnknownInstance, SameInstance, Busy, Unreachable, NoSource, NotDetached, AlreadyDetached, OtherCluster, Below, SourceHasNoSource, NotSibling, NotSameLog, DestNotLogging, SameServerId, VersionLower, GtidOff, Errant, NoPath, NotActionable, GloballyDisabled, Downtimed, FilteredOut, OpenRecovery, Blocked, NoCandidate, NotMaster, NotReplica, NotQuiet, Purged, PseudoOff, MovedNotLogging}
 
 abbrev pub number_of : Refusal → ℕ
 number_of UnknownInstance = 2
@@ -32,3 +32,6 @@ number_of NoCandidate = 26
 number_of NotMaster = 27
 number_of NotReplica = 28
 number_of (NotQuiet count) = 29
+number_of (Purged server first) = 30
+number_of PseudoOff = 31
+number_of (MovedNotLogging server) = 32

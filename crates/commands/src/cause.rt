@@ -33,6 +33,19 @@ pub enum Cause {
     Reachable(ServerNo),
     /// No replica may be promoted.
     NoCandidate,
+    /// This server was to go on in a file that its new source has purged; the new source keeps its log from this file
+    /// on.
+    Purged(ServerNo, u32),
+    /// This server's log has no mark by which it could be matched, or its new source's log lacks the last one.
+    NoMark(ServerNo),
+    /// This server's log differs from its new source's at this entry, counted from 1, behind the mark by which they
+    /// were matched.
+    Mismatch(ServerNo, u64),
+    /// The hook of this number, counted from 1, that ran before the recovery had this exit, which isn't 0.
+    HookFailed {
+        number: u32,
+        exit: u8,
+    },
 }
 
 impl Cause {
@@ -50,6 +63,10 @@ impl Cause {
             Cause::Moved(_, _) => CauseName::Moved,
             Cause::Reachable(_) => CauseName::Reachable,
             Cause::NoCandidate => CauseName::NoCandidate,
+            Cause::Purged(_, _) => CauseName::Purged,
+            Cause::NoMark(_) => CauseName::NoMark,
+            Cause::Mismatch(_, _) => CauseName::Mismatch,
+            Cause::HookFailed { .. } => CauseName::HookFailed,
         }
     }
 
@@ -75,6 +92,13 @@ impl Cause {
             Cause::Moved(no, source) => Cause::Moved(*no, *source),
             Cause::Reachable(no) => Cause::Reachable(*no),
             Cause::NoCandidate => Cause::NoCandidate,
+            Cause::Purged(no, first) => Cause::Purged(*no, *first),
+            Cause::NoMark(no) => Cause::NoMark(*no),
+            Cause::Mismatch(no, entry) => Cause::Mismatch(*no, *entry),
+            Cause::HookFailed { number, exit } => Cause::HookFailed {
+                number: *number,
+                exit: *exit,
+            },
         })
     }
 }

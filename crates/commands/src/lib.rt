@@ -18,7 +18,7 @@ mod value;
 pub use boxed::BoxedSet;
 pub use cause::Cause;
 pub use laws::{needed_keys_are_used, words_are_read};
-pub use line::{Line, Lines, Lost, RecoveryLine, StateWord};
+pub use line::{HookPhase, Line, Lines, Lost, RecoveryLine, StateWord};
 pub use name::CommandName;
 pub use needs::{Needs, Uses};
 /// Want of memory.

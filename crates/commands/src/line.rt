@@ -2,7 +2,7 @@
 
 ghost use Rattle.std.specs.Prelude.{◌≡◌, ◌↔◌, IfOk, IsTrue};
 
-use crate::{Memory, Refusal};
+use crate::{Cause, Memory, Refusal};
 use binlog_coords::Coord;
 use orch_base::{Code, Ending, Kind, Moment, OwnedText, Rule, ServerNo, Version};
 use server_words::Spot;
@@ -29,6 +29,8 @@ pub enum Lost {
     Ahead(Coord),
     /// It executed less of the failed server's log than the promoted one: up to here.
     Behind(Coord),
+    /// It was to go on at this coordinate, in a file that its new source has purged; by GTIDs, it executed up to here.
+    Purged(Coord),
     /// It wasn't reached.
     Unreachable,
     /// It stands elsewhere than below the failed server.
@@ -37,6 +39,17 @@ pub enum Lost {
     NotLogging,
     /// Its rule of promotion is `must_not`.
     MustNot,
+}
+
+/// When a hook of a recovery runs (orchestrator's documentation, "Recovery hooks").
+#[derive(Clone, Copy, Debug, PartialEq, Eq)]
+pub enum HookPhase {
+    /// `pre_failover`: before the recovery; an exit that isn't 0 ends it.
+    PreFailover,
+    /// `post_failover`: when the recovery is done.
+    PostFailover,
+    /// `post_unsuccessful`: when the recovery failed.
+    PostUnsuccessful,
 }
 
 /// What a line says of a recovery.
@@ -148,6 +161,18 @@ pub enum Line {
         code: Code,
         refusal: Refusal,
     },
+    /// A hook of a recovery ran.
+    Hook {
+        phase: HookPhase,
+        /// What ran, with the values in place of its words.
+        text: OwnedText,
+        exit: u8,
+    },
+    /// A replica wasn't matched or attached, for this cause.
+    Unmatched {
+        no: ServerNo,
+        why: Cause,
+    },
 }
 
 impl Line {
@@ -214,6 +239,15 @@ impl Line {
                 no: *no,
                 code: *code,
                 refusal: refusal.copy(alloc)?,
+            },
+            Line::Hook { phase, text, exit } => Line::Hook {
+                phase: *phase,
+                text: text.copy(alloc)?,
+                exit: *exit,
+            },
+            Line::Unmatched { no, why } => Line::Unmatched {
+                no: *no,
+                why: why.copy(alloc)?,
             },
         })
     }

@@ -33,6 +33,14 @@ pub enum CommandName {
     RelocateReplicas,
     /// `regroup-replicas`: a server's replicas go below the one of them that is furthest on.
     RegroupReplicas,
+    /// `match`: a server goes below another where their logs match.
+    Match,
+    /// `match-up`: a replica goes up, to its source's source, where their logs match.
+    MatchUp,
+    /// `match-replicas`: a server's replicas go below another where their logs match.
+    MatchReplicas,
+    /// `regroup-replicas-pgtid`: a server's replicas go below the one of them that is furthest on, where logs match.
+    RegroupReplicasPgtid,
     /// `detach-replica`: a replica is detached from its source.
     DetachReplica,
     /// `reattach-replica`: a detached replica goes back to its source.
@@ -93,7 +101,7 @@ pub enum CommandName {
     CheckGlobalRecoveries,
 }
 
-const NAMES: [CommandName; 42] = [
+const NAMES: [CommandName; 46] = [
     CommandName::MoveUp,
     CommandName::MoveUpReplicas,
     CommandName::MoveBelow,
@@ -107,6 +115,10 @@ const NAMES: [CommandName; 42] = [
     CommandName::Relocate,
     CommandName::RelocateReplicas,
     CommandName::RegroupReplicas,
+    CommandName::Match,
+    CommandName::MatchUp,
+    CommandName::MatchReplicas,
+    CommandName::RegroupReplicasPgtid,
     CommandName::DetachReplica,
     CommandName::ReattachReplica,
     CommandName::ResetReplica,
@@ -165,6 +177,10 @@ impl CommandName {
             CommandName::Relocate => "relocate",
             CommandName::RelocateReplicas => "relocate-replicas",
             CommandName::RegroupReplicas => "regroup-replicas",
+            CommandName::Match => "match",
+            CommandName::MatchUp => "match-up",
+            CommandName::MatchReplicas => "match-replicas",
+            CommandName::RegroupReplicasPgtid => "regroup-replicas-pgtid",
             CommandName::DetachReplica => "detach-replica",
             CommandName::ReattachReplica => "reattach-replica",
             CommandName::ResetReplica => "reset-replica",

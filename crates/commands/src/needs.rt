@@ -65,6 +65,8 @@ impl CommandName {
             | CommandName::MoveReplicasGtid
             | CommandName::Relocate
             | CommandName::RelocateReplicas
+            | CommandName::Match
+            | CommandName::MatchReplicas
             | CommandName::GracefulMasterTakeover => Needs {
                 i: true,
                 d: true,
@@ -94,6 +96,8 @@ impl CommandName {
             | CommandName::EnableGtid
             | CommandName::DisableGtid
             | CommandName::RegroupReplicas
+            | CommandName::MatchUp
+            | CommandName::RegroupReplicasPgtid
             | CommandName::DetachReplica
             | CommandName::ReattachReplica
             | CommandName::ResetReplica
@@ -127,6 +131,8 @@ impl CommandName {
             | CommandName::MoveReplicasGtid
             | CommandName::Relocate
             | CommandName::RelocateReplicas
+            | CommandName::Match
+            | CommandName::MatchReplicas
             | CommandName::GracefulMasterTakeover
             | CommandName::Repoint => Uses {
                 i: true,
@@ -163,6 +169,8 @@ impl CommandName {
             | CommandName::EnableGtid
             | CommandName::DisableGtid
             | CommandName::RegroupReplicas
+            | CommandName::MatchUp
+            | CommandName::RegroupReplicasPgtid
             | CommandName::DetachReplica
             | CommandName::ReattachReplica
             | CommandName::ResetReplica

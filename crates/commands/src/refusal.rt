@@ -66,6 +66,13 @@ pub enum Refusal {
     NotReplica,
     /// 29: so many errant writes were counted.
     NotQuiet(u64),
+    /// 30: this server, the new source, was seen to have purged what a server that moves lacks; it keeps its log from
+    /// this file on.
+    Purged(ServerNo, u32),
+    /// 31: no transaction is a mark by which logs could be matched.
+    PseudoOff,
+    /// 32: this server, which moves, writes no binary log.
+    MovedNotLogging(ServerNo),
 }
 
 impl Refusal {
@@ -102,6 +109,9 @@ impl Refusal {
             Refusal::NotMaster => 27,
             Refusal::NotReplica => 28,
             Refusal::NotQuiet(_) => 29,
+            Refusal::Purged(_, _) => 30,
+            Refusal::PseudoOff => 31,
+            Refusal::MovedNotLogging(_) => 32,
         }
     }
 
@@ -138,6 +148,9 @@ impl Refusal {
             Refusal::NotMaster => Refusal::NotMaster,
             Refusal::NotReplica => Refusal::NotReplica,
             Refusal::NotQuiet(count) => Refusal::NotQuiet(*count),
+            Refusal::Purged(no, first) => Refusal::Purged(*no, *first),
+            Refusal::PseudoOff => Refusal::PseudoOff,
+            Refusal::MovedNotLogging(no) => Refusal::MovedNotLogging(*no),
         })
     }
 }

@@ -24,6 +24,10 @@ fn takes_any(name: CommandName) -> bool
         | CommandName::Relocate
         | CommandName::RelocateReplicas
         | CommandName::RegroupReplicas
+        | CommandName::Match
+        | CommandName::MatchUp
+        | CommandName::MatchReplicas
+        | CommandName::RegroupReplicasPgtid
         | CommandName::DetachReplica
         | CommandName::ReattachReplica
         | CommandName::ResetReplica

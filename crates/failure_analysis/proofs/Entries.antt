@@ -14,7 +14,7 @@ use Rattle.std.proofs.lemmas.List.{append-nil, take_more}
 use Rattle.std.proofs.lemmas.List.Elements.{filter_map-append}
 use Rattle.orch_base.specs.declared.server.ServerNo.{ServerNo}
 use Rattle.instance_keeper.specs.Book.{BookState, IsBook, instance_at}
-use Rattle.instance_keeper.specs.declared.observation.Instance.{Instance}
+use Rattle.kept_rows.specs.declared.observation.Instance.{Instance}
 use Rattle.failure_analysis.specs.declared.entry.Entry.{Entry}
 use Rattle.failure_analysis.specs.declared.tally.Tally.{Tally}
 use Rattle.failure_analysis.specs.Analysis.{count_of, entry_at, entry_of, is_any, is_replica_that}

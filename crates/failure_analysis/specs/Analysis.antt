@@ -6,7 +6,7 @@ use Rattle.orch_base.specs.declared.server.IoState.TheVariants as io
 use Rattle.orch_base.specs.declared.server.ServerNo.{ServerNo}
 use Rattle.name_order.specs.NameOrder.{by_name}
 use Rattle.instance_keeper.specs.Book.{BookState, instance_at}
-use Rattle.instance_keeper.specs.declared.observation.Instance.{Instance}
+use Rattle.kept_rows.specs.declared.observation.Instance.{Instance}
 use Rattle.book_views.specs.Sources.{is_attached_to, source_in}
 use Rattle.failure_analysis.specs.declared.code.Counts.{Counts}
 use Rattle.failure_analysis.specs.declared.entry.Entry.{Entry}

@@ -2,7 +2,7 @@
 
 ghost use Rattle.std.specs.Prelude.{◌≡◌, ◌↔◌, All, Bool, List, count_by, false, filter, length, map, true};
 ghost use Rattle.instance_keeper.specs.Book.{BookState, IsBook};
-ghost use Rattle.instance_keeper.specs.declared.observation.Instance.{Instance};
+ghost use Rattle.kept_rows.specs.declared.observation.Instance.{Instance};
 ghost use Rattle.name_order.specs.NameOrder.{by_name};
 ghost use Rattle.orch_base.specs.declared.code.Code.{Code as ACode};
 ghost use Rattle.orch_base.specs.declared.server.ServerNo.{ServerNo};

@@ -5,20 +5,21 @@ use Rattle.std.specs.List.{AllPairs}
 use Rattle.std.specs.Option.{option_to_list}
 use Rattle.std.proofs.lemmas.Bool.{false≢true}
 use Rattle.std.proofs.lemmas.List.Elements.{All-nil, All-cons, All-weaker, All-append}
-use Rattle.instance_keeper.specs.declared.row.Row.{Row}
-use Rattle.instance_keeper.specs.declared.row.Row.TheVariants as row
-use Rattle.instance_keeper.specs.declared.row.Table.{Table}
-use Rattle.instance_keeper.specs.declared.row.Table.TheVariants as table
-use Rattle.instance_keeper.specs.declared.row.Key.{Key}
-use Rattle.instance_keeper.specs.declared.row.Key.TheVariants as key
-use Rattle.instance_keeper.specs.declared.row.Change.{Change}
-use Rattle.instance_keeper.specs.declared.row.Change.TheVariants as change
-use Rattle.instance_keeper.specs.Rows.{sort_key, sort_key_of, put, remove, changed_by, IsRising}
-use Rattle.instance_keeper.specs.Ranges.{IsKeyInRange, IsInRange}
-use Rattle.instance_keeper.specs.Book.{BookState, IsBook, are_known, row_fits, fits, is_of_book, source_servers, key_servers, after_put, after_removal, after_change, book_rows}
-use Rattle.instance_keeper.proofs.Lists.{pairs_append}
-use Rattle.instance_keeper.proofs.SortKeys.{put_middle, remove_middle}
-use Rattle.instance_keeper.proofs.Books.{both_true, head_known}
+use Rattle.kept_rows.specs.declared.row.Row.{Row}
+use Rattle.kept_rows.specs.declared.row.Row.TheVariants as row
+use Rattle.kept_rows.specs.declared.row.Table.{Table}
+use Rattle.kept_rows.specs.declared.row.Table.TheVariants as table
+use Rattle.kept_rows.specs.declared.row.Key.{Key}
+use Rattle.kept_rows.specs.declared.row.Key.TheVariants as key
+use Rattle.kept_rows.specs.declared.row.Change.{Change}
+use Rattle.kept_rows.specs.declared.row.Change.TheVariants as change
+use Rattle.kept_rows.specs.Rows.{sort_key, sort_key_of, put, remove, changed_by, IsRising}
+use Rattle.kept_rows.specs.Ranges.{IsKeyInRange, IsInRange}
+use Rattle.kept_rows.specs.Servers.{are_known, row_fits, fits, is_of_book, source_servers, key_servers}
+use Rattle.instance_keeper.specs.Book.{BookState, IsBook, after_put, after_removal, after_change, book_rows}
+use Rattle.kept_rows.proofs.Lists.{pairs_append}
+use Rattle.kept_rows.proofs.SortKeys.{put_middle, remove_middle}
+use Rattle.kept_rows.proofs.Known.{both_true, head_known}
 use Rattle.instance_keeper.proofs.BookRows.{rows_low, rows_high, rows_rise, table_put, table_remove}
 
 abbrev pub Low : ℕ → List Row → Type 0
@@ -165,6 +166,7 @@ module _ (b : BookState) (is : IsBook b) where
       ∙ (table_put row.Candidate (λ c. c.no) (3 * 2 ^ 65) (λ a. refl) b.candidates c.no.0 is.candidate_numbers (in_third c.no.0 known) (first ++ second) last (before_third c.no.0 known) (behind_third c.no.0 known) c refl
       ∙ ap (λ l. put l (row.Candidate c)) (sym (third_assoc third)))
   book_put (row.Recovery r) h = absurd (false≢true h)
+  book_put (row.Active node until) h = absurd (false≢true h)
   book_put (row.Switch e) h =
       last_assoc (row.Switch e ∷ [])
       ∙ sym (ap (λ l. put l (row.Switch e)) (last_assoc last ∙ ap (λ l. ((first ++ second) ++ third) ++ l) (sym (append-nil last)))
@@ -193,17 +195,29 @@ module _ (b : BookState) (is : IsBook b) where
       (high_more (3 * 2 ^ 65 + 2 ^ 32) (sort_key t k) ((first ++ second) ++ third) low to_third) (All-nil (λ r. sort_key_of r ≡ sort_key t k))
       (above (5 * 2 ^ 65 + (2 ^ 32 + 2 ^ 64)) (sort_key t k) last high (last_low (5 * 2 ^ 65 + (2 ^ 32 + 2 ^ 64)) (omega arith))) t k refl)
 
+  last_none : (t : Table) (k : Key) → 5 * 2 ^ 65 + (2 ^ 32 + 2 ^ 64) < sort_key t k → book_rows b ≡ remove (book_rows b) t k
+  last_none t k low =
+      let all = high_both (sort_key t k) ((first ++ second) ++ third) last
+      (high_more (3 * 2 ^ 65 + 2 ^ 32) (sort_key t k) ((first ++ second) ++ third) (omega (arith, low)) to_third)
+      (All-weaker (λ r. sort_key_of r ≡ 5 * 2 ^ 65 + (2 ^ 32 + 2 ^ 64)) (λ r. sort_key_of r < sort_key t k) (λ r g. omega (arith, low, g)) last (last_at b.switch)) in
+      let whole = last_assoc last ∙ sym (append-nil (((first ++ second) ++ third) ++ last)) in
+      whole
+      ∙ sym (ap (λ l. remove l t k) whole
+      ∙ remove_middle (((first ++ second) ++ third) ++ last) [] [] (sort_key t k) all (All-nil (λ r. sort_key_of r ≡ sort_key t k)) (All-nil (λ r. sort_key t k < sort_key_of r)) t k refl)
+
   pub book_remove : (t : Table) (k : Key) → is_of_book t ≡ true → are_known (length b.names) (key_servers k) ≡ true → IsKeyInRange k → book_rows (after_removal b t k) ≡ remove (book_rows b) t k
   book_remove table.Instance (key.Server n) o h r =
       let known = head_known (length b.names) n.0 [] h in
       table_remove row.Instance (λ i. i.no) (1 * 2 ^ 65) (λ a. refl) b.instances n.0 is.instance_numbers (in_first n.0 known) [] (second ++ (third ++ last)) (All-nil (λ r. sort_key_of r < 1 * 2 ^ 65 + n.0)) (behind_first n.0 known) table.Instance (key.Server n) refl
   book_remove table.Instance (key.Id id) o h r = first_none table.Instance (key.Id id) (2 ^ 32 + id) refl (omega arith) (omega (arith, r))
   book_remove table.Instance key.Global o h r = first_none table.Instance key.Global (2 ^ 32 + 2 ^ 64) refl (omega arith) (omega arith)
+  book_remove table.Instance key.Active o h r = first_none table.Instance key.Active (2 ^ 32 + 2 ^ 64 + 1) refl (omega arith) (omega arith)
   book_remove table.Downtime (key.Server n) o h r =
       let known = head_known (length b.names) n.0 [] h in
       table_remove row.Downtime (λ d. d.no) (2 * 2 ^ 65) (λ a. refl) b.downtimes n.0 is.downtime_numbers (in_second n.0 known) first (third ++ last) (before_second n.0 known) (behind_second n.0 known) table.Downtime (key.Server n) refl
   book_remove table.Downtime (key.Id id) o h r = second_none table.Downtime (key.Id id) (2 ^ 32 + id) refl (omega arith) (omega (arith, r))
   book_remove table.Downtime key.Global o h r = second_none table.Downtime key.Global (2 ^ 32 + 2 ^ 64) refl (omega arith) (omega arith)
+  book_remove table.Downtime key.Active o h r = second_none table.Downtime key.Active (2 ^ 32 + 2 ^ 64 + 1) refl (omega arith) (omega arith)
   book_remove table.Candidate (key.Server n) o h r =
       let known = head_known (length b.names) n.0 [] h in
       third_assoc (filter_map (option_map row.Candidate) (slice_set b.candidates n.0 None))
@@ -211,12 +225,15 @@ module _ (b : BookState) (is : IsBook b) where
       ∙ ap (λ l. remove l table.Candidate (key.Server n)) (sym (third_assoc third)))
   book_remove table.Candidate (key.Id id) o h r = third_none table.Candidate (key.Id id) (omega arith) (omega (arith, r))
   book_remove table.Candidate key.Global o h r = third_none table.Candidate key.Global (omega arith) (omega arith)
+  book_remove table.Candidate key.Active o h r = third_none table.Candidate key.Active (omega arith) (omega arith)
   book_remove table.Recovery k o h r = absurd (false≢true o)
+  book_remove table.Active k o h r = absurd (false≢true o)
   book_remove table.Switch (key.Server n) o h r =
       let known = head_known (length b.names) n.0 [] h in
       let s = small n.0 known in
       third_none table.Switch (key.Server n) (omega arith) (omega (arith, s))
   book_remove table.Switch (key.Id id) o h r = third_none table.Switch (key.Id id) (omega arith) (omega (arith, r))
+  book_remove table.Switch key.Active o h r = last_none table.Switch key.Active (omega arith)
   book_remove table.Switch key.Global o h r =
       last_assoc []
       ∙ sym (ap (λ l. remove l table.Switch key.Global) (last_assoc last ∙ ap (λ l. ((first ++ second) ++ third) ++ l) (sym (append-nil last)))

@@ -8,13 +8,13 @@ use Rattle.std.proofs.lemmas.List.Elements.{All-nil, All-cons, All-weaker, All-a
 use Rattle.std.proofs.Math.Seq.{drop-cons}
 use Rattle.std.proofs.lemmas.List.Kept.{AllPairs-cons}
 use Rattle.orch_base.specs.declared.server.ServerNo.{ServerNo}
-use Rattle.instance_keeper.specs.declared.row.Row.{Row}
-use Rattle.instance_keeper.specs.declared.row.Table.{Table}
-use Rattle.instance_keeper.specs.declared.row.Key.{Key}
-use Rattle.instance_keeper.specs.Rows.{sort_key, sort_key_of, put, remove}
+use Rattle.kept_rows.specs.declared.row.Row.{Row}
+use Rattle.kept_rows.specs.declared.row.Table.{Table}
+use Rattle.kept_rows.specs.declared.row.Key.{Key}
+use Rattle.kept_rows.specs.Rows.{sort_key, sort_key_of, put, remove}
 use Rattle.instance_keeper.specs.Book.{IsNumbered}
-use Rattle.instance_keeper.proofs.Lists.{set_parts}
-use Rattle.instance_keeper.proofs.SortKeys.{put_middle, remove_middle}
+use Rattle.kept_rows.proofs.Lists.{set_parts}
+use Rattle.kept_rows.proofs.SortKeys.{put_middle, remove_middle}
 use Rattle.instance_keeper.proofs.Books.{numbered_at}
 
 -- the rows of one table

@@ -7,29 +7,23 @@ use Rattle.std.proofs.lemmas.Bool.{ltb-true}
 use Rattle.std.proofs.lemmas.Option.{get_or_from_slice_get}
 use Rattle.orch_base.specs.declared.server.ServerNo.{ServerNo}
 use Rattle.orch_base.specs.declared.server.Settings.{Settings}
-use Rattle.instance_keeper.specs.declared.observation.Observation.{Observation}
+use Rattle.kept_rows.specs.declared.observation.Observation.{Observation}
 use Rattle.server_words.specs.declared.status.Status.{Status as Seen}
-use Rattle.instance_keeper.specs.declared.observation.Instance.{Instance}
+use Rattle.kept_rows.specs.declared.observation.Instance.{Instance}
 use Rattle.instance_keeper.specs.declared.bridge.Bridge.{Bridge}
-use Rattle.instance_keeper.specs.declared.row.Downtime.{Downtime}
-use Rattle.instance_keeper.specs.declared.row.Candidate.{Candidate}
-use Rattle.instance_keeper.specs.declared.row.Row.{Row}
-use Rattle.instance_keeper.specs.declared.row.Row.TheVariants as row
-use Rattle.instance_keeper.specs.declared.row.Change.{Change}
-use Rattle.instance_keeper.specs.declared.row.Change.TheVariants as change
-use Rattle.instance_keeper.specs.declared.row.Table.{Table}
-use Rattle.instance_keeper.specs.declared.row.Table.TheVariants as table
-use Rattle.instance_keeper.specs.declared.row.Key.{Key}
-use Rattle.instance_keeper.specs.declared.row.Key.TheVariants as key
-use Rattle.instance_keeper.specs.Book.{BookState, IsBook, IsNumbered, HasKnownSource, are_known, row_fits, source_servers, seen_servers, observed_servers, instance_at, renewed, names_of, empty_book, after_put, after_removal, after_change, fits}
-
-pub both_true : (a b : Bool) → (a && b) ≡ true → (a ≡ true) × (b ≡ true)
-both_true true true e = (refl, refl)
-both_true true false e = (refl, e)
-both_true false b e = (e, absurd (false_true e))
-  where
-    false_true : false ≡ true → ⊥
-    false_true e = cc
+use Rattle.kept_rows.specs.declared.row.Downtime.{Downtime}
+use Rattle.kept_rows.specs.declared.row.Candidate.{Candidate}
+use Rattle.kept_rows.specs.declared.row.Row.{Row}
+use Rattle.kept_rows.specs.declared.row.Row.TheVariants as row
+use Rattle.kept_rows.specs.declared.row.Change.{Change}
+use Rattle.kept_rows.specs.declared.row.Change.TheVariants as change
+use Rattle.kept_rows.specs.declared.row.Table.{Table}
+use Rattle.kept_rows.specs.declared.row.Table.TheVariants as table
+use Rattle.kept_rows.specs.declared.row.Key.{Key}
+use Rattle.kept_rows.specs.declared.row.Key.TheVariants as key
+use Rattle.kept_rows.specs.Servers.{are_known, row_fits, source_servers, seen_servers, observed_servers, fits}
+use Rattle.kept_rows.proofs.Known.{rest_known}
+use Rattle.instance_keeper.specs.Book.{BookState, IsBook, IsNumbered, HasKnownSource, instance_at, renewed, names_of, empty_book, after_put, after_removal, after_change}
 
 pub numbered_set : {A : Type 0} (no_of : A → ServerNo) (from n : ℕ) (x : Option A) (xs : List (Option A)) → IsNumbered no_of from xs → IfSome x (λ a. (no_of a).0 ≡ from + n) → IsNumbered no_of from (slice_set xs n x)
 numbered_set no_of from n x [] h own = h
@@ -175,34 +169,33 @@ leases_set b xs is same = record {
   sources = is.sources;
 }
 
--- a first server of known ones is known
-pub head_known : (count n : ℕ) (ns : List ℕ) → are_known count (n ∷ ns) ≡ true → n < count
-head_known count n ns h = ltb-true n count (both_true (nat_lt n count) (are_known count ns) h).0
-
-pub rest_known : (count n : ℕ) (ns : List ℕ) → are_known count (n ∷ ns) ≡ true → are_known count ns ≡ true
-rest_known count n ns h = (both_true (nat_lt n count) (are_known count ns) h).1
-
 pub put_is : (b : BookState) (r : Row) → IsBook b → row_fits (length b.names) r ≡ true → IsBook (after_put b r)
 put_is b (row.Instance i) is h = instance_set b i.no.0 (Some i) is refl (rest_known (length b.names) i.no.0 (source_servers i.seen.source) h)
 put_is b (row.Downtime d) is h = downtime_set b d.no.0 (Some d) is refl
 put_is b (row.Candidate c) is h = candidate_set b c.no.0 (Some c) is refl
 put_is b (row.Recovery r) is h = is
 put_is b (row.Switch enabled) is h = switch_set b (Some enabled) is
+put_is b (row.Active node until) is h = is
 
 pub removal_is : (b : BookState) (t : Table) (k : Key) → IsBook b → IsBook (after_removal b t k)
 removal_is b table.Instance (key.Server n) is = rings_set (record b { instances = slice_set b.instances n.0 None }) n.0 [] (instance_set b n.0 None is tt tt)
-removal_is b table.Downtime (key.Server n) is = downtime_set b n.0 None is tt
-removal_is b table.Candidate (key.Server n) is = candidate_set b n.0 None is tt
-removal_is b table.Switch key.Global is = switch_set b None is
 removal_is b table.Instance (key.Id id) is = is
 removal_is b table.Instance key.Global is = is
+removal_is b table.Instance key.Active is = is
+removal_is b table.Downtime (key.Server n) is = downtime_set b n.0 None is tt
 removal_is b table.Downtime (key.Id id) is = is
 removal_is b table.Downtime key.Global is = is
+removal_is b table.Downtime key.Active is = is
+removal_is b table.Candidate (key.Server n) is = candidate_set b n.0 None is tt
 removal_is b table.Candidate (key.Id id) is = is
 removal_is b table.Candidate key.Global is = is
+removal_is b table.Candidate key.Active is = is
 removal_is b table.Recovery k is = is
 removal_is b table.Switch (key.Server n) is = is
 removal_is b table.Switch (key.Id id) is = is
+removal_is b table.Switch key.Global is = switch_set b None is
+removal_is b table.Switch key.Active is = is
+removal_is b table.Active k is = is
 
 -- the same from what the code has found
 pub put_kept : (b view : BookState) (r : Row) (i : Instance) (now : List (Option Instance)) → b ≡ view → IsBook b → row_fits (length view.names) r ≡ true → r ≡ row.Instance i → now ≡ slice_set b.instances i.no.0 (Some i) → IsBook (record b { instances = now })

@@ -7,16 +7,16 @@ use Rattle.orch_base.specs.declared.rule.Rule.{Rule}
 use Rattle.orch_base.specs.declared.rule.Rule.TheVariants as rule
 use Rattle.orch_base.specs.declared.server.ServerNo.{ServerNo}
 use Rattle.orch_base.specs.declared.server.Moment.{Moment}
-use Rattle.instance_keeper.specs.declared.observation.Instance.{Instance}
-use Rattle.instance_keeper.specs.declared.row.Candidate.{Candidate}
-use Rattle.instance_keeper.specs.declared.row.Downtime.{Downtime}
-use Rattle.instance_keeper.specs.declared.row.Row.{Row}
-use Rattle.instance_keeper.specs.declared.row.Row.TheVariants as row
+use Rattle.kept_rows.specs.declared.observation.Instance.{Instance}
+use Rattle.kept_rows.specs.declared.row.Candidate.{Candidate}
+use Rattle.kept_rows.specs.declared.row.Downtime.{Downtime}
+use Rattle.kept_rows.specs.declared.row.Row.{Row}
+use Rattle.kept_rows.specs.declared.row.Row.TheVariants as row
 use Rattle.instance_keeper.specs.Book.{BookState, after_put}
 use Rattle.instance_keeper.specs.Had.{had, has_row, same_candidate, same_downtime, same_rule}
-use Rattle.instance_keeper.specs.Same.{same_bool, same_instance}
-use Rattle.instance_keeper.proofs.Books.{both_true}
-use Rattle.instance_keeper.proofs.Same.{bool_is, eq_is, eq_refl, instance_is, instance_refl, moment_eta, no_is}
+use Rattle.kept_rows.specs.Same.{same_bool, same_instance}
+use Rattle.kept_rows.proofs.Known.{both_true}
+use Rattle.kept_rows.proofs.Same.{bool_is, eq_is, eq_refl, instance_is, instance_refl, moment_eta, no_is}
 
 -- downtimes and candidates
 
@@ -129,3 +129,4 @@ had_row_stays b (row.Downtime d) h = ap (λ xs. record b { downtimes = xs }) (se
 had_row_stays b (row.Candidate c) h = ap (λ xs. record b { candidates = xs }) (set_same b.candidates c.no.0 c (had_is same_candidate candidate_is _ c h))
 had_row_stays b (row.Recovery r) h = absurd (false≢true h)
 had_row_stays b (row.Switch enabled) h = ap (λ x. record b { switch = x }) (sym (had_is same_bool bool_is b.switch enabled h))
+had_row_stays b (row.Active node until) h = absurd (false≢true h)

@@ -1,12 +1,9 @@
-pub mod Lists
-pub mod SortKeys
 pub mod Counts
 pub mod Books
-pub mod Same
-pub mod LookUps
+pub mod Steady
+pub mod Renewal
 pub mod BookRows
 pub mod BookLaws
-pub mod SameRows
 pub mod Ranked
 pub mod Leasing
 pub mod Ringed

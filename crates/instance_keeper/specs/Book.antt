@@ -1,37 +1,33 @@
 -- What orchestrator knows, by the servers' numbers.
-use Rattle.std.specs.Prelude.{◌≡◌, ℕ, ◌+◌, ◌<◌, ◌^◌, ◌&&◌, nat_lt, Bool, true, false, if◌then◌else◌, List, [], ◌∷◌, ◌++◌, length, map, fold, replicate, filter_map, slice_set, slice_index_or, Option, None, Some, Result, Ok, Err, option_map, unwrap_or, is_some, IfSome, ⊤}
-use Rattle.std.specs.List.{All, list_all}
+use Rattle.std.specs.Prelude.{◌≡◌, ℕ, ◌+◌, ◌<◌, ◌^◌, nat_lt, Bool, true, false, if◌then◌else◌, List, [], ◌∷◌, ◌++◌, length, map, fold, replicate, filter_map, slice_set, slice_index_or, Option, None, Some, Result, Ok, Err, option_map, unwrap_or, is_some, IfSome, ⊤}
+use Rattle.std.specs.List.{All}
 use Rattle.std.specs.Option.{option_to_list}
 use Rattle.orch_base.specs.Names.{HostPort}
 use Rattle.orch_base.specs.declared.server.ServerNo.{ServerNo}
 use Rattle.orch_base.specs.declared.server.Settings.{Settings}
 use Rattle.orch_base.specs.declared.server.Moment.{Moment}
-use Rattle.orch_base.specs.declared.server.SourceState.{SourceState}
-use Rattle.orch_base.specs.declared.server.SourceState.TheVariants as source
 use Rattle.server_words.specs.declared.status.Status.{Status as Seen}
-use Rattle.instance_keeper.specs.declared.observation.Observation.{Observation}
-use Rattle.instance_keeper.specs.declared.observation.Instance.{Instance}
-use Rattle.orch_base.specs.declared.recovery.Ending.{Ending}
-use Rattle.orch_base.specs.declared.recovery.Ending.TheVariants as ending
+use Rattle.kept_rows.specs.declared.observation.Observation.{Observation}
+use Rattle.kept_rows.specs.declared.observation.Instance.{Instance}
 use Rattle.orch_base.specs.declared.rule.Rule.{Rule}
 use Rattle.orch_base.specs.declared.rule.Rule.TheVariants as rule
-use Rattle.instance_keeper.specs.declared.row.Downtime.{Downtime}
-use Rattle.instance_keeper.specs.declared.row.Candidate.{Candidate}
-use Rattle.instance_keeper.specs.declared.row.Row.{Row}
-use Rattle.instance_keeper.specs.declared.row.Row.TheVariants as row
-use Rattle.instance_keeper.specs.declared.row.Table.{Table}
-use Rattle.instance_keeper.specs.declared.row.Table.TheVariants as table
-use Rattle.instance_keeper.specs.declared.row.Key.{Key}
-use Rattle.instance_keeper.specs.declared.row.Key.TheVariants as key
-use Rattle.instance_keeper.specs.declared.row.Change.{Change}
-use Rattle.instance_keeper.specs.declared.row.Change.TheVariants as change
+use Rattle.kept_rows.specs.declared.row.Downtime.{Downtime}
+use Rattle.kept_rows.specs.declared.row.Candidate.{Candidate}
+use Rattle.kept_rows.specs.declared.row.Row.{Row}
+use Rattle.kept_rows.specs.declared.row.Row.TheVariants as row
+use Rattle.kept_rows.specs.declared.row.Table.{Table}
+use Rattle.kept_rows.specs.declared.row.Table.TheVariants as table
+use Rattle.kept_rows.specs.declared.row.Key.{Key}
+use Rattle.kept_rows.specs.declared.row.Key.TheVariants as key
+use Rattle.kept_rows.specs.declared.row.Change.{Change}
+use Rattle.kept_rows.specs.declared.row.Change.TheVariants as change
 use Rattle.instance_keeper.specs.declared.book.StoreAnswer.{StoreAnswer}
 use Rattle.instance_keeper.specs.declared.book.StoreAnswer.TheVariants as answer
 use Rattle.instance_keeper.specs.declared.bridge.Bridge.{Bridge}
 use Rattle.instance_keeper.specs.declared.lease.LeaseFault.{LeaseFault}
 use Rattle.instance_keeper.specs.Bridges.{bridge_in, ringed}
-use Rattle.instance_keeper.specs.Rows.{table_of}
-use Rattle.instance_keeper.specs.Same.{same_instance}
+use Rattle.kept_rows.specs.Same.{same_instance}
+use Rattle.kept_rows.specs.Servers.{are_known, row_fits, source_servers}
 
 -- each list has a place for each server, by its number; the settings and names never change; the switch is none without
 -- a row
@@ -44,56 +40,6 @@ pub record BookState : Type 0 where
   pub switch : Option Bool
   pub rings : List (List Bridge)
   pub leases : List (Option ℕ)
-
--- the numbers of the servers that a value names
-abbrev pub source_servers : SourceState → List ℕ
-source_servers source.Without = []
-source_servers (source.Attached n) = n.0 ∷ []
-source_servers (source.Detached n) = n.0 ∷ []
-
-abbrev pub seen_servers : Option Seen → List ℕ
-seen_servers None = []
-seen_servers (Some s) = source_servers s.source
-
-abbrev pub observed_servers : Observation → List ℕ
-observed_servers o = o.no.0 ∷ seen_servers o.seen
-
-abbrev pub ending_servers : Ending → List ℕ
-ending_servers ending.Unended = []
-ending_servers (ending.Promoted n) = n.0 ∷ []
-ending_servers (ending.Failed cause) = []
-ending_servers ending.Interrupted = []
-
-abbrev pub servers_of : Row → List ℕ
-servers_of (row.Instance i) = i.no.0 ∷ source_servers i.seen.source
-servers_of (row.Downtime d) = d.no.0 ∷ []
-servers_of (row.Candidate c) = c.no.0 ∷ []
-servers_of (row.Recovery r) = r.failed.0 ∷ ending_servers r.outcome
-servers_of (row.Switch enabled) = []
-
-abbrev pub key_servers : Key → List ℕ
-key_servers (key.Server n) = n.0 ∷ []
-key_servers (key.Id id) = []
-key_servers key.Global = []
-
-abbrev pub are_known : ℕ → List ℕ → Bool
-are_known count servers = list_all (λ n. nat_lt n count) servers
-
--- the recoveries stand in the audit
-abbrev pub is_of_book : Table → Bool
-is_of_book table.Instance = true
-is_of_book table.Downtime = true
-is_of_book table.Candidate = true
-is_of_book table.Recovery = false
-is_of_book table.Switch = true
-
--- a row of the book whose servers are known
-abbrev pub row_fits : ℕ → Row → Bool
-row_fits count r = is_of_book (table_of r) && are_known count (servers_of r)
-
-abbrev pub fits : ℕ → Change → Bool
-fits count (change.Put r) = row_fits count r
-fits count (change.Remove t k) = is_of_book t && are_known count (key_servers k)
 
 -- the names of servers, by their settings
 abbrev pub names_of : List Settings → List HostPort
@@ -117,19 +63,33 @@ after_put b (row.Downtime d) = record b { downtimes = slice_set b.downtimes d.no
 after_put b (row.Candidate c) = record b { candidates = slice_set b.candidates c.no.0 (Some c) }
 after_put b (row.Recovery r) = b
 after_put b (row.Switch enabled) = record b { switch = Some enabled }
+after_put b (row.Active node until) = b
 
 abbrev pub after_removal : BookState → Table → Key → BookState
 after_removal b table.Instance (key.Server n) = record b { instances = slice_set b.instances n.0 None; rings = slice_set b.rings n.0 [] }
+after_removal b table.Instance (key.Id id) = b
+after_removal b table.Instance key.Global = b
+after_removal b table.Instance key.Active = b
 after_removal b table.Downtime (key.Server n) = record b { downtimes = slice_set b.downtimes n.0 None }
+after_removal b table.Downtime (key.Id id) = b
+after_removal b table.Downtime key.Global = b
+after_removal b table.Downtime key.Active = b
 after_removal b table.Candidate (key.Server n) = record b { candidates = slice_set b.candidates n.0 None }
+after_removal b table.Candidate (key.Id id) = b
+after_removal b table.Candidate key.Global = b
+after_removal b table.Candidate key.Active = b
+after_removal b table.Recovery k = b
+after_removal b table.Switch (key.Server n) = b
+after_removal b table.Switch (key.Id id) = b
 after_removal b table.Switch key.Global = record b { switch = None }
-after_removal b t k = b
+after_removal b table.Switch key.Active = b
+after_removal b table.Active k = b
 
 abbrev pub after_change : BookState → Change → BookState
 after_change b (change.Put r) = after_put b r
 after_change b (change.Remove t k) = after_removal b t k
 
--- a row of the recovery table, and one that names an unknown server, are passed over
+-- a row of the recovery table or the claim's, and one that names an unknown server, are passed over
 abbrev pub after_row : BookState → Row → BookState
 after_row b r = if row_fits (length b.names) r then after_put b r else b
 

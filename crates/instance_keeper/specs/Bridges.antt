@@ -7,7 +7,7 @@ use Rattle.orch_base.specs.declared.server.SourceState.{SourceState}
 use Rattle.orch_base.specs.declared.server.SourceState.TheVariants as source
 use Rattle.server_words.specs.declared.status.Status.{Status as Seen}
 use Rattle.instance_keeper.specs.declared.bridge.Bridge.{Bridge}
-use Rattle.instance_keeper.specs.Same.{same_coord}
+use Rattle.kept_rows.specs.Same.{same_coord}
 
 abbrev pub bridge_by : ServerNo → Option Coord → SourceState → Coord → Option Bridge
 bridge_by n None source exec = None

@@ -4,14 +4,14 @@ use Rattle.std.specs.Cmp.Lexicographic.{pointwise}
 use Rattle.orch_base.specs.declared.rule.Rule.{Rule}
 use Rattle.orch_base.specs.declared.rule.Rule.TheVariants as rule
 use Rattle.orch_base.specs.declared.server.ServerNo.{ServerNo}
-use Rattle.instance_keeper.specs.declared.row.Candidate.{Candidate}
-use Rattle.instance_keeper.specs.declared.row.Change.{Change}
-use Rattle.instance_keeper.specs.declared.row.Change.TheVariants as change
-use Rattle.instance_keeper.specs.declared.row.Downtime.{Downtime}
-use Rattle.instance_keeper.specs.declared.row.Row.{Row}
-use Rattle.instance_keeper.specs.declared.row.Row.TheVariants as row
+use Rattle.kept_rows.specs.declared.row.Candidate.{Candidate}
+use Rattle.kept_rows.specs.declared.row.Change.{Change}
+use Rattle.kept_rows.specs.declared.row.Change.TheVariants as change
+use Rattle.kept_rows.specs.declared.row.Downtime.{Downtime}
+use Rattle.kept_rows.specs.declared.row.Row.{Row}
+use Rattle.kept_rows.specs.declared.row.Row.TheVariants as row
 use Rattle.instance_keeper.specs.Book.{BookState, instance_at}
-use Rattle.instance_keeper.specs.Same.{same_bool, same_instance}
+use Rattle.kept_rows.specs.Same.{same_bool, same_instance}
 
 abbrev pub same_downtime : Downtime → Downtime → Bool
 same_downtime a b =
@@ -19,10 +19,21 @@ same_downtime a b =
 
 abbrev pub same_rule : Rule → Rule → Bool
 same_rule rule.Prefer rule.Prefer = true
+same_rule rule.Prefer rule.Neutral = false
+same_rule rule.Prefer rule.PreferNot = false
+same_rule rule.Prefer rule.MustNot = false
+same_rule rule.Neutral rule.Prefer = false
 same_rule rule.Neutral rule.Neutral = true
+same_rule rule.Neutral rule.PreferNot = false
+same_rule rule.Neutral rule.MustNot = false
+same_rule rule.PreferNot rule.Prefer = false
+same_rule rule.PreferNot rule.Neutral = false
 same_rule rule.PreferNot rule.PreferNot = true
+same_rule rule.PreferNot rule.MustNot = false
+same_rule rule.MustNot rule.Prefer = false
+same_rule rule.MustNot rule.Neutral = false
+same_rule rule.MustNot rule.PreferNot = false
 same_rule rule.MustNot rule.MustNot = true
-same_rule _ _ = false
 
 abbrev pub same_candidate : Candidate → Candidate → Bool
 same_candidate a b = (a.no.0 == b.no.0) && (same_rule a.rule b.rule && (a.until.0 == b.until.0))
@@ -46,6 +57,7 @@ has_row b (row.Downtime d) = had same_downtime (downtime_kept b d.no) d
 has_row b (row.Candidate c) = had same_candidate (candidate_kept b c.no) c
 has_row b (row.Recovery r) = false
 has_row b (row.Switch enabled) = had same_bool b.switch enabled
+has_row b (row.Active node until) = false
 
 -- the change by which the book gets a row: none where it has it
 abbrev pub put_change : BookState → Row → Option Change

@@ -1,11 +1,6 @@
-pub mod Rows
-pub mod Keeping
-pub mod Same
 pub mod Book
-pub mod SortKeys
-pub mod Ranges
+pub mod Counts
 pub mod ServerLists
 pub mod Bridges
 pub mod Leases
 pub mod Had
-pub mod Seeing

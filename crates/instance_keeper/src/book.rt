@@ -7,18 +7,18 @@ ghost use Rattle.name_order.specs.NameOrder.{by_name, rank_of, IsOrder};
 ghost use Rattle.instance_keeper.specs.Bridges.{bridge_in, has_exec, has_own, latest_that, ring_at, ringed};
 ghost use Rattle.instance_keeper.specs.Had.{candidate_kept, downtime_kept};
 ghost use Rattle.instance_keeper.specs.Leases.{first_busy, given_back, taken};
-ghost use Rattle.instance_keeper.specs.SortKeys.{CountsUp};
-ghost use Rattle.instance_keeper.specs.Book.{are_known, source_servers, observed_servers, ending_servers, servers_of, key_servers, row_fits, fits, empty_book, after_put, after_bridge, after_removal, after_change, lease_at, lease_result, after_row, book_made, instance_at, renewed, store_answer, after_store, shown_by, after_addition, after_discovery, renewal, store_change, downtime_at, rule_at, IsBook};
+ghost use Rattle.instance_keeper.specs.Counts.{CountsUp};
+ghost use Rattle.kept_rows.specs.Servers.{are_known, source_servers, observed_servers, ending_servers, servers_of, key_servers, row_fits, fits};
+ghost use Rattle.instance_keeper.specs.Book.{empty_book, after_put, after_bridge, after_removal, after_change, lease_at, lease_result, after_row, book_made, instance_at, renewed, store_answer, after_store, shown_by, after_addition, after_discovery, renewal, store_change, downtime_at, rule_at, IsBook};
 
 use crate::bridge::{Bridge, Ring, bridge_in};
 use crate::lease::{LeaseFault, first_busy, give_back, take};
-use crate::observation::{Instance, Observation};
-use crate::row::{Candidate, Change, Downtime, Key, Row, Table};
 use crate::server_list::ServerList;
 use crate::{Memory, Rule};
 use binlog_coords::Coord;
 use indexmap::IndexMap;
-use orch_base::{Ending, Moment, Name, ServerNo, Settings, SourceState};
+use kept_rows::{Candidate, Change, Downtime, Instance, Key, Observation, Row, Table};
+use orch_base::{Moment, Name, ServerNo, Settings};
 use std::alloc::Global;
 use std::marker::Model;
 use std::mem::replace;
@@ -123,78 +123,6 @@ fn renewal(kept: &Instance, o: &Observation) -> Result<Option<Change>, Memory>
     }
 }
 
-fn is_known(count: u32, no: ServerNo) -> bool
-    ensures { result ≡ nat_lt no.0 count }
-{
-    no.0 < count
-}
-
-fn is_source_known(count: u32, source: SourceState) -> bool
-    ensures { result ≡ are_known count (source_servers source) }
-{
-    match source {
-        SourceState::Without => true,
-        SourceState::Attached(no) | SourceState::Detached(no) => is_known(count, no),
-    }
-}
-
-fn is_ending_known(count: u32, outcome: Ending) -> bool
-    ensures { result ≡ are_known count (ending_servers outcome) }
-{
-    match outcome {
-        Ending::Promoted(no) => is_known(count, no),
-        _ => true,
-    }
-}
-
-impl Row {
-    /// Whether each server that the row names is one of so many.
-    pub fn are_servers_known(&self, count: u32) -> bool
-        ensures { result ≡ are_known count (servers_of self.now) }
-    {
-        match self {
-            Row::Instance(i) => is_known(count, i.no) && is_source_known(count, i.seen.source),
-            Row::Downtime(downtime) => is_known(count, downtime.no),
-            Row::Candidate(candidate) => is_known(count, candidate.no),
-            Row::Recovery(r) => is_known(count, r.failed) && is_ending_known(count, r.outcome),
-            Row::Switch(_) => true,
-        }
-    }
-
-    // Whether a book of so many servers takes the row.
-    fn fits(&self, count: u32) -> bool
-        ensures { result ≡ row_fits count self.now }
-    {
-        !matches!(self, Row::Recovery(_)) && self.are_servers_known(count)
-    }
-}
-
-impl Observation {
-    /// Whether each server that the observation names is one of so many.
-    pub fn are_servers_known(&self, count: u32) -> bool
-        ensures { result ≡ are_known count (observed_servers self.now) }
-    {
-        match &self.seen {
-            Some(seen) => is_known(count, self.no) && is_source_known(count, seen.source),
-            None => is_known(count, self.no),
-        }
-    }
-}
-
-impl Change {
-    /// Whether a book of so many servers takes the change: it isn't of the recovery table, and its servers are known.
-    pub fn fits(&self, count: u32) -> bool
-        ensures { result ≡ fits count self.now }
-    {
-        match self {
-            Change::Put(row) => row.fits(count),
-            Change::Remove(Table::Recovery, _) => false,
-            Change::Remove(_, Key::Server(no)) => is_known(count, *no),
-            Change::Remove(_, _) => true,
-        }
-    }
-}
-
 /// What orchestrator knows: the instances, downtimes and candidates by the servers' numbers, and the switch.
 #[derive(Drop)]
 pub struct Book {
@@ -210,7 +138,7 @@ pub struct Book {
 impl Model for Book {
     ghost use Rattle.std.specs.Prelude.{map};
     ghost use Rattle.indexmap.specs.IndexMap.{values};
-    ghost use Rattle.instance_keeper.specs.SortKeys.{CountsUp};
+    ghost use Rattle.instance_keeper.specs.Counts.{CountsUp};
     ghost use Rattle.instance_keeper.specs.Book.{BookState, IsBook};
 
     ghost Value = { BookState };
@@ -423,7 +351,7 @@ impl Book {
 
 impl Book {
     /// The book of these servers and rows: of two rows with one table and key the later stands. A row of the recovery
-    /// table, and one that names an unknown server, are passed over.
+    /// table or the claim's, and one that names an unknown server, are passed over.
     pub fn make(alloc: Global, settings: &[Settings], rows: &[Row]) -> Result<Book, Memory>
         requires { length settings.now < 2 ^ 32 }
         ensures made { IfOk result (λ b. b ≡ book_made settings.now rows.now) }
@@ -439,8 +367,8 @@ impl Book {
     }
 
     /// Forgets all but the servers, and takes these rows as `make` does: of two with one table and key the later
-    /// stands; a row of the recovery table, and one that names an unknown server, are passed over. Bridges and leases
-    /// are dropped. It takes no memory.
+    /// stands; a row of the recovery table or the claim's, and one that names an unknown server, are passed over.
+    /// Bridges and leases are dropped. It takes no memory.
     pub fn reload(&mut self, rows: Vec<Row>)
         ensures made { self.new ≡ book_made self.old.settings rows.items }
         ensures settings { self.new.settings ≡ self.old.settings }
@@ -505,7 +433,7 @@ impl Book {
                 self.downtimes[index] = Some(downtime);
             }
             Row::Candidate(candidate) => self.candidates[candidate.no.0 as usize] = Some(candidate),
-            Row::Recovery(_) => {}
+            Row::Recovery(_) | Row::Active { .. } => {}
             Row::Switch(enabled) => self.switch = Some(enabled),
         }
     }
@@ -524,7 +452,15 @@ impl Book {
             (Table::Downtime, Key::Server(no)) => self.downtimes[no.0 as usize] = None,
             (Table::Candidate, Key::Server(no)) => self.candidates[no.0 as usize] = None,
             (Table::Switch, Key::Global) => self.switch = None,
-            _ => {}
+            (
+                Table::Instance | Table::Downtime | Table::Candidate,
+                Key::Id(_) | Key::Global | Key::Active,
+            )
+            | (Table::Switch, Key::Server(_) | Key::Id(_) | Key::Active)
+            | (
+                Table::Recovery | Table::Active,
+                Key::Server(_) | Key::Id(_) | Key::Global | Key::Active,
+            ) => {}
         }
     }
 

@@ -1,13 +1,13 @@
 //! Rows that a book has.
 
 ghost use Rattle.std.specs.Prelude.{◌≡◌, ◌<◌, length, true};
-ghost use Rattle.instance_keeper.specs.Book.{instance_at, row_fits};
+ghost use Rattle.kept_rows.specs.Servers.{row_fits};
+ghost use Rattle.instance_keeper.specs.Book.{instance_at};
 ghost use Rattle.instance_keeper.specs.Had.{candidate_kept, downtime_kept, had, has_row, put_change, same_candidate, same_downtime};
-ghost use Rattle.instance_keeper.specs.Same.{same_bool, same_instance};
+ghost use Rattle.kept_rows.specs.Same.{same_bool, same_instance};
 
 use crate::book::Book;
-use crate::observation::Instance;
-use crate::row::{Candidate, Change, Downtime, Row};
+use kept_rows::{Candidate, Change, Downtime, Instance, Row};
 
 fn same_instance(kept: &Instance, instance: &Instance) -> bool
     ensures { result ≡ same_instance kept.now instance.now }
@@ -75,7 +75,7 @@ impl Book {
         }
     }
 
-    /// Whether the book has this very row. Of the recovery table it has none.
+    /// Whether the book has this very row. Of the recovery table and the claim's it has none.
     pub fn has(&self, row: &Row) -> bool
         requires { row_fits (length self.now.names) row.now ≡ true }
         ensures { result ≡ has_row self.now row.now }
@@ -84,7 +84,7 @@ impl Book {
             Row::Instance(instance) => self.has_instance(instance),
             Row::Downtime(downtime) => self.has_downtime(downtime),
             Row::Candidate(candidate) => self.has_candidate(*candidate),
-            Row::Recovery(_) => false,
+            Row::Recovery(_) | Row::Active { .. } => false,
             Row::Switch(enabled) => self.has_switch(*enabled),
         }
     }

@@ -2,12 +2,7 @@
 
 use crate::book::{Book, StoreAnswer};
 use crate::bridge::Bridge;
-use crate::keeper::KeeperFault;
 use crate::lease::LeaseFault;
-use crate::memory::MemKeeper;
-use crate::observation::{Instance, Observation};
-use crate::recovery::Recovery;
-use crate::row::{Candidate, Change, Downtime, Key, Row, Table};
 
 fn crosses_threads<T: Send + Sync>() {}
 
@@ -16,15 +11,4 @@ fn all_cross_threads() {
     crosses_threads::<StoreAnswer>();
     crosses_threads::<Bridge>();
     crosses_threads::<LeaseFault>();
-    crosses_threads::<KeeperFault>();
-    crosses_threads::<MemKeeper>();
-    crosses_threads::<Instance>();
-    crosses_threads::<Observation>();
-    crosses_threads::<Recovery>();
-    crosses_threads::<Row>();
-    crosses_threads::<Downtime>();
-    crosses_threads::<Candidate>();
-    crosses_threads::<Table>();
-    crosses_threads::<Key>();
-    crosses_threads::<Change>();
 }

@@ -13,7 +13,7 @@ use Rattle.server_model.specs.Worlds.{World, server_at}
 use Rattle.replication_laws.proofs.Runs.{Placed-run, Safe-run}
 use Rattle.operations.specs.declared.op.Op.{Op}
 use Rattle.operations.specs.Deeds.{deed_of}
-use Rattle.operations.specs.Jobs.{Job, seen_of}
+use Rattle.operations.specs.Jobs.{Job, seen_of, position_of}
 use Rattle.operations.specs.Turns.{Turned, turned}
 use Rattle.job_laws.specs.Footing.{footing, are_held}
 use Rattle.job_laws.specs.Held.{HeldJob, KeepsHeld, Spans}
@@ -29,7 +29,7 @@ use Rattle.job_laws.proofs.Passing.{rings-run, rings-stand, slots-run, slots-bri
 use Rattle.job_laws.proofs.Showing.{Bridged-run}
 use Rattle.replication_laws.proofs.ShownCoords.{Shows-run}
 use Rattle.job_laws.proofs.Observing.{turn-observes}
-use Rattle.instance_keeper.specs.declared.observation.Observation.{Observation}
+use Rattle.kept_rows.specs.declared.observation.Observation.{Observation}
 use Rattle.job_laws.proofs.Turns.{turn-kept, turn-sound}
 use Rattle.job_laws.proofs.Leased.{turn-leased}
 use Rattle.job_laws.proofs.Others.{unleased-run}
@@ -283,8 +283,8 @@ pub turn-bridged : (w : World) (read : ℕ) (now : Moment) (j : Job) (o : Observ
     → IsShownBridged (run w (turned w read now j).exchanges) o
 turn-bridged w read now j o safe placed held h s is =
     let n = turn-observes w read now j o h in
-    let bridged : IsBridged w o.no.0 s = subst (λ (x : Observation). IsShownBridged w x) (sym n.1) (observed-bridged w read now n.0 safe) s is in
-    Bridged-run w (turned w read now j).exchanges o.no.0 s placed (turn-kept w read now j placed held).allowed bridged
+    let bridged : IsBridged w o.no.0 (position_of s) = subst (λ (x : Observation). IsShownBridged w x) (sym n.1) (observed-bridged w read now n.0 safe) s is in
+    Bridged-run w (turned w read now j).exchanges o.no.0 (position_of s) placed (turn-kept w read now j placed held).allowed bridged
 
 -- ---- where a run begins
 

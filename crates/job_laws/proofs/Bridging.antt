@@ -19,11 +19,12 @@ use Rattle.replication_laws.proofs.SeenSets.{joins-auto}
 use Rattle.operations.specs.declared.op.Crossing.{Crossing}
 use Rattle.operations.specs.declared.op.Crossing.TheVariants as cross
 use Rattle.instance_keeper.specs.declared.bridge.Bridge.{Bridge}
+use Rattle.operations.specs.declared.sight.Position.{Position}
 use Rattle.operations.specs.declared.sight.Sight.{Sight}
-use Rattle.operations.specs.Jobs.{seen_of}
+use Rattle.operations.specs.Jobs.{position_of, seen_of}
 use Rattle.instance_keeper.specs.Bridges.{bridge_by, bridge_in}
 use Rattle.job_laws.proofs.Spanning.{bridge-parts, seen-spans}
-use Rattle.operations.specs.Turns.{read_by, crossed, attached_anew, same_again, by_set}
+use Rattle.operations.specs.Turns.{read_by, bridge_at, crossed, attached_anew, same_again, by_set}
 use Rattle.operations.specs.Targets.{logs_by, can_attach}
 use Rattle.operations.proofs.Targets.{target-can, can-allowed}
 use Rattle.operations.proofs.Tests.{both}
@@ -32,19 +33,26 @@ use Rattle.job_laws.specs.Held.{AllShow, Spans}
 use Rattle.job_laws.specs.Sound.{IsBridged, AllBridged}
 
 -- a bridge that was seen stands
-pub stands-by : (w : World) (n : ServerNo) (o : Option Status) (b : Bridge) → ((s : Status) → o ≡ Some s → IsBridged w n.0 s) → bridge_in n o ≡ Some b → Stands w b.no.0 b.source.0 b.own b.exec
-stands-by w n o b bridged h =
+pub stands-at : (w : World) (n : ServerNo) (o : Option Position) (b : Bridge) → ((s : Position) → o ≡ Some s → IsBridged w n.0 s) → bridge_at n o ≡ Some b → Stands w b.no.0 b.source.0 b.own b.exec
+stands-at w n o b bridged h =
     let p = bridge-parts n o b h in
     subst (λ (k : ℕ). Stands w k b.source.0 b.own b.exec) p.no
     (subst (λ (c : Coord). Stands w n.0 b.source.0 b.own c) p.exec (bridged p.seen p.is b.source.0 b.own p.from p.end))
 
+-- and one that a status shows
+pub stands-by : (w : World) (n : ServerNo) (o : Option Status) (b : Bridge) → ((s : Status) → o ≡ Some s → IsBridged w n.0 (position_of s)) → bridge_in n o ≡ Some b
+    → Stands w b.no.0 b.source.0 b.own b.exec
+stands-by w n None b bridged h = cc
+stands-by w n (Some s) b bridged h =
+    stands-at w n (Some (position_of s)) b (λ p is. subst (λ (q : Position). IsBridged w n.0 q) (same_Some (position_of s) p is) (bridged s refl)) h
+
 module _ (w : World) (xs : List Sight) where
-  stands : AllBridged w xs → (n : ServerNo) (b : Bridge) → bridge_in n (seen_of xs n.0) ≡ Some b → Stands w b.no.0 b.source.0 b.own b.exec
-  stands bridged n b h = stands-by w n (seen_of xs n.0) b (bridged n.0) h
+  stands : AllBridged w xs → (n : ServerNo) (b : Bridge) → bridge_at n (seen_of xs n.0) ≡ Some b → Stands w b.no.0 b.source.0 b.own b.exec
+  stands bridged n b h = stands-at w n (seen_of xs n.0) b (bridged n.0) h
 
   -- a crossing can be made, and is allowed
-  pub crossing-can : AllShow w xs → (c : Crossing) (a b : ServerNo) (e : Exchange) → crossed c a (bridge_in (read_by c a b) (seen_of xs (read_by c a b).0)) ≡ Some e → can_attach w e ≡ true
-  crossing-can shown c a b e h = go c (bridge_in (read_by c a b) (seen_of xs (read_by c a b).0)) (λ x is. seen-spans w xs (read_by c a b) x shown is) h
+  pub crossing-can : AllShow w xs → (c : Crossing) (a b : ServerNo) (e : Exchange) → crossed c a (bridge_at (read_by c a b) (seen_of xs (read_by c a b).0)) ≡ Some e → can_attach w e ≡ true
+  crossing-can shown c a b e h = go c (bridge_at (read_by c a b) (seen_of xs (read_by c a b).0)) (λ x is. seen-spans w xs (read_by c a b) x shown is) h
     where
       go : (d : Crossing) (o : Option Bridge) → ((x : Bridge) → o ≡ Some x → Spans w x) → crossed d a o ≡ Some e → can_attach w e ≡ true
       go d None f h = cc
@@ -53,44 +61,44 @@ module _ (w : World) (xs : List Sight) where
       go cross.About (Some x) f h = subst (λ (y : Exchange). can_attach w y ≡ true) (same_Some (Attach a.0 (spot.OwnEnd x.exec) x.no x.own) e h) (target-can w x.no.0 x.own (f x refl).own)
       go cross.Back (Some x) f h = subst (λ (y : Exchange). can_attach w y ≡ true) (same_Some (Attach a.0 (spot.OwnEnd x.own) x.source x.exec) e h) (target-can w x.source.0 x.exec (f x refl).exec)
 
-  pub crossing-allowed : AllShow w xs → (c : Crossing) (a b : ServerNo) (e : Exchange) → crossed c a (bridge_in (read_by c a b) (seen_of xs (read_by c a b).0)) ≡ Some e → Allowed w e
+  pub crossing-allowed : AllShow w xs → (c : Crossing) (a b : ServerNo) (e : Exchange) → crossed c a (bridge_at (read_by c a b) (seen_of xs (read_by c a b).0)) ≡ Some e → Allowed w e
   crossing-allowed shown c a b e h = can-allowed w e (crossing-can shown c a b e h)
 
   -- a server that goes about is the source that its new source showed
-  about-source : (a b : ServerNo) (x : Bridge) → is_under (source_shown (seen_of xs b.0)) a.0 ≡ true → bridge_in b (seen_of xs b.0) ≡ Some x → x.source.0 ≡ a.0
+  about-source : (a b : ServerNo) (x : Bridge) → is_under (source_shown (seen_of xs b.0)) a.0 ≡ true → bridge_at b (seen_of xs b.0) ≡ Some x → x.source.0 ≡ a.0
   about-source a b x under h =
       let p = bridge-parts b (seen_of xs b.0) x h in
       eqb-true x.source.0 a.0 (sym (ap (λ o. is_under o a.0) (ap source_shown p.is ∙ p.from)) ∙ under)
 
   -- a crossing joins well
   pub crossing-joins : Safe w → AllBridged w xs → (c : Crossing) (a b : ServerNo) (e : Exchange) → finds_crossing (footing w xs) c a b ≡ true
-      → crossed c a (bridge_in (read_by c a b) (seen_of xs (read_by c a b).0)) ≡ Some e → JoinsWell w e
-  crossing-joins safe bridged cross.Up a b e found h = go (bridge_in b (seen_of xs b.0)) refl h
+      → crossed c a (bridge_at (read_by c a b) (seen_of xs (read_by c a b).0)) ≡ Some e → JoinsWell w e
+  crossing-joins safe bridged cross.Up a b e found h = go (bridge_at b (seen_of xs b.0)) refl h
     where
-      go : (o : Option Bridge) → bridge_in b (seen_of xs b.0) ≡ o → crossed cross.Up a o ≡ Some e → JoinsWell w e
+      go : (o : Option Bridge) → bridge_at b (seen_of xs b.0) ≡ o → crossed cross.Up a o ≡ Some e → JoinsWell w e
       go None is h = cc
       go (Some x) is h =
           subst (λ (y : Exchange). JoinsWell w y) (same_Some (Attach a.0 (spot.At x.no x.own) x.source x.exec) e h)
           (joins-up w a.0 x.no x.source x.own x.exec safe (stands bridged b x is))
-  crossing-joins safe bridged cross.Down a b e found h = go (bridge_in b (seen_of xs b.0)) refl h
+  crossing-joins safe bridged cross.Down a b e found h = go (bridge_at b (seen_of xs b.0)) refl h
     where
-      go : (o : Option Bridge) → bridge_in b (seen_of xs b.0) ≡ o → crossed cross.Down a o ≡ Some e → JoinsWell w e
+      go : (o : Option Bridge) → bridge_at b (seen_of xs b.0) ≡ o → crossed cross.Down a o ≡ Some e → JoinsWell w e
       go None is h = cc
       go (Some x) is h =
           subst (λ (y : Exchange). JoinsWell w y) (same_Some (Attach a.0 (spot.At x.source x.exec) x.no x.own) e h)
           (joins-down w a.0 x.no x.source x.own x.exec safe (stands bridged b x is))
-  crossing-joins safe bridged cross.About a b e found h = go (bridge_in b (seen_of xs b.0)) refl h
+  crossing-joins safe bridged cross.About a b e found h = go (bridge_at b (seen_of xs b.0)) refl h
     where
-      go : (o : Option Bridge) → bridge_in b (seen_of xs b.0) ≡ o → crossed cross.About a o ≡ Some e → JoinsWell w e
+      go : (o : Option Bridge) → bridge_at b (seen_of xs b.0) ≡ o → crossed cross.About a o ≡ Some e → JoinsWell w e
       go None is h = cc
       go (Some x) is h =
           let under = (and_parts (is_under (source_shown (seen_of xs b.0)) a.0) (logs_at w b.0) found).0 in
           subst (λ (y : Exchange). JoinsWell w y) (same_Some (Attach a.0 (spot.OwnEnd x.exec) x.no x.own) e h)
           (subst (λ (k : ℕ). JoinsWell w (Attach k (spot.OwnEnd x.exec) x.no x.own)) (about-source a b x under is)
           (joins-about w x.no x.source x.own x.exec safe (stands bridged b x is)))
-  crossing-joins safe bridged cross.Back a b e found h = go (bridge_in a (seen_of xs a.0)) refl h
+  crossing-joins safe bridged cross.Back a b e found h = go (bridge_at a (seen_of xs a.0)) refl h
     where
-      go : (o : Option Bridge) → bridge_in a (seen_of xs a.0) ≡ o → crossed cross.Back a o ≡ Some e → JoinsWell w e
+      go : (o : Option Bridge) → bridge_at a (seen_of xs a.0) ≡ o → crossed cross.Back a o ≡ Some e → JoinsWell w e
       go None is h = cc
       go (Some x) is h =
           subst (λ (y : Exchange). JoinsWell w y) (same_Some (Attach a.0 (spot.OwnEnd x.own) x.source x.exec) e h)
@@ -101,15 +109,15 @@ module _ (w : World) (xs : List Sight) where
   pub same-can : AllShow w xs → (n : ServerNo) (e : Exchange) → same_again n (seen_of xs n.0) ≡ Some e → can_attach w e ≡ true
   same-can shown n e h = go (seen_of xs n.0) refl h
     where
-      by : (s : Status) (m : ServerNo) → seen_of xs n.0 ≡ Some s → source_no s.source ≡ Some m.0 → Some (Attach n.0 (spot.At m s.exec) m s.exec) ≡ Some e → can_attach w e ≡ true
+      by : (s : Position) (m : ServerNo) → seen_of xs n.0 ≡ Some s → source_no s.source ≡ Some m.0 → Some (Attach n.0 (spot.At m s.exec) m s.exec) ≡ Some e → can_attach w e ≡ true
       by s m is from h = subst (λ (y : Exchange). can_attach w y ≡ true) (same_Some (Attach n.0 (spot.At m s.exec) m s.exec) e h) (target-can w m.0 s.exec ((shown n.0 s is).under m.0 from))
 
-      at : (s : Status) (x : SourceState) → seen_of xs n.0 ≡ Some s → s.source ≡ x → attached_anew n s.exec x ≡ Some e → can_attach w e ≡ true
+      at : (s : Position) (x : SourceState) → seen_of xs n.0 ≡ Some s → s.source ≡ x → attached_anew n s.exec x ≡ Some e → can_attach w e ≡ true
       at s Without is from h = cc
       at s (Attached m) is from h = by s m is (ap source_no from) h
       at s (Detached m) is from h = by s m is (ap source_no from) h
 
-      go : (o : Option Status) → seen_of xs n.0 ≡ o → same_again n o ≡ Some e → can_attach w e ≡ true
+      go : (o : Option Position) → seen_of xs n.0 ≡ o → same_again n o ≡ Some e → can_attach w e ≡ true
       go None is h = cc
       go (Some s) is h = at s s.source is refl h
 
@@ -127,7 +135,7 @@ module _ (w : World) (xs : List Sight) where
       at c (Attached m) h = by c m h
       at c (Detached m) h = by c m h
 
-      go : (o : Option Status) → same_again n o ≡ Some e → JoinsWell w e
+      go : (o : Option Position) → same_again n o ≡ Some e → JoinsWell w e
       go None h = cc
       go (Some s) h = at s.exec s.source h
 
@@ -140,7 +148,7 @@ module _ (w : World) (xs : List Sight) where
           let p = and_parts w.gtid ((footing w xs).read m.0 && logs_at w m.0) found in
           both w.gtid (logs_by (server_at w m.0)) p.0 (and_parts ((footing w xs).read m.0) (logs_at w m.0) p.1).1
 
-      go : (o : Option Status) → by_set n m o ≡ Some e → can_attach w e ≡ true
+      go : (o : Option Position) → by_set n m o ≡ Some e → can_attach w e ≡ true
       go None h = cc
       go (Some s) h = subst (λ (y : Exchange). can_attach w y ≡ true) (same_Some (AttachAuto n.0 s.set m) e h) sure
 
@@ -150,16 +158,16 @@ module _ (w : World) (xs : List Sight) where
   pub auto-joins : AllShow w xs → (n m : ServerNo) (e : Exchange) → by_set n m (seen_of xs m.0) ≡ Some e → JoinsWell w e
   auto-joins shown n m e h = go (seen_of xs m.0) refl h
     where
-      go : (o : Option Status) → seen_of xs m.0 ≡ o → by_set n m o ≡ Some e → JoinsWell w e
+      go : (o : Option Position) → seen_of xs m.0 ≡ o → by_set n m o ≡ Some e → JoinsWell w e
       go None is h = cc
       go (Some s) is h = subst (λ (y : Exchange). JoinsWell w y) (same_Some (AttachAuto n.0 s.set m) e h) (joins-auto w n.0 s.set m (shown m.0 s is).set)
 
   -- a crossing that finds what it uses makes an attachment
-  bridge-there : AllShow w xs → (n : ServerNo) (m : ℕ) → source_shown (seen_of xs n.0) ≡ Some m → logs_at w n.0 ≡ true → (b : Bridge) × (bridge_in n (seen_of xs n.0) ≡ Some b)
+  bridge-there : AllShow w xs → (n : ServerNo) (m : ℕ) → source_shown (seen_of xs n.0) ≡ Some m → logs_at w n.0 ≡ true → (b : Bridge) × (bridge_at n (seen_of xs n.0) ≡ Some b)
   bridge-there shown n m from logs = go (seen_of xs n.0) refl from
     where
       -- a reading of a server that logs, under a source, shows a bridge
-      by : (s : Status) (own : Coord) (x : SourceState) → s.own_end ≡ Some own → s.source ≡ x → source_no x ≡ Some m → (b : Bridge) × (bridge_in n (Some s) ≡ Some b)
+      by : (s : Position) (own : Coord) (x : SourceState) → s.own_end ≡ Some own → s.source ≡ x → source_no x ≡ Some m → (b : Bridge) × (bridge_at n (Some s) ≡ Some b)
       by s own Without end is h = cc
       by s own (Attached k) end is h = (
         record { no = n; source = k; own = own; exec = s.exec },
@@ -170,7 +178,7 @@ module _ (w : World) (xs : List Sight) where
         ap (λ o. bridge_by n o s.source s.exec) end ∙ ap (λ y. bridge_by n (Some own) y s.exec) is,
       )
 
-      go : (o : Option Status) → seen_of xs n.0 ≡ o → source_shown o ≡ Some m → (b : Bridge) × (bridge_in n o ≡ Some b)
+      go : (o : Option Position) → seen_of xs n.0 ≡ o → source_shown o ≡ Some m → (b : Bridge) × (bridge_at n o ≡ Some b)
       go None is h = cc
       go (Some s) is h =
           let sh = shown n.0 s is in
@@ -192,20 +200,20 @@ module _ (w : World) (xs : List Sight) where
   crossed-there cross.Back a o b h = ap (λ x. is_some (crossed cross.Back a x)) h
 
   pub crossing-found : AllShow w xs → (c : Crossing) (a b : ServerNo) → finds_crossing (footing w xs) c a b ≡ true
-      → is_some (crossed c a (bridge_in (read_by c a b) (seen_of xs (read_by c a b).0))) ≡ true
+      → is_some (crossed c a (bridge_at (read_by c a b) (seen_of xs (read_by c a b).0))) ≡ true
   crossing-found shown cross.Up a b h =
       let p = and_parts (is_some (source_shown (seen_of xs b.0))) (logs_at w b.0) h in
       let m = some-there (source_shown (seen_of xs b.0)) p.0 in
-      let x = bridge-there shown b m.0 m.1 p.1 in crossed-there cross.Up a (bridge_in b (seen_of xs b.0)) x.0 x.1
+      let x = bridge-there shown b m.0 m.1 p.1 in crossed-there cross.Up a (bridge_at b (seen_of xs b.0)) x.0 x.1
   crossing-found shown cross.Down a b h =
       let p = and_parts (is_some (source_shown (seen_of xs b.0))) (logs_at w b.0) h in
       let m = some-there (source_shown (seen_of xs b.0)) p.0 in
-      let x = bridge-there shown b m.0 m.1 p.1 in crossed-there cross.Down a (bridge_in b (seen_of xs b.0)) x.0 x.1
+      let x = bridge-there shown b m.0 m.1 p.1 in crossed-there cross.Down a (bridge_at b (seen_of xs b.0)) x.0 x.1
   crossing-found shown cross.About a b h =
       let p = and_parts (is_under (source_shown (seen_of xs b.0)) a.0) (logs_at w b.0) h in
       let m = under-there (source_shown (seen_of xs b.0)) a.0 p.0 in
-      let x = bridge-there shown b m.0 m.1 p.1 in crossed-there cross.About a (bridge_in b (seen_of xs b.0)) x.0 x.1
+      let x = bridge-there shown b m.0 m.1 p.1 in crossed-there cross.About a (bridge_at b (seen_of xs b.0)) x.0 x.1
   crossing-found shown cross.Back a b h =
       let p = and_parts (is_under (source_shown (seen_of xs a.0)) b.0) (logs_at w a.0) h in
       let m = under-there (source_shown (seen_of xs a.0)) b.0 p.0 in
-      let x = bridge-there shown a m.0 m.1 p.1 in crossed-there cross.Back a (bridge_in a (seen_of xs a.0)) x.0 x.1
+      let x = bridge-there shown a m.0 m.1 p.1 in crossed-there cross.Back a (bridge_at a (seen_of xs a.0)) x.0 x.1

@@ -3,7 +3,7 @@ use Rattle.std.proofs.Common.{◌≡◌, ℕ, Bool, true, false, cond, List, [],
 use Rattle.std.specs.Prelude.{◌==◌, is_some}
 use Rattle.std.proofs.lemmas.Bool.{false≢true, and_parts}
 use Rattle.orch_base.specs.declared.server.ServerNo.{ServerNo}
-use Rattle.server_words.specs.declared.status.Status.{Status}
+use Rattle.operations.specs.declared.sight.Position.{Position}
 use Rattle.server_model.specs.Worlds.{World, source_no}
 use Rattle.operations.specs.declared.op.Aim.{Aim}
 use Rattle.operations.specs.declared.op.Aim.TheVariants as aim
@@ -114,7 +114,7 @@ held-mono f g le (op ∷ ops) h =
     (held-mono (learn f (deed_of op)) (learn g (deed_of op)) (learn-mono f g le (deed_of op)) ops parts.1)
 
 -- a reading that shows what it is sure to show is one to count on
-pub Within-saw : (w : World) (xs : List Sight) (n : ServerNo) (s : Status) (u : Option ℕ) → ((m : ℕ) → u ≡ Some m → source_no s.source ≡ Some m)
+pub Within-saw : (w : World) (xs : List Sight) (n : ServerNo) (s : Position) (u : Option ℕ) → ((m : ℕ) → u ≡ Some m → source_no s.source ≡ Some m)
     → Within (reading (footing w xs) n u) (footing w (with_seen xs n s))
 Within-saw w xs n s u shows = record {
   gtid = λ h. h;
@@ -141,7 +141,7 @@ Within-logging f g m le here = record {
 }
 
 -- read again while waiting: what the wait is sure of doesn't rest on what the server showed before
-pub Within-again : (w : World) (xs : List Sight) (n : ServerNo) (s : Status) → Within (reading (footing w xs) n None) (reading (footing w (with_seen xs n s)) n None)
+pub Within-again : (w : World) (xs : List Sight) (n : ServerNo) (s : Position) → Within (reading (footing w xs) n None) (reading (footing w (with_seen xs n s)) n None)
 Within-again w xs n s = record {
   gtid = λ h. h;
   logs = λ k h. h;
@@ -154,5 +154,5 @@ Within-again w xs n s = record {
     under false k m e h = ap source_shown (seen-at xs n s k) ∙ ap (λ b. source_shown (cond b (Some s) (seen_of xs k))) e ∙ h
 
 -- whatever was read before is read still
-pub read-still : (w : World) (xs : List Sight) (n : ServerNo) (s : Status) (k : ℕ) → is_some (seen_of xs k) ≡ true → is_some (seen_of (with_seen xs n s) k) ≡ true
+pub read-still : (w : World) (xs : List Sight) (n : ServerNo) (s : Position) (k : ℕ) → is_some (seen_of xs k) ≡ true → is_some (seen_of (with_seen xs n s) k) ≡ true
 read-still w xs n s k h = (Within-saw w xs n s None (λ m e. cc)).read k (or-right (n.0 == k) (is_some (seen_of xs k)) h)

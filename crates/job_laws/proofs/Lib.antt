@@ -16,3 +16,4 @@ pub mod Planned
 pub mod Passages
 pub mod Listed
 pub mod Settling
+pub mod Stopped

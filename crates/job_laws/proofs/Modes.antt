@@ -7,6 +7,8 @@ use Rattle.server_model.specs.declared.decisions.ApplyStep.{ApplyStep}
 use Rattle.server_model.specs.declared.decisions.ApplyStep.TheVariants as applying
 use Rattle.server_model.specs.declared.decisions.FetchStep.{FetchStep}
 use Rattle.server_model.specs.declared.decisions.FetchStep.TheVariants as receiving
+use Rattle.server_words.specs.declared.answers.PurgeAnswer.{PurgeAnswer}
+use Rattle.server_words.specs.declared.answers.PurgeAnswer.TheVariants as purging
 use Rattle.server_words.specs.declared.answers.RotateAnswer.{RotateAnswer}
 use Rattle.server_words.specs.declared.answers.RotateAnswer.TheVariants as rotating
 use Rattle.server_words.specs.declared.answers.Unreachable.{Unreachable}
@@ -19,7 +21,8 @@ use Rattle.server_model.specs.Attach.{attach_answer, after_attach}
 use Rattle.server_model.specs.Desk.{asked, befallen, desk_answer, rotate_answer, after_change, after_desk, after_rotate}
 use Rattle.server_model.specs.Exchanges.{write_answer, after_write, fetch_step, after_fetch, apply_step, after_apply}
 use Rattle.server_model.specs.Gtids.{attach_auto_answer, after_attach_auto}
-use Rattle.server_model.specs.Run.{Exchange, Write, Fetch, Apply, Request, Befall, Rotate, Attach, AttachAuto, after, run}
+use Rattle.server_model.specs.Purging.{purge_answer, after_purge}
+use Rattle.server_model.specs.Run.{Exchange, Write, Fetch, Apply, Request, Befall, Rotate, Purge, Attach, AttachAuto, after, run}
 use Rattle.server_model.specs.Worlds.{World, server_at}
 
 gtid-write : (w : World) (n size : ℕ) (o : Option Server) (a : WriteAnswer) → (after_write w n size o a).gtid ≡ w.gtid
@@ -33,6 +36,7 @@ gtid-fetch : (w : World) (n : ℕ) (o : Option Server) (a : FetchStep) → (afte
 gtid-fetch w n None a = refl
 gtid-fetch w n (Some r) receiving.Halt = refl
 gtid-fetch w n (Some r) receiving.Unlinked = refl
+gtid-fetch w n (Some r) (receiving.Refuse first) = refl
 gtid-fetch w n (Some r) (receiving.Take (next.Entry index to)) = refl
 gtid-fetch w n (Some r) (receiving.Take (next.Rotate to)) = refl
 gtid-fetch w n (Some r) (receiving.Take next.End) = refl
@@ -62,6 +66,13 @@ gtid-rotate w n (Some s) rotating.NotLogging = refl
 gtid-rotate w n (Some s) rotating.Full = refl
 gtid-rotate w n (Some s) (rotating.Done at) = refl
 
+gtid-purge : (w : World) (n : ℕ) (o : Option Server) (a : PurgeAnswer) → (after_purge w n o a).gtid ≡ w.gtid
+gtid-purge w n None a = refl
+gtid-purge w n (Some s) purging.Down = refl
+gtid-purge w n (Some s) purging.NotLogging = refl
+gtid-purge w n (Some s) purging.NoFile = refl
+gtid-purge w n (Some s) (purging.Done first) = refl
+
 gtid-attach : (w : World) (n : ℕ) (to : ServerNo) (at : Coord) (o : Option Server) (r : Result (Unit {0}) AttachFault) → (after_attach w n to at o r).gtid ≡ w.gtid
 gtid-attach w n to at None r = refl
 gtid-attach w n to at (Some s) (Ok t) = refl
@@ -79,7 +90,8 @@ gtid-after w (Apply n) = gtid-apply w n (server_at w n) (apply_step w (server_at
 gtid-after w (Request n a) = gtid-desk w n a (desk_answer (server_at w n))
 gtid-after w (Befall n e) = gtid-change w n (befallen e) (server_at w n)
 gtid-after w (Rotate n) = gtid-rotate w n (server_at w n) (rotate_answer (server_at w n))
-gtid-after w (Attach n expect to at) = gtid-attach w n to at (server_at w n) (attach_answer w n expect to.0 (server_at w n))
+gtid-after w (Purge n file) = gtid-purge w n (server_at w n) (purge_answer w n file (server_at w n))
+gtid-after w (Attach n expect to at) = gtid-attach w n to at (server_at w n) (attach_answer w n expect to.0 at (server_at w n))
 gtid-after w (AttachAuto n observed to) = gtid-auto w n to (server_at w n) (attach_auto_answer w n observed to.0 (server_at w n))
 
 pub gtid-run : (w : World) (es : List Exchange) → (run w es).gtid ≡ w.gtid

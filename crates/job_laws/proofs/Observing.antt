@@ -4,9 +4,9 @@ use Rattle.std.specs.Prelude.{nat_lt}
 use Rattle.std.proofs.lemmas.Option.{same_Some}
 use Rattle.orch_base.specs.declared.server.Moment.{Moment}
 use Rattle.orch_base.specs.declared.server.ServerNo.{ServerNo}
-use Rattle.instance_keeper.specs.declared.observation.Observation.{Observation}
+use Rattle.kept_rows.specs.declared.observation.Observation.{Observation}
 use Rattle.server_words.specs.declared.status.Status.{Status}
-use Rattle.instance_keeper.specs.Seeing.{seen_in}
+use Rattle.kept_rows.specs.Seeing.{seen_in}
 use Rattle.binlog_coords.specs.declared.Coord.{Coord}
 use Rattle.server_words.specs.declared.answers.Unreachable.{Unreachable}
 use Rattle.server_words.specs.declared.attach.AttachFault.{AttachFault}
@@ -20,10 +20,9 @@ use Rattle.commands.specs.declared.cause.Cause.TheVariants as cause
 use Rattle.operations.specs.declared.op.Op.{Op}
 use Rattle.operations.specs.Deeds as deed
 use Rattle.operations.specs.Deeds.{Deed, deed_of}
-use Rattle.instance_keeper.specs.Bridges.{bridge_in}
 use Rattle.operations.specs.Jobs.{Job, seen_of}
 use Rattle.operations.specs.Targets.{can_attach}
-use Rattle.operations.specs.Turns.{Goes, Stops, settled, next, saw, observed, is_moved, after_status, after_look, after_ask, aim_of, is_reached, until_by, after_until, after_wait_by, after_wait, holds_seen, settles, read_by, crossed, same_again, by_set, attach_answer_of, after_answer, after_attach, by_deed, by_ops, turned}
+use Rattle.operations.specs.Turns.{Goes, Stops, settled, next, saw, observed, is_moved, after_status, after_look, after_ask, aim_of, is_reached, until_by, after_until, after_wait_by, after_wait, holds_seen, settles, read_by, bridge_at, crossed, same_again, by_set, attach_answer_of, after_answer, after_attach, by_deed, by_ops, turned}
 
 ask-observes : (j : Job) (rest : List Op) (n : ServerNo) (a : Ask) (r : Result (Unit {0}) Unreachable) → (settled j (after_ask j rest n a r)).observation ≡ None
 ask-observes j rest n a (Ok t) = refl
@@ -76,7 +75,7 @@ deed-observes w read now j rest (deed.Until n to) o h = none-some _ o _ (until-o
 deed-observes w read now j rest (deed.Await n to) o h = none-some _ o _ (wait-observes j rest n (λ s. is_reached (aim_of j.seen to) s.exec) (seen_in (status w n.0))) h
 deed-observes w read now j rest (deed.AwaitSet n m) o h = none-some _ o _ (wait-observes j rest n (holds_seen (seen_of j.seen m.0)) (seen_in (status w n.0))) h
 deed-observes w read now j rest (deed.Settle n) o h = none-some _ o _ (wait-observes j rest n (settles j) (seen_in (status w n.0))) h
-deed-observes w read now j rest (deed.Cross c a b) o h = none-some _ o _ (attach-observes w j rest a (crossed c a (bridge_in (read_by c a b) (seen_of j.seen (read_by c a b).0)))) h
+deed-observes w read now j rest (deed.Cross c a b) o h = none-some _ o _ (attach-observes w j rest a (crossed c a (bridge_at (read_by c a b) (seen_of j.seen (read_by c a b).0)))) h
 deed-observes w read now j rest (deed.Same n) o h = none-some _ o _ (attach-observes w j rest n (same_again n (seen_of j.seen n.0))) h
 deed-observes w read now j rest (deed.Auto n m) o h = none-some _ o _ (attach-observes w j rest n (by_set n m (seen_of j.seen m.0))) h
 deed-observes w read now j rest (deed.Finish lines) o h = cc

@@ -9,6 +9,8 @@ use Rattle.server_model.specs.declared.decisions.ApplyStep.{ApplyStep}
 use Rattle.server_model.specs.declared.decisions.ApplyStep.TheVariants as applying
 use Rattle.server_model.specs.declared.decisions.FetchStep.{FetchStep}
 use Rattle.server_model.specs.declared.decisions.FetchStep.TheVariants as receiving
+use Rattle.server_words.specs.declared.answers.PurgeAnswer.{PurgeAnswer}
+use Rattle.server_words.specs.declared.answers.PurgeAnswer.TheVariants as purging
 use Rattle.server_words.specs.declared.answers.RotateAnswer.{RotateAnswer}
 use Rattle.server_words.specs.declared.answers.RotateAnswer.TheVariants as rotating
 use Rattle.server_words.specs.declared.answers.Unreachable.{Unreachable}
@@ -21,7 +23,8 @@ use Rattle.server_model.specs.Attach.{attach_answer, attached_to, after_attach}
 use Rattle.server_model.specs.Desk.{asked, befallen, desk_answer, rotate_answer, rotated, after_change, after_desk, after_rotate}
 use Rattle.server_model.specs.Exchanges.{took, own_txn, write_answer, after_write, fetch_step, after_fetch, apply_step, after_apply}
 use Rattle.server_model.specs.Gtids.{uuids, auto_coord, attached_auto, attach_auto_answer, after_attach_auto}
-use Rattle.server_model.specs.Run.{Exchange, Write, Fetch, Apply, Request, Befall, Rotate, Attach, AttachAuto, after, run}
+use Rattle.server_model.specs.Purging.{purge_answer, after_purge}
+use Rattle.server_model.specs.Run.{Exchange, Write, Fetch, Apply, Request, Befall, Rotate, Purge, Attach, AttachAuto, after, run}
 use Rattle.server_model.specs.Worlds.{World, server_at, with_server}
 use Rattle.replication_laws.proofs.Worlds.{at_with_other}
 use Rattle.operations.specs.Changes.{server_of}
@@ -45,6 +48,7 @@ module _ (w : World) (n m : ℕ) (apart : m ≡ n → ⊥) where
   other-fetch None at a = refl
   other-fetch (Some r) at receiving.Halt = refl
   other-fetch (Some r) at receiving.Unlinked = refl
+  other-fetch (Some r) at (receiving.Refuse first) = other r (record r { receiver = false }) at
   other-fetch (Some r) at (receiving.Take (next.Entry index to)) = other r (record r { read = to }) at
   other-fetch (Some r) at (receiving.Take (next.Rotate to)) = other r (record r { read = to }) at
   other-fetch (Some r) at (receiving.Take next.End) = refl
@@ -74,6 +78,13 @@ module _ (w : World) (n m : ℕ) (apart : m ≡ n → ⊥) where
   other-rotate (Some s) at rotating.Full = refl
   other-rotate (Some s) at (rotating.Done to) = other s (rotated s) at
 
+  other-purge : (o : Option Server) → server_at w n ≡ o → (a : PurgeAnswer) → Stays (after_purge w n o a)
+  other-purge None at a = refl
+  other-purge (Some s) at purging.Down = refl
+  other-purge (Some s) at purging.NotLogging = refl
+  other-purge (Some s) at purging.NoFile = refl
+  other-purge (Some s) at (purging.Done first) = other s (record s { first = first }) at
+
   other-attach : (to : ServerNo) (c : Coord) (o : Option Server) → server_at w n ≡ o → (r : Result (Unit {0}) AttachFault) → Stays (after_attach w n to c o r)
   other-attach to c None at r = refl
   other-attach to c (Some s) at (Ok t) = other s (attached_to to c s) at
@@ -91,7 +102,8 @@ other-after w (Apply n) m apart = other-apply w n m apart (server_at w n) refl (
 other-after w (Request n a) m apart = other-desk w n m apart a (desk_answer (server_at w n))
 other-after w (Befall n e) m apart = other-change w n m apart (befallen e) (server_at w n) refl
 other-after w (Rotate n) m apart = other-rotate w n m apart (server_at w n) refl (rotate_answer (server_at w n))
-other-after w (Attach n expect to at) m apart = other-attach w n m apart to at (server_at w n) refl (attach_answer w n expect to.0 (server_at w n))
+other-after w (Purge n file) m apart = other-purge w n m apart (server_at w n) refl (purge_answer w n file (server_at w n))
+other-after w (Attach n expect to at) m apart = other-attach w n m apart to at (server_at w n) refl (attach_answer w n expect to.0 at (server_at w n))
 other-after w (AttachAuto n observed to) m apart = other-auto w n m apart to (server_at w n) refl (attach_auto_answer w n observed to.0 (server_at w n))
 
 -- exchanges with servers that are leased to one job leave each server that isn't

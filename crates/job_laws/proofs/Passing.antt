@@ -4,21 +4,20 @@ use Rattle.std.specs.List.{All}
 use Rattle.std.proofs.lemmas.List.Elements.{All-nil, All-set, All-weaker, All-replicate}
 use Rattle.orch_base.specs.declared.server.Moment.{Moment}
 use Rattle.orch_base.specs.declared.server.ServerNo.{ServerNo}
-use Rattle.instance_keeper.specs.declared.observation.Observation.{Observation}
+use Rattle.kept_rows.specs.declared.observation.Observation.{Observation}
 use Rattle.server_model.specs.Run.{Exchange, run, AllAllowed, AllJoinWell}
 use Rattle.server_model.specs.Safe.{Safe, Placed, IsQuiet}
 use Rattle.server_model.specs.Worlds.{World}
 use Rattle.replication_laws.proofs.Runs.{Placed-run, Safe-run, Grows-run}
 use Rattle.replication_laws.proofs.BridgeLaws.{Stands-grows}
 use Rattle.instance_keeper.specs.declared.bridge.Bridge.{Bridge}
-use Rattle.operations.specs.Jobs.{Job}
-use Rattle.instance_keeper.specs.Bridges.{bridge_in}
+use Rattle.operations.specs.Jobs.{Job, position_of}
+use Rattle.instance_keeper.specs.Bridges.{bridge_in, with_bridge, ring_at, ringed}
 use Rattle.operations.specs.Turns.{observed}
 use Rattle.job_laws.specs.Held.{HeldJob, Spans}
 use Rattle.job_laws.specs.Sound.{AllBridged}
 use Rattle.job_laws.specs.Leases.{HasLeases}
 use Rattle.job_laws.specs.Flights.{Flight, Held, Sound, IsShown, IsShownBridged, StandsIn, slotted, stored, forgotten, restarted, no_leases}
-use Rattle.instance_keeper.specs.Bridges.{with_bridge, ring_at, ringed}
 use Rattle.job_laws.proofs.Spanning.{spans-by}
 use Rattle.job_laws.proofs.Bridging.{stands-by}
 use Rattle.job_laws.proofs.Lists.{All-at, All-ring}
@@ -45,7 +44,7 @@ module _ (w : World) (es : List Exchange) (placed : Placed w) (allowed : AllAllo
 
   slot-bridged : (slot : Option Observation) → IfSome slot (IsShownBridged w) → IfSome slot (IsShownBridged (run w es))
   slot-bridged None h = h
-  slot-bridged (Some o) h = λ s is. Bridged-run w es o.no.0 s placed allowed (h s is)
+  slot-bridged (Some o) h = λ s is. Bridged-run w es o.no.0 (position_of s) placed allowed (h s is)
 
   pub slots-run : (slots : List (Option Observation)) → All (λ slot. IfSome slot (IsShown w)) slots → All (λ slot. IfSome slot (IsShown (run w es))) slots
   slots-run slots all = All-weaker (λ slot. IfSome slot (IsShown w)) (λ slot. IfSome slot (IsShown (run w es))) slot-run slots all

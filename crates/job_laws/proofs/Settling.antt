@@ -5,7 +5,7 @@ use Rattle.std.proofs.lemmas.Bool.{lt-ltb, le-ltb}
 use Rattle.orch_base.specs.declared.server.Moment.{Moment}
 use Rattle.orch_base.specs.declared.server.ServerNo.{ServerNo}
 use Rattle.server_words.specs.declared.status.Status.{Status}
-use Rattle.instance_keeper.specs.Seeing.{seen_in}
+use Rattle.kept_rows.specs.Seeing.{seen_in}
 use Rattle.server_model.specs.Gtids.{status}
 use Rattle.server_model.specs.Worlds.{World}
 use Rattle.commands.specs.declared.cause.Cause.TheVariants as cause

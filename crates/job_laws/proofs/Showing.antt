@@ -9,7 +9,7 @@ use Rattle.orch_base.specs.declared.server.Settings.{Settings}
 use Rattle.instance_keeper.specs.declared.bridge.Bridge.{Bridge}
 use Rattle.server_words.specs.declared.status.Status.{Status}
 use Rattle.server_words.specs.declared.status.StatusFault.{StatusFault}
-use Rattle.instance_keeper.specs.Seeing.{seen_in}
+use Rattle.kept_rows.specs.Seeing.{seen_in}
 use Rattle.server_model.specs.declared.server.Server.{Server}
 use Rattle.server_model.specs.Attach.{IsTarget}
 use Rattle.server_model.specs.Gtids.{status}
@@ -20,10 +20,12 @@ use Rattle.server_model.specs.Worlds.{World, server_at}
 use Rattle.replication_laws.specs.Growth.{Grows}
 use Rattle.replication_laws.proofs.BridgeLaws.{Stands-seen, Stands-grows}
 use Rattle.replication_laws.proofs.Runs.{Grows-run}
-use Rattle.replication_laws.proofs.ShownCoords.{Shows-seen as Shows-answered}
+use Rattle.replication_laws.proofs.ShownCoords.{Position-run, Shows-seen as Shows-answered}
+use Rattle.operations.specs.declared.sight.Position.{Position}
+use Rattle.operations.specs.Jobs.{position_of}
 use Rattle.operations.specs.Targets.{logs_by}
 use Rattle.job_laws.specs.Footing.{logs_at}
-use Rattle.job_laws.specs.Held.{Spans}
+use Rattle.job_laws.specs.Held.{ShowsAt, Spans}
 use Rattle.job_laws.specs.Sound.{IsBridged}
 
 -- ---- what stays
@@ -52,8 +54,11 @@ logs-on w w' n grows h = go (server_at w n) refl h
     go None at h = absurd (false≢true h)
     go (Some s) at h = let on = grows n s at in ap logs_by on.1 ∙ ap (λ (x : Settings). x.logs) on.2.settings ∙ h
 
-pub Bridged-run : (w : World) (es : List Exchange) (n : ℕ) (seen : Status) → Placed w → AllAllowed w es → IsBridged w n seen → IsBridged (run w es) n seen
+pub Bridged-run : (w : World) (es : List Exchange) (n : ℕ) (seen : Position) → Placed w → AllAllowed w es → IsBridged w n seen → IsBridged (run w es) n seen
 Bridged-run w es n seen placed allowed b = λ m own from end. Stands-grows w (run w es) n m own seen.exec (Grows-run w es placed allowed) (b m own from end)
+
+pub ShowsAt-run : (w : World) (es : List Exchange) (n : ℕ) (seen : Position) → Placed w → AllAllowed w es → ShowsAt w n seen → ShowsAt (run w es) n seen
+ShowsAt-run w es n seen placed allowed s = Position-run w es n seen.own_end seen.source seen.exec seen.set placed allowed s
 
 -- ---- what a status shows
 
@@ -68,5 +73,5 @@ answered w n seen h = go (status w n) h
 pub Shows-seen : (w : World) (n : ℕ) (seen : Status) → Placed w → seen_in (status w n) ≡ Some seen → Shows w n seen
 Shows-seen w n seen placed h = Shows-answered w n seen placed (answered w n seen h)
 
-pub Bridged-seen : (w : World) (n : ℕ) (seen : Status) → Safe w → seen_in (status w n) ≡ Some seen → IsBridged w n seen
+pub Bridged-seen : (w : World) (n : ℕ) (seen : Status) → Safe w → seen_in (status w n) ≡ Some seen → IsBridged w n (position_of seen)
 Bridged-seen w n seen safe h m own from end = Stands-seen w n m seen own safe (answered w n seen h) from end

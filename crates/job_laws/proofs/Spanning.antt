@@ -11,20 +11,22 @@ use Rattle.instance_keeper.specs.Bridges.{bridge_by, bridge_in}
 use Rattle.server_model.specs.Attach.{IsTarget}
 use Rattle.server_model.specs.Showing.{Shows}
 use Rattle.server_model.specs.Worlds.{World, source_no}
+use Rattle.operations.specs.declared.sight.Position.{Position}
 use Rattle.operations.specs.declared.sight.Sight.{Sight}
-use Rattle.operations.specs.Jobs.{seen_of}
-use Rattle.job_laws.specs.Held.{AllShow, Spans}
+use Rattle.operations.specs.Jobs.{position_of, seen_of}
+use Rattle.operations.specs.Turns.{bridge_at}
+use Rattle.job_laws.specs.Held.{AllShow, ShowsAt, Spans}
 
 -- a reading that shows a bridge
-pub record ShowsBridge (n : ServerNo) (o : Option Status) (b : Bridge) : Type 0 where
-  pub seen : Status
+pub record ShowsBridge (n : ServerNo) (o : Option Position) (b : Bridge) : Type 0 where
+  pub seen : Position
   pub is : o ≡ Some seen
   pub end : seen.own_end ≡ Some b.own
   pub from : source_no seen.source ≡ Some b.source.0
   pub exec : seen.exec ≡ b.exec
   pub no : n.0 ≡ b.no.0
 
-pub bridge-parts : (n : ServerNo) (o : Option Status) (b : Bridge) → bridge_in n o ≡ Some b → ShowsBridge n o b
+pub bridge-parts : (n : ServerNo) (o : Option Position) (b : Bridge) → bridge_at n o ≡ Some b → ShowsBridge n o b
 bridge-parts n None b h = cc
 bridge-parts n (Some s) b h = go s.own_end s.source refl refl h
   where
@@ -48,8 +50,8 @@ bridge-parts n (Some s) b h = go s.own_end s.source refl refl h
     go (Some own) (Detached m) end e h = by own m end (ap source_no e) h
 
 -- both ends of a bridge that was seen have places
-pub spans-by : (w : World) (n : ServerNo) (o : Option Status) (b : Bridge) → ((s : Status) → o ≡ Some s → Shows w n.0 s) → bridge_in n o ≡ Some b → Spans w b
-spans-by w n o b shown h =
+pub spans-at : (w : World) (n : ServerNo) (o : Option Position) (b : Bridge) → ((s : Position) → o ≡ Some s → ShowsAt w n.0 s) → bridge_at n o ≡ Some b → Spans w b
+spans-at w n o b shown h =
     let p = bridge-parts n o b h in
     let s = shown p.seen p.is in
     record {
@@ -57,5 +59,11 @@ spans-by w n o b shown h =
       exec = subst (λ (c : Coord). IsTarget w b.source.0 c) p.exec (s.under b.source.0 p.from);
     }
 
-pub seen-spans : (w : World) (xs : List Sight) (n : ServerNo) (b : Bridge) → AllShow w xs → bridge_in n (seen_of xs n.0) ≡ Some b → Spans w b
-seen-spans w xs n b shown h = spans-by w n (seen_of xs n.0) b (shown n.0) h
+pub seen-spans : (w : World) (xs : List Sight) (n : ServerNo) (b : Bridge) → AllShow w xs → bridge_at n (seen_of xs n.0) ≡ Some b → Spans w b
+seen-spans w xs n b shown h = spans-at w n (seen_of xs n.0) b (shown n.0) h
+
+-- and of one that a status shows
+pub spans-by : (w : World) (n : ServerNo) (o : Option Status) (b : Bridge) → ((s : Status) → o ≡ Some s → Shows w n.0 s) → bridge_in n o ≡ Some b → Spans w b
+spans-by w n None b shown h = cc
+spans-by w n (Some s) b shown h =
+    spans-at w n (Some (position_of s)) b (λ p is. subst (λ (q : Position). ShowsAt w n.0 q) (same_Some (position_of s) p is) (shown s refl).at) h

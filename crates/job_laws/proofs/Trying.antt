@@ -6,16 +6,15 @@ use Rattle.orch_base.specs.declared.server.Moment.{Moment}
 use Rattle.orch_base.specs.declared.server.ServerNo.{ServerNo}
 use Rattle.orch_base.specs.declared.server.SourceState.{SourceState}
 use Rattle.orch_base.specs.declared.server.SourceState.TheVariants.{Without, Attached, Detached}
-use Rattle.server_words.specs.declared.status.Status.{Status}
+use Rattle.operations.specs.declared.sight.Position.{Position}
 use Rattle.server_model.specs.Run.{Exchange}
 use Rattle.server_model.specs.Worlds.{World, source_no}
 use Rattle.operations.specs.declared.op.Crossing.{Crossing}
 use Rattle.operations.specs.declared.op.Op.{Op}
 use Rattle.operations.specs.Deeds.{Auto, Cross, Same}
 use Rattle.operations.specs.Jobs.{Job, seen_of}
-use Rattle.instance_keeper.specs.Bridges.{bridge_in}
 use Rattle.operations.specs.Targets.{can_attach}
-use Rattle.operations.specs.Turns.{Goes, next, read_by, crossed, attached_anew, same_again, by_set, attach_answer_of, after_answer, after_attach, by_deed}
+use Rattle.operations.specs.Turns.{Goes, next, read_by, bridge_at, crossed, attached_anew, same_again, by_set, attach_answer_of, after_answer, after_attach, by_deed}
 use Rattle.job_laws.specs.Footing.{finds, logs_at, source_shown, footing}
 use Rattle.job_laws.specs.Held.{AllShow, IsTried}
 use Rattle.job_laws.proofs.Bridging.{crossing-found, crossing-can, same-can, auto-can}
@@ -24,16 +23,16 @@ there : (o : Option Exchange) → is_some o ≡ true → (e : Exchange) × (o �
 there None h = absurd (false≢true h)
 there (Some e) h = (e, refl)
 
-anew-there : (n : ServerNo) (s : Status) (x : SourceState) → is_some (source_no x) ≡ true → is_some (attached_anew n s.exec x) ≡ true
+anew-there : (n : ServerNo) (s : Position) (x : SourceState) → is_some (source_no x) ≡ true → is_some (attached_anew n s.exec x) ≡ true
 anew-there n s Without h = h
 anew-there n s (Attached m) h = refl
 anew-there n s (Detached m) h = refl
 
-same-there : (n : ServerNo) (o : Option Status) → is_some (source_shown o) ≡ true → is_some (same_again n o) ≡ true
+same-there : (n : ServerNo) (o : Option Position) → is_some (source_shown o) ≡ true → is_some (same_again n o) ≡ true
 same-there n None h = h
 same-there n (Some s) h = anew-there n s s.source h
 
-set-there : (n m : ServerNo) (o : Option Status) → is_some o ≡ true → is_some (by_set n m o) ≡ true
+set-there : (n m : ServerNo) (o : Option Position) → is_some o ≡ true → is_some (by_set n m o) ≡ true
 set-there n m None h = h
 set-there n m (Some s) h = refl
 
@@ -47,9 +46,9 @@ module _ (w : World) (j : Job) (rest : List Op) where
   }
 
   pub cross-tried : (read : ℕ) (now : Moment) (c : Crossing) (a b : ServerNo) → AllShow w j.seen → finds (footing w j.seen) (Cross c a b) ≡ true
-      → IsTried w j rest a (crossed c a (bridge_in (read_by c a b) (seen_of j.seen (read_by c a b).0))) (by_deed w read now j rest (Cross c a b))
+      → IsTried w j rest a (crossed c a (bridge_at (read_by c a b) (seen_of j.seen (read_by c a b).0))) (by_deed w read now j rest (Cross c a b))
   cross-tried read now c a b shown h =
-      let o : Option Exchange = crossed c a (bridge_in (read_by c a b) (seen_of j.seen (read_by c a b).0)) in
+      let o : Option Exchange = crossed c a (bridge_at (read_by c a b) (seen_of j.seen (read_by c a b).0)) in
       let x = there o (crossing-found w j.seen shown c a b h) in
       tried a o x.0 x.1 (crossing-can w j.seen shown c a b x.0 x.1)
 

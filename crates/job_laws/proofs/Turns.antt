@@ -8,9 +8,9 @@ use Rattle.orch_base.specs.declared.server.Moment.{Moment}
 use Rattle.orch_base.specs.declared.server.ServerNo.{ServerNo}
 use Rattle.orch_base.specs.declared.server.SourceState.{SourceState}
 use Rattle.orch_base.specs.declared.server.SourceState.TheVariants.{Without, Attached, Detached}
-use Rattle.instance_keeper.specs.declared.observation.Observation.{Observation}
+use Rattle.kept_rows.specs.declared.observation.Observation.{Observation}
 use Rattle.server_words.specs.declared.status.Status.{Status}
-use Rattle.instance_keeper.specs.Seeing.{seen_in}
+use Rattle.kept_rows.specs.Seeing.{seen_in}
 use Rattle.server_words.specs.declared.answers.Unreachable.{Unreachable}
 use Rattle.server_words.specs.declared.attach.AttachFault.{AttachFault}
 use Rattle.server_words.specs.declared.changes.Ask.{Ask}
@@ -25,22 +25,21 @@ use Rattle.replication_laws.proofs.Runs.{Grows-run}
 use Rattle.commands.specs.declared.cause.Cause.{Cause}
 use Rattle.commands.specs.declared.cause.Cause.TheVariants as cause
 use Rattle.operations.specs.declared.op.Op.{Op}
+use Rattle.operations.specs.declared.sight.Position.{Position}
 use Rattle.operations.specs.declared.sight.Sight.{Sight}
 use Rattle.operations.specs.Deeds as deed
 use Rattle.operations.specs.Deeds.{Deed, deed_of}
-use Rattle.operations.specs.Jobs.{Job, seen_of, with_seen}
-use Rattle.instance_keeper.specs.Bridges.{bridge_in}
-use Rattle.operations.specs.Turns.{Goes, Stops, settled, next, saw, going, restarts, failed, observed, is_moved, after_status, after_look, hands_after, after_ask, aim_of, is_reached, until_by, after_until, after_wait_by, after_wait, holds_seen, settles, read_by, crossed, same_again, by_set, attach_answer_of, after_answer, after_attach, by_deed, by_ops, turned, Attempt}
+use Rattle.operations.specs.Jobs.{Job, position_of, seen_of, with_seen}
+use Rattle.operations.specs.Turns.{Goes, Stops, settled, next, saw, going, restarts, failed, observed, is_moved, after_status, after_look, hands_after, after_ask, aim_of, is_reached, until_by, after_until, after_wait_by, after_wait, holds_seen, settles, read_by, bridge_at, crossed, same_again, by_set, attach_answer_of, after_answer, after_attach, by_deed, by_ops, turned, Attempt}
 use Rattle.operations.specs.Targets.{logs_by, can_attach}
 use Rattle.job_laws.specs.Footing.{Within, finds, reading, looking, learn, are_held, logs_at, footing}
-use Rattle.job_laws.specs.Held.{AllShow, HeldJob, KeepsHeld, IsDue}
+use Rattle.job_laws.specs.Held.{AllShow, ShowsAt, HeldJob, KeepsHeld, IsDue}
 use Rattle.server_model.specs.Showing.{Shows}
 use Rattle.job_laws.specs.Sound.{IsBridged, AllBridged, KeepsSound}
 use Rattle.operations.proofs.Tests.{both}
 use Rattle.job_laws.proofs.Sights.{seen-at}
 use Rattle.job_laws.proofs.Footings.{aim-by, held-mono, Within-saw, Within-logging, Within-again, read-still}
-use Rattle.job_laws.proofs.Showing.{logs-on, Bridged-run, Shows-seen, Bridged-seen}
-use Rattle.replication_laws.proofs.ShownCoords.{Shows-run}
+use Rattle.job_laws.proofs.Showing.{logs-on, Bridged-run, ShowsAt-run, Shows-seen, Bridged-seen}
 use Rattle.job_laws.proofs.Modes.{gtid-run}
 use Rattle.operations.proofs.Targets.{can-allowed}
 use Rattle.operations.proofs.Allowing.{restarts-allowed}
@@ -49,12 +48,12 @@ use Rattle.job_laws.proofs.Bridging.{crossing-joins, same-joins, auto-joins}
 -- ---- what was seen, and one more reading
 
 -- a fact of each reading, with one more reading
-pub with-one : (P : ℕ → Status → Type 0) (xs : List Sight) (n : ServerNo) (s : Status) → ((k : ℕ) (t : Status) → seen_of xs k ≡ Some t → P k t) → P n.0 s
-    → (k : ℕ) (t : Status) → seen_of (with_seen xs n s) k ≡ Some t → P k t
+pub with-one : (P : ℕ → Position → Type 0) (xs : List Sight) (n : ServerNo) (s : Position) → ((k : ℕ) (t : Position) → seen_of xs k ≡ Some t → P k t) → P n.0 s
+    → (k : ℕ) (t : Position) → seen_of (with_seen xs n s) k ≡ Some t → P k t
 with-one P xs n s all one k t h = go (n.0 == k) refl (sym (seen-at xs n s k) ∙ h)
   where
     go : (b : Bool) → (n.0 == k) ≡ b → cond b (Some s) (seen_of xs k) ≡ Some t → P k t
-    go true e h = subst (λ (m : ℕ). P m t) (eqb-true n.0 k e) (subst (λ (x : Status). P n.0 x) (same_Some s t h) one)
+    go true e h = subst (λ (m : ℕ). P m t) (eqb-true n.0 k e) (subst (λ (x : Position). P n.0 x) (same_Some s t h) one)
     go false e h = all k t h
 
 pub Within-run : (w : World) (es : List Exchange) (xs : List Sight) → Placed w → AllAllowed w es → Within (footing w xs) (footing (run w es) xs)
@@ -69,7 +68,7 @@ Within-run w es xs placed allowed = record {
 pub Held-run : (w : World) (es : List Exchange) (j : Job) → Placed w → AllAllowed w es → HeldJob w j → HeldJob (run w es) j
 Held-run w es j placed allowed held = record {
   left = held-mono (footing w j.seen) (footing (run w es) j.seen) (Within-run w es j.seen placed allowed) j.ops held.left;
-  shown = λ n s h. Shows-run w es n s placed allowed (held.shown n s h);
+  shown = λ n s h. ShowsAt-run w es n s placed allowed (held.shown n s h);
 }
 
 pub AllBridged-run : (w : World) (es : List Exchange) (xs : List Sight) → Placed w → AllAllowed w es → AllBridged w xs → AllBridged (run w es) xs
@@ -84,7 +83,7 @@ restarts-join w (n ∷ ns) = (tt, restarts-join (after w (Request n.0 asking.Sta
 failed-kept : (w : World) (j : Job) (c : Cause) (o : Option Observation) → Placed w → AllShow w j.seen → KeepsHeld w (failed j c o)
 failed-kept w j c o placed shown = record {
   allowed = restarts-allowed w j.hands;
-  held = record { left = refl; shown = λ n s h. Shows-run w (restarts j.hands) n s placed (restarts-allowed w j.hands) (shown n s h) };
+  held = record { left = refl; shown = λ n s h. ShowsAt-run w (restarts j.hands) n s placed (restarts-allowed w j.hands) (shown n s h) };
 }
 
 going-kept : (w : World) (o : Option Observation) (es : List Exchange) (j : Job) → Placed w → AllAllowed w es → HeldJob w j → KeepsHeld w (going o es j)
@@ -116,8 +115,8 @@ target-logs w m c t = ap logs_by t.there ∙ t.logs
 
 module _ (w : World) (j : Job) (rest : List Op) (placed : Placed w) (shown : AllShow w j.seen) where
   -- what one more reading shows
-  saw-shown : (n : ServerNo) (s : Status) → seen_in (status w n.0) ≡ Some s → AllShow w (with_seen j.seen n s)
-  saw-shown n s is = with-one (Shows w) j.seen n s shown (Shows-seen w n.0 s placed is)
+  saw-shown : (n : ServerNo) (s : Status) → seen_in (status w n.0) ≡ Some s → AllShow w (with_seen j.seen n (position_of s))
+  saw-shown n s is = with-one (ShowsAt w) j.seen n (position_of s) shown (Shows-seen w n.0 s placed is).at
 
   look-kept : (n : ServerNo) (from : Option ServerNo) (o : Observation) (r : Option Status) → seen_in (status w n.0) ≡ r → are_held (looking (footing w j.seen) n from) rest ≡ true
       → KeepsHeld w (settled j (after_look j rest n from o r))
@@ -127,19 +126,19 @@ module _ (w : World) (j : Job) (rest : List Op) (placed : Placed w) (shown : All
       shows : Shows w n.0 s
       shows = Shows-seen w n.0 s placed is
 
-      counts : (f : Option ServerNo) → is_moved f s.source ≡ false → Within (looking (footing w j.seen) n f) (footing w (with_seen j.seen n s))
-      counts None e = Within-saw w j.seen n s None (λ m h. cc)
+      counts : (f : Option ServerNo) → is_moved f s.source ≡ false → Within (looking (footing w j.seen) n f) (footing w (with_seen j.seen n (position_of s)))
+      counts None e = Within-saw w j.seen n (position_of s) None (λ m h. cc)
       counts (Some m) e =
           let under : source_no s.source ≡ Some m.0 = not-moved m s.source e in
-          Within-logging (reading (footing w j.seen) n (Some m.0)) (footing w (with_seen j.seen n s)) m.0
-          (Within-saw w j.seen n s (Some m.0) (λ k h. under ∙ h))
-          (target-logs w m.0 s.exec (shows.under m.0 under))
+          Within-logging (reading (footing w j.seen) n (Some m.0)) (footing w (with_seen j.seen n (position_of s))) m.0
+          (Within-saw w j.seen n (position_of s) (Some m.0) (λ k h. under ∙ h))
+          (target-logs w m.0 s.exec (shows.at.under m.0 under))
 
       go : (b : Bool) → is_moved from s.source ≡ b → KeepsHeld w (settled j (after_status j rest n from o s b))
       go true e = failed-kept w j _ (Some o) placed shown
       go false e =
           going-kept w (Some o) [] (next (saw j n s) rest) placed tt
-          (record { left = held-mono (looking (footing w j.seen) n from) (footing w (with_seen j.seen n s)) (counts from e) rest left; shown = saw-shown n s is })
+          (record { left = held-mono (looking (footing w j.seen) n from) (footing w (with_seen j.seen n (position_of s))) (counts from e) rest left; shown = saw-shown n s is })
 
   ask-kept : (n : ServerNo) (a : Ask) (r : Result (Unit {0}) Unreachable) → are_held (footing w j.seen) rest ≡ true → KeepsHeld w (settled j (after_ask j rest n a r))
   ask-kept n a (Ok t) left =
@@ -155,7 +154,7 @@ module _ (w : World) (j : Job) (rest : List Op) (placed : Placed w) (shown : All
 
   -- a wait is done, or the same operation is due again, by what was read in place of what was seen before
   wait-kept : (n : ServerNo) (reached : Status → Bool) (r : Option Status) → seen_in (status w n.0) ≡ r → are_held (reading (footing w j.seen) n None) rest ≡ true
-      → ((s : Status) → are_held (footing w (with_seen j.seen n s)) j.ops ≡ true) → KeepsHeld w (settled j (after_wait j rest n reached r))
+      → ((s : Status) → are_held (footing w (with_seen j.seen n (position_of s))) j.ops ≡ true) → KeepsHeld w (settled j (after_wait j rest n reached r))
   wait-kept n reached None is left again = failed-kept w j _ None placed shown
   wait-kept n reached (Some s) is left again = go (reached s)
     where
@@ -167,7 +166,7 @@ module _ (w : World) (j : Job) (rest : List Op) (placed : Placed w) (shown : All
       go true =
           going-kept w None [] (next (saw j n s) rest) placed tt
           (record {
-            left = held-mono (reading (footing w j.seen) n None) (footing w (with_seen j.seen n s)) (Within-saw w j.seen n s None (λ m h. cc)) rest left;
+            left = held-mono (reading (footing w j.seen) n None) (footing w (with_seen j.seen n (position_of s))) (Within-saw w j.seen n (position_of s) None (λ m h. cc)) rest left;
             shown = saw-shown n s is;
           })
       go false = more (nat_lt (j.waited + 1) j.wait)
@@ -192,20 +191,20 @@ deed-kept w read now j rest (deed.Request n a) placed shown due = ask-kept w j r
 deed-kept w read now j rest (deed.Until n to) placed shown due = until-kept w j rest placed shown n (until_by (seen_of j.seen n.0) (aim_of j.seen to)) due.left
 deed-kept w read now j rest (deed.Await n to) placed shown due =
     wait-kept w j rest placed shown n (λ s. is_reached (aim_of j.seen to) s.exec) (seen_in (status w n.0)) refl due.left
-    (λ s. due.again (footing w (with_seen j.seen n s))
-    (aim-by (footing w j.seen) (footing w (with_seen j.seen n s)) (λ k h. h) (read-still w j.seen n s) to due.found)
-    (held-mono (reading (footing w j.seen) n None) (reading (footing w (with_seen j.seen n s)) n None) (Within-again w j.seen n s) rest due.left))
+    (λ s. due.again (footing w (with_seen j.seen n (position_of s)))
+    (aim-by (footing w j.seen) (footing w (with_seen j.seen n (position_of s))) (λ k h. h) (read-still w j.seen n (position_of s)) to due.found)
+    (held-mono (reading (footing w j.seen) n None) (reading (footing w (with_seen j.seen n (position_of s))) n None) (Within-again w j.seen n (position_of s)) rest due.left))
 deed-kept w read now j rest (deed.AwaitSet n m) placed shown due =
     wait-kept w j rest placed shown n (holds_seen (seen_of j.seen m.0)) (seen_in (status w n.0)) refl due.left
-    (λ s. due.again (footing w (with_seen j.seen n s))
-    (read-still w j.seen n s m.0 due.found)
-    (held-mono (reading (footing w j.seen) n None) (reading (footing w (with_seen j.seen n s)) n None) (Within-again w j.seen n s) rest due.left))
+    (λ s. due.again (footing w (with_seen j.seen n (position_of s)))
+    (read-still w j.seen n (position_of s) m.0 due.found)
+    (held-mono (reading (footing w j.seen) n None) (reading (footing w (with_seen j.seen n (position_of s))) n None) (Within-again w j.seen n (position_of s)) rest due.left))
 deed-kept w read now j rest (deed.Settle n) placed shown due =
     wait-kept w j rest placed shown n (settles j) (seen_in (status w n.0)) refl due.left
-    (λ s. due.again (footing w (with_seen j.seen n s)) refl
-    (held-mono (reading (footing w j.seen) n None) (reading (footing w (with_seen j.seen n s)) n None) (Within-again w j.seen n s) rest due.left))
+    (λ s. due.again (footing w (with_seen j.seen n (position_of s))) refl
+    (held-mono (reading (footing w j.seen) n None) (reading (footing w (with_seen j.seen n (position_of s))) n None) (Within-again w j.seen n (position_of s)) rest due.left))
 deed-kept w read now j rest (deed.Cross c a b) placed shown due =
-    attach-kept w j rest placed shown a (crossed c a (bridge_in (read_by c a b) (seen_of j.seen (read_by c a b).0))) due.left
+    attach-kept w j rest placed shown a (crossed c a (bridge_at (read_by c a b) (seen_of j.seen (read_by c a b).0))) due.left
 deed-kept w read now j rest (deed.Same n) placed shown due =
     attach-kept w j rest placed shown n (same_again n (seen_of j.seen n.0)) due.left
 deed-kept w read now j rest (deed.Auto n m) placed shown due =
@@ -232,8 +231,8 @@ turn-kept w read now j placed held = go j.ops refl
 -- ---- the same in a safe world
 
 module _ (w : World) (j : Job) (rest : List Op) (safe : Safe w) (placed : Placed w) (shown : AllShow w j.seen) (all : AllBridged w j.seen) where
-  saw-bridged : (n : ServerNo) (s : Status) → seen_in (status w n.0) ≡ Some s → AllBridged w (with_seen j.seen n s)
-  saw-bridged n s is = with-one (IsBridged w) j.seen n s all (Bridged-seen w n.0 s safe is)
+  saw-bridged : (n : ServerNo) (s : Status) → seen_in (status w n.0) ≡ Some s → AllBridged w (with_seen j.seen n (position_of s))
+  saw-bridged n s is = with-one (IsBridged w) j.seen n (position_of s) all (Bridged-seen w n.0 s safe is)
 
   look-sound : (n : ServerNo) (from : Option ServerNo) (o : Observation) (r : Option Status) → seen_in (status w n.0) ≡ r → KeepsSound w (settled j (after_look j rest n from o r))
   look-sound n from o None is = failed-sound w j _ (Some o) placed all
@@ -285,7 +284,7 @@ deed-sound w read now j rest (deed.Await n to) safe placed shown all due =
 deed-sound w read now j rest (deed.AwaitSet n m) safe placed shown all due = wait-sound w j rest safe placed shown all n (holds_seen (seen_of j.seen m.0)) (seen_in (status w n.0)) refl
 deed-sound w read now j rest (deed.Settle n) safe placed shown all due = wait-sound w j rest safe placed shown all n (settles j) (seen_in (status w n.0)) refl
 deed-sound w read now j rest (deed.Cross c a b) safe placed shown all due =
-    attach-sound w j rest safe placed shown all a (crossed c a (bridge_in (read_by c a b) (seen_of j.seen (read_by c a b).0)))
+    attach-sound w j rest safe placed shown all a (crossed c a (bridge_at (read_by c a b) (seen_of j.seen (read_by c a b).0)))
     (λ e h. crossing-joins w j.seen safe all c a b e due.found h)
 deed-sound w read now j rest (deed.Same n) safe placed shown all due =
     attach-sound w j rest safe placed shown all n (same_again n (seen_of j.seen n.0)) (same-joins w j.seen safe n)

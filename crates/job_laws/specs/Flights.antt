@@ -3,14 +3,14 @@ use Rattle.std.specs.Prelude.{◌≡◌, ℕ, ◌==◌, not, if◌then◌else◌
 use Rattle.std.specs.List.{list_any}
 use Rattle.orch_base.specs.declared.server.Moment.{Moment}
 use Rattle.orch_base.specs.declared.server.ServerNo.{ServerNo}
-use Rattle.instance_keeper.specs.declared.observation.Observation.{Observation}
+use Rattle.kept_rows.specs.declared.observation.Observation.{Observation}
 use Rattle.server_words.specs.declared.status.Status.{Status}
 use Rattle.server_model.specs.Run.{Exchange, after, run}
 use Rattle.server_model.specs.Safe.{Safe, Placed}
 use Rattle.server_model.specs.Worlds.{World}
 use Rattle.server_model.specs.Bridges.{Stands}
 use Rattle.instance_keeper.specs.declared.bridge.Bridge.{Bridge}
-use Rattle.operations.specs.Jobs.{Job}
+use Rattle.operations.specs.Jobs.{Job, position_of}
 use Rattle.instance_keeper.specs.Bridges.{bridge_in, ringed}
 use Rattle.instance_keeper.specs.Leases.{freed}
 use Rattle.operations.specs.Turns.{Turned, is_going, turned}
@@ -35,7 +35,7 @@ abbrev pub IsShown : World → Observation → Type 0
 IsShown w o = (seen : Status) → o.seen ≡ Some seen → Shows w o.no.0 seen
 
 abbrev pub IsShownBridged : World → Observation → Type 0
-IsShownBridged w o = (seen : Status) → o.seen ≡ Some seen → IsBridged w o.no.0 seen
+IsShownBridged w o = (seen : Status) → o.seen ≡ Some seen → IsBridged w o.no.0 (position_of seen)
 
 abbrev pub StandsIn : World → Bridge → Type 0
 StandsIn w b = Stands w b.no.0 b.source.0 b.own b.exec

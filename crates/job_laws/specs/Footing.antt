@@ -1,13 +1,13 @@
 -- What the operations that are left may count on, one after another.
 use Rattle.std.specs.Prelude.{◌≡◌, ℕ, Bool, true, false, ◌==◌, ◌&&◌, ◌||◌, if◌then◌else◌, List, [], ◌∷◌, Option, Some, None, is_some}
 use Rattle.orch_base.specs.declared.server.ServerNo.{ServerNo}
-use Rattle.server_words.specs.declared.status.Status.{Status}
 use Rattle.server_model.specs.Worlds.{World, server_at, source_no}
 use Rattle.operations.specs.declared.op.Aim.{Aim}
 use Rattle.operations.specs.declared.op.Aim.TheVariants as aim
 use Rattle.operations.specs.declared.op.Crossing.{Crossing}
 use Rattle.operations.specs.declared.op.Crossing.TheVariants as cross
 use Rattle.operations.specs.declared.op.Op.{Op}
+use Rattle.operations.specs.declared.sight.Position.{Position}
 use Rattle.operations.specs.declared.sight.Sight.{Sight}
 use Rattle.operations.specs.Deeds as deed
 use Rattle.operations.specs.Deeds.{Deed, deed_of}
@@ -93,7 +93,7 @@ are_held f (op ∷ ops) = finds f (deed_of op) && are_held (learn f (deed_of op)
 abbrev pub logs_at : World → ℕ → Bool
 logs_at w n = logs_by (server_at w n)
 
-abbrev pub source_shown : Option Status → Option ℕ
+abbrev pub source_shown : Option Position → Option ℕ
 source_shown None = None
 source_shown (Some s) = source_no s.source
 

@@ -1,24 +1,30 @@
 -- What holds of jobs and readings in every world, quiet or not.
-use Rattle.std.specs.Prelude.{◌≡◌, ℕ, true, List, Option, Some}
+use Rattle.std.specs.Prelude.{◌≡◌, ℕ, true, List, Option, Some, None, Err}
 use Rattle.orch_base.specs.declared.server.ServerNo.{ServerNo}
-use Rattle.server_words.specs.declared.status.Status.{Status}
+use Rattle.server_words.specs.declared.attach.AttachFault.TheVariants as attaching
 use Rattle.server_model.specs.Attach.{IsTarget}
 use Rattle.server_model.specs.Safe.{Placed}
 use Rattle.server_model.specs.Worlds.{World}
-use Rattle.server_model.specs.Showing.{Shows}
+use Rattle.server_model.specs.Showing.{IsPosition}
 use Rattle.instance_keeper.specs.declared.bridge.Bridge.{Bridge}
+use Rattle.operations.specs.declared.sight.Position.{Position}
 use Rattle.operations.specs.declared.sight.Sight.{Sight}
 use Rattle.operations.specs.Jobs.{Job, seen_of}
 use Rattle.operations.specs.Targets.{can_attach}
-use Rattle.operations.specs.Turns.{Attempt, Turned, after_answer, attach_answer_of}
+use Rattle.operations.specs.Turns.{Attempt, Turned, after_answer, attach_answer_of, by_set, crossing_of, same_again}
 use Rattle.server_model.specs.Run.{Exchange, run, AllAllowed}
 use Rattle.operations.specs.declared.op.Op.{Op}
+use Rattle.operations.specs.Deeds as deed
 use Rattle.operations.specs.Deeds.{Deed}
 use Rattle.job_laws.specs.Footing.{Footing, footing, finds, learn, are_held}
 
+-- where a server stood is shown
+abbrev pub ShowsAt : World → ℕ → Position → Type 0
+ShowsAt w n seen = IsPosition w n seen.own_end seen.source seen.exec seen.set
+
 -- what was seen of each server is shown
 abbrev pub AllShow : World → List Sight → Type 0
-AllShow w xs = (n : ℕ) (seen : Status) → seen_of xs n ≡ Some seen → Shows w n seen
+AllShow w xs = (n : ℕ) (seen : Position) → seen_of xs n ≡ Some seen → ShowsAt w n seen
 
 -- A job in flight: each operation that is left finds what it uses, and what it saw is shown.
 pub record HeldJob (w : World) (j : Job) : Type 0 where
@@ -56,3 +62,24 @@ pub record IsTried (w : World) (j : Job) (rest : List Op) (n : ServerNo) (o : Op
   pub found : o ≡ Some exchange
   pub can : can_attach w exchange ≡ true
   pub attempt : a ≡ after_answer j rest n exchange (attach_answer_of w exchange)
+
+-- the change of source that an operation makes of what was seen
+abbrev pub attachment_of : List Sight → Deed → Option Exchange
+attachment_of xs (deed.Look n from) = None
+attachment_of xs (deed.Request n a) = None
+attachment_of xs (deed.Until n to) = None
+attachment_of xs (deed.Await n to) = None
+attachment_of xs (deed.AwaitSet n m) = None
+attachment_of xs (deed.Settle n) = None
+attachment_of xs (deed.Cross c a b) = crossing_of xs c a b
+attachment_of xs (deed.Same n) = same_again n (seen_of xs n.0)
+attachment_of xs (deed.Auto n m) = by_set n m (seen_of xs m.0)
+attachment_of xs (deed.Finish lines) = None
+
+-- it is there and can be made, and is answered that it would go on in a purged file: the new source keeps its log from
+-- this one on
+pub record IsPurged (w : World) (first : ℕ) (o : Option Exchange) : Type 0 where
+  pub exchange : Exchange
+  pub found : o ≡ Some exchange
+  pub can : can_attach w exchange ≡ true
+  pub answer : attach_answer_of w exchange ≡ Err (attaching.Purged first)

@@ -1,24 +1,24 @@
 -- What holds of readings in a safe world.
 use Rattle.std.specs.Prelude.{◌≡◌, ℕ, List, Some}
 use Rattle.binlog_coords.specs.declared.Coord.{Coord}
-use Rattle.server_words.specs.declared.status.Status.{Status}
 use Rattle.server_model.specs.Safe.{Safe}
 use Rattle.server_model.specs.Worlds.{World, source_no}
 use Rattle.operations.specs.declared.op.Op.{Op}
 use Rattle.operations.specs.Deeds.{Deed}
 use Rattle.job_laws.specs.Held.{IsNext}
 use Rattle.server_model.specs.Bridges.{Stands}
+use Rattle.operations.specs.declared.sight.Position.{Position}
 use Rattle.operations.specs.declared.sight.Sight.{Sight}
 use Rattle.operations.specs.Jobs.{Job, seen_of}
 use Rattle.operations.specs.Turns.{Turned}
 use Rattle.server_model.specs.Run.{run, AllJoinWell}
 
--- the bridge that a reading shows stands
-abbrev pub IsBridged : World → ℕ → Status → Type 0
+-- the bridge that was seen of a server stands
+abbrev pub IsBridged : World → ℕ → Position → Type 0
 IsBridged w n seen = (m : ℕ) (own : Coord) → source_no seen.source ≡ Some m → seen.own_end ≡ Some own → Stands w n m own seen.exec
 
 abbrev pub AllBridged : World → List Sight → Type 0
-AllBridged w xs = (n : ℕ) (seen : Status) → seen_of xs n ≡ Some seen → IsBridged w n seen
+AllBridged w xs = (n : ℕ) (seen : Position) → seen_of xs n ≡ Some seen → IsBridged w n seen
 
 -- each attachment of a turn leads to where the server's history ends, and each bridge that the job saw stands
 -- afterwards

@@ -1,8 +1,10 @@
 //! Changes of source by what was seen.
 
-ghost use Rattle.std.specs.Prelude.{◌≡◌, ℕ, List, Some, true, is_some};
+ghost use Rattle.std.specs.Prelude.{◌≡◌, ℕ, List, Option, Some, None, true, is_some};
 ghost use Rattle.orch_base.specs.declared.server.Moment.{Moment as AMoment};
 ghost use Rattle.orch_base.specs.declared.server.ServerNo.{ServerNo as Number};
+ghost use Rattle.commands.specs.declared.cause.Cause.TheVariants as cause;
+ghost use Rattle.kept_rows.specs.declared.observation.Observation.{Observation as Reading};
 ghost use Rattle.instance_keeper.specs.declared.bridge.Bridge.{Bridge as ABridge};
 ghost use Rattle.server_model.specs.Run.{Exchange, Allowed, JoinsWell};
 ghost use Rattle.server_model.specs.Safe.{Safe};
@@ -10,13 +12,13 @@ ghost use Rattle.server_model.specs.Worlds.{World};
 ghost use Rattle.operations.specs.declared.op.Crossing.{Crossing as ACrossing};
 ghost use Rattle.operations.specs.declared.sight.Sight.{Sight as ASight};
 ghost use Rattle.operations.specs.declared.op.Op.{Op as AnOp};
-ghost use Rattle.operations.specs.Deeds.{Auto, Cross, Same};
+ghost use Rattle.operations.specs.Changes.{change_of};
+ghost use Rattle.operations.specs.Deeds.{Deed, Auto, Cross, Same};
 ghost use Rattle.operations.specs.Jobs.{Job, seen_of};
 ghost use Rattle.operations.specs.Targets.{can_attach};
-ghost use Rattle.instance_keeper.specs.Bridges.{bridge_in};
-ghost use Rattle.operations.specs.Turns.{by_deed, crossing_of, same_again, by_set};
+ghost use Rattle.operations.specs.Turns.{Stops, bridge_at, by_deed, crossing_of, same_again, by_set};
 ghost use Rattle.job_laws.specs.Footing.{finds, finds_crossing, footing};
-ghost use Rattle.job_laws.specs.Held.{AllShow, IsTried, Spans};
+ghost use Rattle.job_laws.specs.Held.{AllShow, IsPurged, IsTried, Spans, attachment_of};
 ghost use Rattle.job_laws.specs.Sound.{AllBridged};
 
 /// A crossing that finds what it uses makes an attachment, which is allowed, and joins well in a safe world where
@@ -74,8 +76,21 @@ pub fn held_attachments_are_tried()
         (by_deed w read now j rest (Auto n m)) }
 {}
 
+/// A job is stopped by Purged, with the server that was to go on in a purged file and the first file that its new source
+/// keeps, exactly where this turn's attachment of that server is answered so.
+pub fn purged_files_stop_jobs()
+    ensures stops { (w : World) (read : ℕ) (now : AMoment) (j : Job) (rest : List AnOp) (d : Deed)
+        (n : Number) (first : ℕ) →
+        change_of d ≡ Some n → IsPurged w first (attachment_of j.seen d) →
+        by_deed w read now j rest d ≡ Stops (cause.Purged n first) None }
+    ensures only { (w : World) (read : ℕ) (now : AMoment) (j : Job) (rest : List AnOp) (d : Deed)
+        (n : Number) (first : ℕ) (o : Option Reading) →
+        by_deed w read now j rest d ≡ Stops (cause.Purged n first) o →
+        (change_of d ≡ Some n) × IsPurged w first (attachment_of j.seen d) }
+{}
+
 /// Both ends of a bridge that a job saw have places in the logs of servers that log.
 pub fn seen_bridges_have_places()
     ensures { (w : World) (xs : List ASight) (n : Number) (b : ABridge) → AllShow w xs →
-        bridge_in n (seen_of xs n.0) ≡ Some b → Spans w b }
+        bridge_at n (seen_of xs n.0) ≡ Some b → Spans w b }
 {}

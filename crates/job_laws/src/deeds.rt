@@ -4,10 +4,10 @@ ghost use Rattle.std.specs.Prelude.{◌≡◌, ℕ, ◌+◌, ◌<◌, ◌≤◌,
 ghost use Rattle.orch_base.specs.declared.server.ServerNo.{ServerNo as Number};
 ghost use Rattle.server_words.specs.declared.status.Status.{Status as Showed};
 ghost use Rattle.commands.specs.declared.cause.Cause.TheVariants as cause;
-ghost use Rattle.instance_keeper.specs.Seeing.{seen_in};
+ghost use Rattle.kept_rows.specs.Seeing.{seen_in};
 ghost use Rattle.server_model.specs.Gtids.{status};
 ghost use Rattle.orch_base.specs.declared.server.Moment.{Moment as AMoment};
-ghost use Rattle.instance_keeper.specs.declared.observation.Observation.{Observation as Reading};
+ghost use Rattle.kept_rows.specs.declared.observation.Observation.{Observation as Reading};
 ghost use Rattle.server_model.specs.Run.{Exchange, run, AllAllowed};
 ghost use Rattle.server_model.specs.Safe.{Safe, Placed};
 ghost use Rattle.server_model.specs.Worlds.{World};

@@ -4,7 +4,7 @@ ghost use Rattle.std.specs.Prelude.{◌≡◌, ℕ, List, Option, IfSome, Some, 
 ghost use Rattle.std.specs.List.{All};
 ghost use Rattle.orch_base.specs.declared.server.Moment.{Moment as AMoment};
 ghost use Rattle.orch_base.specs.declared.server.ServerNo.{ServerNo as Number};
-ghost use Rattle.instance_keeper.specs.declared.observation.Observation.{Observation as Reading};
+ghost use Rattle.kept_rows.specs.declared.observation.Observation.{Observation as Reading};
 ghost use Rattle.server_model.specs.Run.{Exchange, run, Allowed, JoinsWell, AllAllowed};
 ghost use Rattle.server_model.specs.Safe.{Safe, Placed, IsQuiet};
 ghost use Rattle.server_model.specs.Worlds.{World, server_at};

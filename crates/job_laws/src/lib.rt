@@ -11,7 +11,7 @@ mod runs;
 
 pub use crossings::{
     crossings_are_well, found_attachments_can_be_made, held_attachments_are_tried,
-    seen_bridges_have_places,
+    purged_files_stop_jobs, seen_bridges_have_places,
 };
 pub use deeds::{each_operation_keeps_held, each_operation_keeps_sound, settling_ends};
 pub use flights::{

@@ -2,13 +2,15 @@
 
 ghost use Rattle.std.specs.Prelude.{◌≡◌, ℕ, List, Some};
 ghost use Rattle.server_words.specs.declared.status.Status.{Status as Reading};
-ghost use Rattle.instance_keeper.specs.Seeing.{seen_in};
+ghost use Rattle.kept_rows.specs.Seeing.{seen_in};
 ghost use Rattle.server_model.specs.Gtids.{status};
 ghost use Rattle.server_model.specs.Run.{Exchange, run, AllAllowed};
 ghost use Rattle.server_model.specs.Safe.{Safe, Placed};
 ghost use Rattle.server_model.specs.Worlds.{World};
 ghost use Rattle.instance_keeper.specs.declared.bridge.Bridge.{Bridge as ABridge};
-ghost use Rattle.job_laws.specs.Held.{Spans};
+ghost use Rattle.operations.specs.declared.sight.Position.{Position as APosition};
+ghost use Rattle.operations.specs.Jobs.{position_of};
+ghost use Rattle.job_laws.specs.Held.{ShowsAt, Spans};
 ghost use Rattle.server_model.specs.Showing.{Shows};
 ghost use Rattle.job_laws.specs.Sound.{IsBridged};
 
@@ -17,14 +19,16 @@ pub fn readings_are_shown()
     ensures shown { (w : World) (n : ℕ) (seen : Reading) → Placed w →
         seen_in (status w n) ≡ Some seen → Shows w n seen }
     ensures bridged { (w : World) (n : ℕ) (seen : Reading) → Safe w →
-        seen_in (status w n) ≡ Some seen → IsBridged w n seen }
+        seen_in (status w n) ≡ Some seen → IsBridged w n (position_of seen) }
 {}
 
 /// What was shown stays shown, and what stands stands, over any exchanges, quiet or not.
 pub fn readings_stay_shown()
     ensures shown { (w : World) (es : List Exchange) (n : ℕ) (seen : Reading) → Placed w →
         AllAllowed w es → Shows w n seen → Shows (run w es) n seen }
-    ensures bridged { (w : World) (es : List Exchange) (n : ℕ) (seen : Reading) → Placed w →
+    ensures position { (w : World) (es : List Exchange) (n : ℕ) (seen : APosition) → Placed w →
+        AllAllowed w es → ShowsAt w n seen → ShowsAt (run w es) n seen }
+    ensures bridged { (w : World) (es : List Exchange) (n : ℕ) (seen : APosition) → Placed w →
         AllAllowed w es → IsBridged w n seen → IsBridged (run w es) n seen }
     ensures spans { (w : World) (es : List Exchange) (b : ABridge) → Placed w → AllAllowed w es →
         Spans w b → Spans (run w es) b }

@@ -5,13 +5,13 @@ use Rattle.server_model.specs.Attach.{IsTarget}
 use Rattle.server_model.specs.Gtids.{IsAutoTarget}
 use Rattle.server_model.specs.Worlds.{World}
 use Rattle.std.specs.Option.{option_to_list}
-use Rattle.instance_keeper.specs.declared.observation.Observation.{Observation}
+use Rattle.kept_rows.specs.declared.observation.Observation.{Observation}
 use Rattle.server_model.specs.Run.{Exchange, Request, Attach}
 use Rattle.operations.specs.declared.step.JobStep.{JobStep}
 use Rattle.operations.specs.declared.step.JobStep.TheVariants as step
 use Rattle.operations.specs.declared.op.Op.{Op}
 use Rattle.operations.specs.Jobs.{Job, seen_of}
-use Rattle.operations.specs.Turns.{Attempt, Turned, settled, next, saw, restarts, ended, hands_after, by_set}
+use Rattle.operations.specs.Turns.{Attempt, Turned, settled, next, saw_at, restarts, ended, hands_after, by_set}
 use Rattle.operations.specs.Named.{IsOneOf}
 use Rattle.job_plans.specs.declared.act.Look.{Look}
 use Rattle.job_plans.specs.declared.act.Act.{Act}
@@ -37,8 +37,8 @@ abbrev pub job_after : Job → Act → Job
 job_after j act.Fail = ended j
 job_after j act.End = ended j
 job_after j act.Pass = next j (rest_of j)
-job_after j (act.Keep x) = next (saw j x.no x.seen) (rest_of j)
-job_after j (act.Wait x) = record (saw j x.no x.seen) { waited = j.waited + 1 }
+job_after j (act.Keep x) = next (saw_at j x.no x.seen) (rest_of j)
+job_after j (act.Wait x) = record (saw_at j x.no x.seen) { waited = j.waited + 1 }
 job_after j (act.Ask n a) = record (next j (rest_of j)) { hands = hands_after j.hands n a }
 job_after j (act.Attach n expect to at) = next j (rest_of j)
 job_after j (act.Auto n m) = next j (rest_of j)

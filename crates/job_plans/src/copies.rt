@@ -2,7 +2,7 @@
 
 ghost use Rattle.std.specs.Prelude.{◌≡◌, ◌+◌, ◌≤◌, IfOk, length, vec_capacity};
 
-use operations::{Op, Sight};
+use operations::{Op, Position, Sight};
 use orch_base::{Memory, ServerNo};
 use std::alloc::Global;
 
@@ -43,10 +43,19 @@ pub(crate) fn copy_ops(alloc: Global, ops: &[Op]) -> Result<Vec<Op>, Memory>
 fn copy_sight(sight: &Sight) -> Result<Sight, Memory>
     ensures { IfOk result (λ s. s ≡ sight.now) }
 {
-    Ok(Sight {
-        no: sight.no,
-        seen: sight.seen.copy()?,
-    })
+    let Position {
+        own_end,
+        source,
+        exec,
+        set,
+    } = &sight.seen;
+    let seen = Position {
+        own_end: *own_end,
+        source: *source,
+        exec: *exec,
+        set: set.copy()?,
+    };
+    Ok(Sight { no: sight.no, seen })
 }
 
 /// The same sights once more, with room for some more.
@@ -54,7 +63,7 @@ pub(crate) fn copy_sights(alloc: Global, seen: &[Sight], more: usize) -> Result<
     ensures items { IfOk result (λ v. v.items ≡ seen.now) }
     ensures room { IfOk result (λ v. length seen.now + more ≤ vec_capacity v) }
 {
-    let mut copies = Vec::new(alloc);
+    let mut copies = Vec::with_capacity(alloc, seen.len())?;
     for sight in seen {
         copies.push(copy_sight(sight)?)?;
     }

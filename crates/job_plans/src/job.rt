@@ -2,15 +2,14 @@
 
 ghost use Rattle.std.specs.Prelude.{◌≡◌, ◌<◌, ◌+◌, ◌↔◌, [], Some, None, IfOk, OnOk, OnErr, IsTrue, length, All, true, is_some};
 ghost use Rattle.std.specs.Option.{option_copied};
-ghost use Rattle.instance_keeper.specs.Bridges.{bridge_in as bridge_of};
-ghost use Rattle.instance_keeper.specs.Seeing.{seen_in};
+ghost use Rattle.kept_rows.specs.Seeing.{seen_in};
 ghost use Rattle.server_model.specs.Gtids.{status as status_of, IsAutoTarget};
 ghost use Rattle.server_model.specs.Run.{Request as Requesting, after, run};
 ghost use Rattle.operations.specs.Deeds.{deed_of};
 ghost use Rattle.operations.specs.Ending.{turns_left};
 ghost use Rattle.operations.specs.Jobs.{job_with, seen_of as latest_of};
 ghost use Rattle.operations.specs.Named.{IsNamed, IsOneOf, is_named};
-ghost use Rattle.operations.specs.Turns.{settled, next, saw, ended, hands_after, aim_of, turned, by_deed, after_until, until_by, after_wait_by, after_wait, is_reached as reaches, holds_seen as holds_all, settles, after_attach, crossing_of, same_again, by_set};
+ghost use Rattle.operations.specs.Turns.{settled, next, saw_at, ended, bridge_at, hands_after, aim_of, turned, by_deed, after_until, until_by, after_wait_by, after_wait, is_reached as reaches, holds_seen as holds_all, settles, after_attach, crossing_of, same_again, by_set};
 ghost use Rattle.job_plans.specs.Acts.{foretold, exchanges_of, job_after, rest_of, CanFollow, CanTurn, IsNext, MayLook, Tells};
 
 use crate::Look;
@@ -18,13 +17,13 @@ use crate::act::Act;
 use crate::copies::{copy_ops, copy_servers, copy_sights};
 use crate::looks::{
     cause_by, done, failed, going, holds_seen, is_reached, is_settled, latest, look_ask,
-    look_attach, look_bridge, look_status, passed, read_by, takes_sets, watch,
+    look_attach, look_bridge, look_status, passed, position_of, read_by, takes_sets, watch,
 };
 use crate::turns::{change_hands, keep, restart};
 use binlog_coords::Coord;
 use commands::{Cause, Lines};
-use instance_keeper::{Bridge, Observation, bridge_in};
-use operations::{Aim, Crossing, JobStep, Op, Sight};
+use instance_keeper::{Bridge, Observation};
+use operations::{Aim, Crossing, JobStep, Op, Position, Sight};
 use orch_base::{Memory, Moment, ServerNo, SourceState};
 use server_model::World;
 use server_words::{Ask, AttachFault, Spot, Status, Threads};
@@ -114,7 +113,7 @@ impl Job {
     }
 
     /// The latest that was seen of a server.
-    pub fn sight(&self, no: ServerNo) -> Option<&Status>
+    pub fn sight(&self, no: ServerNo) -> Option<&Position>
         ensures { option_copied result ≡ latest_of self.now.seen no.0 }
     {
         latest(&self.seen, no)
@@ -152,7 +151,7 @@ impl Job {
         }
     }
 
-    fn look_until(&self, world: &World, no: ServerNo, aim: Aim) -> Look
+    fn look_until(&self, alloc: Global, world: &World, no: ServerNo, aim: Aim) -> Look
         requires server { no.0 < length world.now.servers }
         requires due { MayLook world.now self.now }
         ensures { Tells world.now self.now (after_until world.now self.now (rest_of self.now) no
@@ -160,7 +159,7 @@ impl Job {
     {
         match self.until(no, aim) {
             None => passed(),
-            Some(to) => look_ask(world, no, Ask::StartUntil(to)),
+            Some(to) => look_ask(alloc, world, no, Ask::StartUntil(to)),
         }
     }
 
@@ -172,17 +171,25 @@ impl Job {
     }
 
     // A wait in which this was seen: it is over, or is due again, or was the last one.
-    fn look_wait(&self, world: &World, no: ServerNo, seen: Status, reached: bool) -> Look
+    fn look_wait(
+        &self,
+        alloc: Global,
+        world: &World,
+        no: ServerNo,
+        seen: Status,
+        reached: bool,
+    ) -> Look
         requires due { MayLook world.now self.now }
         ensures { Tells world.now self.now (after_wait_by self.now
             (rest_of self.now) no seen reached) result }
     {
+        let seen = position_of(seen);
         if reached {
             going(None, Act::Keep(Sight { no, seen }))
         } else if self.may_wait() {
             going(None, Act::Wait(Sight { no, seen }))
         } else {
-            failed(Cause::WaitSpent(no), None)
+            failed(alloc, Cause::WaitSpent(no), None)
         }
     }
 }
@@ -202,10 +209,10 @@ impl Job {
             (status_of world.now no.0)))) }
     {
         let Some(seen) = watch(alloc, world, no)? else {
-            return Ok(failed(Cause::Unreachable(no), None));
+            return Ok(failed(alloc, Cause::Unreachable(no), None));
         };
         let reached = is_reached(self.aim(aim), seen.exec);
-        Ok(self.look_wait(world, no, seen, reached))
+        Ok(self.look_wait(alloc, world, no, seen, reached))
     }
 
     fn look_await_set(
@@ -221,10 +228,10 @@ impl Job {
             (holds_all (latest_of self.now.seen of.0)) (seen_in (status_of world.now no.0)))) }
     {
         let Some(seen) = watch(alloc, world, no)? else {
-            return Ok(failed(Cause::Unreachable(no), None));
+            return Ok(failed(alloc, Cause::Unreachable(no), None));
         };
         let reached = holds_seen(self.sight(of), &seen);
-        Ok(self.look_wait(world, no, seen, reached))
+        Ok(self.look_wait(alloc, world, no, seen, reached))
     }
 
     fn look_settle(&self, alloc: Global, world: &World, no: ServerNo) -> Result<Look, Memory>
@@ -234,17 +241,27 @@ impl Job {
             (settles self.now) (seen_in (status_of world.now no.0)))) }
     {
         let Some(seen) = watch(alloc, world, no)? else {
-            return Ok(failed(Cause::Unreachable(no), None));
+            return Ok(failed(alloc, Cause::Unreachable(no), None));
         };
         let over = is_settled(&seen) || !self.may_wait();
-        Ok(self.look_wait(world, no, seen, over))
+        Ok(self.look_wait(alloc, world, no, seen, over))
     }
 
-    // The bridge that was seen of a server.
-    fn bridge(&self, no: ServerNo) -> Option<Bridge>
-        ensures { result ≡ bridge_of no (latest_of self.now.seen no.0) }
+    /// The bridge that was seen of a server: none where it doesn't log or has no source.
+    pub fn bridge(&self, no: ServerNo) -> Option<Bridge>
+        ensures { result ≡ bridge_at no (latest_of self.now.seen no.0) }
     {
-        bridge_in(no, self.sight(no)?)
+        let seen = self.sight(no)?;
+        let own = seen.own_end?;
+        match seen.source {
+            SourceState::Attached(source) | SourceState::Detached(source) => Some(Bridge {
+                no,
+                source,
+                own,
+                exec: seen.exec,
+            }),
+            SourceState::Without => None,
+        }
     }
 
     fn look_cross(
@@ -305,7 +322,7 @@ impl Job {
         match world.test_attach_auto(alloc, no, &seen.set, to) {
             Ok(()) => Ok(going(None, Act::Auto(no, to))),
             Err(AttachFault::Memory) => Err(Memory),
-            Err(fault) => Ok(failed(cause_by(alloc, no, fault)?, None)),
+            Err(fault) => Ok(failed(alloc, cause_by(alloc, no, fault)?, None)),
         }
     }
 
@@ -325,14 +342,14 @@ impl Job {
     {
         match op {
             Op::Status(no, from) => look_status(alloc, world, *no, *from, read, moment),
-            Op::Stop(no) => Ok(look_ask(world, *no, Ask::Stop(Threads::Both))),
-            Op::StopReceiver(no) => Ok(look_ask(world, *no, Ask::Stop(Threads::Receiver))),
-            Op::Start(no) => Ok(look_ask(world, *no, Ask::Start)),
-            Op::Reset(no) => Ok(look_ask(world, *no, Ask::Reset)),
-            Op::Detach(no) => Ok(look_ask(world, *no, Ask::Detach)),
-            Op::Reattach(no) => Ok(look_ask(world, *no, Ask::Reattach)),
-            Op::ReadOnly(no, on) => Ok(look_ask(world, *no, Ask::SetReadOnly(*on))),
-            Op::Until(no, aim) => Ok(self.look_until(world, *no, *aim)),
+            Op::Stop(no) => Ok(look_ask(alloc, world, *no, Ask::Stop(Threads::Both))),
+            Op::StopReceiver(no) => Ok(look_ask(alloc, world, *no, Ask::Stop(Threads::Receiver))),
+            Op::Start(no) => Ok(look_ask(alloc, world, *no, Ask::Start)),
+            Op::Reset(no) => Ok(look_ask(alloc, world, *no, Ask::Reset)),
+            Op::Detach(no) => Ok(look_ask(alloc, world, *no, Ask::Detach)),
+            Op::Reattach(no) => Ok(look_ask(alloc, world, *no, Ask::Reattach)),
+            Op::ReadOnly(no, on) => Ok(look_ask(alloc, world, *no, Ask::SetReadOnly(*on))),
+            Op::Until(no, aim) => Ok(self.look_until(alloc, world, *no, *aim)),
             Op::Await(no, aim) => self.look_await(alloc, world, *no, *aim),
             Op::AwaitSet(no, of) => self.look_await_set(alloc, world, *no, *of),
             Op::Settle(no) => self.look_settle(alloc, world, *no),
@@ -380,7 +397,7 @@ impl Job {
     // The operation is done, and this was seen.
     fn pass_with(&mut self, sight: Sight)
         requires { 0 < length self.old.ops }
-        ensures { self.new ≡ next (saw self.old sight.no sight.seen) (rest_of self.old) }
+        ensures { self.new ≡ next (saw_at self.old sight.no sight.seen) (rest_of self.old) }
     {
         keep(&mut self.seen, sight);
         self.done += 1;
@@ -390,7 +407,7 @@ impl Job {
     // This was seen in one more wait.
     fn wait_with(&mut self, sight: Sight) -> Result<(), Memory>
         requires { self.old.waited + 1 < self.old.wait }
-        ensures ok { OnOk result (self.new ≡ record (saw self.old sight.no sight.seen)
+        ensures ok { OnOk result (self.new ≡ record (saw_at self.old sight.no sight.seen)
             { waited = self.old.waited + 1 }) }
         ensures err { OnErr result (self.new ≡ self.old) }
     {
@@ -464,7 +481,8 @@ impl Job {
                 | AttachFault::Running(_)
                 | AttachFault::Interfered(_, _)
                 | AttachFault::Loop
-                | AttachFault::Errant(_),
+                | AttachFault::Errant(_)
+                | AttachFault::Purged(_),
             ) => {}
         }
         self.pass();
@@ -558,7 +576,7 @@ impl Job {
 
     /// This is the latest that was seen of a server.
     pub fn see(&mut self, sight: Sight) -> Result<(), Memory>
-        ensures ok { OnOk result (self.new ≡ saw self.old sight.no sight.seen) }
+        ensures ok { OnOk result (self.new ≡ saw_at self.old sight.no sight.seen) }
         ensures err { OnErr result (self.new ≡ self.old) }
     {
         self.seen.reserve(self.ops.len() - self.done + 1)?;

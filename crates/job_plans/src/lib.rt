@@ -12,6 +12,6 @@ pub use act::{Act, Look};
 pub use commands::{Cause, Command, CommandName, Refusal};
 pub use job::Job;
 pub use looks::has_place;
-pub use operations::{Aim, Crossing, JobStep, Op, Sight};
+pub use operations::{Aim, Crossing, JobStep, Op, Position, Sight};
 /// Want of memory.
 pub use orch_base::Memory;

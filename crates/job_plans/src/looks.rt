@@ -1,14 +1,14 @@
 //! What a turn comes to, by the kind of its operation.
 
-ghost use Rattle.std.specs.Prelude.{◌≡◌, ◌<◌, ◌&&◌, Some, None, IfOk, IsTrue, length, All};
+ghost use Rattle.std.specs.Prelude.{◌≡◌, ◌<◌, ◌&&◌, [], Some, None, IfOk, IsTrue, length, All};
 ghost use Rattle.std.specs.Option.{option_copied};
-ghost use Rattle.instance_keeper.specs.Seeing.{seen_in};
+ghost use Rattle.kept_rows.specs.Seeing.{seen_in};
 ghost use Rattle.server_model.specs.Attach.{IsTarget};
 ghost use Rattle.server_model.specs.Desk.{desk_answer};
 ghost use Rattle.server_model.specs.Gtids.{status as status_of, IsAutoTarget};
 ghost use Rattle.server_model.specs.Run.{Attach};
 ghost use Rattle.server_model.specs.Worlds.{server_at};
-ghost use Rattle.operations.specs.Jobs.{Job as JobState, seen_of};
+ghost use Rattle.operations.specs.Jobs.{Job as JobState, position_of, seen_of};
 ghost use Rattle.operations.specs.Named.{IsOneOf};
 ghost use Rattle.operations.specs.Targets.{logs_by, places_by};
 ghost use Rattle.operations.specs.Turns.{observed, is_moved, is_reached, after_look, after_ask, after_attach, cause_by, crossed, read_by, holds_seen, is_settled};
@@ -19,14 +19,14 @@ use crate::act::Act;
 use binlog_coords::Coord;
 use commands::{BoxedSet, Cause, Lines};
 use instance_keeper::{Bridge, Observation};
-use operations::{Crossing, JobStep, Sight};
+use operations::{Crossing, JobStep, Position, Sight};
 use orch_base::{Memory, Moment, ServerNo, SourceState};
 use server_model::World;
 use server_words::{Ask, AttachFault, Spot, Status, StatusFault};
 use std::alloc::Global;
 
 /// The latest that was seen of a server.
-pub(crate) fn latest(seen: &[Sight], no: ServerNo) -> Option<&Status>
+pub(crate) fn latest(seen: &[Sight], no: ServerNo) -> Option<&Position>
     ensures { option_copied result ≡ seen_of seen.now no.0 }
 {
     match seen {
@@ -38,6 +38,18 @@ pub(crate) fn latest(seen: &[Sight], no: ServerNo) -> Option<&Status>
                 latest(rest, no)
             }
         }
+    }
+}
+
+/// Where a server stood by this status.
+pub(crate) fn position_of(seen: Status) -> Position
+    ensures { result ≡ position_of seen }
+{
+    Position {
+        own_end: seen.own_end,
+        source: seen.source,
+        exec: seen.exec,
+        set: seen.set,
     }
 }
 
@@ -75,7 +87,7 @@ pub(crate) fn is_reached(aim: Option<Coord>, exec: Coord) -> bool
 }
 
 /// The server has executed all that was seen of another.
-pub(crate) fn holds_seen(of: Option<&Status>, seen: &Status) -> bool
+pub(crate) fn holds_seen(of: Option<&Position>, seen: &Status) -> bool
     ensures { result ≡ holds_seen (option_copied of.entry) seen.now }
 {
     match of {
@@ -120,12 +132,12 @@ pub(crate) fn passed() -> Look
 }
 
 /// The job fails.
-pub(crate) fn failed(cause: Cause, observation: Option<Observation>) -> Look
+pub(crate) fn failed(alloc: Global, cause: Cause, observation: Option<Observation>) -> Look
     ensures { result ≡ record
-        { step = JobStep.Failed cause; observation = observation; act = Act.Fail } }
+        { step = JobStep.Failed cause []; observation = observation; act = Act.Fail } }
 {
     Look {
-        step: JobStep::Failed(cause),
+        step: JobStep::Failed(cause, Lines::new(Vec::new(alloc))),
         observation,
         act: Act::Fail,
     }
@@ -162,10 +174,10 @@ pub(crate) fn look_status(
             moment,
             seen: None,
         };
-        return Ok(failed(Cause::Unreachable(no), Some(observation)));
+        return Ok(failed(alloc, Cause::Unreachable(no), Some(observation)));
     };
     let source = seen.source;
-    let kept = seen.copy()?;
+    let kept = position_of(seen.copy()?);
     let observation = Observation {
         no,
         read,
@@ -173,13 +185,13 @@ pub(crate) fn look_status(
         seen: Some(seen),
     };
     if is_moved(from, source) {
-        return Ok(failed(Cause::Moved(no, source), Some(observation)));
+        return Ok(failed(alloc, Cause::Moved(no, source), Some(observation)));
     }
     Ok(going(Some(observation), Act::Keep(Sight { no, seen: kept })))
 }
 
 /// What is asked of a server.
-pub(crate) fn look_ask(world: &World, no: ServerNo, ask: Ask) -> Look
+pub(crate) fn look_ask(alloc: Global, world: &World, no: ServerNo, ask: Ask) -> Look
     requires { no.0 < length world.now.servers }
     ensures { TellsAll world.now (λ j. after_ask j (rest_of j) no ask (desk_answer
         (server_at world.now no.0))) result }
@@ -187,7 +199,7 @@ pub(crate) fn look_ask(world: &World, no: ServerNo, ask: Ask) -> Look
     if world.is_reached(no) {
         going(None, Act::Ask(no, ask))
     } else {
-        failed(Cause::Unreachable(no), None)
+        failed(alloc, Cause::Unreachable(no), None)
     }
 }
 
@@ -231,7 +243,7 @@ pub(crate) fn look_attach(
     }
     match world.test_attach_at(no, expect, to, at) {
         Ok(()) => Ok(going(None, Act::Attach(no, expect, to, at))),
-        Err(fault) => Ok(failed(cause_by(alloc, no, fault)?, None)),
+        Err(fault) => Ok(failed(alloc, cause_by(alloc, no, fault)?, None)),
     }
 }
 
@@ -275,5 +287,6 @@ pub(crate) fn cause_by(alloc: Global, no: ServerNo, fault: AttachFault) -> Resul
         },
         AttachFault::Loop => Cause::Loop(no),
         AttachFault::Errant(set) => Cause::Errant(no, BoxedSet::new(alloc, set)?),
+        AttachFault::Purged(first) => Cause::Purged(no, first),
     })
 }

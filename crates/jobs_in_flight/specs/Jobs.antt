@@ -2,7 +2,7 @@
 use Rattle.std.specs.Prelude.{ℕ, ◌+◌, ◌≤◌, ◌<◌, ◌==◌, Bool, not, is_some, if◌then◌else◌, List, [], ◌∷◌, find, filter, map, Option, Some, None}
 use Rattle.std.specs.Option.{option_map, option_and_then}
 use Rattle.orch_base.specs.Memory.{next_count}
-use Rattle.instance_keeper.specs.declared.observation.Observation.{Observation}
+use Rattle.kept_rows.specs.declared.observation.Observation.{Observation}
 use Rattle.instance_keeper.specs.Book.{BookState, after_store}
 use Rattle.instance_keeper.specs.Leases.{given_back}
 use Rattle.unended_jobs.specs.declared.unended.Unended.{Unended}
@@ -13,8 +13,8 @@ use Rattle.operations.specs.declared.step.JobStep.{JobStep}
 use Rattle.operations.specs.declared.step.JobStep.TheVariants as step
 use Rattle.operations.specs.Turns.{is_going}
 use Rattle.server_model.specs.Run.{Exchange}
-use Rattle.turns.specs.declared.turn.Reply.{Reply}
-use Rattle.turns.specs.declared.turn.Reply.TheVariants as answered
+use Rattle.turns.specs.declared.reply.Reply.{Reply}
+use Rattle.turns.specs.declared.reply.Reply.TheVariants as answered
 
 -- the numbers of jobs rise, above the first number and up to the last
 abbrev pub Rise : ℕ → List Unended → ℕ → Type 0
@@ -86,7 +86,7 @@ jobs_turned jobs id (Some t) = if is_going t.step then with_job jobs id t.next e
 abbrev pub step_reply : JobStep → Reply
 step_reply step.Going = answered.Going
 step_reply (step.Done lines) = answered.Told lines
-step_reply (step.Failed cause) = answered.Failed cause
+step_reply (step.Failed cause lines) = answered.Failed (record { cause = cause; lines = lines })
 
 abbrev pub job_reply : Option Flown → Reply
 job_reply None = answered.NoJob

@@ -2,7 +2,7 @@
 
 ghost use Rattle.std.specs.Prelude.{◌≡◌, ◌<◌, ℕ, true, false, length, slice_get, None, Some, IfOk, IfSome, OnOk, OnErr, MatchOption};
 ghost use Rattle.std.specs.List.{remove};
-ghost use Rattle.instance_keeper.specs.Book.{are_known, observed_servers};
+ghost use Rattle.kept_rows.specs.Servers.{are_known, observed_servers};
 ghost use Rattle.operations.specs.Turns.{is_going};
 ghost use Rattle.server_model.specs.Run.{run};
 ghost use Rattle.unended_jobs.specs.Looks.{CanGo, observation_of, step_of};
@@ -13,7 +13,7 @@ use operations::JobStep;
 use orch_base::Memory;
 use server_model::World;
 use std::alloc::Global;
-use turns::{BoxedCause, Reply};
+use turns::{BoxedFailure, Failure, Reply};
 use unended_jobs::{Unended, UnendedLook};
 
 /// Where a job stands among those by rising number, and its number.
@@ -43,7 +43,13 @@ pub fn answer(alloc: Global, step: &JobStep) -> Result<Reply, Memory>
     Ok(match step {
         JobStep::Going => Reply::Going,
         JobStep::Done(lines) => Reply::Told(lines.copy(alloc)?),
-        JobStep::Failed(cause) => Reply::Failed(BoxedCause::new(alloc, cause.copy(alloc)?)?),
+        JobStep::Failed(cause, lines) => {
+            let failure = Failure {
+                cause: cause.copy(alloc)?,
+                lines: lines.copy(alloc)?,
+            };
+            Reply::Failed(BoxedFailure::new(alloc, failure)?)
+        }
     })
 }
 
@@ -52,7 +58,7 @@ fn is_going(step: &JobStep) -> bool
 {
     match step {
         JobStep::Going => true,
-        JobStep::Done(_) | JobStep::Failed(_) => false,
+        JobStep::Done(_) | JobStep::Failed(_, _) => false,
     }
 }
 

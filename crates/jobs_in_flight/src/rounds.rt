@@ -6,7 +6,7 @@ ghost use Rattle.jobs_in_flight.specs.Rounds.{polls, replicates, round_over};
 
 use orch_base::{Memory, ServerNo};
 use std::alloc::Global;
-use turns::Turn;
+use turns::{Act, Step, Turn};
 
 /// By this poller the servers are read between a job's turns.
 const POLLER: u32 = 0;
@@ -16,8 +16,8 @@ fn add_replication(turns: &mut Vec<Turn>, servers: &[ServerNo]) -> Result<(), Me
         servers.now) }
 {
     for no in servers {
-        turns.push(Turn::Fetch(*no))?;
-        turns.push(Turn::Apply(*no))?;
+        turns.push(Turn::Step(Step::Fetch(*no)))?;
+        turns.push(Turn::Step(Step::Apply(*no)))?;
     }
     Ok(())
 }
@@ -26,8 +26,8 @@ fn add_polls(turns: &mut Vec<Turn>, servers: &[ServerNo]) -> Result<(), Memory>
     ensures { IfOk result (λ t. turns.new.items ≡ turns.old.items ++ flat_map polls servers.now) }
 {
     for no in servers {
-        turns.push(Turn::PollRead(POLLER, *no))?;
-        turns.push(Turn::PollStore(POLLER))?;
+        turns.push(Turn::Act(Act::PollRead(POLLER, *no)))?;
+        turns.push(Turn::Act(Act::PollStore(POLLER)))?;
     }
     Ok(())
 }
@@ -48,7 +48,7 @@ pub fn round_over(alloc: Global, servers: &[ServerNo], job: u64) -> Result<Vec<T
     ensures { IfOk result (λ turns. turns.items ≡ round_over servers.now job) }
 {
     let mut turns = Vec::new(alloc);
-    turns.push(Turn::Job(job))?;
+    turns.push(Turn::Act(Act::Job(job)))?;
     add_replication(&mut turns, servers)?;
     add_polls(&mut turns, servers)?;
     Ok(turns)

@@ -261,6 +261,7 @@ fn server(alloc: Global, text: &str) -> Result<Settings, Memory> {
         cluster: OwnedText::new(String::from_str(alloc, "m:3306")?),
         logs: true,
         limit: 4096,
+        dc: OwnedText::new(String::new(alloc)),
     })
 }
 
@@ -314,6 +315,8 @@ fn instance(alloc: Global, no: u32, look: Look) -> Row {
             sql: true,
             read_only: true,
             set: GtidSet::empty(alloc),
+            first: 1,
+            purged: GtidSet::empty(alloc),
         },
     })
 }

@@ -3,15 +3,39 @@
 ghost use Rattle.std.specs.Prelude.{◌≡◌, ◌≤◌, ◌<◌, ◌^◌, ◌↔◌, All, IfOk, IfSome, IsTrue};
 ghost use Rattle.audit_log.specs.Audits.{may_begin};
 
-use audit_log::{Audit, Held, is_unended, kept_recoveries_make_an_audit, recoveries_in};
-use instance_keeper::{CauseName, Ending, Kind, Recovery, Row, last_row_stands, row_map};
+use audit_log::{Audit, Held, Periods, is_unended, kept_recoveries_make_an_audit, recoveries_in};
+use kept_rows::{CauseName, Ending, Kind, Recovery, Row, last_row_stands, row_map};
 use orch_base::{Memory, Moment, OwnedText, ServerNo};
 use std::alloc::Global;
 
 const BLOCK: u64 = 3600;
 
-fn recovery(alloc: Global, id: u64, cluster: &str, begun: u64) -> Result<Recovery, Memory>
-    ensures { IfOk result (λ r. (r.id ≡ id) × (r.cluster ≡ cluster.now) × (r.begun.0 ≡ begun)) }
+const LAST_ID: u64 = 1 << 62;
+
+const LAST_MOMENT: u64 = 1 << 63;
+
+const LONGEST: u64 = 1_000_000_000;
+
+// One block period for all clusters.
+#[derive(Clone, Copy)]
+struct OnePeriod(u64);
+
+impl Periods for OnePeriod {
+    ghost period_of = { λ p _. p.0 };
+
+    fn period(&self, _cluster: &str) -> u64 {
+        self.0
+    }
+}
+
+fn recovery(
+    alloc: Global,
+    id: u64,
+    cluster: &str,
+    begun: u64,
+    block: u64,
+) -> Result<Recovery, Memory>
+    ensures { IfOk result (λ r. (r.id ≡ id) × (r.cluster ≡ cluster.now) × (r.begun.0 ≡ begun) × (r.block ≡ block)) }
 {
     Ok(Recovery {
         id,
@@ -22,6 +46,7 @@ fn recovery(alloc: Global, id: u64, cluster: &str, begun: u64) -> Result<Recover
         ended: None,
         outcome: Ending::Unended,
         acked: false,
+        block,
     })
 }
 
@@ -29,26 +54,32 @@ fn recovery(alloc: Global, id: u64, cluster: &str, begun: u64) -> Result<Recover
 type Answer = Option<Result<u64, Held>>;
 
 // What `may_begin` answers; none where a recovery began past 2^63.
-fn asked(audit: &Audit, cluster: &str, now: u64, block: u64) -> Answer
-    ensures { IfSome result (λ answer. answer ≡ may_begin audit.now.audit cluster.now now block) }
+fn asked(audit: &Audit, cluster: &str, now: u64) -> Answer
+    ensures { IfSome result (λ answer. answer ≡ may_begin audit.now.audit cluster.now now) }
 {
     let early = audit
         .recoveries()
         .iter()
         .all(|r| r.begun.0 <= 9_223_372_036_854_775_808);
-    if early && block <= 1_000_000_000 {
-        Some(audit.may_begin(cluster, Moment(now), block))
+    if early {
+        Some(audit.may_begin(cluster, Moment(now)))
     } else {
         None
     }
 }
 
-// Begins a recovery of a cluster where it may.
-fn begin(alloc: Global, audit: &mut Audit, cluster: &str, now: u64) -> Result<Answer, Memory> {
+// Begins a recovery of a cluster, with a block period that isn't too long, where it may.
+fn begin(
+    alloc: Global,
+    audit: &mut Audit,
+    cluster: &str,
+    now: u64,
+    block: u64,
+) -> Result<Answer, Memory> {
     audit.reserve()?;
-    match asked(audit, cluster, now, BLOCK) {
-        Some(Ok(id)) if id < 1_000_000_000 => {
-            audit.begin(recovery(alloc, id, cluster, now)?);
+    match asked(audit, cluster, now) {
+        Some(Ok(id)) if id < LAST_ID && block <= LONGEST => {
+            audit.begin(recovery(alloc, id, cluster, now, block)?);
             Ok(Some(Ok(id)))
         }
         other => Ok(other),
@@ -70,15 +101,24 @@ fn end(audit: &mut Audit, id: u64, at: u64, outcome: Ending) -> Answer {
 }
 
 fn are_in_range(list: &[Recovery], next: u64) -> bool
-    ensures { IsTrue result ↔ All (λ r. (1 ≤ r.id) × (r.id < next)) list.now }
+    ensures { IsTrue result ↔ All (λ r. (1 ≤ r.id) × (r.id < next) × (r.block ≤ 1000000000)) list.now }
 {
-    list.iter().all(|r| r.id >= 1 && r.id < next)
+    list.iter()
+        .all(|r| (r.id >= 1 && r.id < next) && r.block <= 1_000_000_000)
 }
 
-// The audit of some kept rows; none where their ids aren't from 1 on and below the next one.
-fn loaded(alloc: Global, rows: Vec<Row>, next: u64) -> Result<Option<Audit>, Memory> {
+// What is kept: recoveries, the period of those that have none, and the next id.
+#[derive(Clone, Copy)]
+struct Opening {
+    kept: &'static [Kept],
+    period: u64,
+    next: u64,
+}
+
+// The audit of some kept rows; none where their ids aren't from 1 on and below the next one, or a period is too long.
+fn loaded(alloc: Global, rows: Vec<Row>, period: u64, next: u64) -> Result<Option<Audit>, Memory> {
     let rows = row_map(alloc, rows)?;
-    let list = recoveries_in(alloc, &rows)?;
+    let list = recoveries_in(alloc, &OnePeriod(period), &rows)?;
     last_row_stands();
     kept_recoveries_make_an_audit();
     if next == 0 || !are_in_range(&list, next) {
@@ -87,39 +127,44 @@ fn loaded(alloc: Global, rows: Vec<Row>, next: u64) -> Result<Option<Audit>, Mem
     Ok(Some(Audit::make(list, next)))
 }
 
-// A recovery that is kept: its id, cluster, begin, end and outcome.
-type Kept = (u64, &'static str, u64, Option<u64>, Ending);
+// A recovery that is kept: its id, cluster, begin, end, outcome and block period.
+type Kept = (u64, &'static str, u64, Option<u64>, Ending, Option<u64>);
 
-fn kept_row(alloc: Global, (id, cluster, begun, ended, outcome): Kept) -> Result<Row, Memory> {
-    let mut kept = recovery(alloc, id, cluster, begun)?;
+fn kept_row(
+    alloc: Global,
+    (id, cluster, begun, ended, outcome, block): Kept,
+) -> Result<Row, Memory> {
+    let mut kept = recovery(alloc, id, cluster, begun, BLOCK)?.into_row();
     kept.ended = ended.map(Moment);
     kept.outcome = outcome;
+    kept.block = block;
     Ok(Row::Recovery(kept))
 }
 
 // The audit of these recoveries, beside which another row is kept.
-fn audit_of(alloc: Global, kept: &[Kept], next: u64) -> Result<Option<Audit>, Memory> {
+fn audit_of(alloc: Global, opening: Opening) -> Result<Option<Audit>, Memory> {
     let mut rows = Vec::new(alloc);
     rows.push(Row::Switch(false))?;
-    for one in kept {
+    for one in opening.kept {
         rows.push(kept_row(alloc, *one)?)?;
     }
-    loaded(alloc, rows, next)
+    loaded(alloc, rows, opening.period, opening.next)
 }
 
 #[derive(Clone, Copy)]
 enum Act {
-    // Asks whether a recovery of a cluster may begin at this moment, by this block period.
-    Ask(&'static str, u64, u64),
-    Begin(&'static str, u64),
+    // Asks whether a recovery of a cluster may begin at this moment.
+    Ask(&'static str, u64),
+    // A cluster, the moment, and a block period.
+    Begin(&'static str, u64, u64),
     End(u64, u64, Ending),
     Ack(&'static str),
 }
 
 fn answer(alloc: Global, audit: &mut Audit, act: Act) -> Result<Answer, Memory> {
     match act {
-        Act::Ask(cluster, now, block) => Ok(asked(audit, cluster, now, block)),
-        Act::Begin(cluster, now) => begin(alloc, audit, cluster, now),
+        Act::Ask(cluster, now) => Ok(asked(audit, cluster, now)),
+        Act::Begin(cluster, now, block) => begin(alloc, audit, cluster, now, block),
         Act::End(id, at, outcome) => Ok(end(audit, id, at, outcome)),
         Act::Ack(cluster) => Ok(Some(Ok(audit.ack(cluster)))),
     }
@@ -142,11 +187,10 @@ fn surprise_in(
 // The same of acts on the audit of these recoveries; the act 0, too, where they make none.
 fn surprise(
     alloc: Global,
-    kept: &[Kept],
-    next: u64,
+    opening: Opening,
     acts: &[(Act, Answer)],
 ) -> Result<Option<usize>, Memory> {
-    match audit_of(alloc, kept, next)? {
+    match audit_of(alloc, opening)? {
         Some(mut audit) => {
             let found = surprise_in(alloc, &mut audit, acts);
             drop(audit);
@@ -157,34 +201,34 @@ fn surprise(
 }
 
 const APART: [(Act, Answer); 18] = [
-    (Act::Ask("m:3306", 0, BLOCK), Some(Ok(1))),
-    (Act::Begin("m:3306", 0), Some(Ok(1))),
-    (Act::Ask("m:3306", 0, BLOCK), Some(Err(Held::Unended(1)))),
+    (Act::Ask("m:3306", 0), Some(Ok(1))),
+    (Act::Begin("m:3306", 0, BLOCK), Some(Ok(1))),
+    (Act::Ask("m:3306", 0), Some(Err(Held::Unended(1)))),
     // another cluster's isn't held back
-    (Act::Ask("m:3307", 0, BLOCK), Some(Ok(2))),
+    (Act::Ask("m:3307", 0), Some(Ok(2))),
     (Act::End(1, 7, Ending::Promoted(ServerNo(3))), Some(Ok(1))),
     // the period counts from the begin
     (
-        Act::Ask("m:3306", 3599, BLOCK),
+        Act::Ask("m:3306", 3599),
         Some(Err(Held::Blocked {
             id: 1,
             until: Moment(3600),
         })),
     ),
-    (Act::Ask("m:3306", 3600, BLOCK), Some(Ok(2))),
+    (Act::Ask("m:3306", 3600), Some(Ok(2))),
     (Act::Ack("m:3307"), Some(Ok(0))),
     (Act::Ack("m:3306"), Some(Ok(1))),
     (Act::Ack("m:3306"), Some(Ok(0))),
-    (Act::Ask("m:3306", 3599, BLOCK), Some(Ok(2))),
+    (Act::Ask("m:3306", 3599), Some(Ok(2))),
     // an acknowledged one that isn't ended still holds others back
-    (Act::Begin("m:3306", 3599), Some(Ok(2))),
+    (Act::Begin("m:3306", 3599, BLOCK), Some(Ok(2))),
     (Act::Ack("m:3306"), Some(Ok(1))),
+    (Act::Ask("m:3306", 90_000), Some(Err(Held::Unended(2)))),
     (
-        Act::Ask("m:3306", 90_000, BLOCK),
+        Act::Begin("m:3306", 90_000, BLOCK),
         Some(Err(Held::Unended(2))),
     ),
-    (Act::Begin("m:3306", 90_000), Some(Err(Held::Unended(2)))),
-    (Act::Ask("m:3307", 90_000, BLOCK), Some(Ok(3))),
+    (Act::Ask("m:3307", 90_000), Some(Ok(3))),
     (Act::End(1, 8, Ending::Interrupted), None),
     (Act::End(3, 8, Ending::Interrupted), None),
 ];
@@ -196,6 +240,7 @@ const ENDED: [Kept; 4] = [
         100,
         Some(100),
         Ending::Failed(CauseName::NoCandidate),
+        Some(BLOCK),
     ),
     (
         2,
@@ -203,21 +248,30 @@ const ENDED: [Kept; 4] = [
         900,
         Some(900),
         Ending::Failed(CauseName::NoCandidate),
+        Some(BLOCK),
     ),
-    (7, "b", 50, Some(50), Ending::Failed(CauseName::NoCandidate)),
+    (
+        7,
+        "b",
+        50,
+        Some(50),
+        Ending::Failed(CauseName::NoCandidate),
+        Some(BLOCK),
+    ),
     (
         5,
         "a",
         500,
         Some(500),
         Ending::Failed(CauseName::NoCandidate),
+        Some(BLOCK),
     ),
 ];
 
-const LAST: [(Act, Answer); 8] = [
+const LAST: [(Act, Answer); 7] = [
     // the last by id, not by its moment
     (
-        Act::Ask("a", 1000, BLOCK),
+        Act::Ask("a", 1000),
         Some(Err(Held::Blocked {
             id: 5,
             until: Moment(4100),
@@ -225,20 +279,18 @@ const LAST: [(Act, Answer); 8] = [
     ),
     // of those that still block
     (
-        Act::Ask("a", 4200, BLOCK),
+        Act::Ask("a", 4200),
         Some(Err(Held::Blocked {
             id: 2,
             until: Moment(4500),
         })),
     ),
-    (Act::Ask("a", 4500, BLOCK), Some(Ok(8))),
-    (Act::Ask("c", 0, BLOCK), Some(Ok(8))),
-    // without a period nothing blocks
-    (Act::Ask("a", 1000, 0), Some(Ok(8))),
+    (Act::Ask("a", 4500), Some(Ok(8))),
+    (Act::Ask("c", 0), Some(Ok(8))),
     (Act::Ack("a"), Some(Ok(3))),
-    (Act::Ask("a", 1000, BLOCK), Some(Ok(8))),
+    (Act::Ask("a", 1000), Some(Ok(8))),
     (
-        Act::Ask("b", 0, BLOCK),
+        Act::Ask("b", 0),
         Some(Err(Held::Blocked {
             id: 7,
             until: Moment(3650),
@@ -246,18 +298,13 @@ const LAST: [(Act, Answer); 8] = [
     ),
 ];
 
-const LAST_ID: u64 = 1 << 62;
-
-const LAST_MOMENT: u64 = 1 << 63;
-
-const LONGEST: u64 = 1_000_000_000;
-
 const FAR: [Kept; 1] = [(
     LAST_ID,
     "a",
     LAST_MOMENT,
     Some(LAST_MOMENT),
     Ending::Interrupted,
+    Some(LONGEST),
 )];
 
 const FAR_BLOCKED: Answer = Some(Err(Held::Blocked {
@@ -267,30 +314,105 @@ const FAR_BLOCKED: Answer = Some(Err(Held::Blocked {
 
 const FAR_ACTS: [(Act, Answer); 5] = [
     // a moment before the begin, too
-    (Act::Ask("a", 0, LONGEST), FAR_BLOCKED),
-    (Act::Ask("a", LAST_MOMENT, LONGEST), FAR_BLOCKED),
-    (
-        Act::Ask("a", LAST_MOMENT + LONGEST - 1, LONGEST),
-        FAR_BLOCKED,
-    ),
-    (
-        Act::Ask("a", LAST_MOMENT + LONGEST, LONGEST),
-        Some(Ok(LAST_ID + 1)),
-    ),
-    (Act::Ask("b", 0, LONGEST), Some(Ok(LAST_ID + 1))),
+    (Act::Ask("a", 0), FAR_BLOCKED),
+    (Act::Ask("a", LAST_MOMENT), FAR_BLOCKED),
+    (Act::Ask("a", LAST_MOMENT + LONGEST - 1), FAR_BLOCKED),
+    (Act::Ask("a", LAST_MOMENT + LONGEST), Some(Ok(LAST_ID + 1))),
+    (Act::Ask("b", 0), Some(Ok(LAST_ID + 1))),
 ];
 
-// The recoveries that are kept, the next id, and what is done.
-const STORIES: [(&[Kept], u64, &[(Act, Answer)]); 3] = [
-    (&[], 1, &APART),
-    (&ENDED, 8, &LAST),
-    (&FAR, LAST_ID + 1, &FAR_ACTS),
+// The second has no period of its own, and the third one blocks nothing.
+const OWN: [Kept; 3] = [
+    (1, "a", 0, Some(0), Ending::Interrupted, Some(100)),
+    (2, "a", 50, Some(50), Ending::Interrupted, None),
+    (3, "a", 60, Some(60), Ending::Interrupted, Some(0)),
+];
+
+const FIRST_BLOCKS: Answer = Some(Err(Held::Blocked {
+    id: 1,
+    until: Moment(100),
+}));
+
+const OWN_ACTS: [(Act, Answer); 4] = [
+    (
+        Act::Ask("a", 59),
+        Some(Err(Held::Blocked {
+            id: 2,
+            until: Moment(60),
+        })),
+    ),
+    (Act::Ask("a", 60), FIRST_BLOCKS),
+    (Act::Ask("a", 99), FIRST_BLOCKS),
+    (Act::Ask("a", 100), Some(Ok(4))),
+];
+
+// A period of its own counts, whatever the scenario's is; another cluster's has another.
+const MINUTE: [(Act, Answer); 8] = [
+    (Act::Begin("m:3306", 0, 60), Some(Ok(1))),
+    (
+        Act::End(1, 0, Ending::Failed(CauseName::Reachable)),
+        Some(Ok(1)),
+    ),
+    (Act::Begin("x", 0, BLOCK), Some(Ok(2))),
+    (Act::End(2, 0, Ending::Interrupted), Some(Ok(2))),
+    (
+        Act::Begin("m:3306", 59, 60),
+        Some(Err(Held::Blocked {
+            id: 1,
+            until: Moment(60),
+        })),
+    ),
+    (Act::Begin("m:3306", 60, 60), Some(Ok(3))),
+    (Act::Begin("m:3306", 60, 60), Some(Err(Held::Unended(3)))),
+    (
+        Act::Ask("x", 60),
+        Some(Err(Held::Blocked {
+            id: 2,
+            until: Moment(3600),
+        })),
+    ),
+];
+
+const NOTHING: Opening = Opening {
+    kept: &[],
+    period: BLOCK,
+    next: 1,
+};
+
+// What is kept, and what is done.
+const STORIES: [(Opening, &[(Act, Answer)]); 5] = [
+    (NOTHING, &APART),
+    (NOTHING, &MINUTE),
+    (
+        Opening {
+            kept: &ENDED,
+            period: 0,
+            next: 8,
+        },
+        &LAST,
+    ),
+    (
+        Opening {
+            kept: &FAR,
+            period: BLOCK,
+            next: LAST_ID + 1,
+        },
+        &FAR_ACTS,
+    ),
+    (
+        Opening {
+            kept: &OWN,
+            period: 10,
+            next: 4,
+        },
+        &OWN_ACTS,
+    ),
 ];
 
 // The first story with a surprise, and the act.
 fn first_surprise(alloc: Global) -> Result<Option<(usize, usize)>, Memory> {
-    for (story, (kept, next, acts)) in STORIES.iter().enumerate() {
-        if let Some(act) = surprise(alloc, kept, *next, acts)? {
+    for (story, (opening, acts)) in STORIES.iter().enumerate() {
+        if let Some(act) = surprise(alloc, *opening, acts)? {
             return Ok(Some((story, act)));
         }
     }
@@ -303,12 +425,25 @@ fn recoveries_stand_apart(rt: HostRuntime) {
 }
 
 const UNENDED: [Kept; 4] = [
-    (3, "a", 10, None, Ending::Unended),
-    (1, "a", 5, None, Ending::Unended),
+    (3, "a", 10, None, Ending::Unended, Some(BLOCK)),
+    (1, "a", 5, None, Ending::Unended, Some(BLOCK)),
     // it has a moment of its end, and no outcome
-    (2, "b", 6, Some(6), Ending::Unended),
-    (4, "b", 7, Some(8), Ending::Promoted(ServerNo(1))),
+    (2, "b", 6, Some(6), Ending::Unended, Some(BLOCK)),
+    (
+        4,
+        "b",
+        7,
+        Some(8),
+        Ending::Promoted(ServerNo(1)),
+        Some(BLOCK),
+    ),
 ];
+
+const RESTARTED: Opening = Opening {
+    kept: &UNENDED,
+    period: BLOCK,
+    next: 5,
+};
 
 const RESTART: Moment = Moment(20);
 
@@ -349,7 +484,7 @@ fn restart(alloc: Global, audit: &mut Audit) -> Result<(bool, bool), Memory> {
 }
 
 fn restarted(alloc: Global) -> Result<(bool, bool), Memory> {
-    match audit_of(alloc, &UNENDED, 5)? {
+    match audit_of(alloc, RESTARTED)? {
         Some(mut audit) => {
             let restarted = restart(alloc, &mut audit);
             drop(audit);

@@ -7,10 +7,11 @@ use orch_base::{Memory, Name, Rule, ServerNo};
 use promotion_rules::{Drained, better, most_advanced};
 use std::alloc::{AllocError, Global};
 
-// A drained replica: its number, file and position, rule, and whether it logs.
-type Given = (u32, u32, u64, Rule, bool);
+// A drained replica: its number, file and position, rule, whether it logs, and whether it stands in the failed server's
+// data centre.
+type Given = (u32, u32, u64, Rule, bool, bool);
 
-fn drained((no, file, pos, rule, logs): Given) -> Drained {
+fn drained((no, file, pos, rule, logs, near): Given) -> Drained {
     let coord = Coord { file, pos };
     Drained {
         no: ServerNo(no),
@@ -18,6 +19,7 @@ fn drained((no, file, pos, rule, logs): Given) -> Drained {
         own_end: if logs { Some(coord) } else { None },
         rule,
         logs,
+        near,
     }
 }
 
@@ -55,21 +57,24 @@ fn are_known(list: &[Drained], names: &[Name]) -> bool
     list.iter().all(|d| (d.no.0 as usize) < names.len())
 }
 
-// The most advanced one or, behind one with this rule, the better follower; none where one isn't among the names.
-fn choice(of: Option<Rule>, list: &[Drained], names: &[Name]) -> Option<Option<ServerNo>> {
+// The rule of one that was promoted already, and whether it stands in the failed server's data centre.
+type Promoted = (Rule, bool);
+
+// The most advanced one or, behind a promoted one, the better follower; none where one isn't among the names.
+fn choice(of: Option<Promoted>, list: &[Drained], names: &[Name]) -> Option<Option<ServerNo>> {
     if !are_known(list, names) {
         return None;
     }
     match of {
         None => Some(most_advanced(list, names)),
-        Some(rule) => Some(better(rule, list, names)),
+        Some((rule, near)) => Some(better(&drained((0, 1, 4, rule, true, near)), list, names)),
     }
 }
 
 // The same of these replicas.
 fn chosen(
     alloc: Global,
-    of: Option<Rule>,
+    of: Option<Promoted>,
     given: &[Option<Given>],
 ) -> Result<Option<Option<ServerNo>>, Memory> {
     let list = all_drained(alloc, given)?;
@@ -77,15 +82,15 @@ fn chosen(
     Ok(choice(of, &list, &names))
 }
 
-// The rule of the one that was promoted already, drained replicas, and the one that is chosen.
-const CHOICES: [(Option<Rule>, [Option<Given>; 3], Option<ServerNo>); 18] = [
+// The one that was promoted already, drained replicas, and the one that is chosen.
+const CHOICES: [(Option<Promoted>, [Option<Given>; 3], Option<ServerNo>); 25] = [
     // the greatest coordinate goes before the better rule, and one that must not be promoted is passed over
     (
         None,
         [
-            Some((0, 1, 204, Rule::Neutral, true)),
-            Some((1, 2, 4, Rule::PreferNot, true)),
-            Some((2, 2, 4, Rule::MustNot, true)),
+            Some((0, 1, 204, Rule::Neutral, true, true)),
+            Some((1, 2, 4, Rule::PreferNot, true, true)),
+            Some((2, 2, 4, Rule::MustNot, true, true)),
         ],
         Some(ServerNo(1)),
     ),
@@ -93,8 +98,8 @@ const CHOICES: [(Option<Rule>, [Option<Given>; 3], Option<ServerNo>); 18] = [
     (
         None,
         [
-            Some((0, 1, 1_000_000_000_000, Rule::Prefer, true)),
-            Some((1, 2, 4, Rule::Neutral, true)),
+            Some((0, 1, 1_000_000_000_000, Rule::Prefer, true, true)),
+            Some((1, 2, 4, Rule::Neutral, true, true)),
             None,
         ],
         Some(ServerNo(1)),
@@ -103,8 +108,8 @@ const CHOICES: [(Option<Rule>, [Option<Given>; 3], Option<ServerNo>); 18] = [
     (
         None,
         [
-            Some((0, 1, 204, Rule::Neutral, true)),
-            Some((1, 1, 204, Rule::Prefer, true)),
+            Some((0, 1, 204, Rule::Neutral, true, true)),
+            Some((1, 1, 204, Rule::Prefer, true, true)),
             None,
         ],
         Some(ServerNo(1)),
@@ -113,17 +118,17 @@ const CHOICES: [(Option<Rule>, [Option<Given>; 3], Option<ServerNo>); 18] = [
     (
         None,
         [
-            Some((0, 1, 204, Rule::Prefer, true)),
-            Some((4, 1, 204, Rule::Prefer, true)),
-            Some((1, 1, 204, Rule::Prefer, true)),
+            Some((0, 1, 204, Rule::Prefer, true, true)),
+            Some((4, 1, 204, Rule::Prefer, true, true)),
+            Some((1, 1, 204, Rule::Prefer, true, true)),
         ],
         Some(ServerNo(4)),
     ),
     (
         None,
         [
-            Some((1, 1, 204, Rule::Prefer, true)),
-            Some((3, 1, 204, Rule::Prefer, true)),
+            Some((1, 1, 204, Rule::Prefer, true, true)),
+            Some((3, 1, 204, Rule::Prefer, true, true)),
             None,
         ],
         Some(ServerNo(3)),
@@ -132,85 +137,147 @@ const CHOICES: [(Option<Rule>, [Option<Given>; 3], Option<ServerNo>); 18] = [
     (
         None,
         [
-            Some((0, 9, 204, Rule::Prefer, false)),
-            Some((1, 1, 4, Rule::PreferNot, true)),
+            Some((0, 9, 204, Rule::Prefer, false, true)),
+            Some((1, 1, 4, Rule::PreferNot, true, true)),
             None,
         ],
         Some(ServerNo(1)),
     ),
     (
         None,
-        [Some((0, 9, 204, Rule::Prefer, false)), None, None],
+        [Some((0, 9, 204, Rule::Prefer, false, true)), None, None],
         None,
     ),
     (
         None,
-        [Some((0, 9, 204, Rule::MustNot, true)), None, None],
+        [Some((0, 9, 204, Rule::MustNot, true, true)), None, None],
         None,
     ),
     (None, [None, None, None], None),
     (
         None,
         [
-            Some((0, u32::MAX, u64::MAX, Rule::PreferNot, true)),
-            Some((1, u32::MAX, u64::MAX - 1, Rule::Prefer, true)),
+            Some((0, u32::MAX, u64::MAX, Rule::PreferNot, true, true)),
+            Some((1, u32::MAX, u64::MAX - 1, Rule::Prefer, true, true)),
             None,
         ],
         Some(ServerNo(0)),
     ),
     // of followers
     (
-        Some(Rule::PreferNot),
-        [Some((0, 1, 204, Rule::Neutral, true)), None, None],
+        Some((Rule::PreferNot, true)),
+        [Some((0, 1, 204, Rule::Neutral, true, true)), None, None],
         Some(ServerNo(0)),
     ),
     // the rule must be strictly better
     (
-        Some(Rule::Neutral),
-        [Some((0, 1, 204, Rule::Neutral, true)), None, None],
+        Some((Rule::Neutral, true)),
+        [Some((0, 1, 204, Rule::Neutral, true, true)), None, None],
         None,
     ),
     (
-        Some(Rule::Prefer),
-        [Some((0, 1, 204, Rule::Prefer, true)), None, None],
+        Some((Rule::Prefer, true)),
+        [Some((0, 1, 204, Rule::Prefer, true, true)), None, None],
         None,
     ),
     // coordinates don't count
     (
-        Some(Rule::PreferNot),
+        Some((Rule::PreferNot, true)),
         [
-            Some((0, 9, 204, Rule::Neutral, true)),
-            Some((1, 1, 4, Rule::Prefer, true)),
+            Some((0, 9, 204, Rule::Neutral, true, true)),
+            Some((1, 1, 4, Rule::Prefer, true, true)),
             None,
         ],
         Some(ServerNo(1)),
     ),
     // of one rule the first name
     (
-        Some(Rule::PreferNot),
+        Some((Rule::PreferNot, true)),
         [
-            Some((2, 1, 4, Rule::Neutral, true)),
-            Some((1, 1, 4, Rule::Neutral, true)),
-            Some((3, 1, 4, Rule::Neutral, true)),
+            Some((2, 1, 4, Rule::Neutral, true, true)),
+            Some((1, 1, 4, Rule::Neutral, true, true)),
+            Some((3, 1, 4, Rule::Neutral, true, true)),
         ],
         Some(ServerNo(3)),
     ),
     // who doesn't log is passed over
     (
-        Some(Rule::PreferNot),
+        Some((Rule::PreferNot, true)),
         [
-            Some((0, 1, 4, Rule::Prefer, false)),
-            Some((1, 1, 4, Rule::Neutral, true)),
+            Some((0, 1, 4, Rule::Prefer, false, true)),
+            Some((1, 1, 4, Rule::Neutral, true, true)),
             None,
         ],
         Some(ServerNo(1)),
     ),
     (
-        Some(Rule::PreferNot),
-        [Some((0, 1, 4, Rule::MustNot, true)), None, None],
+        Some((Rule::PreferNot, true)),
+        [Some((0, 1, 4, Rule::MustNot, true, true)), None, None],
         None,
     ),
-    (Some(Rule::MustNot), [None, None, None], None),
+    (Some((Rule::MustNot, true)), [None, None, None], None),
+    // of one coordinate and rule the one in the failed server's data centre
+    (
+        None,
+        [
+            Some((0, 1, 204, Rule::Neutral, true, false)),
+            Some((1, 1, 204, Rule::Neutral, true, true)),
+            None,
+        ],
+        Some(ServerNo(1)),
+    ),
+    // the better rule goes before the data centre
+    (
+        None,
+        [
+            Some((0, 1, 204, Rule::Prefer, true, false)),
+            Some((1, 1, 204, Rule::Neutral, true, true)),
+            None,
+        ],
+        Some(ServerNo(0)),
+    ),
+    // and so does the greater coordinate
+    (
+        None,
+        [
+            Some((0, 1, 204, Rule::Neutral, true, false)),
+            Some((1, 1, 104, Rule::Neutral, true, true)),
+            None,
+        ],
+        Some(ServerNo(0)),
+    ),
+    // where none stands there the first name
+    (
+        None,
+        [
+            Some((1, 1, 204, Rule::Neutral, true, false)),
+            Some((0, 1, 204, Rule::Neutral, true, false)),
+            None,
+        ],
+        Some(ServerNo(0)),
+    ),
+    // a follower of a better rule, though it stands elsewhere
+    (
+        Some((Rule::PreferNot, true)),
+        [Some((0, 1, 204, Rule::Neutral, true, false)), None, None],
+        Some(ServerNo(0)),
+    ),
+    // one of the same rule that stands in the data centre, behind a promoted one that doesn't
+    (
+        Some((Rule::Neutral, false)),
+        [
+            Some((0, 1, 204, Rule::Neutral, true, false)),
+            Some((1, 1, 204, Rule::Neutral, true, true)),
+            None,
+        ],
+        Some(ServerNo(1)),
+    ),
+    // none where the promoted one stands there
+    (
+        Some((Rule::Neutral, true)),
+        [Some((0, 1, 204, Rule::Neutral, true, false)), None, None],
+        None,
+    ),
 ];
 
 // The first case in which another one is chosen.

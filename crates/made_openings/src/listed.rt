@@ -53,7 +53,7 @@ fn is_server(servers: usize, gtid: bool, init: &ServerInit) -> bool
     ensures { IsTrue result → IsServer servers gtid init.now }
 {
     (100 <= init.settings.limit && init.settings.limit <= 1_073_741_824)
-        && init.flushes.as_slice().len() <= 1_000_000
+        && (init.flushes.as_slice().len() <= 1_000_000 && 1 <= init.purged)
         && (!init.auto || gtid)
         && has_source(servers, init)
         && are_parts(servers, parts_of(init))

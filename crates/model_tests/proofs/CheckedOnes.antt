@@ -1,13 +1,13 @@
 -- What the servers of a checked opening give to those who make their histories and logs.
-use Rattle.std.proofs.Common.{◌≡◌, ℕ, ◌≤◌, false, arith, length, Some, refl}
+use Rattle.std.proofs.Common.{◌≡◌, ℕ, ◌≤◌, false, arith, length, Some}
 use Rattle.std.specs.Prelude.{slice_get}
 use Rattle.openings.specs.declared.init.ServerInit.{ServerInit}
-use Rattle.openings.specs.declared.opening.Flaw.TheVariants as flaw
-use Rattle.openings.specs.Flaws.{bad_flushes, flaws}
+use Rattle.openings.specs.Flaws.{bad_flushes}
 use Rattle.openings.specs.Opening.{Opened, IsChecked}
 use Rattle.openings.specs.Servers.{history_at, root_of}
 use Rattle.openings.specs.Taking.{PartsInRange}
-use Rattle.opening_checks.proofs.Flawed.{first_flaw-none, first_met-none, in_range}
+use Rattle.opening_checks.proofs.Flawed.{in_range}
+use Rattle.openings.proofs.Soundness.{flawless}
 use Rattle.openings.proofs.Sizes.{length-history_at, parts_at-few}
 
 pub checked-parts : (o : Opened) → IsChecked o → PartsInRange o.servers
@@ -20,4 +20,4 @@ checked-few o checked n =
     omega arith
 
 pub checked-flushes : (o : Opened) → IsChecked o → (n : ℕ) (i : ServerInit) → slice_get o.servers n ≡ Some i → bad_flushes i ≡ false
-checked-flushes o checked = first_met-none (λ n i. bad_flushes i) 0 o.servers (first_flaw-none o.servers (flaws o.servers) checked.sound 5 (flaw.BadPlace, λ n i. bad_flushes i) refl)
+checked-flushes o checked = (flawless o.servers checked.sound).flushes

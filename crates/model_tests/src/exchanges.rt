@@ -4,10 +4,10 @@ ghost use Rattle.std.specs.Prelude.{◌≡◌, ◌<◌, length};
 
 use binlog_coords::Coord;
 use gtid_sets::GtidSet;
-use orch_base::{IoState, ServerNo, SourceState};
+use orch_base::{IoState, ServerNo, SourceState, Txn};
 use server_model::{
-    ApplyAnswer, AttachFault, FetchAnswer, Link, Plain, Spot, Status, StatusFault, Threads,
-    Unreachable, World, WriteAnswer,
+    ApplyAnswer, AttachFault, FetchAnswer, Link, Plain, PurgeAnswer, Spot, Status, StatusFault,
+    Threads, Unreachable, World, WriteAnswer,
 };
 use std::alloc::Global;
 
@@ -25,6 +25,11 @@ pub enum Step {
     /// To the server, by the set that its status shows.
     AttachAuto(ServerNo),
     Cut(Link),
+    Join(Link),
+    /// The files of its log before this one.
+    Purge(u32),
+    /// The transaction of this index, from 0, in its log.
+    Logged(u64),
     Status,
     /// What a status would show, reached or not.
     Shows,
@@ -52,6 +57,8 @@ pub struct Seen {
     pub sql: bool,
     pub read_only: bool,
     pub set: Gtids,
+    pub first: u32,
+    pub purged: Gtids,
 }
 
 /// What a step answers.
@@ -66,6 +73,10 @@ pub enum Answer {
     Interfered(Spot, Spot),
     Loop,
     Errant(Gtids),
+    /// The first file that the new source keeps.
+    Gone(u32),
+    Purged(PurgeAnswer),
+    Logs(Option<Txn>),
     Saw(Seen),
     Is(Plain),
     Count(u64),
@@ -93,6 +104,8 @@ fn saw(status: &Status) -> Answer {
         sql: status.sql,
         read_only: status.read_only,
         set: held(&status.set),
+        first: status.first,
+        purged: held(&status.purged),
     })
 }
 
@@ -148,10 +161,12 @@ fn attached(answer: Result<(), AttachFault>) -> Answer {
         Err(AttachFault::Interfered(expected, found)) => Answer::Interfered(expected, found),
         Err(AttachFault::Loop) => Answer::Loop,
         Err(AttachFault::Errant(set)) => Answer::Errant(held(&set)),
+        Err(AttachFault::Purged(first)) => Answer::Gone(first),
         Err(AttachFault::Memory) => Answer::Memory,
     }
 }
 
+// What the attachment answers, where it answers what it would have answered.
 fn attach_at(world: &mut World, no: ServerNo, expect: Spot, to: ServerNo, at: Coord) -> Answer
     requires { no.0 < length world.old.servers }
 {
@@ -162,9 +177,20 @@ fn attach_at(world: &mut World, no: ServerNo, expect: Spot, to: ServerNo, at: Co
         Some(log) => log.place(at),
         None => None,
     };
-    match place {
-        Some(_) => attached(world.attach_at(no, expect, to, at)),
-        None => Answer::Unfit,
+    if place.is_none() {
+        return Answer::Unfit;
+    }
+    let would = attached(world.test_attach_at(no, expect, to, at));
+    let does = attached(world.attach_at(no, expect, to, at));
+    if would == does { does } else { Answer::Unfit }
+}
+
+fn logged(world: &World, no: ServerNo, k: u64) -> Answer
+    requires { no.0 < length world.now.servers }
+{
+    match world.logged(no, k) {
+        Ok(txn) => Answer::Logs(txn),
+        Err(Unreachable) => Answer::Unreachable,
     }
 }
 
@@ -216,6 +242,12 @@ pub fn take(alloc: Global, world: &mut World, no: ServerNo, step: Step) -> Answe
             world.cut_link(no, link);
             Answer::Done
         }
+        Step::Join(link) => {
+            world.join_link(no, link);
+            Answer::Done
+        }
+        Step::Purge(file) => Answer::Purged(world.purge(no, file)),
+        Step::Logged(k) => logged(world, no, k),
         Step::Status => status(alloc, world, no),
         Step::Shows => shows(alloc, world, no),
         Step::Plain => Answer::Is(world.plain(no)),

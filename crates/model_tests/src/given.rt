@@ -27,6 +27,8 @@ pub struct Given {
     pub history: &'static [Part],
     /// After how many of its transactions its log was flushed.
     pub flushes: &'static [u64],
+    /// The first file that its log keeps.
+    pub purged: u32,
     pub source: Option<ServerNo>,
     /// How many of its source's transactions it has executed.
     pub executed: u64,
@@ -43,6 +45,7 @@ pub const MASTER: Given = Given {
     limit: 1_073_741_824,
     history: &[],
     flushes: &[],
+    purged: 1,
     source: None,
     executed: 0,
     at: None,
@@ -72,6 +75,7 @@ fn settings(alloc: Global, n: u32, given: &Given) -> Result<Settings, Fail> {
         cluster: OwnedText::new(String::from_str(alloc, "m:3306")?),
         logs: given.logs,
         limit: given.limit,
+        dc: OwnedText::new(String::new(alloc)),
     })
 }
 
@@ -103,6 +107,7 @@ fn init(alloc: Global, n: u32, given: &Given) -> Result<ServerInit, Fail> {
         detached: given.detached,
         until: None,
         flushes,
+        purged: given.purged,
     })
 }
 

@@ -105,7 +105,7 @@ fn end_of(step: &JobStep) -> End {
     match step {
         JobStep::Going => End::Going,
         JobStep::Done(_) => End::Done,
-        JobStep::Failed(_) => End::Failed,
+        JobStep::Failed(_, _) => End::Failed,
     }
 }
 

@@ -4,8 +4,10 @@ use crate::exchanges::{Answer, Gtids, Seen, Step, take};
 use crate::given::{Given, MASTER, REPLICA, world_of};
 use binlog_coords::Coord;
 use openings::Part;
-use orch_base::{IoState, ServerNo, SourceState};
-use server_model::{ApplyAnswer, FetchAnswer, Link, Plain, Spot, Threads, World, WriteAnswer};
+use orch_base::{IoState, ServerNo, SourceState, Txn};
+use server_model::{
+    ApplyAnswer, FetchAnswer, Link, Plain, PurgeAnswer, Spot, Threads, World, WriteAnswer,
+};
 use std::alloc::Global;
 use std::test::Fail;
 
@@ -37,6 +39,16 @@ const SECOND: Coord = Coord { file: 1, pos: 204 };
 
 const THIRD: Coord = Coord { file: 1, pos: 304 };
 
+/// No GTIDs.
+const NONE: Gtids = Gtids(0, [false, false, false]);
+
+/// A source whose files hold one transaction each, three in all.
+const SMALL_FILES: Given = Given {
+    limit: 100,
+    history: THREE,
+    ..MASTER
+};
+
 /// Servers, and steps in order with what each answers.
 #[derive(Clone, Copy)]
 struct Story {
@@ -58,6 +70,7 @@ const ROTATED: Plain = Plain {
     receiver: true,
     applier: true,
     until: None,
+    first: 1,
 };
 
 /// A source with files of 200 bytes and a flush after its first transaction; a replica without a log that has read one
@@ -218,6 +231,8 @@ const BY_SETS: Story = Story {
                 sql: true,
                 read_only: false,
                 set: Gtids(3, [true, true, true]),
+                first: 1,
+                purged: NONE,
             }),
         ),
         (R, Step::Stop(Threads::Both), Answer::Done),
@@ -235,6 +250,8 @@ const BY_SETS: Story = Story {
                 sql: false,
                 read_only: true,
                 set: Gtids(2, [true, true, false]),
+                first: 1,
+                purged: NONE,
             }),
         ),
         (R, Step::Start, Answer::Done),
@@ -273,7 +290,114 @@ const UNREACHED: Story = Story {
                 io: IoState::Connecting,
                 sql: true,
                 read_only: true,
-                set: Gtids(0, [false, false, false]),
+                set: NONE,
+                first: 1,
+                purged: NONE,
+            }),
+        ),
+    ],
+};
+
+/// A file that a replica reads stays, until the replica doesn't reach its source; then it is purged, and the replica is
+/// refused. What is purged already isn't purged again.
+const PURGES: Story = Story {
+    servers: &[
+        SMALL_FILES,
+        Given {
+            executed: 1,
+            ..REPLICA
+        },
+        Given {
+            name: "s",
+            logs: false,
+            executed: 3,
+            ..REPLICA
+        },
+    ],
+    gtid: false,
+    rows: &[
+        (M, Step::Purge(3), Answer::Purged(PurgeAnswer::Done(1))),
+        (R, Step::Cut(Link::Feed), Answer::Done),
+        (M, Step::Purge(3), Answer::Purged(PurgeAnswer::Done(3))),
+        (M, Step::Purge(2), Answer::Purged(PurgeAnswer::Done(3))),
+        (R, Step::Join(Link::Feed), Answer::Done),
+        (R, Step::Fetch, Answer::Fetched(FetchAnswer::Purged(3))),
+        (R, Step::Fetch, Answer::Fetched(FetchAnswer::Stopped)),
+        (M, Step::Purge(9), Answer::Purged(PurgeAnswer::NoFile)),
+        (S, Step::Purge(1), Answer::Purged(PurgeAnswer::NotLogging)),
+        (M, Step::Logged(1), Answer::Logs(None)),
+        (
+            M,
+            Step::Logged(2),
+            Answer::Logs(Some(Txn {
+                origin: M,
+                seq: 3,
+                size: 100,
+            })),
+        ),
+        (M, Step::Logged(3), Answer::Logs(None)),
+        (S, Step::Logged(0), Answer::Logs(None)),
+        (M, Step::Cut(Link::Desk), Answer::Done),
+        (M, Step::Logged(2), Answer::Unreachable),
+    ],
+};
+
+/// By a set a replica goes on at the beginning of the first kept file where it has executed all that is purged; one that
+/// has not is attached neither by the set nor at a purged coordinate.
+const PURGED_SETS: Story = Story {
+    servers: &[
+        Given {
+            purged: 3,
+            ..SMALL_FILES
+        },
+        Given {
+            executed: 2,
+            ..REPLICA
+        },
+        Given {
+            name: "s",
+            executed: 1,
+            ..REPLICA
+        },
+    ],
+    gtid: true,
+    rows: &[
+        (R, Step::Stop(Threads::Both), Answer::Done),
+        (R, Step::AttachAuto(M), Answer::Done),
+        (
+            R,
+            Step::Plain,
+            Answer::Is(Plain {
+                exec: Coord { file: 3, pos: 4 },
+                read: Coord { file: 3, pos: 4 },
+                auto: true,
+                receiver: false,
+                applier: false,
+                ..ROTATED
+            }),
+        ),
+        (S, Step::Stop(Threads::Both), Answer::Done),
+        (S, Step::AttachAuto(M), Answer::Gone(3)),
+        (
+            S,
+            Step::AttachAt(Spot::At(M, FIRST), M, FIRST),
+            Answer::Gone(3),
+        ),
+        (
+            M,
+            Step::Status,
+            Answer::Saw(Seen {
+                own_end: Some(Coord { file: 4, pos: 4 }),
+                source: SourceState::Without,
+                exec: START,
+                read: START,
+                auto: false,
+                io: IoState::No,
+                sql: false,
+                read_only: false,
+                set: Gtids(3, [true, true, false]),
+                first: 3,
+                purged: Gtids(2, [true, true, false]),
             }),
         ),
     ],
@@ -294,7 +418,15 @@ fn differing_row(alloc: Global, story: &Story) -> Result<Option<usize>, Fail> {
     Ok(differing(alloc, &mut world, story.rows))
 }
 
-const STORIES: &[Story] = &[OPENS, ATTACHES, STOPS, BY_SETS, UNREACHED];
+const STORIES: &[Story] = &[
+    OPENS,
+    ATTACHES,
+    STOPS,
+    BY_SETS,
+    UNREACHED,
+    PURGES,
+    PURGED_SETS,
+];
 
 // The first story and its row, counted from 0, that go otherwise.
 fn differing_story(alloc: Global) -> Result<Option<(usize, usize)>, Fail> {

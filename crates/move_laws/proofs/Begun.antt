@@ -28,8 +28,8 @@ use Rattle.plan_parts.specs.Parts.{following, unders, ups}
 use Rattle.moves_coords.specs.Commands.{coords_command}
 use Rattle.moves_coords.specs.Permits.{by_gtids, case_of, in_order, is_first, leased_about, leased_by, leased_in, list_of, refusal_about, refusal_in, refusal_of, row_of}
 use Rattle.moves_coords.specs.Plans.{master_taken, moved_below, moved_up, ops_of, plan_about, plan_in, plan_of, replicas_moved_up, repointed, repointed_auto, repointed_by, siblings_taken}
-use Rattle.moves_coords.specs.declared.command.CoordsCommand.{CoordsCommand}
-use Rattle.moves_coords.specs.declared.command.CoordsCommand.TheVariants as command
+use Rattle.command_routes.specs.declared.kinds.CoordsCommand.{CoordsCommand}
+use Rattle.command_routes.specs.declared.kinds.CoordsCommand.TheVariants as command
 use Rattle.move_laws.proofs.Beginning.{above-by, apart-by, begins-with, logging, replicas-apart, same-apart}
 use Rattle.move_laws.proofs.Firsts.{each-none, given-by, neither}
 use Rattle.move_laws.proofs.Lists.{again-listed, among-behind, among-first, among-more, auto-listed, finished-listed, first-append, swap-listed, under-listed, unders-held, unders-listed, up-listed, ups-held, ups-listed}

@@ -21,8 +21,8 @@ use Rattle.plan_parts.specs.Parts.{again_auto, autos, following}
 use Rattle.moves_gtid.specs.Commands.{gtid_command}
 use Rattle.moves_gtid.specs.Permits.{case_of, leased_about, leased_by, leased_in, list_of, refusal_about, refusal_in, refusal_of, row_of}
 use Rattle.moves_gtid.specs.Plans.{disabled, enabled, moved, ops_of, plan_about, plan_in, plan_of, replicas_moved}
-use Rattle.moves_gtid.specs.declared.command.GtidCommand.{GtidCommand}
-use Rattle.moves_gtid.specs.declared.command.GtidCommand.TheVariants as command
+use Rattle.command_routes.specs.declared.kinds.GtidCommand.{GtidCommand}
+use Rattle.command_routes.specs.declared.kinds.GtidCommand.TheVariants as command
 use Rattle.move_laws.proofs.Beginning.{begins-with, logging}
 use Rattle.move_laws.proofs.Firsts.{each-none, neither, not-false, test-false}
 use Rattle.move_laws.proofs.Lists.{again-listed, again_auto-held, again_auto-listed, among-before, among-first, auto-listed, autos-held, autos-listed, finished-listed}

@@ -14,11 +14,11 @@ use Rattle.instance_keeper.specs.Book.{BookState, instance_at, lease_at}
 use Rattle.book_views.specs.Sources.{seen_source}
 use Rattle.move_laws.specs.Numbers.{check_number, rises_from}
 use Rattle.moves_coords.specs.Permits.{row_of}
-use Rattle.moves_coords.specs.declared.command.CoordsCommand.{CoordsCommand}
-use Rattle.moves_coords.specs.declared.command.CoordsCommand.TheVariants as command
+use Rattle.command_routes.specs.declared.kinds.CoordsCommand.{CoordsCommand}
+use Rattle.command_routes.specs.declared.kinds.CoordsCommand.TheVariants as command
 use Rattle.moves_gtid.specs.Permits.{row_of as gtid_row_of}
-use Rattle.moves_gtid.specs.declared.command.GtidCommand.{GtidCommand}
-use Rattle.moves_gtid.specs.declared.command.GtidCommand.TheVariants as gtid
+use Rattle.command_routes.specs.declared.kinds.GtidCommand.{GtidCommand}
+use Rattle.command_routes.specs.declared.kinds.GtidCommand.TheVariants as gtid
 use Rattle.permission.specs.Checks.{Case, are_one, busy, busy_by, errant, errant_by, is_given, of_below, of_lower_version, of_other_cluster, of_same_id, refusal_by, unreached, without_log}
 use Rattle.permission.specs.Errants.{own_missing}
 use Rattle.permission.specs.Lists.{first_about, only_if}

@@ -17,7 +17,7 @@ use Rattle.plan_parts.specs.Parts.{following, unders, ups}
 use Rattle.server_model.specs.Worlds.{World}
 use Rattle.moves_coords.specs.Permits.{by_gtids, case_of, refusal_about, refusal_of, row_of}
 use Rattle.moves_coords.specs.Plans.{master_taken, moved_below, moved_up, plan_of, replicas_moved_up, repointed, repointed_by, siblings_taken}
-use Rattle.moves_coords.specs.declared.command.CoordsCommand.TheVariants as command
+use Rattle.command_routes.specs.declared.kinds.CoordsCommand.TheVariants as command
 use Rattle.move_laws.specs.Given.{given}
 use Rattle.move_laws.proofs.Beginning.{above-by}
 use Rattle.move_laws.proofs.Firsts.{each-none, given-by, neither, not-false, test-false}

@@ -13,7 +13,7 @@ use Rattle.plan_parts.specs.Parts.{again_auto}
 use Rattle.server_model.specs.Worlds.{World}
 use Rattle.moves_gtid.specs.Permits.{case_of, refusal_about, refusal_of, row_of}
 use Rattle.moves_gtid.specs.Plans.{disabled, enabled, plan_of}
-use Rattle.moves_gtid.specs.declared.command.GtidCommand.TheVariants as command
+use Rattle.command_routes.specs.declared.kinds.GtidCommand.TheVariants as command
 use Rattle.move_laws.specs.Given.{given}
 use Rattle.move_laws.proofs.Firsts.{each-none, given-by, neither}
 

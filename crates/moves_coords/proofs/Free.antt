@@ -10,8 +10,8 @@ use Rattle.permission.proofs.Free.{free-list, neither}
 use Rattle.server_model.specs.Worlds.{World}
 use Rattle.moves_coords.specs.Commands.{coords_command}
 use Rattle.moves_coords.specs.Permits.{by_gtids, case_of, leased_about, leased_by, leased_in, list_of, refusal_about, refusal_in, refusal_of, row_of}
-use Rattle.moves_coords.specs.declared.command.CoordsCommand.{CoordsCommand}
-use Rattle.moves_coords.specs.declared.command.CoordsCommand.TheVariants as command
+use Rattle.command_routes.specs.declared.kinds.CoordsCommand.{CoordsCommand}
+use Rattle.command_routes.specs.declared.kinds.CoordsCommand.TheVariants as command
 
 module _ (w : World) (b : BookState) (i : ServerNo) where
   about-free : (c : CoordsCommand) (d : Option ServerNo) → first_refusal w b (case_of b c i d) (row_of (by_gtids w b i) c) ≡ None → first_about (busy b) (list_of b c i d) ≡ None

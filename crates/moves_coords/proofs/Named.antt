@@ -19,8 +19,8 @@ use Rattle.server_model.specs.Worlds.{World}
 use Rattle.moves_coords.specs.Commands.{coords_command}
 use Rattle.moves_coords.specs.Permits.{by_gtids, leased_about, leased_by, leased_in, list_of}
 use Rattle.moves_coords.specs.Plans.{master_taken, moved_below, moved_up, ops_of, plan_about, plan_in, plan_of, replicas_moved_up, repointed, repointed_auto, repointed_by, siblings_taken}
-use Rattle.moves_coords.specs.declared.command.CoordsCommand.{CoordsCommand}
-use Rattle.moves_coords.specs.declared.command.CoordsCommand.TheVariants as command
+use Rattle.command_routes.specs.declared.kinds.CoordsCommand.{CoordsCommand}
+use Rattle.command_routes.specs.declared.kinds.CoordsCommand.TheVariants as command
 
 module _ (w : World) (b : BookState) (is : IsBook b) where
   moved-up : (i : ServerNo) (x g : Option ServerNo) → i.0 < length b.names → Within b x → are_named (length b.names) (moved_up i x g) ≡ true

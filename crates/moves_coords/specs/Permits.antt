@@ -14,8 +14,8 @@ use Rattle.permission.specs.Views.{is_auto, is_before, source_above, source_of}
 use Rattle.permission.specs.declared.case.Check.{Check}
 use Rattle.permission.specs.declared.case.Check.TheVariants.{SameInstance, Busy, Unreachable, NoSource, NotDetached, AlreadyDetached, OtherCluster, Below, SourceHasNoSource, NotSibling, NotSameLog, DestNotLogging, SameServerId, VersionLower, Errant}
 use Rattle.permission.specs.declared.case.Move.{Move}
-use Rattle.moves_coords.specs.declared.command.CoordsCommand.{CoordsCommand}
-use Rattle.moves_coords.specs.declared.command.CoordsCommand.TheVariants as command
+use Rattle.command_routes.specs.declared.kinds.CoordsCommand.{CoordsCommand}
+use Rattle.command_routes.specs.declared.kinds.CoordsCommand.TheVariants as command
 use Rattle.moves_coords.specs.Commands.{coords_command}
 
 -- a repoint goes by GTIDs where they are used and the instance was seen to find its place by them

@@ -13,8 +13,8 @@ use Rattle.book_views.specs.Sources.{replicas_of}
 use Rattle.server_model.specs.Worlds.{World}
 use Rattle.permission.specs.Replicas.{siblings_of}
 use Rattle.permission.specs.Views.{source_above, source_of}
-use Rattle.moves_coords.specs.declared.command.CoordsCommand.{CoordsCommand}
-use Rattle.moves_coords.specs.declared.command.CoordsCommand.TheVariants as command
+use Rattle.command_routes.specs.declared.kinds.CoordsCommand.{CoordsCommand}
+use Rattle.command_routes.specs.declared.kinds.CoordsCommand.TheVariants as command
 use Rattle.moves_coords.specs.Commands.{coords_command}
 use Rattle.moves_coords.specs.Permits.{by_gtids}
 

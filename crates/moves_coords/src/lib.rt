@@ -5,7 +5,7 @@ mod command;
 mod permits;
 mod plans;
 
-pub use command::{CoordsCommand, coords_command};
+pub use command::coords_command;
 /// Want of memory.
 pub use orch_base::Memory;
 pub use permission::PermitFault;

@@ -8,9 +8,10 @@ ghost use Rattle.permission.specs.Checks.{permit_fault, permitted};
 ghost use Rattle.moves_coords.specs.Commands.{coords_command};
 ghost use Rattle.moves_coords.specs.Permits.{by_gtids, case_of, in_order, is_first, leased_by, list_of, moves_of, partners_of, refusal_of, row_of, sources_of, swap_moves, target_of};
 
-use crate::command::{CoordsCommand, coords_command};
+use crate::command::coords_command;
 use crate::{Memory, PermitFault};
 use book_views::replicas;
+use command_routes::CoordsCommand;
 use commands::{Command, Refusal};
 use instance_keeper::Book;
 use orch_base::{Moment, ServerNo};

@@ -8,9 +8,10 @@ ghost use Rattle.moves_coords.specs.Commands.{coords_command};
 ghost use Rattle.moves_coords.specs.Plans.{asked, asked_started, master_taken, moved_below, moved_up, ops_of, plan_of, replicas_moved_up, repointed, repointed_auto, siblings_taken};
 
 use crate::Memory;
-use crate::command::{CoordsCommand, coords_command};
+use crate::command::coords_command;
 use crate::permits::by_gtids;
 use book_views::replicas;
+use command_routes::CoordsCommand;
 use commands::{Command, Line, Lines};
 use instance_keeper::Book;
 use operations::Op;

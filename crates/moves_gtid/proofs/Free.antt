@@ -10,8 +10,8 @@ use Rattle.permission.proofs.Free.{free-list, neither}
 use Rattle.server_model.specs.Worlds.{World}
 use Rattle.moves_gtid.specs.Commands.{gtid_command}
 use Rattle.moves_gtid.specs.Permits.{case_of, leased_about, leased_by, leased_in, list_of, refusal_about, refusal_in, refusal_of, row_of}
-use Rattle.moves_gtid.specs.declared.command.GtidCommand.{GtidCommand}
-use Rattle.moves_gtid.specs.declared.command.GtidCommand.TheVariants as command
+use Rattle.command_routes.specs.declared.kinds.GtidCommand.{GtidCommand}
+use Rattle.command_routes.specs.declared.kinds.GtidCommand.TheVariants as command
 
 module _ (w : World) (b : BookState) (i : ServerNo) where
   about-free : (c : GtidCommand) (d : Option ServerNo) → first_refusal w b (case_of b c i d) (row_of c) ≡ None → first_about (busy b) (list_of b c i d) ≡ None

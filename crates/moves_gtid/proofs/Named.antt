@@ -17,8 +17,8 @@ use Rattle.plan_parts.proofs.Named.{again-named, again_auto-named, auto-named, a
 use Rattle.moves_gtid.specs.Commands.{gtid_command}
 use Rattle.moves_gtid.specs.Permits.{leased_about, leased_by, leased_in, list_of, movers_of, partners_of}
 use Rattle.moves_gtid.specs.Plans.{disabled, enabled, moved, ops_of, plan_about, plan_in, plan_of, replicas_moved}
-use Rattle.moves_gtid.specs.declared.command.GtidCommand.{GtidCommand}
-use Rattle.moves_gtid.specs.declared.command.GtidCommand.TheVariants as command
+use Rattle.command_routes.specs.declared.kinds.GtidCommand.{GtidCommand}
+use Rattle.command_routes.specs.declared.kinds.GtidCommand.TheVariants as command
 
 module _ (b : BookState) (is : IsBook b) where
   moved-named : (i : ServerNo) (d : Option ServerNo) → i.0 < length b.names → Within b d → are_named (length b.names) (moved i d) ≡ true

@@ -9,8 +9,8 @@ use Rattle.operations.specs.Plans.{again, auto, finished}
 use Rattle.permission.specs.Replicas.{replicas_but}
 use Rattle.permission.specs.Views.{source_of}
 use Rattle.plan_parts.specs.Parts.{again_auto, autos, following}
-use Rattle.moves_gtid.specs.declared.command.GtidCommand.{GtidCommand}
-use Rattle.moves_gtid.specs.declared.command.GtidCommand.TheVariants as command
+use Rattle.command_routes.specs.declared.kinds.GtidCommand.{GtidCommand}
+use Rattle.command_routes.specs.declared.kinds.GtidCommand.TheVariants as command
 use Rattle.moves_gtid.specs.Commands.{gtid_command}
 
 -- i goes below d

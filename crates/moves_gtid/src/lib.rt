@@ -5,7 +5,7 @@ mod command;
 mod permits;
 mod plans;
 
-pub use command::{GtidCommand, gtid_command};
+pub use command::gtid_command;
 /// Want of memory.
 pub use orch_base::Memory;
 pub use permission::PermitFault;

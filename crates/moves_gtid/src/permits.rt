@@ -8,8 +8,9 @@ ghost use Rattle.permission.specs.Checks.{permit_fault, permitted};
 ghost use Rattle.moves_gtid.specs.Commands.{gtid_command};
 ghost use Rattle.moves_gtid.specs.Permits.{case_of, leased_by, list_of, movers_of, partners_of, refusal_of, row_of, target_of};
 
-use crate::command::{GtidCommand, gtid_command};
+use crate::command::gtid_command;
 use crate::{Memory, PermitFault};
+use command_routes::GtidCommand;
 use commands::{Command, Refusal};
 use instance_keeper::Book;
 use orch_base::{Moment, ServerNo};

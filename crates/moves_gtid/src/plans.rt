@@ -8,7 +8,8 @@ ghost use Rattle.moves_gtid.specs.Commands.{gtid_command};
 ghost use Rattle.moves_gtid.specs.Plans.{disabled, enabled, moved, ops_of, plan_of, replicas_moved};
 
 use crate::Memory;
-use crate::command::{GtidCommand, gtid_command};
+use crate::command::gtid_command;
+use command_routes::GtidCommand;
 use commands::Command;
 use instance_keeper::Book;
 use operations::Op;

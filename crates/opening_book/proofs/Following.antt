@@ -1,30 +1,33 @@
 -- Kept rows follow a book from its loading on, through each change.
 use Rattle.std.proofs.Common.{◌≡◌, ◌∙◌, ℕ, ◌+◌, ◌<◌, ◌^◌, Bool, true, false, List, [], ◌∷◌, length, map, refl, sym, ap, subst, Option, Some, None, zero, suc, arith}
 use Rattle.std.specs.Prelude.{All, ◌&&◌, ◌==◌, filter, filter_map, fold, option_map, replicate, if◌then◌else◌}
+use Rattle.std.proofs.lemmas.Bool.{false≢true}
 use Rattle.std.proofs.lemmas.List.Elements.{All-nil, All-cons, All-head, All-tail}
 use Rattle.orch_base.specs.declared.server.Settings.{Settings}
 use Rattle.std.proofs.lemmas.List.{length-map, length-set}
-use Rattle.opening_book.specs.Opening.{after_opening, is_opening_change, opened_book, put_recovery}
+use Rattle.kept_rows.specs.Recoveries.{put_recovery, as_row}
+use Rattle.opening_book.specs.Opening.{after_opening, is_opening_change, opened_book}
 use Rattle.orch_base.specs.declared.server.ServerNo.{ServerNo}
-use Rattle.instance_keeper.specs.declared.observation.Instance.{Instance}
+use Rattle.kept_rows.specs.declared.observation.Instance.{Instance}
 use Rattle.instance_keeper.specs.declared.bridge.Bridge.{Bridge}
 use Rattle.instance_keeper.specs.Bridges.{ring_at, ringed, with_bridge}
 use Rattle.orch_base.specs.Names.{HostPort}
-use Rattle.instance_keeper.specs.declared.row.Row.{Row}
-use Rattle.instance_keeper.specs.declared.row.Row.TheVariants as row
-use Rattle.instance_keeper.specs.declared.row.Change.{Change}
-use Rattle.instance_keeper.specs.declared.row.Change.TheVariants as change
-use Rattle.instance_keeper.specs.declared.row.Table.TheVariants as table
-use Rattle.instance_keeper.specs.declared.row.Key.TheVariants as key
-use Rattle.instance_keeper.specs.declared.recovery.Recovery.{Recovery}
+use Rattle.kept_rows.specs.declared.row.Row.{Row}
+use Rattle.kept_rows.specs.declared.row.Row.TheVariants as row
+use Rattle.kept_rows.specs.declared.row.Change.{Change}
+use Rattle.kept_rows.specs.declared.row.Change.TheVariants as change
+use Rattle.kept_rows.specs.declared.recovery.Recovery.{Recovery}
+use Rattle.kept_rows.specs.declared.recovery.RecoveryRow.{RecoveryRow}
 use Rattle.instance_keeper.proofs.NoRecovery.{no_recovery}
-use Rattle.instance_keeper.specs.Book.{BookState, IsBook, row_fits, fits, is_of_book, are_known, servers_of, after_addition, after_put, after_row, after_change, shown_by, book_rows, empty_book}
-use Rattle.instance_keeper.specs.Ranges.{IsInRange}
-use Rattle.instance_keeper.specs.Rows.{sort_key, sort_key_of, table_of, row_in, row_after, map_of, changed, changed_by, IsRising}
+use Rattle.kept_rows.specs.Servers.{row_fits, fits, is_of_book, are_known, servers_of}
+use Rattle.instance_keeper.specs.Book.{BookState, IsBook, after_addition, after_put, after_row, after_change, shown_by, book_rows, empty_book}
+use Rattle.kept_rows.specs.Ranges.{IsInRange}
+use Rattle.kept_rows.specs.Rows.{sort_key, sort_key_of, table_of, row_in, row_after, map_of, changed, changed_by, IsRising}
 use Rattle.instance_keeper.proofs.BookLaws.{book_change, book_put}
 use Rattle.instance_keeper.proofs.Books.{change_is, empty_is}
-use Rattle.instance_keeper.proofs.Lists.{pairs_head, pairs_tail}
-use Rattle.instance_keeper.proofs.LookUps.{row_in-put, row_in-changed_by, row_in-map_of, map_of_rising, changed_by_rising}
+use Rattle.instance_keeper.proofs.Steady.{same-change, same-put}
+use Rattle.kept_rows.proofs.Lists.{pairs_head, pairs_tail}
+use Rattle.kept_rows.proofs.LookUps.{row_in-put, row_in-changed_by, row_in-map_of, map_of_rising, changed_by_rising}
 use Rattle.opening_book.specs.Counting.{counts, greatest_id, is_in_range, loaded}
 use Rattle.opening_book.specs.Following.{is_for_book, IsIdInRange, IsKeptFor, Follow}
 
@@ -87,18 +90,11 @@ map_of-rising rows p rising = row_in-map_of rows p ∙ picked-rising (λ r. true
 IsLike : ℕ → BookState → Type 0
 IsLike count b = IsBook b × (length b.names ≡ count)
 
-names-put : (b : BookState) (r : Row) → (after_put b r).names ≡ b.names
-names-put b (row.Instance i) = refl
-names-put b (row.Downtime d) = refl
-names-put b (row.Candidate c) = refl
-names-put b (row.Recovery r) = refl
-names-put b (row.Switch enabled) = refl
-
 taken : (count : ℕ) (b : BookState) (r : Row) → IsLike count b → row_fits count r ≡ true → IsLike count (after_put b r)
 unfolding IsLike
 taken count b r like fit =
     let fit' = subst (λ n. row_fits n r ≡ true) (sym like.1) fit in
-    (change_is b (change.Put r) like.0 fit', ap length (names-put b r) ∙ like.1)
+    (change_is b (change.Put r) like.0 fit', ap length (same-put b r).names ∙ like.1)
 
 after_row-fits : (count : ℕ) (b : BookState) (r : Row) → IsLike count b → row_fits count r ≡ true → after_row b r ≡ after_put b r
 unfolding IsLike
@@ -161,6 +157,7 @@ both-is count until r = by r
     by (row.Candidate c) = same (are_known count (servers_of (row.Candidate c))) (is_in_range until (row.Candidate c))
     by (row.Recovery x) = neither (are_known count (servers_of (row.Recovery x))) (is_in_range until (row.Recovery x)) (is_in_range greatest_id (row.Recovery x))
     by (row.Switch e) = same (are_known count (servers_of (row.Switch e))) (is_in_range until (row.Switch e))
+    by (row.Active node end) = neither (are_known count (servers_of (row.Active node end))) (is_in_range until (row.Active node end)) (is_in_range greatest_id (row.Active node end))
 
 kept_for : (count until : ℕ) (x : Option Row) → IsKeptFor count x (passing (both count until) x)
 kept_for count until None = tt
@@ -219,22 +216,7 @@ Follow-changed rows b c follow fit range names = record {
 }
 
 pub names-change : (b : BookState) (c : Change) → (after_change b c).names ≡ b.names
-names-change b (change.Put r) = names-put b r
-names-change b (change.Remove table.Instance (key.Server n)) = refl
-names-change b (change.Remove table.Downtime (key.Server n)) = refl
-names-change b (change.Remove table.Candidate (key.Server n)) = refl
-names-change b (change.Remove table.Recovery (key.Server n)) = refl
-names-change b (change.Remove table.Switch (key.Server n)) = refl
-names-change b (change.Remove table.Instance (key.Id id)) = refl
-names-change b (change.Remove table.Downtime (key.Id id)) = refl
-names-change b (change.Remove table.Candidate (key.Id id)) = refl
-names-change b (change.Remove table.Recovery (key.Id id)) = refl
-names-change b (change.Remove table.Switch (key.Id id)) = refl
-names-change b (change.Remove table.Instance key.Global) = refl
-names-change b (change.Remove table.Downtime key.Global) = refl
-names-change b (change.Remove table.Candidate key.Global) = refl
-names-change b (change.Remove table.Recovery key.Global) = refl
-names-change b (change.Remove table.Switch key.Global) = refl
+names-change b c = (same-change b c).names
 
 pub Follow-change : (rows : List Row) (b : BookState) (c : Change) → Follow rows b → fits (length b.names) c ≡ true → IsInRange c → Follow (changed_by rows c) (after_change b c)
 Follow-change rows b c follow fit range = Follow-changed rows b c follow fit range (names-change b c)
@@ -271,23 +253,38 @@ Follow-addition rows b i follow fit =
     (Follow-change rows b (change.Put (row.Instance i)) follow fit tt)
 
 -- a recovery stands in no book
-pub Follow-recovery : (rows : List Row) (b : BookState) (r : Recovery) → r.id < 2 ^ 64 → Follow rows b → Follow (changed_by rows (put_recovery r)) b
-Follow-recovery rows b r small follow = record {
-  rising = changed_by_rising rows (put_recovery r) follow.rising;
+pub Follow-recovery : (rows : List Row) (b : BookState) (k : RecoveryRow) → k.id < 2 ^ 64 → Follow rows b → Follow (changed_by rows (change.Put (row.Recovery k))) b
+Follow-recovery rows b k small follow = record {
+  rising = changed_by_rising rows (change.Put (row.Recovery k)) follow.rising;
   book = follow.book;
-  each = λ p. subst (λ (x : Option Row). IsKeptFor (length b.names) x (row_in (book_rows b) p)) (sym (row_in-changed_by rows (put_recovery r) p)) (go p (sort_key_of (row.Recovery r) == p) refl);
+  each = λ p. subst (λ (x : Option Row). IsKeptFor (length b.names) x (row_in (book_rows b) p)) (sym (row_in-changed_by rows (change.Put (row.Recovery k)) p)) (go p (sort_key_of (row.Recovery k) == p) refl);
 }
   where
-    go : (p : ℕ) (e : Bool) → (sort_key_of (row.Recovery r) == p) ≡ e → IsKeptFor (length b.names) (if e then Some (row.Recovery r) else row_in rows p) (row_in (book_rows b) p)
+    go : (p : ℕ) (e : Bool) → (sort_key_of (row.Recovery k) == p) ≡ e → IsKeptFor (length b.names) (if e then Some (row.Recovery k) else row_in rows p) (row_in (book_rows b) p)
     go p false is = follow.each p
     go p true is =
-        let at : sort_key_of (row.Recovery r) ≡ p = is_eq (sort_key_of (row.Recovery r)) p is in
-        subst (IsKeptFor (length b.names) (Some (row.Recovery r))) (sym (no_recovery b follow.book p (omega (arith, at)) (omega (arith, at, small)))) refl
+        let at : sort_key_of (row.Recovery k) ≡ p = is_eq (sort_key_of (row.Recovery k)) p is in
+        subst (IsKeptFor (length b.names) (Some (row.Recovery k))) (sym (no_recovery b follow.book p (omega (arith, at)) (omega (arith, at, small)))) refl
+
+-- changes that put recoveries
+abbrev pub PutsRecovery : Change → Type 0
+PutsRecovery c = (k : RecoveryRow) × (k.id < 2 ^ 64) × (c ≡ change.Put (row.Recovery k))
+
+pub Follow-puts : (rows : List Row) (b : BookState) (cs : List Change) → All PutsRecovery cs → Follow rows b → Follow (changed rows cs) b
+Follow-puts rows b [] all follow = follow
+Follow-puts rows b (c ∷ cs) all follow =
+    let here = All-head PutsRecovery c cs all in
+    Follow-puts (changed_by rows c) b cs (All-tail PutsRecovery c cs all)
+    (subst (λ (x : Change). Follow (changed_by rows x) b) (sym here.2) (Follow-recovery rows b here.0 here.1 follow))
+
+put-recoveries : (rs : List Recovery) → All (λ r. r.id < 2 ^ 64) rs → All PutsRecovery (map put_recovery rs)
+put-recoveries [] small = All-nil PutsRecovery
+put-recoveries (r ∷ rs) small =
+    All-cons PutsRecovery (put_recovery r) (map put_recovery rs) (as_row r, All-head (λ (x : Recovery). x.id < 2 ^ 64) r rs small, refl)
+    (put-recoveries rs (All-tail (λ (x : Recovery). x.id < 2 ^ 64) r rs small))
 
 pub Follow-recoveries : (rows : List Row) (b : BookState) (rs : List Recovery) → All (λ r. r.id < 2 ^ 64) rs → Follow rows b → Follow (changed rows (map put_recovery rs)) b
-Follow-recoveries rows b [] small follow = follow
-Follow-recoveries rows b (r ∷ rs) small follow =
-    Follow-recoveries (changed_by rows (put_recovery r)) b rs (All-tail (λ (x : Recovery). x.id < 2 ^ 64) r rs small) (Follow-recovery rows b r (All-head (λ (x : Recovery). x.id < 2 ^ 64) r rs small) follow)
+Follow-recoveries rows b rs small follow = Follow-puts rows b (map put_recovery rs) (put-recoveries rs small) follow
 
 -- and so they do after a change of the opening
 pub Follow-opening : (rows : List Row) (b : BookState) (c : Change) → Follow rows b → is_opening_change (length b.names) c ≡ true → IsInRange c → IsIdInRange c → Follow (changed_by rows c) (after_opening b c)
@@ -295,8 +292,9 @@ Follow-opening rows b (change.Remove t k) follow fit range id = Follow-change ro
 Follow-opening rows b (change.Put (row.Instance i)) follow fit range id = Follow-addition rows b i follow fit
 Follow-opening rows b (change.Put (row.Downtime d)) follow fit range id = Follow-change rows b (change.Put (row.Downtime d)) follow fit range
 Follow-opening rows b (change.Put (row.Candidate c)) follow fit range id = Follow-change rows b (change.Put (row.Candidate c)) follow fit range
-Follow-opening rows b (change.Put (row.Recovery r)) follow fit range id = Follow-recovery rows b r id follow
+Follow-opening rows b (change.Put (row.Recovery k)) follow fit range id = Follow-recovery rows b k id follow
 Follow-opening rows b (change.Put (row.Switch enabled)) follow fit range id = Follow-change rows b (change.Put (row.Switch enabled)) follow fit range
+Follow-opening rows b (change.Put (row.Active node until)) follow fit range id = absurd (false≢true fit)
 
 pub names-opening : (b : BookState) (c : Change) → (after_opening b c).names ≡ b.names
 names-opening b (change.Remove t k) = names-change b (change.Remove t k)
@@ -305,6 +303,7 @@ names-opening b (change.Put (row.Downtime d)) = refl
 names-opening b (change.Put (row.Candidate c)) = refl
 names-opening b (change.Put (row.Recovery r)) = refl
 names-opening b (change.Put (row.Switch enabled)) = refl
+names-opening b (change.Put (row.Active node until)) = refl
 
 -- changes of an opening
 abbrev pub Takes : ℕ → Change → Type 0

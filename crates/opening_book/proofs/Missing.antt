@@ -1,9 +1,11 @@
 -- The changes of an opening, one server after another.
 use Rattle.std.proofs.Common.{◌≡◌, ℕ, ◌+◌, ◌<◌, List, [], ◌∷◌, ◌++◌, length, take, get_or, Option, None, Some, refl, sym, ap, ◌∙◌, arith}
 use Rattle.std.specs.List.{cons_option}
+use Rattle.std.specs.Prelude.{filter_map}
 use Rattle.std.specs.Option.{option_to_list}
 use Rattle.std.proofs.lemmas.List.{take_more, length-take}
-use Rattle.instance_keeper.specs.declared.row.Change.{Change}
+use Rattle.std.proofs.lemmas.List.Elements.{filter_map-append}
+use Rattle.kept_rows.specs.declared.row.Change.{Change}
 use Rattle.opening_book.specs.Opening.{changes_from}
 
 cons-append : (o : Option Change) (xs ys : List Change) → cons_option o xs ++ ys ≡ cons_option o (xs ++ ys)
@@ -32,3 +34,15 @@ from-more f ks i d within =
     ap (changes_from f 0) (take_more ks i d within)
     ∙ from-push f 0 (take i ks) (get_or ks i d)
     ∙ ap (λ (j : ℕ). changes_from f 0 (take i ks) ++ option_to_list (f j (get_or ks i d))) index
+
+-- the changes that rows bring one after the other
+pub map-more : {A : Type 0} (f : A → Option Change) (xs : List A) (i : ℕ) (d : A) → i < length xs
+    → filter_map f (take (i + 1) xs) ≡ filter_map f (take i xs) ++ option_to_list (f (get_or xs i d))
+map-more f xs i d within =
+    ap (filter_map f) (take_more xs i d within)
+    ∙ filter_map-append f (take i xs) (get_or xs i d ∷ [])
+    ∙ ap (λ (cs : List Change). filter_map f (take i xs) ++ cs) (one (f (get_or xs i d)) refl)
+  where
+    one : (o : Option Change) → f (get_or xs i d) ≡ o → filter_map f (get_or xs i d ∷ []) ≡ option_to_list (f (get_or xs i d))
+    one None is = rw is refl
+    one (Some c) is = rw is refl

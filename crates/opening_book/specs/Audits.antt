@@ -1,8 +1,8 @@
 -- The audit of kept rows.
 use Rattle.std.specs.Prelude.{ℕ, ◌+◌, nat_le, if◌then◌else◌, List, fold, max}
-use Rattle.instance_keeper.specs.declared.recovery.Recovery.{Recovery}
-use Rattle.instance_keeper.specs.declared.row.Row.{Row}
-use Rattle.instance_keeper.specs.declared.row.Row.TheVariants as row
+use Rattle.kept_rows.specs.declared.recovery.Recovery.{Recovery}
+use Rattle.kept_rows.specs.declared.row.Row.{Row}
+use Rattle.kept_rows.specs.declared.row.Row.TheVariants as row
 use Rattle.audit_log.specs.Audits.{AuditState}
 use Rattle.audit_log.specs.Loading.{recoveries_in}
 use Rattle.opening_book.specs.Counting.{end_or, greatest_id}
@@ -12,8 +12,9 @@ abbrev pub id_in : Row → ℕ
 id_in (row.Instance i) = 0
 id_in (row.Downtime d) = 0
 id_in (row.Candidate c) = 0
-id_in (row.Recovery r) = if nat_le r.id greatest_id then r.id else 0
+id_in (row.Recovery k) = if nat_le k.id greatest_id then k.id else 0
 id_in (row.Switch enabled) = 0
+id_in (row.Active node until) = 0
 
 abbrev pub later_id : ℕ → Row → ℕ
 later_id last r = max last (id_in r)
@@ -22,9 +23,9 @@ later_id last r = max last (id_in r)
 abbrev pub last_id : List Row → ℕ
 last_id rows = fold later_id 0 rows
 
--- the audit of the rows that count, by the next id
-abbrev pub audit_of : ℕ → List Row → AuditState
-audit_of next rows = record { recoveries = recoveries_in rows; next = next }
+-- the audit of the rows that count, by the next id, and by the block periods of clusters for rows that have none
+abbrev pub audit_of : (List ℕ → ℕ) → ℕ → List Row → AuditState
+audit_of period next rows = record { recoveries = recoveries_in period rows; next = next }
 
 -- the moment, raised to the latest begun or ended moment of a recovery
 abbrev pub recovery_raised : ℕ → Recovery → ℕ

@@ -2,10 +2,12 @@
 use Rattle.std.specs.Prelude.{ℕ, ◌^◌, ◌&&◌, nat_le, Bool, true, List, Option, None, Some, filter, fold, length, max}
 use Rattle.orch_base.specs.declared.server.Moment.{Moment}
 use Rattle.orch_base.specs.declared.server.Settings.{Settings}
-use Rattle.instance_keeper.specs.declared.row.Row.{Row}
-use Rattle.instance_keeper.specs.declared.row.Row.TheVariants as row
-use Rattle.instance_keeper.specs.Rows.{map_of}
-use Rattle.instance_keeper.specs.Book.{BookState, are_known, servers_of, book_made}
+use Rattle.kept_rows.specs.declared.row.Row.{Row}
+use Rattle.kept_rows.specs.declared.row.Row.TheVariants as row
+use Rattle.kept_rows.specs.Rows.{map_of}
+use Rattle.audit_log.specs.Audits.{longest_block}
+use Rattle.kept_rows.specs.Servers.{are_known, servers_of}
+use Rattle.instance_keeper.specs.Book.{BookState, book_made}
 
 -- read numbers and moments are at most this
 abbrev pub greatest : ℕ
@@ -19,13 +21,22 @@ abbrev pub is_end_in_range : Option Moment → Bool
 is_end_in_range None = true
 is_end_in_range (Some ended) = nat_le ended.0 greatest
 
+abbrev pub is_block_in_range : Option ℕ → Bool
+is_block_in_range None = true
+is_block_in_range (Some block) = nat_le block longest_block
+
+-- the greatest number of a node
+abbrev pub last_node : ℕ
+last_node = 16
+
 -- a row's numbers are in their ranges; ids of recoveries are 1 to this last one
 abbrev pub is_in_range : ℕ → Row → Bool
 is_in_range last (row.Instance i) = nat_le i.read greatest && nat_le i.moment.0 greatest
 is_in_range last (row.Downtime d) = nat_le d.begun.0 greatest && nat_le d.until.0 greatest
 is_in_range last (row.Candidate c) = nat_le c.until.0 greatest
-is_in_range last (row.Recovery r) = (nat_le 1 r.id && nat_le r.id last) && (nat_le r.begun.0 greatest && is_end_in_range r.ended)
+is_in_range last (row.Recovery k) = (nat_le 1 k.id && nat_le k.id last) && (nat_le k.begun.0 greatest && (is_end_in_range k.ended && is_block_in_range k.block))
 is_in_range last (row.Switch enabled) = true
+is_in_range last (row.Active node until) = (nat_le 1 node && nat_le node last_node) && nat_le until.0 greatest
 
 -- whether a row counts among so many servers, by the last id that counts
 abbrev pub counts : ℕ → ℕ → Row → Bool
@@ -44,8 +55,9 @@ abbrev pub raised : ℕ → Row → ℕ
 raised now (row.Instance i) = now
 raised now (row.Downtime d) = max now d.begun.0
 raised now (row.Candidate c) = now
-raised now (row.Recovery r) = end_or (max now r.begun.0) r.ended
+raised now (row.Recovery k) = end_or (max now k.begun.0) k.ended
 raised now (row.Switch enabled) = now
+raised now (row.Active node until) = now
 
 abbrev pub latest : ℕ → List Row → ℕ
 latest now rows = fold raised now rows
@@ -55,8 +67,9 @@ abbrev pub later_read : ℕ → Row → ℕ
 later_read read (row.Instance i) = max read i.read
 later_read read (row.Downtime d) = read
 later_read read (row.Candidate c) = read
-later_read read (row.Recovery r) = read
+later_read read (row.Recovery k) = read
 later_read read (row.Switch enabled) = read
+later_read read (row.Active node until) = read
 
 -- the greatest read number of these rows, or 0
 abbrev pub last_read : List Row → ℕ

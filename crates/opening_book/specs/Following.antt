@@ -1,14 +1,16 @@
 -- Kept rows that follow a book and an audit.
 use Rattle.std.specs.Prelude.{◌≡◌, ℕ, ◌-◌, ◌<◌, ◌≤◌, ◌^◌, ◌&&◌, Bool, false, length, List, Option, None, Some, IfSome, ⊤}
-use Rattle.instance_keeper.specs.declared.recovery.Recovery.{Recovery}
-use Rattle.instance_keeper.specs.declared.row.Row.{Row}
-use Rattle.instance_keeper.specs.Book.{BookState, is_of_book, book_rows, IsBook}
-use Rattle.instance_keeper.specs.Rows.{table_of, row_at, row_in, IsRising}
-use Rattle.instance_keeper.specs.declared.row.Row.TheVariants as row
-use Rattle.instance_keeper.specs.declared.row.Change.{Change}
-use Rattle.instance_keeper.specs.declared.row.Change.TheVariants as change
-use Rattle.instance_keeper.specs.declared.row.Table.TheVariants as table
-use Rattle.instance_keeper.specs.declared.row.Key.TheVariants as key
+use Rattle.kept_rows.specs.Recoveries.{as_row}
+use Rattle.kept_rows.specs.declared.recovery.Recovery.{Recovery}
+use Rattle.kept_rows.specs.declared.row.Row.{Row}
+use Rattle.kept_rows.specs.Servers.{is_of_book}
+use Rattle.instance_keeper.specs.Book.{BookState, book_rows, IsBook}
+use Rattle.kept_rows.specs.Rows.{table_of, row_at, row_in, IsRising}
+use Rattle.kept_rows.specs.declared.row.Row.TheVariants as row
+use Rattle.kept_rows.specs.declared.row.Change.{Change}
+use Rattle.kept_rows.specs.declared.row.Change.TheVariants as change
+use Rattle.kept_rows.specs.declared.row.Table.TheVariants as table
+use Rattle.kept_rows.specs.declared.row.Key.TheVariants as key
 use Rattle.audit_log.specs.Audits.{AuditState, recovery_at, IsAudit}
 use Rattle.opening_book.specs.Counting.{counts, greatest_id}
 
@@ -32,13 +34,14 @@ abbrev pub IsIdInRange : Change → Type 0
 IsIdInRange (change.Put (row.Instance i)) = ⊤
 IsIdInRange (change.Put (row.Downtime d)) = ⊤
 IsIdInRange (change.Put (row.Candidate c)) = ⊤
-IsIdInRange (change.Put (row.Recovery r)) = r.id < 2 ^ 64
+IsIdInRange (change.Put (row.Recovery k)) = k.id < 2 ^ 64
 IsIdInRange (change.Put (row.Switch enabled)) = ⊤
+IsIdInRange (change.Put (row.Active node until)) = ⊤
 IsIdInRange (change.Remove t k) = ⊤
 
--- the audit's recovery is kept; where the audit has none, a row that is kept doesn't count by the next id
+-- the audit's recovery is kept, with its block period; where the audit has none, a row that is kept doesn't count by the next id
 abbrev pub IsAudited : ℕ → ℕ → Option Row → Option Recovery → Type 0
-IsAudited servers next kept (Some r) = kept ≡ Some (row.Recovery r)
+IsAudited servers next kept (Some r) = kept ≡ Some (row.Recovery (as_row r))
 IsAudited servers next kept None = IfSome kept (λ r. counts servers (next - 1) r ≡ false)
 
 -- so it is at each id

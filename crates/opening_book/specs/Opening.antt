@@ -1,19 +1,23 @@
 -- What is kept at an opening beyond the rows that count: an instance of each known server that has none, the
--- registrations that the scenario gives, and the recoveries that it interrupts.
-use Rattle.std.specs.Prelude.{ℕ, ◌+◌, ◌&&◌, Bool, true, if◌then◌else◌, List, [], ◌∷◌, ◌++◌, fold, map, Option, None, Some, is_none, slice_index_or}
+-- registrations that the scenario gives, the block periods of recoveries whose rows have none, and the recoveries that it
+-- interrupts.
+use Rattle.std.specs.Prelude.{ℕ, ◌+◌, ◌&&◌, Bool, true, false, if◌then◌else◌, List, [], ◌∷◌, ◌++◌, filter_map, fold, map, Option, None, Some, is_none, slice_index_or}
 use Rattle.std.specs.List.{cons_option}
 use Rattle.orch_base.specs.declared.rule.Rule.{Rule}
 use Rattle.orch_base.specs.declared.server.Moment.{Moment}
-use Rattle.instance_keeper.specs.declared.observation.Instance.{Instance}
-use Rattle.instance_keeper.specs.declared.recovery.Recovery.{Recovery}
-use Rattle.instance_keeper.specs.declared.row.Candidate.{Candidate}
-use Rattle.instance_keeper.specs.declared.row.Row.{Row}
-use Rattle.instance_keeper.specs.declared.row.Row.TheVariants as row
-use Rattle.instance_keeper.specs.declared.row.Change.{Change}
-use Rattle.instance_keeper.specs.declared.row.Change.TheVariants as change
-use Rattle.instance_keeper.specs.Book.{BookState, after_addition, after_put, after_removal, fits, row_fits}
+use Rattle.kept_rows.specs.declared.observation.Instance.{Instance}
+use Rattle.kept_rows.specs.Recoveries.{put_recovery}
+use Rattle.kept_rows.specs.declared.recovery.Recovery.{Recovery}
+use Rattle.kept_rows.specs.declared.row.Candidate.{Candidate}
+use Rattle.kept_rows.specs.declared.row.Row.{Row}
+use Rattle.kept_rows.specs.declared.row.Row.TheVariants as row
+use Rattle.kept_rows.specs.declared.row.Change.{Change}
+use Rattle.kept_rows.specs.declared.row.Change.TheVariants as change
+use Rattle.kept_rows.specs.Servers.{fits, row_fits}
+use Rattle.instance_keeper.specs.Book.{BookState, after_addition, after_put, after_removal}
 use Rattle.instance_keeper.specs.Had.{put_change}
 use Rattle.audit_log.specs.Audits.{AuditState, closing}
+use Rattle.audit_log.specs.Loading.{loaded_by}
 use Rattle.server_model.specs.declared.server.Server.{Server}
 use Rattle.server_model.specs.Worlds.{World, server_at}
 use Rattle.server_model.specs.Gtids.{shown_of}
@@ -54,24 +58,38 @@ registering at b n (Some rule) = put_change b (row.Candidate (registered at n ru
 abbrev pub registering_from : Moment → BookState → ℕ → List (Option Rule) → List Change
 registering_from at b n rules = changes_from (registering at b) n rules
 
-abbrev pub put_recovery : Recovery → Change
-put_recovery r = change.Put (row.Recovery r)
+-- a recovery whose row has no block period is kept with its cluster's
+abbrev pub block_given : (List ℕ → ℕ) → Row → Option Change
+block_given period (row.Instance i) = None
+block_given period (row.Downtime d) = None
+block_given period (row.Candidate c) = None
+block_given period (row.Recovery k) = if is_none k.block then Some (put_recovery (loaded_by period k)) else None
+block_given period (row.Switch enabled) = None
+block_given period (row.Active node until) = None
+
+abbrev pub blocks_given : (List ℕ → ℕ) → List Row → List Change
+blocks_given period rows = filter_map (block_given period) rows
 
 -- the unended recoveries, as interrupted
 abbrev pub interrupting : AuditState → Moment → List Change
 interrupting a at = map put_recovery (closing a at)
 
--- the changes of the opening, by whether each server is known, its rule, and the audit
-abbrev pub opening_changes : World → Moment → BookState → List Bool → List (Option Rule) → AuditState → List Change
-opening_changes w at b known rules a = missing_from w at b 0 known ++ (registering_from at b 0 rules ++ interrupting a at)
+-- what a load of these rows keeps of recoveries, by the audit that it makes of them
+abbrev pub loading : (List ℕ → ℕ) → List Row → AuditState → Moment → List Change
+loading period rows a at = blocks_given period rows ++ interrupting a at
+
+-- the changes of the opening, by whether each server is known, its rule, and what is kept of recoveries
+abbrev pub opening_changes : World → Moment → BookState → List Bool → List (Option Rule) → List Change → List Change
+opening_changes w at b known rules recoveries = missing_from w at b 0 known ++ (registering_from at b 0 rules ++ recoveries)
 
 -- a change of an opening: one that the book takes, or of a recovery, which stands in the audit
 abbrev pub is_opening_row : ℕ → Row → Bool
 is_opening_row count (row.Instance i) = row_fits count (row.Instance i)
 is_opening_row count (row.Downtime d) = row_fits count (row.Downtime d)
 is_opening_row count (row.Candidate c) = row_fits count (row.Candidate c)
-is_opening_row count (row.Recovery r) = true
+is_opening_row count (row.Recovery k) = true
 is_opening_row count (row.Switch enabled) = row_fits count (row.Switch enabled)
+is_opening_row count (row.Active node until) = false
 
 abbrev pub is_opening_change : ℕ → Change → Bool
 is_opening_change count (change.Put r) = is_opening_row count r
@@ -82,8 +100,9 @@ abbrev pub after_first : BookState → Row → BookState
 after_first b (row.Instance i) = after_addition b i
 after_first b (row.Downtime d) = after_put b (row.Downtime d)
 after_first b (row.Candidate c) = after_put b (row.Candidate c)
-after_first b (row.Recovery r) = after_put b (row.Recovery r)
+after_first b (row.Recovery k) = after_put b (row.Recovery k)
 after_first b (row.Switch enabled) = after_put b (row.Switch enabled)
+after_first b (row.Active node until) = b
 
 abbrev pub after_opening : BookState → Change → BookState
 after_opening b (change.Put r) = after_first b r

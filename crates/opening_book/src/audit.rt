@@ -6,7 +6,7 @@ ghost use Rattle.opening_book.specs.Audits.{audit_of, id_in, last_id, later_id, 
 
 use crate::Memory;
 use crate::counting::GREATEST_ID;
-use audit_log::{Audit, recoveries_in};
+use audit_log::{Audit, Periods, recoveries_in};
 use instance_keeper::{Recovery, Row};
 use orch_base::Moment;
 use std::alloc::Global;
@@ -15,14 +15,12 @@ fn id_in(row: &Row) -> u64
     ensures { result ≡ id_in row.now }
 {
     match row {
-        Row::Recovery(recovery) => {
-            if recovery.id <= GREATEST_ID {
-                recovery.id
-            } else {
-                0
-            }
-        }
-        Row::Instance(_) | Row::Downtime(_) | Row::Candidate(_) | Row::Switch(_) => 0,
+        Row::Recovery(kept) => { if kept.id <= GREATEST_ID { kept.id } else { 0 } }
+        Row::Instance(_)
+        | Row::Downtime(_)
+        | Row::Candidate(_)
+        | Row::Switch(_)
+        | Row::Active { .. } => 0,
     }
 }
 
@@ -44,12 +42,18 @@ pub fn last_id(rows: &[Row]) -> u64
     last
 }
 
-/// The audit of the recoveries of these rows, with the next id.
-pub fn loaded_audit(alloc: Global, rows: &[Row], next: u64) -> Result<Audit, Memory>
-    requires { IsAudit (audit_of next rows.now) }
-    ensures { IfOk result (λ a. a.audit ≡ audit_of next rows.now) }
+/// The audit of the recoveries of these rows, by their clusters' block periods for rows that have none, with the next
+/// id.
+pub fn loaded_audit<P: Periods>(
+    alloc: Global,
+    periods: &P,
+    rows: &[Row],
+    next: u64,
+) -> Result<Audit, Memory>
+    requires { IsAudit (audit_of (P.period_of periods.now) next rows.now) }
+    ensures { IfOk result (λ a. a.audit ≡ audit_of (P.period_of periods.now) next rows.now) }
 {
-    let recoveries = recoveries_in(alloc, rows)?;
+    let recoveries = recoveries_in(alloc, periods, rows)?;
     Ok(Audit::make(recoveries, next))
 }
 

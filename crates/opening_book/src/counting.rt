@@ -1,11 +1,12 @@
 //! Kept rows that count.
 
 ghost use Rattle.std.specs.Prelude.{◌≡◌, ◌<◌, ◌^◌, IfOk, OnOk, length, map};
-ghost use Rattle.opening_book.specs.Counting.{counts, counted, is_end_in_range, is_in_range, last_read, later_read, latest, loaded, raised, end_or, greatest};
+ghost use Rattle.opening_book.specs.Counting.{counts, counted, is_block_in_range, is_end_in_range, is_in_range, last_read, later_read, latest, loaded, raised, end_or, greatest};
 ghost use Rattle.instance_keeper.specs.Book.{book_made};
+ghost use Rattle.kept_rows.specs.declared.row.Row.TheVariants as row;
 
 use crate::Memory;
-use instance_keeper::{Book, Recovery, Row, row_map};
+use instance_keeper::{Book, RecoveryRow, Row, row_map};
 use orch_base::{Moment, Settings};
 use std::alloc::Global;
 
@@ -14,6 +15,12 @@ const GREATEST: u64 = 1 << 63;
 
 /// Ids of recoveries that count at an opening are at most this.
 pub const GREATEST_ID: u64 = 1 << 62;
+
+/// Block periods of recoveries that count are at most this, in seconds.
+const LONGEST_BLOCK: u64 = 1_000_000_000;
+
+/// Numbers of nodes are at most this.
+const LAST_NODE: u32 = 16;
 
 fn is_end_in_range(ended: Option<Moment>) -> bool
     ensures { result ≡ is_end_in_range ended }
@@ -24,6 +31,23 @@ fn is_end_in_range(ended: Option<Moment>) -> bool
     }
 }
 
+fn is_block_in_range(block: Option<u64>) -> bool
+    ensures { result ≡ is_block_in_range block }
+{
+    match block {
+        Some(block) => block <= LONGEST_BLOCK,
+        None => true,
+    }
+}
+
+fn is_recovery_in_range(kept: &RecoveryRow, last: u64) -> bool
+    ensures { result ≡ is_in_range last (row.Recovery kept.now) }
+{
+    (1 <= kept.id && kept.id <= last)
+        && (kept.begun.0 <= GREATEST
+            && (is_end_in_range(kept.ended) && is_block_in_range(kept.block)))
+}
+
 fn is_in_range(row: &Row, last: u64) -> bool
     ensures { result ≡ is_in_range last row.now }
 {
@@ -31,10 +55,9 @@ fn is_in_range(row: &Row, last: u64) -> bool
         Row::Instance(i) => i.read <= GREATEST && i.moment.0 <= GREATEST,
         Row::Downtime(d) => d.begun.0 <= GREATEST && d.until.0 <= GREATEST,
         Row::Candidate(candidate) => candidate.until.0 <= GREATEST,
-        Row::Recovery(r) => {
-            (1 <= r.id && r.id <= last) && (r.begun.0 <= GREATEST && is_end_in_range(r.ended))
-        }
+        Row::Recovery(kept) => is_recovery_in_range(kept, last),
         Row::Switch(_) => true,
+        Row::Active { node, until } => (1 <= *node && *node <= LAST_NODE) && until.0 <= GREATEST,
     }
 }
 
@@ -47,7 +70,8 @@ fn counts(row: &Row, servers: u32, last: u64) -> bool
 
 /// The rows that count, by table, then key: of two with one table and key the last is looked at. A row counts where
 /// each server that it names is one of so many, its read number and moments are at most 2^63, and, for a recovery, its
-/// id is 1 to this last one: `GREATEST_ID` at an opening, and at a restart the last id that was given.
+/// id is 1 to this last one, `GREATEST_ID` at an opening, and at a restart the last id that was given, and its block
+/// period, if it has one, is at most 1,000,000,000 seconds, and, for a claim, its node is 1 to 16.
 pub fn counted(alloc: Global, servers: u32, last: u64, rows: Vec<Row>) -> Result<Vec<Row>, Memory>
     ensures { IfOk result (λ counting. counting.items ≡ counted servers last rows.items) }
 {
@@ -67,14 +91,14 @@ fn raised(now: Moment, row: &Row) -> Moment
 {
     match row {
         Row::Downtime(downtime) => now.max(downtime.begun),
-        Row::Recovery(recovery) => {
-            let begun = now.max(recovery.begun);
-            match recovery.ended {
+        Row::Recovery(kept) => {
+            let begun = now.max(kept.begun);
+            match kept.ended {
                 Some(ended) => begun.max(ended),
                 None => begun,
             }
         }
-        Row::Instance(_) | Row::Candidate(_) | Row::Switch(_) => now,
+        Row::Instance(_) | Row::Candidate(_) | Row::Switch(_) | Row::Active { .. } => now,
     }
 }
 
@@ -94,7 +118,11 @@ fn later_read(read: u64, row: &Row) -> u64
 {
     match row {
         Row::Instance(instance) => read.max(instance.read),
-        Row::Downtime(_) | Row::Candidate(_) | Row::Recovery(_) | Row::Switch(_) => read,
+        Row::Downtime(_)
+        | Row::Candidate(_)
+        | Row::Recovery(_)
+        | Row::Switch(_)
+        | Row::Active { .. } => read,
     }
 }
 

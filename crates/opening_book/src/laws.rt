@@ -3,17 +3,19 @@
 ghost use Rattle.std.specs.Prelude.{◌≡◌, ◌+◌, ◌-◌, ◌<◌, ◌≤◌, ◌^◌, ℕ, All, true, length, map, List};
 ghost use Rattle.orch_base.specs.declared.server.Moment.{Moment as AMoment};
 ghost use Rattle.orch_base.specs.declared.server.Settings.{Settings};
-ghost use Rattle.instance_keeper.specs.declared.row.Row.{Row};
-ghost use Rattle.instance_keeper.specs.declared.row.Change.{Change};
-ghost use Rattle.instance_keeper.specs.Book.{BookState, fits, after_change};
-ghost use Rattle.instance_keeper.specs.Ranges.{IsInRange};
-ghost use Rattle.instance_keeper.specs.Rows.{changed, changed_by, IsRising};
-ghost use Rattle.instance_keeper.specs.declared.recovery.Recovery.{Recovery};
-ghost use Rattle.audit_log.specs.Audits.{acking, acknowledged, closed, AuditState};
+ghost use Rattle.kept_rows.specs.declared.row.Row.{Row};
+ghost use Rattle.kept_rows.specs.declared.row.Change.{Change};
+ghost use Rattle.kept_rows.specs.Servers.{fits};
+ghost use Rattle.instance_keeper.specs.Book.{BookState, after_change};
+ghost use Rattle.kept_rows.specs.Ranges.{IsInRange};
+ghost use Rattle.kept_rows.specs.Rows.{changed, changed_by, IsRising};
+ghost use Rattle.kept_rows.specs.declared.recovery.Recovery.{Recovery};
+ghost use Rattle.audit_log.specs.Audits.{acking, acknowledged, closed, longest_block, AuditState};
 ghost use Rattle.opening_book.specs.Audits.{audit_of, last_id};
 ghost use Rattle.opening_book.specs.Counting.{counted, greatest_id, loaded};
 ghost use Rattle.opening_book.specs.Following.{Follow, FollowAudit, IsIdInRange};
-ghost use Rattle.opening_book.specs.Opening.{after_opening, interrupting, is_opening_change, put_recovery};
+ghost use Rattle.kept_rows.specs.Recoveries.{put_recovery};
+ghost use Rattle.opening_book.specs.Opening.{after_opening, blocks_given, interrupting, is_opening_change};
 
 /// Kept rows follow the book that is loaded of them, and go on to do so after each change of both that the book takes,
 /// at the opening and later: under each table and key for which the book has a row that row is kept, and under any
@@ -24,15 +26,19 @@ pub fn kept_rows_follow_the_book()
     ensures opening { (rows : List Row) (b : BookState) (c : Change) → Follow rows b → is_opening_change (length b.names) c ≡ true → IsInRange c → IsIdInRange c → Follow (changed_by rows c) (after_opening b c) }
 {}
 
-/// Kept rows follow the audit that is loaded of them, at an opening and at a restart, and go on to do so after each
-/// change of the book that is kept, after each restart that ends the unended recoveries, and after each
-/// acknowledgement: under each id of which the audit has a recovery that recovery is kept, and under any other id only
-/// what doesn't count.
+/// Kept rows follow the audit that is loaded of them, at an opening and at a restart, once each recovery whose row has no
+/// block period is kept with its cluster's; and they go on to do so after each change of the book that is kept, after
+/// each restart that ends the unended recoveries, and after each acknowledgement: under each id of which the audit has a
+/// recovery that recovery is kept, and under any other id only what doesn't count.
 pub fn kept_rows_follow_the_audit()
-    ensures opened { (servers : ℕ) (rows : List Row) → servers ≤ 2 ^ 32 → IsRising rows →
-        FollowAudit servers rows (audit_of (last_id rows + 1) (counted servers greatest_id rows)) }
-    ensures loaded { (servers next : ℕ) (rows : List Row) → servers ≤ 2 ^ 32 → 1 ≤ next → next ≤ 2 ^ 64 → IsRising rows →
-        FollowAudit servers rows (audit_of next (counted servers (next - 1) rows)) }
+    ensures opened { (period : List ℕ → ℕ) (servers : ℕ) (rows : List Row) → ((cluster : List ℕ) → period cluster ≤ longest_block) →
+        servers ≤ 2 ^ 32 → IsRising rows →
+        FollowAudit servers (changed rows (blocks_given period (counted servers greatest_id rows)))
+        (audit_of period (last_id rows + 1) (counted servers greatest_id rows)) }
+    ensures loaded { (period : List ℕ → ℕ) (servers next : ℕ) (rows : List Row) → ((cluster : List ℕ) → period cluster ≤ longest_block) →
+        servers ≤ 2 ^ 32 → 1 ≤ next → next ≤ 2 ^ 64 → IsRising rows →
+        FollowAudit servers (changed rows (blocks_given period (counted servers (next - 1) rows)))
+        (audit_of period next (counted servers (next - 1) rows)) }
     ensures book { (servers : ℕ) (rows : List Row) (a : AuditState) (c : Change) → servers ≤ 2 ^ 32 → FollowAudit servers rows a →
         fits servers c ≡ true → IsInRange c → FollowAudit servers (changed_by rows c) a }
     ensures closed { (servers : ℕ) (rows : List Row) (a : AuditState) (at : AMoment) → FollowAudit servers rows a →
@@ -41,7 +47,10 @@ pub fn kept_rows_follow_the_audit()
         FollowAudit servers (changed rows (map put_recovery (acking a cluster))) (acknowledged a cluster) }
 {}
 
-/// A change of recoveries leaves the book's rows.
+/// Changes of recoveries, and block periods that are given to them, leave the book's rows.
 pub fn recoveries_are_no_rows_of_the_book()
-    ensures { (rows : List Row) (b : BookState) (rs : List Recovery) → All (λ r. r.id < 2 ^ 64) rs → Follow rows b → Follow (changed rows (map put_recovery rs)) b }
+    ensures put { (rows : List Row) (b : BookState) (rs : List Recovery) → All (λ r. r.id < 2 ^ 64) rs →
+        Follow rows b → Follow (changed rows (map put_recovery rs)) b }
+    ensures given { (period : List ℕ → ℕ) (rows given : List Row) (b : BookState) (servers last : ℕ) → servers ≤ 2 ^ 32 → last < 2 ^ 64 →
+        Follow rows b → Follow (changed rows (blocks_given period (counted servers last given))) b }
 {}

@@ -11,6 +11,6 @@ pub use counting::{GREATEST_ID, counted, last_read, latest_moment, loaded_book};
 pub use laws::{
     kept_rows_follow_the_audit, kept_rows_follow_the_book, recoveries_are_no_rows_of_the_book,
 };
-pub use opening::{interrupting, open_book, opening_changes};
+pub use opening::{loading, open_book, opening_changes};
 /// Want of memory.
 pub use orch_base::Memory;

@@ -3,10 +3,10 @@
 ghost use Rattle.std.specs.Prelude.{◌≡◌, ◌<◌, ◌≤◌, ◌^◌, ◌++◌, IfOk, IfSome, OnOk, All, IsTrue, length};
 ghost use Rattle.std.specs.Option.{option_to_list};
 ghost use Rattle.server_model.specs.Worlds.{server_at};
-ghost use Rattle.opening_book.specs.Opening.{after_opening, interrupting, is_opening_change, missing, missing_from, opened_book, opening_changes, opening_instance, registered, registering, registering_from};
+ghost use Rattle.opening_book.specs.Opening.{after_opening, block_given, blocks_given, is_opening_change, loading, missing, missing_from, opened_book, opening_changes, opening_instance, registered, registering, registering_from};
 
 use crate::Memory;
-use audit_log::Audit;
+use audit_log::{Audit, Periods, loaded_by};
 use instance_keeper::{Book, Candidate, Change, Instance, Row};
 use orch_base::{Moment, Rule, ServerNo};
 use server_model::World;
@@ -122,13 +122,50 @@ fn push_registrations(
     Ok(())
 }
 
-/// The changes by which each unended recovery of the audit is kept as interrupted.
-pub fn interrupting(alloc: Global, audit: &Audit, at: Moment) -> Result<Vec<Change>, Memory>
-    ensures { IfOk result (λ changes. changes.items ≡ interrupting audit.now.audit at) }
+// The change by which a recovery whose row has no block period is kept with its cluster's.
+fn give_block<P: Periods>(alloc: Global, periods: &P, row: &Row) -> Result<Option<Change>, Memory>
+    ensures { IfOk result (λ c. c ≡ block_given (P.period_of periods.now) row.now) }
+{
+    match row {
+        Row::Recovery(kept) if kept.block.is_none() => {
+            let recovery = loaded_by(alloc, periods, kept)?;
+            Ok(Some(Change::Put(Row::Recovery(recovery.into_row()))))
+        }
+        Row::Recovery(_)
+        | Row::Instance(_)
+        | Row::Downtime(_)
+        | Row::Candidate(_)
+        | Row::Switch(_)
+        | Row::Active { .. } => Ok(None),
+    }
+}
+
+fn give_blocks<P: Periods>(alloc: Global, periods: &P, rows: &[Row]) -> Result<Vec<Change>, Memory>
+    ensures { IfOk result (λ changes. changes.items ≡ blocks_given (P.period_of periods.now) rows.now) }
 {
     let mut changes = Vec::new(alloc);
+    for row in rows {
+        let change = give_block(alloc, periods, row)?;
+        push_some(&mut changes, change)?;
+    }
+    Ok(changes)
+}
+
+/// What a load of these rows keeps of recoveries, at this moment: first each one whose row has no block period, with its
+/// cluster's, then each unended one of their audit, as interrupted.
+pub fn loading<P: Periods>(
+    alloc: Global,
+    periods: &P,
+    rows: &[Row],
+    audit: &Audit,
+    at: Moment,
+) -> Result<Vec<Change>, Memory>
+    ensures { IfOk result (λ changes. changes.items ≡
+        loading (P.period_of periods.now) rows.now audit.now.audit at) }
+{
+    let mut changes = give_blocks(alloc, periods, rows)?;
     'closed: for recovery in audit.closing(alloc, at)? {
-        changes.push(Change::Put(Row::Recovery(recovery)))?;
+        changes.push(Change::Put(Row::Recovery(recovery.into_row())))?;
     }
     Ok(changes)
 }
@@ -136,8 +173,7 @@ pub fn interrupting(alloc: Global, audit: &Audit, at: Moment) -> Result<Vec<Chan
 /// The changes of the opening. First the instance of each known server that the book has none of, with read number 0
 /// and this moment, valid exactly where orchestrator reaches the server, and as seen what a status would show, reached
 /// or not. Then the registration of each server that has a rule, which lasts 3600 seconds from this moment, unless the
-/// book has that very registration. Then each unended recovery, as interrupted at this moment. Moments are at most
-/// 2^63.
+/// book has that very registration. Then what is kept of recoveries. Moments are at most 2^63.
 pub fn opening_changes(
     alloc: Global,
     world: &World,
@@ -145,18 +181,18 @@ pub fn opening_changes(
     book: &Book,
     known: &[bool],
     rules: &[Option<Rule>],
-    audit: &Audit,
+    recoveries: Vec<Change>,
 ) -> Result<Vec<Change>, Memory>
     requires moment { moment.0 ≤ 2 ^ 63 }
     requires known { length known.now ≡ length world.now.servers }
     requires rules { length rules.now ≡ length world.now.servers }
     requires book { length book.now.names ≡ length world.now.servers }
     ensures { IfOk result (λ changes. changes.items ≡
-        opening_changes world.now moment book.now known.now rules.now audit.now.audit) }
+        opening_changes world.now moment book.now known.now rules.now recoveries.items) }
 {
     let mut changes = missing_instances(alloc, world, moment, book, known)?;
     push_registrations(&mut changes, moment, book, rules)?;
-    'interrupted: for change in interrupting(alloc, audit, moment)? {
+    'recoveries: for change in recoveries {
         changes.push(change)?;
     }
     Ok(changes)
@@ -172,7 +208,7 @@ fn open(book: &mut Book, change: Change)
         Change::Put(Row::Instance(instance)) => book.add(instance),
         Change::Put(Row::Downtime(downtime)) => book.set(Change::Put(Row::Downtime(downtime))),
         Change::Put(Row::Candidate(candidate)) => book.set(Change::Put(Row::Candidate(candidate))),
-        Change::Put(Row::Recovery(_)) => {}
+        Change::Put(Row::Recovery(_) | Row::Active { .. }) => {}
         Change::Put(Row::Switch(enabled)) => book.set(Change::Put(Row::Switch(enabled))),
         Change::Remove(table, key) => book.set(Change::Remove(table, key)),
     }

@@ -1,16 +1,14 @@
 -- The first flaw of several, and what it means that there is none.
-use Rattle.std.proofs.Common.{◌≡◌, ℕ, ◌+◌, ◌*◌, ◌<◌, ◌≤◌, Bool, true, false, cond, List, [], ◌∷◌, length, take, refl, ap, subst, Some, None, Option, arith, suc, zero, get_or}
+use Rattle.std.proofs.Common.{◌≡◌, ℕ, ◌+◌, ◌*◌, ◌<◌, ◌≤◌, Bool, true, false, cond, List, [], ◌∷◌, length, refl, ap, subst, Some, None, Option, arith, suc, zero, get_or}
 use Rattle.std.specs.Prelude.{slice_get, sum_by}
 use Rattle.std.proofs.lemmas.List.Sums.{get_or-le-sum_by}
 use Rattle.std.proofs.lemmas.Option.{same_Some, slice_get_within, get_or_from_slice_get}
 use Rattle.openings.specs.declared.init.ServerInit.{ServerInit}
-use Rattle.openings.specs.declared.opening.Flaw.{Flaw}
-use Rattle.openings.specs.declared.opening.Flaw.TheVariants as flaw
-use Rattle.opening_checks.specs.Checks.{plain_flaw_in, InRange}
-use Rattle.openings.specs.Flaws.{bad_flushes, first_flaw, first_met, flaw_or, flaws}
+use Rattle.opening_checks.specs.Checks.{InRange}
+use Rattle.openings.specs.Flaws.{bad_files, first_met}
 use Rattle.openings.specs.Listed.{transactions}
 use Rattle.openings.specs.Opening.{opening, IsListed}
-use Rattle.opening_checks.specs.Places.{FlushesGood}
+use Rattle.opening_checks.specs.Places.{FilesGood}
 use Rattle.openings.specs.Servers.{parts_of}
 
 passed-first : (b : Bool) (n : ℕ) (rest : Option ℕ) → cond b (Some n) rest ≡ None → (b ≡ false) × (rest ≡ None)
@@ -29,21 +27,11 @@ first_met-none test from (s ∷ ss) none (suc k) i h =
     let at : from + suc k ≡ (from + 1) + k = omega arith in
     rw at (first_met-none test (from + 1) ss rest k i h)
 
-flaw_or-none : (f : Flaw) (rest : Option (Flaw × ℕ)) (first : Option ℕ) → flaw_or f rest first ≡ None → (first ≡ None) × (rest ≡ None)
-flaw_or-none f rest None e = (refl, e)
-flaw_or-none f rest (Some n) e = cc
-
--- where there is none of several flaws, there is none of each
-pub first_flaw-none : (servers : List ServerInit) (fs : List (Flaw × (ℕ → ServerInit → Bool))) → first_flaw servers fs ≡ None → (k : ℕ) (f : Flaw × (ℕ → ServerInit → Bool)) → slice_get fs k ≡ Some f
-    → first_met f.1 0 servers ≡ None
-first_flaw-none servers [] none k f h = cc
-first_flaw-none servers (g ∷ gs) none zero f h =
-    subst (λ (x : Flaw × (ℕ → ServerInit → Bool)). first_met x.1 0 servers ≡ None) (same_Some g f h) (flaw_or-none g.0 (first_flaw servers gs) (first_met g.1 0 servers) none).0
-first_flaw-none servers (g ∷ gs) none (suc k) f h = first_flaw-none servers gs (flaw_or-none g.0 (first_flaw servers gs) (first_met g.1 0 servers) none).1 k f h
-
-pub flushes-good : (servers : List ServerInit) → plain_flaw_in servers ≡ None → FlushesGood servers
-flushes-good servers none = record {
-  each = first_met-none (λ n i. bad_flushes i) 0 servers (first_flaw-none servers (take 6 (flaws servers)) none 5 (flaw.BadPlace, λ n i. bad_flushes i) refl);
+pub files-good : (servers : List ServerInit) → first_met (bad_files servers) 0 servers ≡ None → FilesGood servers
+files-good servers none = record {
+  each = λ n i at.
+      let same : 0 + n ≡ n = omega arith in
+      subst (λ (m : ℕ). bad_files servers m i ≡ false) same (first_met-none (bad_files servers) 0 servers none n i at);
 }
 
 -- a number is at most its product with a number above zero

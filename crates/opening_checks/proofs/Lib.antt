@@ -10,3 +10,4 @@ pub mod Loops
 pub mod Numbered
 pub mod Standings
 pub mod Told
+pub mod Purgings

@@ -1,10 +1,11 @@
 -- What is told of a flaw.
-use Rattle.std.proofs.Common.{◌≡◌, ℕ, refl, List, Option, Some, None}
-use Rattle.openings.specs.declared.init.ServerInit.{ServerInit}
+use Rattle.std.proofs.Common.{◌≡◌, refl, Option, Some, None, Ok}
+use Rattle.orch_base.specs.declared.server.ServerNo.{ServerNo}
 use Rattle.openings.specs.declared.opening.Flaw.{Flaw}
-use Rattle.opening_checks.specs.Checked.{found_of}
+use Rattle.opening_checks.specs.Checks.{server_of, without}
+use Rattle.opening_checks.specs.declared.fault.FlawedValue.{FlawedValue}
 
--- nothing is told where there is no flaw
-pub found_of-none : (servers : List ServerInit) (flaw : Option (Flaw × ℕ)) → found_of servers flaw ≡ None → flaw ≡ None
-found_of-none servers None e = refl
-found_of-none servers (Some f) e = cc
+-- where nothing is answered, no server was found
+pub without-none : (flaw : Flaw) (first : Option (ServerNo × FlawedValue)) (u : Unit {0}) → without flaw first ≡ Ok u → server_of first ≡ None
+without-none flaw None u e = refl
+without-none flaw (Some f) u e = cc

@@ -1,5 +1,5 @@
 -- What the check of servers answers.
-use Rattle.std.specs.Prelude.{ℕ, List, Bool, Option, Some, None, Result, Ok, Err, slice_get}
+use Rattle.std.specs.Prelude.{ℕ, List, Bool, Option, Some, None, Result, Ok, Err}
 use Rattle.openings.specs.declared.init.ServerInit.{ServerInit}
 use Rattle.openings.specs.declared.opening.Flaw.{Flaw}
 use Rattle.openings.specs.Flaws.{flaw_in}
@@ -16,7 +16,7 @@ pub record Found : Type 0 where
   pub value : FlawedValue
 
 abbrev pub found_at : List ServerInit → Flaw × ℕ → Found
-found_at servers f = record { flaw = f.0; server = f.1; value = value_at servers f.0 (slice_get servers f.1) }
+found_at servers f = record { flaw = f.0; server = f.1; value = value_at servers f.0 f.1 }
 
 abbrev pub found_of : List ServerInit → Option (Flaw × ℕ) → Option Found
 found_of servers None = None

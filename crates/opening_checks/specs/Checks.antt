@@ -1,5 +1,5 @@
 -- The flaws of servers, one after another.
-use Rattle.std.specs.Prelude.{◌≡◌, ℕ, ◌≤◌, List, take, length, Option, Some, None, Result, Ok, Err, MatchResult, MatchOption, IfSome, ⊤, slice_get}
+use Rattle.std.specs.Prelude.{◌≡◌, ℕ, ◌≤◌, List, take, drop, length, Option, Some, None, Result, Ok, Err, MatchResult, MatchOption, IfSome, ⊤}
 use Rattle.orch_base.specs.declared.server.ServerNo.{ServerNo}
 use Rattle.openings.specs.declared.init.ServerInit.{ServerInit}
 use Rattle.openings.specs.declared.opening.Flaw.{Flaw}
@@ -20,7 +20,7 @@ without flaw (Some f) = Err (Flawed flaw f.0 f.1)
 -- nothing, or the flaw with the server of this number and its value to blame
 abbrev pub refused : List ServerInit → Flaw → Option ℕ → Result (Unit {0}) OpeningFault
 refused servers flaw None = Ok tt
-refused servers flaw (Some n) = Err (Flawed flaw (record { 0 = n }) (value_at servers flaw (slice_get servers n)))
+refused servers flaw (Some n) = Err (Flawed flaw (record { 0 = n }) (value_at servers flaw n))
 
 -- the server of what was found
 abbrev pub server_of : Option (ServerNo × FlawedValue) → Option ℕ
@@ -29,7 +29,7 @@ server_of (Some f) = Some f.0.0
 
 -- the value that was found is to blame for the server's flaw
 abbrev pub IsToBlame : List ServerInit → Flaw → Option (ServerNo × FlawedValue) → Type 0
-IsToBlame servers flaw first = IfSome first (λ f. f.1 ≡ value_at servers flaw (slice_get servers f.0.0))
+IsToBlame servers flaw first = IfSome first (λ f. f.1 ≡ value_at servers flaw f.0.0)
 
 -- A success says that there is no flaw; a fault says which one there is, unless memory ran out.
 abbrev pub Tells : Result (Unit {0}) OpeningFault → Option Found → Type 0
@@ -37,7 +37,11 @@ Tells result found = MatchResult result (λ _. found ≡ None) (λ e. MatchOptio
 
 -- the first flaw of those that need no memory, which stand before the others
 abbrev pub plain_flaw_in : List ServerInit → Option (Flaw × ℕ)
-plain_flaw_in servers = first_flaw servers (take 6 (flaws servers))
+plain_flaw_in servers = first_flaw servers (take 5 (flaws servers))
+
+-- the first flaw of those that are looked for in logs, which stand behind them
+abbrev pub place_flaw_in : List ServerInit → Option (Flaw × ℕ)
+place_flaw_in servers = first_flaw servers (take 2 (drop 5 (flaws servers)))
 
 -- what the checks need of the servers
 pub record InRange (servers : List ServerInit) : Type 0 where

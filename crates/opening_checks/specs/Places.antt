@@ -1,7 +1,7 @@
 -- What the logs of all servers need.
 use Rattle.std.specs.Prelude.{◌≡◌, ℕ, ◌≤◌, List, length, false, Some, slice_get}
 use Rattle.openings.specs.declared.init.ServerInit.{ServerInit}
-use Rattle.openings.specs.Flaws.{bad_flushes}
+use Rattle.openings.specs.Flaws.{bad_files}
 
 -- each limit of a log's files and each number of flush points is in its range
 pub record LimitsInRange (servers : List ServerInit) : Type 0 where
@@ -9,6 +9,6 @@ pub record LimitsInRange (servers : List ServerInit) : Type 0 where
   pub high : (n : ℕ) (i : ServerInit) → slice_get servers n ≡ Some i → i.settings.limit ≤ 1073741824
   pub flushes : (n : ℕ) (i : ServerInit) → slice_get servers n ≡ Some i → length i.flushes ≤ 1000000
 
--- no server has bad flush points
-pub record FlushesGood (servers : List ServerInit) : Type 0 where
-  pub each : (n : ℕ) (i : ServerInit) → slice_get servers n ≡ Some i → bad_flushes i ≡ false
+-- no server has bad flush points or a first kept file that is none of its log's
+pub record FilesGood (servers : List ServerInit) : Type 0 where
+  pub each : (n : ℕ) (i : ServerInit) → slice_get servers n ≡ Some i → bad_files servers n i ≡ false

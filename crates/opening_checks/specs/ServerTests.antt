@@ -6,7 +6,7 @@ use Rattle.openings.specs.declared.opening.Flaw.{Flaw}
 use Rattle.openings.specs.declared.opening.Flaw.TheVariants as flaw
 use Rattle.opening_checks.specs.declared.flaws.Test.{Test}
 use Rattle.opening_checks.specs.declared.flaws.Test.TheVariants as test
-use Rattle.openings.specs.Flaws.{both_given, source_not_logging, below_itself, other_cluster, too_many, bad_flushes}
+use Rattle.openings.specs.Flaws.{both_given, source_not_logging, below_itself, other_cluster, too_many}
 
 -- the server that is named as a source
 abbrev pub named_in : List ServerInit → Option ServerNo → Option ServerInit
@@ -20,7 +20,6 @@ met_by servers test.SourceNotLogging n i = source_not_logging servers i
 met_by servers test.Loop n i = below_itself servers n
 met_by servers test.OtherCluster n i = other_cluster servers i
 met_by servers test.TooMany n i = too_many servers i
-met_by servers test.BadFlushes n i = bad_flushes i
 
 -- the flaw that a test finds
 abbrev pub flaw_by : Test → Flaw
@@ -29,4 +28,3 @@ flaw_by test.SourceNotLogging = flaw.SourceNotLogging
 flaw_by test.Loop = flaw.Loop
 flaw_by test.OtherCluster = flaw.OtherCluster
 flaw_by test.TooMany = flaw.TooMany
-flaw_by test.BadFlushes = flaw.BadPlace

@@ -6,7 +6,7 @@ use Rattle.openings.specs.declared.init.ServerInit.{ServerInit}
 use Rattle.openings.specs.declared.part.Part.{Part}
 use Rattle.openings.specs.declared.opening.Flaw.{Flaw}
 use Rattle.openings.specs.declared.opening.Flaw.TheVariants as flaw
-use Rattle.openings.specs.Flaws.{at_server, of_source, same_cluster, bad_coords_in, bad_flushes, has_place_of}
+use Rattle.openings.specs.Flaws.{at_server, of_source, same_cluster, bad_coords_in, bad_flushes, bad_purged, has_place_of}
 use Rattle.openings.specs.Servers.{parts_of, count_of, log_at, exec_of}
 use Rattle.opening_checks.specs.declared.fault.FlawedValue.{FlawedValue}
 use Rattle.opening_checks.specs.declared.fault.FlawedValue.TheVariants as value
@@ -62,17 +62,24 @@ coord_value_under log i = coord_value_in log i.executed (exec_in log i)
 abbrev pub coord_value : List ServerInit → ServerInit → FlawedValue
 coord_value servers i = if bad_exec servers i then value.At else value.Read
 
--- the value of a server that is to blame for its flaw
-abbrev pub value_of : List ServerInit → ServerInit → Flaw → FlawedValue
-value_of servers i flaw.BothGiven = value.Source
-value_of servers i flaw.SourceNotLogging = value.Source
-value_of servers i flaw.Loop = value.Source
-value_of servers i flaw.OtherCluster = cluster_value servers i
-value_of servers i flaw.TooMany = value.Executed
-value_of servers i flaw.BadPlace = if bad_flushes i then flush_value i else coord_value servers i
-value_of servers i flaw.NotKin = value.History
+-- the bad flush points, else the first kept file, where that is none of the log's, and else a coordinate
+abbrev pub place_value : List ServerInit → ℕ → ServerInit → FlawedValue
+place_value servers n i = if bad_flushes i then flush_value i else (if bad_purged servers n i then value.Purged else coord_value servers i)
+
+-- the value of server n that is to blame for its flaw
+abbrev pub value_of : List ServerInit → ℕ → ServerInit → Flaw → FlawedValue
+value_of servers n i flaw.BothGiven = value.Source
+value_of servers n i flaw.SourceNotLogging = value.Source
+value_of servers n i flaw.Loop = value.Source
+value_of servers n i flaw.OtherCluster = cluster_value servers i
+value_of servers n i flaw.TooMany = value.Executed
+value_of servers n i flaw.BadPlace = place_value servers n i
+value_of servers n i flaw.NotKin = value.History
 
 -- that of the server at a number
-abbrev pub value_at : List ServerInit → Flaw → Option ServerInit → FlawedValue
-value_at servers f None = value.Source
-value_at servers f (Some i) = value_of servers i f
+abbrev pub value_in : List ServerInit → Flaw → ℕ → Option ServerInit → FlawedValue
+value_in servers f n None = value.Source
+value_in servers f n (Some i) = value_of servers n i f
+
+abbrev pub value_at : List ServerInit → Flaw → ℕ → FlawedValue
+value_at servers f n = value_in servers f n (slice_get servers n)

@@ -3,14 +3,16 @@
 ghost use Rattle.std.specs.Prelude.{◌≡◌};
 ghost use Rattle.openings.specs.Flaws.{first_met, flaw_in};
 ghost use Rattle.opening_checks.specs.Checked.{found_of};
-ghost use Rattle.opening_checks.specs.Checks.{plain_flaw_in, refused, without, InRange, Tells};
+ghost use Rattle.opening_checks.specs.Checks.{place_flaw_in, plain_flaw_in, refused, without, InRange, Tells};
 ghost use Rattle.opening_checks.specs.ServerTests.{flaw_by, met_by};
 
 use crate::OpeningFault;
 use crate::fault::FlawedValue;
+use crate::files::first_bad_files;
 use crate::flaws::{Test, first_met, flaw_by};
 use crate::kin::first_not_kin;
 use crate::places::first_bad_coords;
+use crate::source_logs::no_logs;
 use openings::{Flaw, ServerInit};
 use orch_base::ServerNo;
 use std::alloc::Global;
@@ -42,8 +44,18 @@ fn check_each(servers: &[ServerInit]) -> Result<(), OpeningFault>
     refuse_met(servers, Test::SourceNotLogging)?;
     refuse_met(servers, Test::Loop)?;
     refuse_met(servers, Test::OtherCluster)?;
-    refuse_met(servers, Test::TooMany)?;
-    refuse_met(servers, Test::BadFlushes)
+    refuse_met(servers, Test::TooMany)
+}
+
+// The flaws of places in logs. Each log is laid once at most, and none is kept behind them.
+fn check_places(alloc: Global, servers: &[ServerInit]) -> Result<(), OpeningFault>
+    requires { InRange servers.now }
+    ensures { Tells result (found_of servers.now (place_flaw_in servers.now)) }
+{
+    let mut table = no_logs(alloc, servers.len())?;
+    let logs = table.as_mut_slice();
+    refuse(Flaw::BadPlace, first_bad_files(alloc, servers, logs)?)?;
+    refuse(Flaw::BadPlace, first_bad_coords(alloc, servers, logs)?)
 }
 
 // Whether the servers have no flaw.
@@ -52,6 +64,6 @@ pub(crate) fn check_servers(alloc: Global, servers: &[ServerInit]) -> Result<(),
     ensures { Tells result (found_of servers.now (flaw_in servers.now)) }
 {
     check_each(servers)?;
-    refuse(Flaw::BadPlace, first_bad_coords(alloc, servers)?)?;
+    check_places(alloc, servers)?;
     refuse(Flaw::NotKin, first_not_kin(alloc, servers)?)
 }

@@ -26,6 +26,8 @@ pub enum FlawedValue {
     Flushes,
     /// A flush point, by its number from 0 on.
     Flush(usize),
+    /// The first file that its binary log keeps.
+    Purged,
 }
 
 /// Why servers were refused.
@@ -34,8 +36,8 @@ pub enum OpeningFault {
     /// The first flaw, the first server that has it, and the value of that server that is to blame. This is the source
     /// for `BothGiven`, `SourceNotLogging` and `Loop`, the executed count for `TooMany`, and the history for `NotKin`.
     /// For `OtherCluster` it is the source, or the first origin of another cluster. For `BadPlace` it is all flush
-    /// points of a server without a log, the first flush point that falls or passes the count, or the first coordinate
-    /// out of place.
+    /// points of a server without a log, the first flush point that falls or passes the count, the first kept file, or
+    /// the first coordinate out of place.
     Flawed(Flaw, ServerNo, FlawedValue),
     /// Want of memory.
     Memory,

@@ -1,14 +1,13 @@
 //! The flaws of one server that are found without memory.
 
-ghost use Rattle.std.specs.Prelude.{◌≡◌, ◌<◌, ◌≤◌, ◌^◌, IfSome, None, Some, if◌then◌else◌, is_some, length, slice_get};
+ghost use Rattle.std.specs.Prelude.{◌≡◌, ◌<◌, ◌≤◌, IfSome, None, Some, if◌then◌else◌, is_some, length, slice_get};
 ghost use Rattle.std.specs.Option.{option_copied};
-ghost use Rattle.openings.specs.Flaws.{bad_flushes, below_itself, both_given, falls_or_passes, first_met, origin_elsewhere, other_cluster, same_cluster, source_not_logging, too_many};
-ghost use Rattle.openings.specs.Listed.{transactions};
+ghost use Rattle.openings.specs.Flaws.{below_itself, both_given, first_met, origin_elsewhere, other_cluster, same_cluster, source_not_logging, too_many};
 ghost use Rattle.openings.specs.Servers.{parts_of};
 ghost use Rattle.openings.specs.Taking.{PartsInRange};
 ghost use Rattle.opening_checks.specs.Checks.{server_of, IsToBlame};
 ghost use Rattle.opening_checks.specs.ServerTests.{flaw_by, met_by, named_in};
-ghost use Rattle.opening_checks.specs.Values.{cluster_value, elsewhere, first_bad_flush, first_elsewhere, flush_value, source_elsewhere, value_of};
+ghost use Rattle.opening_checks.specs.Values.{cluster_value, elsewhere, first_elsewhere, source_elsewhere, value_of};
 
 use crate::fault::FlawedValue;
 use openings::{Flaw, Part, ServerInit, count_of, parts_of, source_no};
@@ -22,7 +21,6 @@ pub(crate) enum Test {
     Loop,
     OtherCluster,
     TooMany,
-    BadFlushes,
 }
 
 fn source_of<'a>(servers: &'a [ServerInit], init: &ServerInit) -> Option<&'a ServerInit>
@@ -126,38 +124,6 @@ fn has_too_many(servers: &[ServerInit], init: &ServerInit) -> bool
     }
 }
 
-// The number of the first count that is less than the one before it, or more than the bound.
-fn first_bad_flush(bound: u64, counts: &[u64]) -> Option<usize>
-    ensures met { is_some result ≡ falls_or_passes bound 0 counts.now }
-    ensures first { IfSome result (λ k. k ≡ first_bad_flush bound 0 0 counts.now) }
-{
-    let mut least = 0;
-    for (k, count) in counts.iter().enumerate() {
-        if *count < least || bound < *count {
-            return Some(k);
-        }
-        least = *count;
-    }
-    None
-}
-
-// The first bad flush point, or all of them where the server has no log.
-fn bad_flush(init: &ServerInit) -> Option<FlawedValue>
-    requires { transactions (parts_of init.now) < 2 ^ 64 }
-    ensures met { is_some result ≡ bad_flushes init.now }
-    ensures value { IfSome result (λ v. v ≡ flush_value init.now) }
-{
-    let flushes = init.flushes.as_slice();
-    if init.settings.logs {
-        let k = first_bad_flush(count_of(init), flushes)?;
-        Some(FlawedValue::Flush(k))
-    } else if flushes.is_empty() {
-        None
-    } else {
-        Some(FlawedValue::Flushes)
-    }
-}
-
 fn when(is_met: bool, value: FlawedValue) -> Option<FlawedValue>
     ensures { result ≡ (if is_met then Some value else None) }
 {
@@ -174,7 +140,6 @@ pub(crate) fn flaw_by(test: Test) -> Flaw
         Test::Loop => Flaw::Loop,
         Test::OtherCluster => Flaw::OtherCluster,
         Test::TooMany => Flaw::TooMany,
-        Test::BadFlushes => Flaw::BadPlace,
     }
 }
 
@@ -183,7 +148,7 @@ fn met(servers: &[ServerInit], n: u32, init: &ServerInit, test: Test) -> Option<
     requires parts { PartsInRange servers.now }
     requires at { slice_get servers.now n ≡ Some init.now }
     ensures met { is_some result ≡ met_by servers.now test n init.now }
-    ensures value { IfSome result (λ v. v ≡ value_of servers.now init.now (flaw_by test)) }
+    ensures value { IfSome result (λ v. v ≡ value_of servers.now n init.now (flaw_by test)) }
 {
     match test {
         Test::BothGiven => when(is_both_given(init), FlawedValue::Source),
@@ -191,7 +156,6 @@ fn met(servers: &[ServerInit], n: u32, init: &ServerInit, test: Test) -> Option<
         Test::Loop => when(is_below_itself(servers, n), FlawedValue::Source),
         Test::OtherCluster => other_cluster(servers, init),
         Test::TooMany => when(has_too_many(servers, init), FlawedValue::Executed),
-        Test::BadFlushes => bad_flush(init),
     }
 }
 

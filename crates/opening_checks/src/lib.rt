@@ -3,6 +3,7 @@
 
 mod check;
 mod fault;
+mod files;
 mod flaws;
 mod kin;
 mod kin_row;

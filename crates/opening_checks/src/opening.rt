@@ -22,8 +22,8 @@ pub trait CheckedOpening: Sized {
 
     /// The opening of these servers, whose numbers are in their ranges, if they have no flaw. Each flaw is looked for
     /// at all servers before the next one. The time is that of the servers, squared, of the servers times the listed
-    /// transactions, and of the flush points; each source's log is laid once. For that the logs of all sources are
-    /// kept until the check ends.
+    /// transactions, and of the flush points; the log of each source, and of each server with purged files, is laid
+    /// once. For that these logs are kept until all places are looked at.
     fn check(alloc: Global, servers: Vec<ServerInit>, gtid: bool) -> Result<Self, OpeningFault>
         requires { may_check servers.items gtid }
         ensures { check_gives servers.items gtid result };

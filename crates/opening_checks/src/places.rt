@@ -6,12 +6,12 @@ ghost use Rattle.openings.specs.Flaws.{bad_coords, bad_coords_in, first_met};
 ghost use Rattle.openings.specs.declared.opening.Flaw.TheVariants.{BadPlace};
 ghost use Rattle.openings.specs.Taking.{PartsInRange};
 ghost use Rattle.opening_checks.specs.Checks.{server_of, IsToBlame};
-ghost use Rattle.opening_checks.specs.Places.{FlushesGood, LimitsInRange};
+ghost use Rattle.opening_checks.specs.Places.{FilesGood, LimitsInRange};
 ghost use Rattle.opening_checks.specs.SourceLogs.{AreLogs};
 ghost use Rattle.opening_checks.specs.Values.{bad_coords_under, bad_exec_in, coord_value, coord_value_in, coord_value_under};
 
 use crate::fault::FlawedValue;
-use crate::source_logs::{no_logs, take_log};
+use crate::source_logs::take_log;
 use binlog_coords::{Coord, LogIndex};
 use openings::ServerInit;
 use orch_base::{Memory, ServerNo};
@@ -69,7 +69,7 @@ fn bad_coord(
 ) -> Result<Option<FlawedValue>, Memory>
     requires parts { PartsInRange servers.now }
     requires limits { LimitsInRange servers.now }
-    requires points { FlushesGood servers.now }
+    requires files { FilesGood servers.now }
     requires logs { AreLogs servers.now logs.old }
     ensures met { IfOk result (λ o. is_some o ≡ bad_coords servers.now init.now) }
     ensures value { IfOk result (λ o. IfSome o (λ v. v ≡ coord_value servers.now init.now)) }
@@ -87,21 +87,21 @@ fn bad_coord(
     Ok(bad)
 }
 
-// The first replica that has no place in its source's log, where all flush points are in order, and the coordinate that
-// is to blame.
+// The first replica that has no place in its source's log, where all files are in order, and the coordinate that is to
+// blame.
 pub(crate) fn first_bad_coords(
     alloc: Global,
     servers: &[ServerInit],
+    logs: &mut [Option<LogIndex>],
 ) -> Result<Option<(ServerNo, FlawedValue)>, Memory>
     requires parts { PartsInRange servers.now }
     requires limits { LimitsInRange servers.now }
-    requires points { FlushesGood servers.now }
+    requires files { FilesGood servers.now }
     requires few { length servers.now ≤ 1000 }
+    requires logs { AreLogs servers.now logs.old }
     ensures met { IfOk result (λ f. server_of f ≡ first_met (λ k i. bad_coords servers.now i) 0 servers.now) }
     ensures value { IfOk result (IsToBlame servers.now BadPlace) }
 {
-    let mut table = no_logs(alloc, servers.len())?;
-    let logs = table.as_mut_slice();
     for (n, init) in servers.iter().enumerate() {
         if let Some(value) = bad_coord(alloc, servers, logs, init)? {
             return Ok(Some((ServerNo(n as u32), value)));

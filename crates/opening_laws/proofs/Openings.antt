@@ -19,11 +19,11 @@ use Rattle.server_model.specs.Layout.{LaysOut}
 use Rattle.server_model.specs.Layout as layout
 use Rattle.server_model.specs.Links.{HasSize}
 use Rattle.world_openings.specs.Opening.{source_state, opened_server, opened_world}
-use Rattle.server_model.specs.Safe.{Safe, AttachedWell, IsKin, Grounded, IsSource}
-use Rattle.server_model.specs.Worlds.{World, server_at, histories, history_of, sources, source_of, source_no}
+use Rattle.server_model.specs.Safe.{Safe, AttachedWell, IsKin, Grounded, IsSource, KeepFiles}
+use Rattle.server_model.specs.Worlds.{KeepsFrom, World, server_at, histories, history_of, sources, source_of, source_no}
 use Rattle.server_model.specs.declared.server.Server.{Server}
 use Rattle.world_openings.proofs.Opened.{given-opened, server_at-opened}
-use Rattle.world_openings.proofs.OpenedWorlds.{sized, source-given, log_at-is}
+use Rattle.world_openings.proofs.OpenedWorlds.{keeps-opened, sized, source-given, log_at-is}
 use Rattle.opening_laws.proofs.OpeningKin.{IsKin-opening}
 
 -- a log that is laid out lays out its history
@@ -89,6 +89,11 @@ module _ (o : Opened) (room flushes : ℕ) where
         subst (λ (x : Server). x.settings.logs ≡ true → LaysOut x.history.txns x.log.log) (sym g.is_opened)
         (λ logs. LaysOut-log_by g.init (history_at o.servers n) (sized o checked.listed n) logs)
 
+    kept-opened : KeepFiles the_world
+    kept-opened n s at =
+        let g = given-opened o room flushes n s at in
+        subst (λ (x : Server). KeepsFrom x.settings.logs x.log.log x.first) (sym g.is_opened) (keeps-opened o.servers sound n g.init g.place)
+
     well-opened : (n m : ℕ) (r s : Server) → server_at the_world n ≡ Some r → source_no r.source ≡ Some m → server_at the_world m ≡ Some s → AttachedWell r s
     well-opened n m r s at_n from at_m =
         let g = given-opened o room flushes n r at_n in
@@ -122,6 +127,7 @@ module _ (o : Opened) (room flushes : ℕ) where
     pub Safe-opened : Safe the_world
     Safe-opened = record {
       laid = laid-opened;
+      kept = kept-opened;
       well = well-opened;
       logging = logging-opened;
       kin = subst IsKin (sym histories-opened) (IsKin-opening o.servers sound);

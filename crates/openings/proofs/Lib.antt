@@ -7,5 +7,6 @@ pub mod Soundness
 pub mod Chains
 pub mod Joined
 pub mod Laid
+pub mod Files
 pub mod Members
 pub mod Sizes

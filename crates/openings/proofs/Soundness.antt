@@ -7,7 +7,7 @@ use Rattle.std.proofs.lemmas.Bool.Decides.{nat_tests}
 use Rattle.std.proofs.lemmas.List.{length-take-le, take-take, take_all}
 use Rattle.std.proofs.lemmas.Option.{same_Some, slice_get_within, slice_get-get_or}
 use Rattle.binlog_coords.specs.declared.Coord.{Coord}
-use Rattle.binlog_coords.specs.Log.{Log, place, is_before, is_at_or_before}
+use Rattle.binlog_coords.specs.Log.{Log, opened, place, is_before, is_at_or_before}
 use Rattle.orch_base.specs.Chains.{Grounded, Root, Under}
 use Rattle.orch_base.specs.declared.server.ServerNo.{ServerNo}
 use Rattle.orch_base.specs.declared.server.Txn.{Txn}
@@ -15,9 +15,10 @@ use Rattle.openings.specs.declared.init.ServerInit.{ServerInit}
 use Rattle.openings.specs.declared.opening.Flaw.{Flaw}
 use Rattle.openings.specs.declared.part.Part.{Part}
 use Rattle.openings.specs.Listed.{transactions, listed_history}
-use Rattle.openings.specs.Servers.{number_of, source_of, sources, follow_on, reached_from, root_of, parts_of, parts_at, count_under, count_of, count_at, history_at, log_at, exec_of, read_of}
+use Rattle.openings.specs.Servers.{number_of, source_of, sources, follow_on, reached_from, root_of, parts_of, parts_at, count_under, count_of, count_at, history_at, log_at, log_in, exec_of, read_of}
+use Rattle.openings.specs.Logs.{laid}
 use Rattle.openings.specs.Kin.{histories_agree, agrees_with, is_home, is_kin, all_below}
-use Rattle.openings.specs.Flaws.{at_server, at_source, of_source, both_given, source_not_logging, is_reached, is_reached_on, below_itself, too_many, bad_flushes, has_place_of, bad_coords_in, bad_coords, not_kin, flaws, first_met, flaw_or, first_flaw, flaw_in}
+use Rattle.openings.specs.Flaws.{at_server, at_source, of_source, both_given, source_not_logging, is_reached, is_reached_on, below_itself, too_many, bad_flushes, bad_purged, has_place_of, bad_coords_in, bad_coords, not_kin, flaws, first_met, flaw_or, first_flaw, flaw_in}
 use Rattle.openings.specs.Opening.{Opened, IsListed, IsChecked}
 use Rattle.openings.specs.Sound.{IsUnder, IsSound}
 use Rattle.openings.proofs.ListedCounts.{length-listed_history}
@@ -60,6 +61,7 @@ pub record IsFlawless (servers : List ServerInit) : Type 0 where
   pub ends : (n : ℕ) (i : ServerInit) → slice_get servers n ≡ Some i → below_itself servers n ≡ false
   pub few : (n : ℕ) (i : ServerInit) → slice_get servers n ≡ Some i → too_many servers i ≡ false
   pub flushes : (n : ℕ) (i : ServerInit) → slice_get servers n ≡ Some i → bad_flushes i ≡ false
+  pub purged : (n : ℕ) (i : ServerInit) → slice_get servers n ≡ Some i → bad_purged servers n i ≡ false
   pub coords : (n : ℕ) (i : ServerInit) → slice_get servers n ≡ Some i → bad_coords servers i ≡ false
   pub kin : (n : ℕ) (i : ServerInit) → slice_get servers n ≡ Some i → not_kin servers n i ≡ false
 
@@ -69,7 +71,8 @@ flawless servers none = record {
   logs = clear servers none 1 _ refl;
   ends = clear servers none 2 _ refl;
   few = clear servers none 4 _ refl;
-  flushes = clear servers none 5 _ refl;
+  flushes = λ n i at. (or_parts (bad_flushes i) (bad_purged servers n i) (clear servers none 5 _ refl n i at)).0;
+  purged = λ n i at. (or_parts (bad_flushes i) (bad_purged servers n i) (clear servers none 5 _ refl n i at)).1;
   coords = clear servers none 6 _ refl;
   kin = clear servers none 7 _ refl;
 }
@@ -270,6 +273,21 @@ module _ (o : Opened) (listed : IsListed o) (fair : IsFlawless o.servers) where
       go None h = refl
       go (Some ps) h = cc
 
+  -- the first kept file is one of the log's
+  kept : (n : ℕ) (i : ServerInit) → slice_get o.servers n ≡ Some i → (1 ≤ i.purged) × (i.purged ≤ (log_at o.servers n).files)
+  kept n i at = ((listed.each n i at).purged, go i.settings.logs refl (fair.purged n i at))
+    where
+      log : log_at o.servers n ≡ cond i.settings.logs (laid i.settings.limit i.flushes (history_at o.servers n)) (opened i.settings.limit)
+      log = ap (log_in o.servers n) at
+
+      go : (logs : Bool) → i.settings.logs ≡ logs → cond logs (nat_lt (log_at o.servers n).files i.purged) (nat_lt 1 i.purged) ≡ false → i.purged ≤ (log_at o.servers n).files
+      go true is fits = ltb-false (log_at o.servers n).files i.purged fits
+      go false is fits =
+          let empty : log_at o.servers n ≡ opened i.settings.limit = log ∙ ap (λ b. cond b (laid i.settings.limit i.flushes (history_at o.servers n)) (opened i.settings.limit)) is in
+          let one : (log_at o.servers n).files ≡ 1 = ap (λ (l : Log). l.files) empty in
+          let few = ltb-false 1 i.purged fits in
+          omega arith
+
   pub sound-flawless : IsSound o.servers
   sound-flawless = record {
     alone = alone;
@@ -281,6 +299,7 @@ module _ (o : Opened) (listed : IsListed o) (fair : IsFlawless o.servers) where
     agree = agree;
     home = home;
     flushes = fair.flushes;
+    kept = kept;
   }
 
 -- an opening without a flaw is sound

@@ -55,6 +55,14 @@ falls_or_passes bound least (k ∷ ks) = nat_lt k least || nat_lt bound k || fal
 abbrev pub bad_flushes : ServerInit → Bool
 bad_flushes i = if i.settings.logs then falls_or_passes (count_of i) 0 i.flushes else nat_lt 0 (length i.flushes)
 
+-- the first kept file is above the number of the log's files, or above 1 at a server without a log
+abbrev pub bad_purged : List ServerInit → ℕ → ServerInit → Bool
+bad_purged servers n i = if i.settings.logs then nat_lt (log_at servers n).files i.purged else nat_lt 1 i.purged
+
+-- the flush points or the first kept file are out of place
+abbrev pub bad_files : List ServerInit → ℕ → ServerInit → Bool
+bad_files servers n i = bad_flushes i || bad_purged servers n i
+
 abbrev pub has_place_of : Option ℕ → ℕ → Bool
 has_place_of None k = false
 has_place_of (Some j) k = j == k
@@ -77,7 +85,7 @@ flaws servers =
     ∷ (flaw.Loop, λ n i. below_itself servers n)
     ∷ (flaw.OtherCluster, λ n i. other_cluster servers i)
     ∷ (flaw.TooMany, λ n i. too_many servers i)
-    ∷ (flaw.BadPlace, λ n i. bad_flushes i)
+    ∷ (flaw.BadPlace, λ n i. bad_files servers n i)
     ∷ (flaw.BadPlace, λ n i. bad_coords servers i)
     ∷ (flaw.NotKin, λ n i. not_kin servers n i)
     ∷ []

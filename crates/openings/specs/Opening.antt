@@ -39,6 +39,7 @@ pub record IsServer (servers : ℕ) (gtid : Bool) (i : ServerInit) : Type 0 wher
   pub limit_high : i.settings.limit ≤ 1073741824
   pub parts : All (IsPart servers) (parts_of i)
   pub flushes : length i.flushes ≤ 1000000
+  pub purged : 1 ≤ i.purged
   pub source : (m : ServerNo) → i.source ≡ Some m → m.0 < servers
   pub alone : i.source ≡ None → IsAlone i
   pub auto : i.auto ≡ true → gtid ≡ true

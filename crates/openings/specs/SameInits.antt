@@ -7,6 +7,7 @@ pub record IsSameServer (i j : ServerInit) : Type 0 where
   pub settings : i.settings ≡ j.settings
   pub history : i.history ≡ j.history
   pub flushes : i.flushes ≡ j.flushes
+  pub purged : i.purged ≡ j.purged
   pub read_only : i.read_only ≡ j.read_only
   pub up : i.up ≡ j.up
   pub desk : i.desk ≡ j.desk

@@ -35,3 +35,5 @@ pub record IsSound (servers : List ServerInit) : Type 0 where
   pub home : (n : ℕ) (i : ServerInit) (t : Txn) → slice_get servers n ≡ Some i → i.source ≡ None → (k : ℕ) → slice_get (listed_history (parts_of i)) k ≡ Some t → is_home servers t ≡ true
   -- flush points rise, and none passes what was executed; a server without a log has none
   pub flushes : (n : ℕ) (i : ServerInit) → slice_get servers n ≡ Some i → bad_flushes i ≡ false
+  -- the first kept file of each server is one of its log's; a server without a log has the one file of an empty log
+  pub kept : (n : ℕ) (i : ServerInit) → slice_get servers n ≡ Some i → (1 ≤ i.purged) × (i.purged ≤ (log_at servers n).files)

@@ -39,6 +39,8 @@ pub struct ServerInit {
     pub until: Option<Coord>,
     /// After how many of its transactions FLUSH BINARY LOGS was called, in rising or equal order.
     pub flushes: Counts,
+    /// The first file that its binary log keeps: those before it are purged. 1 to 4,294,967,295; 1 without a log.
+    pub purged: u32,
 }
 
 // The same history once more, if there is one.
@@ -86,6 +88,7 @@ impl ServerInit {
             detached: self.detached,
             until: self.until,
             flushes: self.flushes.copy(alloc)?,
+            purged: self.purged,
         })
     }
 
@@ -95,7 +98,7 @@ impl ServerInit {
     {
         self.settings.is_same(&other.settings)
             && same_history(&self.history, &other.history)
-            && self.flushes.is_same(&other.flushes)
+            && (self.flushes.is_same(&other.flushes) && self.purged == other.purged)
             && (self.read_only == other.read_only && self.up == other.up)
             && (self.desk == other.desk && self.feed == other.feed)
     }

@@ -22,8 +22,9 @@ pub enum Flaw {
     OtherCluster,
     /// The server has executed more transactions than its source.
     TooMany,
-    /// The flush points fall, pass the number of transactions, or stand at a server without a log; or the executed
-    /// coordinate hasn't the place of what was executed, or the read one has no place or stands before it.
+    /// The flush points fall, pass the number of transactions, or stand at a server without a log; or the first kept
+    /// file is above the last one of the log, or above 1 at a server without a log; or the executed coordinate hasn't
+    /// the place of what was executed, or the read one has no place or stands before it.
     BadPlace,
     /// The server's history isn't kin to those of the others.
     NotKin,
@@ -37,7 +38,10 @@ impl fmt::Display for Flaw {
             Flaw::Loop => write!(f, "a loop of sources"),
             Flaw::OtherCluster => write!(f, "another cluster"),
             Flaw::TooMany => write!(f, "more transactions than the source has"),
-            Flaw::BadPlace => write!(f, "a coordinate or a flush point out of place"),
+            Flaw::BadPlace => write!(
+                f,
+                "a flush point, a first kept file or a coordinate out of place"
+            ),
             Flaw::NotKin => write!(f, "a history that isn't kin to the others"),
         }
     }

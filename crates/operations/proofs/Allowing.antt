@@ -4,9 +4,9 @@ use Rattle.std.specs.Prelude.{nat_lt}
 use Rattle.binlog_coords.specs.declared.Coord.{Coord}
 use Rattle.orch_base.specs.declared.server.Moment.{Moment}
 use Rattle.orch_base.specs.declared.server.ServerNo.{ServerNo}
-use Rattle.instance_keeper.specs.declared.observation.Observation.{Observation}
+use Rattle.kept_rows.specs.declared.observation.Observation.{Observation}
 use Rattle.server_words.specs.declared.status.Status.{Status}
-use Rattle.instance_keeper.specs.Seeing.{seen_in}
+use Rattle.kept_rows.specs.Seeing.{seen_in}
 use Rattle.server_words.specs.declared.answers.Unreachable.{Unreachable}
 use Rattle.server_words.specs.declared.attach.AttachFault.{AttachFault}
 use Rattle.server_words.specs.declared.changes.Ask.{Ask}
@@ -19,10 +19,9 @@ use Rattle.commands.specs.declared.cause.Cause.TheVariants as cause
 use Rattle.operations.specs.declared.op.Op.{Op}
 use Rattle.operations.specs.Deeds as deed
 use Rattle.operations.specs.Deeds.{Deed, deed_of}
-use Rattle.instance_keeper.specs.Bridges.{bridge_in}
 use Rattle.operations.specs.Jobs.{Job, seen_of}
 use Rattle.operations.specs.Targets.{can_attach}
-use Rattle.operations.specs.Turns.{Turned, Goes, Stops, settled, next, saw, restarts, observed, is_moved, after_status, after_look, after_ask, aim_of, is_reached, until_by, after_until, after_wait_by, after_wait, holds_seen, settles, read_by, crossed, same_again, by_set, attach_answer_of, after_answer, after_attach, by_deed, by_ops, turned}
+use Rattle.operations.specs.Turns.{Turned, Goes, Stops, settled, next, saw, restarts, observed, is_moved, after_status, after_look, after_ask, aim_of, is_reached, until_by, after_until, after_wait_by, after_wait, holds_seen, settles, read_by, bridge_at, crossed, same_again, by_set, attach_answer_of, after_answer, after_attach, by_deed, by_ops, turned}
 use Rattle.operations.proofs.Targets.{can-allowed}
 
 pub restarts-allowed : (w : World) (hands : List ServerNo) → AllAllowed w (restarts hands)
@@ -80,7 +79,7 @@ module _ (w : World) (j : Job) (rest : List Op) where
   deed-allowed read now (deed.Await n to) = wait-allowed n (λ s. is_reached (aim_of j.seen to) s.exec) (seen_in (status w n.0))
   deed-allowed read now (deed.AwaitSet n m) = wait-allowed n (holds_seen (seen_of j.seen m.0)) (seen_in (status w n.0))
   deed-allowed read now (deed.Settle n) = wait-allowed n (settles j) (seen_in (status w n.0))
-  deed-allowed read now (deed.Cross c a b) = attach-allowed a (crossed c a (bridge_in (read_by c a b) (seen_of j.seen (read_by c a b).0)))
+  deed-allowed read now (deed.Cross c a b) = attach-allowed a (crossed c a (bridge_at (read_by c a b) (seen_of j.seen (read_by c a b).0)))
   deed-allowed read now (deed.Same n) = attach-allowed n (same_again n (seen_of j.seen n.0))
   deed-allowed read now (deed.Auto n m) = attach-allowed n (by_set n m (seen_of j.seen m.0))
   deed-allowed read now (deed.Finish lines) = tt

@@ -6,9 +6,9 @@ use Rattle.std.proofs.lemmas.List.Elements.{All-nil, All-cons, All-head, All-tai
 use Rattle.binlog_coords.specs.declared.Coord.{Coord}
 use Rattle.orch_base.specs.declared.server.Moment.{Moment}
 use Rattle.orch_base.specs.declared.server.ServerNo.{ServerNo}
-use Rattle.instance_keeper.specs.declared.observation.Observation.{Observation}
+use Rattle.kept_rows.specs.declared.observation.Observation.{Observation}
 use Rattle.server_words.specs.declared.status.Status.{Status}
-use Rattle.instance_keeper.specs.Seeing.{seen_in}
+use Rattle.kept_rows.specs.Seeing.{seen_in}
 use Rattle.server_words.specs.declared.answers.Unreachable.{Unreachable}
 use Rattle.server_words.specs.declared.attach.AttachFault.{AttachFault}
 use Rattle.server_words.specs.declared.attach.Spot.TheVariants as spot
@@ -23,14 +23,14 @@ use Rattle.commands.specs.declared.cause.Cause.TheVariants as cause
 use Rattle.operations.specs.declared.op.Crossing.{Crossing}
 use Rattle.operations.specs.declared.op.Crossing.TheVariants as cross
 use Rattle.operations.specs.declared.op.Op.{Op}
+use Rattle.operations.specs.declared.sight.Position.{Position}
 use Rattle.instance_keeper.specs.declared.bridge.Bridge.{Bridge}
 use Rattle.operations.specs.Deeds as deed
 use Rattle.operations.specs.Deeds.{Deed, deed_of}
 use Rattle.orch_base.specs.declared.server.SourceState.{SourceState}
 use Rattle.orch_base.specs.declared.server.SourceState.TheVariants.{Without, Attached, Detached}
-use Rattle.instance_keeper.specs.Bridges.{bridge_in}
 use Rattle.operations.specs.Jobs.{Job, seen_of, without}
-use Rattle.operations.specs.Turns.{Turned, Goes, Stops, settled, next, saw, going, restarts, failed, observed, is_moved, after_status, after_look, hands_after, after_ask, aim_of, is_reached, until_by, after_until, after_wait_by, after_wait, holds_seen, settles, read_by, crossed, attached_anew, same_again, by_set, attach_answer_of, after_answer, after_attach, by_deed, by_ops, turned}
+use Rattle.operations.specs.Turns.{Turned, Goes, Stops, settled, next, saw, going, restarts, failed, observed, is_moved, after_status, after_look, hands_after, after_ask, aim_of, is_reached, until_by, after_until, after_wait_by, after_wait, holds_seen, settles, read_by, bridge_at, crossed, attached_anew, same_again, by_set, attach_answer_of, after_answer, after_attach, by_deed, by_ops, turned}
 use Rattle.operations.specs.Targets.{can_attach}
 use Rattle.operations.specs.Changes.{change_of, server_of}
 use Rattle.std.proofs.lemmas.Option.{same_Some}
@@ -133,11 +133,11 @@ anew-server n c Without e h = cc
 anew-server n c (Attached m) e h = sym (ap server_of (same_Some (Attach n.0 (spot.At m c) m c) e h))
 anew-server n c (Detached m) e h = sym (ap server_of (same_Some (Attach n.0 (spot.At m c) m c) e h))
 
-same-server : (n : ServerNo) (o : Option Status) (e : Exchange) → same_again n o ≡ Some e → server_of e ≡ n.0
+same-server : (n : ServerNo) (o : Option Position) (e : Exchange) → same_again n o ≡ Some e → server_of e ≡ n.0
 same-server n None e h = cc
 same-server n (Some s) e h = anew-server n s.exec s.source e h
 
-set-server : (n m : ServerNo) (o : Option Status) (e : Exchange) → by_set n m o ≡ Some e → server_of e ≡ n.0
+set-server : (n m : ServerNo) (o : Option Position) (e : Exchange) → by_set n m o ≡ Some e → server_of e ≡ n.0
 set-server n m None e h = cc
 set-server n m (Some s) e h = sym (ap server_of (same_Some (AttachAuto n.0 s.set m) e h))
 
@@ -151,8 +151,8 @@ deed-stays P w read now j rest (deed.Await n to) here ops all hands = wait-stays
 deed-stays P w read now j rest (deed.AwaitSet n m) here ops all hands = wait-stays P j rest ops hands n (holds_seen (seen_of j.seen m.0)) (seen_in (status w n.0)) all
 deed-stays P w read now j rest (deed.Settle n) here ops all hands = wait-stays P j rest ops hands n (settles j) (seen_in (status w n.0)) all
 deed-stays P w read now j rest (deed.Cross c a b) here ops all hands =
-    attach-stays P j rest ops hands w a (crossed c a (bridge_in (read_by c a b) (seen_of j.seen (read_by c a b).0)))
-    (crossed-server c a (bridge_in (read_by c a b) (seen_of j.seen (read_by c a b).0))) here
+    attach-stays P j rest ops hands w a (crossed c a (bridge_at (read_by c a b) (seen_of j.seen (read_by c a b).0)))
+    (crossed-server c a (bridge_at (read_by c a b) (seen_of j.seen (read_by c a b).0))) here
 deed-stays P w read now j rest (deed.Same n) here ops all hands =
     attach-stays P j rest ops hands w n (same_again n (seen_of j.seen n.0)) (same-server n (seen_of j.seen n.0)) here
 deed-stays P w read now j rest (deed.Auto n m) here ops all hands =

@@ -4,9 +4,9 @@ use Rattle.std.specs.Prelude.{nat_lt}
 use Rattle.std.proofs.lemmas.Bool.{false≢true, ltb-true}
 use Rattle.orch_base.specs.declared.server.Moment.{Moment}
 use Rattle.orch_base.specs.declared.server.ServerNo.{ServerNo}
-use Rattle.instance_keeper.specs.declared.observation.Observation.{Observation}
+use Rattle.kept_rows.specs.declared.observation.Observation.{Observation}
 use Rattle.server_words.specs.declared.status.Status.{Status}
-use Rattle.instance_keeper.specs.Seeing.{seen_in}
+use Rattle.kept_rows.specs.Seeing.{seen_in}
 use Rattle.binlog_coords.specs.declared.Coord.{Coord}
 use Rattle.server_words.specs.declared.answers.Unreachable.{Unreachable}
 use Rattle.server_words.specs.declared.attach.AttachFault.{AttachFault}
@@ -21,9 +21,8 @@ use Rattle.commands.specs.declared.cause.Cause.TheVariants as cause
 use Rattle.operations.specs.declared.op.Op.{Op}
 use Rattle.operations.specs.Deeds as deed
 use Rattle.operations.specs.Deeds.{Deed, deed_of}
-use Rattle.instance_keeper.specs.Bridges.{bridge_in}
 use Rattle.operations.specs.Jobs.{Job, seen_of}
-use Rattle.operations.specs.Turns.{Goes, Stops, settled, next, saw, going, failed, observed, is_moved, after_status, after_look, after_ask, aim_of, is_reached, until_by, after_until, after_wait_by, after_wait, holds_seen, settles, read_by, crossed, same_again, by_set, attach_answer_of, after_answer, after_attach, by_deed, by_ops, turned}
+use Rattle.operations.specs.Turns.{Goes, Stops, settled, next, saw, going, failed, observed, is_moved, after_status, after_look, after_ask, aim_of, is_reached, until_by, after_until, after_wait_by, after_wait, holds_seen, settles, read_by, bridge_at, crossed, same_again, by_set, attach_answer_of, after_answer, after_attach, by_deed, by_ops, turned}
 use Rattle.operations.specs.Targets.{can_attach}
 use Rattle.operations.specs.Ending.{turns_for, MovesOn}
 
@@ -87,7 +86,7 @@ module _ (j : Job) (rest : List Op) (counted : j.waited ≤ j.wait) (count : tur
   deed-moves w read now (deed.Await n to) = wait-moves n (λ s. is_reached (aim_of j.seen to) s.exec) (seen_in (status w n.0))
   deed-moves w read now (deed.AwaitSet n m) = wait-moves n (holds_seen (seen_of j.seen m.0)) (seen_in (status w n.0))
   deed-moves w read now (deed.Settle n) = wait-moves n (settles j) (seen_in (status w n.0))
-  deed-moves w read now (deed.Cross c a b) = attach-moves w a (crossed c a (bridge_in (read_by c a b) (seen_of j.seen (read_by c a b).0)))
+  deed-moves w read now (deed.Cross c a b) = attach-moves w a (crossed c a (bridge_at (read_by c a b) (seen_of j.seen (read_by c a b).0)))
   deed-moves w read now (deed.Same n) = attach-moves w n (same_again n (seen_of j.seen n.0))
   deed-moves w read now (deed.Auto n m) = attach-moves w n (by_set n m (seen_of j.seen m.0))
   deed-moves w read now (deed.Finish lines) = record { waited = counted; wait = refl; fewer = λ h. absurd (false≢true h) }

@@ -6,7 +6,7 @@ use Rattle.binlog_coords.specs.Log.{has_place}
 use Rattle.server_model.specs.declared.server.Server.{Server}
 use Rattle.server_model.specs.Attach.{IsTarget}
 use Rattle.server_model.specs.Gtids.{IsAutoTarget}
-use Rattle.server_model.specs.Run.{Exchange, Write, Fetch, Apply, Request, Befall, Rotate, Attach, AttachAuto, Allowed}
+use Rattle.server_model.specs.Run.{Exchange, Write, Fetch, Apply, Request, Befall, Rotate, Purge, Attach, AttachAuto, Allowed}
 use Rattle.server_model.specs.Worlds.{World, server_at}
 use Rattle.operations.specs.Targets.{logs_by, places_by, can_attach}
 use Rattle.operations.proofs.Tests.{both}
@@ -37,6 +37,7 @@ can-allowed w (Apply n) h = absurd (false≢true h)
 can-allowed w (Request n a) h = absurd (false≢true h)
 can-allowed w (Befall n e) h = absurd (false≢true h)
 can-allowed w (Rotate n) h = absurd (false≢true h)
+can-allowed w (Purge n file) h = absurd (false≢true h)
 
 pub target-can : (w : World) (to : ℕ) (at : Coord) → IsTarget w to at → places_by (server_at w to) at ≡ true
 target-can w to at t = ap (λ o. places_by o at) t.there ∙ both t.target.settings.logs (has_place t.target.log.log at) t.logs t.place

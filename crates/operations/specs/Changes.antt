@@ -1,7 +1,7 @@
 -- Which server an operation may change, and which an exchange is with.
 use Rattle.std.specs.Prelude.{ℕ, Option, Some, None}
 use Rattle.orch_base.specs.declared.server.ServerNo.{ServerNo}
-use Rattle.server_model.specs.Run.{Exchange, Write, Fetch, Apply, Request, Befall, Rotate, Attach, AttachAuto}
+use Rattle.server_model.specs.Run.{Exchange, Write, Fetch, Apply, Request, Befall, Rotate, Purge, Attach, AttachAuto}
 use Rattle.operations.specs.Deeds as deed
 use Rattle.operations.specs.Deeds.{Deed}
 
@@ -26,5 +26,6 @@ server_of (Apply n) = n
 server_of (Request n a) = n
 server_of (Befall n e) = n
 server_of (Rotate n) = n
+server_of (Purge n file) = n
 server_of (Attach n expect to at) = n
 server_of (AttachAuto n observed to) = n

@@ -3,6 +3,7 @@ use Rattle.std.specs.Prelude.{ℕ, ◌==◌, not, if◌then◌else◌, List, [],
 use Rattle.orch_base.specs.declared.server.ServerNo.{ServerNo}
 use Rattle.server_words.specs.declared.status.Status.{Status}
 use Rattle.operations.specs.declared.op.Op.{Op}
+use Rattle.operations.specs.declared.sight.Position.{Position}
 use Rattle.operations.specs.declared.sight.Sight.{Sight}
 
 -- A job: its number, how many waits one operation has, the operations that are left, the latest that it saw of each
@@ -15,8 +16,12 @@ pub record Job : Type 0 where
   pub waited : ℕ
   pub hands : List ServerNo
 
+-- where a server stood, by one status
+abbrev pub position_of : Status → Position
+position_of s = record { own_end = s.own_end; source = s.source; exec = s.exec; set = s.set }
+
 -- what was seen of a server
-abbrev pub seen_of : List Sight → ℕ → Option Status
+abbrev pub seen_of : List Sight → ℕ → Option Position
 seen_of [] n = None
 seen_of (x ∷ xs) n = if x.no.0 == n then Some x.seen else seen_of xs n
 
@@ -24,7 +29,7 @@ abbrev pub others : List Sight → ServerNo → List Sight
 others xs n = filter (λ x. not (x.no.0 == n.0)) xs
 
 -- this is the latest that was seen of a server
-abbrev pub with_seen : List Sight → ServerNo → Status → List Sight
+abbrev pub with_seen : List Sight → ServerNo → Position → List Sight
 with_seen xs n seen = others xs n ++ record { no = n; seen = seen } ∷ []
 
 -- the hands without a server

@@ -3,7 +3,7 @@ use Rattle.std.specs.Prelude.{Bool, false, ◌&&◌, Option, Some, None}
 use Rattle.binlog_coords.specs.declared.Coord.{Coord}
 use Rattle.binlog_coords.specs.Log.{has_place}
 use Rattle.server_model.specs.declared.server.Server.{Server}
-use Rattle.server_model.specs.Run.{Exchange, Write, Fetch, Apply, Request, Befall, Rotate, Attach, AttachAuto}
+use Rattle.server_model.specs.Run.{Exchange, Write, Fetch, Apply, Request, Befall, Rotate, Purge, Attach, AttachAuto}
 use Rattle.server_model.specs.Worlds.{World, server_at}
 
 -- a server is there and logs
@@ -27,3 +27,4 @@ can_attach w (Apply n) = false
 can_attach w (Request n a) = false
 can_attach w (Befall n e) = false
 can_attach w (Rotate n) = false
+can_attach w (Purge n file) = false

@@ -11,9 +11,9 @@ use Rattle.orch_base.specs.declared.server.Moment.{Moment}
 use Rattle.orch_base.specs.declared.server.ServerNo.{ServerNo}
 use Rattle.orch_base.specs.declared.server.SourceState.{SourceState}
 use Rattle.orch_base.specs.declared.server.SourceState.TheVariants.{Without, Attached, Detached}
-use Rattle.instance_keeper.specs.declared.observation.Observation.{Observation}
+use Rattle.kept_rows.specs.declared.observation.Observation.{Observation}
 use Rattle.server_words.specs.declared.status.Status.{Status}
-use Rattle.instance_keeper.specs.Seeing.{seen_in}
+use Rattle.kept_rows.specs.Seeing.{seen_in}
 use Rattle.server_words.specs.declared.answers.Unreachable.{Unreachable}
 use Rattle.server_words.specs.declared.attach.AttachFault.{AttachFault}
 use Rattle.server_words.specs.declared.attach.AttachFault.TheVariants as attaching
@@ -23,7 +23,7 @@ use Rattle.server_words.specs.declared.changes.Ask.TheVariants as asking
 use Rattle.server_model.specs.Attach.{attach_at}
 use Rattle.server_model.specs.Desk.{desk_answer}
 use Rattle.server_model.specs.Gtids.{status, attach_auto}
-use Rattle.server_model.specs.Run.{Exchange, Write, Fetch, Apply, Request, Befall, Rotate, Attach, AttachAuto}
+use Rattle.server_model.specs.Run.{Exchange, Write, Fetch, Apply, Request, Befall, Rotate, Purge, Attach, AttachAuto}
 use Rattle.server_model.specs.Worlds.{World, server_at}
 use Rattle.commands.specs.declared.line.Line.{Line}
 use Rattle.commands.specs.declared.cause.Cause.{Cause}
@@ -36,12 +36,13 @@ use Rattle.operations.specs.declared.op.Crossing.{Crossing}
 use Rattle.operations.specs.declared.op.Crossing.TheVariants as cross
 use Rattle.operations.specs.declared.op.Op.{Op}
 use Rattle.instance_keeper.specs.declared.bridge.Bridge.{Bridge}
+use Rattle.operations.specs.declared.sight.Position.{Position}
 use Rattle.operations.specs.declared.sight.Sight.{Sight}
 use Rattle.operations.specs.Deeds as deed
 use Rattle.operations.specs.Deeds.{Deed, deed_of}
-use Rattle.operations.specs.Jobs.{Job, seen_of, with_seen, without, with_hand}
+use Rattle.operations.specs.Jobs.{Job, position_of, seen_of, with_seen, without, with_hand}
 use Rattle.operations.specs.Targets.{can_attach}
-use Rattle.instance_keeper.specs.Bridges.{bridge_in}
+use Rattle.instance_keeper.specs.Bridges.{bridge_by}
 
 -- What a turn of a job comes to, what it observed for the book, the exchanges that changed servers, in order, and the
 -- job after it.
@@ -55,15 +56,18 @@ pub record Turned : Type 0 where
 abbrev pub is_going : JobStep → Bool
 is_going step.Going = true
 is_going (step.Done lines) = false
-is_going (step.Failed c) = false
+is_going (step.Failed c lines) = false
 
 -- the job with its operation done
 abbrev pub next : Job → List Op → Job
 next j rest = record j { ops = rest; waited = 0 }
 
--- the job that saw this of a server
+-- the job that saw a server at this position, or so by a status
+abbrev pub saw_at : Job → ServerNo → Position → Job
+saw_at j n seen = record j { seen = with_seen j.seen n seen }
+
 abbrev pub saw : Job → ServerNo → Status → Job
-saw j n seen = record j { seen = with_seen j.seen n seen }
+saw j n s = saw_at j n (position_of s)
 
 abbrev pub going : Option Observation → List Exchange → Job → Turned
 going o es j = record { step = step.Going; observation = o; exchanges = es; job = j }
@@ -76,7 +80,7 @@ abbrev pub ended : Job → Job
 ended j = record j { ops = []; hands = [] }
 
 abbrev pub failed : Job → Cause → Option Observation → Turned
-failed j c o = record { step = step.Failed c; observation = o; exchanges = restarts j.hands; job = ended j }
+failed j c o = record { step = step.Failed c []; observation = o; exchanges = restarts j.hands; job = ended j }
 
 -- What an operation comes to: the job goes on, after what was observed and these exchanges; it stops for a cause, with
 -- what was observed, and nothing is done; or it ends.
@@ -138,7 +142,7 @@ is_reached None exec = false
 is_reached (Some to) exec = is_at_or_before to exec
 
 -- where a server is to go, where it was seen before it
-abbrev pub until_by : Option Status → Option Coord → Option Coord
+abbrev pub until_by : Option Position → Option Coord → Option Coord
 until_by None to = None
 until_by (Some s) None = None
 until_by (Some s) (Some to) = if is_at_or_before to s.exec then None else Some to
@@ -174,7 +178,7 @@ abbrev pub is_within : List Interval → List Interval → Bool
 is_within xs ys = list_all (has_all ys) xs
 
 -- the server's set holds all that was seen of another
-abbrev pub holds_seen : Option Status → Status → Bool
+abbrev pub holds_seen : Option Position → Status → Bool
 holds_seen None s = false
 holds_seen (Some m) s = is_within m.set s.set
 
@@ -203,9 +207,14 @@ crossed cross.Down a (Some b) = Some (Attach a.0 (spot.At b.source b.exec) b.no 
 crossed cross.About a (Some b) = Some (Attach a.0 (spot.OwnEnd b.exec) b.no b.own)
 crossed cross.Back a (Some b) = Some (Attach a.0 (spot.OwnEnd b.own) b.source b.exec)
 
+-- the bridge that was seen of a server that logs and has a source, attached or detached
+abbrev pub bridge_at : ServerNo → Option Position → Option Bridge
+bridge_at n None = None
+bridge_at n (Some s) = bridge_by n s.own_end s.source s.exec
+
 -- what a crossing makes of what was seen
 abbrev pub crossing_of : List Sight → Crossing → ServerNo → ServerNo → Option Exchange
-crossing_of xs c a b = crossed c a (bridge_in (read_by c a b) (seen_of xs (read_by c a b).0))
+crossing_of xs c a b = crossed c a (bridge_at (read_by c a b) (seen_of xs (read_by c a b).0))
 
 abbrev pub attached_anew : ServerNo → Coord → SourceState → Option Exchange
 attached_anew n exec Without = None
@@ -213,12 +222,12 @@ attached_anew n exec (Attached m) = Some (Attach n.0 (spot.At m exec) m exec)
 attached_anew n exec (Detached m) = Some (Attach n.0 (spot.At m exec) m exec)
 
 -- a server goes on under its own source, where it was seen
-abbrev pub same_again : ServerNo → Option Status → Option Exchange
+abbrev pub same_again : ServerNo → Option Position → Option Exchange
 same_again n None = None
 same_again n (Some s) = attached_anew n s.exec s.source
 
 -- a server goes below another by the set that was seen of that one
-abbrev pub by_set : ServerNo → ServerNo → Option Status → Option Exchange
+abbrev pub by_set : ServerNo → ServerNo → Option Position → Option Exchange
 by_set n m None = None
 by_set n m (Some s) = Some (AttachAuto n.0 s.set m)
 
@@ -231,6 +240,7 @@ attach_answer_of w (Apply n) = Ok tt
 attach_answer_of w (Request n a) = Ok tt
 attach_answer_of w (Befall n e) = Ok tt
 attach_answer_of w (Rotate n) = Ok tt
+attach_answer_of w (Purge n file) = Ok tt
 
 -- why a job stops whose attachment answered a fault; no world answers the last one, which is want of memory
 abbrev pub cause_by : ServerNo → AttachFault → Cause
@@ -239,6 +249,7 @@ cause_by n (attaching.Running at) = cause.Running n
 cause_by n (attaching.Interfered expected found) = cause.Interfered n expected found
 cause_by n attaching.Loop = cause.Loop n
 cause_by n (attaching.Errant set) = cause.Errant n set
+cause_by n (attaching.Purged first) = cause.Purged n first
 cause_by n attaching.Memory = cause.Unreachable n
 
 abbrev pub after_answer : Job → List Op → ServerNo → Exchange → Result (Unit {0}) AttachFault → Attempt

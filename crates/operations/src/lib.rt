@@ -9,5 +9,5 @@ mod threads;
 
 pub use laws::{jobs_end, jobs_stay_in_range, turns_are_allowed};
 pub use op::{Aim, Crossing, Op};
-pub use sight::Sight;
+pub use sight::{Position, Sight};
 pub use step::JobStep;

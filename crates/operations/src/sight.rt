@@ -1,13 +1,26 @@
 //! What a job saw of servers.
 
-use orch_base::ServerNo;
-use server_words::Status;
+use binlog_coords::Coord;
+use gtid_sets::GtidSet;
+use orch_base::{ServerNo, SourceState};
+
+/// Where a server stood by one status.
+#[derive(Drop)]
+pub struct Position {
+    /// The end of its own binary log; none where it doesn't log.
+    pub own_end: Option<Coord>,
+    pub source: SourceState,
+    /// How far it had executed its source's log.
+    pub exec: Coord,
+    /// What it had executed, where GTIDs are used.
+    pub set: GtidSet,
+}
 
 /// What a job saw of a server.
 #[derive(Drop)]
 pub struct Sight {
     /// The server.
     pub no: ServerNo,
-    /// What its status showed.
-    pub seen: Status,
+    /// Where it stood.
+    pub seen: Position,
 }

@@ -9,6 +9,6 @@ pub enum JobStep {
     Going,
     /// The job is done, and answers these lines.
     Done(Lines),
-    /// The job failed, for this cause.
-    Failed(Cause),
+    /// The job failed, for this cause, after these lines: those of the hooks that ran.
+    Failed(Cause, Lines),
 }

@@ -34,6 +34,14 @@ pub enum CauseName {
     Reachable,
     /// No replica may be promoted.
     NoCandidate,
+    /// The new source has purged the file that a server was to go on in.
+    Purged,
+    /// The logs have no unique entry in common by which they could be matched.
+    NoMark,
+    /// The logs differ behind the unique entry by which they were matched.
+    Mismatch,
+    /// A hook that ran before the recovery answered that it isn't to go on.
+    HookFailed,
 }
 
 /// How a recovery ended.

@@ -89,6 +89,8 @@ pub struct Settings {
     pub logs: bool,
     /// The size at which a file of the binary log is full, `max_binlog_size`: 100 to 1,073,741,824 bytes.
     pub limit: u64,
+    /// The data centre that the server stands in: 0 to 255 bytes, empty where none is told.
+    pub dc: OwnedText,
 }
 
 impl Settings {
@@ -106,6 +108,7 @@ impl Settings {
             cluster: self.cluster.copy(alloc)?,
             logs: self.logs,
             limit: self.limit,
+            dc: self.dc.copy(alloc)?,
         })
     }
 
@@ -114,7 +117,7 @@ impl Settings {
         ensures { IsTrue result ↔ (self.now ≡ other.now) }
     {
         self.name.is_same(&other.name)
-            && self.cluster.is_same(&other.cluster)
+            && (self.cluster.is_same(&other.cluster) && self.dc.is_same(&other.dc))
             && (self.uuid == other.uuid && self.server_id == other.server_id)
             && (self.version == other.version && self.logs == other.logs)
             && self.limit == other.limit

@@ -3,7 +3,8 @@ use Rattle.std.proofs.Common.{◌≡◌, ℕ, ◌<◌, ◌^◌, true, length, re
 use Rattle.commands.specs.declared.turn.Command.{Command}
 use Rattle.commands.specs.Turns.{is_within}
 use Rattle.command_routes.specs.declared.route.Planner.{Planner}
-use Rattle.command_routes.specs.declared.route.Planner.TheVariants.{Coordinates, Gtids, Paths, Regroups}
+use Rattle.command_routes.specs.declared.kinds.Regrouping.TheVariants.{ByBridges, ByMatches}
+use Rattle.command_routes.specs.declared.route.Planner.TheVariants.{Coordinates, Gtids, Matches, Paths, Regroups}
 use Rattle.command_jobs.specs.Jobs.{job_by, leases_by, refusal_by, regroup_about}
 use Rattle.command_jobs.proofs.Begun.{job-unended, leases-free, leases-within}
 use Rattle.instance_keeper.specs.Book.{BookState, IsBook}
@@ -11,7 +12,7 @@ use Rattle.orch_base.specs.declared.server.Moment.{Moment}
 use Rattle.orch_base.specs.declared.server.ServerNo.{ServerNo}
 use Rattle.unended_jobs.specs.Unended.{IsUnended}
 use Rattle.server_model.specs.Worlds.{World}
-use Rattle.orch_core.specs.Commands.{MayTake}
+use Rattle.orch_core.specs.Knowing.{MayTake}
 use Rattle.orch_core.specs.States.{entry_id}
 
 module _ (w : World) (b : BookState) (now : Moment) (given : Command) (p : Planner) (is : IsBook b) (i_there : is_within (length b.names) given.i ≡ true) (d_there : is_within (length b.names) given.d ≡ true) where
@@ -25,10 +26,12 @@ module _ (w : World) (b : BookState) (now : Moment) (given : Command) (p : Plann
 
 -- a plan has no entry, and neither has a regroup
 pub job-entry : (w : World) (b : BookState) (given : Command) (p : Planner) (id wait : ℕ) → entry_id (job_by w b given p id wait) ≡ None
-job-entry w b given Coordinates id wait = refl
-job-entry w b given Gtids id wait = refl
-job-entry w b given Paths id wait = refl
-job-entry w b given Regroups id wait = about given.i
+job-entry w b given (Coordinates kind) id wait = refl
+job-entry w b given (Gtids kind) id wait = refl
+job-entry w b given (Paths kind) id wait = refl
+job-entry w b given (Regroups ByMatches) id wait = refl
+job-entry w b given (Matches kind) id wait = refl
+job-entry w b given (Regroups ByBridges) id wait = about given.i
   where
     about : (i : Option ServerNo) → entry_id (regroup_about b id wait i) ≡ None
     about None = refl

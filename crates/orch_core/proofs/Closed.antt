@@ -5,7 +5,7 @@ use Rattle.std.specs.Option.{option_map}
 use Rattle.std.proofs.lemmas.Option.{same_Some}
 use Rattle.audit_log.proofs.Changes.{IsAudit-map}
 use Rattle.audit_log.specs.Audits.{AuditState, IsAudit, acked_so, acknowledged_at, ended, ended_so}
-use Rattle.instance_keeper.specs.declared.recovery.Recovery.{Recovery as KeptRecovery}
+use Rattle.kept_rows.specs.declared.recovery.Recovery.{Recovery as KeptRecovery}
 use Rattle.operations.specs.Turns.{is_going}
 use Rattle.operations.specs.declared.step.JobStep.{JobStep}
 use Rattle.orch_base.specs.declared.recovery.Ending.{Ending}
@@ -69,15 +69,23 @@ module _ (a : AuditState) (now : Moment) where
   acked-id r true = refl
   acked-id r false = refl
 
+  ended-block : (id : ℕ) (outcome : Ending) (r : KeptRecovery) (b : Bool) → (cond b (ended_so now outcome r) r).block ≡ r.block
+  ended-block id outcome r true = refl
+  ended-block id outcome r false = refl
+
+  acked-block : (r : KeptRecovery) (b : Bool) → (cond b (acked_so r) r).block ≡ r.block
+  acked-block r true = refl
+  acked-block r false = refl
+
   pub closed_by-is : (o : Option Closing) → IsAudit a → IsAudit (closed_by a now o)
   closed_by-is None is = is
   closed_by-is (Some c) is = go c.acked
     where
       closed : IsAudit (ended a c.id now c.outcome)
-      closed = IsAudit-map (λ r. cond (r.id == c.id) (ended_so now c.outcome r) r) (λ r. ended-id c.id c.outcome r (r.id == c.id)) a is
+      closed = IsAudit-map (λ r. cond (r.id == c.id) (ended_so now c.outcome r) r) (λ r. ended-id c.id c.outcome r (r.id == c.id)) (λ r. ended-block c.id c.outcome r (r.id == c.id)) a is
 
       go : (b : Bool) → IsAudit (if b then acknowledged_at (ended a c.id now c.outcome) c.id else ended a c.id now c.outcome)
-      go true = IsAudit-map (λ r. cond (r.id == c.id) (acked_so r) r) (λ r. acked-id r (r.id == c.id)) (ended a c.id now c.outcome) closed
+      go true = IsAudit-map (λ r. cond (r.id == c.id) (acked_so r) r) (λ r. acked-id r (r.id == c.id)) (λ r. acked-block r (r.id == c.id)) (ended a c.id now c.outcome) closed
       go false = closed
 
   pub closed_by-next : (o : Option Closing) → (closed_by a now o).next ≡ a.next

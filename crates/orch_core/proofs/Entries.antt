@@ -6,7 +6,7 @@ use Rattle.std.proofs.lemmas.List.Elements.{All-head, All-tail}
 use Rattle.std.proofs.lemmas.Option.{same_Some}
 use Rattle.orch_base.specs.declared.recovery.Ending.{Ending}
 use Rattle.orch_base.specs.declared.server.Moment.{Moment}
-use Rattle.instance_keeper.specs.declared.recovery.Recovery.{Recovery}
+use Rattle.kept_rows.specs.declared.recovery.Recovery.{Recovery}
 use Rattle.audit_log.specs.Audits.{AuditState, IsAudit, acked_so, acknowledged, acknowledged_at, acknowledged_for, begun, ended, ended_so, is_of, is_unended}
 use Rattle.audit_log.proofs.Kept.{acknowledged-id}
 use Rattle.unended_jobs.specs.declared.unended.Unended.{Unended}

@@ -10,19 +10,22 @@ use Rattle.std.proofs.lemmas.List.Elements.{All-append, All-cons, All-head, All-
 use Rattle.std.proofs.lemmas.List.Sums.{fold-append}
 use Rattle.orch_base.specs.declared.server.ServerNo.{ServerNo}
 use Rattle.orch_base.specs.Memory.{next_count}
-use Rattle.instance_keeper.specs.declared.row.Row.{Row}
+use Rattle.kept_rows.specs.declared.row.Row.{Row}
 use Rattle.operations.specs.Turns.{is_going}
 use Rattle.unended_jobs.specs.declared.unended.Unended.{Unended}
 use Rattle.unended_jobs.specs.Unended.{Flown, IsUnended, number_of, turns_of as turns_left}
 use Rattle.unended_jobs.proofs.Going.{flown-fewer, flown-number, ready-of}
-use Rattle.turns.specs.declared.turn.Reply.{Reply}
+use Rattle.turns.specs.declared.reply.Reply.{Reply}
 use Rattle.turns.specs.declared.turn.Turn.{Turn}
+use Rattle.turns.specs.declared.turn.Act.{Act}
+use Rattle.turns.specs.declared.turn.Act.TheVariants as act
+use Rattle.turns.specs.declared.turn.Step.TheVariants as step
 use Rattle.turns.specs.declared.turn.Turn.TheVariants as turn
 use Rattle.jobs_in_flight.specs.Jobs.{is_open, job_at, jobs_turned, most_turns, most_turns_by, with_job, without_job}
 use Rattle.orch_core.specs.Jobs.{turn_of, turned_at}
 use Rattle.orch_core.specs.declared.fault.TurnFault.{TurnFault}
 use Rattle.orch_core.specs.declared.fault.TurnFault.TheVariants as fault
-use Rattle.orch_core.specs.Keeping.{Ran, WasCutOff, asks}
+use Rattle.orch_core.specs.Keeping.{act_asks, Ran, WasCutOff, asks}
 use Rattle.name_order.specs.NameOrder.{by_name}
 use Rattle.scenarios.specs.Turns.{IsTurn, pollers}
 use Rattle.orch_core.specs.Replies.{reply_of}
@@ -31,7 +34,8 @@ use Rattle.orch_core.proofs.Runs.{Ran-nil}
 use Rattle.orch_core.proofs.Turned.{All-found}
 use Rattle.orch_core.specs.Rounds.{Finished, FinishedBy, WasCutShort, after_rounds, after_turns, round_of, times, told_in}
 use Rattle.jobs_in_flight.specs.Rounds.{polls, replicates, round_over}
-use Rattle.orch_core.specs.Runs.{Held, LeadsTo, Machine, engine, held_run, held_step, run_turns, step, turns_of}
+use Rattle.orch_core.specs.After.{after_act, step}
+use Rattle.orch_core.specs.Runs.{Held, LeadsTo, Machine, engine, held_run, held_step, run_turns, turns_of}
 use Rattle.orch_core.specs.States.{IsState, State}
 
 -- ---- turns of which none asks for rows lead to one state
@@ -39,37 +43,36 @@ use Rattle.orch_core.specs.States.{IsState, State}
 abbrev pub AsksNothing : List Turn → Type 0
 AsksNothing ts = All (λ t. asks t ≡ false) ts
 
+act-any : (rows : List Row) (s : State) (a : Act) → act_asks a ≡ false → after_act rows s a ≡ after_act [] s a
+act-any rows s (act.PollRead p n) e = refl
+act-any rows s (act.PollStore p) e = refl
+act-any rows s (act.Command c) e = refl
+act-any rows s (act.Job job) e = refl
+act-any rows s act.Scan e = refl
+act-any rows s act.Restart e = absurd (false≢true (sym e))
+
 pub step-any : (rows : List Row) (s : State) (t : Turn) → asks t ≡ false → step rows s t ≡ step [] s t
-step-any rows s (turn.Write n size) e = refl
-step-any rows s (turn.Fetch n) e = refl
-step-any rows s (turn.Apply n) e = refl
-step-any rows s (turn.Fail n) e = refl
-step-any rows s (turn.Heal n) e = refl
-step-any rows s (turn.Cut n link) e = refl
-step-any rows s (turn.Join n link) e = refl
-step-any rows s (turn.Rotate n) e = refl
+step-any rows s (turn.Step x) e = refl
 step-any rows s (turn.Tick seconds) e = refl
-step-any rows s (turn.Job job) e = refl
-step-any rows s turn.Scan e = refl
-step-any rows s (turn.PollRead p n) e = refl
-step-any rows s (turn.PollStore p) e = refl
-step-any rows s (turn.Command c) e = refl
-step-any rows s turn.Restart e = absurd (false≢true (sym e))
+step-any rows s (turn.Act a) e = act-any rows s a e
+step-any rows s (turn.As node a) e = act-any rows s a e
+step-any rows s (turn.Claim node) e = refl
+step-any rows s (turn.Release node) e = refl
 
 -- ---- the jobs after a round
 
 -- a turn of the servers or of a poll leaves the jobs
 jobs-replicates : (s : State) (servers : List ServerNo) → (after_turns s (flat_map replicates servers)).jobs ≡ s.jobs
 jobs-replicates s [] = refl
-jobs-replicates s (n ∷ ns) = jobs-replicates (step [] (step [] s (turn.Fetch n)) (turn.Apply n)) ns
+jobs-replicates s (n ∷ ns) = jobs-replicates (step [] (step [] s (turn.Step (step.Fetch n))) (turn.Step (step.Apply n))) ns
 
 jobs-polls : (s : State) (servers : List ServerNo) → (after_turns s (flat_map polls servers)).jobs ≡ s.jobs
 jobs-polls s [] = refl
-jobs-polls s (n ∷ ns) = jobs-polls (step [] (step [] s (turn.PollRead 0 n)) (turn.PollStore 0)) ns
+jobs-polls s (n ∷ ns) = jobs-polls (step [] (step [] s (turn.Act (act.PollRead 0 n))) (turn.Act (act.PollStore 0))) ns
 
 pub jobs-round : (s : State) (servers : List ServerNo) (job : ℕ) → (after_turns s (round_over servers job)).jobs ≡ jobs_turned s.jobs job (turned_at s job)
 jobs-round s servers job =
-    let first = step [] s (turn.Job job) in
+    let first = step [] s (turn.Act (act.Job job)) in
     ap (λ (x : State). x.jobs) (fold-append (step []) first (flat_map replicates servers) (flat_map polls servers))
     ∙ jobs-polls (after_turns first (flat_map replicates servers)) servers ∙ jobs-replicates first servers
 
@@ -192,14 +195,14 @@ round-fewer s job is opened = go (job_at s.jobs job) refl opened
 
 asks-replicates : (servers : List ServerNo) → AsksNothing (flat_map replicates servers)
 asks-replicates [] = All-nil (λ t. asks t ≡ false)
-asks-replicates (n ∷ ns) = All-cons (λ t. asks t ≡ false) (turn.Fetch n) (turn.Apply n ∷ flat_map replicates ns) refl (All-cons (λ t. asks t ≡ false) (turn.Apply n) (flat_map replicates ns) refl (asks-replicates ns))
+asks-replicates (n ∷ ns) = All-cons (λ t. asks t ≡ false) (turn.Step (step.Fetch n)) (turn.Step (step.Apply n) ∷ flat_map replicates ns) refl (All-cons (λ t. asks t ≡ false) (turn.Step (step.Apply n)) (flat_map replicates ns) refl (asks-replicates ns))
 
 asks-polls : (servers : List ServerNo) → AsksNothing (flat_map polls servers)
 asks-polls [] = All-nil (λ t. asks t ≡ false)
-asks-polls (n ∷ ns) = All-cons (λ t. asks t ≡ false) (turn.PollRead 0 n) (turn.PollStore 0 ∷ flat_map polls ns) refl (All-cons (λ t. asks t ≡ false) (turn.PollStore 0) (flat_map polls ns) refl (asks-polls ns))
+asks-polls (n ∷ ns) = All-cons (λ t. asks t ≡ false) (turn.Act (act.PollRead 0 n)) (turn.Act (act.PollStore 0) ∷ flat_map polls ns) refl (All-cons (λ t. asks t ≡ false) (turn.Act (act.PollStore 0)) (flat_map polls ns) refl (asks-polls ns))
 
 pub asks-round : (servers : List ServerNo) (job : ℕ) → AsksNothing (round_over servers job)
-asks-round servers job = All-cons (λ t. asks t ≡ false) (turn.Job job) (flat_map replicates servers ++ flat_map polls servers) refl (All-append (λ t. asks t ≡ false) (flat_map replicates servers) (flat_map polls servers) (asks-replicates servers) (asks-polls servers))
+asks-round servers job = All-cons (λ t. asks t ≡ false) (turn.Act (act.Job job)) (flat_map replicates servers ++ flat_map polls servers) refl (All-append (λ t. asks t ≡ false) (flat_map replicates servers) (flat_map polls servers) (asks-replicates servers) (asks-polls servers))
 
 -- the turns of a round are turns over the servers
 module _ (count : ℕ) where
@@ -207,17 +210,17 @@ module _ (count : ℕ) where
   turns-replicates [] all = All-nil (IsTurn count)
   turns-replicates (n ∷ ns) all =
       let here = All-head (λ (k : ServerNo). k.0 < count) n ns all in
-      All-cons (IsTurn count) (turn.Fetch n) (turn.Apply n ∷ flat_map replicates ns) here (All-cons (IsTurn count) (turn.Apply n) (flat_map replicates ns) here (turns-replicates ns (All-tail (λ (k : ServerNo). k.0 < count) n ns all)))
+      All-cons (IsTurn count) (turn.Step (step.Fetch n)) (turn.Step (step.Apply n) ∷ flat_map replicates ns) here (All-cons (IsTurn count) (turn.Step (step.Apply n)) (flat_map replicates ns) here (turns-replicates ns (All-tail (λ (k : ServerNo). k.0 < count) n ns all)))
 
   turns-polls : (servers : List ServerNo) → All (λ n. n.0 < count) servers → All (IsTurn count) (flat_map polls servers)
   turns-polls [] all = All-nil (IsTurn count)
   turns-polls (n ∷ ns) all =
       let here = All-head (λ (k : ServerNo). k.0 < count) n ns all in
       let first : 0 < pollers = omega arith in
-      All-cons (IsTurn count) (turn.PollRead 0 n) (turn.PollStore 0 ∷ flat_map polls ns) (first, here) (All-cons (IsTurn count) (turn.PollStore 0) (flat_map polls ns) first (turns-polls ns (All-tail (λ (k : ServerNo). k.0 < count) n ns all)))
+      All-cons (IsTurn count) (turn.Act (act.PollRead 0 n)) (turn.Act (act.PollStore 0) ∷ flat_map polls ns) (first, here) (All-cons (IsTurn count) (turn.Act (act.PollStore 0)) (flat_map polls ns) first (turns-polls ns (All-tail (λ (k : ServerNo). k.0 < count) n ns all)))
 
   pub turns-round : (servers : List ServerNo) (job : ℕ) → All (λ n. n.0 < count) servers → All (IsTurn count) (round_over servers job)
-  turns-round servers job all = All-cons (IsTurn count) (turn.Job job) (flat_map replicates servers ++ flat_map polls servers) tt (All-append (IsTurn count) (flat_map replicates servers) (flat_map polls servers) (turns-replicates servers all) (turns-polls servers all))
+  turns-round servers job all = All-cons (IsTurn count) (turn.Act (act.Job job)) (flat_map replicates servers ++ flat_map polls servers) tt (All-append (IsTurn count) (flat_map replicates servers) (flat_map polls servers) (turns-replicates servers all) (turns-polls servers all))
 
 module _ {A : Type 0} (m : Machine A) (state : A → State) (steps : (rows : List Row) (a : A) (t : Turn) → state (m.next rows a t) ≡ step rows (state a) t) where
   pub Rounds-none : (kept : Option (List Row)) (a : A) (job : ℕ) → Rounds m state kept a job kept a 0
@@ -326,8 +329,8 @@ round-less m state steps kept kept' servers b c job is opened ran =
     omega (arith, fewer_now, most)
 
 -- one more round, and what the job answered in it
-pub told-more : (a b : State) (job k : ℕ) (r : Reply) → b ≡ after_rounds a job k → r ≡ reply_of b (turn.Job job) → Some r ≡ told_in a job (k + 1)
-told-more a b job k r at is = ap Some (is ∙ ap (λ (s : State). reply_of s (turn.Job job)) at) ∙ sym (ap (told_in a job) (add-one k))
+pub told-more : (a b : State) (job k : ℕ) (r : Reply) → b ≡ after_rounds a job k → r ≡ reply_of b (turn.Act (act.Job job)) → Some r ≡ told_in a job (k + 1)
+told-more a b job k r at is = ap Some (is ∙ ap (λ (s : State). reply_of s (turn.Act (act.Job job))) at) ∙ sym (ap (told_in a job) (add-one k))
 
 -- the rounds came to the job's end, and this is what it answered in the last of them
 pub FinishedBy-told : (kept kept' : Option (List Row)) (a b : State) (job k : ℕ) (told : Option Reply) → Rounds engine (λ s. s) kept a job kept' b k → is_open b.jobs job ≡ false → told ≡ told_in a job k → FinishedBy kept a job kept' b told

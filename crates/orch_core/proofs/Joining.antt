@@ -8,10 +8,8 @@ use Rattle.std.proofs.lemmas.List.Elements.{All-cons, All-head, All-nil, All-pus
 use Rattle.audit_log.proofs.Changes.{IsAudit-begun}
 use Rattle.audit_log.proofs.Parting.{apart-begins}
 use Rattle.audit_log.specs.Apart.{MayBegin}
-use Rattle.audit_log.specs.Audits.{AuditRoom, AuditState, IsAudit, begun, is_open, is_unended}
-use Rattle.instance_keeper.specs.Book.{BookState}
-use Rattle.instance_keeper.specs.Leases.{taken}
-use Rattle.instance_keeper.specs.declared.recovery.Recovery.{Recovery as KeptRecovery}
+use Rattle.audit_log.specs.Audits.{AuditState, IsAudit, begun, is_open, is_unended}
+use Rattle.kept_rows.specs.declared.recovery.Recovery.{Recovery as KeptRecovery}
 use Rattle.jobs_in_flight.proofs.Numbers.{Rise-push}
 use Rattle.jobs_in_flight.specs.Jobs.{Rise}
 use Rattle.orch_base.specs.declared.server.ServerNo.{ServerNo}
@@ -28,7 +26,7 @@ use Rattle.recovery_ends.specs.Ends.{IsShaped}
 use Rattle.unended_jobs.specs.Unended.{IsUnended}
 use Rattle.unended_jobs.specs.declared.unended.Unended.{Unended}
 use Rattle.orch_core.specs.declared.command.Update.TheVariants as update
-use Rattle.orch_core.specs.Commands.{audit_updated, jobs_updated, last_job_updated, recovery_job, updated}
+use Rattle.orch_core.specs.Knowing.{Knowledge, recovery_job, updated}
 use Rattle.orch_core.specs.States.{HaveEntries}
 use Rattle.orch_core.proofs.Entries.{entries-joined}
 use Rattle.orch_core.proofs.Recoveries.{HasBegun}
@@ -38,7 +36,7 @@ number_after last xs = fold (λ k x. x.job.core.id) last xs
 
 -- the next id
 next-id : (a : AuditState) (r : KeptRecovery) → MayBegin a r → r.id ≡ a.next
-next-id a r may = (apart-begins r.cluster r.begun.0 may.block a r.id may.answered).0
+next-id a r may = (apart-begins r.cluster r.begun.0 a r.id may.answered).0
 
 -- one more, and then the others
 joined : (jobs : List Unended) (x : Begins) (xs : List Begins) → (jobs ++ recovery_job x ∷ []) ++ map recovery_job xs ≡ jobs ++ map recovery_job (x ∷ xs)
@@ -98,7 +96,7 @@ module _ (count : ℕ) where
   pub joined-audit : (leases : List (Option ℕ)) (a : AuditState) (last : ℕ) (xs : List Begins) → BeginInTurn count leases a last xs → IsAudit a → IsAudit (audit_after a xs)
   joined-audit leases a last [] each is = is
   joined-audit leases a last (x ∷ xs) each is =
-      joined-audit _ (begun a x.entry) x.job.core.id xs each.1 (IsAudit-begun a x.entry (next-id a x.entry each.0.may) is)
+      joined-audit _ (begun a x.entry) x.job.core.id xs each.1 (IsAudit-begun a x.entry (next-id a x.entry each.0.may) each.0.may.short is)
 
   pub joined-entries : (leases : List (Option ℕ)) (a : AuditState) (last : ℕ) (xs : List Begins) (jobs : List Unended) → BeginInTurn count leases a last xs → IsAudit a → HaveEntries a 0 jobs
       → HaveEntries (audit_after a xs) 0 (jobs ++ map recovery_job xs)
@@ -107,7 +105,7 @@ module _ (count : ℕ) where
       let next = next-id a x.entry each.0.may in
       let unended : is_unended x.entry ≡ true = ap (λ o. is_none o || is_open x.entry.outcome) each.0.ended in
       subst (HaveEntries (audit_after (begun a x.entry) xs) 0) (joined jobs x xs)
-      (joined-entries _ (begun a x.entry) x.job.core.id xs (jobs ++ recovery_job x ∷ []) each.1 (IsAudit-begun a x.entry next is)
+      (joined-entries _ (begun a x.entry) x.job.core.id xs (jobs ++ recovery_job x ∷ []) each.1 (IsAudit-begun a x.entry next each.0.may.short is)
       (entries-joined a jobs (recovery_job x) x.entry is next unended refl entries))
 
 -- the next id is in its type's range
@@ -126,22 +124,19 @@ joined-begun a (x ∷ xs) all began =
 -- ---- how far they have begun
 
 -- those that are left lead from here to what all lead to from the beginning, and there is room for them
-pub record Remains (all : List Begins) (b0 : BookState) (a0 : AuditState) (jobs0 : List Unended) (last0 : ℕ) (xs : List Begins) (b : BookState) (a : AuditRoom) (jobs : List Unended) (len cap last : ℕ) : Type 0 where
-  pub can : BeginInTurn (length b.names) b.leases a.audit last xs
+pub record Remains (all : List Begins) (from : Knowledge) (xs : List Begins) (k : Knowledge) (spare len cap : ℕ) : Type 0 where
+  pub can : BeginInTurn (length k.book.names) k.book.leases k.audit k.last_job xs
   pub ids : HasRoom xs
   pub room : len + length xs ≤ cap
-  pub spare : length xs ≤ a.spare
-  pub book : updated b (update.Recovers xs) ≡ updated b0 (update.Recovers all)
-  pub audit : audit_updated a.audit (update.Recovers xs) ≡ audit_updated a0 (update.Recovers all)
-  pub joins : jobs_updated jobs (update.Recovers xs) ≡ jobs_updated jobs0 (update.Recovers all)
-  pub number : last_job_updated last (update.Recovers xs) ≡ last_job_updated last0 (update.Recovers all)
+  pub few : length xs ≤ spare
+  pub leads : updated k (update.Recovers xs) ≡ updated from (update.Recovers all)
 
-module _ (all : List Begins) (b0 : BookState) (a0 : AuditState) (jobs0 : List Unended) (last0 : ℕ) where
-  module _ (ys : List Begins) (x : Begins) (xs : List Begins) (first : ys ≡ x ∷ xs) (b : BookState) (a : AuditRoom) (jobs : List Unended) (len cap last : ℕ) (left : Remains all b0 a0 jobs0 last0 ys b a jobs len cap last) where
-    here : Remains all b0 a0 jobs0 last0 (x ∷ xs) b a jobs len cap last
-    here = subst (λ (zs : List Begins). Remains all b0 a0 jobs0 last0 zs b a jobs len cap last) first left
+module _ (all : List Begins) (from : Knowledge) where
+  module _ (ys : List Begins) (x : Begins) (xs : List Begins) (first : ys ≡ x ∷ xs) (k : Knowledge) (spare len cap : ℕ) (left : Remains all from ys k spare len cap) where
+    here : Remains all from (x ∷ xs) k spare len cap
+    here = subst (λ (zs : List Begins). Remains all from zs k spare len cap) first left
 
-    pub next-can : CanBegin (length b.names) b.leases a.audit last x
+    pub next-can : CanBegin (length k.book.names) k.book.leases k.audit k.last_job x
     next-can = here.can.0
 
     pub next-fits : x.entry.id < 2 ^ 64 - 1
@@ -150,43 +145,26 @@ module _ (all : List Begins) (b0 : BookState) (a0 : AuditState) (jobs0 : List Un
     pub next-room : len < cap
     next-room = let room = here.room in omega (arith, room)
 
-    pub next-spare : 1 ≤ a.spare
-    next-spare = let spare = here.spare in omega (arith, spare)
+    pub next-spare : 1 ≤ spare
+    next-spare = let few = here.few in omega (arith, few)
 
     -- one more has begun
-    pub Remains-next : (b' : BookState) (a' : AuditRoom) (jobs' : List Unended) (len' cap' last' : ℕ) → b' ≡ updated b (update.Recovers (x ∷ [])) → a'.audit ≡ audit_updated a.audit (update.Recovers (x ∷ []))
-        → a'.spare + 1 ≡ a.spare → jobs' ≡ jobs_updated jobs (update.Recovers (x ∷ [])) → len' ≡ len + 1 → cap' ≡ cap → last' ≡ x.job.core.id
-        → Remains all b0 a0 jobs0 last0 xs b' a' jobs' len' cap' last'
-    Remains-next b' a' jobs' len' cap' last' changes begins fewer join more same number =
-        let rest : BeginInTurn (length b.names) (taken b.leases x.list x.job.core.id) (begun a.audit x.entry) x.job.core.id xs = here.can.1 in
+    pub Remains-next : (now : Knowledge) (spare' len' cap' : ℕ) → now ≡ updated k (update.Recovers (x ∷ [])) → spare' + 1 ≡ spare → len' ≡ len + 1 → cap' ≡ cap → Remains all from xs now spare' len' cap'
+    Remains-next now spare' len' cap' begins fewer more same =
+        let one : Knowledge = updated k (update.Recovers (x ∷ [])) in
         let room = here.room in
-        let spare = here.spare in
+        let few = here.few in
+        let on : updated one (update.Recovers xs) ≡ updated k (update.Recovers (x ∷ xs)) = ap (λ (js : List Unended). record (updated k (update.Recovers (x ∷ xs))) { jobs = js }) (joined k.jobs x xs) in
         record {
-          can = subst (λ (n : ℕ). BeginInTurn (length b'.names) b'.leases a'.audit n xs) (sym number)
-              (subst (λ (y : AuditState). BeginInTurn (length b'.names) b'.leases y x.job.core.id xs) (sym begins)
-              (subst (λ (y : BookState). BeginInTurn (length y.names) y.leases (begun a.audit x.entry) x.job.core.id xs) (sym changes) rest));
+          can = subst (λ (y : Knowledge). BeginInTurn (length y.book.names) y.book.leases y.audit y.last_job xs) (sym begins) here.can.1;
           ids = All-tail (λ (y : Begins). y.entry.id < 18446744073709551615) x xs here.ids;
           room = omega (arith, room, more, same);
-          spare = omega (arith, spare, fewer);
-          book = ap (λ (y : BookState). updated y (update.Recovers xs)) changes ∙ here.book;
-          audit = ap (λ (y : AuditState). audit_updated y (update.Recovers xs)) begins ∙ here.audit;
-          joins = ap (λ (js : List Unended). jobs_updated js (update.Recovers xs)) join ∙ joined jobs x xs ∙ here.joins;
-          number = ap (λ (n : ℕ). last_job_updated n (update.Recovers xs)) number ∙ here.number;
+          few = omega (arith, few, fewer);
+          leads = ap (λ (y : Knowledge). updated y (update.Recovers xs)) begins ∙ on ∙ here.leads;
         }
 
   -- all have begun
-  module _ (ys : List Begins) (none : ys ≡ []) (b : BookState) (a : AuditRoom) (jobs : List Unended) (len cap last : ℕ) (left : Remains all b0 a0 jobs0 last0 ys b a jobs len cap last) where
-    past : Remains all b0 a0 jobs0 last0 [] b a jobs len cap last
-    past = subst (λ (zs : List Begins). Remains all b0 a0 jobs0 last0 zs b a jobs len cap last) none left
-
-    pub all-book : b ≡ updated b0 (update.Recovers all)
-    all-book = past.book
-
-    pub all-audit : a.audit ≡ audit_updated a0 (update.Recovers all)
-    all-audit = past.audit
-
-    pub all-joins : jobs ≡ jobs_updated jobs0 (update.Recovers all)
-    all-joins = sym (append-nil jobs) ∙ past.joins
-
-    pub all-number : last ≡ last_job_updated last0 (update.Recovers all)
-    all-number = past.number
+  pub all-begun : (ys : List Begins) → ys ≡ [] → (k : Knowledge) (spare len cap : ℕ) → Remains all from ys k spare len cap → k ≡ updated from (update.Recovers all)
+  all-begun ys none k spare len cap left =
+      let past : Remains all from [] k spare len cap = subst (λ (zs : List Begins). Remains all from zs k spare len cap) none left in
+      ap (λ (js : List Unended). record k { jobs = js }) (sym (append-nil k.jobs)) ∙ past.leads

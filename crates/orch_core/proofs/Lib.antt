@@ -1,6 +1,7 @@
 pub mod Servers
 pub mod Sources
 pub mod Recoveries
+pub mod Periods
 pub mod States
 pub mod Runs
 pub mod Starts

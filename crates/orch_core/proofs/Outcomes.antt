@@ -4,17 +4,18 @@ use Rattle.std.specs.Prelude.{All, IfSome, ◌&&◌, is_some, nat_lt, if◌then�
 use Rattle.std.proofs.lemmas.List.Elements.{All-append, All-cons, All-nil, All-push, All-weaker}
 use Rattle.orch_base.specs.declared.server.ServerNo.{ServerNo}
 use Rattle.orch_base.specs.Memory.{next_count}
-use Rattle.instance_keeper.specs.declared.observation.Instance.{Instance}
-use Rattle.instance_keeper.specs.declared.row.Row.{Row}
-use Rattle.instance_keeper.specs.declared.observation.Observation.{Observation}
+use Rattle.kept_rows.specs.declared.observation.Instance.{Instance}
+use Rattle.kept_rows.specs.declared.row.Row.{Row}
+use Rattle.kept_rows.specs.declared.observation.Observation.{Observation}
 use Rattle.server_words.specs.declared.status.Status.{Status as Seen}
-use Rattle.instance_keeper.specs.declared.row.Change.TheVariants as change
-use Rattle.instance_keeper.specs.declared.row.Key.TheVariants as key
-use Rattle.instance_keeper.specs.declared.row.Row.TheVariants as row
-use Rattle.instance_keeper.specs.declared.row.Table.TheVariants as table
-use Rattle.instance_keeper.specs.Book.{BookState, IsBook, added_over, are_known, discovered_over, downtime_at, fits, instance_at, observed_servers, row_fits}
-use Rattle.instance_keeper.specs.Ranges.{IsInRange}
-use Rattle.instance_keeper.proofs.Books.{both_true}
+use Rattle.kept_rows.specs.declared.row.Change.TheVariants as change
+use Rattle.kept_rows.specs.declared.row.Key.TheVariants as key
+use Rattle.kept_rows.specs.declared.row.Row.TheVariants as row
+use Rattle.kept_rows.specs.declared.row.Table.TheVariants as table
+use Rattle.kept_rows.specs.Servers.{are_known, fits, observed_servers, row_fits}
+use Rattle.instance_keeper.specs.Book.{BookState, IsBook, added_over, discovered_over, downtime_at, instance_at}
+use Rattle.kept_rows.specs.Ranges.{IsInRange}
+use Rattle.kept_rows.proofs.Known.{both_true}
 use Rattle.opening_book.proofs.Following.{names-change}
 use Rattle.commands.specs.declared.line.Line.{Line}
 use Rattle.commands.specs.declared.refusal.Refusal.{Refusal}
@@ -41,11 +42,15 @@ use Rattle.recovery_core.proofs.InTurn.{apart-after, scan-in-turn, scan-moments}
 use Rattle.recovery_core.specs.Begun.{CanBegin}
 use Rattle.recovery_core.specs.Scans.{attempt_of, scanned}
 use Rattle.recovery_core.specs.Tries.{Begins as RecoveryBegins, recovery_try, takeover_try}
-use Rattle.orch_core.specs.Settling.{BeginInTime, CanSettle, IsNext, settled}
+use Rattle.orch_core.specs.Settling.{BeginInTime, CanSettle, IsNext, known_of, with_known}
 use Rattle.orch_core.proofs.Entries.{entries-acknowledged, entries-push}
 use Rattle.orch_core.proofs.Joining.{joined-audit, joined-begun, joined-entries, joined-next, joined-range, joined-rising}
 use Rattle.commands.specs.declared.refusal.Refusal.TheVariants.{UnknownInstance}
-use Rattle.orch_core.specs.Commands.{LeavesIds, by_hand, recovered, recovery_begun, recovery_job, taken_over, terms_of, Outcome, IsEffect, IsUpdate, MayTake, about as given_or, asked, audit_updated, begun, decided, discovered, first_of, forgotten, jobs_updated, last_job_updated, next_reading, outcome_by, outcome_of, question, refusal, removal_refusal, told, updated}
+use Rattle.asking_commands.specs.Asking.{label_at}
+use Rattle.orch_core.specs.Commands.{by_hand, recovered, recovery_begun, taken_over, terms_of, Outcome, about as given_or, asked, begun, decided, discovered, first_of, forgotten, next_reading, outcome_by, outcome_of, question, refusal, removal_refusal, told}
+use Rattle.orch_core.specs.Knowing.{IsEffect, IsUpdate, Knowledge, LeavesIds, MayTake, recovery_job, updated}
+use Rattle.orch_core.specs.Periods.{period_by}
+use Rattle.orch_core.proofs.Periods.{hand-short, period-short}
 use Rattle.orch_core.specs.Polls.{command_outcome, numbers_of, scan_outcome}
 use Rattle.jobs_in_flight.specs.Jobs.{Rise}
 use Rattle.orch_core.specs.States.{HaveEntries, State, IsState, entry_id}
@@ -106,32 +111,41 @@ pub decided-leaves : (reads : ℕ) (a : AuditState) (p : Result Unit Refusal) (d
 decided-leaves reads a (Ok permit) d = tt
 decided-leaves reads a (Err r) d = tt
 
+-- nor what is read of a server, nor a plan
+pub discovered-leaves : (b : BookState) (reads : ℕ) (o : Observation) (seen : Option Seen) → LeavesIds (discovered b reads o seen).book
+discovered-leaves b reads o None = tt
+discovered-leaves b reads o (Some seen) = tt
+
+pub begun-leaves : (n : Numbers) (refusal : Option Refusal) (list : List ServerNo) (job : Unended) → LeavesIds (begun n refusal list job).book
+begun-leaves n None list job = tt
+begun-leaves n (Some r) list job = tt
+
 -- the book takes what a command makes of it
-module _ (book : BookState) (audit : AuditState) (last : ℕ) (count : ℕ) (names : length book.names ≡ count) where
+module _ (k : Knowledge) (count : ℕ) (names : length k.book.names ≡ count) where
   abbrev Takes : Outcome → Type 0
-  Takes o = IsUpdate book audit last o.book
+  Takes o = IsUpdate k o.book
 
   takes-discovered : (b : BookState) (reads : ℕ) (o : Observation) → are_known count (observed_servers o) ≡ true → (x : Option Seen) → Takes (discovered b reads o x)
   takes-discovered b reads o there None = tt
   takes-discovered b reads o there (Some seen) = subst (λ (n : ℕ). are_known n (observed_servers o) ≡ true) (sym names) there
 
   takes-forgotten : (reads : ℕ) (p : Result Unit Refusal) (i : ServerNo) → i.0 < count → Takes (forgotten reads p i)
-  takes-forgotten reads (Ok permit) i within = one_known (length book.names) i.0 (subst (λ (n : ℕ). i.0 < n) (sym names) within)
+  takes-forgotten reads (Ok permit) i within = one_known (length k.book.names) i.0 (subst (λ (n : ℕ). i.0 < n) (sym names) within)
   takes-forgotten reads (Err r) i within = tt
 
   takes-asked : (reads : ℕ) (p : Result Unit Refusal) (lines : List Line) → Takes (asked reads p lines)
   takes-asked reads (Ok permit) lines = tt
   takes-asked reads (Err r) lines = tt
 
-  takes-decided : (reads : ℕ) (a : AuditState) (p : Result Unit Refusal) (d : Decided) → IsEffect book d.effect → Takes (decided reads a p d)
+  takes-decided : (reads : ℕ) (a : AuditState) (p : Result Unit Refusal) (d : Decided) → IsEffect k.book d.effect → Takes (decided reads a p d)
   takes-decided reads a (Ok permit) d effect = effect
   takes-decided reads a (Err r) d effect = tt
 
-  takes-begun : (n : Numbers) (refusal : Option Refusal) (list : List ServerNo) (job : Unended) → (refusal ≡ None → MayTake book list) → Takes (begun n refusal list job)
+  takes-begun : (n : Numbers) (refusal : Option Refusal) (list : List ServerNo) (job : Unended) → (refusal ≡ None → MayTake k.book list) → Takes (begun n refusal list job)
   takes-begun n None list job take = take refl
   takes-begun n (Some r) list job take = tt
 
-  takes-recovery : (n : Numbers) (r : Result RecoveryBegins Refusal) → ((x : RecoveryBegins) → r ≡ Ok x → CanBegin (length book.names) book.leases audit last x) → Takes (recovery_begun n r)
+  takes-recovery : (n : Numbers) (r : Result RecoveryBegins Refusal) → ((x : RecoveryBegins) → r ≡ Ok x → CanBegin (length k.book.names) k.book.leases k.audit k.last_job x) → Takes (recovery_begun n r)
   takes-recovery n (Ok x) can = (can x refl, tt)
   takes-recovery n (Err why) can = tt
 
@@ -176,7 +190,7 @@ module _ (b : BookState) (count : ℕ) (small : count < 2 ^ 32) where
 
 -- a state takes what an outcome makes of it
 abbrev TakenBy : State → Outcome → Type 0
-TakenBy s o = IsUpdate s.book s.audit s.last_job o.book
+TakenBy s o = IsUpdate (known_of s) o.book
 
 outcome-takes : (s : State) (c : CommandTurn) → IsState s → IsBook s.book → IsCommand (length s.world.servers) c → TakenBy s (command_outcome s c)
 unfolding outcome_of
@@ -186,7 +200,7 @@ outcome-takes s c is book command = by (route_of c.command.name)
     over = subst (λ (n : ℕ). IsCommand n c) (sym is.names) command
 
     asks : TakenBy s (question s.book s.audit s.reads c)
-    asks = takes-asked s.book s.audit s.last_job (length s.book.names) refl s.reads (permitted s.book c.command) (lines_of s.book s.audit.recoveries c c.command.name)
+    asks = takes-asked (known_of s) (length s.book.names) refl s.reads (permitted s.book c.command) (lines_of s.book s.audit.recoveries c c.command.name)
 
     given : (none : Outcome) (some : ServerNo → Outcome) → TakenBy s none → ((i : ServerNo) → i.0 < length s.book.names → TakenBy s (some i)) → (i : Option ServerNo)
         → is_within (length s.book.names) i ≡ true → TakenBy s (given_or none some i)
@@ -198,31 +212,31 @@ outcome-takes s c is book command = by (route_of c.command.name)
         let here : i.0 < length s.world.servers = subst (λ (n : ℕ). i.0 < n) is.names within in
         subst (λ (n : ℕ). are_known n (observed_servers (next_reading s.world (numbers_of s) i)) ≡ true) (sym is.names) (reading_known s.world i (next_count s.reads) s.moment is.sources here)
 
-    takes-over : (d : Option ServerNo) → is_within (length s.book.names) d ≡ true → (i : ServerNo) → i.0 < length s.book.names → TakenBy s (taken_over s.world s.book s.audit (numbers_of s) d i)
+    takes-over : (d : Option ServerNo) → is_within (length s.book.names) d ≡ true → (i : ServerNo) → i.0 < length s.book.names → TakenBy s (taken_over s.world s.book s.audit s.configuration (numbers_of s) d i)
     takes-over None there i within = tt
     takes-over (Some d) there i within =
-        takes-recovery s.book s.audit s.last_job (length s.book.names) refl (numbers_of s) (takeover_try s.world s.book s.audit (by_hand (numbers_of s)) s.configuration.wait (s.last_job + 1) i d)
-        (λ x e. takeover-begins s.world s.book s.audit (by_hand (numbers_of s)) s.configuration.wait s.last_job book i d x within (below d.0 (length s.book.names) there) e)
+        takes-recovery (known_of s) (length s.book.names) refl (numbers_of s) (takeover_try s.world s.book s.audit (by_hand s.book s.configuration (numbers_of s) i) s.configuration.wait (s.last_job + 1) i d)
+        (λ x e. takeover-begins s.world s.book s.audit (by_hand s.book s.configuration (numbers_of s) i) s.configuration.wait s.last_job book (hand-short s is i) i d x within (below d.0 (length s.book.names) there) e)
 
-    by : (r : Route) → TakenBy s (outcome_by s.world s.book s.audit (numbers_of s) c r)
+    by : (r : Route) → TakenBy s (outcome_by s.world s.book s.audit s.configuration (numbers_of s) c r)
     by Discovers = given (question s.book s.audit s.reads c) (λ i. discovered s.book s.reads (next_reading s.world (numbers_of s) i) (next_reading s.world (numbers_of s) i).seen) asks
-        (λ i h. takes-discovered s.book s.audit s.last_job (length s.book.names) refl s.book s.reads (next_reading s.world (numbers_of s) i) (reads i h) (next_reading s.world (numbers_of s) i).seen)
+        (λ i h. takes-discovered (known_of s) (length s.book.names) refl s.book s.reads (next_reading s.world (numbers_of s) i) (reads i h) (next_reading s.world (numbers_of s) i).seen)
         c.command.i (given-within (length s.book.names) c over)
     by Forgets = given (question s.book s.audit s.reads c) (forgotten s.reads (allowed (removal_refusal s.book c.command))) asks
-        (λ i h. takes-forgotten s.book s.audit s.last_job (length s.book.names) refl s.reads (allowed (removal_refusal s.book c.command)) i h) c.command.i (given-within (length s.book.names) c over)
+        (λ i h. takes-forgotten (known_of s) (length s.book.names) refl s.reads (allowed (removal_refusal s.book c.command)) i h) c.command.i (given-within (length s.book.names) c over)
     by (Asks q) = asks
     by (Decides d) =
-        takes-decided s.book s.audit s.last_job (length s.book.names) refl s.reads s.audit (permitted s.book c.command) (decided_of s.book s.audit (record { 0 = s.moment }) c.keys c.command.i d)
+        takes-decided (known_of s) (length s.book.names) refl s.reads s.audit (permitted s.book c.command) (decided_of s.book s.audit (record { 0 = s.moment }) c.keys c.command.i d)
         (taken-effect s.book (decided_of s.book s.audit (record { 0 = s.moment }) c.keys c.command.i d).effect (decided-effect s.book (length s.book.names) book.small s.audit (record { 0 = s.moment }) c.keys c.command.i d (given-within (length s.book.names) c over)))
     by (Begins p) =
-        takes-begun s.book s.audit s.last_job (length s.book.names) refl (numbers_of s) (refusal_by s.world s.book (record { 0 = s.moment }) c.command p) (leases_by s.world s.book c.command p) (job_by s.world s.book c.command p (s.last_job + 1) s.configuration.wait)
+        takes-begun (known_of s) (length s.book.names) refl (numbers_of s) (refusal_by s.world s.book (record { 0 = s.moment }) c.command p) (leases_by s.world s.book c.command p) (job_by s.world s.book c.command p (s.last_job + 1) s.configuration.wait)
         (may-take s.world s.book (record { 0 = s.moment }) c.command p book (given-within (length s.book.names) c over) (destination-within (length s.book.names) c over))
     by Recovers =
-        given (refusal s.reads UnknownInstance) (recovered s.world s.book s.audit (numbers_of s)) tt
-        (λ i within. takes-recovery s.book s.audit s.last_job (length s.book.names) refl (numbers_of s) (recovery_try s.world s.book s.audit (by_hand (numbers_of s)) s.configuration.wait (s.last_job + 1) i)
-        (λ x e. recovery-begins s.world s.book s.audit (by_hand (numbers_of s)) s.configuration.wait s.last_job book i x within e)) c.command.i (given-within (length s.book.names) c over)
+        given (refusal s.reads UnknownInstance) (recovered s.world s.book s.audit s.configuration (numbers_of s)) tt
+        (λ i within. takes-recovery (known_of s) (length s.book.names) refl (numbers_of s) (recovery_try s.world s.book s.audit (by_hand s.book s.configuration (numbers_of s) i) s.configuration.wait (s.last_job + 1) i)
+        (λ x e. recovery-begins s.world s.book s.audit (by_hand s.book s.configuration (numbers_of s) i) s.configuration.wait s.last_job book (hand-short s is i) i x within e)) c.command.i (given-within (length s.book.names) c over)
     by TakesOver =
-        given (refusal s.reads UnknownInstance) (taken_over s.world s.book s.audit (numbers_of s) c.command.d) tt
+        given (refusal s.reads UnknownInstance) (taken_over s.world s.book s.audit s.configuration (numbers_of s) c.command.d) tt
         (takes-over c.command.d (destination-within (length s.book.names) c over)) c.command.i (given-within (length s.book.names) c over)
 
 -- what a command makes of the book changes neither names nor settings
@@ -240,13 +254,13 @@ names-decided b effect.Stays = refl
 names-decided b (effect.Change c) = names-change b c
 names-decided b (effect.Acks cluster) = refl
 
-names-updated : (b : BookState) (u : Update) → (updated b u).names ≡ b.names
-names-updated b update.Stays = refl
-names-updated b (update.Change c) = names-change b c
-names-updated b (update.Discovery o) = names-discovery b o (instance_at b o.no)
-names-updated b (update.Decides e) = names-decided b e
-names-updated b (update.Begins x) = refl
-names-updated b (update.Recovers xs) = refl
+names-updated : (k : Knowledge) (u : Update) → (updated k u).book.names ≡ k.book.names
+names-updated k update.Stays = refl
+names-updated k (update.Change c) = names-change k.book c
+names-updated k (update.Discovery o) = names-discovery k.book o (instance_at k.book o.no)
+names-updated k (update.Decides e) = names-decided k.book e
+names-updated k (update.Begins x) = refl
+names-updated k (update.Recovers xs) = refl
 
 settings-discovery : (b : BookState) (o : Observation) (kept : Option Instance) → (discovered_over b o kept).settings ≡ b.settings
 settings-discovery b o None = go o.seen
@@ -261,23 +275,23 @@ settings-decided b effect.Stays = refl
 settings-decided b (effect.Change c) = settings-change b c
 settings-decided b (effect.Acks cluster) = refl
 
-settings-updated : (b : BookState) (u : Update) → (updated b u).settings ≡ b.settings
-settings-updated b update.Stays = refl
-settings-updated b (update.Change c) = settings-change b c
-settings-updated b (update.Discovery o) = settings-discovery b o (instance_at b o.no)
-settings-updated b (update.Decides e) = settings-decided b e
-settings-updated b (update.Begins x) = refl
-settings-updated b (update.Recovers xs) = refl
+settings-updated : (k : Knowledge) (u : Update) → (updated k u).book.settings ≡ k.book.settings
+settings-updated k update.Stays = refl
+settings-updated k (update.Change c) = settings-change k.book c
+settings-updated k (update.Discovery o) = settings-discovery k.book o (instance_at k.book o.no)
+settings-updated k (update.Decides e) = settings-decided k.book e
+settings-updated k (update.Begins x) = refl
+settings-updated k (update.Recovers xs) = refl
 
 -- what an outcome begins is next
 abbrev NextBy : ℕ → ℕ → Outcome → Type 0
 NextBy count last o = IsNext count last o.book
 
 -- what a command begins is so, where its number is one
-next-begun : (count : ℕ) (n : Numbers) (refusal : Option Refusal) (list : List ServerNo) (job : Unended) → number_of job ≡ n.last_job + 1 → entry_id job ≡ None → (n.last_job + 1 < 2 ^ 64 → JobRange count job)
-    → last_job_updated n.last_job (begun n refusal list job).book < 2 ^ 64 → IsNext count n.last_job (begun n refusal list job).book
-next-begun count n None list job number entry range few = record { number = number; range = range (subst (λ (m : ℕ). m < 2 ^ 64) number few); entry = entry }
-next-begun count n (Some r) list job number entry range few = tt
+next-begun : (count : ℕ) (k : Knowledge) (n : Numbers) (refusal : Option Refusal) (list : List ServerNo) (job : Unended) → number_of job ≡ n.last_job + 1 → entry_id job ≡ None → (n.last_job + 1 < 2 ^ 64 → JobRange count job)
+    → (updated k (begun n refusal list job).book).last_job < 2 ^ 64 → IsNext count n.last_job (begun n refusal list job).book
+next-begun count k n None list job number entry range few = record { number = number; range = range (subst (λ (m : ℕ). m < 2 ^ 64) number few); entry = entry }
+next-begun count k n (Some r) list job number entry range few = tt
 
 next-recovery : (count last : ℕ) (n : Numbers) (r : Result RecoveryBegins Refusal) → IsNext count last (recovery_begun n r).book
 next-recovery count last n (Ok x) = tt
@@ -300,7 +314,7 @@ next-decided count last reads a (Ok permit) d = tt
 next-decided count last reads a (Err r) d = tt
 
 outcome-next : (s : State) (c : CommandTurn) → IsState s → IsBook s.book → s.configuration.wait < 2 ^ 32 → IsCommand (length s.world.servers) c
-    → last_job_updated s.last_job (command_outcome s c).book < 2 ^ 64 → IsNext (length s.world.servers) s.last_job (command_outcome s c).book
+    → (updated (known_of s) (command_outcome s c).book).last_job < 2 ^ 64 → IsNext (length s.world.servers) s.last_job (command_outcome s c).book
 unfolding outcome_of
 outcome-next s c is book wait command few = by (route_of c.command.name) few
   where
@@ -319,11 +333,11 @@ outcome-next s c is book wait command few = by (route_of c.command.name) few
     given none some here each None = here
     given none some here each (Some i) = each i
 
-    takes-over : (d : Option ServerNo) (i : ServerNo) → NextBy (length s.world.servers) s.last_job (taken_over s.world s.book s.audit (numbers_of s) d i)
+    takes-over : (d : Option ServerNo) (i : ServerNo) → NextBy (length s.world.servers) s.last_job (taken_over s.world s.book s.audit s.configuration (numbers_of s) d i)
     takes-over None i = tt
-    takes-over (Some d) i = next-recovery (length s.world.servers) s.last_job (numbers_of s) (takeover_try s.world s.book s.audit (by_hand (numbers_of s)) s.configuration.wait (s.last_job + 1) i d)
+    takes-over (Some d) i = next-recovery (length s.world.servers) s.last_job (numbers_of s) (takeover_try s.world s.book s.audit (by_hand s.book s.configuration (numbers_of s) i) s.configuration.wait (s.last_job + 1) i d)
 
-    by : (r : Route) → last_job_updated s.last_job (outcome_by s.world s.book s.audit (numbers_of s) c r).book < 2 ^ 64 → NextBy (length s.world.servers) s.last_job (outcome_by s.world s.book s.audit (numbers_of s) c r)
+    by : (r : Route) → (updated (known_of s) (outcome_by s.world s.book s.audit s.configuration (numbers_of s) c r).book).last_job < 2 ^ 64 → NextBy (length s.world.servers) s.last_job (outcome_by s.world s.book s.audit s.configuration (numbers_of s) c r)
     by Discovers few = given (question s.book s.audit s.reads c) (λ i. discovered s.book s.reads (next_reading s.world (numbers_of s) i) (next_reading s.world (numbers_of s) i).seen) asks
         (λ i. next-discovered (length s.world.servers) s.last_job s.book s.reads (next_reading s.world (numbers_of s) i) (next_reading s.world (numbers_of s) i).seen) c.command.i
     by Forgets few = given (question s.book s.audit s.reads c) (forgotten s.reads (allowed (removal_refusal s.book c.command))) asks
@@ -331,12 +345,12 @@ outcome-next s c is book wait command few = by (route_of c.command.name) few
     by (Asks q) few = asks
     by (Decides d) few = next-decided (length s.world.servers) s.last_job s.reads s.audit (permitted s.book c.command) (decided_of s.book s.audit (record { 0 = s.moment }) c.keys c.command.i d)
     by (Begins p) few =
-        next-begun (length s.world.servers) (numbers_of s) (refusal_by s.world s.book (record { 0 = s.moment }) c.command p) (leases_by s.world s.book c.command p) (job_by s.world s.book c.command p (s.last_job + 1) s.configuration.wait)
+        next-begun (length s.world.servers) (known_of s) (numbers_of s) (refusal_by s.world s.book (record { 0 = s.moment }) c.command p) (leases_by s.world s.book c.command p) (job_by s.world s.book c.command p (s.last_job + 1) s.configuration.wait)
         (job-number s.world s.book c.command p (s.last_job + 1) s.configuration.wait) (job-entry s.world s.book c.command p (s.last_job + 1) s.configuration.wait) (range p) few
     by Recovers few =
-        given (refusal s.reads UnknownInstance) (recovered s.world s.book s.audit (numbers_of s)) tt
-        (λ i. next-recovery (length s.world.servers) s.last_job (numbers_of s) (recovery_try s.world s.book s.audit (by_hand (numbers_of s)) s.configuration.wait (s.last_job + 1) i)) c.command.i
-    by TakesOver few = given (refusal s.reads UnknownInstance) (taken_over s.world s.book s.audit (numbers_of s) c.command.d) tt (takes-over c.command.d) c.command.i
+        given (refusal s.reads UnknownInstance) (recovered s.world s.book s.audit s.configuration (numbers_of s)) tt
+        (λ i. next-recovery (length s.world.servers) s.last_job (numbers_of s) (recovery_try s.world s.book s.audit (by_hand s.book s.configuration (numbers_of s) i) s.configuration.wait (s.last_job + 1) i)) c.command.i
+    by TakesOver few = given (refusal s.reads UnknownInstance) (taken_over s.world s.book s.audit s.configuration (numbers_of s) c.command.d) tt (takes-over c.command.d) c.command.i
 
 -- ---- entries begin in time
 
@@ -379,13 +393,13 @@ outcome-in-time s c is = by (route_of c.command.name)
     given none some here each None = here
     given none some here each (Some i) = each i
 
-    takes-over : (d : Option ServerNo) (i : ServerNo) → InTime (taken_over s.world s.book s.audit (numbers_of s) d i)
+    takes-over : (d : Option ServerNo) (i : ServerNo) → InTime (taken_over s.world s.book s.audit s.configuration (numbers_of s) d i)
     takes-over None i = tt
     takes-over (Some d) i =
-        in-time-recovery (numbers_of s) (takeover_try s.world s.book s.audit (by_hand (numbers_of s)) s.configuration.wait (s.last_job + 1) i d) is.moment
-        (λ x e. takeover-moment s.world s.book s.audit (by_hand (numbers_of s)) s.configuration.wait (s.last_job + 1) i d x e)
+        in-time-recovery (numbers_of s) (takeover_try s.world s.book s.audit (by_hand s.book s.configuration (numbers_of s) i) s.configuration.wait (s.last_job + 1) i d) is.moment
+        (λ x e. takeover-moment s.world s.book s.audit (by_hand s.book s.configuration (numbers_of s) i) s.configuration.wait (s.last_job + 1) i d x e)
 
-    by : (r : Route) → InTime (outcome_by s.world s.book s.audit (numbers_of s) c r)
+    by : (r : Route) → InTime (outcome_by s.world s.book s.audit s.configuration (numbers_of s) c r)
     by Discovers = given (question s.book s.audit s.reads c) (λ i. discovered s.book s.reads (next_reading s.world (numbers_of s) i) (next_reading s.world (numbers_of s) i).seen) asks
         (λ i. in-time-discovered s.book s.reads (next_reading s.world (numbers_of s) i) (next_reading s.world (numbers_of s) i).seen) c.command.i
     by Forgets = given (question s.book s.audit s.reads c) (forgotten s.reads (allowed (removal_refusal s.book c.command))) asks (in-time-forgotten s.reads (allowed (removal_refusal s.book c.command))) c.command.i
@@ -394,10 +408,10 @@ outcome-in-time s c is = by (route_of c.command.name)
     by (Begins p) =
         in-time-begun (numbers_of s) (refusal_by s.world s.book (record { 0 = s.moment }) c.command p) (leases_by s.world s.book c.command p) (job_by s.world s.book c.command p (s.last_job + 1) s.configuration.wait)
     by Recovers =
-        given (refusal s.reads UnknownInstance) (recovered s.world s.book s.audit (numbers_of s)) tt
-        (λ i. in-time-recovery (numbers_of s) (recovery_try s.world s.book s.audit (by_hand (numbers_of s)) s.configuration.wait (s.last_job + 1) i) is.moment
-        (λ x e. recovery-moment s.world s.book s.audit (by_hand (numbers_of s)) s.configuration.wait (s.last_job + 1) i x e)) c.command.i
-    by TakesOver = given (refusal s.reads UnknownInstance) (taken_over s.world s.book s.audit (numbers_of s) c.command.d) tt (takes-over c.command.d) c.command.i
+        given (refusal s.reads UnknownInstance) (recovered s.world s.book s.audit s.configuration (numbers_of s)) tt
+        (λ i. in-time-recovery (numbers_of s) (recovery_try s.world s.book s.audit (by_hand s.book s.configuration (numbers_of s) i) s.configuration.wait (s.last_job + 1) i) is.moment
+        (λ x e. recovery-moment s.world s.book s.audit (by_hand s.book s.configuration (numbers_of s) i) s.configuration.wait (s.last_job + 1) i x e)) c.command.i
+    by TakesOver = given (refusal s.reads UnknownInstance) (taken_over s.world s.book s.audit s.configuration (numbers_of s) c.command.d) tt (takes-over c.command.d) c.command.i
 
 -- ---- a state can take what a command or a scan comes to
 
@@ -410,14 +424,14 @@ command-settles s c is book wait command = record {
 
 -- what a scan begins
 abbrev begun_in : State → List RecoveryBegins
-begun_in s = (scanned s.world s.book s.audit (attempt_of s.configuration.master s.configuration.intermediate (terms_of s.book (numbers_of s))) s.configuration.wait s.last_job).begun
+begun_in s = (scanned s.world s.book s.audit (attempt_of s.configuration.master s.configuration.intermediate (period_by s.configuration) s.book (terms_of s.book (numbers_of s))) s.configuration.wait s.last_job).begun
 
 pub scan-settles : (s : State) → IsState s → IsBook s.book → CanSettle s (scan_outcome s)
 scan-settles s is book =
     let n = numbers_of s in
-    let attempt = attempt_of s.configuration.master s.configuration.intermediate (terms_of s.book n) in
+    let attempt = attempt_of s.configuration.master s.configuration.intermediate (period_by s.configuration) s.book (terms_of s.book n) in
     record {
-      update = scan-in-turn s.world s.book attempt s.configuration.wait s.audit s.last_job book;
+      update = scan-in-turn s.world s.book attempt s.configuration.wait s.audit s.last_job book (λ i. period-short s is (label_at s.book i));
       next = λ few. tt;
       time = All-weaker (λ (x : RecoveryBegins). x.entry.begun ≡ n.moment) (λ x. x.entry.begun.0 ≤ 2 ^ 63) (λ x e. subst (λ (m : Moment). m.0 ≤ 2 ^ 63) (sym e) is.moment)
           (begun_in s) (scan-moments s.world s.book attempt s.configuration.wait s.audit s.last_job n.moment (λ i. refl));
@@ -425,106 +439,101 @@ scan-settles s is book =
 
 -- ---- what is left keeps what holds of states
 
-module _ (count : ℕ) (b : BookState) (a : AuditState) (last : ℕ) where
-  jobs-updated : (jobs : List Unended) (u : Update) → IsUpdate b a last u → IsNext count last u → length b.names ≡ count → last_job_updated last u < 2 ^ 64 → All (JobRange count) jobs → All (JobRange count) (jobs_updated jobs u)
-  jobs-updated jobs update.Stays is next names few all = all
-  jobs-updated jobs (update.Change c) is next names few all = all
-  jobs-updated jobs (update.Discovery o) is next names few all = all
-  jobs-updated jobs (update.Decides e) is next names few all = all
-  jobs-updated jobs (update.Begins x) is next names few all = All-push (JobRange count) jobs x.job all next.range
-  jobs-updated jobs (update.Recovers xs) is next names few all =
-      All-append (JobRange count) jobs (map recovery_job xs) all (subst (λ (n : ℕ). All (JobRange n) (map recovery_job xs)) names (joined-range (length b.names) b.leases a last xs is few))
+module _ (count : ℕ) (k : Knowledge) where
+  jobs-updated : (u : Update) → IsUpdate k u → IsNext count k.last_job u → length k.book.names ≡ count → (updated k u).last_job < 2 ^ 64 → All (JobRange count) k.jobs → All (JobRange count) (updated k u).jobs
+  jobs-updated update.Stays is next names few all = all
+  jobs-updated (update.Change c) is next names few all = all
+  jobs-updated (update.Discovery o) is next names few all = all
+  jobs-updated (update.Decides e) is next names few all = all
+  jobs-updated (update.Begins x) is next names few all = All-push (JobRange count) k.jobs x.job all next.range
+  jobs-updated (update.Recovers xs) is next names few all =
+      All-append (JobRange count) k.jobs (map recovery_job xs) all (subst (λ (n : ℕ). All (JobRange n) (map recovery_job xs)) names (joined-range (length k.book.names) k.book.leases k.audit k.last_job xs is few))
 
-  rising-updated : (jobs : List Unended) (u : Update) → IsUpdate b a last u → IsNext count last u → Rise 0 jobs last → Rise 0 (jobs_updated jobs u) (last_job_updated last u)
-  rising-updated jobs update.Stays is next rise = rise
-  rising-updated jobs (update.Change c) is next rise = rise
-  rising-updated jobs (update.Discovery o) is next rise = rise
-  rising-updated jobs (update.Decides e) is next rise = rise
-  rising-updated jobs (update.Begins x) is next rise = let number = next.number in Rise-push 0 jobs last x.job (omega (arith, number)) rise
-  rising-updated jobs (update.Recovers xs) is next rise = joined-rising (length b.names) b.leases a last xs jobs is rise
+  rising-updated : (u : Update) → IsUpdate k u → IsNext count k.last_job u → Rise 0 k.jobs k.last_job → Rise 0 (updated k u).jobs (updated k u).last_job
+  rising-updated update.Stays is next rise = rise
+  rising-updated (update.Change c) is next rise = rise
+  rising-updated (update.Discovery o) is next rise = rise
+  rising-updated (update.Decides e) is next rise = rise
+  rising-updated (update.Begins x) is next rise = let number = next.number in Rise-push 0 k.jobs k.last_job x.job (omega (arith, number)) rise
+  rising-updated (update.Recovers xs) is next rise = joined-rising (length k.book.names) k.book.leases k.audit k.last_job xs k.jobs is rise
 
   -- an audit stays one
-  audit-updated : (u : Update) → IsUpdate b a last u → IsAudit a → IsAudit (audit_updated a u)
+  audit-updated : (u : Update) → IsUpdate k u → IsAudit k.audit → IsAudit (updated k u).audit
   audit-updated update.Stays is audit = audit
   audit-updated (update.Change c) is audit = audit
   audit-updated (update.Discovery o) is audit = audit
   audit-updated (update.Decides effect.Stays) is audit = audit
   audit-updated (update.Decides (effect.Change c)) is audit = audit
-  audit-updated (update.Decides (effect.Acks cluster)) is audit = acked-is a cluster audit
+  audit-updated (update.Decides (effect.Acks cluster)) is audit = acked-is k.audit cluster audit
   audit-updated (update.Begins x) is audit = audit
-  audit-updated (update.Recovers xs) is audit = joined-audit (length b.names) b.leases a last xs is audit
+  audit-updated (update.Recovers xs) is audit = joined-audit (length k.book.names) k.book.leases k.audit k.last_job xs is audit
 
   -- and has the jobs' entries
-  entries-updated : (jobs : List Unended) (u : Update) → IsUpdate b a last u → IsNext count last u → IsAudit a → HaveEntries a 0 jobs → HaveEntries (audit_updated a u) 0 (jobs_updated jobs u)
-  entries-updated jobs update.Stays is next audit entries = entries
-  entries-updated jobs (update.Change c) is next audit entries = entries
-  entries-updated jobs (update.Discovery o) is next audit entries = entries
-  entries-updated jobs (update.Decides effect.Stays) is next audit entries = entries
-  entries-updated jobs (update.Decides (effect.Change c)) is next audit entries = entries
-  entries-updated jobs (update.Decides (effect.Acks cluster)) is next audit entries = entries-acknowledged a cluster jobs entries
-  entries-updated jobs (update.Begins x) is next audit entries = entries-push a 0 jobs x.job next.entry entries
-  entries-updated jobs (update.Recovers xs) is next audit entries = joined-entries (length b.names) b.leases a last xs jobs is audit entries
+  entries-updated : (u : Update) → IsUpdate k u → IsNext count k.last_job u → IsAudit k.audit → HaveEntries k.audit 0 k.jobs → HaveEntries (updated k u).audit 0 (updated k u).jobs
+  entries-updated update.Stays is next audit entries = entries
+  entries-updated (update.Change c) is next audit entries = entries
+  entries-updated (update.Discovery o) is next audit entries = entries
+  entries-updated (update.Decides effect.Stays) is next audit entries = entries
+  entries-updated (update.Decides (effect.Change c)) is next audit entries = entries
+  entries-updated (update.Decides (effect.Acks cluster)) is next audit entries = entries-acknowledged k.audit cluster k.jobs entries
+  entries-updated (update.Begins x) is next audit entries = entries-push k.audit 0 k.jobs x.job next.entry entries
+  entries-updated (update.Recovers xs) is next audit entries = joined-entries (length k.book.names) k.book.leases k.audit k.last_job xs k.jobs is audit entries
 
-  -- it stays apart
-  pub apart-updated : (u : Update) → IsUpdate b a last u → IsApart a → IsApart (audit_updated a u)
-  apart-updated update.Stays is apart = apart
-  apart-updated (update.Change c) is apart = apart
-  apart-updated (update.Discovery o) is apart = apart
-  apart-updated (update.Decides effect.Stays) is apart = apart
-  apart-updated (update.Decides (effect.Change c)) is apart = apart
-  apart-updated (update.Decides (effect.Acks cluster)) is apart = acknowledged-apart a cluster apart
-  apart-updated (update.Begins x) is apart = apart
-  apart-updated (update.Recovers xs) is apart = apart-after (length b.names) b.leases a last xs is apart
+-- it stays apart
+pub apart-updated : (k : Knowledge) (u : Update) → IsUpdate k u → IsApart k.audit → IsApart (updated k u).audit
+apart-updated k update.Stays is apart = apart
+apart-updated k (update.Change c) is apart = apart
+apart-updated k (update.Discovery o) is apart = apart
+apart-updated k (update.Decides effect.Stays) is apart = apart
+apart-updated k (update.Decides (effect.Change c)) is apart = apart
+apart-updated k (update.Decides (effect.Acks cluster)) is apart = acknowledged-apart k.audit cluster apart
+apart-updated k (update.Begins x) is apart = apart
+apart-updated k (update.Recovers xs) is apart = apart-after (length k.book.names) k.book.leases k.audit k.last_job xs is apart
 
 -- the next id stays in its type's range
-pub next-updated : (a : AuditState) (u : Update) → LeavesIds u → a.next < 2 ^ 64 → (audit_updated a u).next < 2 ^ 64
-next-updated a update.Stays ids fits = fits
-next-updated a (update.Change c) ids fits = fits
-next-updated a (update.Discovery o) ids fits = fits
-next-updated a (update.Decides effect.Stays) ids fits = fits
-next-updated a (update.Decides (effect.Change c)) ids fits = fits
-next-updated a (update.Decides (effect.Acks cluster)) ids fits = fits
-next-updated a (update.Begins x) ids fits = fits
-next-updated a (update.Recovers xs) ids fits = joined-next a xs ids fits
+pub next-updated : (k : Knowledge) (u : Update) → LeavesIds u → k.audit.next < 2 ^ 64 → (updated k u).audit.next < 2 ^ 64
+next-updated k update.Stays ids fits = fits
+next-updated k (update.Change c) ids fits = fits
+next-updated k (update.Discovery o) ids fits = fits
+next-updated k (update.Decides effect.Stays) ids fits = fits
+next-updated k (update.Decides (effect.Change c)) ids fits = fits
+next-updated k (update.Decides (effect.Acks cluster)) ids fits = fits
+next-updated k (update.Begins x) ids fits = fits
+next-updated k (update.Recovers xs) ids fits = joined-next k.audit xs ids fits
 
 -- recoveries began in time
-begun-updated : (a : AuditState) (u : Update) → BeginInTime u → HasBegun a.recoveries → HasBegun (audit_updated a u).recoveries
-begun-updated a update.Stays time all = all
-begun-updated a (update.Change c) time all = all
-begun-updated a (update.Discovery o) time all = all
-begun-updated a (update.Decides effect.Stays) time all = all
-begun-updated a (update.Decides (effect.Change c)) time all = all
-begun-updated a (update.Decides (effect.Acks cluster)) time all = acked-begun a cluster all
-begun-updated a (update.Begins x) time all = all
-begun-updated a (update.Recovers xs) time all = joined-begun a xs time all
+begun-updated : (k : Knowledge) (u : Update) → BeginInTime u → HasBegun k.audit.recoveries → HasBegun (updated k u).audit.recoveries
+begun-updated k update.Stays time all = all
+begun-updated k (update.Change c) time all = all
+begun-updated k (update.Discovery o) time all = all
+begun-updated k (update.Decides effect.Stays) time all = all
+begun-updated k (update.Decides (effect.Change c)) time all = all
+begun-updated k (update.Decides (effect.Acks cluster)) time all = acked-begun k.audit cluster all
+begun-updated k (update.Begins x) time all = all
+begun-updated k (update.Recovers xs) time all = joined-begun k.audit xs time all
 
-pub IsState-settled : (s : State) (o : Outcome) (b : BookState) (a : AuditState) (jobs : List Unended) (last : ℕ) → IsState s → CanSettle s o → LeavesIds o.book → last < 2 ^ 64
-    → b ≡ updated s.book o.book → a ≡ audit_updated s.audit o.book → jobs ≡ jobs_updated s.jobs o.book → last ≡ last_job_updated s.last_job o.book
-    → IsState (record s { book = b; audit = a; reads = o.reads; jobs = jobs; last_job = last })
-IsState-settled s o b a jobs last is can ids fits changes decides joins counts =
+-- what a command or a scan leaves, where the number of the last job fits its type
+pub IsState-settled : (s : State) (o : Outcome) (now : Knowledge) → IsState s → CanSettle s o → LeavesIds o.book → now.last_job < 2 ^ 64 → now ≡ updated (known_of s) o.book
+    → IsState (with_known (record s { reads = o.reads }) now)
+IsState-settled s o now is can ids fits settles =
+    let k = known_of s in
     let u = o.book in
-    let count = length s.world.servers in
-    let few : last_job_updated s.last_job u < 2 ^ 64 = subst (λ (n : ℕ). n < 2 ^ 64) counts fits in
+    let few : (updated k u).last_job < 2 ^ 64 = subst (λ (x : Knowledge). x.last_job < 2 ^ 64) settles fits in
     let next = can.next few in
-    record {
-      names = ap (λ (x : BookState). length x.names) changes ∙ (ap length (names-updated s.book u) ∙ is.names);
-      settings = ap (λ (x : BookState). length x.settings) changes ∙ (ap length (settings-updated s.book u) ∙ is.settings);
+    subst (λ (x : Knowledge). IsState (with_known (record s { reads = o.reads }) x)) (sym settles)
+    (record {
+      names = ap length (names-updated k u) ∙ is.names;
+      settings = ap length (settings-updated k u) ∙ is.settings;
       slots = is.slots;
       observed = is.observed;
       sources = is.sources;
-      jobs = subst (All (JobRange count)) (sym joins) (jobs-updated count s.book s.audit s.last_job s.jobs u can.update next is.names few is.jobs);
-      rising = subst (λ (xs : List Unended). Rise 0 xs last) (sym joins)
-          (subst (Rise 0 (jobs_updated s.jobs u)) (sym counts) (rising-updated count s.book s.audit s.last_job s.jobs u can.update next is.rising));
-      audit = subst IsAudit (sym decides) (audit-updated count s.book s.audit s.last_job u can.update is.audit);
-      entries = subst (λ (x : AuditState). HaveEntries x 0 jobs) (sym decides)
-          (subst (HaveEntries (audit_updated s.audit u) 0) (sym joins) (entries-updated count s.book s.audit s.last_job s.jobs u can.update next is.audit is.entries));
-      next = subst (λ (x : AuditState). x.next < 2 ^ 64) (sym decides) (next-updated s.audit u ids is.next);
-      begun = subst (λ (x : AuditState). HasBegun x.recoveries) (sym decides) (begun-updated s.audit u can.time is.begun);
+      jobs = jobs-updated (length s.world.servers) k u can.update next is.names few is.jobs;
+      rising = rising-updated (length s.world.servers) k u can.update next is.rising;
+      audit = audit-updated (length s.world.servers) k u can.update is.audit;
+      entries = entries-updated (length s.world.servers) k u can.update next is.audit is.entries;
+      next = next-updated k u ids is.next;
+      begun = begun-updated k u can.time is.begun;
       moment = is.moment;
       block = is.block;
-    }
-
--- the pieces of a state, as they were made one after another
-pub settled-is : (s : State) (o : Outcome) (b : BookState) (a : AuditState) (jobs : List Unended) (last : ℕ) → b ≡ updated s.book o.book → a ≡ audit_updated s.audit o.book → jobs ≡ jobs_updated s.jobs o.book
-    → last ≡ last_job_updated s.last_job o.book → record s { book = b; audit = a; reads = o.reads; jobs = jobs; last_job = last } ≡ settled s o
-settled-is s o b a jobs last changes decides joins counts = λ i. record s { book = changes i; audit = decides i; reads = o.reads; jobs = joins i; last_job = counts i }
+      blocks = is.blocks;
+    })

@@ -5,18 +5,19 @@ use Rattle.std.proofs.lemmas.Bool.{leb-true}
 use Rattle.std.proofs.lemmas.List.Elements.{All-cons, All-head, All-nil, All-tail}
 use Rattle.orch_base.specs.declared.recovery.Ending.TheVariants as ending
 use Rattle.orch_base.specs.declared.server.Moment.{Moment}
-use Rattle.instance_keeper.proofs.Books.{both_true}
-use Rattle.instance_keeper.specs.Book.{are_known, servers_of}
-use Rattle.instance_keeper.specs.Rows.{map_of}
-use Rattle.instance_keeper.specs.declared.recovery.Recovery.{Recovery}
-use Rattle.instance_keeper.specs.declared.row.Row.{Row}
-use Rattle.instance_keeper.specs.declared.row.Row.TheVariants as row
+use Rattle.kept_rows.proofs.Known.{both_true}
+use Rattle.kept_rows.specs.Servers.{are_known, servers_of}
+use Rattle.kept_rows.specs.Rows.{map_of}
+use Rattle.kept_rows.specs.declared.recovery.Recovery.{Recovery}
+use Rattle.kept_rows.specs.declared.recovery.RecoveryRow.{RecoveryRow}
+use Rattle.kept_rows.specs.declared.row.Row.{Row}
+use Rattle.kept_rows.specs.declared.row.Row.TheVariants as row
 use Rattle.audit_log.specs.Audits.{acknowledged, acknowledged_for, closed, ended_so, interrupted, is_of, is_unended, AuditState, IsAudit}
 use Rattle.audit_log.proofs.Changes.{IsAudit-map}
-use Rattle.audit_log.proofs.Kept.{acknowledged-id, interrupted-id}
-use Rattle.audit_log.specs.Loading.{recoveries_in}
+use Rattle.audit_log.proofs.Kept.{acknowledged-block, acknowledged-id, interrupted-block, interrupted-id}
+use Rattle.audit_log.specs.Loading.{loaded_by, recoveries_in}
 use Rattle.opening_book.specs.Audits.{latest_recovery, recovery_raised}
-use Rattle.opening_book.specs.Counting.{counted, counts, end_or, greatest, is_end_in_range, is_in_range, latest, raised}
+use Rattle.opening_book.specs.Counting.{counted, counts, end_or, greatest, is_block_in_range, is_end_in_range, is_in_range, latest, raised}
 
 -- each recovery began by 2^63
 abbrev pub HasBegun : List Recovery → Type 0
@@ -37,33 +38,34 @@ ended-most : (now : ℕ) (ended : Option Moment) → now ≤ greatest → is_end
 ended-most now None most is = most
 ended-most now (Some ended) most is = max-most now ended.0 greatest most (at_most ended.0 greatest is)
 
-in-time : (last : ℕ) (r : Recovery) → is_in_range last (row.Recovery r) ≡ true → IsInTime r
-in-time last r is =
-    let moments = (both_true (nat_le 1 r.id && nat_le r.id last) (nat_le r.begun.0 greatest && is_end_in_range r.ended) is).1 in
-    let parts = both_true (nat_le r.begun.0 greatest) (is_end_in_range r.ended) moments in
-    record { begun = at_most r.begun.0 greatest parts.0; ended = parts.1 }
+in-time : (period : List ℕ → ℕ) (last : ℕ) (k : RecoveryRow) → is_in_range last (row.Recovery k) ≡ true → IsInTime (loaded_by period k)
+in-time period last k is =
+    let moments = (both_true (nat_le 1 k.id && nat_le k.id last) (nat_le k.begun.0 greatest && (is_end_in_range k.ended && is_block_in_range k.block)) is).1 in
+    let parts = both_true (nat_le k.begun.0 greatest) (is_end_in_range k.ended && is_block_in_range k.block) moments in
+    record { begun = at_most k.begun.0 greatest parts.0; ended = (both_true (is_end_in_range k.ended) (is_block_in_range k.block) parts.1).0 }
 
 recovery-most : (now : ℕ) (r : Recovery) → now ≤ greatest → IsInTime r → recovery_raised now r ≤ greatest
 recovery-most now r most is = ended-most (max now r.begun.0) r.ended (max-most now r.begun.0 greatest most is.begun) is.ended
 
 -- ---- the recoveries of rows that count
 
-module _ (count last : ℕ) where
+module _ (period : List ℕ → ℕ) (count last : ℕ) where
   abbrev counting : List Row → List Recovery
-  counting rows = recoveries_in (filter (counts count last) rows)
+  counting rows = recoveries_in period (filter (counts count last) rows)
 
-  of-row : (r : Row) → is_in_range last r ≡ true → (rest : List Row) → All IsInTime (recoveries_in rest) → All IsInTime (recoveries_in (r ∷ rest))
+  of-row : (r : Row) → is_in_range last r ≡ true → (rest : List Row) → All IsInTime (recoveries_in period rest) → All IsInTime (recoveries_in period (r ∷ rest))
   of-row (row.Instance i) is rest all = all
   of-row (row.Downtime d) is rest all = all
   of-row (row.Candidate c) is rest all = all
-  of-row (row.Recovery r) is rest all = All-cons IsInTime r (recoveries_in rest) (in-time last r is) all
+  of-row (row.Recovery k) is rest all = All-cons IsInTime (loaded_by period k) (recoveries_in period rest) (in-time period last k is) all
   of-row (row.Switch enabled) is rest all = all
+  of-row (row.Active node until) is rest all = all
 
   all-in-time : (rows : List Row) → All IsInTime (counting rows)
   all-in-time [] = All-nil IsInTime
   all-in-time (r ∷ rows) = go (counts count last r) refl (all-in-time rows)
     where
-      go : (b : Bool) → counts count last r ≡ b → All IsInTime (counting rows) → All IsInTime (recoveries_in (if b then r ∷ filter (counts count last) rows else filter (counts count last) rows))
+      go : (b : Bool) → counts count last r ≡ b → All IsInTime (counting rows) → All IsInTime (recoveries_in period (if b then r ∷ filter (counts count last) rows else filter (counts count last) rows))
       go true is rest = of-row r (both_true (are_known count (servers_of r)) (is_in_range last r) is).1 (filter (counts count last) rows) rest
       go false is rest = rest
 
@@ -71,16 +73,16 @@ begun-in-time : (rs : List Recovery) → All IsInTime rs → HasBegun rs
 begun-in-time [] all = All-nil _
 begun-in-time (r ∷ rs) all = All-cons (λ (x : Recovery). x.begun.0 ≤ 2 ^ 63) r rs (All-head IsInTime r rs all).begun (begun-in-time rs (All-tail IsInTime r rs all))
 
-pub counted-begun : (count last : ℕ) (rows : List Row) → HasBegun (recoveries_in (counted count last rows))
-counted-begun count last rows = begun-in-time (recoveries_in (counted count last rows)) (all-in-time count last (map_of rows))
+pub counted-begun : (period : List ℕ → ℕ) (count last : ℕ) (rows : List Row) → HasBegun (recoveries_in period (counted count last rows))
+counted-begun period count last rows = begun-in-time (recoveries_in period (counted count last rows)) (all-in-time period count last (map_of rows))
 
 most-of : (now : ℕ) (rs : List Recovery) → now ≤ greatest → All IsInTime rs → latest_recovery now rs ≤ greatest
 most-of now [] most all = most
 most-of now (r ∷ rs) most all = most-of (recovery_raised now r) rs (recovery-most now r most (All-head IsInTime r rs all)) (All-tail IsInTime r rs all)
 
 -- no recovery that counts is later than the end of time
-pub reloaded-most : (count last now : ℕ) (rows : List Row) → now ≤ greatest → latest_recovery now (recoveries_in (counted count last rows)) ≤ greatest
-reloaded-most count last now rows most = most-of now (recoveries_in (counted count last rows)) most (all-in-time count last (map_of rows))
+pub reloaded-most : (period : List ℕ → ℕ) (count last now : ℕ) (rows : List Row) → now ≤ greatest → latest_recovery now (recoveries_in period (counted count last rows)) ≤ greatest
+reloaded-most period count last now rows most = most-of now (recoveries_in period (counted count last rows)) most (all-in-time period count last (map_of rows))
 
 -- ---- changes of an audit leave when recoveries began
 
@@ -109,10 +111,10 @@ pub closed-begun : (a : AuditState) (at : Moment) → HasBegun a.recoveries → 
 closed-begun a at all = mapped-begun (interrupted at) (interrupted-begun at) a.recoveries all
 
 pub closed-is : (a : AuditState) (at : Moment) → IsAudit a → IsAudit (closed a at)
-closed-is a at is = IsAudit-map (interrupted at) (interrupted-id at) a is
+closed-is a at is = IsAudit-map (interrupted at) (interrupted-id at) (interrupted-block at) a is
 
 pub acked-is : (a : AuditState) (cluster : List ℕ) → IsAudit a → IsAudit (acknowledged a cluster)
-acked-is a cluster is = IsAudit-map (acknowledged_for cluster) (acknowledged-id cluster) a is
+acked-is a cluster is = IsAudit-map (acknowledged_for cluster) (acknowledged-id cluster) (acknowledged-block cluster) a is
 
 pub acked-begun : (a : AuditState) (cluster : List ℕ) → HasBegun a.recoveries → HasBegun (acknowledged a cluster).recoveries
 acked-begun a cluster all = mapped-begun (acknowledged_for cluster) (acknowledged-begun cluster) a.recoveries all
@@ -123,8 +125,9 @@ raised-most : (last now : ℕ) (r : Row) → now ≤ greatest → is_in_range la
 raised-most last now (row.Instance i) most is = most
 raised-most last now (row.Downtime d) most is = max-most now d.begun.0 greatest most (at_most d.begun.0 greatest (both_true (nat_le d.begun.0 greatest) (nat_le d.until.0 greatest) is).0)
 raised-most last now (row.Candidate c) most is = most
-raised-most last now (row.Recovery r) most is = recovery-most now r most (in-time last r is)
+raised-most last now (row.Recovery k) most is = let none : List ℕ → ℕ = λ c. 0 in recovery-most now (loaded_by none k) most (in-time none last k is)
 raised-most last now (row.Switch enabled) most is = most
+raised-most last now (row.Active node until) most is = most
 
 filtered-most : (count last now : ℕ) (rows : List Row) → now ≤ greatest → latest now (filter (counts count last) rows) ≤ greatest
 filtered-most count last now [] most = most

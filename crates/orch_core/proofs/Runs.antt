@@ -3,15 +3,16 @@ use Rattle.std.proofs.Common.{◌≡◌, ◌∙◌, ℕ, ◌+◌, ◌<◌, true,
 use Rattle.std.proofs.lemmas.List.{take_more}
 use Rattle.std.proofs.lemmas.List.Sums.{fold-append}
 use Rattle.std.proofs.lemmas.Option.{get_or_from_slice_get}
-use Rattle.instance_keeper.specs.declared.row.Row.{Row}
-use Rattle.instance_keeper.specs.Rows.{changed}
-use Rattle.turns.specs.declared.turn.Reply.{Reply}
+use Rattle.kept_rows.specs.declared.row.Row.{Row}
+use Rattle.kept_rows.specs.Rows.{changed}
+use Rattle.turns.specs.declared.reply.Reply.{Reply}
 use Rattle.turns.specs.declared.turn.Turn.{Turn}
 use Rattle.orch_core.specs.declared.fault.TurnFault.{TurnFault}
 use Rattle.orch_core.specs.declared.fault.TurnFault.TheVariants as fault
 use Rattle.orch_core.specs.Keeping.{Calls, StepsTo, Ran, WasCutOff, kept_by}
 use Rattle.orch_core.specs.Replies.{reply_of}
-use Rattle.orch_core.specs.Runs.{Held, Machine, engine, held_run, held_step, recorder, run_turns, step, turns_of}
+use Rattle.orch_core.specs.After.{step}
+use Rattle.orch_core.specs.Runs.{Held, Machine, engine, held_run, held_step, recorder, run_turns, turns_of}
 use Rattle.orch_core.specs.States.{State}
 
 -- one more turn

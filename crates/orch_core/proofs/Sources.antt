@@ -9,11 +9,13 @@ use Rattle.binlog_coords.specs.declared.Next.TheVariants as next
 use Rattle.orch_base.specs.declared.server.ServerNo.{ServerNo}
 use Rattle.orch_base.specs.declared.server.SourceState.{SourceState}
 use Rattle.orch_base.specs.declared.server.SourceState.TheVariants as source
-use Rattle.instance_keeper.specs.Book.{are_known, source_servers}
+use Rattle.kept_rows.specs.Servers.{are_known, source_servers}
 use Rattle.server_model.specs.declared.decisions.ApplyStep.{ApplyStep}
 use Rattle.server_model.specs.declared.decisions.ApplyStep.TheVariants as applying
 use Rattle.server_model.specs.declared.decisions.FetchStep.{FetchStep}
 use Rattle.server_model.specs.declared.decisions.FetchStep.TheVariants as receiving
+use Rattle.server_words.specs.declared.answers.PurgeAnswer.{PurgeAnswer}
+use Rattle.server_words.specs.declared.answers.PurgeAnswer.TheVariants as purging
 use Rattle.server_words.specs.declared.answers.RotateAnswer.{RotateAnswer}
 use Rattle.server_words.specs.declared.answers.RotateAnswer.TheVariants as rotating
 use Rattle.server_words.specs.declared.answers.Unreachable.{Unreachable}
@@ -31,7 +33,8 @@ use Rattle.server_model.specs.Exchanges.{is_attached, took, own_txn, write_answe
 use Rattle.server_model.specs.Attach.{attach_answer, attached_to, after_attach}
 use Rattle.server_model.specs.Desk.{asked, attached_source, befallen, desk_answer, detached, detached_source, healed, is_detached, reattached, rotate_answer, rotated, started, after_change, after_desk, after_rotate}
 use Rattle.server_model.specs.Gtids.{attach_auto_answer, after_attach_auto, attached_auto, auto_coord, uuids}
-use Rattle.server_model.specs.Run.{Exchange, Write, Fetch, Apply, Request, Befall, Rotate, Attach, AttachAuto, after, Allowed, AllAllowed, run}
+use Rattle.server_model.specs.Purging.{purge_answer, after_purge}
+use Rattle.server_model.specs.Run.{Exchange, Write, Fetch, Apply, Request, Befall, Rotate, Purge, Attach, AttachAuto, after, Allowed, AllAllowed, run}
 use Rattle.server_model.specs.Worlds.{World, server_at}
 use Rattle.orch_core.specs.States.{HasKnownSource}
 
@@ -66,6 +69,7 @@ sources-fetch : (w : World) (n : ℕ) (o : Option Server) (a : FetchStep) → se
 sources-fetch w n None a at all = all
 sources-fetch w n (Some r) receiving.Halt at all = all
 sources-fetch w n (Some r) receiving.Unlinked at all = all
+sources-fetch w n (Some r) (receiving.Refuse first) at all = kept w n r (record r { receiver = false }) at refl all
 sources-fetch w n (Some r) (receiving.Take (next.Entry index to)) at all = kept w n r (record r { read = to }) at refl all
 sources-fetch w n (Some r) (receiving.Take (next.Rotate to)) at all = kept w n r (record r { read = to }) at refl all
 sources-fetch w n (Some r) (receiving.Take next.End) at all = all
@@ -155,6 +159,13 @@ sources-rotate w n (Some s) rotating.NotLogging at all = all
 sources-rotate w n (Some s) rotating.Full at all = all
 sources-rotate w n (Some s) (rotating.Done c) at all = kept w n s (rotated s) at refl all
 
+sources-purge : (w : World) (n : ℕ) (o : Option Server) (answer : PurgeAnswer) → server_at w n ≡ o → KnowsSources w.servers → KnowsSources (after_purge w n o answer).servers
+sources-purge w n None answer at all = all
+sources-purge w n (Some s) purging.Down at all = all
+sources-purge w n (Some s) purging.NotLogging at all = all
+sources-purge w n (Some s) purging.NoFile at all = all
+sources-purge w n (Some s) (purging.Done first) at all = kept w n s (record s { first = first }) at refl all
+
 -- a server that is there is one of the servers
 below : (m n : ℕ) → m < n → nat_lt m n ≡ true
 below m n h = grind arith
@@ -181,7 +192,8 @@ sources-after w (Apply n) allowed all = sources-apply w n (server_at w n) (apply
 sources-after w (Request n a) allowed all = sources-ask w n a (desk_answer (server_at w n)) all
 sources-after w (Befall n e) allowed all = sources-change w n (befallen e) (server_at w n) (befallen-known (length w.servers) e) refl all
 sources-after w (Rotate n) allowed all = sources-rotate w n (server_at w n) (rotate_answer (server_at w n)) refl all
-sources-after w (Attach n expect to at) allowed all = sources-attach w n to at (server_at w n) (attach_answer w n expect to.0 (server_at w n)) (there-known w to.0 allowed.target allowed.there) all
+sources-after w (Purge n file) allowed all = sources-purge w n (server_at w n) (purge_answer w n file (server_at w n)) refl all
+sources-after w (Attach n expect to at) allowed all = sources-attach w n to at (server_at w n) (attach_answer w n expect to.0 at (server_at w n)) (there-known w to.0 allowed.target allowed.there) all
 sources-after w (AttachAuto n observed to) allowed all = sources-attach_auto w n to (server_at w n) (attach_auto_answer w n observed to.0 (server_at w n)) (there-known w to.0 allowed.target allowed.there) all
 
 -- over some exchanges

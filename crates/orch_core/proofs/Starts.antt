@@ -11,21 +11,27 @@ use Rattle.orch_base.specs.declared.server.Moment.{Moment}
 use Rattle.audit_log.specs.Audits.{AuditState, IsAudit, closed, closing}
 use Rattle.opening_book.proofs.Recoveries.{audit-opened, last_id-within}
 use Rattle.instance_keeper.specs.Had.{has_row}
-use Rattle.instance_keeper.specs.declared.observation.Instance.{Instance}
-use Rattle.instance_keeper.specs.declared.row.Candidate.{Candidate}
-use Rattle.instance_keeper.specs.declared.observation.Observation.{Observation}
-use Rattle.instance_keeper.specs.declared.row.Row.{Row}
-use Rattle.instance_keeper.specs.declared.row.Change.{Change}
-use Rattle.instance_keeper.specs.declared.row.Change.TheVariants as change
-use Rattle.instance_keeper.specs.declared.row.Table.TheVariants as table
-use Rattle.instance_keeper.specs.declared.row.Key.TheVariants as key
-use Rattle.instance_keeper.specs.Book.{BookState, are_known, source_servers, after_change, book_made, row_fits}
+use Rattle.kept_rows.specs.declared.observation.Instance.{Instance}
+use Rattle.kept_rows.specs.declared.row.Candidate.{Candidate}
+use Rattle.kept_rows.specs.declared.observation.Observation.{Observation}
+use Rattle.kept_rows.specs.declared.row.Row.{Row}
+use Rattle.kept_rows.specs.declared.row.Change.{Change}
+use Rattle.kept_rows.specs.declared.row.Change.TheVariants as change
+use Rattle.kept_rows.specs.declared.row.Table.TheVariants as table
+use Rattle.kept_rows.specs.declared.row.Key.TheVariants as key
+use Rattle.kept_rows.specs.Servers.{are_known, source_servers, row_fits}
+use Rattle.instance_keeper.specs.Book.{BookState, after_change, book_made}
 use Rattle.opening_book.specs.Audits.{audit_of, last_id}
 use Rattle.opening_book.specs.Counting.{counted, greatest, greatest_id, last_read, latest}
-use Rattle.instance_keeper.specs.Rows.{changed}
-use Rattle.instance_keeper.specs.declared.row.Row.TheVariants as row
+use Rattle.kept_rows.specs.Rows.{changed}
+use Rattle.kept_rows.specs.declared.row.Row.TheVariants as row
 use Rattle.orch_base.specs.declared.server.Settings.{Settings}
-use Rattle.opening_book.specs.Opening.{after_opening, changes_from, interrupting, is_opening_change, missing, missing_from, opened_book, opening_changes, opening_instance, put_instance, put_recovery, registered, registering, registering_from}
+use Rattle.audit_log.specs.Loading.{loaded_by}
+use Rattle.kept_rows.specs.Recoveries.{put_recovery}
+use Rattle.kept_rows.specs.declared.recovery.Recovery.{Recovery}
+use Rattle.orch_core.specs.Periods.{period_by}
+use Rattle.orch_core.proofs.Periods.{short-in}
+use Rattle.opening_book.specs.Opening.{after_opening, block_given, blocks_given, changes_from, interrupting, is_opening_change, loading, missing, missing_from, opened_book, opening_changes, opening_instance, put_instance, registered, registering, registering_from}
 use Rattle.server_model.specs.declared.server.Server.{Server}
 use Rattle.openings.specs.Listed.{transactions}
 use Rattle.openings.specs.Servers.{parts_of}
@@ -37,7 +43,7 @@ use Rattle.server_model.specs.Worlds.{World, server_at}
 use Rattle.scenarios.specs.declared.scenario.Scenario.{Scenario}
 use Rattle.orch_core.specs.Polls.{empty_slots}
 use Rattle.orch_core.specs.Keeping.{kept_if}
-use Rattle.scenarios.specs.Scenarios.{IsScenario, room_of, flushes_of, settings_of}
+use Rattle.scenarios.specs.Scenarios.{IsScenario, period_of, room_of, flushes_of, settings_of}
 use Rattle.scenarios.specs.Turns.{pollers}
 use Rattle.scenarios.proofs.Rooms.{longest-at}
 use Rattle.orch_core.specs.declared.configuration.Configuration.{Configuration}
@@ -128,18 +134,37 @@ module _ (P : Change → Type 0) (count : ℕ) (candidates : (c : Candidate) →
   all-registering rules there = all-from P (registering at b) 0 rules (λ n rule h. at-registering n rule (omega (arith, h, there)))
 
 -- what holds of each part holds of all
-pub all-opening : (P : Change → Type 0) (w : World) (at : Moment) (b : BookState) (known : List Bool) (rules : List (Option Rule)) (a : AuditState) → All P (missing_from w at b 0 known) → All P (registering_from at b 0 rules)
-    → All P (interrupting a at) → All P (opening_changes w at b known rules a)
-all-opening P w at b known rules a instances candidates ends =
-    All-append P (missing_from w at b 0 known) (registering_from at b 0 rules ++ interrupting a at) instances (All-append P (registering_from at b 0 rules) (interrupting a at) candidates ends)
+pub all-opening : (P : Change → Type 0) (w : World) (at : Moment) (b : BookState) (known : List Bool) (rules : List (Option Rule)) (recoveries : List Change) → All P (missing_from w at b 0 known) → All P (registering_from at b 0 rules)
+    → All P recoveries → All P (opening_changes w at b known rules recoveries)
+all-opening P w at b known rules recoveries instances candidates kept =
+    All-append P (missing_from w at b 0 known) (registering_from at b 0 rules ++ recoveries) instances (All-append P (registering_from at b 0 rules) recoveries candidates kept)
+
+-- of what a load keeps of recoveries
+pub all-loading : (P : Change → Type 0) (period : List ℕ → ℕ) (rows : List Row) (a : AuditState) (at : Moment) → ((r : Recovery) → P (put_recovery r)) → All P (loading period rows a at)
+all-loading P period rows a at each = All-append P (blocks_given period rows) (interrupting a at) (given rows) (All-map P put_recovery (closing a at) (λ k d h. each _))
+  where
+    one : (r : Row) → IfSome (block_given period r) P
+    one (row.Instance i) = tt
+    one (row.Downtime d) = tt
+    one (row.Candidate c) = tt
+    one (row.Recovery k) = go (is_none k.block)
+      where
+        go : (none : Bool) → IfSome (if none then Some (put_recovery (loaded_by period k)) else None) P
+        go true = each (loaded_by period k)
+        go false = tt
+    one (row.Switch enabled) = tt
+    one (row.Active node until) = tt
+
+    given : (rows : List Row) → All P (blocks_given period rows)
+    given [] = All-nil P
+    given (r ∷ rows) = all-option P (block_given period r) (blocks_given period rows) (one r) (given rows)
 
 -- each is a change of an opening
-pub fits-opening : (w : World) (at : Moment) (b : BookState) (known : List Bool) (rules : List (Option Rule)) (a : AuditState) → KnowsSources w.servers → length b.names ≡ length w.servers → length rules ≡ length w.servers
-    → All (λ c. IsTrue (is_opening_change (length b.names) c)) (opening_changes w at b known rules a)
-fits-opening w at b known rules a sources names there =
+pub fits-opening : (w : World) (at : Moment) (b : BookState) (known : List Bool) (rules : List (Option Rule)) (recoveries : List Change) → KnowsSources w.servers → length b.names ≡ length w.servers → length rules ≡ length w.servers
+    → All (λ c. IsTrue (is_opening_change (length b.names) c)) recoveries → All (λ c. IsTrue (is_opening_change (length b.names) c)) (opening_changes w at b known rules recoveries)
+fits-opening w at b known rules recoveries sources names there kept =
     let P : Change → Type 0 = λ c. IsTrue (is_opening_change (length b.names) c) in
-    all-opening P w at b known rules a (all-missing P (length b.names) (λ i h. h) w at b sources (sym names) known) (all-registering P (length b.names) (λ c h. h) at b rules (there ∙ sym names))
-    (All-map P put_recovery (closing a at) (λ k d h. refl))
+    all-opening P w at b known rules recoveries (all-missing P (length b.names) (λ i h. h) w at b sources (sym names) known) (all-registering P (length b.names) (λ c h. h) at b rules (there ∙ sym names)) kept
 
 -- ---- no change of a book changes its names or settings
 
@@ -150,16 +175,25 @@ settings-change b (change.Remove table.Downtime (key.Server n)) = refl
 settings-change b (change.Remove table.Candidate (key.Server n)) = refl
 settings-change b (change.Remove table.Recovery (key.Server n)) = refl
 settings-change b (change.Remove table.Switch (key.Server n)) = refl
+settings-change b (change.Remove table.Active (key.Server n)) = refl
 settings-change b (change.Remove table.Instance (key.Id id)) = refl
 settings-change b (change.Remove table.Downtime (key.Id id)) = refl
 settings-change b (change.Remove table.Candidate (key.Id id)) = refl
 settings-change b (change.Remove table.Recovery (key.Id id)) = refl
 settings-change b (change.Remove table.Switch (key.Id id)) = refl
+settings-change b (change.Remove table.Active (key.Id id)) = refl
 settings-change b (change.Remove table.Instance key.Global) = refl
 settings-change b (change.Remove table.Downtime key.Global) = refl
 settings-change b (change.Remove table.Candidate key.Global) = refl
 settings-change b (change.Remove table.Recovery key.Global) = refl
 settings-change b (change.Remove table.Switch key.Global) = refl
+settings-change b (change.Remove table.Active key.Global) = refl
+settings-change b (change.Remove table.Instance key.Active) = refl
+settings-change b (change.Remove table.Downtime key.Active) = refl
+settings-change b (change.Remove table.Candidate key.Active) = refl
+settings-change b (change.Remove table.Recovery key.Active) = refl
+settings-change b (change.Remove table.Switch key.Active) = refl
+settings-change b (change.Remove table.Active key.Active) = refl
 
 settings-opening : (b : BookState) (c : Change) → (after_opening b c).settings ≡ b.settings
 settings-opening b (change.Remove t k) = settings-change b (change.Remove t k)
@@ -168,6 +202,7 @@ settings-opening b (change.Put (row.Downtime d)) = refl
 settings-opening b (change.Put (row.Candidate c)) = refl
 settings-opening b (change.Put (row.Recovery r)) = refl
 settings-opening b (change.Put (row.Switch enabled)) = refl
+settings-opening b (change.Put (row.Active node until)) = refl
 
 names-opened : (b : BookState) (cs : List Change) → (opened_book b cs).names ≡ b.names
 names-opened b [] = refl
@@ -194,14 +229,18 @@ world_made s w room flushes made room_is flushes_are =
 
 -- the recoveries that count make an audit
 pub opened-is : (s : Scenario) (rows : List Row) → IsScenario s → IsAudit (loaded_audit s rows)
-opened-is s rows is = let few = is.checked.listed.few in audit-opened (length s.opening.servers) rows (omega (arith, few))
+opened-is s rows is =
+    let few = is.checked.listed.few in
+    audit-opened (period_of s) (length s.opening.servers) rows (λ cluster. short-in s.blocks s.block cluster is.blocks is.block) (omega (arith, few))
 
 few : (n : ℕ) → n ≤ 1000000000000000 → n ≤ greatest
 few n early = omega arith
 
-pub opened-by : (s : Scenario) (rows items : List Row) (last : ℕ) → IsScenario s → items ≡ start_rows s rows → last ≡ last_id rows → IsAudit (audit_of (last + 1) items)
-opened-by s rows items last is counting same =
-    subst (λ (n : ℕ). IsAudit (audit_of (n + 1) items)) (sym same) (subst (λ (xs : List Row). IsAudit (audit_of (last_id rows + 1) xs)) (sym counting) (opened-is s rows is))
+pub opened-by : (s : Scenario) (rows items : List Row) (last wait : ℕ) (configuration : Configuration) → IsScenario s → items ≡ start_rows s rows → last ≡ last_id rows → configuration ≡ configuration_of wait s
+    → IsAudit (audit_of (period_by configuration) (last + 1) items)
+opened-by s rows items last wait configuration is counting same configured =
+    subst (λ (c : Configuration). IsAudit (audit_of (period_by c) (last + 1) items)) (sym configured)
+    (subst (λ (n : ℕ). IsAudit (audit_of (period_of s) (n + 1) items)) (sym same) (subst (λ (xs : List Row). IsAudit (audit_of (period_of s) (last_id rows + 1) xs)) (sym counting) (opened-is s rows is)))
 
 pub moment-within : (s : Scenario) (rows items : List Row) (moment : ℕ) → IsScenario s → items ≡ start_rows s rows → moment ≡ latest s.moment.0 items → moment ≤ 2 ^ 63
 moment-within s rows items moment is counting made =
@@ -209,36 +248,42 @@ moment-within s rows items moment is counting made =
     subst (λ (n : ℕ). n ≤ greatest) (sym (made ∙ ap (latest s.moment.0) counting)) (latest-most (length s.opening.servers) greatest_id s.moment.0 rows early)
 
 -- the pieces of an opening, as they were made one after another of the rows that the keeper gave
-pub record IsOpening (s : Scenario) (given : List Row) (w : World) (settings : List Settings) (items : List Row) (moment : Moment) (b b' : BookState) (a a' : AuditState) (slots : List (Option Observation)) (reads : ℕ) (jobs : List Unended) (wait : ℕ) (configuration : Configuration) : Type 0 where
+pub record IsOpening (s : Scenario) (given : List Row) (w : World) (settings : List Settings) (items : List Row) (moment : Moment) (b b' : BookState) (a a' : AuditState) (recoveries : List Change) (slots : List (Option Observation)) (reads : ℕ) (jobs : List Unended) (wait : ℕ) (configuration : Configuration) : Type 0 where
   pub world : w ≡ start_world s
   pub settings_made : settings ≡ settings_of s
   pub counting : items ≡ start_rows s given
   pub moment_made : moment.0 ≡ latest s.moment.0 items
   pub loads : b ≡ book_made settings items
-  pub audits : a ≡ audit_of (last_id given + 1) items
-  pub completes : b' ≡ opened_book b (opening_changes w moment b s.known s.rules a)
+  pub audits : a ≡ audit_of (period_by configuration) (last_id given + 1) items
+  pub keeps : recoveries ≡ loading (period_by configuration) items a moment
+  pub completes : b' ≡ opened_book b (opening_changes w moment b s.known s.rules recoveries)
   pub closes : a' ≡ closed a moment
   pub empty : slots ≡ empty_slots
   pub read : reads ≡ last_read items
   pub idle : jobs ≡ []
   pub configured : configuration ≡ configuration_of wait s
 
-module _ (s : Scenario) (given : List Row) (w : World) (settings : List Settings) (items : List Row) (moment : Moment) (b b' : BookState) (a a' : AuditState) (slots : List (Option Observation)) (reads : ℕ) (jobs : List Unended) (wait : ℕ) (configuration : Configuration)
-    (is : IsOpening s given w settings items moment b b' a a' slots reads jobs wait configuration) where
+module _ (s : Scenario) (given : List Row) (w : World) (settings : List Settings) (items : List Row) (moment : Moment) (b b' : BookState) (a a' : AuditState) (recoveries : List Change) (slots : List (Option Observation)) (reads : ℕ) (jobs : List Unended) (wait : ℕ) (configuration : Configuration)
+    (is : IsOpening s given w settings items moment b b' a a' recoveries slots reads jobs wait configuration) where
   abbrev made : State
   made = record { world = w; moment = moment.0; book = b'; audit = a'; slots = slots; reads = reads; jobs = jobs; last_job = 0; configuration = configuration }
 
   abbrev changes : List Change
-  changes = opening_changes w moment b s.known s.rules a
+  changes = opening_changes w moment b s.known s.rules recoveries
 
   moment-most : IsScenario s → moment.0 ≤ 2 ^ 63
   moment-most scenario = moment-within s given items moment.0 scenario is.counting is.moment_made
 
+  audit_is : a ≡ loaded_audit s given
+  audit_is =
+      is.audits ∙ ap (λ (c : Configuration). audit_of (period_by c) (last_id given + 1) items) is.configured
+      ∙ ap (audit_of (period_of s) (last_id given + 1)) is.counting
+
   audit_made : a' ≡ closed (loaded_audit s given) moment
-  audit_made = is.closes ∙ ap (λ (x : AuditState). closed x moment) (is.audits ∙ ap (audit_of (last_id given + 1)) is.counting)
+  audit_made = is.closes ∙ ap (λ (x : AuditState). closed x moment) audit_is
 
   made-begun : HasBegun a'.recoveries
-  made-begun = subst (λ (x : AuditState). HasBegun x.recoveries) (sym audit_made) (closed-begun (loaded_audit s given) moment (counted-begun (length s.opening.servers) greatest_id given))
+  made-begun = subst (λ (x : AuditState). HasBegun x.recoveries) (sym audit_made) (closed-begun (loaded_audit s given) moment (counted-begun (period_of s) (length s.opening.servers) greatest_id given))
 
   pub IsState-made : IsScenario s → IsState made
   IsState-made scenario = record {
@@ -255,6 +300,7 @@ module _ (s : Scenario) (given : List Row) (w : World) (settings : List Settings
     begun = made-begun;
     moment = moment-most scenario;
     block = subst (λ (c : Configuration). c.block ≤ 1000000000) (sym is.configured) scenario.block;
+    blocks = subst (λ (c : Configuration). All (λ b. b.seconds ≤ 1000000000) c.blocks) (sym is.configured) scenario.blocks;
   }
 
   moment_is : moment ≡ start_moment s given
@@ -265,15 +311,19 @@ module _ (s : Scenario) (given : List Row) (w : World) (settings : List Settings
       is.loads ∙ ap (book_made settings) is.counting ∙ ap (λ (ns : List Settings). book_made ns (start_rows s given)) is.settings_made
       ∙ ap (λ (n : ℕ). book_made (settings_of s) (counted n greatest_id given)) (sym (length-map s.opening.servers (λ i. i.settings)))
 
-  audit_is : a ≡ loaded_audit s given
-  audit_is = is.audits ∙ ap (audit_of (last_id given + 1)) is.counting
+  recoveries_are : recoveries ≡ loading (period_of s) (start_rows s given) (loaded_audit s given) (start_moment s given)
+  recoveries_are =
+      is.keeps ∙ ap (λ (c : Configuration). loading (period_by c) items a moment) is.configured
+      ∙ ap (λ (xs : List Row). loading (period_of s) xs a moment) is.counting
+      ∙ ap (λ (x : AuditState). loading (period_of s) (start_rows s given) x moment) audit_is
+      ∙ ap (loading (period_of s) (start_rows s given) (loaded_audit s given)) moment_is
 
-  pub changes_are : opening_changes w moment b s.known s.rules a ≡ start_changes s given
+  pub changes_are : opening_changes w moment b s.known s.rules recoveries ≡ start_changes s given
   changes_are =
-      ap (λ (x : World). opening_changes x moment b s.known s.rules a) is.world
-      ∙ ap (λ (x : Moment). opening_changes (start_world s) x b s.known s.rules a) moment_is
-      ∙ ap (λ (x : BookState). opening_changes (start_world s) (start_moment s given) x s.known s.rules a) book_is
-      ∙ ap (λ (x : AuditState). opening_changes (start_world s) (start_moment s given) (loaded_book s given) s.known s.rules x) audit_is
+      ap (λ (x : World). opening_changes x moment b s.known s.rules recoveries) is.world
+      ∙ ap (λ (x : Moment). opening_changes (start_world s) x b s.known s.rules recoveries) moment_is
+      ∙ ap (λ (x : BookState). opening_changes (start_world s) (start_moment s given) x s.known s.rules recoveries) book_is
+      ∙ ap (λ (x : List Change). opening_changes (start_world s) (start_moment s given) (loaded_book s given) s.known s.rules x) recoveries_are
 
   pub state_is : made ≡ start s wait given
   state_is =
@@ -295,7 +345,7 @@ module _ (s : Scenario) (given : List Row) (w : World) (settings : List Settings
   StartsBy-made (Some rows) told = subst (λ (x : List Row). made ≡ start s wait x) told state_is
 
   pub kept_made : (kept : Option (List Row)) → IfSome kept (λ rows. given ≡ rows)
-      → kept_if true kept (opening_changes w moment b s.known s.rules a) ≡ kept_at_start true kept s
+      → kept_if true kept (opening_changes w moment b s.known s.rules recoveries) ≡ kept_at_start true kept s
   kept_made None told = refl
   kept_made (Some rows) told =
       ap (λ (cs : List Change). Some (changed rows cs)) (changes_are ∙ ap (start_changes s) told)

@@ -1,36 +1,39 @@
 -- Turns keep what holds of states.
 use Rattle.std.proofs.Common.{◌≡◌, ℕ, ◌+◌, ◌<◌, ◌≤◌, ◌^◌, Bool, true, false, List, [], ◌∷◌, length, Option, None, Some, refl, sym, ap, subst, ◌∙◌, arith}
 use Rattle.std.specs.Prelude.{All, min, IfSome, ◌&&◌, nat_lt, slice_set, fold, map, Ok, Err, if◌then◌else◌}
-use Rattle.std.proofs.lemmas.Bool.{false≢true}
 use Rattle.std.proofs.lemmas.List.{length-set, length-replicate, length-map}
 use Rattle.std.proofs.lemmas.List.Elements.{All-nil, All-set, All-replicate}
 use Rattle.orch_base.specs.declared.server.Settings.{Settings}
 use Rattle.orch_base.specs.declared.server.ServerNo.{ServerNo}
-use Rattle.instance_keeper.specs.declared.observation.Observation.{Observation}
-use Rattle.instance_keeper.specs.declared.observation.Instance.{Instance}
-use Rattle.instance_keeper.specs.declared.row.Change.{Change}
-use Rattle.instance_keeper.specs.declared.row.Row.{Row}
-use Rattle.instance_keeper.specs.Rows.{changed}
-use Rattle.instance_keeper.specs.declared.row.Row.TheVariants as row
-use Rattle.instance_keeper.specs.Book.{BookState, are_known, observed_servers, seen_servers, source_servers, row_fits, empty_book, after_put, after_row, book_made, instance_at, renewed, renewed_book, stored_over}
+use Rattle.kept_rows.specs.declared.observation.Observation.{Observation}
+use Rattle.kept_rows.specs.declared.observation.Instance.{Instance}
+use Rattle.kept_rows.specs.declared.row.Change.{Change}
+use Rattle.kept_rows.specs.declared.row.Row.{Row}
+use Rattle.kept_rows.specs.Rows.{changed}
+use Rattle.kept_rows.specs.declared.row.Row.TheVariants as row
+use Rattle.kept_rows.specs.Servers.{are_known, observed_servers, seen_servers, source_servers, row_fits}
+use Rattle.instance_keeper.specs.Book.{BookState, empty_book, after_put, after_row, book_made, instance_at, renewed, renewed_book, stored_over}
 use Rattle.audit_log.specs.Audits.{AuditState, IsAudit, closed}
 use Rattle.opening_book.proofs.Recoveries.{audit-loaded}
 use Rattle.opening_book.specs.Counting.{counted, loaded}
 use Rattle.orch_base.specs.declared.server.Moment.{Moment}
 use Rattle.orch_core.specs.Restarts.{interrupted_at, last_given, reloaded_audit, reloaded_book, reloaded_moment}
 use Rattle.orch_core.proofs.Recoveries.{HasBegun, closed-begun, closed-is, counted-begun, reloaded-most}
-use Rattle.instance_keeper.specs.Seeing.{seen_in}
+use Rattle.kept_rows.specs.Seeing.{seen_in}
 use Rattle.server_model.specs.declared.server.Server.{Server}
 use Rattle.server_words.specs.declared.status.Status.{Status}
 use Rattle.server_words.specs.declared.status.StatusFault.{StatusFault}
 use Rattle.server_words.specs.declared.status.StatusFault.TheVariants as seeing
-use Rattle.server_model.specs.Gtids.{status, status_in, status_of, source_at, seen_set}
+use Rattle.server_model.specs.Gtids.{status, status_in, status_of, source_at, seen_purged, seen_set}
 use Rattle.server_model.specs.Run.{AllAllowed, AllJoinWell, run}
 use Rattle.server_model.specs.Worlds.{World, server_at}
+use Rattle.turns.specs.declared.turn.Step.{Step}
 use Rattle.turns.specs.declared.turn.Turn.{Turn}
-use Rattle.turns.specs.declared.turn.Turn.TheVariants as turn
-use Rattle.scenarios.specs.Turns.{pollers, IsTurn}
-use Rattle.orch_core.specs.Turns.{exchanges_of, is_exchange, ticked}
+use Rattle.turns.specs.declared.turn.Step.TheVariants as step
+use Rattle.scenarios.specs.Turns.{pollers, IsStep}
+use Rattle.orch_core.specs.Turns.{exchange_of, later}
+use Rattle.orch_core.specs.Periods.{period_by}
+use Rattle.orch_core.proofs.Periods.{period-short}
 use Rattle.unended_jobs.specs.declared.unended.Unended.{Unended}
 use Rattle.unended_jobs.specs.Unended.{IsUnended}
 use Rattle.jobs_in_flight.specs.Jobs.{Rise, stored}
@@ -38,28 +41,21 @@ use Rattle.orch_core.specs.States.{HaveEntries, State, IsSlot, IsState}
 use Rattle.orch_core.proofs.Sources.{KnowsSources, source-at, sources-run}
 use Rattle.orch_core.specs.Polls.{empty_slots, changes_of}
 use Rattle.orch_core.specs.Readings.{reading_by}
-use Rattle.orch_core.specs.Replies.{exchange_reply, reply_of}
-use Rattle.orch_core.specs.Runs.{engine, step, exchange_step}
-use Rattle.orch_core.specs.Keeping.{StepsTo, asks, kept_by, kept_if}
+use Rattle.orch_core.specs.After.{after_restart, step as turn_step}
+use Rattle.orch_core.specs.Runs.{engine}
+use Rattle.orch_core.specs.Keeping.{StepsTo, kept_by, kept_if}
 
--- a turn's exchanges are allowed, and none is an attachment
-
-pub Allowed-turn : (count : ℕ) (w : World) (t : Turn) → IsTurn count t → AllAllowed w (exchanges_of t) × AllJoinWell w (exchanges_of t)
-Allowed-turn count w (turn.Write n size) is = ((is.1, tt), (tt, tt))
-Allowed-turn count w (turn.Fetch n) is = ((tt, tt), (tt, tt))
-Allowed-turn count w (turn.Apply n) is = ((tt, tt), (tt, tt))
-Allowed-turn count w (turn.Fail n) is = ((tt, tt), (tt, tt))
-Allowed-turn count w (turn.Heal n) is = ((tt, tt), (tt, tt))
-Allowed-turn count w (turn.Cut n link) is = ((tt, tt), (tt, tt))
-Allowed-turn count w (turn.Join n link) is = ((tt, tt), (tt, tt))
-Allowed-turn count w (turn.Rotate n) is = ((tt, tt), (tt, tt))
-Allowed-turn count w (turn.Tick seconds) is = (tt, tt)
-Allowed-turn count w (turn.Job job) is = (tt, tt)
-Allowed-turn count w turn.Scan is = (tt, tt)
-Allowed-turn count w (turn.PollRead p n) is = (tt, tt)
-Allowed-turn count w (turn.PollStore p) is = (tt, tt)
-Allowed-turn count w (turn.Command c) is = (tt, tt)
-Allowed-turn count w turn.Restart is = (tt, tt)
+-- a step's exchange is allowed, and is no attachment
+pub Allowed-step : (count : ℕ) (w : World) (x : Step) → IsStep count x → AllAllowed w (exchange_of x ∷ []) × AllJoinWell w (exchange_of x ∷ [])
+Allowed-step count w (step.Write n size) is = ((is.1, tt), (tt, tt))
+Allowed-step count w (step.Fetch n) is = ((tt, tt), (tt, tt))
+Allowed-step count w (step.Apply n) is = ((tt, tt), (tt, tt))
+Allowed-step count w (step.Fail n) is = ((tt, tt), (tt, tt))
+Allowed-step count w (step.Heal n) is = ((tt, tt), (tt, tt))
+Allowed-step count w (step.Cut n link) is = ((tt, tt), (tt, tt))
+Allowed-step count w (step.Join n link) is = ((tt, tt), (tt, tt))
+Allowed-step count w (step.Rotate n) is = ((tt, tt), (tt, tt))
+Allowed-step count w (step.Purge n file) is = ((tt, tt), (tt, tt))
 
 min-most : (a most : ℕ) → min a most ≤ most
 min-most a most = omega arith
@@ -81,7 +77,7 @@ seen_if w false x fault known = refl
 
 seen_known : (w : World) (n : ℕ) (o : Option Server) → KnowsSources w.servers → server_at w n ≡ o → are_known (length w.servers) (seen_servers (seen_in (status_in w o))) ≡ true
 seen_known w n None all at = refl
-seen_known w n (Some s) all at = seen_if w (s.up && s.desk) (status_of s (source_at w s) (seen_set w s)) seeing.Unreachable (source-at w.servers n s all at)
+seen_known w n (Some s) all at = seen_if w (s.up && s.desk) (status_of s (source_at w s) (seen_set w s) (seen_purged w s)) seeing.Unreachable (source-at w.servers n s all at)
 
 pub reading_known : (w : World) (n : ServerNo) (read now : ℕ) → KnowsSources w.servers → n.0 < length w.servers → are_known (length w.servers) (observed_servers (reading_by w n read now)) ≡ true
 reading_known w n read now all within =
@@ -95,6 +91,7 @@ names-put b (row.Downtime d) = refl
 names-put b (row.Candidate c) = refl
 names-put b (row.Recovery r) = refl
 names-put b (row.Switch enabled) = refl
+names-put b (row.Active node until) = refl
 
 names-row : (b : BookState) (r : Row) → (after_row b r).names ≡ b.names
 names-row b r = go (row_fits (length b.names) r)
@@ -133,6 +130,7 @@ settings-put b (row.Downtime d) = refl
 settings-put b (row.Candidate c) = refl
 settings-put b (row.Recovery r) = refl
 settings-put b (row.Switch enabled) = refl
+settings-put b (row.Active node until) = refl
 
 settings-row : (b : BookState) (r : Row) → (after_row b r).settings ≡ b.settings
 settings-row b r = go (row_fits (length b.names) r)
@@ -165,40 +163,41 @@ settings-stored b (Some o) = settings-over b o (instance_at b o.no)
 
 -- each turn keeps what holds of states
 
--- a moment later is still at most 2^63
-pub ticked-most : (now : ℕ) (t : Turn) → now ≤ 2 ^ 63 → ticked now t ≤ 2 ^ 63
-ticked-most now (turn.Tick seconds) most = min-most (now + seconds) (2 ^ 63)
-ticked-most now (turn.Job job) most = most
-ticked-most now turn.Scan most = most
-ticked-most now (turn.Write n size) most = most
-ticked-most now (turn.Fetch n) most = most
-ticked-most now (turn.Apply n) most = most
-ticked-most now (turn.Fail n) most = most
-ticked-most now (turn.Heal n) most = most
-ticked-most now (turn.Cut n link) most = most
-ticked-most now (turn.Join n link) most = most
-ticked-most now (turn.Rotate n) most = most
-ticked-most now (turn.PollRead p n) most = most
-ticked-most now (turn.PollStore p) most = most
-ticked-most now (turn.Command c) most = most
-ticked-most now turn.Restart most = most
-
-pub IsState-exchange : (s : State) (t : Turn) (w : World) (moment : ℕ) → IsState s → IsTurn (length s.world.servers) t
-    → w ≡ run s.world (exchanges_of t) → length w.servers ≡ length s.world.servers → moment ≡ ticked s.moment t → IsState (record s { world = w; moment = moment })
-IsState-exchange s t w moment is turn world servers passed = record {
+pub IsState-step : (s : State) (x : Step) (w : World) → IsState s → IsStep (length s.world.servers) x → w ≡ run s.world (exchange_of x ∷ []) → length w.servers ≡ length s.world.servers → IsState (record s { world = w })
+IsState-step s x w is step world servers = record {
   names = is.names ∙ sym servers;
   settings = is.settings ∙ sym servers;
   slots = is.slots;
   observed = subst (λ count. All (IsSlot count) s.slots) (sym servers) is.observed;
-  sources = subst (λ (v : World). KnowsSources v.servers) (sym world) (sources-run s.world (exchanges_of t) (Allowed-turn (length s.world.servers) s.world t turn).0 is.sources);
+  sources = subst (λ (v : World). KnowsSources v.servers) (sym world) (sources-run s.world (exchange_of x ∷ []) (Allowed-step (length s.world.servers) s.world x step).0 is.sources);
   jobs = subst (λ count. All (IsUnended count) s.jobs) (sym servers) is.jobs;
   rising = is.rising;
   audit = is.audit;
   entries = is.entries;
   next = is.next;
   begun = is.begun;
+  moment = is.moment;
   block = is.block;
-  moment = subst (λ (n : ℕ). n ≤ 2 ^ 63) (sym passed) (ticked-most s.moment t is.moment);
+  blocks = is.blocks;
+}
+
+-- a moment later is still at most 2^63
+pub IsState-tick : (s : State) (seconds moment : ℕ) → IsState s → moment ≡ later s.moment seconds → IsState (record s { moment = moment })
+IsState-tick s seconds moment is passed = record {
+  names = is.names;
+  settings = is.settings;
+  slots = is.slots;
+  observed = is.observed;
+  sources = is.sources;
+  jobs = is.jobs;
+  rising = is.rising;
+  audit = is.audit;
+  entries = is.entries;
+  next = is.next;
+  begun = is.begun;
+  moment = subst (λ (n : ℕ). n ≤ 2 ^ 63) (sym passed) (min-most (s.moment + seconds) (2 ^ 63));
+  block = is.block;
+  blocks = is.blocks;
 }
 
 pub IsState-read : (s : State) (p : ℕ) (n : ServerNo) (o : Observation) (reads : ℕ) (read now : ℕ) → IsState s → n.0 < length s.world.servers
@@ -217,6 +216,7 @@ IsState-read s p n o reads read now is within reading = record {
   begun = is.begun;
   moment = is.moment;
   block = is.block;
+  blocks = is.blocks;
 }
 
 pub IsState-store : (s : State) (p : ℕ) (b : BookState) (slot left : Option Observation) → IsState s → b ≡ stored s.book slot → left ≡ None
@@ -235,6 +235,7 @@ IsState-store s p b slot left is stores empty = record {
   begun = is.begun;
   moment = is.moment;
   block = is.block;
+  blocks = is.blocks;
 }
 
 -- ---- a restart
@@ -243,7 +244,7 @@ IsState-store s p b slot left is stores empty = record {
 pub reloaded-is : (rows : List Row) (s : State) → IsState s → length s.book.settings ≤ 2 ^ 32 → IsAudit (reloaded_audit rows s)
 reloaded-is rows s is few =
     let first = is.audit.first in
-    audit-loaded (length s.book.settings) s.audit.next (last_given s) rows few first (omega (arith, is.next)) (omega (arith, first))
+    audit-loaded (period_by s.configuration) (period-short s is) (length s.book.settings) s.audit.next (last_given s) rows few first (omega (arith, is.next)) (omega (arith, first))
 
 -- what a restart makes of a state, by the rows that the keeper gave
 pub record IsRestarted (rows : List Row) (s : State) (b : BookState) (a : AuditState) (moment : Moment) (slots : List (Option Observation)) (jobs : List Unended) : Type 0 where
@@ -271,13 +272,14 @@ module _ (rows : List Row) (s : State) (b : BookState) (a : AuditState) (moment 
     rising = let low : 0 ≤ s.last_job = omega arith in subst (λ (xs : List Unended). Rise 0 xs s.last_job) (sym re.dropped) low;
     entries = subst (HaveEntries a 0) (sym re.dropped) tt;
     block = is.block;
+    blocks = is.blocks;
     audit = subst IsAudit (sym re.audit) (closed-is (reloaded_audit rows s) moment (reloaded-is rows s is few));
     next = subst (λ (x : AuditState). x.next < 2 ^ 64) (sym re.audit) is.next;
-    begun = subst (λ (x : AuditState). HasBegun x.recoveries) (sym re.audit) (closed-begun (reloaded_audit rows s) moment (counted-begun (length s.book.settings) (last_given s) rows));
-    moment = subst (λ (m : Moment). m.0 ≤ 2 ^ 63) (sym re.moment_is) (reloaded-most (length s.book.settings) (last_given s) s.moment rows is.moment);
+    begun = subst (λ (x : AuditState). HasBegun x.recoveries) (sym re.audit) (closed-begun (reloaded_audit rows s) moment (counted-begun (period_by s.configuration) (length s.book.settings) (last_given s) rows));
+    moment = subst (λ (m : Moment). m.0 ≤ 2 ^ 63) (sym re.moment_is) (reloaded-most (period_by s.configuration) (length s.book.settings) (last_given s) s.moment rows is.moment);
   }
 
-  pub step-restart : restarted ≡ step rows s turn.Restart
+  pub step-restart : restarted ≡ after_restart rows s
   step-restart =
       ap (λ (x : BookState). record restarted { book = x }) re.book
       ∙ ap (λ (x : AuditState). record restarted { book = reloaded_book rows s; audit = x }) audit_is
@@ -286,9 +288,9 @@ module _ (rows : List Row) (s : State) (b : BookState) (a : AuditState) (moment 
       ∙ ap (λ (x : List Unended). record s { moment = reloaded_moment rows s; book = reloaded_book rows s; audit = closed (reloaded_audit rows s) (interrupted_at rows s); slots = empty_slots; jobs = x }) re.dropped
 
 -- a turn by the rows that the keeper gave
-pub StepsTo-given : (kept : Option (List Row)) (given : List Row) (s now : State) (t : Turn) → IfSome kept (λ rows. given ≡ rows) → now ≡ step given s t → StepsTo engine kept s t now
+pub StepsTo-given : (kept : Option (List Row)) (given : List Row) (s now : State) (t : Turn) → IfSome kept (λ rows. given ≡ rows) → now ≡ turn_step given s t → StepsTo engine kept s t now
 StepsTo-given None given s now t told is = (given, is)
-StepsTo-given (Some rows) given s now t told is = subst (λ (x : List Row). now ≡ step x s t) told is
+StepsTo-given (Some rows) given s now t told is = subst (λ (x : List Row). now ≡ turn_step x s t) told is
 
 pub kept_given : (kept : Option (List Row)) (given : List Row) (s : State) (t : Turn) → IfSome kept (λ rows. given ≡ rows) → kept_if true kept (changes_of given s t) ≡ kept_by engine true kept s t
 kept_given None given s t told = refl
@@ -296,33 +298,9 @@ kept_given (Some rows) given s t told = ap (λ (x : List Row). Some (changed row
 
 -- a turn that asks the keeper for nothing
 
-pub StepsTo-any : (kept : Option (List Row)) (s now : State) (t : Turn) → ((rows : List Row) → now ≡ step rows s t) → StepsTo engine kept s t now
+pub StepsTo-any : (kept : Option (List Row)) (s now : State) (t : Turn) → ((rows : List Row) → now ≡ turn_step rows s t) → StepsTo engine kept s t now
 StepsTo-any None s now t is = ([], is [])
 StepsTo-any (Some rows) s now t is = is rows
-
--- what is made of a turn that is an exchange
-pub record IsExchange (rows : List Row) (s : State) (t : Turn) : Type 0 where
-  pub steps : step rows s t ≡ exchange_step s t
-  pub changes : changes_of rows s t ≡ []
-  pub reply : reply_of s t ≡ exchange_reply s.world s.moment t
-  pub asks_not : asks t ≡ false
-
-pub exchange-is : (rows : List Row) (s : State) (t : Turn) → is_exchange t ≡ true → IsExchange rows s t
-exchange-is rows s (turn.Write n size) is = record { steps = refl; changes = refl; reply = refl; asks_not = refl }
-exchange-is rows s (turn.Fetch n) is = record { steps = refl; changes = refl; reply = refl; asks_not = refl }
-exchange-is rows s (turn.Apply n) is = record { steps = refl; changes = refl; reply = refl; asks_not = refl }
-exchange-is rows s (turn.Fail n) is = record { steps = refl; changes = refl; reply = refl; asks_not = refl }
-exchange-is rows s (turn.Heal n) is = record { steps = refl; changes = refl; reply = refl; asks_not = refl }
-exchange-is rows s (turn.Cut n link) is = record { steps = refl; changes = refl; reply = refl; asks_not = refl }
-exchange-is rows s (turn.Join n link) is = record { steps = refl; changes = refl; reply = refl; asks_not = refl }
-exchange-is rows s (turn.Rotate n) is = record { steps = refl; changes = refl; reply = refl; asks_not = refl }
-exchange-is rows s (turn.Tick seconds) is = record { steps = refl; changes = refl; reply = refl; asks_not = refl }
-exchange-is rows s (turn.Job job) is = absurd (false≢true is)
-exchange-is rows s turn.Scan is = absurd (false≢true is)
-exchange-is rows s (turn.PollRead p n) is = absurd (false≢true is)
-exchange-is rows s (turn.PollStore p) is = absurd (false≢true is)
-exchange-is rows s (turn.Command c) is = absurd (false≢true is)
-exchange-is rows s turn.Restart is = absurd (false≢true is)
 
 -- no change leaves the kept rows as they are
 pub kept_same : (made : Bool) (kept : Option (List Row)) → kept_if made kept [] ≡ kept

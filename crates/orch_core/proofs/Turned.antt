@@ -6,8 +6,9 @@ use Rattle.std.proofs.lemmas.Option.{slice_get-get_or}
 use Rattle.std.specs.Option.{option_map}
 use Rattle.std.proofs.lemmas.List.Elements.{All-cons, All-filter, All-head, All-tail}
 use Rattle.orch_base.specs.Memory.{next_count}
-use Rattle.instance_keeper.specs.declared.observation.Observation.{Observation}
-use Rattle.instance_keeper.specs.Book.{BookState, are_known, observed_servers, seen_servers}
+use Rattle.kept_rows.specs.declared.observation.Observation.{Observation}
+use Rattle.kept_rows.specs.Servers.{are_known, observed_servers, seen_servers}
+use Rattle.instance_keeper.specs.Book.{BookState}
 use Rattle.unended_jobs.specs.declared.unended.Unended.{Unended}
 use Rattle.unended_jobs.specs.declared.look.UnendedLook.{UnendedLook}
 use Rattle.unended_jobs.specs.Looks.{foretold, observation_of, step_of}
@@ -15,6 +16,7 @@ use Rattle.operations.specs.declared.step.JobStep.TheVariants as step
 use Rattle.unended_jobs.specs.Unended.{Flown, IsUnended, flown, number_of}
 use Rattle.unended_jobs.proofs.Going.{flown-allowed, flown-number, flown-sees, flown-unended, ready-of}
 use Rattle.unended_jobs.proofs.Looking.{foretold-observation, foretold-step}
+use Rattle.turns.specs.declared.turn.Act.TheVariants as act
 use Rattle.turns.specs.declared.turn.Turn.TheVariants as turn
 use Rattle.server_model.specs.Run.{AllAllowed, run}
 use Rattle.server_model.specs.Worlds.{World}
@@ -26,7 +28,7 @@ use Rattle.orch_core.specs.Closings.{closed_by, closing_changes, closing_of}
 use Rattle.orch_core.specs.declared.closing.Closing.{Closing}
 use Rattle.orch_core.specs.Jobs.{turn_of, turned_at}
 use Rattle.orch_core.specs.Polls.{changes_by, changes_of}
-use Rattle.orch_core.specs.Runs.{step as turn_step}
+use Rattle.orch_core.specs.After.{step as turn_step}
 use Rattle.orch_core.specs.States.{HaveEntries, IsOpenAt, IsSlot, IsState, State, entry_id}
 use Rattle.jobs_in_flight.proofs.Numbers.{found-number, Rise-with, Rise-without}
 use Rattle.orch_core.proofs.Closed.{closed_by-begun, closed_by-is, closed_by-next, closing-going, closing-open, entries-turned, flown-entry}
@@ -142,6 +144,7 @@ module _ (s : State) (id : ℕ) (is : IsState s) where
         begun = subst (λ (x : AuditState). HasBegun x.recoveries) (sym closes) (closed_by-begun s.audit now ends is.begun);
         moment = is.moment;
         block = is.block;
+        blocks = is.blocks;
       }
 
 -- ---- what a turn observes is of the servers
@@ -225,7 +228,7 @@ module _ (s : State) (id at : ℕ) (j : Unended) (look : UnendedLook) (is : IsSt
       closing-open s.audit s.jobs id j (foretold j look) here
       (ap (λ (t : Flown). entry_id t.next) looked.tells ∙ flown-entry s.world s.book (next_count s.reads) now_is j) is.entries
 
-  pub changes-here : changes_by s.book (observation_of look) ++ closing_changes s.audit now_is ends ≡ changes_of [] s (turn.Job id)
+  pub changes-here : changes_by s.book (observation_of look) ++ closing_changes s.audit now_is ends ≡ changes_of [] s (turn.Act (act.Job id))
   changes-here =
       ap (λ (o : Option Observation). changes_by s.book o ++ closing_changes s.audit now_is ends) (sym observation-is)
       ∙ ap (λ (c : Option Closing). changes_by s.book (job_observation (turned_at s id)) ++ closing_changes s.audit now_is c) (sym ends-is)
@@ -238,7 +241,7 @@ module _ (s : State) (id at : ℕ) (j : Unended) (look : UnendedLook) (is : IsSt
 
   pub step-here : (w : World) (b : BookState) (a : AuditState) (jobs : List Unended) (reads : ℕ) → w ≡ run s.world (job_exchanges (turn_by s.jobs id look)) → b ≡ book_turned s.book id (turn_by s.jobs id look)
       → a ≡ closed_by s.audit now_is ends → jobs ≡ jobs_turned s.jobs id (turn_by s.jobs id look) → reads ≡ reads_with s.reads (job_observation (turn_by s.jobs id look))
-      → record s { world = w; book = b; audit = a; reads = reads; jobs = jobs } ≡ turn_step [] s (turn.Job id)
+      → record s { world = w; book = b; audit = a; reads = reads; jobs = jobs } ≡ turn_step [] s (turn.Act (act.Job id))
   step-here w b a jobs reads world book closes joins counts =
       let w_is : w ≡ run s.world (job_exchanges (turned_at s id)) = world ∙ ap (λ t. run s.world (job_exchanges t)) turn_by-is in
       let b_is : b ≡ book_turned s.book id (turned_at s id) = book ∙ ap (book_turned s.book id) turn_by-is in

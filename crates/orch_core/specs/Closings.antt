@@ -2,10 +2,9 @@
 use Rattle.std.specs.Prelude.{ℕ, if◌then◌else◌, List, [], Option, Some, None}
 use Rattle.std.specs.Option.{option_map, option_to_list}
 use Rattle.audit_log.specs.Audits.{AuditState, acked_so, acknowledged_at, ended, ended_so, recovery_at}
-use Rattle.instance_keeper.specs.declared.recovery.Recovery.{Recovery as KeptRecovery}
-use Rattle.instance_keeper.specs.declared.row.Change.{Change}
-use Rattle.instance_keeper.specs.declared.row.Change.TheVariants as change
-use Rattle.instance_keeper.specs.declared.row.Row.TheVariants as row
+use Rattle.kept_rows.specs.declared.recovery.Recovery.{Recovery as KeptRecovery}
+use Rattle.kept_rows.specs.declared.row.Change.{Change}
+use Rattle.kept_rows.specs.Recoveries.{put_recovery}
 use Rattle.operations.specs.declared.step.JobStep.{JobStep}
 use Rattle.orch_base.specs.declared.server.Moment.{Moment}
 use Rattle.recovery_core.specs.Endings.{ending_of, is_acknowledged}
@@ -40,7 +39,7 @@ abbrev pub closed_so : Closing → Moment → KeptRecovery → KeptRecovery
 closed_so c now r = if c.acked then acked_so (ended_so now c.outcome r) else ended_so now c.outcome r
 
 abbrev pub closing_change : AuditState → Moment → Closing → Option Change
-closing_change a now c = option_map (λ r. change.Put (row.Recovery (closed_so c now r))) (recovery_at a c.id)
+closing_change a now c = option_map (λ r. put_recovery (closed_so c now r)) (recovery_at a c.id)
 
 abbrev pub closing_changes : AuditState → Moment → Option Closing → List Change
 closing_changes a now None = []

@@ -1,16 +1,15 @@
 -- Commands: what each answers, and what it changes.
-use Rattle.std.specs.Prelude.{◌≡◌, ◌<◌, ◌≤◌, ◌+◌, ℕ, ⊤, true, fold, length, map, unwrap_or, List, [], ◌∷◌, ◌++◌, All, Option, Some, None, Result, Ok, Err}
+use Rattle.std.specs.Prelude.{◌+◌, ℕ, true, map, unwrap_or, List, [], ◌∷◌, Option, Some, None, Result, Ok, Err}
 use Rattle.std.specs.Option.{option_to_list}
 use Rattle.orch_base.specs.declared.server.ServerNo.{ServerNo}
 use Rattle.orch_base.specs.Memory.{next_count}
-use Rattle.instance_keeper.specs.declared.observation.Observation.{Observation}
+use Rattle.kept_rows.specs.declared.observation.Observation.{Observation}
 use Rattle.server_words.specs.declared.status.Status.{Status as Seen}
-use Rattle.instance_keeper.specs.declared.row.Change.{Change}
-use Rattle.instance_keeper.specs.declared.row.Change.TheVariants as change
-use Rattle.instance_keeper.specs.declared.row.Key.TheVariants as key
-use Rattle.instance_keeper.specs.declared.row.Table.TheVariants as table
-use Rattle.instance_keeper.specs.Book.{BookState, after_change, after_discovery, are_known, discovery_change, fits, instance_at, observed_servers}
-use Rattle.instance_keeper.specs.Leases.{first_busy, taken}
+use Rattle.kept_rows.specs.declared.row.Change.{Change}
+use Rattle.kept_rows.specs.declared.row.Change.TheVariants as change
+use Rattle.kept_rows.specs.declared.row.Key.TheVariants as key
+use Rattle.kept_rows.specs.declared.row.Table.TheVariants as table
+use Rattle.instance_keeper.specs.Book.{BookState, discovery_change, instance_at}
 use Rattle.server_model.specs.Worlds.{World}
 use Rattle.commands.specs.declared.line.Line.{Line}
 use Rattle.commands.specs.declared.line.Line.TheVariants as line
@@ -24,28 +23,25 @@ use Rattle.commands.specs.declared.refusal.Refusal.{Refusal}
 use Rattle.commands.specs.declared.refusal.Refusal.TheVariants.{UnknownInstance, Unreachable}
 use Rattle.commands.specs.declared.turn.Command.{Command}
 use Rattle.commands.specs.declared.turn.CommandTurn.{CommandTurn}
+use Rattle.asking_commands.specs.Asking.{label_at}
 use Rattle.asking_commands.specs.Answers.{allowed, lines_of, permitted, unknown_in}
 use Rattle.audit_log.specs.Audits.{AuditState}
 use Rattle.book_commands.specs.declared.decided.Decided.{Decided}
-use Rattle.book_commands.specs.declared.decided.Effect.{Effect}
-use Rattle.book_commands.specs.declared.decided.Effect.TheVariants as effect
-use Rattle.book_commands.specs.Decisions.{audit_after as audit_decided, book_after as book_decided, decided_of, rows_of}
-use Rattle.turns.specs.declared.turn.Reply.{Reply}
-use Rattle.turns.specs.declared.turn.Reply.TheVariants as answered
+use Rattle.book_commands.specs.Decisions.{decided_of, rows_of}
+use Rattle.turns.specs.declared.reply.Reply.{Reply}
+use Rattle.turns.specs.declared.reply.Reply.TheVariants as answered
 use Rattle.unended_jobs.specs.declared.unended.Unended.{Unended}
-use Rattle.unended_jobs.specs.Unended.{number_of}
 use Rattle.permission.specs.Checks.{busy}
 use Rattle.recovery_core.specs.declared.scanning.Terms.{Terms}
-use Rattle.recovery_core.specs.Begun.{BeginInTurn, audit_after, leases_after}
-use Rattle.recovery_core.specs.Scans.{HasRoom, Staged, attempt_of, scanned}
+use Rattle.recovery_core.specs.Scans.{Staged, attempt_of, scanned}
 use Rattle.recovery_core.specs.Tries.{Begins as RecoveryBegins, recovery_try, takeover_try}
 use Rattle.recovery_permits.specs.declared.attempt.Attempt.{Attempt}
-use Rattle.unended_jobs.specs.declared.unended.Unended.TheVariants as unended
-use Rattle.instance_keeper.specs.declared.row.Row.TheVariants as row
+use Rattle.kept_rows.specs.Recoveries.{put_recovery}
 use Rattle.orch_core.specs.declared.configuration.Configuration.{Configuration}
 use Rattle.orch_core.specs.declared.command.Numbers.{Numbers}
 use Rattle.orch_core.specs.declared.command.Update.{Update}
 use Rattle.orch_core.specs.declared.command.Update.TheVariants as update
+use Rattle.orch_core.specs.Periods.{period_by}
 use Rattle.orch_core.specs.Readings.{reading_by}
 
 -- of two tests the first that refuses
@@ -53,87 +49,9 @@ abbrev pub first_of : Option Refusal → Option Refusal → Option Refusal
 first_of None later = later
 first_of (Some refusal) later = Some refusal
 
--- the job of a recovery that begins, with its entry in the audit
-abbrev pub recovery_job : RecoveryBegins → Unended
-recovery_job x = unended.Recovery x.job (Some x.entry.id)
-
 -- nothing is made of what is known
 abbrev pub stays : Update
 stays = update.Stays
-
--- the book after what a command makes of it: a job that begins has the leases of its list
-abbrev pub updated : BookState → Update → BookState
-updated b update.Stays = b
-updated b (update.Change c) = after_change b c
-updated b (update.Discovery o) = after_discovery b o
-updated b (update.Decides e) = book_decided b e
-updated b (update.Begins x) = record b { leases = taken b.leases x.list (number_of x.job) }
-updated b (update.Recovers xs) = record b { leases = leases_after b.leases xs }
-
--- the audit after it: a decision may acknowledge recoveries, and a recovery that begins has its entry
-abbrev pub audit_updated : AuditState → Update → AuditState
-audit_updated a update.Stays = a
-audit_updated a (update.Change c) = a
-audit_updated a (update.Discovery o) = a
-audit_updated a (update.Decides e) = audit_decided a e
-audit_updated a (update.Begins x) = a
-audit_updated a (update.Recovers xs) = audit_after a xs
-
--- the unended jobs after it, by rising number
-abbrev pub jobs_updated : List Unended → Update → List Unended
-jobs_updated jobs update.Stays = jobs
-jobs_updated jobs (update.Change c) = jobs
-jobs_updated jobs (update.Discovery o) = jobs
-jobs_updated jobs (update.Decides e) = jobs
-jobs_updated jobs (update.Begins x) = jobs ++ x.job ∷ []
-jobs_updated jobs (update.Recovers xs) = jobs ++ map recovery_job xs
-
--- the number of the last job that was begun
-abbrev pub last_job_updated : ℕ → Update → ℕ
-last_job_updated last update.Stays = last
-last_job_updated last (update.Change c) = last
-last_job_updated last (update.Discovery o) = last
-last_job_updated last (update.Decides e) = last
-last_job_updated last (update.Begins x) = number_of x.job
-last_job_updated last (update.Recovers xs) = fold (λ k x. x.job.core.id) last xs
-
--- each server of the list is one of the book's, and no job has a lease of it
-pub record MayTake (b : BookState) (list : List ServerNo) : Type 0 where
-  pub known : All (λ n. n.0 < length b.names) list
-  pub free : first_busy b.leases list ≡ None
-
--- the book takes the change of a decision, if it makes one
-abbrev pub IsEffect : BookState → Effect → Type 0
-IsEffect b effect.Stays = ⊤
-IsEffect b (effect.Change c) = fits (length b.names) c ≡ true
-IsEffect b (effect.Acks cluster) = ⊤
-
--- the book takes it, and the audit what begins, after the job of this number
-abbrev pub IsUpdate : BookState → AuditState → ℕ → Update → Type 0
-IsUpdate b a last update.Stays = ⊤
-IsUpdate b a last (update.Change c) = fits (length b.names) c ≡ true
-IsUpdate b a last (update.Discovery o) = are_known (length b.names) (observed_servers o) ≡ true
-IsUpdate b a last (update.Decides e) = IsEffect b e
-IsUpdate b a last (update.Begins x) = MayTake b x.list
-IsUpdate b a last (update.Recovers xs) = BeginInTurn (length b.names) b.leases a last xs
-
--- each entry that begins leaves an id
-abbrev pub LeavesIds : Update → Type 0
-LeavesIds update.Stays = ⊤
-LeavesIds (update.Change c) = ⊤
-LeavesIds (update.Discovery o) = ⊤
-LeavesIds (update.Decides e) = ⊤
-LeavesIds (update.Begins x) = ⊤
-LeavesIds (update.Recovers xs) = HasRoom xs
-
--- there is room for so many more jobs and so many more entries
-abbrev pub HasRoomFor : ℕ → ℕ → Update → Type 0
-HasRoomFor jobs entries update.Stays = ⊤
-HasRoomFor jobs entries (update.Change c) = ⊤
-HasRoomFor jobs entries (update.Discovery o) = ⊤
-HasRoomFor jobs entries (update.Decides e) = ⊤
-HasRoomFor jobs entries (update.Begins x) = 1 ≤ jobs
-HasRoomFor jobs entries (update.Recovers xs) = (length xs ≤ jobs) × (length xs ≤ entries)
 
 -- what a command answers, what it makes of what is known, how it changes the kept rows, and the greatest read number
 -- after it
@@ -211,36 +129,36 @@ begun_by w b n c p = begun n (refusal_by w b n.moment c p) (leases_by w b c p) (
 
 -- ---- a recovery begins
 
--- an operator asks for it: the switch, downtimes and filters make no difference
-abbrev pub by_hand : Numbers → Attempt
-by_hand n = record { by_master = true; by_intermediate = true; enabled = true; by_hand = true; block = n.block; now = n.moment }
+-- an operator asks for that of a server: the switch, downtimes and filters make no difference
+abbrev pub by_hand : BookState → Configuration → Numbers → ServerNo → Attempt
+by_hand b c n f = record { by_master = true; by_intermediate = true; enabled = true; by_hand = true; block = period_by c (label_at b f); now = n.moment }
 
 -- each entry is kept
 abbrev pub entries_put : List RecoveryBegins → List Change
-entries_put xs = map (λ x. change.Put (row.Recovery x.entry)) xs
+entries_put xs = map (λ x. put_recovery x.entry) xs
 
 -- a recovery begins with the next number, or is refused
 abbrev pub recovery_begun : Numbers → Result RecoveryBegins Refusal → Outcome
 recovery_begun n (Err r) = refusal n.reads r
 recovery_begun n (Ok x) = record { reply = answered.Begun (n.last_job + 1); book = update.Recovers (x ∷ []); rows = entries_put (x ∷ []); reads = n.reads }
 
-abbrev pub recovered : World → BookState → AuditState → Numbers → ServerNo → Outcome
-recovered w b a n f = recovery_begun n (recovery_try w b a (by_hand n) n.wait (n.last_job + 1) f)
+abbrev pub recovered : World → BookState → AuditState → Configuration → Numbers → ServerNo → Outcome
+recovered w b a c n f = recovery_begun n (recovery_try w b a (by_hand b c n f) n.wait (n.last_job + 1) f)
 
 -- a replica takes a master's place
-abbrev pub taken_over : World → BookState → AuditState → Numbers → Option ServerNo → ServerNo → Outcome
-taken_over w b a n None i = refusal n.reads UnknownInstance
-taken_over w b a n (Some d) i = recovery_begun n (takeover_try w b a (by_hand n) n.wait (n.last_job + 1) i d)
+abbrev pub taken_over : World → BookState → AuditState → Configuration → Numbers → Option ServerNo → ServerNo → Outcome
+taken_over w b a c n None i = refusal n.reads UnknownInstance
+taken_over w b a c n (Some d) i = recovery_begun n (takeover_try w b a (by_hand b c n i) n.wait (n.last_job + 1) i d)
 
 abbrev pub terms_of : BookState → Numbers → Terms
-terms_of b n = record { enabled = unwrap_or b.switch true; block = n.block; wait = n.wait; now = n.moment }
+terms_of b n = record { enabled = unwrap_or b.switch true; wait = n.wait; now = n.moment }
 
 -- a scan tries what the analysis asks for, and tells of each try
 abbrev pub scan_told : Numbers → Staged → Outcome
 scan_told n s = record { reply = answered.Told s.lines; book = update.Recovers s.begun; rows = entries_put s.begun; reads = n.reads }
 
 abbrev pub scan_by : World → BookState → AuditState → Configuration → Numbers → Outcome
-scan_by w b a c n = scan_told n (scanned w b a (attempt_of c.master c.intermediate (terms_of b n)) n.wait n.last_job)
+scan_by w b a c n = scan_told n (scanned w b a (attempt_of c.master c.intermediate (period_by c) b (terms_of b n)) n.wait n.last_job)
 
 -- ---- all commands
 
@@ -254,15 +172,15 @@ about none some None = none
 about none some (Some i) = some i
 
 -- the outcome of a command, by what it does
-abbrev pub outcome_by : World → BookState → AuditState → Numbers → CommandTurn → Route → Outcome
-outcome_by w b a n t Discovers = about (question b a n.reads t) (λ i. discovered b n.reads (next_reading w n i) (next_reading w n i).seen) t.command.i
-outcome_by w b a n t Forgets = about (question b a n.reads t) (forgotten n.reads (allowed (removal_refusal b t.command))) t.command.i
-outcome_by w b a n t (Asks q) = question b a n.reads t
-outcome_by w b a n t (Decides d) = decision b a n t d
-outcome_by w b a n t (Begins p) = begun_by w b n t.command p
-outcome_by w b a n t Recovers = about (refusal n.reads UnknownInstance) (recovered w b a n) t.command.i
-outcome_by w b a n t TakesOver = about (refusal n.reads UnknownInstance) (taken_over w b a n t.command.d) t.command.i
+abbrev pub outcome_by : World → BookState → AuditState → Configuration → Numbers → CommandTurn → Route → Outcome
+outcome_by w b a c n t Discovers = about (question b a n.reads t) (λ i. discovered b n.reads (next_reading w n i) (next_reading w n i).seen) t.command.i
+outcome_by w b a c n t Forgets = about (question b a n.reads t) (forgotten n.reads (allowed (removal_refusal b t.command))) t.command.i
+outcome_by w b a c n t (Asks q) = question b a n.reads t
+outcome_by w b a c n t (Decides d) = decision b a n t d
+outcome_by w b a c n t (Begins p) = begun_by w b n t.command p
+outcome_by w b a c n t Recovers = about (refusal n.reads UnknownInstance) (recovered w b a c n) t.command.i
+outcome_by w b a c n t TakesOver = about (refusal n.reads UnknownInstance) (taken_over w b a c n t.command.d) t.command.i
 
 -- the outcome of a command, by the numbers that it goes by
-unfoldable pub outcome_of : World → BookState → AuditState → Numbers → CommandTurn → Outcome
-outcome_of w b a n t = outcome_by w b a n t (route_of t.command.name)
+unfoldable pub outcome_of : World → BookState → AuditState → Configuration → Numbers → CommandTurn → Outcome
+outcome_of w b a c n t = outcome_by w b a c n t (route_of t.command.name)

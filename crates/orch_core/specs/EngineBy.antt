@@ -6,12 +6,12 @@ abbrev pub state_of : Inside → State
 state_of a = record {
   world = a.world;
   moment = a.moment.0;
-  book = a.book;
-  audit = a.audit.audit;
+  book = a.knowledge.book;
+  audit = a.knowledge.audit.audit;
   slots = a.slots.items;
   reads = a.reads;
-  jobs = a.jobs.items;
-  last_job = a.last_job;
+  jobs = a.knowledge.jobs.items;
+  last_job = a.knowledge.last_job;
   configuration = a.configuration;
 }
 

@@ -1,6 +1,6 @@
 -- What a keeper's fault is to a turn.
-use Rattle.instance_keeper.specs.declared.keeper.KeeperFault.{KeeperFault}
-use Rattle.instance_keeper.specs.declared.keeper.KeeperFault.TheVariants as keeper
+use Rattle.kept_rows.specs.declared.keeper.KeeperFault.{KeeperFault}
+use Rattle.kept_rows.specs.declared.keeper.KeeperFault.TheVariants as keeper
 use Rattle.orch_core.specs.declared.fault.TurnFault.{TurnFault}
 use Rattle.orch_core.specs.declared.fault.TurnFault.TheVariants as fault
 

@@ -2,11 +2,13 @@
 use Rattle.std.specs.Prelude.{◌≡◌, ◌≢◌, ◌≤◌, ◌<◌, ◌⊎◌, ℕ, Bool, true, false, List, [], length, take, slice_get, Option, Some, None, Result, Err, if◌then◌else◌}
 use Rattle.std.specs.Option.{option_map}
 use Rattle.orch_base.specs.Causes.{Rose}
-use Rattle.instance_keeper.specs.declared.row.Row.{Row}
-use Rattle.instance_keeper.specs.declared.row.Change.{Change}
-use Rattle.instance_keeper.specs.Rows.{changed}
+use Rattle.kept_rows.specs.declared.row.Row.{Row}
+use Rattle.kept_rows.specs.declared.row.Change.{Change}
+use Rattle.kept_rows.specs.Rows.{changed}
 use Rattle.orch_core.specs.declared.fault.TurnFault.{TurnFault}
 use Rattle.orch_core.specs.declared.fault.TurnFault.TheVariants as fault
+use Rattle.turns.specs.declared.turn.Act.{Act}
+use Rattle.turns.specs.declared.turn.Act.TheVariants as act
 use Rattle.turns.specs.declared.turn.Turn.{Turn}
 use Rattle.turns.specs.declared.turn.Turn.TheVariants as turn
 use Rattle.orch_core.specs.Runs.{Machine, LeadsTo, kept_after}
@@ -26,22 +28,21 @@ abbrev pub kept_by : {A : Type 0} → Machine A → Bool → Option (List Row) �
 kept_by m made kept s t = if made then option_map (λ rows. changed rows (m.changes rows s t)) kept else kept
 
 -- a restart asks the keeper for its rows
+abbrev pub act_asks : Act → Bool
+act_asks (act.PollRead p n) = false
+act_asks (act.PollStore p) = false
+act_asks (act.Command c) = false
+act_asks (act.Job job) = false
+act_asks act.Scan = false
+act_asks act.Restart = true
+
 abbrev pub asks : Turn → Bool
-asks turn.Restart = true
-asks (turn.Write n size) = false
-asks (turn.Fetch n) = false
-asks (turn.Apply n) = false
-asks (turn.Fail n) = false
-asks (turn.Heal n) = false
-asks (turn.Cut n link) = false
-asks (turn.Join n link) = false
-asks (turn.Rotate n) = false
+asks (turn.Step x) = false
 asks (turn.Tick seconds) = false
-asks (turn.Job job) = false
-asks turn.Scan = false
-asks (turn.PollRead p n) = false
-asks (turn.PollStore p) = false
-asks (turn.Command c) = false
+asks (turn.Act a) = act_asks a
+asks (turn.As node a) = act_asks a
+asks (turn.Claim node) = false
+asks (turn.Release node) = false
 
 -- a turn that calls the keeper: it asks for the rows, or changes one
 abbrev pub Calls : {A : Type 0} → Machine A → A → Turn → Type 0

@@ -5,11 +5,15 @@ pub mod Restarts
 pub mod Readings
 pub mod Beginnings
 pub mod BeginningsBy
+pub mod Knowing
+pub mod KnowingBy
+pub mod Periods
 pub mod Commands
 pub mod CommandsBy
 pub mod Turns
 pub mod Polls
 pub mod Replies
+pub mod After
 pub mod Runs
 pub mod Keeping
 pub mod Rounds

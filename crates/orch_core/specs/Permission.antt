@@ -4,7 +4,7 @@ use Rattle.orch_base.specs.declared.server.ServerNo.{ServerNo}
 use Rattle.instance_keeper.specs.Book.{BookState}
 use Rattle.server_model.specs.Gtids.{status}
 use Rattle.server_model.specs.Worlds.{World}
-use Rattle.instance_keeper.specs.Seeing.{seen_in}
+use Rattle.kept_rows.specs.Seeing.{seen_in}
 use Rattle.commands.specs.declared.line.Line.{Line}
 use Rattle.commands.specs.declared.refusal.Refusal.{Refusal}
 use Rattle.commands.specs.declared.refusal.Refusal.TheVariants.{UnknownInstance, Unreachable}
@@ -17,11 +17,12 @@ use Rattle.command_routes.specs.Routes.{route_of}
 use Rattle.command_jobs.specs.Jobs.{refusal_by as planned_refusal}
 use Rattle.commands.specs.declared.turn.Command.{Command}
 use Rattle.asking_commands.specs.Answers.{unknown_in}
-use Rattle.turns.specs.declared.turn.Reply.{Reply}
-use Rattle.turns.specs.declared.turn.Reply.TheVariants as answered
+use Rattle.turns.specs.declared.reply.Reply.{Reply}
+use Rattle.turns.specs.declared.reply.Reply.TheVariants as answered
 use Rattle.orch_core.specs.Commands.{by_hand, first_of, removal_refusal}
 use Rattle.orch_core.specs.Polls.{numbers_of}
 use Rattle.orch_core.specs.declared.command.Numbers.{Numbers}
+use Rattle.orch_core.specs.declared.configuration.Configuration.{Configuration}
 use Rattle.orch_core.specs.States.{State}
 
 -- 5: orchestrator doesn't reach the server
@@ -30,32 +31,32 @@ unreached w None = None
 unreached w (Some i) = if is_some (seen_in (status w i.0)) then None else Some (Unreachable i)
 
 -- the row of a recovery, and of a takeover; 2 where what it needs isn't given
-abbrev pub recovery_refused : World → BookState → AuditState → Numbers → Option ServerNo → Option Refusal
-recovery_refused w b a n None = Some UnknownInstance
-recovery_refused w b a n (Some i) = recovery_refusal w b a (by_hand n) i
+abbrev pub recovery_refused : World → BookState → AuditState → Configuration → Numbers → Option ServerNo → Option Refusal
+recovery_refused w b a c n None = Some UnknownInstance
+recovery_refused w b a c n (Some i) = recovery_refusal w b a (by_hand b c n i) i
 
-abbrev pub takeover_given : World → BookState → AuditState → Numbers → ServerNo → Option ServerNo → Option Refusal
-takeover_given w b a n i None = Some UnknownInstance
-takeover_given w b a n i (Some d) = takeover_refusal w b a (by_hand n) i d
+abbrev pub takeover_given : World → BookState → AuditState → Configuration → Numbers → ServerNo → Option ServerNo → Option Refusal
+takeover_given w b a c n i None = Some UnknownInstance
+takeover_given w b a c n i (Some d) = takeover_refusal w b a (by_hand b c n i) i d
 
-abbrev pub takeover_refused : World → BookState → AuditState → Numbers → Option ServerNo → Option ServerNo → Option Refusal
-takeover_refused w b a n None d = Some UnknownInstance
-takeover_refused w b a n (Some i) d = takeover_given w b a n i d
+abbrev pub takeover_refused : World → BookState → AuditState → Configuration → Numbers → Option ServerNo → Option ServerNo → Option Refusal
+takeover_refused w b a c n None d = Some UnknownInstance
+takeover_refused w b a c n (Some i) d = takeover_given w b a c n i d
 
 -- 2, an instance that the command uses isn't in the book; and 5 where it reads the server itself, 4 where it removes
 -- the instance, or the row of a command that begins a job
-abbrev pub refusal_by : World → BookState → AuditState → Numbers → Command → Route → Option Refusal
-refusal_by w b a n c Discovers = first_of (unknown_in b c) (unreached w c.i)
-refusal_by w b a n c Forgets = removal_refusal b c
-refusal_by w b a n c (Asks question) = unknown_in b c
-refusal_by w b a n c (Decides decision) = unknown_in b c
-refusal_by w b a n c (Begins p) = planned_refusal w b n.moment c p
-refusal_by w b a n c Recovers = recovery_refused w b a n c.i
-refusal_by w b a n c TakesOver = takeover_refused w b a n c.i c.d
+abbrev pub refusal_by : World → BookState → AuditState → Configuration → Numbers → Command → Route → Option Refusal
+refusal_by w b a by n c Discovers = first_of (unknown_in b c) (unreached w c.i)
+refusal_by w b a by n c Forgets = removal_refusal b c
+refusal_by w b a by n c (Asks question) = unknown_in b c
+refusal_by w b a by n c (Decides decision) = unknown_in b c
+refusal_by w b a by n c (Begins p) = planned_refusal w b n.moment c p
+refusal_by w b a by n c Recovers = recovery_refused w b a by n c.i
+refusal_by w b a by n c TakesOver = takeover_refused w b a by n c.i c.d
 
 -- the refusal with the lowest number that applies
 abbrev pub refusal_at : State → Command → Option Refusal
-refusal_at s c = refusal_by s.world s.book s.audit (numbers_of s) c (route_of c.name)
+refusal_at s c = refusal_by s.world s.book s.audit s.configuration (numbers_of s) c (route_of c.name)
 
 -- a command that begins a job answers its number, and any other its lines
 abbrev pub IsDone : Route → Reply → Type 0

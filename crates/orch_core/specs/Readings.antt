@@ -1,8 +1,8 @@
 -- Readings of servers.
 use Rattle.std.specs.Prelude.{ℕ}
 use Rattle.orch_base.specs.declared.server.ServerNo.{ServerNo}
-use Rattle.instance_keeper.specs.declared.observation.Observation.{Observation}
-use Rattle.instance_keeper.specs.Seeing.{seen_in}
+use Rattle.kept_rows.specs.declared.observation.Observation.{Observation}
+use Rattle.kept_rows.specs.Seeing.{seen_in}
 use Rattle.server_model.specs.Gtids.{status}
 use Rattle.server_model.specs.Worlds.{World}
 

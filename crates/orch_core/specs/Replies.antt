@@ -1,16 +1,21 @@
 -- What each turn answers.
-use Rattle.std.specs.Prelude.{◌≡◌, ℕ, Bool, Option, Some, None, is_some, if◌then◌else◌}
+use Rattle.std.specs.Prelude.{◌≡◌, Bool, Option, Some, None, is_some, if◌then◌else◌}
 use Rattle.instance_keeper.specs.declared.book.StoreAnswer.{StoreAnswer}
 use Rattle.instance_keeper.specs.declared.book.StoreAnswer.TheVariants as store
-use Rattle.instance_keeper.specs.declared.observation.Observation.{Observation}
+use Rattle.kept_rows.specs.declared.observation.Observation.{Observation}
 use Rattle.instance_keeper.specs.Book.{BookState, instance_at, store_answer}
 use Rattle.server_model.specs.Desk.{rotate}
 use Rattle.server_model.specs.Exchanges.{write, fetch, apply}
+use Rattle.server_model.specs.Purging.{purge}
 use Rattle.server_model.specs.Worlds.{World}
+use Rattle.turns.specs.declared.turn.Act.{Act}
+use Rattle.turns.specs.declared.turn.Act.TheVariants as act
+use Rattle.turns.specs.declared.turn.Step.{Step}
+use Rattle.turns.specs.declared.turn.Step.TheVariants as step
 use Rattle.turns.specs.declared.turn.Turn.{Turn}
 use Rattle.turns.specs.declared.turn.Turn.TheVariants as turn
-use Rattle.turns.specs.declared.turn.Reply.{Reply}
-use Rattle.turns.specs.declared.turn.Reply.TheVariants as answered
+use Rattle.turns.specs.declared.reply.Reply.{Reply}
+use Rattle.turns.specs.declared.reply.Reply.TheVariants as answered
 use Rattle.orch_core.specs.declared.engine.Replies.{Replies}
 use Rattle.orch_core.specs.States.{State}
 use Rattle.orch_core.specs.Polls.{command_outcome, reading, scan_outcome, slot_at}
@@ -36,37 +41,32 @@ abbrev pub stored_reply : BookState → Option Observation → Reply
 stored_reply b None = answered.Nothing
 stored_reply b (Some o) = reply_by (store_answer (instance_at b o.no) o)
 
--- what a turn answers that neither polls nor stores and is no command and no job's, in a world at a moment
-abbrev pub exchange_reply : World → ℕ → Turn → Reply
-exchange_reply w now (turn.Write n size) = answered.Write (write w n.0 size).0
-exchange_reply w now (turn.Fetch n) = answered.Fetch (fetch w n.0).0
-exchange_reply w now (turn.Apply n) = answered.Apply (apply w n.0).0
-exchange_reply w now (turn.Rotate n) = answered.Rotate (rotate w n.0).0
-exchange_reply w now (turn.Tick seconds) = answered.Now (record { 0 = later now seconds })
-exchange_reply w now (turn.Job job) = answered.NoJob
-exchange_reply w now turn.Scan = answered.Done
-exchange_reply w now (turn.Fail n) = answered.Done
-exchange_reply w now (turn.Heal n) = answered.Done
-exchange_reply w now (turn.Cut n link) = answered.Done
-exchange_reply w now (turn.Join n link) = answered.Done
-exchange_reply w now (turn.PollRead p n) = answered.Done
-exchange_reply w now (turn.PollStore p) = answered.Done
-exchange_reply w now (turn.Command c) = answered.Done
-exchange_reply w now turn.Restart = answered.Done
+-- what a step answers in a world
+abbrev pub step_reply : World → Step → Reply
+step_reply w (step.Write n size) = answered.Write (write w n.0 size).0
+step_reply w (step.Fetch n) = answered.Fetch (fetch w n.0).0
+step_reply w (step.Apply n) = answered.Apply (apply w n.0).0
+step_reply w (step.Fail n) = answered.Done
+step_reply w (step.Heal n) = answered.Done
+step_reply w (step.Cut n link) = answered.Done
+step_reply w (step.Join n link) = answered.Done
+step_reply w (step.Rotate n) = answered.Rotate (rotate w n.0).0
+step_reply w (step.Purge n file) = answered.Purge (purge w n.0 file).0
 
+-- what orchestrator answers
+abbrev pub act_reply : State → Act → Reply
+act_reply s (act.PollRead p n) = if is_some (instance_at s.book n) then read_reply (reading s n) else answered.Unknown
+act_reply s (act.PollStore p) = stored_reply s.book (slot_at s p)
+act_reply s (act.Command c) = (command_outcome s c).reply
+act_reply s (act.Job job) = job_reply (turned_at s job)
+act_reply s act.Scan = (scan_outcome s).reply
+act_reply s act.Restart = answered.Done
+
+-- what a turn answers; an orchestrator that remembers no claim answers that it lapsed
 abbrev pub reply_of : State → Turn → Reply
-reply_of s (turn.Write n size) = exchange_reply s.world s.moment (turn.Write n size)
-reply_of s (turn.Fetch n) = exchange_reply s.world s.moment (turn.Fetch n)
-reply_of s (turn.Apply n) = exchange_reply s.world s.moment (turn.Apply n)
-reply_of s (turn.Fail n) = exchange_reply s.world s.moment (turn.Fail n)
-reply_of s (turn.Heal n) = exchange_reply s.world s.moment (turn.Heal n)
-reply_of s (turn.Cut n link) = exchange_reply s.world s.moment (turn.Cut n link)
-reply_of s (turn.Join n link) = exchange_reply s.world s.moment (turn.Join n link)
-reply_of s (turn.Rotate n) = exchange_reply s.world s.moment (turn.Rotate n)
-reply_of s (turn.Tick seconds) = exchange_reply s.world s.moment (turn.Tick seconds)
-reply_of s (turn.Job job) = job_reply (turned_at s job)
-reply_of s turn.Scan = (scan_outcome s).reply
-reply_of s (turn.PollRead p n) = if is_some (instance_at s.book n) then read_reply (reading s n) else answered.Unknown
-reply_of s (turn.PollStore p) = stored_reply s.book (slot_at s p)
-reply_of s (turn.Command c) = (command_outcome s c).reply
-reply_of s turn.Restart = answered.Done
+reply_of s (turn.Step x) = step_reply s.world x
+reply_of s (turn.Tick seconds) = answered.Now (record { 0 = later s.moment seconds })
+reply_of s (turn.Act a) = act_reply s a
+reply_of s (turn.As node a) = act_reply s a
+reply_of s (turn.Claim node) = answered.Lapsed
+reply_of s (turn.Release node) = answered.Lapsed

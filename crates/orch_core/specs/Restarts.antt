@@ -2,12 +2,13 @@
 use Rattle.std.specs.Prelude.{ℕ, ◌-◌, List, length}
 use Rattle.audit_log.specs.Audits.{AuditState}
 use Rattle.instance_keeper.specs.Book.{BookState}
-use Rattle.instance_keeper.specs.declared.row.Change.{Change}
-use Rattle.instance_keeper.specs.declared.row.Row.{Row}
+use Rattle.kept_rows.specs.declared.row.Change.{Change}
+use Rattle.kept_rows.specs.declared.row.Row.{Row}
 use Rattle.opening_book.specs.Audits.{audit_of, latest_recovery}
 use Rattle.opening_book.specs.Counting.{counted, loaded}
-use Rattle.opening_book.specs.Opening.{interrupting}
+use Rattle.opening_book.specs.Opening.{loading}
 use Rattle.orch_base.specs.declared.server.Moment.{Moment}
+use Rattle.orch_core.specs.Periods.{period_by}
 use Rattle.orch_core.specs.States.{State}
 
 -- the last id that was given
@@ -18,9 +19,13 @@ last_given s = s.audit.next - 1
 abbrev pub reloaded_book : List Row → State → BookState
 reloaded_book rows s = loaded s.book.settings (last_given s) rows
 
+-- the rows that count
+abbrev pub reloaded_rows : List Row → State → List Row
+reloaded_rows rows s = counted (length s.book.settings) (last_given s) rows
+
 -- the next id goes on
 abbrev pub reloaded_audit : List Row → State → AuditState
-reloaded_audit rows s = audit_of s.audit.next (counted (length s.book.settings) (last_given s) rows)
+reloaded_audit rows s = audit_of (period_by s.configuration) s.audit.next (reloaded_rows rows s)
 
 -- the latest begun or ended moment of its recoveries, where that is later
 abbrev pub reloaded_moment : List Row → State → ℕ
@@ -32,4 +37,4 @@ interrupted_at rows s = record { 0 = reloaded_moment rows s }
 
 -- what is kept anew
 abbrev pub restart_changes : List Row → State → List Change
-restart_changes rows s = interrupting (reloaded_audit rows s) (interrupted_at rows s)
+restart_changes rows s = loading (period_by s.configuration) (reloaded_rows rows s) (reloaded_audit rows s) (interrupted_at rows s)

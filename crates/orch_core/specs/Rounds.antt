@@ -1,16 +1,18 @@
 -- Rounds: how a job is run to its end.
 use Rattle.std.specs.Prelude.{◌≡◌, ℕ, zero, suc, ◌≤◌, ◌<◌, true, false, List, [], ◌++◌, fold, Option, Some, None}
-use Rattle.instance_keeper.specs.declared.row.Row.{Row}
+use Rattle.kept_rows.specs.declared.row.Row.{Row}
 use Rattle.name_order.specs.NameOrder.{by_name}
 use Rattle.jobs_in_flight.specs.Rounds.{round_over}
-use Rattle.turns.specs.declared.turn.Reply.{Reply}
+use Rattle.turns.specs.declared.reply.Reply.{Reply}
 use Rattle.turns.specs.declared.turn.Turn.{Turn}
+use Rattle.turns.specs.declared.turn.Act.TheVariants as act
 use Rattle.turns.specs.declared.turn.Turn.TheVariants as turn
 use Rattle.orch_core.specs.declared.fault.TurnFault.{TurnFault}
 use Rattle.jobs_in_flight.specs.Jobs.{is_open, most_turns}
 use Rattle.orch_core.specs.Keeping.{Ran, WasCutOff}
 use Rattle.orch_core.specs.Replies.{reply_of}
-use Rattle.orch_core.specs.Runs.{Machine, engine, step}
+use Rattle.orch_core.specs.After.{step}
+use Rattle.orch_core.specs.Runs.{Machine, engine}
 use Rattle.orch_core.specs.States.{State}
 
 -- the servers' names never change
@@ -52,7 +54,7 @@ pub record WasCutShort {A : Type 0} (m : Machine A) (state : A → State) (kept 
 -- what the job answers in the last of so many rounds
 abbrev pub told_in : State → ℕ → ℕ → Option Reply
 told_in s job zero = None
-told_in s job (suc k) = Some (reply_of (after_rounds s job k) (turn.Job job))
+told_in s job (suc k) = Some (reply_of (after_rounds s job k) (turn.Act (act.Job job)))
 
 -- the rounds led so from one state to another, and the job answered this in the last of them
 pub record FinishedBy (kept : Option (List Row)) (s : State) (job : ℕ) (kept' : Option (List Row)) (now : State) (told : Option Reply) : Type 0 where

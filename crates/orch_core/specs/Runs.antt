@@ -1,34 +1,15 @@
 -- Runs: states, one turn after another.
 use Rattle.std.specs.Prelude.{◌≡◌, List, [], ◌∷◌, ◌++◌, fold, map, Option, Some, None}
 use Rattle.std.specs.Option.{option_map}
-use Rattle.instance_keeper.specs.declared.row.Row.{Row}
-use Rattle.instance_keeper.specs.declared.row.Change.{Change}
-use Rattle.instance_keeper.specs.Rows.{changed}
-use Rattle.server_model.specs.Run.{run}
-use Rattle.turns.specs.declared.turn.Reply.{Reply}
+use Rattle.kept_rows.specs.declared.row.Row.{Row}
+use Rattle.kept_rows.specs.declared.row.Change.{Change}
+use Rattle.kept_rows.specs.Rows.{changed}
+use Rattle.turns.specs.declared.reply.Reply.{Reply}
 use Rattle.turns.specs.declared.turn.Turn.{Turn}
-use Rattle.orch_core.specs.Turns.{exchanges_at, exchanges_of, moment_after, ticked}
+use Rattle.orch_core.specs.After.{step}
 use Rattle.orch_core.specs.States.{State}
-use Rattle.orch_core.specs.Polls.{book_after, audit_after, slots_after, reads_after, jobs_after, last_job_after, changes_of}
+use Rattle.orch_core.specs.Polls.{changes_of}
 use Rattle.orch_core.specs.Replies.{reply_of}
-
--- the state after a turn: its exchanges are made, and the moment, the book, the audit, the slots, the read numbers and
--- the jobs change with it; a restart has these rows from the keeper
-abbrev pub step : List Row → State → Turn → State
-step rows s t = record s {
-  world = run s.world (exchanges_at s t);
-  moment = moment_after rows s t;
-  book = book_after rows s t;
-  audit = audit_after rows s t;
-  slots = slots_after s t;
-  reads = reads_after s t;
-  jobs = jobs_after s t;
-  last_job = last_job_after s t;
-}
-
--- after a turn that neither polls nor stores, is no command and no job's, and doesn't start orchestrator again
-abbrev pub exchange_step : State → Turn → State
-exchange_step s t = record s { world = run s.world (exchanges_of t); moment = ticked s.moment t }
 
 -- a state, and each turn so far with its reply, in order
 pub record Recorded : Type 0 where

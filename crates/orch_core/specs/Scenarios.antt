@@ -1,19 +1,19 @@
 -- The states with which runs of scenarios begin.
 use Rattle.std.specs.Prelude.{◌≡◌, ℕ, ◌+◌, List, [], length, Option, Some, None, Bool, if◌then◌else◌}
 use Rattle.std.specs.Option.{option_map}
-use Rattle.instance_keeper.specs.declared.row.Change.{Change}
-use Rattle.instance_keeper.specs.declared.row.Row.{Row}
-use Rattle.instance_keeper.specs.Rows.{changed}
+use Rattle.kept_rows.specs.declared.row.Change.{Change}
+use Rattle.kept_rows.specs.declared.row.Row.{Row}
+use Rattle.kept_rows.specs.Rows.{changed}
 use Rattle.instance_keeper.specs.Book.{BookState}
 use Rattle.audit_log.specs.Audits.{AuditState, closed}
 use Rattle.opening_book.specs.Audits.{audit_of, last_id}
 use Rattle.opening_book.specs.Counting.{counted, greatest_id, last_read, latest, loaded}
-use Rattle.opening_book.specs.Opening.{opened_book, opening_changes}
+use Rattle.opening_book.specs.Opening.{loading, opened_book, opening_changes}
 use Rattle.orch_base.specs.declared.server.Moment.{Moment}
 use Rattle.world_openings.specs.Opening.{opened_world}
 use Rattle.server_model.specs.Worlds.{World}
 use Rattle.scenarios.specs.declared.scenario.Scenario.{Scenario}
-use Rattle.scenarios.specs.Scenarios.{flushes_of, room_of, settings_of}
+use Rattle.scenarios.specs.Scenarios.{flushes_of, period_of, room_of, settings_of}
 use Rattle.orch_core.specs.declared.configuration.Configuration.{Configuration}
 use Rattle.orch_core.specs.Polls.{empty_slots}
 use Rattle.orch_core.specs.Runs.{Recorded}
@@ -37,17 +37,17 @@ loaded_book s rows = loaded (settings_of s) greatest_id rows
 
 -- the audit of the rows that count; the next id is one more than the last of all rows, those that don't count too
 abbrev pub loaded_audit : Scenario → List Row → AuditState
-loaded_audit s rows = audit_of (last_id rows + 1) (start_rows s rows)
+loaded_audit s rows = audit_of (period_of s) (last_id rows + 1) (start_rows s rows)
 
--- what is kept anew: the instances of the known servers that no row that counts has, the scenario's registrations, and
--- the unended recoveries as interrupted
+-- what is kept anew: the instances of the known servers that no row that counts has, the scenario's registrations, the
+-- recoveries whose rows have no block period with their clusters', and the unended ones as interrupted
 abbrev pub start_changes : Scenario → List Row → List Change
-start_changes s rows = opening_changes (start_world s) (start_moment s rows) (loaded_book s rows) s.known s.rules (loaded_audit s rows)
+start_changes s rows = opening_changes (start_world s) (start_moment s rows) (loaded_book s rows) s.known s.rules (loading (period_of s) (start_rows s rows) (loaded_audit s rows) (start_moment s rows))
 
--- what holds throughout the run: a job is to wait at most so many times, the block period, and whose recoveries may
+-- what holds throughout the run: a job is to wait at most so many times, the block periods, and whose recoveries may
 -- begin by themselves
 abbrev pub configuration_of : ℕ → Scenario → Configuration
-configuration_of wait s = record { wait = wait; block = s.block; master = s.filters.master.passes; intermediate = s.filters.intermediate.passes }
+configuration_of wait s = record { wait = wait; block = s.block; blocks = s.blocks; master = s.filters.master.passes; intermediate = s.filters.intermediate.passes }
 
 -- the state with which the scenario's run begins, by the rows of its keeper: an instance that the opening puts brings
 -- the bridge that it shows where it is valid, and a kept row brings none

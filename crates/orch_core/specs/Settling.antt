@@ -4,17 +4,19 @@ use Rattle.unended_jobs.specs.declared.unended.Unended.{Unended}
 use Rattle.unended_jobs.specs.Unended.{IsUnended, number_of}
 use Rattle.orch_core.specs.declared.command.Update.{Update}
 use Rattle.orch_core.specs.declared.command.Update.TheVariants as update
-use Rattle.orch_core.specs.Commands.{IsUpdate, Outcome, audit_updated, jobs_updated, last_job_updated, updated}
+use Rattle.orch_core.specs.Commands.{Outcome}
+use Rattle.orch_core.specs.Knowing.{IsUpdate, Knowledge, updated}
 use Rattle.orch_core.specs.States.{State, entry_id}
 
+-- the book, the audit and the jobs of a state
+abbrev pub known_of : State → Knowledge
+known_of s = record { book = s.book; audit = s.audit; jobs = s.jobs; last_job = s.last_job }
+
+abbrev pub with_known : State → Knowledge → State
+with_known s k = record s { book = k.book; audit = k.audit; jobs = k.jobs; last_job = k.last_job }
+
 abbrev pub settled : State → Outcome → State
-settled s o = record s {
-  book = updated s.book o.book;
-  audit = audit_updated s.audit o.book;
-  reads = o.reads;
-  jobs = jobs_updated s.jobs o.book;
-  last_job = last_job_updated s.last_job o.book;
-}
+settled s o = with_known (record s { reads = o.reads }) (updated (known_of s) o.book)
 
 -- a job that begins has the next number, its numbers are in their ranges, and it has no entry
 pub record IsNextJob (count : ℕ) (last : ℕ) (j : Unended) : Type 0 where
@@ -42,6 +44,6 @@ BeginInTime (update.Recovers xs) = All (λ x. x.entry.begun.0 ≤ 2 ^ 63) xs
 
 -- a state can take an outcome, where the number of its last job fits its type
 pub record CanSettle (s : State) (o : Outcome) : Type 0 where
-  pub update : IsUpdate s.book s.audit s.last_job o.book
-  pub next : last_job_updated s.last_job o.book < 2 ^ 64 → IsNext (length s.world.servers) s.last_job o.book
+  pub update : IsUpdate (known_of s) o.book
+  pub next : (updated (known_of s) o.book).last_job < 2 ^ 64 → IsNext (length s.world.servers) s.last_job o.book
   pub time : BeginInTime o.book

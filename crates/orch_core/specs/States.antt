@@ -1,8 +1,9 @@
 -- What a run is at a moment.
 use Rattle.std.specs.Prelude.{◌≡◌, ◌<◌, ◌≤◌, ◌^◌, ℕ, ⊤, true, length, List, [], ◌∷◌, Option, Some, None, IfSome, IsSomeAnd, All, unwrap_or}
 use Rattle.audit_log.specs.Audits.{AuditState, IsAudit, is_unended, recovery_at}
-use Rattle.instance_keeper.specs.declared.observation.Observation.{Observation}
-use Rattle.instance_keeper.specs.Book.{BookState, are_known, observed_servers, source_servers}
+use Rattle.kept_rows.specs.declared.observation.Observation.{Observation}
+use Rattle.kept_rows.specs.Servers.{are_known, observed_servers, source_servers}
+use Rattle.instance_keeper.specs.Book.{BookState}
 use Rattle.unended_jobs.specs.declared.unended.Unended.{Unended}
 use Rattle.unended_jobs.specs.declared.unended.Unended.TheVariants as unended
 use Rattle.unended_jobs.specs.Unended.{IsUnended}
@@ -55,7 +56,7 @@ HaveEntries a low (j ∷ jobs) = HasEntry a low (entry_id j) × HaveEntries a (u
 -- every server is in the book's lists, every poller has its slot, each reading, each source and each job is of the
 -- servers, the jobs' numbers rise from 1 on up to that of the last job, and so do their entries, which aren't ended,
 -- the ids of recoveries rise from 1 on below the next one, which is in its type's range, each recovery began by 2^63,
--- time stands still then, and the block period is at most 1,000,000,000 seconds
+-- time stands still then, and block periods are at most 1,000,000,000 seconds
 pub record IsState (s : State) : Type 0 where
   pub names : length s.book.names ≡ length s.world.servers
   pub settings : length s.book.settings ≡ length s.world.servers
@@ -70,3 +71,4 @@ pub record IsState (s : State) : Type 0 where
   pub begun : All (λ r. r.begun.0 ≤ 2 ^ 63) s.audit.recoveries
   pub moment : s.moment ≤ 2 ^ 63
   pub block : s.configuration.block ≤ 1000000000
+  pub blocks : All (λ b. b.seconds ≤ 1000000000) s.configuration.blocks

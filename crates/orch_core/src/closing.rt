@@ -66,7 +66,7 @@ fn closing_change(
         return Ok(None);
     };
     let entry = closed_so(closing, now, entry.copy(alloc)?);
-    Ok(Some(Change::Put(Row::Recovery(entry))))
+    Ok(Some(Change::Put(Row::Recovery(entry.into_row()))))
 }
 
 /// How the kept rows change with a turn of a job: by what it observed, and by the entry that ends.

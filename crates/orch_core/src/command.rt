@@ -1,20 +1,18 @@
 //! What a command answers, and what it changes.
 
-ghost use Rattle.std.specs.Prelude.{◌≡◌, ◌<◌, ◌≤◌, ◌+◌, ◌-◌, ◌^◌, ◌∷◌, [], All, IfOk, IfSome, IsTrue, OnOk, length, vec_len, vec_capacity};
+ghost use Rattle.std.specs.Prelude.{◌≡◌, ◌<◌, ◌≤◌, ◌^◌, ◌∷◌, [], All, IfOk, IfSome, IsTrue, length};
 ghost use Rattle.std.specs.Option.{option_to_list};
 ghost use Rattle.instance_keeper.specs.Book.{discovery_change, instance_at};
 ghost use Rattle.commands.specs.Turns.{is_within};
 ghost use Rattle.asking_commands.specs.Answers.{allowed};
-ghost use Rattle.book_commands.specs.Decisions.{audit_after as audit_decided, book_after as book_decided};
 ghost use Rattle.command_jobs.specs.Jobs.{planner_for};
-ghost use Rattle.orch_core.specs.Commands.{audit_updated, begun_by, decision, discovered, forgotten, jobs_updated, last_job_updated, next_reading, outcome_of, question, refusal, removal, removal_refusal, told_with, updated, HasRoomFor, IsEffect, IsUpdate, LeavesIds, MayTake};
-ghost use Rattle.recovery_core.specs.Begun.{BeginInTurn, CanBegin};
-ghost use Rattle.recovery_core.specs.Scans.{HasRoom};
+ghost use Rattle.orch_core.specs.Commands.{begun_by, decision, discovered, forgotten, next_reading, outcome_of, question, refusal, removal, removal_refusal, told_with};
+ghost use Rattle.orch_core.specs.Knowing.{LeavesIds};
 ghost use Rattle.orch_core.specs.CommandsBy.{outcome};
 
-use crate::Reply;
 use crate::exchanging::read_server;
 use crate::recovering::{recover, take_over};
+use crate::{Configuration, Reply};
 use asking_commands::{AnswerFault, answer, permit};
 use audit_log::Audit;
 use book_commands::{Decided, Effect, decide, rows_of};
@@ -39,17 +37,15 @@ pub(crate) struct Numbers {
     pub(crate) last_job: u64,
     /// At most so many times a job waits.
     pub(crate) wait: u32,
-    /// The block period in seconds.
-    pub(crate) block: u64,
     pub(crate) moment: Moment,
 }
 
 /// A job that begins.
 #[derive(Drop)]
 pub(crate) struct Beginning {
-    // The servers of which it takes the leases.
-    list: Vec<ServerNo>,
-    job: Unended,
+    /// The servers of which it takes the leases.
+    pub(crate) list: Vec<ServerNo>,
+    pub(crate) job: Unended,
 }
 
 impl Model for Beginning {
@@ -65,7 +61,7 @@ impl Model for Beginning {
 /// Recoveries that begin one after another, which contracts see as a list.
 #[derive(Drop)]
 pub(crate) struct Recoveries {
-    list: Vec<Begun>,
+    pub(crate) list: Vec<Begun>,
 }
 
 impl Model for Recoveries {
@@ -111,136 +107,6 @@ pub(crate) struct Outcome {
     pub(crate) book: Update,
     pub(crate) rows: Vec<Change>,
     pub(crate) reads: u64,
-}
-
-// The job's leases are taken, and it joins the others.
-fn join(book: &mut Book, jobs: &mut Vec<Unended>, last_job: &mut u64, beginning: Beginning)
-    requires list { MayTake book.old beginning.list }
-    requires room { vec_len jobs.old < vec_capacity jobs.old }
-    ensures book { book.new ≡ updated book.old (Update.Begins beginning) }
-    ensures jobs { jobs.new.items ≡ jobs_updated jobs.old.items (Update.Begins beginning) }
-    ensures last { last_job.new ≡ last_job_updated last_job.old (Update.Begins beginning) }
-{
-    let Beginning { list, job } = beginning;
-    let number = job.id();
-    let _ = book.take_leases(&list, number);
-    *last_job = number;
-    jobs.push_reserved(job);
-}
-
-// A recovery's leases are taken, its entry joins the audit, and its job the others.
-fn join_recovery(
-    book: &mut Book,
-    audit: &mut Audit,
-    jobs: &mut Vec<Unended>,
-    last_job: &mut u64,
-    begun: Begun,
-)
-    requires can { CanBegin (length book.old.names) book.old.leases audit.old.audit last_job.old
-        begun }
-    requires id { begun.entry.id < 2 ^ 64 - 1 }
-    requires room { vec_len jobs.old < vec_capacity jobs.old }
-    requires spare { 1 ≤ audit.old.spare }
-    ensures book { book.new ≡ updated book.old (Update.Recovers (begun ∷ [])) }
-    ensures audit { audit.new.audit ≡ audit_updated audit.old.audit (Update.Recovers (begun ∷ [])) }
-    ensures spare { audit.new.spare + 1 ≡ audit.old.spare }
-    ensures jobs { jobs.new.items ≡ jobs_updated jobs.old.items (Update.Recovers (begun ∷ [])) }
-    ensures capacity { vec_capacity jobs.new ≡ vec_capacity jobs.old }
-    ensures length { vec_len jobs.new ≡ vec_len jobs.old + 1 }
-    ensures last { last_job.new ≡ begun.job.core.id }
-{
-    let (list, job, entry) = begun.into_parts();
-    let number = job.id();
-    let id = entry.id;
-    let _ = book.take_leases(&list, number);
-    audit.begin(entry);
-    *last_job = number;
-    jobs.push_reserved(Unended::Recovery(job, Some(id)));
-}
-
-fn join_all(
-    book: &mut Book,
-    audit: &mut Audit,
-    jobs: &mut Vec<Unended>,
-    last_job: &mut u64,
-    recoveries: Recoveries,
-)
-    requires update { BeginInTurn (length book.old.names) book.old.leases audit.old.audit
-        last_job.old recoveries }
-    requires ids { HasRoom recoveries }
-    requires room { vec_len jobs.old + length recoveries ≤ vec_capacity jobs.old }
-    requires spare { length recoveries ≤ audit.old.spare }
-    ensures book { book.new ≡ updated book.old (Update.Recovers recoveries) }
-    ensures audit { audit.new.audit ≡ audit_updated audit.old.audit (Update.Recovers recoveries) }
-    ensures jobs { jobs.new.items ≡ jobs_updated jobs.old.items (Update.Recovers recoveries) }
-    ensures last { last_job.new ≡ last_job_updated last_job.old (Update.Recovers recoveries) }
-{
-    for begun in recoveries.list {
-        join_recovery(book, audit, jobs, last_job, begun);
-    }
-}
-
-fn decide_so(book: &mut Book, audit: &mut Audit, effect: Effect)
-    requires { IsEffect book.old effect }
-    ensures book { book.new ≡ book_decided book.old effect }
-    ensures audit { audit.new.audit ≡ audit_decided audit.old.audit effect }
-{
-    match effect {
-        Effect::Stays => {}
-        Effect::Change(change) => book.set(change),
-        Effect::Acks(cluster) => {
-            let _ = audit.ack(cluster.as_str());
-        }
-    }
-}
-
-/// Makes room for the jobs that begin, and for the entries of recoveries. `Err` is want of memory.
-pub(crate) fn make_room(
-    audit: &mut Audit,
-    jobs: &mut Vec<Unended>,
-    update: &Update,
-) -> Result<(), Memory>
-    ensures room { OnOk result (HasRoomFor (vec_capacity jobs.new - vec_len jobs.new)
-        audit.new.spare update.now) }
-    ensures audit { audit.new.audit ≡ audit.old.audit }
-    ensures jobs { jobs.new.items ≡ jobs.old.items }
-{
-    match update {
-        Update::Stays | Update::Change(_) | Update::Discovery(_) | Update::Decides(_) => {}
-        Update::Begins(_) => jobs.reserve(1)?,
-        Update::Recovers(recoveries) => {
-            let count = recoveries.list.len();
-            jobs.reserve(count)?;
-            audit.reserve_for(count)?;
-        }
-    }
-    Ok(())
-}
-
-/// Makes of the book, the audit and the jobs what a command or a scan makes of them. It takes no memory.
-pub(crate) fn update_all(
-    book: &mut Book,
-    audit: &mut Audit,
-    jobs: &mut Vec<Unended>,
-    last_job: &mut u64,
-    update: Update,
-)
-    requires update { IsUpdate book.old audit.old.audit last_job.old update }
-    requires ids { LeavesIds update }
-    requires room { HasRoomFor (vec_capacity jobs.old - vec_len jobs.old) audit.old.spare update }
-    ensures book { book.new ≡ updated book.old update }
-    ensures audit { audit.new.audit ≡ audit_updated audit.old.audit update }
-    ensures jobs { jobs.new.items ≡ jobs_updated jobs.old.items update }
-    ensures last { last_job.new ≡ last_job_updated last_job.old update }
-{
-    match update {
-        Update::Stays => {}
-        Update::Change(change) => book.set(change),
-        Update::Discovery(o) => book.discover(o),
-        Update::Decides(effect) => decide_so(book, audit, effect),
-        Update::Begins(beginning) => join(book, jobs, last_job, beginning),
-        Update::Recovers(recoveries) => join_all(book, audit, jobs, last_job, recoveries),
-    }
 }
 
 pub(crate) fn refused(alloc: Global, reads: u64, why: Refusal) -> Outcome
@@ -494,6 +360,7 @@ pub(crate) fn outcome_of(
     world: &World,
     book: &Book,
     audit: &Audit,
+    configuration: &Configuration,
     numbers: Numbers,
     t: &CommandTurn,
 ) -> Result<Outcome, Memory>
@@ -503,9 +370,8 @@ pub(crate) fn outcome_of(
     requires moment { numbers.moment.0 ≤ 2 ^ 63 }
     requires duration { IfSome t.now.keys.duration (λ n. n ≤ 31536000) }
     requires begun { All (λ r. r.begun.0 ≤ 2 ^ 63) audit.now.audit.recoveries }
-    requires block { numbers.block ≤ 1000000000 }
     ensures outcome { IfOk result (λ out. outcome out
-        ≡ outcome_of world.now book.now audit.now.audit numbers t.now) }
+        ≡ outcome_of world.now book.now audit.now.audit configuration.now numbers t.now) }
     ensures ids { IfOk result (λ out. LeavesIds out.book) }
 {
     match (Route::of(t.command.name), t.command.i) {
@@ -513,9 +379,21 @@ pub(crate) fn outcome_of(
         (Route::Forgets, Some(no)) => forget(alloc, book, t.command, no, numbers.reads),
         (Route::Decides(what), _) => decision(alloc, book, audit, numbers, t, what),
         (Route::Begins(planner), _) => begin_by(alloc, world, book, numbers, t.command, planner),
-        (Route::Recovers, Some(no)) => recover(alloc, world, book, audit, numbers, no),
+        (Route::Recovers, Some(no)) => {
+            recover(alloc, world, book, audit, configuration, numbers, no)
+        }
         (Route::TakesOver, Some(no)) => {
-            take_over(alloc, world, book, audit, numbers, no, t.command.d)
+            let designated = t.command.d;
+            take_over(
+                alloc,
+                world,
+                book,
+                audit,
+                configuration,
+                numbers,
+                no,
+                designated,
+            )
         }
         (Route::Recovers | Route::TakesOver, None) => {
             Ok(refused(alloc, numbers.reads, Refusal::UnknownInstance))

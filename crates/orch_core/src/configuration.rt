@@ -1,6 +1,8 @@
 //! What holds throughout a run.
 
+use audit_log::Periods;
 use commands::Answers;
+use scenarios::Blocks;
 
 /// What holds throughout a run.
 #[derive(Drop)]
@@ -9,9 +11,21 @@ pub struct Configuration {
     pub wait: u32,
     /// The block period in seconds (RecoveryPeriodBlockSeconds).
     pub block: u64,
+    /// Clusters with block periods of their own.
+    pub blocks: Blocks,
     /// For each server whether a dead master's recovery may begin by itself in its cluster
     /// (RecoverMasterClusterFilters).
     pub master: Answers,
     /// The same for a dead intermediate master (RecoverIntermediateMasterClusterFilters).
     pub intermediate: Answers,
+}
+
+impl Periods for Configuration {
+    ghost use Rattle.orch_core.specs.Periods.{period_by};
+
+    ghost period_of = { period_by };
+
+    fn period(&self, cluster: &str) -> u64 {
+        self.blocks.period(self.block, cluster)
+    }
 }

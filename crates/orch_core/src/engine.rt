@@ -2,32 +2,32 @@
 //! journal.
 
 ghost use Rattle.std.specs.Prelude.{◌≡◌, ◌≢◌, ◌<◌, ◌≤◌, ◌^◌, [], ◌∷◌, All, Some, None, IfOk, IfErr, OnOk, OnErr, Err, true, false, if◌then◌else◌, is_ok, length, slice_get};
-ghost use Rattle.scenarios.specs.Turns.{pollers, IsCommand, IsTurn};
+ghost use Rattle.scenarios.specs.Turns.{pollers, IsAct, IsCommand, IsStep, IsTurn};
 ghost use Rattle.turns.specs.Plain.{is_plain};
-ghost use Rattle.orch_core.specs.Turns.{is_exchange};
 ghost use Rattle.jobs_in_flight.specs.Jobs.{Rise, is_open, job_at};
-ghost use Rattle.orch_core.specs.Polls.{changes_of, numbers_of};
-ghost use Rattle.orch_core.specs.Replies.{exchange_reply, reply_of, AreReply};
+ghost use Rattle.orch_core.specs.Polls.{act_changes, changes_of, command_outcome, job_changes, numbers_of, scan_outcome};
+ghost use Rattle.orch_core.specs.Replies.{act_reply, reply_of, step_reply, AreReply};
 ghost use Rattle.orch_core.specs.Runs.{engine};
-ghost use Rattle.orch_core.specs.Keeping.{StepsTo, kept_by, kept_if, asks, Calls, HasTurnCause};
-ghost use Rattle.orch_core.specs.Commands.{LeavesIds};
+ghost use Rattle.orch_core.specs.Keeping.{StepsTo, kept_by, kept_if, act_asks, asks, Calls, HasTurnCause};
+ghost use Rattle.orch_core.specs.Knowing.{LeavesIds};
 ghost use Rattle.orch_core.specs.CommandsBy.{outcome as outcome_in};
 ghost use Rattle.orch_core.specs.Settling.{CanSettle, settled};
 ghost use Rattle.orch_core.specs.States.{IsState};
 
 use crate::closing::{close_entry, closing_of, job_changes};
 use crate::command::{Numbers, Outcome, outcome_of};
-use crate::exchanging::{exchange, read_reply, read_server, store, ticked};
-use crate::keep::{given_rows, keep_and_update, keep_some, keep_store};
+use crate::exchanging::{exchange, later, read_reply, read_server, store};
+use crate::keep::{given_rows, keep_some, keep_store};
+use crate::knowledge::Knowledge;
 use crate::opening::{complete, configure, copy_names, copy_settings, empty_slots, make_slots};
 use crate::recovering::scan_by;
-use crate::{BoxedCommand, Configuration, Reply, Scenario, Turn, TurnFault};
+use crate::{Act, BoxedCommand, Configuration, Reply, Scenario, Step, Turn, TurnFault};
 use audit_log::Audit;
 use instance_keeper::{Book, Keeper, Observation};
 use jobs_in_flight::{FoundJob, answer, find, others_over, take_turn};
 use opening_book::{
-    GREATEST_ID, counted, interrupting, last_id, last_read, latest_moment, latest_recovery,
-    loaded_audit, loaded_book,
+    GREATEST_ID, counted, last_id, last_read, latest_moment, latest_recovery, loaded_audit,
+    loaded_book, loading,
 };
 use orch_base::{Memory, Moment, ServerNo};
 use server_model::World;
@@ -41,12 +41,9 @@ use world_openings::OpenedWorld;
 pub struct Engine {
     world: World,
     moment: Moment,
-    book: Book,
-    audit: Audit,
+    knowledge: Knowledge,
     slots: Vec<Option<Observation>>,
     reads: u64,
-    jobs: Vec<Unended>,
-    last_job: u64,
     configuration: Configuration,
 }
 
@@ -100,30 +97,38 @@ fn is_bound(_wait: u32)
 {}
 
 impl Engine {
-    ghost use Rattle.orch_core.specs.Runs.{step, exchange_step};
+    ghost use Rattle.orch_core.specs.After.{after_job, after_read, after_step, after_store, after_tick};
 
-    fn exchange_turn(&mut self, t: &Turn) -> Reply
-        requires turn { IsTurn (length self.old.world.servers) t.now }
-        requires exchange { is_exchange t.now ≡ true }
-        ensures reply { result ≡ exchange_reply self.old.world self.old.moment t.now }
+    // A step befalls a server.
+    fn exchange(&mut self, x: Step) -> Reply
+        requires { IsStep (length self.old.world.servers) x }
+        ensures reply { result ≡ step_reply self.old.world x }
         ensures plain { is_plain result ≡ true }
-        ensures ok { self.new ≡ exchange_step self.old t.now }
+        ensures ok { self.new ≡ after_step self.old x }
         ensures servers { length self.new.world.servers ≡ length self.old.world.servers }
     {
-        let reply = exchange(&mut self.world, self.moment, t);
-        self.moment = ticked(self.moment, t);
-        reply
+        exchange(&mut self.world, x)
+    }
+
+    // So many seconds pass.
+    fn tick(&mut self, seconds: u64) -> Reply
+        ensures reply { result ≡ reply_of self.old (Turn.Tick seconds) }
+        ensures plain { is_plain result ≡ true }
+        ensures ok { self.new ≡ after_tick self.old seconds }
+    {
+        self.moment = later(self.moment, seconds);
+        Reply::Now(self.moment)
     }
 
     fn poll_read(&mut self, alloc: Global, poller: u32, no: ServerNo) -> Result<Reply, Memory>
         requires poller { poller < pollers }
         requires server { no.0 < length self.old.world.servers }
-        ensures reply { IfOk result (λ r. r ≡ reply_of self.old (Turn.PollRead poller no)) }
+        ensures reply { IfOk result (λ r. r ≡ act_reply self.old (Act.PollRead poller no)) }
         ensures plain { IfOk result (λ r. is_plain r ≡ true) }
-        ensures ok { OnOk result (self.new ≡ step [] self.old (Turn.PollRead poller no)) }
+        ensures ok { OnOk result (self.new ≡ after_read self.old poller no) }
         ensures err { OnErr result (self.new ≡ self.old) }
     {
-        if self.book.instance(no).is_none() {
+        if self.knowledge.book.instance(no).is_none() {
             return Ok(Reply::Unknown);
         }
         let read = self.reads.saturating_add(1);
@@ -141,47 +146,52 @@ impl Engine {
         poller: u32,
     ) -> Result<Reply, TurnFault>
         requires { poller < pollers }
-        ensures reply { IfOk result (λ r. r ≡ reply_of self.old (Turn.PollStore poller)) }
+        ensures reply { IfOk result (λ r. r ≡ act_reply self.old (Act.PollStore poller)) }
         ensures plain { IfOk result (λ r. is_plain r ≡ true) }
-        ensures ok { OnOk result (self.new ≡ step [] self.old (Turn.PollStore poller)) }
+        ensures ok { OnOk result (self.new ≡ after_store self.old poller) }
         ensures err { OnErr result (self.new ≡ self.old) }
         ensures kept { K.kept keeper.new ≡ kept_if (is_ok result) (K.kept keeper.old)
-            (changes_of [] self.old (Turn.PollStore poller)) }
+            (act_changes [] self.old (Act.PollStore poller)) }
         ensures cause { HasTurnCause (K.faults keeper.old) (K.faults keeper.new) result }
-        ensures idle { changes_of [] self.old (Turn.PollStore poller) ≡ []
+        ensures idle { act_changes [] self.old (Act.PollStore poller) ≡ []
             → keeper.new ≡ keeper.old }
         ensures calls { result ≡ Err TurnFault.Keeper
-            → changes_of [] self.old (Turn.PollStore poller) ≢ [] }
+            → act_changes [] self.old (Act.PollStore poller) ≢ [] }
     {
-        keep_store(alloc, keeper, &self.book, &self.slots[poller as usize])?;
+        keep_store(
+            alloc,
+            keeper,
+            &self.knowledge.book,
+            &self.slots[poller as usize],
+        )?;
         let slot = self.slots[poller as usize].take();
-        Ok(store(&mut self.book, slot))
+        Ok(store(&mut self.knowledge.book, slot))
     }
 
     fn restart<K: Keeper>(&mut self, alloc: Global, keeper: &mut K) -> Result<Reply, TurnFault>
-        ensures reply { IfOk result (λ r. r ≡ reply_of self.old Turn.Restart) }
+        ensures reply { IfOk result (λ r. r ≡ act_reply self.old Act.Restart) }
         ensures plain { IfOk result (λ r. is_plain r ≡ true) }
         ensures ok { OnOk result (StepsTo engine
-            (K.kept keeper.old) self.old Turn.Restart self.new) }
+            (K.kept keeper.old) self.old (Turn.Act Act.Restart) self.new) }
         ensures err { OnErr result (self.new ≡ self.old) }
         ensures kept { K.kept keeper.new ≡ kept_by engine (is_ok result) (K.kept keeper.old)
-            self.old Turn.Restart }
+            self.old (Turn.Act Act.Restart) }
         ensures cause { HasTurnCause (K.faults keeper.old) (K.faults keeper.new) result }
         ensures servers { length self.new.world.servers ≡ length self.old.world.servers }
     {
-        let next = self.audit.next();
-        let given = given_rows(alloc, keeper, self.book.names())?;
-        let rows = counted(alloc, self.book.servers(), next - 1, given)?;
-        let mut audit = loaded_audit(alloc, &rows, next)?;
+        let next = self.knowledge.audit.next();
+        let given = given_rows(alloc, keeper, self.knowledge.book.names())?;
+        let rows = counted(alloc, self.knowledge.book.servers(), next - 1, given)?;
+        let mut audit = loaded_audit(alloc, &self.configuration, &rows, next)?;
         let moment = latest_recovery(self.moment, audit.recoveries());
-        let changes = interrupting(alloc, &audit, moment)?;
-        keep_some(alloc, keeper, self.book.names(), &changes)?;
+        let changes = loading(alloc, &self.configuration, &rows, &audit, moment)?;
+        keep_some(alloc, keeper, self.knowledge.book.names(), &changes)?;
         audit.close(moment);
-        self.book.reload(rows);
-        self.audit = audit;
+        self.knowledge.book.reload(rows);
+        self.knowledge.audit = audit;
         self.moment = moment;
         empty_slots(&mut self.slots);
-        self.jobs.clear();
+        self.knowledge.jobs.clear();
         Ok(Reply::Done)
     }
 
@@ -190,9 +200,8 @@ impl Engine {
     {
         Numbers {
             reads: self.reads,
-            last_job: self.last_job,
+            last_job: self.knowledge.last_job,
             wait: self.configuration.wait,
-            block: self.configuration.block,
             moment: self.moment,
         }
     }
@@ -205,17 +214,17 @@ impl Engine {
         id: u64,
         written: bool,
     ) -> Result<Replies, TurnFault>
-        ensures reply { IfOk result (λ r. AreReply written (reply_of self.old (Turn.Job id)) r) }
-        ensures ok { OnOk result (self.new ≡ step [] self.old (Turn.Job id)) }
+        ensures reply { IfOk result (λ r. AreReply written (act_reply self.old (Act.Job id)) r) }
+        ensures ok { OnOk result (self.new ≡ after_job self.old id) }
         ensures err { OnErr result (self.new ≡ self.old) }
         ensures kept { K.kept keeper.new ≡ kept_if (is_ok result) (K.kept keeper.old)
-            (changes_of [] self.old (Turn.Job id)) }
+            (job_changes self.old id) }
         ensures cause { HasTurnCause (K.faults keeper.old) (K.faults keeper.new) result }
-        ensures idle { changes_of [] self.old (Turn.Job id) ≡ [] → keeper.new ≡ keeper.old }
-        ensures calls { result ≡ Err TurnFault.Keeper → changes_of [] self.old (Turn.Job id) ≢ [] }
+        ensures idle { job_changes self.old id ≡ [] → keeper.new ≡ keeper.old }
+        ensures calls { result ≡ Err TurnFault.Keeper → job_changes self.old id ≢ [] }
         ensures servers { length self.new.world.servers ≡ length self.old.world.servers }
     {
-        match find(&self.jobs, id) {
+        match find(&self.knowledge.jobs, id) {
             None => Ok(plain(Reply::NoJob, written)),
             Some(at) => self.job_at(alloc, keeper, FoundJob { at, id }, written),
         }
@@ -231,42 +240,42 @@ impl Engine {
         requires at { found.at < length self.old.jobs }
         requires id { job_at self.old.jobs found.id ≡ slice_get self.old.jobs found.at }
         ensures reply { IfOk result
-            (λ r. AreReply written (reply_of self.old (Turn.Job found.id)) r) }
-        ensures ok { OnOk result (self.new ≡ step [] self.old (Turn.Job found.id)) }
+            (λ r. AreReply written (act_reply self.old (Act.Job found.id)) r) }
+        ensures ok { OnOk result (self.new ≡ after_job self.old found.id) }
         ensures err { OnErr result (self.new ≡ self.old) }
         ensures kept { K.kept keeper.new ≡ kept_if (is_ok result) (K.kept keeper.old)
-            (changes_of [] self.old (Turn.Job found.id)) }
+            (job_changes self.old found.id) }
         ensures cause { HasTurnCause (K.faults keeper.old) (K.faults keeper.new) result }
-        ensures idle { changes_of [] self.old (Turn.Job found.id) ≡ [] → keeper.new ≡ keeper.old }
+        ensures idle { job_changes self.old found.id ≡ [] → keeper.new ≡ keeper.old }
         ensures calls { result ≡ Err TurnFault.Keeper
-            → changes_of [] self.old (Turn.Job found.id) ≢ [] }
+            → job_changes self.old found.id ≢ [] }
         ensures servers { length self.new.world.servers ≡ length self.old.world.servers }
     {
         let read = self.reads.saturating_add(1);
-        let job = &self.jobs[found.at];
-        let look = job.look(alloc, &self.world, &self.book, read, self.moment)?;
+        let job = &self.knowledge.jobs[found.at];
+        let look = job.look(alloc, &self.world, &self.knowledge.book, read, self.moment)?;
         let closing = closing_of(job, &look);
         let told = answer(alloc, look.step())?;
         let written = copied(alloc, &told, written)?;
         let changes = job_changes(
             alloc,
-            &self.book,
-            &self.audit,
+            &self.knowledge.book,
+            &self.knowledge.audit,
             self.moment,
             look.observation(),
             closing,
         )?;
-        keep_some(alloc, keeper, self.book.names(), &changes)?;
+        keep_some(alloc, keeper, self.knowledge.book.names(), &changes)?;
         take_turn(
             alloc,
-            &mut self.jobs,
+            &mut self.knowledge.jobs,
             &mut self.world,
-            &mut self.book,
+            &mut self.knowledge.book,
             &mut self.reads,
             found,
             look,
         )?;
-        close_entry(&mut self.audit, self.moment, closing);
+        close_entry(&mut self.knowledge.audit, self.moment, closing);
         Ok(Replies { told, written })
     }
 
@@ -280,26 +289,27 @@ impl Engine {
     ) -> Result<Replies, TurnFault>
         requires { IsCommand (length self.old.world.servers) t.now }
         ensures reply { IfOk result
-            (λ r. AreReply written (reply_of self.old (Turn.Command t.now)) r) }
-        ensures ok { OnOk result (self.new ≡ step [] self.old (Turn.Command t.now)) }
+            (λ r. AreReply written (act_reply self.old (Act.Command t.now)) r) }
+        ensures ok { OnOk result (self.new ≡ settled self.old (command_outcome self.old t.now)) }
         ensures err { OnErr result (self.new ≡ self.old) }
         ensures kept { K.kept keeper.new ≡ kept_if (is_ok result) (K.kept keeper.old)
-            (changes_of [] self.old (Turn.Command t.now)) }
+            ((command_outcome self.old t.now).rows) }
         ensures cause { HasTurnCause (K.faults keeper.old) (K.faults keeper.new) result }
-        ensures idle { changes_of [] self.old (Turn.Command t.now) ≡ [] → keeper.new ≡ keeper.old }
+        ensures idle { (command_outcome self.old t.now).rows ≡ [] → keeper.new ≡ keeper.old }
         ensures calls { result ≡ Err TurnFault.Keeper
-            → changes_of [] self.old (Turn.Command t.now) ≢ [] }
+            → (command_outcome self.old t.now).rows ≢ [] }
     {
         // shows the proof what holds of the book
-        let _ = self.book.servers();
+        let _ = self.knowledge.book.servers();
         let numbers = self.numbers();
         // shows the proof that the number is in its range
         is_bound(numbers.wait);
         let outcome = outcome_of(
             alloc,
             &self.world,
-            &self.book,
-            &self.audit,
+            &self.knowledge.book,
+            &self.knowledge.audit,
+            &self.configuration,
             numbers,
             t.as_turn(),
         )?;
@@ -313,24 +323,24 @@ impl Engine {
         keeper: &mut K,
         written: bool,
     ) -> Result<Replies, TurnFault>
-        ensures reply { IfOk result (λ r. AreReply written (reply_of self.old Turn.Scan) r) }
-        ensures ok { OnOk result (self.new ≡ step [] self.old Turn.Scan) }
+        ensures reply { IfOk result (λ r. AreReply written (act_reply self.old Act.Scan) r) }
+        ensures ok { OnOk result (self.new ≡ settled self.old (scan_outcome self.old)) }
         ensures err { OnErr result (self.new ≡ self.old) }
         ensures kept { K.kept keeper.new ≡ kept_if (is_ok result) (K.kept keeper.old)
-            (changes_of [] self.old Turn.Scan) }
+            ((scan_outcome self.old).rows) }
         ensures cause { HasTurnCause (K.faults keeper.old) (K.faults keeper.new) result }
-        ensures idle { changes_of [] self.old Turn.Scan ≡ [] → keeper.new ≡ keeper.old }
-        ensures calls { result ≡ Err TurnFault.Keeper → changes_of [] self.old Turn.Scan ≢ [] }
+        ensures idle { (scan_outcome self.old).rows ≡ [] → keeper.new ≡ keeper.old }
+        ensures calls { result ≡ Err TurnFault.Keeper → (scan_outcome self.old).rows ≢ [] }
         ensures servers { length self.new.world.servers ≡ length self.old.world.servers }
     {
         // shows the proof what holds of the book
-        let _ = self.book.servers();
+        let _ = self.knowledge.book.servers();
         let numbers = self.numbers();
         let outcome = scan_by(
             alloc,
             &self.world,
-            &self.book,
-            &self.audit,
+            &self.knowledge.book,
+            &self.knowledge.audit,
             &self.configuration,
             numbers,
         )?;
@@ -357,21 +367,18 @@ impl Engine {
         ensures calls { result ≡ Err TurnFault.Keeper → outcome.rows.items ≢ [] }
     {
         let written = copied(alloc, &outcome.reply, written)?;
-        keep_and_update(
-            alloc,
-            keeper,
-            &mut self.book,
-            &mut self.audit,
-            &mut self.jobs,
-            &mut self.last_job,
-            outcome.book,
-            &outcome.rows,
-        )?;
+        let Outcome {
+            reply,
+            book,
+            rows,
+            reads,
+        } = outcome;
+        self.knowledge.keep_and_update(alloc, keeper, book, &rows)?;
         // shows the proof that the number is in its range
-        is_number(self.last_job);
-        self.reads = outcome.reads;
+        is_number(self.knowledge.last_job);
+        self.reads = reads;
         Ok(Replies {
-            told: outcome.reply,
+            told: reply,
             written,
         })
     }
@@ -412,20 +419,55 @@ impl Engine {
         let rows = counted(alloc, settings.len() as u32, GREATEST_ID, given)?;
         let moment = latest_moment(s.moment, &rows);
         let book = loaded_book(alloc, &settings, &rows)?;
-        let mut audit = loaded_audit(alloc, &rows, next)?;
-        let book = complete(alloc, keeper, &world, moment, book, s, &audit)?;
+        let mut audit = loaded_audit(alloc, &configuration, &rows, next)?;
+        let recoveries = loading(alloc, &configuration, &rows, &audit, moment)?;
+        let book = complete(alloc, keeper, &world, moment, book, s, recoveries)?;
         audit.close(moment);
+        let knowledge = Knowledge {
+            book,
+            audit,
+            jobs: Vec::new(alloc),
+            last_job: 0,
+        };
         Ok(Engine {
             world,
             moment,
-            book,
-            audit,
+            knowledge,
             slots,
             reads: last_read(&rows),
-            jobs: Vec::new(alloc),
-            last_job: 0,
             configuration,
         })
+    }
+
+    // What orchestrator does, with its reply once more where it is written.
+    fn act<K: Keeper>(
+        &mut self,
+        alloc: Global,
+        keeper: &mut K,
+        act: &Act,
+        written: bool,
+    ) -> Result<Replies, TurnFault>
+        requires { IsAct (length self.old.world.servers) act.now }
+        ensures reply { IfOk result (λ r. AreReply written (act_reply self.old act.now) r) }
+        ensures ok { OnOk result (StepsTo engine
+            (K.kept keeper.old) self.old (Turn.Act act.now) self.new) }
+        ensures err { OnErr result (self.new ≡ self.old) }
+        ensures kept { K.kept keeper.new ≡ kept_by engine (is_ok result)
+            (K.kept keeper.old) self.old (Turn.Act act.now) }
+        ensures cause { HasTurnCause (K.faults keeper.old) (K.faults keeper.new) result }
+        ensures idle { act_asks act.now ≡ false → act_changes [] self.old act.now ≡ []
+            → keeper.new ≡ keeper.old }
+        ensures calls { result ≡ Err TurnFault.Keeper → Calls engine self.old (Turn.Act act.now) }
+        ensures servers { length self.new.world.servers ≡ length self.old.world.servers }
+    {
+        match act {
+            Act::PollRead(poller, no) => Ok(plain(self.poll_read(alloc, *poller, *no)?, written)),
+            Act::PollStore(poller) => Ok(plain(self.poll_store(alloc, keeper, *poller)?, written)),
+            Act::Command(t) => self.command(alloc, keeper, t, written),
+            Act::Job(id) => self.job(alloc, keeper, *id, written),
+            Act::Scan => self.scan(alloc, keeper, written),
+            Act::Restart => Ok(plain(self.restart(alloc, keeper)?, written)),
+        }
     }
 
     /// One turn, with its reply once more where it is written.
@@ -449,21 +491,10 @@ impl Engine {
         ensures servers { length self.new.world.servers ≡ length self.old.world.servers }
     {
         match t {
-            Turn::PollRead(poller, no) => Ok(plain(self.poll_read(alloc, *poller, *no)?, written)),
-            Turn::PollStore(poller) => Ok(plain(self.poll_store(alloc, keeper, *poller)?, written)),
-            Turn::Command(t) => self.command(alloc, keeper, t, written),
-            Turn::Job(id) => self.job(alloc, keeper, *id, written),
-            Turn::Scan => self.scan(alloc, keeper, written),
-            Turn::Restart => Ok(plain(self.restart(alloc, keeper)?, written)),
-            Turn::Write(_, _)
-            | Turn::Fetch(_)
-            | Turn::Apply(_)
-            | Turn::Fail(_)
-            | Turn::Heal(_)
-            | Turn::Cut(_, _)
-            | Turn::Join(_, _)
-            | Turn::Rotate(_)
-            | Turn::Tick(_) => Ok(plain(self.exchange_turn(t), written)),
+            Turn::Step(x) => Ok(plain(self.exchange(*x), written)),
+            Turn::Tick(seconds) => Ok(plain(self.tick(*seconds), written)),
+            Turn::Act(act) | Turn::As(_, act) => self.act(alloc, keeper, act, written),
+            Turn::Claim(_) | Turn::Release(_) => Ok(plain(Reply::Lapsed, written)),
         }
     }
 
@@ -525,16 +556,16 @@ impl Engine {
         others: &[Turn],
     ) -> Result<Reply, TurnFault>
         requires { All (IsTurn (length self.old.world.servers)) others.now }
-        ensures reply { IfOk result (λ r. r ≡ reply_of self.old (Turn.Job job)) }
+        ensures reply { IfOk result (λ r. r ≡ reply_of self.old (Turn.Act (Act.Job job))) }
         ensures ok { OnOk result (Ran engine (K.kept keeper.old) self.old
-            (Turn.Job job ∷ others.now) (K.kept keeper.new) self.new) }
+            (Turn.Act (Act.Job job) ∷ others.now) (K.kept keeper.new) self.new) }
         ensures err { IfErr result (λ e.
-            WasCutOff engine (K.kept keeper.old) self.old (Turn.Job job ∷ others.now)
+            WasCutOff engine (K.kept keeper.old) self.old (Turn.Act (Act.Job job) ∷ others.now)
             (K.kept keeper.new) self.new e) }
         ensures cause { HasTurnCause (K.faults keeper.old) (K.faults keeper.new) result }
         ensures servers { length self.new.world.servers ≡ length self.old.world.servers }
     {
-        let reply = self.turn(alloc, keeper, &Turn::Job(job))?;
+        let reply = self.turn(alloc, keeper, &Turn::Act(Act::Job(job)))?;
         self.run(alloc, keeper, others)?;
         Ok(reply)
     }
@@ -563,7 +594,7 @@ impl Engine {
         }
         // shows the proof what holds of the state
         self.shows_state();
-        let Ok(others) = others_over(alloc, self.book.order()) else {
+        let Ok(others) = others_over(alloc, self.knowledge.book.order()) else {
             return Err(TurnFault::Memory);
         };
         'rounds: while self.is_open(job) {
@@ -586,7 +617,7 @@ impl Engine {
     pub fn is_open(&self, job: u64) -> bool
         ensures { result ≡ is_open self.now.jobs job }
     {
-        find(&self.jobs, job).is_some()
+        find(&self.knowledge.jobs, job).is_some()
     }
 
     /// The unended jobs, by rising number.
@@ -594,7 +625,7 @@ impl Engine {
         ensures jobs { result.now ≡ self.now.jobs }
         ensures rising { Rise 0 result.now self.now.last_job }
     {
-        &self.jobs
+        &self.knowledge.jobs
     }
 
     /// The moment that it is now: at most 2^63.
@@ -616,7 +647,7 @@ impl Engine {
     pub fn book(&self) -> &Book
         ensures { result.now ≡ self.now.book }
     {
-        &self.book
+        &self.knowledge.book
     }
 
     /// The recoveries that were begun, each at 2^63 at the latest.
@@ -624,6 +655,6 @@ impl Engine {
         ensures audit { result.now.audit ≡ self.now.audit }
         ensures begun { All (λ r. r.begun.0 ≤ 2 ^ 63) result.now.audit.recoveries }
     {
-        &self.audit
+        &self.knowledge.audit
     }
 }

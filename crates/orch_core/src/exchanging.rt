@@ -1,88 +1,63 @@
-//! What one turn of the world does beside what orchestrator knows: an exchange with its servers and its reply, the
-//! moment after it, and a server read for a poller and stored.
+//! What one turn does beside what orchestrator knows: an exchange with the servers and its reply, a later moment, and a
+//! server read for a poller and stored.
 
-ghost use Rattle.std.specs.Prelude.{◌≡◌, ◌<◌, IfOk, IfSome, length, true};
-ghost use Rattle.instance_keeper.specs.Book.{are_known, observed_servers};
+ghost use Rattle.std.specs.Prelude.{◌≡◌, ◌<◌, ◌∷◌, [], IfOk, IfSome, length, true};
+ghost use Rattle.kept_rows.specs.Servers.{are_known, observed_servers};
 ghost use Rattle.jobs_in_flight.specs.Jobs.{stored};
 ghost use Rattle.orch_core.specs.Readings.{reading_by};
-ghost use Rattle.orch_core.specs.Replies.{exchange_reply, read_reply, reply_by, stored_reply};
-ghost use Rattle.orch_core.specs.Turns.{exchanges_of, later, ticked};
-ghost use Rattle.scenarios.specs.Turns.{IsTurn};
+ghost use Rattle.orch_core.specs.Replies.{read_reply, reply_by, step_reply, stored_reply};
+ghost use Rattle.orch_core.specs.Turns.{exchange_of, later};
+ghost use Rattle.scenarios.specs.Turns.{IsStep};
 ghost use Rattle.server_model.specs.Run.{run};
 ghost use Rattle.turns.specs.Plain.{is_plain};
 
-use crate::{Reply, Turn};
+use crate::Reply;
 use instance_keeper::{Book, Observation, StoreAnswer};
 use orch_base::{Memory, Moment, ServerNo};
 use server_model::{StatusFault, World};
 use std::alloc::Global;
+use turns::Step;
 
 /// The last moment: where it would be passed, time stands still.
 const LAST_MOMENT: u64 = 1 << 63;
 
-// The moment, so many seconds later.
-fn later(now: Moment, seconds: u64) -> Moment
+/// The moment, so many seconds later.
+pub(crate) fn later(now: Moment, seconds: u64) -> Moment
     ensures { result.0 ≡ later now.0 seconds }
 {
     Moment(now.0.saturating_add(seconds).min(LAST_MOMENT))
 }
 
-/// The moment after a turn.
-pub(crate) fn ticked(now: Moment, t: &Turn) -> Moment
-    ensures { result.0 ≡ ticked now.0 t.now }
-{
-    match t {
-        Turn::Tick(seconds) => later(now, *seconds),
-        Turn::Write(_, _)
-        | Turn::Fetch(_)
-        | Turn::Apply(_)
-        | Turn::Fail(_)
-        | Turn::Heal(_)
-        | Turn::Cut(_, _)
-        | Turn::Join(_, _)
-        | Turn::Rotate(_)
-        | Turn::PollRead(_, _)
-        | Turn::PollStore(_)
-        | Turn::Command(_)
-        | Turn::Job(_)
-        | Turn::Scan
-        | Turn::Restart => now,
-    }
-}
-
-/// Does the exchange that a turn is, and tells its reply. Another turn changes no server here.
-pub(crate) fn exchange(world: &mut World, now: Moment, t: &Turn) -> Reply
-    requires { IsTurn (length world.old.servers) t.now }
-    ensures reply { result ≡ exchange_reply world.old now.0 t.now }
+/// Does the exchange that a step is, and tells its reply.
+pub(crate) fn exchange(world: &mut World, step: Step) -> Reply
+    requires { IsStep (length world.old.servers) step }
+    ensures reply { result ≡ step_reply world.old step }
     ensures plain { is_plain result ≡ true }
-    ensures world { world.new ≡ run world.old (exchanges_of t.now) }
+    ensures world { world.new ≡ run world.old (exchange_of step ∷ []) }
     ensures servers { length world.new.servers ≡ length world.old.servers }
 {
-    match t {
-        Turn::Write(no, size) => Reply::Write(world.write(*no, *size)),
-        Turn::Fetch(no) => Reply::Fetch(world.fetch(*no)),
-        Turn::Apply(no) => Reply::Apply(world.apply(*no)),
-        Turn::Fail(no) => {
-            world.fail(*no);
+    match step {
+        Step::Write(no, size) => Reply::Write(world.write(no, size)),
+        Step::Fetch(no) => Reply::Fetch(world.fetch(no)),
+        Step::Apply(no) => Reply::Apply(world.apply(no)),
+        Step::Fail(no) => {
+            world.fail(no);
             Reply::Done
         }
-        Turn::Heal(no) => {
-            world.heal(*no);
+        Step::Heal(no) => {
+            world.heal(no);
             Reply::Done
         }
-        Turn::Cut(no, link) => {
-            world.cut_link(*no, *link);
+        Step::Cut(no, link) => {
+            world.cut_link(no, link);
             Reply::Done
         }
-        Turn::Join(no, link) => {
-            world.join_link(*no, *link);
+        Step::Join(no, link) => {
+            world.join_link(no, link);
             Reply::Done
         }
-        Turn::Rotate(no) => Reply::Rotate(world.rotate(*no)),
-        Turn::Tick(seconds) => Reply::Now(later(now, *seconds)),
-        Turn::Job(_) => Reply::NoJob,
-        Turn::PollRead(_, _) | Turn::PollStore(_) | Turn::Command(_) | Turn::Scan | Turn::Restart =>
-            Reply::Done,
+        Step::Rotate(no) => Reply::Rotate(world.rotate(no)),
+        Step::Purge(no, file) => Reply::Purge(world.purge(no, file)),
     }
 }
 

@@ -1,8 +1,8 @@
 //! What an opening lays out beside the servers: names and settings, the slots of pollers, the configuration, and the
 //! book with what its rows leave open.
 
-ghost use Rattle.std.specs.Prelude.{◌≡◌, ◌≤◌, ◌^◌, All, IfOk, [], is_ok, length, map};
-ghost use Rattle.opening_book.specs.Opening.{opened_book, opening_changes};
+ghost use Rattle.std.specs.Prelude.{◌≡◌, ◌≤◌, ◌^◌, All, IfOk, IsTrue, [], is_ok, length, map};
+ghost use Rattle.opening_book.specs.Opening.{is_opening_change, opened_book, opening_changes};
 ghost use Rattle.orch_core.specs.Keeping.{HasTurnCause, kept_if};
 ghost use Rattle.orch_core.specs.Polls.{empty_slots};
 ghost use Rattle.orch_core.specs.Scenarios.{configuration_of};
@@ -11,8 +11,7 @@ ghost use Rattle.scenarios.specs.Turns.{pollers};
 
 use crate::keep::keep_some;
 use crate::{Configuration, Scenario, TurnFault};
-use audit_log::Audit;
-use instance_keeper::{Book, Keeper, Observation};
+use instance_keeper::{Book, Change, Keeper, Observation};
 use opening_book::{open_book, opening_changes};
 use openings::ServerInit;
 use orch_base::{Memory, Moment, Name, Settings};
@@ -22,7 +21,7 @@ use std::alloc::Global;
 /// So many pollers have a slot each.
 const POLLERS: u32 = 64;
 
-/// The book with what the opening brings, which is kept first, together with the recoveries that it interrupts.
+/// The book with what the opening brings, which is kept first, together with what is kept of recoveries.
 pub(crate) fn complete<K: Keeper>(
     alloc: Global,
     keeper: &mut K,
@@ -30,24 +29,26 @@ pub(crate) fn complete<K: Keeper>(
     moment: Moment,
     mut book: Book,
     s: &Scenario,
-    audit: &Audit,
+    recoveries: Vec<Change>,
 ) -> Result<Book, TurnFault>
     requires moment { moment.0 ≤ 2 ^ 63 }
     requires known { length s.now.known ≡ length world.now.servers }
     requires rules { length s.now.rules ≡ length world.now.servers }
     requires names { length book.names ≡ length world.now.servers }
     requires sources { All (HasKnownSource (length world.now.servers)) world.now.servers }
+    requires recoveries { All (λ c. IsTrue (is_opening_change (length book.names) c))
+        recoveries.items }
     ensures book { IfOk result (λ b. b ≡ opened_book book
-        (opening_changes world.now moment book s.now.known s.now.rules audit.now.audit)) }
+        (opening_changes world.now moment book s.now.known s.now.rules recoveries.items)) }
     ensures kept { K.kept keeper.new ≡ kept_if (is_ok result) (K.kept keeper.old)
-        (opening_changes world.now moment book s.now.known s.now.rules audit.now.audit) }
+        (opening_changes world.now moment book s.now.known s.now.rules recoveries.items) }
     ensures cause { HasTurnCause (K.faults keeper.old) (K.faults keeper.new) result }
     ensures idle { opening_changes world.now moment book s.now.known s.now.rules
-        audit.now.audit ≡ [] → keeper.new ≡ keeper.old }
+        recoveries.items ≡ [] → keeper.new ≡ keeper.old }
 {
     let known = s.known.as_slice();
     let rules = s.rules.as_slice();
-    let changes = opening_changes(alloc, world, moment, &book, known, rules, audit)?;
+    let changes = opening_changes(alloc, world, moment, &book, known, rules, recoveries)?;
     keep_some(alloc, keeper, book.names(), &changes)?;
     open_book(&mut book, changes);
     Ok(book)
@@ -103,6 +104,7 @@ pub(crate) fn configure(alloc: Global, s: &Scenario, wait: u32) -> Result<Config
     Ok(Configuration {
         wait,
         block: s.block,
+        blocks: s.blocks.copy(alloc)?,
         master: s.filters.master.passes.copy(alloc)?,
         intermediate: s.filters.intermediate.passes.copy(alloc)?,
     })

@@ -1,17 +1,19 @@
 //! The commands that begin recoveries, and the scan.
 
-ghost use Rattle.std.specs.Prelude.{◌≡◌, ◌<◌, ◌≤◌, ◌+◌, ◌-◌, ◌^◌, All, IfOk, IsTrue, Ok, Result, length};
+ghost use Rattle.std.specs.Prelude.{◌≡◌, ◌<◌, ◌≤◌, ◌+◌, ◌-◌, ◌^◌, ℕ, List, All, IfOk, IsTrue, Ok, Result, length};
 ghost use Rattle.commands.specs.Turns.{is_within};
 ghost use Rattle.commands.specs.declared.refusal.Refusal.{Refusal as Why};
 ghost use Rattle.orch_base.specs.Gives.{Gives};
 ghost use Rattle.permission.specs.Checks.{permit_fault};
 ghost use Rattle.recovery_core.specs.Tries.{Begins};
-ghost use Rattle.orch_core.specs.Commands.{LeavesIds, by_hand, entries_put, recovered, recovery_begun, scan_by, taken_over, terms_of};
+ghost use Rattle.orch_core.specs.Commands.{by_hand, entries_put, recovered, recovery_begun, scan_by, taken_over, terms_of};
 ghost use Rattle.orch_core.specs.CommandsBy.{outcome};
+ghost use Rattle.orch_core.specs.Knowing.{LeavesIds};
+ghost use Rattle.orch_core.specs.Periods.{period_by};
 
 use crate::command::{Numbers, Outcome, Recoveries, Update, refused};
 use crate::{Configuration, Reply};
-use audit_log::Audit;
+use audit_log::{Audit, Periods};
 use book_views::book_forest;
 use commands::Refusal;
 use instance_keeper::{Book, Change, Row};
@@ -21,16 +23,22 @@ use recovery_permits::Attempt;
 use server_model::World;
 use std::alloc::Global;
 
-// An operator asks for it: the switch, downtimes and filters make no difference.
-fn by_hand(numbers: Numbers) -> Attempt
-    ensures { result ≡ by_hand numbers }
+// An operator asks for that of a server: the switch, downtimes and filters make no difference.
+fn by_hand(
+    book: &Book,
+    configuration: &Configuration,
+    numbers: Numbers,
+    failed: ServerNo,
+) -> Attempt
+    requires { failed.0 < length book.now.names }
+    ensures { result ≡ by_hand book.now configuration.now numbers failed }
 {
     Attempt {
         by_master: true,
         by_intermediate: true,
         enabled: true,
         by_hand: true,
-        block: numbers.block,
+        block: configuration.period(book.settings(failed).cluster.as_str()),
         now: numbers.moment,
     }
 }
@@ -41,7 +49,7 @@ fn entries_put(alloc: Global, begun: &[Begun]) -> Result<Vec<Change>, Memory>
 {
     let mut changes = Vec::with_capacity(alloc, begun.len())?;
     for one in begun {
-        changes.push(Change::Put(Row::Recovery(one.entry().copy(alloc)?)))?;
+        changes.push(Change::Put(Row::Recovery(one.entry().copy(alloc)?.into_row())))?;
     }
     Ok(changes)
 }
@@ -98,19 +106,19 @@ pub(crate) fn recover(
     world: &World,
     book: &Book,
     audit: &Audit,
+    configuration: &Configuration,
     numbers: Numbers,
     failed: ServerNo,
 ) -> Result<Outcome, Memory>
     requires server { failed.0 < length book.now.names }
     requires begun { All (λ r. r.begun.0 ≤ 2 ^ 63) audit.now.audit.recoveries }
-    requires block { numbers.block ≤ 1000000000 }
     ensures outcome { IfOk result (λ out. outcome out
-        ≡ recovered world.now book.now audit.now.audit numbers failed) }
+        ≡ recovered world.now book.now audit.now.audit configuration.now numbers failed) }
     ensures ids { IfOk result (λ out. LeavesIds out.book) }
 {
     let forest = book_forest(alloc, book)?;
     let number = next_job(numbers)?;
-    let by = by_hand(numbers);
+    let by = by_hand(book, configuration, numbers, failed);
     let wait = numbers.wait;
     let tried = try_recovery(alloc, book, &forest, world, audit, by, wait, number, failed);
     recovery_begun(alloc, numbers, number, tried)
@@ -123,6 +131,7 @@ pub(crate) fn take_over(
     world: &World,
     book: &Book,
     audit: &Audit,
+    configuration: &Configuration,
     numbers: Numbers,
     master: ServerNo,
     designated: Option<ServerNo>,
@@ -130,9 +139,9 @@ pub(crate) fn take_over(
     requires i { master.0 < length book.now.names }
     requires d { IsTrue (is_within (length book.now.names) designated) }
     requires begun { All (λ r. r.begun.0 ≤ 2 ^ 63) audit.now.audit.recoveries }
-    requires block { numbers.block ≤ 1000000000 }
     ensures outcome { IfOk result (λ out. outcome out
-        ≡ taken_over world.now book.now audit.now.audit numbers designated master) }
+        ≡ taken_over world.now book.now audit.now.audit configuration.now numbers designated
+        master) }
     ensures ids { IfOk result (λ out. LeavesIds out.book) }
 {
     let Some(designated) = designated else {
@@ -140,7 +149,7 @@ pub(crate) fn take_over(
     };
     let forest = book_forest(alloc, book)?;
     let number = next_job(numbers)?;
-    let by = by_hand(numbers);
+    let by = by_hand(book, configuration, numbers, master);
     let wait = numbers.wait;
     let tried = try_takeover(
         alloc, book, &forest, world, audit, by, wait, number, master, designated,
@@ -153,7 +162,6 @@ fn terms_of(book: &Book, numbers: Numbers) -> Terms
 {
     Terms {
         enabled: book.enabled(),
-        block: numbers.block,
         wait: numbers.wait,
         now: numbers.moment,
     }
@@ -171,7 +179,7 @@ pub(crate) fn scan_by(
 ) -> Result<Outcome, Memory>
     requires begun { All (λ r. r.begun.0 ≤ 2 ^ 63) audit.now.audit.recoveries }
     requires moment { numbers.moment.0 ≤ 2 ^ 63 }
-    requires block { numbers.block ≤ 1000000000 }
+    requires periods { (cluster : List ℕ) → period_by configuration.now cluster ≤ 1000000000 }
     ensures outcome { IfOk result (λ out. outcome out
         ≡ scan_by world.now book.now audit.now.audit configuration.now numbers) }
     ensures ids { IfOk result (λ out. LeavesIds out.book) }
@@ -187,6 +195,7 @@ pub(crate) fn scan_by(
         audit,
         masters,
         intermediates,
+        configuration,
         terms,
         last,
     )?;

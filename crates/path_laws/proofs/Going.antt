@@ -9,7 +9,8 @@ use Rattle.orch_base.specs.Chains.{is_reached, is_reached_on}
 use Rattle.orch_base.specs.declared.server.ServerNo.{ServerNo}
 use Rattle.orch_base.specs.declared.server.SourceState.{SourceState}
 use Rattle.orch_base.specs.declared.server.SourceState.TheVariants.{Without, Attached, Detached}
-use Rattle.instance_keeper.specs.Book.{BookState, IsBook, are_known, instance_at, source_servers}
+use Rattle.kept_rows.specs.Servers.{are_known, source_servers}
+use Rattle.instance_keeper.specs.Book.{BookState, IsBook, instance_at}
 use Rattle.name_order.specs.NameOrder.{by_name, rank_of}
 use Rattle.name_order.proofs.Arranged.{by_name-within}
 use Rattle.name_order.proofs.ByName.{IsOrder-by_name, length-by_name}

@@ -8,7 +8,8 @@ use Rattle.orch_base.specs.declared.server.ServerNo.{ServerNo}
 use Rattle.orch_base.specs.declared.server.SourceState.{SourceState}
 use Rattle.orch_base.specs.declared.server.SourceState.TheVariants.{Without, Attached, Detached}
 use Rattle.commands.specs.Turns.{is_within}
-use Rattle.instance_keeper.specs.Book.{BookState, IsBook, are_known, instance_at, source_servers}
+use Rattle.kept_rows.specs.Servers.{are_known, source_servers}
+use Rattle.instance_keeper.specs.Book.{BookState, IsBook, instance_at}
 use Rattle.name_order.specs.NameOrder.{by_name}
 use Rattle.name_order.proofs.Arranged.{by_name-within}
 use Rattle.book_views.specs.Sources.{is_replica_of, replicas_of, seen_source, source_in}

@@ -7,19 +7,19 @@ use Rattle.orch_base.specs.Names.{HostPort}
 use Rattle.name_order.specs.NameOrder.{named}
 use Rattle.name_order.proofs.ByName.{order_total}
 use Rattle.promotion_rules.specs.declared.drained.Drained.{Drained}
-use Rattle.promotion_rules.specs.Choice.{advance_order, coord_order, nearer_order, precedence, rule_order, server_order}
+use Rattle.promotion_rules.specs.Choice.{advance_order, coord_order, nearer_order, rank, rank_order, server_order}
 
 coord_total : IsTotalOrder coord_order
 coord_total = then_total (on_total (λ (c : Coord). c.file) nat_cmp_total) (on_total (λ (c : Coord). c.pos) nat_cmp_total)
 
-rule_total : IsTotalOrder rule_order
-rule_total = on_total precedence nat_cmp_total
+rank_total : IsTotalOrder rank_order
+rank_total = on_total rank nat_cmp_total
 
 name_total : (names : List HostPort) → IsTotalOrder (server_order names)
 name_total names = on_total (named names) order_total
 
 pub nearer_total : (names : List HostPort) → IsTotalOrder (nearer_order names)
-nearer_total names = then_total (on_total (λ (d : Drained). d.rule) rule_total) (on_total (λ (d : Drained). d.no) (name_total names))
+nearer_total names = then_total rank_total (on_total (λ (d : Drained). d.no) (name_total names))
 
 pub advance_total : (names : List HostPort) → IsTotalOrder (advance_order names)
 advance_total names = then_total (on_total (λ (d : Drained). d.exec) (back_total coord_total)) (nearer_total names)

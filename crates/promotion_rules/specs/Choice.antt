@@ -1,5 +1,5 @@
 -- Which drained replica is promoted, and which one takes its place.
-use Rattle.std.specs.Prelude.{ℕ, Bool, true, false, ◌&&◌, not, List, filter, find, Option, Some, None, option_map}
+use Rattle.std.specs.Prelude.{ℕ, ◌+◌, ◌*◌, if◌then◌else◌, Bool, true, false, ◌&&◌, not, List, filter, find, Option, Some, None, option_map}
 use Rattle.std.specs.List.{list_all}
 use Rattle.std.specs.Ordering.{is_lt, nat_cmp, ordering_then}
 use Rattle.std.specs.declared.cmp.Ordering.{Ordering}
@@ -23,19 +23,23 @@ precedence rule.Neutral = 1
 precedence rule.PreferNot = 2
 precedence rule.MustNot = 3
 
--- the better rule first
-abbrev pub rule_order : Rule → Rule → Ordering
-rule_order a b = nat_cmp (precedence a) (precedence b)
+-- of one rule, those that stand in the failed server's data centre come first
+abbrev pub rank : Drained → ℕ
+rank d = 2 * precedence d.rule + (if d.near then 0 else 1)
+
+-- the lower rank first
+abbrev pub rank_order : Drained → Drained → Ordering
+rank_order a b = nat_cmp (rank a) (rank b)
 
 -- the first name first
 abbrev pub server_order : List HostPort → ServerNo → ServerNo → Ordering
 server_order names a b = order_of (named names a) (named names b)
 
--- the better rule, then the first name
+-- the lower rank, then the first name
 abbrev pub nearer_order : List HostPort → Drained → Drained → Ordering
-nearer_order names a b = ordering_then (rule_order a.rule b.rule) (server_order names a.no b.no)
+nearer_order names a b = ordering_then (rank_order a b) (server_order names a.no b.no)
 
--- the greatest executed coordinate, then the better rule, then the first name
+-- the greatest executed coordinate, then the lower rank, then the first name
 abbrev pub advance_order : List HostPort → Drained → Drained → Ordering
 advance_order names a b = ordering_then (coord_order b.exec a.exec) (nearer_order names a b)
 
@@ -63,9 +67,9 @@ is_eligible d = d.logs && not (is_barred d.rule)
 abbrev pub most_advanced : List HostPort → List Drained → Option ServerNo
 most_advanced names list = option_map (λ d. d.no) (first_by (advance_order names) (filter is_eligible list))
 
--- it logs, and has a strictly better rule
-abbrev pub is_better : Rule → Drained → Bool
-is_better of d = d.logs && is_lt (rule_order d.rule of)
+-- it logs, and has a strictly lower rank
+abbrev pub is_better : Drained → Drained → Bool
+is_better of d = d.logs && is_lt (rank_order d of)
 
-abbrev pub better : List HostPort → Rule → List Drained → Option ServerNo
+abbrev pub better : List HostPort → Drained → List Drained → Option ServerNo
 better names of followers = option_map (λ d. d.no) (first_by (nearer_order names) (filter (is_better of) followers))

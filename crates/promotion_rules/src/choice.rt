@@ -1,8 +1,8 @@
 //! The choice among drained replicas (orchestrator's documentation, "Topology recovery").
 
-ghost use Rattle.std.specs.Prelude.{◌≡◌, ◌<◌, ◌&&◌, All, length};
+ghost use Rattle.std.specs.Prelude.{◌≡◌, ◌<◌, ◌≤◌, ◌&&◌, All, length};
 ghost use Rattle.std.specs.Option.{ForSome};
-ghost use Rattle.promotion_rules.specs.Choice.{advance_order, better, comes_first, coord_order, is_better, is_eligible, most_advanced, nearer_order, rule_order, server_order};
+ghost use Rattle.promotion_rules.specs.Choice.{advance_order, better, comes_first, coord_order, is_better, is_eligible, most_advanced, nearer_order, precedence, rank, rank_order, server_order};
 
 use crate::drained::Drained;
 use binlog_coords::Coord;
@@ -15,10 +15,29 @@ fn compare_coords(one: Coord, other: Coord) -> Ordering
     one.cmp(&other)
 }
 
-fn compare_rules(one: Rule, other: Rule) -> Ordering
-    ensures { result ≡ rule_order one other }
+fn precedence(rule: Rule) -> u8
+    ensures value { result ≡ precedence rule }
+    ensures within { result ≤ 3 }
 {
-    one.cmp(&other)
+    match rule {
+        Rule::Prefer => 0,
+        Rule::Neutral => 1,
+        Rule::PreferNot => 2,
+        Rule::MustNot => 3,
+    }
+}
+
+// Its rank: by its rule, then by whether it stands in the failed server's data centre.
+fn rank(drained: &Drained) -> u8
+    ensures { result ≡ rank drained.now }
+{
+    2 * precedence(drained.rule) + if drained.near { 0 } else { 1 }
+}
+
+fn compare_ranks(one: &Drained, other: &Drained) -> Ordering
+    ensures { result ≡ rank_order one.now other.now }
+{
+    rank(one).cmp(&rank(other))
 }
 
 fn compare_names(names: &[Name], one: ServerNo, other: ServerNo) -> Ordering
@@ -30,16 +49,16 @@ fn compare_names(names: &[Name], one: ServerNo, other: ServerNo) -> Ordering
     by_name.then(one.0.cmp(&other.0))
 }
 
-// The better rule, then the first name.
+// The lower rank, then the first name.
 fn compare_nearer(names: &[Name], one: &Drained, other: &Drained) -> Ordering
     requires one { one.now.no.0 < length names.now }
     requires other { other.now.no.0 < length names.now }
     ensures { result ≡ nearer_order names.now one.now other.now }
 {
-    compare_rules(one.rule, other.rule).then(compare_names(names, one.no, other.no))
+    compare_ranks(one, other).then(compare_names(names, one.no, other.no))
 }
 
-// The greatest executed coordinate, then the better rule, then the first name.
+// The greatest executed coordinate, then the lower rank, then the first name.
 fn compare_advance(names: &[Name], one: &Drained, other: &Drained) -> Ordering
     requires one { one.now.no.0 < length names.now }
     requires other { other.now.no.0 < length names.now }
@@ -54,10 +73,10 @@ fn is_eligible(drained: &Drained) -> bool
     drained.logs && drained.rule != Rule::MustNot
 }
 
-fn is_better(of: Rule, drained: &Drained) -> bool
-    ensures { result ≡ is_better of drained.now }
+fn is_better(of: &Drained, drained: &Drained) -> bool
+    ensures { result ≡ is_better of.now drained.now }
 {
-    drained.logs && compare_rules(drained.rule, of) == Ordering::Less
+    drained.logs && compare_ranks(drained, of) == Ordering::Less
 }
 
 // Whether it may be promoted, and stands before the first so far.
@@ -74,12 +93,12 @@ fn leads(names: &[Name], one: &Drained, first: Option<Drained>) -> bool
         }
 }
 
-// Whether it may take the place of one with this rule, and stands before the first so far.
-fn replaces(names: &[Name], of: Rule, one: &Drained, first: Option<Drained>) -> bool
+// Whether it may take the place of the promoted one, and stands before the first so far.
+fn replaces(names: &[Name], of: &Drained, one: &Drained, first: Option<Drained>) -> bool
     requires one { one.now.no.0 < length names.now }
     requires first { ForSome first (λ d. d.no.0 < length names.now) }
     ensures { result ≡
-        (is_better of one.now && comes_first (nearer_order names.now) one.now first) }
+        (is_better of.now one.now && comes_first (nearer_order names.now) one.now first) }
 {
     is_better(of, one)
         && match first {
@@ -89,8 +108,9 @@ fn replaces(names: &[Name], of: Rule, one: &Drained, first: Option<Drained>) -> 
 }
 
 /// The replica that is promoted: among those that log and may be promoted, the one that has executed most of the failed
-/// server's log; of several such ones one with the best rule, then the first by name. None exactly where none logs
-/// and may be promoted. `names` are the servers' names by number. It takes no memory.
+/// server's log; of several such ones one of the lowest rank, then the first by name. The rank is the better rule's,
+/// and of one rule that of those in the failed server's data centre. None exactly where none logs and may be promoted.
+/// `names` are the servers' names by number. It takes no memory.
 pub fn most_advanced(list: &[Drained], names: &[Name]) -> Option<ServerNo>
     requires { All (λ d. d.no.0 < length names.now) list.now }
     ensures { result ≡ most_advanced names.now list.now }
@@ -104,12 +124,12 @@ pub fn most_advanced(list: &[Drained], names: &[Name]) -> Option<ServerNo>
     first.map(|drained| drained.no)
 }
 
-/// The follower that takes the promoted one's place: among those that log and have a strictly better rule than `of`,
-/// one with the best rule; of several such ones the first by name. None exactly where none logs and has a strictly
-/// better rule. `names` are the servers' names by number. It takes no memory.
-pub fn better(of: Rule, followers: &[Drained], names: &[Name]) -> Option<ServerNo>
+/// The follower that takes the promoted one's place: among those that log and have a strictly lower rank than `of`, the
+/// promoted one, one of the lowest rank; of several such ones the first by name. None exactly where none logs and has a
+/// strictly lower rank. `names` are the servers' names by number. It takes no memory.
+pub fn better(of: &Drained, followers: &[Drained], names: &[Name]) -> Option<ServerNo>
     requires { All (λ d. d.no.0 < length names.now) followers.now }
-    ensures { result ≡ better names.now of followers.now }
+    ensures { result ≡ better names.now of.now followers.now }
 {
     let mut first: Option<Drained> = None;
     for drained in followers {

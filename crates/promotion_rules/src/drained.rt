@@ -16,4 +16,6 @@ pub struct Drained {
     pub rule: Rule,
     /// Whether it writes a binary log.
     pub logs: bool,
+    /// Whether it stands in the failed server's data centre.
+    pub near: bool,
 }

@@ -1,11 +1,10 @@
 //! What the choices are, over their definitions alone.
 
-ghost use Rattle.std.specs.Prelude.{◌≡◌, ◌↔◌, All, List, None, Some, false};
+ghost use Rattle.std.specs.Prelude.{◌≡◌, ◌<◌, ◌↔◌, All, List, None, Some, true, false};
 ghost use Rattle.std.specs.Cmp.{IsTotalOrder};
 ghost use Rattle.orch_base.specs.Names.{HostPort};
-ghost use Rattle.orch_base.specs.declared.rule.Rule.{Rule as ARule};
 ghost use Rattle.orch_base.specs.declared.server.ServerNo.{ServerNo as Number};
-ghost use Rattle.promotion_rules.specs.Choice.{advance_order, better, is_better, is_eligible, most_advanced, nearer_order};
+ghost use Rattle.promotion_rules.specs.Choice.{advance_order, better, is_better, is_eligible, most_advanced, nearer_order, precedence, rank};
 ghost use Rattle.promotion_rules.specs.Chosen.{HasExecutedMost, IsChoice};
 ghost use Rattle.promotion_rules.specs.declared.drained.Drained.{Drained as ADrained};
 
@@ -20,13 +19,13 @@ pub fn most_advanced_is_the_first()
         (most_advanced names list ≡ None) ↔ All (λ d. is_eligible d ≡ false) list }
 {}
 
-/// The better one is one of the followers that log and have a strictly better rule, and none of these stands before it.
-/// There is none exactly where none of them logs and has a strictly better rule.
+/// The better one is one of the followers that log and have a strictly lower rank than the promoted one, and none of
+/// these stands before it. There is none exactly where none of them logs and has a strictly lower rank.
 pub fn better_is_the_first()
-    ensures chosen { (names : List HostPort) (of : ARule) (followers : List ADrained) (n : Number) →
+    ensures chosen { (names : List HostPort) (of : ADrained) (followers : List ADrained) (n : Number) →
         better names of followers ≡ Some n →
         IsChoice (nearer_order names) (is_better of) followers n }
-    ensures none { (names : List HostPort) (of : ARule) (followers : List ADrained) →
+    ensures none { (names : List HostPort) (of : ADrained) (followers : List ADrained) →
         (better names of followers ≡ None) ↔ All (λ d. is_better of d ≡ false) followers }
 {}
 
@@ -34,4 +33,15 @@ pub fn better_is_the_first()
 pub fn orders_are_total()
     ensures advance { (names : List HostPort) → IsTotalOrder (advance_order names) }
     ensures nearer { (names : List HostPort) → IsTotalOrder (nearer_order names) }
+{}
+
+/// A better rule stands before a worse one, wherever the two stand; of one rule, the one that stands in the failed
+/// server's data centre stands first; and where both stand there, or neither does, they are ordered by their rules and
+/// then by name alone.
+pub fn ranks_go_by_rule_first()
+    ensures rule { (a b : ADrained) → precedence a.rule < precedence b.rule → rank a < rank b }
+    ensures near { (a b : ADrained) → a.rule ≡ b.rule → a.near ≡ true → b.near ≡ false →
+        rank a < rank b }
+    ensures same { (a b : ADrained) → a.near ≡ b.near → (rank a < rank b) ↔
+        (precedence a.rule < precedence b.rule) }
 {}

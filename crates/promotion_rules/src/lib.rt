@@ -7,4 +7,6 @@ mod laws;
 
 pub use choice::{better, most_advanced};
 pub use drained::Drained;
-pub use laws::{better_is_the_first, most_advanced_is_the_first, orders_are_total};
+pub use laws::{
+    better_is_the_first, most_advanced_is_the_first, orders_are_total, ranks_go_by_rule_first,
+};

@@ -1,5 +1,5 @@
 -- What isn't refused can begin.
-use Rattle.std.proofs.Common.{◌≡◌, ℕ, ◌+◌, ◌<◌, ◌∙◌, ◌&&◌, ◌||◌, Bool, true, false, cond, not, List, [], ◌∷◌, length, map, refl, sym, ap, subst, zero-add, Option, Some, None, Ok, arith}
+use Rattle.std.proofs.Common.{◌≡◌, ℕ, ◌+◌, ◌<◌, ◌≤◌, ◌∙◌, ◌&&◌, ◌||◌, Bool, true, false, cond, not, List, [], ◌∷◌, length, map, refl, sym, ap, subst, zero-add, Option, Some, None, Ok, arith}
 use Rattle.std.specs.Prelude.{◌==◌, IfSome, filter, slice_index_or}
 use Rattle.std.specs.List.{list_any, range_with_len}
 use Rattle.std.proofs.lemmas.Bool.{eqb-true, eq-eqb, false≢true}
@@ -19,7 +19,7 @@ use Rattle.instance_keeper.specs.Book.{BookState, IsBook, instance_at}
 use Rattle.instance_keeper.specs.Leases.{busy_by, first_busy}
 use Rattle.instance_keeper.specs.declared.lease.LeaseFault.TheVariants as fault
 use Rattle.book_views.specs.Sources.{is_attached_to, is_instance, is_replica_of, replicas_of, seen_source}
-use Rattle.audit_log.specs.Audits.{AuditState}
+use Rattle.audit_log.specs.Audits.{AuditState, longest_block}
 use Rattle.permission.specs.Checks.{busy, first_refusal, is_given}
 use Rattle.permission.specs.Lists.{first_about, first_of, only_if}
 use Rattle.permission.specs.Views.{attached_in, attached_of, source_of}
@@ -144,14 +144,14 @@ source-listed P Q f (Some s) h = h
 
 -- ---- what can begin
 
-module _ (w : World) (b : BookState) (audit : AuditState) (a : Attempt) (wait last : ℕ) (is : IsBook b) where
+module _ (w : World) (b : BookState) (audit : AuditState) (a : Attempt) (wait last : ℕ) (is : IsBook b) (short : a.block ≤ longest_block) where
   abbrev IsThere : ℕ → Type 0
   IsThere n = n < length b.names
 
   abbrev Can : Begins → Type 0
   Can x = CanBegin (length b.names) b.leases audit last x
 
-  recovery-can : (f : ServerNo) → f.0 < length b.names → recovery_refusal w b audit a f ≡ None → Can (recovery_begins b audit a.now wait (last + 1) f)
+  recovery-can : (f : ServerNo) → f.0 < length b.names → recovery_refusal w b audit a f ≡ None → Can (recovery_begins b audit a.now a.block wait (last + 1) f)
   recovery-can f within free = record {
     within = list-within b f within;
     free = free-of b.leases (recovery_list b f) (recovery-idle w b audit a f free);
@@ -162,14 +162,14 @@ module _ (w : World) (b : BookState) (audit : AuditState) (a : Attempt) (wait la
     named = begun-of IsThere IsThere (recovery_purpose b f) (last + 1) wait f (replicas_of b f) (replicas_of b f) (replicas-within b f) within
         (source-listed IsThere IsThere f (source_of b f) (source-within b f is within));
     number = refl;
-    may = record { block = a.block; answered = recovery-may b audit a f w free };
+    may = record { answered = recovery-may b audit a f w free; short = short };
     failed = refl;
     ended = refl;
     outcome = refl;
   }
 
   takeover-can : (i d : ServerNo) → i.0 < length b.names → d.0 < length b.names → takeover_refusal w b audit a i d ≡ None
-      → Can (takeover_begins b audit a.now wait (last + 1) i d)
+      → Can (takeover_begins b audit a.now a.block wait (last + 1) i d)
   takeover-can i d within there free = record {
     within = list-within b i within;
     free = free-of b.leases (recovery_list b i) (takeover-idle w b audit a i d free);
@@ -179,7 +179,7 @@ module _ (w : World) (b : BookState) (audit : AuditState) (a : Attempt) (wait la
     fresh = refl;
     named = begun-of IsThere IsThere (purpose.Takeover d) (last + 1) wait i (replicas_of b i) (followers_of b i d) (replicas-within b i) within (within, there);
     number = refl;
-    may = record { block = a.block; answered = takeover-may b audit a i w d free };
+    may = record { answered = takeover-may b audit a i w d free; short = short };
     failed = refl;
     ended = refl;
     outcome = refl;
@@ -187,17 +187,23 @@ module _ (w : World) (b : BookState) (audit : AuditState) (a : Attempt) (wait la
 
   pub recovery-begins : (f : ServerNo) (x : Begins) → f.0 < length b.names → recovery_try w b audit a wait (last + 1) f ≡ Ok x → Can x
   recovery-begins f x within h =
-      let parts = unrefused (recovery_refusal w b audit a f) (recovery_begins b audit a.now wait (last + 1) f) x h in
+      let parts = unrefused (recovery_refusal w b audit a f) (recovery_begins b audit a.now a.block wait (last + 1) f) x h in
       subst Can parts.1 (recovery-can f within parts.0)
 
   pub takeover-begins : (i d : ServerNo) (x : Begins) → i.0 < length b.names → d.0 < length b.names → takeover_try w b audit a wait (last + 1) i d ≡ Ok x → Can x
   takeover-begins i d x within there h =
-      let parts = unrefused (takeover_refusal w b audit a i d) (takeover_begins b audit a.now wait (last + 1) i d) x h in
+      let parts = unrefused (takeover_refusal w b audit a i d) (takeover_begins b audit a.now a.block wait (last + 1) i d) x h in
       subst Can parts.1 (takeover-can i d within there parts.0)
 
 module _ (w : World) (b : BookState) (audit : AuditState) (a : Attempt) (wait job : ℕ) where
   pub recovery-moment : (f : ServerNo) (x : Begins) → recovery_try w b audit a wait job f ≡ Ok x → x.entry.begun ≡ a.now
-  recovery-moment f x h = sym (ap (λ (y : Begins). y.entry.begun) (unrefused (recovery_refusal w b audit a f) (recovery_begins b audit a.now wait job f) x h).1)
+  recovery-moment f x h = sym (ap (λ (y : Begins). y.entry.begun) (unrefused (recovery_refusal w b audit a f) (recovery_begins b audit a.now a.block wait job f) x h).1)
+
+  pub recovery-block : (f : ServerNo) (x : Begins) → recovery_try w b audit a wait job f ≡ Ok x → x.entry.block ≡ a.block
+  recovery-block f x h = sym (ap (λ (y : Begins). y.entry.block) (unrefused (recovery_refusal w b audit a f) (recovery_begins b audit a.now a.block wait job f) x h).1)
+
+  pub takeover-block : (i d : ServerNo) (x : Begins) → takeover_try w b audit a wait job i d ≡ Ok x → x.entry.block ≡ a.block
+  takeover-block i d x h = sym (ap (λ (y : Begins). y.entry.block) (unrefused (takeover_refusal w b audit a i d) (takeover_begins b audit a.now a.block wait job i d) x h).1)
 
   pub takeover-moment : (i d : ServerNo) (x : Begins) → takeover_try w b audit a wait job i d ≡ Ok x → x.entry.begun ≡ a.now
-  takeover-moment i d x h = sym (ap (λ (y : Begins). y.entry.begun) (unrefused (takeover_refusal w b audit a i d) (takeover_begins b audit a.now wait job i d) x h).1)
+  takeover-moment i d x h = sym (ap (λ (y : Begins). y.entry.begun) (unrefused (takeover_refusal w b audit a i d) (takeover_begins b audit a.now a.block wait job i d) x h).1)

@@ -23,7 +23,7 @@ done-closed (Some n) = refl
 pub ending-closed : (r : Recovery) (s : JobStep) (e : Ending) → ending_of r s ≡ Some e → is_open e ≡ false
 ending-closed r step.Going e h = cc
 ending-closed r (step.Done lines) e h = ap is_open (sym (same_Some (done_with r.outcome.promoted) e h)) ∙ done-closed r.outcome.promoted
-ending-closed r (step.Failed c) e h = ap is_open (sym (same_Some (ending.Failed (cause_name c)) e h))
+ending-closed r (step.Failed c lines) e h = ap is_open (sym (same_Some (ending.Failed (cause_name c)) e h))
 
 pub ending-apart : (a : AuditState) (id : ℕ) (at : Moment) (r : Recovery) (s : JobStep) (e : Ending) → ending_of r s ≡ Some e → IsApart a → IsApart (ended a id at e)
 ending-apart a id at r s e h apart = ended-apart a id at e (ending-closed r s e h) apart
@@ -31,14 +31,14 @@ ending-apart a id at r s e h apart = ended-apart a id at e (ending-closed r s e 
 pub going-unended : (r : Recovery) (s : JobStep) → is_going s ≡ true → ending_of r s ≡ None
 going-unended r step.Going h = refl
 going-unended r (step.Done lines) h = absurd (false≢true h)
-going-unended r (step.Failed c) h = absurd (false≢true h)
+going-unended r (step.Failed c lines) h = absurd (false≢true h)
 
 pub unended-going : (r : Recovery) (s : JobStep) → ending_of r s ≡ None → is_going s ≡ true
 unended-going r step.Going h = refl
 unended-going r (step.Done lines) h = cc
-unended-going r (step.Failed c) h = cc
+unended-going r (step.Failed c lines) h = cc
 
 pub acknowledged-done : (r : Recovery) (s : JobStep) → is_acknowledged r s ≡ true → (is_takeover r.purpose ≡ true) × (is_going s ≡ false)
 acknowledged-done r step.Going h = absurd (false≢true h)
 acknowledged-done r (step.Done lines) h = (h, refl)
-acknowledged-done r (step.Failed c) h = absurd (false≢true h)
+acknowledged-done r (step.Failed c lines) h = absurd (false≢true h)

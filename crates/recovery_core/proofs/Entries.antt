@@ -13,7 +13,7 @@ use Rattle.name_order.specs.NameOrder.{by_name}
 use Rattle.name_order.proofs.Arranged.{by_name-within}
 use Rattle.name_order.proofs.ByName.{IsOrder-by_name, length-by_name}
 use Rattle.instance_keeper.specs.Book.{BookState, instance_at}
-use Rattle.instance_keeper.specs.declared.observation.Instance.{Instance}
+use Rattle.kept_rows.specs.declared.observation.Instance.{Instance}
 use Rattle.audit_log.proofs.Finding.{All-found, found-passes, none-passes}
 use Rattle.failure_analysis.specs.Analysis.{analysis, entry_at, entry_of}
 use Rattle.failure_analysis.specs.Table.{action_of}

@@ -7,8 +7,9 @@ use Rattle.orch_base.specs.declared.server.Moment.{Moment}
 use Rattle.orch_base.specs.declared.server.ServerNo.{ServerNo}
 use Rattle.commands.specs.declared.refusal.Refusal.{Refusal}
 use Rattle.instance_keeper.specs.Book.{BookState, IsBook}
+use Rattle.asking_commands.specs.Asking.{label_at}
 use Rattle.audit_log.specs.Apart.{IsApart}
-use Rattle.audit_log.specs.Audits.{AuditState, begun}
+use Rattle.audit_log.specs.Audits.{AuditState, begun, longest_block}
 use Rattle.audit_log.proofs.Parting.{begun-apart}
 use Rattle.failure_analysis.specs.Analysis.{analysis}
 use Rattle.failure_analysis.specs.Table.{action_of}
@@ -35,7 +36,7 @@ module _ (w : World) (b : BookState) (by : ServerNo → Attempt) (wait : ℕ) wh
   refusal_at s e = staged_refusal w b (by e.no) s e.no
 
   abbrev begins_at : Staged → Entry → Begins
-  begins_at s e = recovery_begins (record b { leases = s.leases }) s.audit (by e.no).now wait (s.last + 1) e.no
+  begins_at s e = recovery_begins (record b { leases = s.leases }) s.audit (by e.no).now (by e.no).block wait (s.last + 1) e.no
 
   abbrev after_by : Staged → Entry → Option Refusal → Staged
   after_by s e o = after_try s e (unless_refused o (begins_at s e))
@@ -105,7 +106,19 @@ module _ (w : World) (b : BookState) (by : ServerNo → Attempt) (wait : ℕ) wh
         go None rest = All-cons BeganThen (begins_at s e) (begun_over (after_by s e None) es) (same e.no) (rest (after_by s e None))
         go (Some r) rest = rest (after_by s e (Some r))
 
-  module _ (is : IsBook b) where
+  module _ (period : List ℕ → ℕ) (same : (n : ServerNo) → (by n).block ≡ period (label_at b n)) where
+    abbrev BlocksSo : Begins → Type 0
+    BlocksSo x = x.entry.block ≡ period x.entry.cluster
+
+    blocks-over : (s : Staged) (es : List Entry) → All BlocksSo (begun_over s es)
+    blocks-over s [] = All-nil BlocksSo
+    blocks-over s (e ∷ es) = go (refusal_at s e) (λ t. blocks-over t es)
+      where
+        go : (o : Option Refusal) → ((t : Staged) → All BlocksSo (begun_over t es)) → All BlocksSo (begun_by o (begins_at s e) ++ begun_over (after_by s e o) es)
+        go None rest = All-cons BlocksSo (begins_at s e) (begun_over (after_by s e None) es) (same e.no) (rest (after_by s e None))
+        go (Some r) rest = rest (after_by s e (Some r))
+
+  module _ (is : IsBook b) (short : (n : ServerNo) → (by n).block ≤ longest_block) where
     abbrev InTurn : Staged → List Begins → Type 0
     InTurn s xs = BeginInTurn (length b.names) s.leases s.audit s.last xs
 
@@ -131,7 +144,7 @@ module _ (w : World) (b : BookState) (by : ServerNo → Attempt) (wait : ℕ) wh
         go : (o : Option Refusal) → refusal_at s e ≡ o → ((t : Staged) → length t.leases ≡ length b.names → InTurn t (begun_over t es))
             → InTurn s (begun_by o (begins_at s e) ++ begun_over (after_by s e o) es)
         go None free rest = (
-          recovery-begins w (record b { leases = s.leases }) s.audit (by e.no) wait s.last (there s fits) e.no (begins_at s e)
+          recovery-begins w (record b { leases = s.leases }) s.audit (by e.no) wait s.last (there s fits) (short e.no) e.no (begins_at s e)
               (All-head (IsEntryIn b) e es all).within (ap (λ o. unless_refused o (begins_at s e)) free),
           rest (after_by s e None) (length-taken s.leases (begins_at s e).list (s.last + 1) ∙ fits),
         )
@@ -161,8 +174,12 @@ module _ (w : World) (b : BookState) (by : ServerNo → Attempt) (wait : ℕ) wh
     pub scan-moments : (now : Moment) → ((n : ServerNo) → (by n).now ≡ now) → All (λ x. x.entry.begun ≡ now) (scanned w b audit by wait last).begun
     scan-moments now same = subst (All (λ (x : Begins). x.entry.begun ≡ now)) (sym all-begun) (moments-over now same start (actionable_in b))
 
-    pub scan-in-turn : IsBook b → BeginInTurn (length b.names) b.leases audit last (scanned w b audit by wait last).begun
-    scan-in-turn is = subst (BeginInTurn (length b.names) b.leases audit last) (sym all-begun) (in-turn is start (actionable_in b) is.leases (actionable-entries b))
+    pub scan-blocks : (period : List ℕ → ℕ) → ((n : ServerNo) → (by n).block ≡ period (label_at b n))
+        → All (λ x. x.entry.block ≡ period x.entry.cluster) (scanned w b audit by wait last).begun
+    scan-blocks period same = subst (All (λ (x : Begins). x.entry.block ≡ period x.entry.cluster)) (sym all-begun) (blocks-over period same start (actionable_in b))
+
+    pub scan-in-turn : IsBook b → ((n : ServerNo) → (by n).block ≤ longest_block) → BeginInTurn (length b.names) b.leases audit last (scanned w b audit by wait last).begun
+    scan-in-turn is short = subst (BeginInTurn (length b.names) b.leases audit last) (sym all-begun) (in-turn is short start (actionable_in b) is.leases (actionable-entries b))
 
     -- a scan of a book whose analysis asks for no recovery
     pub scan-idle : All (λ e. action_of e.code ≡ Nothing) (analysis b) → scanned w b audit by wait last ≡ from_start b audit last
@@ -186,7 +203,8 @@ apart-after count leases audit last [] each apart = apart
 apart-after count leases audit last (x ∷ xs) each apart =
     apart-after count _ (begun audit x.entry) x.job.core.id xs each.1 (begun-apart audit x.entry each.0.may apart)
 
-pub scan-apart : (w : World) (b : BookState) (audit : AuditState) (by : ServerNo → Attempt) (wait last : ℕ) → IsBook b → IsApart audit → IsApart (scanned w b audit by wait last).audit
-scan-apart w b audit by wait last is apart =
+pub scan-apart : (w : World) (b : BookState) (audit : AuditState) (by : ServerNo → Attempt) (wait last : ℕ) → IsBook b → ((n : ServerNo) → (by n).block ≤ longest_block) → IsApart audit
+    → IsApart (scanned w b audit by wait last).audit
+scan-apart w b audit by wait last is short apart =
     subst IsApart (sym (scan-audit w b by wait audit last))
-    (apart-after (length b.names) b.leases audit last (scanned w b audit by wait last).begun (scan-in-turn w b by wait audit last is) apart)
+    (apart-after (length b.names) b.leases audit last (scanned w b audit by wait last).begun (scan-in-turn w b by wait audit last is short) apart)

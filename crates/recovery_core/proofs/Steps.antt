@@ -8,7 +8,7 @@ use Rattle.orch_base.specs.declared.server.ServerNo.{ServerNo}
 use Rattle.commands.specs.declared.refusal.Refusal.{Refusal}
 use Rattle.instance_keeper.specs.Book.{BookState}
 use Rattle.instance_keeper.specs.Leases.{taken}
-use Rattle.instance_keeper.specs.declared.recovery.Recovery.{Recovery as KeptRecovery}
+use Rattle.kept_rows.specs.declared.recovery.Recovery.{Recovery as KeptRecovery}
 use Rattle.failure_analysis.specs.declared.entry.Entry.{Entry}
 use Rattle.recovery_permits.specs.declared.attempt.Attempt.{Attempt}
 use Rattle.recovery_core.specs.Scans.{Staged, after_try, scan_step, scanned_over, staged_refusal, staged_try, IsReady}
@@ -28,7 +28,7 @@ pub step-ready : (w : World) (b : BookState) (a : Attempt) (wait : ℕ) (s : Sta
 step-ready w b a wait s e early ready = go (staged_refusal w b a s e.no)
   where
     begins : Begins
-    begins = recovery_begins (record b { leases = s.leases }) s.audit a.now wait (s.last + 1) e.no
+    begins = recovery_begins (record b { leases = s.leases }) s.audit a.now a.block wait (s.last + 1) e.no
 
     go : (o : Option Refusal) → IsReady b (after_try s e (unless_refused o begins))
     go None = record {

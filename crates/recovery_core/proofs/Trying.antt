@@ -1,5 +1,5 @@
 -- What refuses a try, and what may begin where nothing does.
-use Rattle.std.proofs.Common.{◌≡◌, ℕ, ◌<◌, Bool, List, length, refl, sym, ◌∙◌, ap, subst, Option, Some, None, Result, Ok, Err}
+use Rattle.std.proofs.Common.{◌≡◌, ℕ, ◌<◌, ◌≤◌, Bool, List, length, refl, sym, ◌∙◌, ap, subst, Option, Some, None, Result, Ok, Err}
 use Rattle.std.specs.Prelude.{All, OnOk, slice_index_or}
 use Rattle.std.specs.Option.{option_or}
 use Rattle.std.proofs.lemmas.List.Elements.{All-push}
@@ -7,12 +7,12 @@ use Rattle.orch_base.specs.Gives.{Gives}
 use Rattle.orch_base.specs.declared.code.Code.{Code}
 use Rattle.orch_base.specs.declared.recovery.Kind.{Kind}
 use Rattle.orch_base.specs.declared.server.ServerNo.{ServerNo}
-use Rattle.instance_keeper.specs.declared.recovery.Recovery.{Recovery as KeptRecovery}
+use Rattle.kept_rows.specs.declared.recovery.Recovery.{Recovery as KeptRecovery}
 use Rattle.commands.specs.declared.refusal.Refusal.{Refusal}
 use Rattle.instance_keeper.specs.Book.{BookState}
 use Rattle.asking_commands.specs.Asking.{label_at}
 use Rattle.audit_log.specs.Apart.{MayBegin}
-use Rattle.audit_log.specs.Audits.{AuditState, may_begin}
+use Rattle.audit_log.specs.Audits.{AuditState, longest_block, may_begin}
 use Rattle.audit_log.specs.declared.held.Held.{Held}
 use Rattle.audit_log.proofs.Parting.{apart-begins}
 use Rattle.failure_analysis.specs.Table.{action_of}
@@ -64,16 +64,16 @@ module _ (w : World) (b : BookState) (a : Attempt) (leases : List (Option ℕ)) 
 module _ (b : BookState) (audit : AuditState) (a : Attempt) (f : ServerNo) where
   -- the answer of the audit
   abbrev answer : Result ℕ Held
-  answer = may_begin audit (label_at b f) a.now.0 a.block
+  answer = may_begin audit (label_at b f) a.now.0
 
   abbrev Answers : Type 0
-  Answers = may_begin audit (label_at b f) a.now.0 a.block ≡ Ok audit.next
+  Answers = may_begin audit (label_at b f) a.now.0 ≡ Ok audit.next
 
   pub unheld : held_back b audit a f ≡ None → Answers
   unheld h = go answer refl h
     where
       go : (r : Result ℕ Held) → answer ≡ r → held_by r ≡ None → answer ≡ Ok audit.next
-      go (Ok id) e h = e ∙ ap (λ n. Ok n) (apart-begins (label_at b f) a.now.0 a.block audit id e).0
+      go (Ok id) e h = e ∙ ap (λ n. Ok n) (apart-begins (label_at b f) a.now.0 audit id e).0
       go (Err x) e h = cc
 
   unheld-off : (passes : Bool) → held_off b audit a f passes ≡ None → Answers
@@ -112,9 +112,9 @@ room-kept old new e x small is room =
 
 -- ---- an entry that begins
 
-pub entry-may : (b : BookState) (audit : AuditState) (a : Attempt) (what : Kind) (f : ServerNo) (r : KeptRecovery) → may_begin audit (label_at b f) a.now.0 a.block ≡ Ok audit.next
-    → r ≡ entry_of b audit a.now what f → MayBegin audit r
-entry-may b audit a what f r free is = subst (MayBegin audit) (sym is) (record { block = a.block; answered = free })
+pub entry-may : (b : BookState) (audit : AuditState) (a : Attempt) (what : Kind) (f : ServerNo) (r : KeptRecovery) → may_begin audit (label_at b f) a.now.0 ≡ Ok audit.next
+    → a.block ≤ longest_block → r ≡ entry_of b audit a.now a.block what f → MayBegin audit r
+entry-may b audit a what f r free short is = subst (MayBegin audit) (sym is) (record { answered = free; short = short })
 
 pub none-there : {A : Type 0} (o : Option A) → ((x : A) → o ≡ Some x → ⊥) → o ≡ None
 none-there None never = refl

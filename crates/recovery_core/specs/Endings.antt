@@ -20,7 +20,7 @@ done_with (Some n) = ending.Promoted n
 abbrev pub ending_of : Recovery → JobStep → Option Ending
 ending_of r step.Going = None
 ending_of r (step.Done lines) = Some (done_with r.outcome.promoted)
-ending_of r (step.Failed c) = Some (ending.Failed (cause_name c))
+ending_of r (step.Failed c lines) = Some (ending.Failed (cause_name c))
 
 abbrev pub is_takeover : Purpose → Bool
 is_takeover purpose.Regroup = false
@@ -32,4 +32,4 @@ is_takeover (purpose.Takeover d) = true
 abbrev pub is_acknowledged : Recovery → JobStep → Bool
 is_acknowledged r step.Going = false
 is_acknowledged r (step.Done lines) = is_takeover r.purpose
-is_acknowledged r (step.Failed c) = false
+is_acknowledged r (step.Failed c lines) = false

@@ -5,6 +5,7 @@ use Rattle.commands.specs.declared.line.Line.{Line}
 use Rattle.commands.specs.declared.line.Line.TheVariants as line
 use Rattle.commands.specs.declared.refusal.Refusal.{Refusal}
 use Rattle.instance_keeper.specs.Book.{BookState}
+use Rattle.asking_commands.specs.Asking.{label_at}
 use Rattle.instance_keeper.specs.Leases.{taken}
 use Rattle.failure_analysis.specs.Analysis.{analysis}
 use Rattle.failure_analysis.specs.Table.{action_of}
@@ -33,14 +34,15 @@ pub record IsEntryIn (b : BookState) (e : Entry) : Type 0 where
   pub within : e.no.0 < length b.names
   pub code : code_at b e.no ≡ Some e.code
 
--- no operator asks for a scan's recoveries; the filters' answers stand by server number
-abbrev pub attempt_of : List Bool → List Bool → Terms → ServerNo → Attempt
-attempt_of masters intermediates t n = record {
+-- no operator asks for a scan's recoveries; the filters' answers stand by server number, the block periods by the
+-- clusters' labels
+abbrev pub attempt_of : List Bool → List Bool → (List ℕ → ℕ) → BookState → Terms → ServerNo → Attempt
+attempt_of masters intermediates period b t n = record {
   by_master = slice_index_or masters n.0 false;
   by_intermediate = slice_index_or intermediates n.0 false;
   enabled = t.enabled;
   by_hand = false;
-  block = t.block;
+  block = period (label_at b n);
   now = t.now;
 }
 

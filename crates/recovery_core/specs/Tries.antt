@@ -7,7 +7,7 @@ use Rattle.orch_base.specs.declared.server.Moment.{Moment}
 use Rattle.orch_base.specs.declared.server.ServerNo.{ServerNo}
 use Rattle.commands.specs.declared.refusal.Refusal.{Refusal}
 use Rattle.instance_keeper.specs.Book.{BookState}
-use Rattle.instance_keeper.specs.declared.recovery.Recovery.{Recovery as KeptRecovery}
+use Rattle.kept_rows.specs.declared.recovery.Recovery.{Recovery as KeptRecovery}
 use Rattle.book_views.specs.Sources.{replicas_of}
 use Rattle.asking_commands.specs.Asking.{label_at}
 use Rattle.audit_log.specs.Audits.{AuditState}
@@ -26,9 +26,9 @@ pub record Begins : Type 0 where
   pub job : Recovery
   pub entry : KeptRecovery
 
--- the entry of a recovery that begins
-abbrev pub entry_of : BookState → AuditState → Moment → Kind → ServerNo → KeptRecovery
-entry_of b audit now what f = record {
+-- the entry of a recovery that begins, with the block period that its cluster has then
+abbrev pub entry_of : BookState → AuditState → Moment → ℕ → Kind → ServerNo → KeptRecovery
+entry_of b audit now block what f = record {
   id = audit.next;
   cluster = label_at b f;
   kind = what;
@@ -37,6 +37,7 @@ entry_of b audit now what f = record {
   ended = None;
   outcome = ending.Unended;
   acked = false;
+  block = block;
 }
 
 -- what is recovered, by whether the failed server has a source
@@ -48,19 +49,19 @@ abbrev pub recovery_kind : BookState → ServerNo → Kind
 recovery_kind b f = kind_by (source_of b f)
 
 -- the recovery of a server, as the job of a number, whose operations may wait so often each
-abbrev pub recovery_begins : BookState → AuditState → Moment → ℕ → ℕ → ServerNo → Begins
-recovery_begins b audit now wait job f = record {
+abbrev pub recovery_begins : BookState → AuditState → Moment → ℕ → ℕ → ℕ → ServerNo → Begins
+recovery_begins b audit now block wait job f = record {
   list = recovery_list b f;
   job = begun_recovery (recovery_purpose b f) job wait f (replicas_of b f) (replicas_of b f);
-  entry = entry_of b audit now (recovery_kind b f) f;
+  entry = entry_of b audit now block (recovery_kind b f) f;
 }
 
 -- a replica's takeover of a master's place; it tells of the master, too
-abbrev pub takeover_begins : BookState → AuditState → Moment → ℕ → ℕ → ServerNo → ServerNo → Begins
-takeover_begins b audit now wait job i d = record {
+abbrev pub takeover_begins : BookState → AuditState → Moment → ℕ → ℕ → ℕ → ServerNo → ServerNo → Begins
+takeover_begins b audit now block wait job i d = record {
   list = recovery_list b i;
   job = begun_recovery (purpose.Takeover d) job wait i (replicas_of b i) (followers_of b i d);
-  entry = entry_of b audit now kind.Takeover i;
+  entry = entry_of b audit now block kind.Takeover i;
 }
 
 -- what is refused doesn't begin
@@ -69,7 +70,7 @@ unless_refused None x = Ok x
 unless_refused (Some r) x = Err r
 
 abbrev pub recovery_try : World → BookState → AuditState → Attempt → ℕ → ℕ → ServerNo → Result Begins Refusal
-recovery_try w b audit a wait job f = unless_refused (recovery_refusal w b audit a f) (recovery_begins b audit a.now wait job f)
+recovery_try w b audit a wait job f = unless_refused (recovery_refusal w b audit a f) (recovery_begins b audit a.now a.block wait job f)
 
 abbrev pub takeover_try : World → BookState → AuditState → Attempt → ℕ → ℕ → ServerNo → ServerNo → Result Begins Refusal
-takeover_try w b audit a wait job i d = unless_refused (takeover_refusal w b audit a i d) (takeover_begins b audit a.now wait job i d)
+takeover_try w b audit a wait job i d = unless_refused (takeover_refusal w b audit a i d) (takeover_begins b audit a.now a.block wait job i d)

@@ -26,7 +26,7 @@ pub fn ending_of(job: &RecoveryJob, step: &JobStep) -> Option<Ending>
     match step {
         JobStep::Going => None,
         JobStep::Done(_) => Some(done_with(job.outcome().promoted())),
-        JobStep::Failed(cause) => Some(Ending::Failed(cause.name())),
+        JobStep::Failed(cause, _) => Some(Ending::Failed(cause.name())),
     }
 }
 
@@ -45,7 +45,7 @@ pub fn is_acknowledged(job: &RecoveryJob, step: &JobStep) -> bool
     ensures { result ≡ is_acknowledged job.now step.now }
 {
     match step {
-        JobStep::Going | JobStep::Failed(_) => false,
+        JobStep::Going | JobStep::Failed(_, _) => false,
         JobStep::Done(_) => is_takeover(job.purpose()),
     }
 }

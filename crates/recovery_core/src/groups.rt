@@ -1,7 +1,7 @@
 //! The replicas of each server, in one pass.
 
 ghost use Rattle.std.specs.Prelude.{◌≡◌, ◌++◌, ◌∷◌, [], IfOk, OnOk, length, replicate, true};
-ghost use Rattle.instance_keeper.specs.Book.{are_known, source_servers};
+ghost use Rattle.kept_rows.specs.Servers.{are_known, source_servers};
 ghost use Rattle.recovery_core.specs.Groups.{joined, AreGroups};
 
 use crate::Memory;

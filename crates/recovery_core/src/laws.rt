@@ -7,8 +7,9 @@ ghost use Rattle.orch_base.specs.declared.server.ServerNo.{ServerNo as Number};
 ghost use Rattle.commands.specs.declared.line.Line.TheVariants as line;
 ghost use Rattle.commands.specs.declared.refusal.Refusal.{Refusal as ARefusal};
 ghost use Rattle.instance_keeper.specs.Book.{BookState, IsBook};
+ghost use Rattle.asking_commands.specs.Asking.{label_at};
 ghost use Rattle.audit_log.specs.Apart.{IsApart};
-ghost use Rattle.audit_log.specs.Audits.{AuditState, begun, ended, is_open};
+ghost use Rattle.audit_log.specs.Audits.{AuditState, begun, ended, is_open, longest_block};
 ghost use Rattle.failure_analysis.specs.Analysis.{analysis};
 ghost use Rattle.failure_analysis.specs.Table.{action_of};
 ghost use Rattle.failure_analysis.specs.declared.code.Action.TheVariants.{Nothing};
@@ -24,15 +25,16 @@ ghost use Rattle.recovery_core.specs.Scans.{after_try, from_start, scanned, stag
 ghost use Rattle.recovery_core.specs.Tries.{recovery_try, takeover_try, Begins};
 
 /// What isn't refused can begin, after any job, with the next number: its servers are of the book and have no lease,
-/// and its entry may begin.
+/// and its entry may begin. The entry has the moment and the block period of the attempt.
 pub fn tries_can_begin()
     ensures recovery { (w : World) (b : BookState) (audit : AuditState) (a : AnAttempt)
         (wait last : ℕ) (f : Number) (x : Begins) →
-        IsBook b → f.0 < length b.names → recovery_try w b audit a wait (last + 1) f ≡ Ok x →
+        IsBook b → f.0 < length b.names → a.block ≤ longest_block →
+        recovery_try w b audit a wait (last + 1) f ≡ Ok x →
         CanBegin (length b.names) b.leases audit last x }
     ensures takeover { (w : World) (b : BookState) (audit : AuditState) (a : AnAttempt)
         (wait last : ℕ) (i d : Number) (x : Begins) →
-        IsBook b → i.0 < length b.names → d.0 < length b.names →
+        IsBook b → i.0 < length b.names → d.0 < length b.names → a.block ≤ longest_block →
         takeover_try w b audit a wait (last + 1) i d ≡ Ok x →
         CanBegin (length b.names) b.leases audit last x }
     ensures recovery_moment { (w : World) (b : BookState) (audit : AuditState) (a : AnAttempt)
@@ -41,13 +43,19 @@ pub fn tries_can_begin()
     ensures takeover_moment { (w : World) (b : BookState) (audit : AuditState) (a : AnAttempt)
         (wait job : ℕ) (i d : Number) (x : Begins) →
         takeover_try w b audit a wait job i d ≡ Ok x → x.entry.begun ≡ a.now }
+    ensures recovery_block { (w : World) (b : BookState) (audit : AuditState) (a : AnAttempt)
+        (wait job : ℕ) (f : Number) (x : Begins) →
+        recovery_try w b audit a wait job f ≡ Ok x → x.entry.block ≡ a.block }
+    ensures takeover_block { (w : World) (b : BookState) (audit : AuditState) (a : AnAttempt)
+        (wait job : ℕ) (i d : Number) (x : Begins) →
+        takeover_try w b audit a wait job i d ≡ Ok x → x.entry.block ≡ a.block }
 {}
 
 /// What a scan begins can begin one after another, with the numbers after the last job's, and is what its leases and
-/// its audit have more.
+/// its audit have more. Each entry has the scan's moment and the block period of its cluster.
 pub fn scans_begin_in_turn()
     ensures begun { (w : World) (b : BookState) (audit : AuditState) (by : Number → AnAttempt)
-        (wait last : ℕ) → IsBook b →
+        (wait last : ℕ) → IsBook b → ((n : Number) → (by n).block ≤ longest_block) →
         BeginInTurn (length b.names) b.leases audit last (scanned w b audit by wait last).begun }
     ensures leases { (w : World) (b : BookState) (audit : AuditState) (by : Number → AnAttempt)
         (wait last : ℕ) → (scanned w b audit by wait last).leases
@@ -61,6 +69,10 @@ pub fn scans_begin_in_turn()
     ensures moments { (w : World) (b : BookState) (audit : AuditState) (by : Number → AnAttempt)
         (wait last : ℕ) (now : AMoment) → ((n : Number) → (by n).now ≡ now) →
         All (λ x. x.entry.begun ≡ now) (scanned w b audit by wait last).begun }
+    ensures blocks { (w : World) (b : BookState) (audit : AuditState) (by : Number → AnAttempt)
+        (wait last : ℕ) (period : List ℕ → ℕ) →
+        ((n : Number) → (by n).block ≡ period (label_at b n)) →
+        All (λ x. x.entry.block ≡ period x.entry.cluster) (scanned w b audit by wait last).begun }
 {}
 
 /// An audit that is apart stays apart through what begins: one that can, and each of several in turn. The next id never
@@ -73,7 +85,8 @@ pub fn begins_keep_audits_apart()
         (xs : List Begins) → BeginInTurn count leases audit last xs → IsApart audit →
         IsApart (audit_after audit xs) }
     ensures scan { (w : World) (b : BookState) (audit : AuditState) (by : Number → AnAttempt)
-        (wait last : ℕ) → IsBook b → IsApart audit →
+        (wait last : ℕ) → IsBook b → ((n : Number) → (by n).block ≤ longest_block) →
+        IsApart audit →
         IsApart (scanned w b audit by wait last).audit }
     ensures next { (w : World) (b : BookState) (audit : AuditState) (by : Number → AnAttempt)
         (wait last : ℕ) → audit.next ≤ (scanned w b audit by wait last).audit.next }

@@ -1,13 +1,13 @@
 //! A scan for failed servers.
 
-ghost use Rattle.std.specs.Prelude.{◌≡◌, ◌≤◌, ◌^◌, All, IfOk, length, slice_index_or, false};
+ghost use Rattle.std.specs.Prelude.{◌≡◌, ◌<◌, ◌≤◌, ◌^◌, ℕ, All, IfOk, List, length, slice_index_or, false};
 ghost use Rattle.recovery_core.specs.Scans.{attempt_of, scanned, HasRoom};
 
 use crate::codes::actionable_entries;
 use crate::groups::groups;
 use crate::stage::Stage;
 use crate::{Memory, Scan};
-use audit_log::Audit;
+use audit_log::{Audit, Periods};
 use commands::Lines;
 use instance_keeper::Book;
 use orch_base::{Moment, ServerNo};
@@ -20,8 +20,6 @@ use std::alloc::Global;
 pub struct Terms {
     /// Whether recoveries are enabled.
     pub enabled: bool,
-    /// How long a recovery that isn't acknowledged blocks others of its cluster, in seconds.
-    pub block: u64,
     /// How often each operation of a recovery may wait.
     pub wait: u32,
     /// The present moment.
@@ -37,41 +35,53 @@ fn answer_at(answers: &[bool], no: ServerNo) -> bool
     }
 }
 
-fn attempt_of(by_master: &[bool], by_intermediate: &[bool], terms: Terms, no: ServerNo) -> Attempt
-    ensures { result ≡ attempt_of by_master.now by_intermediate.now terms no }
+fn attempt_of<P: Periods>(
+    book: &Book,
+    by_master: &[bool],
+    by_intermediate: &[bool],
+    periods: &P,
+    terms: Terms,
+    no: ServerNo,
+) -> Attempt
+    requires { no.0 < length book.now.names }
+    ensures { result ≡ attempt_of by_master.now by_intermediate.now (P.period_of periods.now)
+        book.now terms no }
 {
     Attempt {
         by_master: answer_at(by_master, no),
         by_intermediate: answer_at(by_intermediate, no),
         enabled: terms.enabled,
         by_hand: false,
-        block: terms.block,
+        block: periods.period(book.settings(no).cluster.as_str()),
         now: terms.now,
     }
 }
 
 /// Tries a recovery of each instance whose analysis asks for one, in name order, each on the leases and the audit that
 /// the tries before it left, and with the next number after the last job. The filters' answers for recoveries of
-/// masters and of intermediate masters stand by server number. It changes nothing. Moments are at most 2^63, and a
-/// block period at most 1,000,000,000 seconds. `Memory` comes, too, where no number is left for a job, or no id in the
-/// audit.
-pub fn scan(
+/// masters and of intermediate masters stand by server number, the block periods by the clusters' labels. It changes
+/// nothing. Moments are at most 2^63, and block periods at most 1,000,000,000 seconds. `Memory` comes, too, where no
+/// number is left for a job, or no id in the audit.
+pub fn scan<P: Periods>(
     alloc: Global,
     book: &Book,
     world: &World,
     audit: &Audit,
     by_master: &[bool],
     by_intermediate: &[bool],
+    periods: &P,
     terms: Terms,
     last: u64,
 ) -> Result<Scan, Memory>
     requires begun { All (λ r. r.begun.0 ≤ 2 ^ 63) audit.now.audit.recoveries }
     requires now { terms.now.0 ≤ 2 ^ 63 }
-    requires block { terms.block ≤ 1000000000 }
+    requires blocks { (cluster : List ℕ) → P.period_of periods.now cluster ≤ 1000000000 }
     ensures lines { IfOk result (λ s. s.lines ≡ (scanned world.now book.now audit.now.audit
-        (attempt_of by_master.now by_intermediate.now terms) terms.wait last).lines) }
+        (attempt_of by_master.now by_intermediate.now (P.period_of periods.now) book.now terms)
+        terms.wait last).lines) }
     ensures begun { IfOk result (λ s. s.begun.items ≡ (scanned world.now book.now audit.now.audit
-        (attempt_of by_master.now by_intermediate.now terms) terms.wait last).begun) }
+        (attempt_of by_master.now by_intermediate.now (P.period_of periods.now) book.now terms)
+        terms.wait last).begun) }
     ensures room { IfOk result (λ s. HasRoom s.begun.items) }
 {
     let entries = actionable_entries(alloc, book)?;
@@ -84,7 +94,7 @@ pub fn scan(
     let groups = groups(alloc, book)?;
     let mut stage = Stage::begin(alloc, book, audit, last)?;
     for entry in &entries {
-        let attempt = attempt_of(by_master, by_intermediate, terms, entry.no);
+        let attempt = attempt_of(book, by_master, by_intermediate, periods, terms, entry.no);
         let replicas = groups[entry.no.0 as usize].members();
         stage.try_entry(alloc, book, world, attempt, terms.wait, *entry, replicas)?;
     }

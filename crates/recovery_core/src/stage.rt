@@ -131,7 +131,6 @@ impl Stage {
         requires list { list.now ≡ recovery_list book.now entry.no }
         requires replicas { replicas.now ≡ replicas_of book.now entry.no }
         requires ready { IsReady book.now self.now }
-        requires block { attempt.block ≤ 1000000000 }
         ensures { result ≡ staged_refusal world.now book.now attempt self.now entry.no }
     {
         match busy(&self.leases, list) {
@@ -208,6 +207,7 @@ impl Stage {
             book,
             &self.audit,
             attempt.now,
+            attempt.block,
             wait,
             self.last + 1,
             entry.no,

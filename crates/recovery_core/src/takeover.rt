@@ -24,6 +24,7 @@ fn takeover_begins(
     book: &Book,
     audit: &Audit,
     now: Moment,
+    block: u64,
     wait: u32,
     job: u64,
     i: ServerNo,
@@ -31,10 +32,10 @@ fn takeover_begins(
 ) -> Result<Begun, Memory>
     requires { i.0 < length book.now.names }
     ensures begins { IfOk result (λ x. x
-        ≡ takeover_begins book.now audit.now.audit now wait job i d) }
+        ≡ takeover_begins book.now audit.now.audit now block wait job i d) }
     ensures room { IfOk result (λ x. x.entry.id < 2 ^ 64 - 1) }
 {
-    let entry = entry_of(alloc, book, audit, now, Kind::Takeover, i)?;
+    let entry = entry_of(alloc, book, audit, now, block, Kind::Takeover, i)?;
     let list = recovery_servers(alloc, book, i)?;
     let replicas = replicas(alloc, book, i)?;
     let order = followers_of(alloc, book, i, d)?;
@@ -43,8 +44,8 @@ fn takeover_begins(
 }
 
 /// Tries the takeover of a master's place by a replica, as the job of this number, whose operations may wait so often
-/// each: what begins, or the refusal of the lowest number that applies. It changes nothing. Moments are at most 2^63,
-/// and a block period at most 1,000,000,000 seconds. `Memory` comes, too, where the audit has no id left.
+/// each: what begins, or the refusal of the lowest number that applies. It changes nothing. Moments are at most 2^63.
+/// `Memory` comes, too, where the audit has no id left.
 pub fn try_takeover(
     alloc: Global,
     book: &Book,
@@ -60,11 +61,20 @@ pub fn try_takeover(
     requires servers { (i.0 < length book.now.names) × (d.0 < length book.now.names) }
     requires forest { forest.now ≡ book_forest book.now }
     requires begun { All (λ r. r.begun.0 ≤ 2 ^ 63) audit.now.audit.recoveries }
-    requires block { attempt.block ≤ 1000000000 }
     ensures begins { Gives (λ x. x) permit_fault result (takeover_try world.now book.now
         audit.now.audit attempt wait job i d) }
     ensures room { IfOk result (λ x. x.entry.id < 2 ^ 64 - 1) }
 {
     permit_takeover(alloc, book, forest, world, audit, attempt, i, d)?;
-    Ok(takeover_begins(alloc, book, audit, attempt.now, wait, job, i, d)?)
+    Ok(takeover_begins(
+        alloc,
+        book,
+        audit,
+        attempt.now,
+        attempt.block,
+        wait,
+        job,
+        i,
+        d,
+    )?)
 }

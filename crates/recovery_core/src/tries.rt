@@ -21,17 +21,18 @@ use server_model::World;
 use std::alloc::Global;
 use topology_tree::Forest;
 
-/// The entry of a recovery that begins. Where the audit has no id left, memory wants.
+/// The entry of a recovery that begins, with this block period. Where the audit has no id left, memory wants.
 pub(crate) fn entry_of(
     alloc: Global,
     book: &Book,
     audit: &Audit,
     now: Moment,
+    block: u64,
     kind: Kind,
     failed: ServerNo,
 ) -> Result<Recovery, Memory>
     requires { failed.0 < length book.now.names }
-    ensures entry { IfOk result (λ r. r ≡ entry_of book.now audit.now.audit now kind failed) }
+    ensures entry { IfOk result (λ r. r ≡ entry_of book.now audit.now.audit now block kind failed) }
     ensures room { IfOk result (λ r. r.id < 2 ^ 64 - 1) }
 {
     let id = audit.next();
@@ -47,6 +48,7 @@ pub(crate) fn entry_of(
         ended: None,
         outcome: Ending::Unended,
         acked: false,
+        block,
     })
 }
 
@@ -66,6 +68,7 @@ pub(crate) fn recovery_begins(
     book: &Book,
     audit: &Audit,
     now: Moment,
+    block: u64,
     wait: u32,
     job: u64,
     failed: ServerNo,
@@ -76,10 +79,18 @@ pub(crate) fn recovery_begins(
     requires list { list.items ≡ recovery_list book.now failed }
     requires replicas { replicas.items ≡ replicas_of book.now failed }
     ensures begins { IfOk result (λ x. x
-        ≡ recovery_begins book.now audit.now.audit now wait job failed) }
+        ≡ recovery_begins book.now audit.now.audit now block wait job failed) }
     ensures room { IfOk result (λ x. x.entry.id < 2 ^ 64 - 1) }
 {
-    let entry = entry_of(alloc, book, audit, now, recovery_kind(book, failed), failed)?;
+    let entry = entry_of(
+        alloc,
+        book,
+        audit,
+        now,
+        block,
+        recovery_kind(book, failed),
+        failed,
+    )?;
     let purpose = recovery_purpose(book, failed);
     let order = replicas.to_vec(alloc)?;
     let job = RecoveryJob::make(alloc, purpose, job, wait, failed, replicas, order)?;
@@ -87,8 +98,8 @@ pub(crate) fn recovery_begins(
 }
 
 /// Tries the recovery of a server, as the job of this number, whose operations may wait so often each: what begins, or
-/// the refusal of the lowest number that applies. It changes nothing. Moments are at most 2^63, and a block period at
-/// most 1,000,000,000 seconds. `Memory` comes, too, where the audit has no id left.
+/// the refusal of the lowest number that applies. It changes nothing. Moments are at most 2^63. `Memory` comes, too,
+/// where the audit has no id left.
 pub fn try_recovery(
     alloc: Global,
     book: &Book,
@@ -103,7 +114,6 @@ pub fn try_recovery(
     requires server { failed.0 < length book.now.names }
     requires forest { forest.now ≡ book_forest book.now }
     requires begun { All (λ r. r.begun.0 ≤ 2 ^ 63) audit.now.audit.recoveries }
-    requires block { attempt.block ≤ 1000000000 }
     ensures begins { Gives (λ x. x) permit_fault result (recovery_try world.now book.now
         audit.now.audit attempt wait job failed) }
     ensures room { IfOk result (λ x. x.entry.id < 2 ^ 64 - 1) }
@@ -117,6 +127,7 @@ pub fn try_recovery(
         book,
         audit,
         attempt.now,
+        attempt.block,
         wait,
         job,
         failed,

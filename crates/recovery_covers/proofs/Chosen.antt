@@ -150,7 +150,7 @@ module _ (f : ServerNo) (lot : Stopped → Lot) where
 
 -- ---- the choice
 
-module _ (w : World) (b : BookState) (now : Moment) (r : Recovery) (ts : List Task) (c : CoversAt w (record r { queue = task.Choosing ∷ ts }) stage.Idle) (p : Stopped) (is : chosen_of w b now r.drained ≡ Some p) where
+module _ (w : World) (b : BookState) (now : Moment) (r : Recovery) (ts : List Task) (c : CoversAt w (record r { queue = task.Choosing ∷ ts }) stage.Idle) (p : Stopped) (is : chosen_of w b now r.failed r.drained ≡ Some p) where
   abbrev lot : Stopped → Lot
   lot = lot_of w b r.failed p
 
@@ -201,7 +201,7 @@ module _ (w : World) (b : BookState) (now : Moment) (r : Recovery) (ts : List Ta
   at-one : times p.no.0 (stopped_nos r.drained) ≡ 1
   at-one =
       let some : 0 < times p.no.0 (stopped_nos r.drained) =
-      All-chosen w b now (λ (s : Stopped). 0 < times s.no.0 (stopped_nos r.drained)) r.drained p (self-all (λ (s : Stopped). s.no) r.drained) is in
+      All-chosen w b now r.failed (λ (s : Stopped). 0 < times s.no.0 (stopped_nos r.drained)) r.drained p (self-all (λ (s : Stopped). s.no) r.drained) is in
       let e = c.once p.no.0 in
       let most = c.replicas.distinct p.no.0 in
       omega (arith, some, e, most)

@@ -9,16 +9,16 @@ use Rattle.binlog_coords.specs.Log.{same_coord}
 use Rattle.orch_base.specs.declared.server.ServerNo.{ServerNo}
 use Rattle.orch_base.specs.declared.server.SourceState.{SourceState}
 use Rattle.orch_base.specs.declared.server.SourceState.TheVariants.{Without, Attached, Detached}
-use Rattle.server_words.specs.declared.status.Status.{Status}
 use Rattle.server_model.specs.Worlds.{World, source_no, has_source}
 use Rattle.commands.specs.declared.line.Lost.{Lost}
 use Rattle.commands.specs.declared.line.Lost.TheVariants as lost
 use Rattle.instance_keeper.specs.declared.bridge.Bridge.{Bridge}
-use Rattle.instance_keeper.specs.Bridges.{bridge_in}
 use Rattle.operations.specs.declared.op.Op.{Op}
 use Rattle.operations.specs.declared.op.Op.TheVariants as op
+use Rattle.operations.specs.declared.sight.Position.{Position}
 use Rattle.operations.specs.Jobs.{Job, seen_of}
 use Rattle.job_laws.proofs.Spanning.{bridge-parts}
+use Rattle.operations.specs.Turns.{bridge_at}
 use Rattle.recovery_plans.specs.declared.outcome.Follower.{Follower}
 use Rattle.recovery_plans.specs.declared.outcome.LostReplica.{LostReplica}
 use Rattle.recovery_plans.specs.declared.outcome.Stopped.{Stopped}
@@ -129,7 +129,7 @@ module _ (w : World) where
   judge-covers : (r : Recovery) (n : ServerNo) → CoversAt w r (stage.Judged n) → CoversSoFar w (idle (judged r n (seen_of r.core.seen n.0)))
   judge-covers r n c = go (seen_of r.core.seen n.0) refl
     where
-      go : (o : Option Status) → seen_of r.core.seen n.0 ≡ o → CoversSoFar w (idle (judged r n o))
+      go : (o : Option Position) → seen_of r.core.seen n.0 ≡ o → CoversSoFar w (idle (judged r n o))
       go None e = left-covers r (stage.Judged n) n lost.Unreachable c refl refl (unreached r.purpose n.0)
       go (Some s) e = at (is_below s r.failed) refl
         where
@@ -324,7 +324,7 @@ module _ (w : World) where
     unchosen = c.unchosen;
     undrained = c.undrained;
     named = c.named;
-    lead = go (bridge_in d (seen_of r.core.seen d.0)) refl;
+    lead = go (bridge_at d (seen_of r.core.seen d.0)) refl;
     leads = early r (idle (gathered r d)) (stage.Gather m d) stage.Idle refl c.leads refl refl;
     drained = c.drained;
     queue = queue-as w r (idle (gathered r d)) (record { purpose = refl; chosen = refl; lost = λ k h. h }) r.queue c.queue;
@@ -335,7 +335,7 @@ module _ (w : World) where
     apart = c.apart;
   }
     where
-      go : (o : Option Bridge) → bridge_in d (seen_of r.core.seen d.0) ≡ o → IfSome (lead_under r.failed o) (λ b. r.chosen ≡ Some b.no)
+      go : (o : Option Bridge) → bridge_at d (seen_of r.core.seen d.0) ≡ o → IfSome (lead_under r.failed o) (λ b. r.chosen ≡ Some b.no)
       go None e = tt
       go (Some b) e = at (b.source.0 == r.failed.0)
         where
@@ -348,7 +348,7 @@ module _ (w : World) where
   look-covers : (r : Recovery) (n : ServerNo) (b : Bridge) → CoversAt w r (stage.Looked n b) → CoversSoFar w (looked r n b (seen_of r.core.seen n.0))
   look-covers r n b c = go (seen_of r.core.seen n.0) refl
     where
-      go : (o : Option Status) → seen_of r.core.seen n.0 ≡ o → CoversSoFar w (looked r n b o)
+      go : (o : Option Position) → seen_of r.core.seen n.0 ≡ o → CoversSoFar w (looked r n b o)
       go None e = left-covers r (stage.Looked n b) n lost.Unreachable c refl refl (unreached r.purpose n.0)
       go (Some s) e = at (is_below s r.failed) refl
         where
@@ -359,7 +359,7 @@ module _ (w : World) where
               (restaged w r (stage.Looked n b) (stage.Trail n b) _ c refl (λ h. h) (c.stage.0, c.stage.1 s e (below-sourced s.source r.failed f)))
           at false f = left-covers r (stage.Looked n b) n (lost.Moved (spot_seen s.source s.exec)) c refl refl (elsewhere r.purpose (spot_seen s.source s.exec) n.0)
 
-  halt-covers : (r : Recovery) (n : ServerNo) (b : Bridge) → CoversAt w r (stage.Halted n b) → (o : Option Status) → CoversSoFar w (halted r n b o)
+  halt-covers : (r : Recovery) (n : ServerNo) (b : Bridge) → CoversAt w r (stage.Halted n b) → (o : Option Position) → CoversSoFar w (halted r n b o)
   halt-covers r n b c None = freed-covers r (stage.Halted n b) n lost.Unreachable c refl refl (unreached r.purpose n.0)
   halt-covers r n b c (Some s) = at (same_coord s.exec b.exec)
     where

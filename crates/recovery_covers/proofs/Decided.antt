@@ -246,9 +246,9 @@ module _ (w : World) where
     task-covers r (task.Draining n) ts none idle c =
         let parts = and_parts (decides ts) (in_order ts) c.order in
         inl (so-far _ (stage.Drain n) _ _ refl refl (λ m by h. cc) (begins r (task.Draining n) ts (stage.Drain n) _ c refl refl refl (λ h. parts.1) parts.0))
-    task-covers r task.Choosing ts none idle c = go (chosen_of w b now r.drained) refl
+    task-covers r task.Choosing ts none idle c = go (chosen_of w b now r.failed r.drained) refl
       where
-        go : (o : Option Stopped) → chosen_of w b now r.drained ≡ o → Fine (choose w b now (record r { queue = ts }) o)
+        go : (o : Option Stopped) → chosen_of w b now r.failed r.drained ≡ o → Fine (choose w b now (record r { queue = ts }) o)
         go None e = inr (record { ops = none; queue = refl; chosen = refl; apart = unnamed-apart r.purpose (unnamed r.purpose r.chosen (c.unchosen refl).0 c.named) })
         go (Some p) e = inl (at-rest (choose w b now (record r { queue = ts }) (Some p)) idle (chosen-covers w b now r ts c p e))
     task-covers r task.Handing ts none idle c = go r.chosen refl
@@ -343,10 +343,10 @@ module _ (w : World) where
         moves = as-is.moves;
       }
 
-      swapping : is_master r.purpose ≡ true → (p : ServerNo) → r.chosen ≡ Some p → (o : Option ServerNo) → better_of w b now p (map (λ x. x.no) r.outcome.followers) ≡ o → Fine (swap_by (record r { swaps = false }) p o)
+      swapping : is_master r.purpose ≡ true → (p : ServerNo) → r.chosen ≡ Some p → (o : Option ServerNo) → better_of w b now r.failed p (map (λ x. x.no) r.outcome.followers) ≡ o → Fine (swap_by (record r { swaps = false }) p o)
       swapping u p is None e = inl unswapped
       swapping u p is (Some q) e =
-          let listed = (All-better w b now (λ (x : ServerNo). 0 < times x.0 (follower_nos r.outcome.followers)) p (follower_nos r.outcome.followers) q (All-map (λ (x : ServerNo). 0 < times x.0 (follower_nos r.outcome.followers)) (λ x. x.no) r.outcome.followers (self-all (λ x. x.no) r.outcome.followers)) e).0 in
+          let listed = (All-better w b now r.failed (λ (x : ServerNo). 0 < times x.0 (follower_nos r.outcome.followers)) p (follower_nos r.outcome.followers) q (All-map (λ (x : ServerNo). 0 < times x.0 (follower_nos r.outcome.followers)) (λ x. x.no) r.outcome.followers (self-all (λ x. x.no) r.outcome.followers)) e).0 in
           inl (so-far _ (stage.Level p q) _ _ refl refl (λ m by h. cc)
           (last-covers r (stage.Level p q) _ false c refl (u, record { chosen = is; promoted = leads ∙ is; queue = empty; drained = drained }, listed)))
 
@@ -355,7 +355,7 @@ module _ (w : World) where
         where
           go : (o : Option ServerNo) → r.chosen ≡ o → Fine (swap w b now (record r { swaps = false }) o)
           go None e = inl unswapped
-          go (Some p) e = swapping u p e (better_of w b now p (map (λ x. x.no) r.outcome.followers)) refl
+          go (Some p) e = swapping u p e (better_of w b now r.failed p (map (λ x. x.no) r.outcome.followers)) refl
       swaps-or-crowns u false = crowning u r.chosen refl
 
       at-last-covers : (u : Purpose) → r.purpose ≡ u → Fine (at_last w b now r u)

@@ -5,7 +5,6 @@ use Rattle.std.proofs.lemmas.Bool.{false≢true}
 use Rattle.binlog_coords.specs.Log.{same_coord}
 use Rattle.orch_base.specs.declared.server.Moment.{Moment}
 use Rattle.orch_base.specs.declared.server.ServerNo.{ServerNo}
-use Rattle.server_words.specs.declared.status.Status.{Status}
 use Rattle.server_model.specs.Run.{Exchange}
 use Rattle.server_model.specs.Worlds.{World}
 use Rattle.commands.specs.declared.cause.Cause.{Cause}
@@ -13,10 +12,11 @@ use Rattle.commands.specs.declared.cause.Cause.TheVariants as cause
 use Rattle.commands.specs.declared.line.Lost.{Lost}
 use Rattle.commands.specs.declared.line.Lost.TheVariants as lost
 use Rattle.instance_keeper.specs.declared.bridge.Bridge.{Bridge}
-use Rattle.instance_keeper.specs.declared.observation.Observation.{Observation}
+use Rattle.kept_rows.specs.declared.observation.Observation.{Observation}
 use Rattle.instance_keeper.specs.Book.{BookState}
 use Rattle.operations.specs.declared.op.Op.{Op}
 use Rattle.operations.specs.declared.op.Op.TheVariants as op
+use Rattle.operations.specs.declared.sight.Position.{Position}
 use Rattle.operations.specs.Deeds.{deed_of}
 use Rattle.operations.specs.Ending.{turns_for, turns_left, MovesOn}
 use Rattle.operations.specs.Jobs.{Job, seen_of}
@@ -194,7 +194,7 @@ module _ (w : World) (b : BookState) (now : Moment) where
 
       go : (o : Option ServerNo) → NoMore r (swap w b now (record r { swaps = false }) o)
       go None = stays
-      go (Some p) = by p (better_of w b now p (map (λ x. x.no) r.outcome.followers))
+      go (Some p) = by p (better_of w b now r.failed p (map (λ x. x.no) r.outcome.followers))
 
   crown-ends : (r : Recovery) (o : Option ServerNo) → r.purpose ≡ purpose.Master → r.core.ops ≡ [] → IsCalm r → r.swaps ≡ false → NoMore r (crown r o)
   crown-ends r None is none calm no-swap = record { ops = omega arith; wait = refl; calm = calm }
@@ -233,7 +233,7 @@ module _ (w : World) (b : BookState) (now : Moment) where
   task-ends r (task.Reading n) none calm = begin-ends r (task.Reading n ∷ r.queue) (stage.Read n) (op.Status n None) [] none calm refl (omega arith)
   task-ends r (task.Draining n) none calm =
       begin-ends r (task.Draining n ∷ r.queue) (stage.Drain n) (op.StopReceiver n) (op.Settle n ∷ op.Stop n ∷ op.Status n None ∷ []) none calm refl (omega arith)
-  task-ends r task.Choosing none calm = let c = choose-ends r (chosen_of w b now r.drained) calm in let h = c.ops in record { ops = omega (arith, h); wait = c.wait; calm = c.calm }
+  task-ends r task.Choosing none calm = let c = choose-ends r (chosen_of w b now r.failed r.drained) calm in let h = c.ops in record { ops = omega (arith, h); wait = c.wait; calm = c.calm }
   task-ends r task.Handing none calm = let c = over-ends r r.chosen none calm in let h = c.ops in record { ops = omega (arith, h); wait = c.wait; calm = c.calm }
   task-ends r (task.Moving n by) none calm = record {
     ops = let a = at-end r none calm in omega (arith, a);
@@ -328,7 +328,7 @@ idle-within r r' core none rest less = record {
   rests = λ h. ap closes rest;
 }
 
-judged-within : (r : Recovery) (n : ServerNo) (o : Option Status) → r.core.ops ≡ [] → closes r.stage ≡ false → 3 ≤ ops_after r.stage → Within r (idle (judged r n o))
+judged-within : (r : Recovery) (n : ServerNo) (o : Option Position) → r.core.ops ≡ [] → closes r.stage ≡ false → 3 ≤ ops_after r.stage → Within r (idle (judged r n o))
 judged-within r n None none no-end room =
     let a : ops_at_end r.purpose (closes r.stage) r.swaps ≡ ops_last r.purpose r.swaps = ap (λ c. ops_at_end r.purpose c r.swaps) no-end in
     idle-within r (idle (judged r n None)) refl none refl (omega (arith, a))
@@ -384,7 +384,7 @@ module _ (r : Recovery) (none : r.core.ops ≡ []) where
       let e : ops_at_end r.purpose (closes s) r.swaps ≡ ops_last r.purpose r.swaps = ap (λ x. ops_at_end r.purpose x r.swaps) no-end in
       record { ops = omega (arith, c, e, room); wait = refl; waited = λ h. omega arith; rests = λ h. cc }
 
-  looked-at : (n : ServerNo) (b : Bridge) (o : Option Status) → r.stage ≡ stage.Looked n b → Within r (looked r n b o)
+  looked-at : (n : ServerNo) (b : Bridge) (o : Option Position) → r.stage ≡ stage.Looked n b → Within r (looked r n b o)
   looked-at n b None is = lost-at (stage.Looked n b) n lost.Unreachable is refl
   looked-at n b (Some s) is = go (is_below s r.failed)
     where
@@ -393,7 +393,7 @@ module _ (r : Recovery) (none : r.core.ops ≡ []) where
       go true = let c = come-at (stage.Looked n b) is in record { ops = omega (arith, c); wait = refl; waited = λ h. omega arith; rests = λ h. cc }
       go false = lost-at (stage.Looked n b) n (lost.Moved (taking.spot_seen s.source s.exec)) is refl
 
-  halted-at : (n : ServerNo) (b : Bridge) (o : Option Status) → r.stage ≡ stage.Halted n b → Within r (halted r n b o)
+  halted-at : (n : ServerNo) (b : Bridge) (o : Option Position) → r.stage ≡ stage.Halted n b → Within r (halted r n b o)
   halted-at n b None is = frees-at (stage.Halted n b) n lost.Unreachable is refl (omega arith)
   halted-at n b (Some s) is = go (same_coord s.exec b.exec)
     where

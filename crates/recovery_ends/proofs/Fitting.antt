@@ -4,17 +4,17 @@ use Rattle.std.proofs.lemmas.Bool.{false≢true}
 use Rattle.binlog_coords.specs.Log.{same_coord}
 use Rattle.orch_base.specs.declared.server.Moment.{Moment}
 use Rattle.orch_base.specs.declared.server.ServerNo.{ServerNo}
-use Rattle.server_words.specs.declared.status.Status.{Status}
 use Rattle.server_model.specs.Worlds.{World}
 use Rattle.commands.specs.declared.cause.Cause.{Cause}
 use Rattle.commands.specs.declared.cause.Cause.TheVariants as cause
 use Rattle.commands.specs.declared.line.Lost.{Lost}
 use Rattle.commands.specs.declared.line.Lost.TheVariants as lost
 use Rattle.instance_keeper.specs.declared.bridge.Bridge.{Bridge}
-use Rattle.instance_keeper.specs.declared.observation.Observation.{Observation}
+use Rattle.kept_rows.specs.declared.observation.Observation.{Observation}
 use Rattle.instance_keeper.specs.Book.{BookState}
 use Rattle.operations.specs.declared.op.Op.{Op}
 use Rattle.operations.specs.declared.op.Op.TheVariants as op
+use Rattle.operations.specs.declared.sight.Position.{Position}
 use Rattle.operations.specs.Deeds.{deed_of}
 use Rattle.operations.specs.Jobs.{Job, seen_of}
 use Rattle.operations.specs.Turns as attempt
@@ -84,7 +84,7 @@ module _ (w : World) (b : BookState) (now : Moment) where
 
   swap-fits : (r : Recovery) (o : Option ServerNo) → IsFit r → IsFit (swap w b now r o)
   swap-fits r None fits = fits
-  swap-fits r (Some p) fits = go (better_of w b now p (map (λ x. x.no) r.outcome.followers))
+  swap-fits r (Some p) fits = go (better_of w b now r.failed p (map (λ x. x.no) r.outcome.followers))
     where
       go : (q : Option ServerNo) → IsFit (swap_by r p q)
       go None = fits
@@ -119,7 +119,7 @@ module _ (w : World) (b : BookState) (now : Moment) where
   task-fits : (r : Recovery) (t : Task) → IsFit r → IsFit (by_task w b now r t)
   task-fits r (task.Reading n) fits = front-fits (stage.Read n) (op.Status n None ∷ []) refl refl refl
   task-fits r (task.Draining n) fits = drain-fits n
-  task-fits r task.Choosing fits = choose-fits r (chosen_of w b now r.drained) fits
+  task-fits r task.Choosing fits = choose-fits r (chosen_of w b now r.failed r.drained) fits
   task-fits r task.Handing fits = over-fits r r.chosen fits
   task-fits r (task.Moving n by) fits = tail-fits (stage.Move n by)
   task-fits r task.Sorting fits = fits
@@ -148,7 +148,7 @@ module _ (w : World) (b : BookState) (now : Moment) where
 idle-fits : (r : Recovery) → r.core.ops ≡ [] → IsFit (idle r)
 idle-fits r none = record { front = []; still = refl; is = none; due = λ h. cc }
 
-judged-fits : (r : Recovery) (n : ServerNo) (o : Option Status) → r.core.ops ≡ [] → IsFit (idle (judged r n o))
+judged-fits : (r : Recovery) (n : ServerNo) (o : Option Position) → r.core.ops ≡ [] → IsFit (idle (judged r n o))
 judged-fits r n None none = idle-fits r none
 judged-fits r n (Some s) none = go (is_below s r.failed)
   where
@@ -156,7 +156,7 @@ judged-fits r n (Some s) none = go (is_below s r.failed)
     go true = idle-fits r none
     go false = idle-fits r none
 
-looked-fits : (r : Recovery) (n : ServerNo) (b : Bridge) (o : Option Status) → r.core.ops ≡ [] → IsFit (looked r n b o)
+looked-fits : (r : Recovery) (n : ServerNo) (b : Bridge) (o : Option Position) → r.core.ops ≡ [] → IsFit (looked r n b o)
 looked-fits r n b None none = idle-fits r none
 looked-fits r n b (Some s) none = go (is_below s r.failed)
   where
@@ -165,7 +165,7 @@ looked-fits r n b (Some s) none = go (is_below s r.failed)
     go true = trail-fits n b
     go false = idle-fits r none
 
-halted-fits : (r : Recovery) (n : ServerNo) (b : Bridge) (o : Option Status) → IsFit (halted r n b o)
+halted-fits : (r : Recovery) (n : ServerNo) (b : Bridge) (o : Option Position) → IsFit (halted r n b o)
 halted-fits r n b None = release-fits n
 halted-fits r n b (Some s) = go (same_coord s.exec b.exec)
   where

@@ -1,6 +1,6 @@
 -- What a turn of a recovery observes is what its operation does.
 use Rattle.std.proofs.Common.{◌≡◌, refl, Option, Some, None, List}
-use Rattle.instance_keeper.specs.declared.observation.Observation.{Observation}
+use Rattle.kept_rows.specs.declared.observation.Observation.{Observation}
 use Rattle.server_model.specs.Run.{Exchange}
 use Rattle.server_model.specs.Worlds.{World}
 use Rattle.commands.specs.declared.cause.Cause.{Cause}

@@ -5,9 +5,8 @@ use Rattle.std.proofs.lemmas.Bool.{false≢true, and_parts, ne_eqb}
 use Rattle.binlog_coords.specs.declared.Coord.{Coord}
 use Rattle.orch_base.specs.declared.server.Moment.{Moment}
 use Rattle.orch_base.specs.declared.server.ServerNo.{ServerNo}
-use Rattle.instance_keeper.specs.declared.observation.Observation.{Observation}
-use Rattle.instance_keeper.specs.Bridges.{bridge_in}
-use Rattle.instance_keeper.specs.Seeing.{seen_in}
+use Rattle.kept_rows.specs.declared.observation.Observation.{Observation}
+use Rattle.kept_rows.specs.Seeing.{seen_in}
 use Rattle.server_words.specs.declared.answers.Unreachable.{Unreachable}
 use Rattle.server_words.specs.declared.attach.AttachFault.{AttachFault}
 use Rattle.server_words.specs.declared.changes.Ask.{Ask}
@@ -25,7 +24,7 @@ use Rattle.operations.specs.Deeds as deed
 use Rattle.operations.specs.Deeds.{Deed, deed_of}
 use Rattle.operations.specs.Jobs.{Job, seen_of}
 use Rattle.operations.specs.Targets.{can_attach}
-use Rattle.operations.specs.Turns.{Attempt, Goes, Stops, Ends, next, saw, observed, is_moved, after_status, after_look, after_ask, aim_of, is_reached, until_by, after_until, after_wait_by, after_wait, holds_seen, settles, read_by, crossed, same_again, by_set, attach_answer_of, after_answer, after_attach, by_deed}
+use Rattle.operations.specs.Turns.{bridge_at, Attempt, Goes, Stops, Ends, next, saw, observed, is_moved, after_status, after_look, after_ask, aim_of, is_reached, until_by, after_until, after_wait_by, after_wait, holds_seen, settles, read_by, crossed, same_again, by_set, attach_answer_of, after_answer, after_attach, by_deed}
 use Rattle.recovery_plans.specs.declared.stage.Stage.{Stage}
 use Rattle.recovery_plans.specs.declared.stage.Stage.TheVariants as stage
 use Rattle.recovery_plans.specs.declared.task.Way.TheVariants as way
@@ -101,7 +100,7 @@ module _ (j : Job) (rest : List Op) where
   deed-went w read now (deed.Await n to) = wait-went n (λ s. is_reached (aim_of j.seen to) s.exec) (seen_in (status w n.0))
   deed-went w read now (deed.AwaitSet n m) = wait-went n (holds_seen (seen_of j.seen m.0)) (seen_in (status w n.0))
   deed-went w read now (deed.Settle n) = wait-went n (settles j) (seen_in (status w n.0))
-  deed-went w read now (deed.Cross c a b) = attach-went w a (crossed c a (bridge_in (read_by c a b) (seen_of j.seen (read_by c a b).0)))
+  deed-went w read now (deed.Cross c a b) = attach-went w a (crossed c a (bridge_at (read_by c a b) (seen_of j.seen (read_by c a b).0)))
   deed-went w read now (deed.Same n) = attach-went w n (same_again n (seen_of j.seen n.0))
   deed-went w read now (deed.Auto n m) = attach-went w n (by_set n m (seen_of j.seen m.0))
   deed-went w read now (deed.Finish lines) = tt

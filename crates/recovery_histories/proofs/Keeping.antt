@@ -119,16 +119,16 @@ module _ (w : World) (b : BookState) (now : Moment) (r : Recovery) (held : HeldR
   may-logs s h = (and_parts (logs_at w s.no) (not (is_barred (rule_at b s.no now))) h).0
 
   -- the chosen one has what each that might have been chosen had
-  chosen-keeps : ((n : ℕ) → times n (stopped_nos r.drained) ≤ 1) → (p : Stopped) → chosen_of w b now r.drained ≡ Some p → All (λ s. Keeps w r.failed.0 s.exec p.no.0) (filter (may_lead w b now) r.drained)
+  chosen-keeps : ((n : ℕ) → times n (stopped_nos r.drained) ≤ 1) → (p : Stopped) → chosen_of w b now r.failed r.drained ≡ Some p → All (λ s. Keeps w r.failed.0 s.exec p.no.0) (filter (may_lead w b now) r.drained)
   chosen-keeps once p is =
       go (filter (may_lead w b now) r.drained) (All-filter (may_lead w b now) (IsStopped w r.core.seen r.failed) r.drained held.drained)
       (All-filter (may_lead w b now) (IsSoundStop w r.failed) r.drained sound.drained) (filter_passes (may_lead w b now) r.drained)
-      (All-filter (may_lead w b now) (λ (s : Stopped). may_lead w b now s ≡ true → is_at_or_before s.exec p.exec ≡ true) r.drained (chosen-most w b now r.drained once p is))
+      (All-filter (may_lead w b now) (λ (s : Stopped). may_lead w b now s ≡ true → is_at_or_before s.exec p.exec ≡ true) r.drained (chosen-most w b now r.failed r.drained once p is))
     where
       mine : (own : Coord) × Stands w p.no.0 r.failed.0 own p.exec
       mine =
-          stood p (All-chosen w b now (IsStopped w r.core.seen r.failed) r.drained p held.drained is) (All-chosen w b now (IsSoundStop w r.failed) r.drained p sound.drained is)
-          (chosen-logs w b now r.drained p is)
+          stood p (All-chosen w b now r.failed (IsStopped w r.core.seen r.failed) r.drained p held.drained is) (All-chosen w b now r.failed (IsSoundStop w r.failed) r.drained p sound.drained is)
+          (chosen-logs w b now r.failed r.drained p is)
 
       go : (ys : List Stopped) → All (IsStopped w r.core.seen r.failed) ys → All (IsSoundStop w r.failed) ys → All (λ s. may_lead w b now s ≡ true) ys
           → All (λ s. may_lead w b now s ≡ true → is_at_or_before s.exec p.exec ≡ true) ys → All (λ s. Keeps w r.failed.0 s.exec p.no.0) ys
@@ -153,7 +153,7 @@ pub begun-kept : (w : World) (u : Purpose) (id wait : ℕ) (f : ServerNo) (ns or
 begun-kept w u id wait f ns order p h = All-nil (λ (s : Stopped). Keeps w f.0 s.exec p.0)
 
 module _ (w : World) (b : BookState) (now : Moment) where
-  choice-kept : (r : Recovery) → HeldRecovery w r → SoundRecovery w r → ((n : ℕ) → times n (stopped_nos r.drained) ≤ 1) → (o : Option Stopped) → chosen_of w b now r.drained ≡ o → KeptByChosen w (choose w b now r o)
+  choice-kept : (r : Recovery) → HeldRecovery w r → SoundRecovery w r → ((n : ℕ) → times n (stopped_nos r.drained) ≤ 1) → (o : Option Stopped) → chosen_of w b now r.failed r.drained ≡ o → KeptByChosen w (choose w b now r o)
   choice-kept r held sound once None e p is = cc
   choice-kept r held sound once (Some x) e p is =
       subst (λ (n : ServerNo). All (λ s. Keeps w r.failed.0 s.exec n.0) (filter (may_lead w b now) r.drained)) (same_Some x.no p is) (chosen-keeps w b now r held sound once x e)
@@ -167,7 +167,7 @@ module _ (w : World) (b : BookState) (now : Moment) where
   yield-kept r (Some x) kept p is = kept p is
 
   task-kept : (r : Recovery) (t : Task) → HeldRecovery w r → SoundRecovery w r → ((n : ℕ) → times n (stopped_nos r.drained) ≤ 1) → KeptByChosen w r → KeptByChosen w (by_task w b now r t)
-  task-kept r task.Choosing held sound once kept = choice-kept r held sound once (chosen_of w b now r.drained) refl
+  task-kept r task.Choosing held sound once kept = choice-kept r held sound once (chosen_of w b now r.failed r.drained) refl
   task-kept r task.Handing held sound once kept = kept-by w r (by_task w b now r task.Handing) (over-choice w b now r r.chosen) kept
   task-kept r (task.Trailing n) held sound once kept = look-kept r n r.lead kept
   task-kept r task.Yielding held sound once kept = yield-kept r r.lead kept

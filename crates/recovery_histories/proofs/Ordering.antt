@@ -65,19 +65,19 @@ found-all (x ∷ xs) once =
 
 -- ---- the chosen one
 
-module _ (w : World) (b : BookState) (now : Moment) (xs : List Stopped) (once : (n : ℕ) → times n (stopped_nos xs) ≤ 1) where
+module _ (w : World) (b : BookState) (now : Moment) (f : ServerNo) (xs : List Stopped) (once : (n : ℕ) → times n (stopped_nos xs) ≤ 1) where
   abbrev drained : List Drained
-  drained = map (drained_of w b now) xs
+  drained = map (drained_of w b now f) xs
 
   -- a drained one stopped where it was found
   abbrev IsFound : Drained → Type 0
   IsFound d = (s : Stopped) → find (λ (x : Stopped). x.no.0 == d.no.0) xs ≡ Some s → d.exec ≡ s.exec
 
   each-found : All IsFound drained
-  each-found = All-map IsFound (drained_of w b now) xs (λ i d lt s h. ap (λ (x : Stopped). x.exec) (same_Some _ s (sym (found-all xs once i d lt) ∙ h)))
+  each-found = All-map IsFound (drained_of w b now f) xs (λ i d lt s h. ap (λ (x : Stopped). x.exec) (same_Some _ s (sym (found-all xs once i d lt) ∙ h)))
 
   -- none that may be chosen has executed more
-  pub chosen-most : (p : Stopped) → chosen_of w b now xs ≡ Some p → All (λ s. may_lead w b now s ≡ true → is_at_or_before s.exec p.exec ≡ true) xs
+  pub chosen-most : (p : Stopped) → chosen_of w b now f xs ≡ Some p → All (λ s. may_lead w b now s ≡ true → is_at_or_before s.exec p.exec ≡ true) xs
   chosen-most p h = go (most_advanced b.names drained) refl h
     where
       go : (o : Option ServerNo) → most_advanced b.names drained ≡ o → stopped_in xs o ≡ Some p → All (λ s. may_lead w b now s ≡ true → is_at_or_before s.exec p.exec ≡ true) xs
@@ -89,10 +89,10 @@ module _ (w : World) (b : BookState) (now : Moment) (xs : List Stopped) (once : 
           back xs (λ (d : Drained). is_eligible d ≡ true → is_before most.1.exec d.exec ≡ false) most.4.most
           (λ s f e. not-before p.exec s.exec (ap (λ (c : Coord). is_before c s.exec) (sym same) ∙ f e))
         where
-          back : (ys : List Stopped) (Q : Drained → Type 0) → All Q (map (drained_of w b now) ys)
-              → ((s : Stopped) → Q (drained_of w b now s) → may_lead w b now s ≡ true → is_at_or_before s.exec p.exec ≡ true)
+          back : (ys : List Stopped) (Q : Drained → Type 0) → All Q (map (drained_of w b now f) ys)
+              → ((s : Stopped) → Q (drained_of w b now f s) → may_lead w b now s ≡ true → is_at_or_before s.exec p.exec ≡ true)
               → All (λ s. may_lead w b now s ≡ true → is_at_or_before s.exec p.exec ≡ true) ys
-          back [] Q all f = All-nil (λ (s : Stopped). may_lead w b now s ≡ true → is_at_or_before s.exec p.exec ≡ true)
-          back (y ∷ ys) Q all f =
-              All-cons (λ (s : Stopped). may_lead w b now s ≡ true → is_at_or_before s.exec p.exec ≡ true) y ys (f y (All-head Q (drained_of w b now y) (map (drained_of w b now) ys) all))
-              (back ys Q (All-tail Q (drained_of w b now y) (map (drained_of w b now) ys) all) f)
+          back [] Q all each = All-nil (λ (s : Stopped). may_lead w b now s ≡ true → is_at_or_before s.exec p.exec ≡ true)
+          back (y ∷ ys) Q all each =
+              All-cons (λ (s : Stopped). may_lead w b now s ≡ true → is_at_or_before s.exec p.exec ≡ true) y ys (each y (All-head Q (drained_of w b now f y) (map (drained_of w b now f) ys) all))
+              (back ys Q (All-tail Q (drained_of w b now f y) (map (drained_of w b now f) ys) all) each)

@@ -3,15 +3,15 @@ use Rattle.std.proofs.Common.{◌≡◌, ℕ, Bool, true, false, cond, List, [],
 use Rattle.binlog_coords.specs.Log.{same_coord}
 use Rattle.orch_base.specs.declared.server.Moment.{Moment}
 use Rattle.orch_base.specs.declared.server.ServerNo.{ServerNo}
-use Rattle.server_words.specs.declared.status.Status.{Status}
 use Rattle.server_model.specs.Run.{Exchange}
 use Rattle.server_model.specs.Worlds.{World}
 use Rattle.commands.specs.declared.cause.Cause.{Cause}
 use Rattle.commands.specs.declared.line.Lost.TheVariants as lost
 use Rattle.instance_keeper.specs.declared.bridge.Bridge.{Bridge}
-use Rattle.instance_keeper.specs.declared.observation.Observation.{Observation}
+use Rattle.kept_rows.specs.declared.observation.Observation.{Observation}
 use Rattle.instance_keeper.specs.Book.{BookState}
 use Rattle.operations.specs.declared.op.Op.{Op}
+use Rattle.operations.specs.declared.sight.Position.{Position}
 use Rattle.operations.specs.Deeds.{deed_of}
 use Rattle.operations.specs.Jobs.{Job, seen_of}
 use Rattle.operations.specs.Turns as attempt
@@ -57,7 +57,7 @@ module _ (r r' : Recovery) where
 
 -- ---- what follows the decisions
 
-judged-choice : (r : Recovery) (n : ServerNo) (o : Option Status) → SameChoice r (judged r n o)
+judged-choice : (r : Recovery) (n : ServerNo) (o : Option Position) → SameChoice r (judged r n o)
 judged-choice r n None = alike r (judged r n None) refl refl refl refl refl refl
 judged-choice r n (Some s) = go (is_below s r.failed)
   where
@@ -65,7 +65,7 @@ judged-choice r n (Some s) = go (is_below s r.failed)
     go true = alike r _ refl refl refl refl refl refl
     go false = alike r _ refl refl refl refl refl refl
 
-looked-choice : (r : Recovery) (n : ServerNo) (b : Bridge) (o : Option Status) → SameChoice r (looked r n b o)
+looked-choice : (r : Recovery) (n : ServerNo) (b : Bridge) (o : Option Position) → SameChoice r (looked r n b o)
 looked-choice r n b None = alike r (looked r n b None) refl refl refl refl refl refl
 looked-choice r n b (Some s) = go (is_below s r.failed)
   where
@@ -73,7 +73,7 @@ looked-choice r n b (Some s) = go (is_below s r.failed)
     go true = alike r _ refl refl refl refl refl refl
     go false = alike r _ refl refl refl refl refl refl
 
-halted-choice : (r : Recovery) (n : ServerNo) (b : Bridge) (o : Option Status) → SameChoice r (halted r n b o)
+halted-choice : (r : Recovery) (n : ServerNo) (b : Bridge) (o : Option Position) → SameChoice r (halted r n b o)
 halted-choice r n b None = alike r (halted r n b None) refl refl refl refl refl refl
 halted-choice r n b (Some s) = go (same_coord s.exec b.exec)
   where
@@ -160,7 +160,7 @@ module _ (w : World) (b : BookState) (now : Moment) where
 
       swapped : (o : Option ServerNo) → SameChoice r (swap w b now (record r { swaps = false }) o)
       swapped None = alike r _ refl refl refl refl refl refl
-      swapped (Some p) = swapping p (better_of w b now p (map (λ x. x.no) r.outcome.followers))
+      swapped (Some p) = swapping p (better_of w b now r.failed p (map (λ x. x.no) r.outcome.followers))
 
       crowned : (o : Option ServerNo) → SameChoice r (crown r o)
       crowned None = same-choice r
@@ -177,7 +177,7 @@ module _ (w : World) (b : BookState) (now : Moment) where
       go (purpose.Takeover d) = same-choice r
 
   task-aim : (r : Recovery) (t : Task) → SameAim r (by_task w b now r t)
-  task-aim r task.Choosing = go (chosen_of w b now r.drained)
+  task-aim r task.Choosing = go (chosen_of w b now r.failed r.drained)
     where
       go : (o : Option Stopped) → SameAim r (choose w b now r o)
       go None = record { purpose = refl; failed = refl; replicas = refl; order = refl }

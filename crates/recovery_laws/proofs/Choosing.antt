@@ -26,7 +26,7 @@ use Rattle.recovery_plans.specs.declared.task.Way.TheVariants as way
 use Rattle.recovery_plans.specs.Deciding as deciding
 use Rattle.recovery_plans.specs.Deciding.{Lot, logs_at, drained_of, follower_of, stopped_in, chosen_of, better_of, lot_by_group, own_end_of, lot_of, move_of, moves_in}
 use Rattle.recovery_laws.specs.Rings.{HeldRings}
-use Rattle.recovery_laws.specs.HeldRecoveries.{IsReadyWay, IsReady, IsStopped, bridge_at}
+use Rattle.recovery_laws.specs.HeldRecoveries.{IsReadyWay, IsReady, IsStopped, stopped_bridge}
 
 pub self : (n : ℕ) → (n == n) ≡ true
 self n = eq-eqb n n refl
@@ -68,7 +68,7 @@ module _ (w : World) (seen : List Sight) where
     pub own-is : p.own_end ≡ Some (own_end_of p)
     own-is = let o = own-of in o.1 ∙ ap Some (sym (ap (λ x. unwrap_or x p.exec) o.1))
 
-    own-spans : Spans w (bridge_at f p (own_end_of p))
+    own-spans : Spans w (stopped_bridge f p (own_end_of p))
     own-spans = stopped.spans (own_end_of p) own-is
 
     group-ready : (s : Stopped) → IsReadyLot (lot_by_group p.no f s (group_of b.rings p.no (own_end_of p) p.exec f s.exec))

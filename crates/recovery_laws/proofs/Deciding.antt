@@ -103,10 +103,10 @@ module _ (w : World) where
   }
 
 module _ (w : World) (b : BookState) (now : Moment) (rings : HeldRings w b.rings) where
-  choose-held : (r : Recovery) → HeldRecovery w r → HeldRecovery w (choose w b now r (chosen_of w b now r.drained))
-  choose-held r held = go (chosen_of w b now r.drained) refl
+  choose-held : (r : Recovery) → HeldRecovery w r → HeldRecovery w (choose w b now r (chosen_of w b now r.failed r.drained))
+  choose-held r held = go (chosen_of w b now r.failed r.drained) refl
     where
-      go : (o : Option Stopped) → chosen_of w b now r.drained ≡ o → HeldRecovery w (choose w b now r o)
+      go : (o : Option Stopped) → chosen_of w b now r.failed r.drained ≡ o → HeldRecovery w (choose w b now r o)
       go None e = record {
         core = held.core;
         stage = held.stage;
@@ -116,8 +116,8 @@ module _ (w : World) (b : BookState) (now : Moment) (rings : HeldRings w b.rings
         lead = held.lead;
       }
       go (Some p) e =
-          let one = All-chosen w b now (IsStopped w r.core.seen r.failed) r.drained p held.drained e in
-          let logs = chosen-logs w b now r.drained p e in
+          let one = All-chosen w b now r.failed (IsStopped w r.core.seen r.failed) r.drained p held.drained e in
+          let logs = chosen-logs w b now r.failed r.drained p e in
           record {
             core = held.core;
             stage = held.stage;
@@ -198,12 +198,12 @@ module _ (w : World) (b : BookState) (now : Moment) (rings : HeldRings w b.rings
 
   swap-held : (r : Recovery) (o : Option ServerNo) → HeldRecovery w r → HeldRecovery w (swap w b now r o)
   swap-held r None held = held
-  swap-held r (Some p) held = go (better_of w b now p (map (λ x. x.no) r.outcome.followers)) refl
+  swap-held r (Some p) held = go (better_of w b now r.failed p (map (λ x. x.no) r.outcome.followers)) refl
     where
-      go : (o : Option ServerNo) → better_of w b now p (map (λ x. x.no) r.outcome.followers) ≡ o → HeldRecovery w (swap_by r p o)
+      go : (o : Option ServerNo) → better_of w b now r.failed p (map (λ x. x.no) r.outcome.followers) ≡ o → HeldRecovery w (swap_by r p o)
       go None e = held
       go (Some q) e =
-          let logs = (All-better w b now (λ (k : ServerNo). Unit {0}) p (map (λ x. x.no) r.outcome.followers) q (units (map (λ x. x.no) r.outcome.followers)) e).1 in
+          let logs = (All-better w b now r.failed (λ (k : ServerNo). Unit {0}) p (map (λ x. x.no) r.outcome.followers) q (units (map (λ x. x.no) r.outcome.followers)) e).1 in
           working-held w r (stage.Level p q) (level p q) held tt (level-held (footing w r.core.seen) p q logs)
           (record {
             front = op.Status p None ∷ op.Status q (Some p) ∷ op.Until q _ ∷ op.Await q _ ∷ op.Stop q ∷ op.Status q (Some p) ∷ [];

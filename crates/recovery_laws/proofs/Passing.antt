@@ -2,14 +2,14 @@
 use Rattle.std.proofs.Common.{◌≡◌, ℕ, Bool, true, false, [], refl, sym, subst, Option, Some, None, IfSome}
 use Rattle.std.proofs.lemmas.List.Elements.{All-nil, All-weaker}
 use Rattle.orch_base.specs.declared.server.Moment.{Moment}
-use Rattle.instance_keeper.specs.declared.observation.Observation.{Observation}
+use Rattle.kept_rows.specs.declared.observation.Observation.{Observation}
 use Rattle.instance_keeper.specs.Book.{BookState}
 use Rattle.server_model.specs.Run.{run}
 use Rattle.server_model.specs.Safe.{Safe}
 use Rattle.server_model.specs.Showing.{Shows}
 use Rattle.server_model.specs.Worlds.{World}
 use Rattle.replication_laws.proofs.ShownCoords.{Shows-run}
-use Rattle.operations.specs.Jobs.{job_with}
+use Rattle.operations.specs.Jobs.{position_of, job_with}
 use Rattle.operations.specs.Turns.{is_going}
 use Rattle.job_laws.specs.Flights.{Flight, Held, Sound, IsShown, IsShownBridged}
 use Rattle.job_laws.specs.Held.{HeldJob}
@@ -80,8 +80,8 @@ module _ (f : Flight) (b : BookState) (id read : ℕ) (now : Moment) (r : Recove
   bridged-after : Safe f.world → (x : Observation) → (taken f.world b read now r).observation ≡ Some x → IsShownBridged (run f.world (taken f.world b read now r).exchanges) x
   bridged-after safe x h s is =
       let n = taken-observes f.world b read now r x h in
-      let bridged : IsBridged f.world x.no.0 s = subst (λ (y : Observation). IsShownBridged f.world y) (sym n.1) (observed-bridged f.world read now n.0 safe) s is in
-      Bridged-run f.world (taken f.world b read now r).exchanges x.no.0 s held.placed kept.allowed bridged
+      let bridged : IsBridged f.world x.no.0 (position_of s) = subst (λ (y : Observation). IsShownBridged f.world y) (sym n.1) (observed-bridged f.world read now n.0 safe) s is in
+      Bridged-run f.world (taken f.world b read now r).exchanges x.no.0 (position_of s) held.placed kept.allowed bridged
 
   sound-turn : Sound f → SoundRings f.world b.rings → SoundRecovery f.world r → KeepsSoundRecovery f.world (taken f.world b read now r)
   sound-turn sound standing good = taken-sound f.world b read now r sound.safe held.placed rings standing mine good

@@ -11,15 +11,13 @@ use Rattle.orch_base.specs.declared.server.Settings.{Settings}
 use Rattle.server_model.specs.Attach.{IsTarget}
 use Rattle.server_model.specs.Run.{Exchange, run, AllAllowed}
 use Rattle.server_model.specs.Safe.{Placed}
-use Rattle.server_model.specs.Showing.{Shows}
 use Rattle.server_model.specs.Worlds.{World}
-use Rattle.replication_laws.proofs.Keeping.{at_or_before-refl}
 use Rattle.replication_laws.proofs.Runs.{Grows-run}
 use Rattle.instance_keeper.specs.declared.bridge.Bridge.{Bridge}
 use Rattle.operations.specs.declared.sight.Sight.{Sight}
 use Rattle.operations.specs.Targets.{logs_by}
 use Rattle.job_laws.specs.Footing.{logs_at}
-use Rattle.job_laws.specs.Held.{AllShow, Spans}
+use Rattle.job_laws.specs.Held.{AllShow, ShowsAt, Spans}
 use Rattle.job_laws.proofs.Modes.{gtid-run}
 use Rattle.job_laws.proofs.Showing.{Spans-run, logs-on}
 use Rattle.job_laws.proofs.Turns.{with-one}
@@ -32,7 +30,7 @@ use Rattle.recovery_plans.specs.declared.task.Way.{Way}
 use Rattle.recovery_plans.specs.declared.task.Way.TheVariants as way
 use Rattle.recovery_plans.specs.Recoveries.{sight_of}
 use Rattle.recovery_plans.specs.Stages.{with_bridge, with_way}
-use Rattle.recovery_laws.specs.HeldRecoveries.{IsReadyWay, IsReady, IsReadyStage, IsStopped, IsLead, bridge_at}
+use Rattle.recovery_laws.specs.HeldRecoveries.{IsReadyWay, IsReady, IsReadyStage, IsStopped, IsLead, stopped_bridge}
 use Rattle.recovery_laws.proofs.StaysRead.{StaysRead, saw-read}
 
 -- ---- a bridge as a reading
@@ -43,19 +41,17 @@ target-logs w m c t = ap logs_by t.there ∙ t.logs
 pub spans-logs : (w : World) (b : Bridge) → Spans w b → logs_at w b.no.0 ≡ true
 spans-logs w b s = target-logs w b.no.0 b.own s.own
 
--- a bridge is a reading that its server once showed
-pub sight-shown : (w : World) (b : Bridge) → Spans w b → Shows w b.no.0 (sight_of b)
+-- a bridge is where its server once stood
+pub sight-shown : (w : World) (b : Bridge) → Spans w b → ShowsAt w b.no.0 (sight_of b)
 sight-shown w b s = record {
   own = λ c h. subst (λ (x : Coord). IsTarget w b.no.0 x) (same_Some b.own c h) s.own;
   logs = λ t h l. (b.own, refl);
   under = λ m h. subst (λ (x : ℕ). IsTarget w x b.exec) (same_Some b.source.0 m h) s.exec;
-  read = λ m h. subst (λ (x : ℕ). IsTarget w x b.exec) (same_Some b.source.0 m h) s.exec;
-  order = λ m h. at_or_before-refl b.exec;
   set = record { server = s.own.target; there = s.own.there; within = λ uuid k h. absurd (false≢true h) };
 }
 
 pub bridge-shown : (w : World) (xs : List Sight) (b : Bridge) → AllShow w xs → Spans w b → AllShow w (with_bridge xs b)
-bridge-shown w xs b shown s = with-one (Shows w) xs b.no (sight_of b) shown (sight-shown w b s)
+bridge-shown w xs b shown s = with-one (ShowsAt w) xs b.no (sight_of b) shown (sight-shown w b s)
 
 -- ---- with more that was read
 
@@ -127,7 +123,7 @@ module _ (w : World) (es : List Exchange) (placed : Placed w) (allowed : AllAllo
         there = on.1;
         read = h.read;
         logs = λ l. h.logs (sym (ap (λ (x : Settings). x.logs) on.2.settings) ∙ l);
-        spans = λ own e. spans-run (bridge_at f d own) (h.spans own e);
+        spans = λ own e. spans-run (stopped_bridge f d own) (h.spans own e);
       }) ds all
 
   pub lead-run : (f : ServerNo) (o : Option Bridge) → IfSome o (IsLead w f) → IfSome o (IsLead (run w es) f)

@@ -7,6 +7,7 @@ use Rattle.orch_base.specs.declared.server.ServerNo.{ServerNo}
 use Rattle.server_words.specs.declared.status.Status.{Status}
 use Rattle.instance_keeper.specs.declared.bridge.Bridge.{Bridge}
 use Rattle.instance_keeper.specs.Bridges.{bridge_in, ring_at, ringed, with_bridge}
+use Rattle.operations.specs.Jobs.{position_of}
 use Rattle.job_laws.proofs.Lists.{All-ring}
 use Rattle.job_laws.proofs.Spanning.{bridge-parts}
 use Rattle.recovery_laws.specs.Rings.{AreOwn}
@@ -37,11 +38,12 @@ kept-own rings n (Some b) h own m =
     (λ e. subst (λ (k : ℕ). All (λ x. x.no.0 ≡ k) (with_bridge (ring_at rings n) b)) e (All-ring (IsOf n.0) (ring_at rings n) b h (own n))) (own m)
 
 pub shown-own : (n : ServerNo) (seen : Option Status) → IfSome (bridge_in n seen) (λ b. b.no.0 ≡ n.0)
-shown-own n seen = go (bridge_in n seen) refl
+shown-own n None = tt
+shown-own n (Some s) = go (bridge_in n (Some s)) refl
   where
-    go : (o : Option Bridge) → bridge_in n seen ≡ o → IfSome o (λ b. b.no.0 ≡ n.0)
+    go : (o : Option Bridge) → bridge_in n (Some s) ≡ o → IfSome o (λ b. b.no.0 ≡ n.0)
     go None e = tt
-    go (Some b) e = sym (bridge-parts n seen b e).no
+    go (Some b) e = sym (bridge-parts n (Some (position_of s)) b e).no
 
 pub forgotten-own : (rings : List (List Bridge)) (n : ServerNo) → AreOwn rings → AreOwn (slice_set rings n.0 [])
 forgotten-own rings n own m =

@@ -11,7 +11,6 @@ use Rattle.binlog_coords.proofs.Places.{same_coord-true}
 use Rattle.orch_base.specs.declared.server.Moment.{Moment}
 use Rattle.orch_base.specs.declared.server.ServerNo.{ServerNo}
 use Rattle.server_words.specs.declared.changes.Ask.TheVariants as asking
-use Rattle.server_words.specs.declared.status.Status.{Status}
 use Rattle.server_model.specs.Bridges.{Stands}
 use Rattle.server_model.specs.Run.{Exchange, Request, after, run, AllAllowed, AllJoinWell}
 use Rattle.server_model.specs.Safe.{Safe, Placed}
@@ -23,23 +22,24 @@ use Rattle.commands.specs.declared.cause.Cause.TheVariants as cause
 use Rattle.commands.specs.declared.line.Lost.{Lost}
 use Rattle.commands.specs.declared.line.Lost.TheVariants as lost
 use Rattle.instance_keeper.specs.declared.bridge.Bridge.{Bridge}
-use Rattle.instance_keeper.specs.declared.observation.Observation.{Observation}
+use Rattle.kept_rows.specs.declared.observation.Observation.{Observation}
 use Rattle.instance_keeper.specs.Book.{BookState}
-use Rattle.instance_keeper.specs.Bridges.{bridge_in, has_exec, has_own, latest_that, ring_at}
+use Rattle.instance_keeper.specs.Bridges.{has_exec, has_own, latest_that, ring_at}
 use Rattle.operations.specs.declared.op.Crossing.TheVariants as cross
 use Rattle.operations.specs.declared.op.Op.{Op}
 use Rattle.operations.specs.declared.op.Op.TheVariants as op
+use Rattle.operations.specs.declared.sight.Position.{Position}
 use Rattle.operations.specs.declared.sight.Sight.{Sight}
 use Rattle.operations.specs.Deeds.{deed_of}
 use Rattle.operations.specs.Jobs.{Job, seen_of}
 use Rattle.operations.specs.Targets.{can_attach}
 use Rattle.operations.specs.Turns as attempt
-use Rattle.operations.specs.Turns.{Attempt, by_deed, crossing_of, restarts}
+use Rattle.operations.specs.Turns.{bridge_at, Attempt, by_deed, crossing_of, restarts}
 use Rattle.job_laws.specs.Flights.{StandsIn}
 use Rattle.job_laws.specs.Footing.{footing, finds, are_held}
 use Rattle.job_laws.specs.Held.{KeepsHeld}
 use Rattle.job_laws.specs.Sound.{IsBridged, AllBridged, KeepsSound}
-use Rattle.job_laws.proofs.Bridging.{crossing-joins, stands-by}
+use Rattle.job_laws.proofs.Bridging.{crossing-joins, stands-at}
 use Rattle.job_laws.proofs.Lists.{All-at}
 use Rattle.job_laws.proofs.Turns.{with-one, deed-kept, deed-sound, restarts-join, AllBridged-run}
 use Rattle.replica_groups.specs.declared.groups.Group.TheVariants as group
@@ -62,7 +62,7 @@ use Rattle.recovery_plans.specs.Taking as taking
 use Rattle.recovery_plans.specs.Taking.{Fate, is_below, judged, lead_under, idle, frees, looked, halted, completed, entered, stepped, at_end, progressed, fate_of_drain, fate_of_trail, lost_on_way, fate_of_errant, fate_of_move, fate, that_can, takes_writes, goes_back, way_back, undone, last_exchanges, met, is_waiting, barred_by, on_going, attempted, acted, taken}
 use Rattle.recovery_laws.specs.Rings.{HeldRings, SoundRings}
 use Rattle.recovery_ends.specs.Shapes.{Fits}
-use Rattle.recovery_laws.specs.HeldRecoveries.{IsReady, IsStopped, bridge_at, HeldRecovery}
+use Rattle.recovery_laws.specs.HeldRecoveries.{IsReady, IsStopped, stopped_bridge, HeldRecovery}
 use Rattle.recovery_laws.specs.SoundRecoveries.{IsSoundWay, IsSoundTask, IsSoundStop, IsSoundStage, SoundRecovery, KeepsSoundRecovery}
 use Rattle.recovery_laws.proofs.Choosing.{All-latest, own-is}
 use Rattle.recovery_plans.proofs.Choices.{All-chosen, chosen-logs}
@@ -101,7 +101,7 @@ module _ (w : World) (b : BookState) (now : Moment) (rings : HeldRings w b.rings
   lot-sound : (seen : List Sight) (f : ServerNo) (p : Stopped) → IsStopped w seen f p → logs_at w p.no ≡ true → IsSoundStop w f p → (s : Stopped) → IsSoundLot (lot_of w b f p s)
   lot-sound seen f p stopped logs sound s = go w.gtid
     where
-      own-stands : StandsIn w (bridge_at f p (own_end_of p))
+      own-stands : StandsIn w (stopped_bridge f p (own_end_of p))
       own-stands = sound (own_end_of p) (own-is w seen b f p rings stopped logs)
 
       kept : (o : Option Bridge) → latest_that (has_exec f s.exec) (ring_at b.rings p.no) ≡ o → IsSoundLot (lot_by_group p.no f s (by_bridge o))
@@ -134,20 +134,20 @@ module _ (w : World) (b : BookState) (now : Moment) (rings : HeldRings w b.rings
   working-sound : (r : Recovery) (x : Stage) (ops : List Op) → SoundRecovery w r → IsSoundStage w x → SoundRecovery w (working r x ops)
   working-sound r x ops s h = record { core = s.core; stage = h; queue = s.queue; drained = s.drained; lead = s.lead }
 
-  choose-sound : (r : Recovery) → HeldRecovery w r → SoundRecovery w r → SoundRecovery w (choose w b now r (chosen_of w b now r.drained))
-  choose-sound r held s = go (chosen_of w b now r.drained) refl
+  choose-sound : (r : Recovery) → HeldRecovery w r → SoundRecovery w r → SoundRecovery w (choose w b now r (chosen_of w b now r.failed r.drained))
+  choose-sound r held s = go (chosen_of w b now r.failed r.drained) refl
     where
-      go : (o : Option Stopped) → chosen_of w b now r.drained ≡ o → SoundRecovery w (choose w b now r o)
+      go : (o : Option Stopped) → chosen_of w b now r.failed r.drained ≡ o → SoundRecovery w (choose w b now r o)
       go None e = record { core = s.core; stage = s.stage; queue = All-nil (IsSoundTask w); drained = All-nil (IsSoundStop w r.failed); lead = s.lead }
       go (Some p) e =
-          let one = All-chosen w b now (IsStopped w r.core.seen r.failed) r.drained p held.drained e in
-          let stop = All-chosen w b now (IsSoundStop w r.failed) r.drained p s.drained e in
+          let one = All-chosen w b now r.failed (IsStopped w r.core.seen r.failed) r.drained p held.drained e in
+          let stop = All-chosen w b now r.failed (IsSoundStop w r.failed) r.drained p s.drained e in
           record {
             core = s.core;
             stage = s.stage;
             queue =
                 All-append (IsSoundTask w) (moves_in (lot_of w b r.failed p) (without_stopped r.drained p.no)) r.queue
-                (moves-sound (lot_of w b r.failed p) (without_stopped r.drained p.no) (lot-sound r.core.seen r.failed p one (chosen-logs w b now r.drained p e) stop)) s.queue;
+                (moves-sound (lot_of w b r.failed p) (without_stopped r.drained p.no) (lot-sound r.core.seen r.failed p one (chosen-logs w b now r.failed r.drained p e) stop)) s.queue;
             drained = All-nil (IsSoundStop w r.failed);
             lead = s.lead;
           }
@@ -223,7 +223,7 @@ module _ (w : World) (b : BookState) (now : Moment) (rings : HeldRings w b.rings
 
       swaps : (o : Option ServerNo) → SoundRecovery w (swap w b now (record r { swaps = false }) o)
       swaps None = s
-      swaps (Some p) = swapping p (better_of w b now p (map (λ x. x.no) r.outcome.followers))
+      swaps (Some p) = swapping p (better_of w b now r.failed p (map (λ x. x.no) r.outcome.followers))
 
       crowns : (o : Option ServerNo) → SoundRecovery w (crown r o)
       crowns None = s
@@ -326,7 +326,7 @@ module _ (w : World) (es : List Exchange) (placed : Placed w) (allowed : AllAllo
     core = AllBridged-run w es r.core.seen placed allowed s.core;
     stage = stage-on r.stage s.stage;
     queue = All-weaker (IsSoundTask w) (IsSoundTask (run w es)) task-on r.queue s.queue;
-    drained = All-weaker (IsSoundStop w r.failed) (IsSoundStop (run w es) r.failed) (λ d h own e. stands-on (bridge_at r.failed d own) (h own e)) r.drained s.drained;
+    drained = All-weaker (IsSoundStop w r.failed) (IsSoundStop (run w es) r.failed) (λ d h own e. stands-on (stopped_bridge r.failed d own) (h own e)) r.drained s.drained;
     lead = lead-on r.lead s.lead;
   }
 
@@ -342,7 +342,7 @@ module _ (w : World) where
   judged-sound : (r : Recovery) (n : ServerNo) → SoundRecovery w r → SoundRecovery w (idle (judged r n (seen_of r.core.seen n.0)))
   judged-sound r n s = go (seen_of r.core.seen n.0) refl
     where
-      go : (o : Option Status) → seen_of r.core.seen n.0 ≡ o → SoundRecovery w (idle (judged r n o))
+      go : (o : Option Position) → seen_of r.core.seen n.0 ≡ o → SoundRecovery w (idle (judged r n o))
       go None e = idle-sound r s
       go (Some x) e = at (is_below x r.failed) refl
         where
@@ -357,18 +357,18 @@ module _ (w : World) where
           }
           at false f = idle-sound r s
 
-  lead-sound : (r : Recovery) (d : ServerNo) → SoundRecovery w r → IfSome (lead_under r.failed (bridge_in d (seen_of r.core.seen d.0))) (StandsIn w)
-  lead-sound r d s = go (bridge_in d (seen_of r.core.seen d.0)) refl
+  lead-sound : (r : Recovery) (d : ServerNo) → SoundRecovery w r → IfSome (lead_under r.failed (bridge_at d (seen_of r.core.seen d.0))) (StandsIn w)
+  lead-sound r d s = go (bridge_at d (seen_of r.core.seen d.0)) refl
     where
-      go : (o : Option Bridge) → bridge_in d (seen_of r.core.seen d.0) ≡ o → IfSome (lead_under r.failed o) (StandsIn w)
+      go : (o : Option Bridge) → bridge_at d (seen_of r.core.seen d.0) ≡ o → IfSome (lead_under r.failed o) (StandsIn w)
       go None e = tt
       go (Some x) e = at (x.source.0 == r.failed.0)
         where
           at : (a : Bool) → IfSome (cond a (Some x) None) (StandsIn w)
-          at true = stands-by w d (seen_of r.core.seen d.0) x (s.core d.0) e
+          at true = stands-at w d (seen_of r.core.seen d.0) x (s.core d.0) e
           at false = tt
 
-  looked-sound : (r : Recovery) (n : ServerNo) (b : Bridge) (o : Option Status) → SoundRecovery w r → StandsIn w b → SoundRecovery w (looked r n b o)
+  looked-sound : (r : Recovery) (n : ServerNo) (b : Bridge) (o : Option Position) → SoundRecovery w r → StandsIn w b → SoundRecovery w (looked r n b o)
   looked-sound r n b None s h = idle-sound r s
   looked-sound r n b (Some x) s h = at (is_below x r.failed)
     where
@@ -377,7 +377,7 @@ module _ (w : World) where
       at true = record { core = seen-bridged w r.core.seen b s.core h; stage = h; queue = s.queue; drained = s.drained; lead = s.lead }
       at false = idle-sound r s
 
-  halted-sound : (r : Recovery) (n : ServerNo) (b : Bridge) (o : Option Status) → SoundRecovery w r → StandsIn w b → SoundRecovery w (halted r n b o)
+  halted-sound : (r : Recovery) (n : ServerNo) (b : Bridge) (o : Option Position) → SoundRecovery w r → StandsIn w b → SoundRecovery w (halted r n b o)
   halted-sound r n b None s h = begun-sound (loses r n lost.Unreachable) (stage.Release n) (op.Start n ∷ []) s tt
   halted-sound r n b (Some x) s h = at (same_coord x.exec b.exec)
     where

@@ -4,9 +4,8 @@ use Rattle.std.specs.Prelude.{◌==◌, nat_lt, is_some}
 use Rattle.binlog_coords.specs.declared.Coord.{Coord}
 use Rattle.orch_base.specs.declared.server.Moment.{Moment}
 use Rattle.orch_base.specs.declared.server.ServerNo.{ServerNo}
-use Rattle.instance_keeper.specs.declared.observation.Observation.{Observation}
-use Rattle.instance_keeper.specs.Bridges.{bridge_in}
-use Rattle.instance_keeper.specs.Seeing.{seen_in}
+use Rattle.kept_rows.specs.declared.observation.Observation.{Observation}
+use Rattle.kept_rows.specs.Seeing.{seen_in}
 use Rattle.server_words.specs.declared.answers.Unreachable.{Unreachable}
 use Rattle.server_words.specs.declared.attach.AttachFault.{AttachFault}
 use Rattle.server_words.specs.declared.changes.Ask.{Ask}
@@ -18,19 +17,20 @@ use Rattle.server_model.specs.Run.{Exchange}
 use Rattle.server_model.specs.Worlds.{World, server_at}
 use Rattle.commands.specs.declared.cause.Cause.TheVariants as cause
 use Rattle.operations.specs.declared.op.Op.{Op}
+use Rattle.operations.specs.declared.sight.Position.{Position}
 use Rattle.operations.specs.declared.sight.Sight.{Sight}
 use Rattle.operations.specs.Deeds as deed
 use Rattle.operations.specs.Deeds.{Deed, deed_of}
-use Rattle.operations.specs.Jobs.{Job, seen_of, with_seen}
+use Rattle.operations.specs.Jobs.{Job, position_of, seen_of, with_seen}
 use Rattle.operations.specs.Targets.{can_attach}
-use Rattle.operations.specs.Turns.{Attempt, Goes, Stops, Ends, next, saw, observed, is_moved, after_status, after_look, after_ask, aim_of, is_reached, until_by, after_until, after_wait_by, after_wait, holds_seen, settles, read_by, crossed, same_again, by_set, attach_answer_of, after_answer, after_attach, by_deed}
+use Rattle.operations.specs.Turns.{bridge_at, Attempt, Goes, Stops, Ends, next, saw, observed, is_moved, after_status, after_look, after_ask, aim_of, is_reached, until_by, after_until, after_wait_by, after_wait, holds_seen, settles, read_by, crossed, same_again, by_set, attach_answer_of, after_answer, after_attach, by_deed}
 use Rattle.job_laws.proofs.Sights.{seen-at}
 
 -- each server that was read still is
 abbrev pub StaysRead : List Sight → List Sight → Type 0
 StaysRead xs ys = (n : ℕ) → is_some (seen_of xs n) ≡ true → is_some (seen_of ys n) ≡ true
 
-pub saw-read : (xs : List Sight) (n : ServerNo) (s : Status) → StaysRead xs (with_seen xs n s)
+pub saw-read : (xs : List Sight) (n : ServerNo) (s : Position) → StaysRead xs (with_seen xs n s)
 saw-read xs n s k h = ap is_some (seen-at xs n s k) ∙ go (n.0 == k)
   where
     go : (b : Bool) → is_some (cond b (Some s) (seen_of xs k)) ≡ true
@@ -53,7 +53,7 @@ module _ (j : Job) (rest : List Op) where
     where
       go : (b : Bool) → Reads j (after_status j rest n from o s b)
       go true = tt
-      go false = saw-read j.seen n s
+      go false = saw-read j.seen n (position_of s)
 
   ask-reads : (n : ServerNo) (a : Ask) (r : Result (Unit {0}) Unreachable) → Reads j (after_ask j rest n a r)
   ask-reads n a (Ok t) = same
@@ -68,11 +68,11 @@ module _ (j : Job) (rest : List Op) where
   wait-reads n reached (Some s) = go (reached s)
     where
       more : (b : Bool) → Reads j (cond b (Goes None [] (record (saw j n s) { waited = j.waited + 1 })) (Stops (cause.WaitSpent n) None))
-      more true = saw-read j.seen n s
+      more true = saw-read j.seen n (position_of s)
       more false = tt
 
       go : (b : Bool) → Reads j (after_wait_by j rest n s b)
-      go true = saw-read j.seen n s
+      go true = saw-read j.seen n (position_of s)
       go false = more (nat_lt (j.waited + 1) j.wait)
 
   attach-reads : (w : World) (n : ServerNo) (o : Option Exchange) → Reads j (after_attach w j rest n o)
@@ -94,7 +94,7 @@ module _ (j : Job) (rest : List Op) where
   deed-reads w read now (deed.Await n to) = wait-reads n (λ s. is_reached (aim_of j.seen to) s.exec) (seen_in (status w n.0))
   deed-reads w read now (deed.AwaitSet n m) = wait-reads n (holds_seen (seen_of j.seen m.0)) (seen_in (status w n.0))
   deed-reads w read now (deed.Settle n) = wait-reads n (settles j) (seen_in (status w n.0))
-  deed-reads w read now (deed.Cross c a b) = attach-reads w a (crossed c a (bridge_in (read_by c a b) (seen_of j.seen (read_by c a b).0)))
+  deed-reads w read now (deed.Cross c a b) = attach-reads w a (crossed c a (bridge_at (read_by c a b) (seen_of j.seen (read_by c a b).0)))
   deed-reads w read now (deed.Same n) = attach-reads w n (same_again n (seen_of j.seen n.0))
   deed-reads w read now (deed.Auto n m) = attach-reads w n (by_set n m (seen_of j.seen m.0))
   deed-reads w read now (deed.Finish lines) = tt

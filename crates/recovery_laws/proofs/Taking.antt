@@ -6,7 +6,6 @@ use Rattle.std.proofs.lemmas.List.Elements.{All-push}
 use Rattle.binlog_coords.specs.Log.{same_coord}
 use Rattle.orch_base.specs.declared.server.Moment.{Moment}
 use Rattle.orch_base.specs.declared.server.ServerNo.{ServerNo}
-use Rattle.server_words.specs.declared.status.Status.{Status}
 use Rattle.server_model.specs.Run.{Exchange, run, AllAllowed}
 use Rattle.server_model.specs.Safe.{Placed}
 use Rattle.server_model.specs.Worlds.{World, source_no}
@@ -15,17 +14,17 @@ use Rattle.commands.specs.declared.cause.Cause.TheVariants as cause
 use Rattle.commands.specs.declared.line.Lost.{Lost}
 use Rattle.commands.specs.declared.line.Lost.TheVariants as lost
 use Rattle.instance_keeper.specs.declared.bridge.Bridge.{Bridge}
-use Rattle.instance_keeper.specs.declared.observation.Observation.{Observation}
+use Rattle.kept_rows.specs.declared.observation.Observation.{Observation}
 use Rattle.instance_keeper.specs.Book.{BookState}
-use Rattle.instance_keeper.specs.Bridges.{bridge_in}
 use Rattle.operations.specs.declared.op.Crossing.TheVariants as cross
 use Rattle.operations.specs.declared.op.Op.{Op}
 use Rattle.operations.specs.declared.op.Op.TheVariants as op
+use Rattle.operations.specs.declared.sight.Position.{Position}
 use Rattle.operations.specs.declared.sight.Sight.{Sight}
 use Rattle.operations.specs.Deeds.{deed_of}
 use Rattle.operations.specs.Jobs.{Job, seen_of}
 use Rattle.operations.specs.Turns as attempt
-use Rattle.operations.specs.Turns.{Attempt, by_deed, crossing_of, going, is_going, restarts}
+use Rattle.operations.specs.Turns.{bridge_at, Attempt, by_deed, crossing_of, going, is_going, restarts}
 use Rattle.operations.proofs.Tests.{both}
 use Rattle.job_laws.specs.Footing.{Footing, footing, finds, are_held}
 use Rattle.job_laws.specs.Held.{HeldJob, KeepsHeld, IsDue, Spans}
@@ -96,7 +95,7 @@ module _ (w : World) where
   idle-held r held none = with-stage r stage.Idle held tt (record { front = []; still = refl; is = none; due = λ h. cc })
 
   -- what was seen of a replica that is drained
-  stopped-by : (r : Recovery) (n : ServerNo) (s : Status) → HeldRecovery w r → seen_of r.core.seen n.0 ≡ Some s → is_below s r.failed ≡ true
+  stopped-by : (r : Recovery) (n : ServerNo) (s : Position) → HeldRecovery w r → seen_of r.core.seen n.0 ≡ Some s → is_below s r.failed ≡ true
       → IsStopped w r.core.seen r.failed (record { no = n; exec = s.exec; own_end = s.own_end })
   stopped-by r n s held e f =
       let shown = held.core.shown n.0 s e in
@@ -111,7 +110,7 @@ module _ (w : World) where
   judged-held : (r : Recovery) (n : ServerNo) → HeldRecovery w r → r.core.ops ≡ [] → HeldRecovery w (idle (judged r n (seen_of r.core.seen n.0)))
   judged-held r n held none = go (seen_of r.core.seen n.0) refl
     where
-      go : (o : Option Status) → seen_of r.core.seen n.0 ≡ o → HeldRecovery w (idle (judged r n o))
+      go : (o : Option Position) → seen_of r.core.seen n.0 ≡ o → HeldRecovery w (idle (judged r n o))
       go None e = idle-held r held none
       go (Some s) e = at (is_below s r.failed) refl
         where
@@ -133,10 +132,10 @@ module _ (w : World) where
   frees-held r n why held = working-held w (loses r n why) (stage.Release n) (op.Start n ∷ []) held tt refl (front-fits (stage.Release n) (op.Start n ∷ []) refl refl refl)
 
   -- the bridge that was seen of the designated replica
-  lead-held : (r : Recovery) (d : ServerNo) → HeldRecovery w r → IfSome (lead_under r.failed (bridge_in d (seen_of r.core.seen d.0))) (IsLead w r.failed)
-  lead-held r d held = go (bridge_in d (seen_of r.core.seen d.0)) refl
+  lead-held : (r : Recovery) (d : ServerNo) → HeldRecovery w r → IfSome (lead_under r.failed (bridge_at d (seen_of r.core.seen d.0))) (IsLead w r.failed)
+  lead-held r d held = go (bridge_at d (seen_of r.core.seen d.0)) refl
     where
-      go : (o : Option Bridge) → bridge_in d (seen_of r.core.seen d.0) ≡ o → IfSome (lead_under r.failed o) (IsLead w r.failed)
+      go : (o : Option Bridge) → bridge_at d (seen_of r.core.seen d.0) ≡ o → IfSome (lead_under r.failed o) (IsLead w r.failed)
       go None e = tt
       go (Some b) e = at (b.source.0 == r.failed.0) refl
         where
@@ -144,7 +143,7 @@ module _ (w : World) where
           at true f = record { spans = seen-spans w r.core.seen d b held.core.shown e; below = eqb-true b.source.0 r.failed.0 f }
           at false f = tt
 
-  trail-held : (r : Recovery) (n : ServerNo) (b : Bridge) (s : Status) → HeldRecovery w r → Spans w b → seen_of r.core.seen n.0 ≡ Some s
+  trail-held : (r : Recovery) (n : ServerNo) (b : Bridge) (s : Position) → HeldRecovery w r → Spans w b → seen_of r.core.seen n.0 ≡ Some s
       → HeldRecovery w (working (record r { core = record r.core { seen = with_bridge r.core.seen b } }) (stage.Trail n b) (trail n b.no))
   trail-held r n b s held spans e = record {
     core = record { left = trail-left (footing w (with_bridge r.core.seen b)) n b.no (saw-read r.core.seen b.no (sight_of b) n.0 (ap is_some e)) (bridge-read r.core.seen b); shown = bridge-shown w r.core.seen b held.core.shown spans };
@@ -158,7 +157,7 @@ module _ (w : World) where
   looked-held : (r : Recovery) (n : ServerNo) (b : Bridge) → HeldRecovery w r → Spans w b → r.core.ops ≡ [] → HeldRecovery w (looked r n b (seen_of r.core.seen n.0))
   looked-held r n b held spans none = go (seen_of r.core.seen n.0) refl
     where
-      go : (o : Option Status) → seen_of r.core.seen n.0 ≡ o → HeldRecovery w (looked r n b o)
+      go : (o : Option Position) → seen_of r.core.seen n.0 ≡ o → HeldRecovery w (looked r n b o)
       go None e = idle-held r held none
       go (Some s) e = at (is_below s r.failed)
         where
@@ -167,7 +166,7 @@ module _ (w : World) where
           at true = trail-held r n b s held spans e
           at false = idle-held r held none
 
-  halted-held : (r : Recovery) (n : ServerNo) (b : Bridge) (o : Option Status) → HeldRecovery w r → Spans w b → HeldRecovery w (halted r n b o)
+  halted-held : (r : Recovery) (n : ServerNo) (b : Bridge) (o : Option Position) → HeldRecovery w r → Spans w b → HeldRecovery w (halted r n b o)
   halted-held r n b None held spans = frees-held r n lost.Unreachable held
   halted-held r n b (Some s) held spans = at (same_coord s.exec b.exec)
     where

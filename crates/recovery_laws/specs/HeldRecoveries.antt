@@ -47,8 +47,8 @@ IsReady w seen (task.Trailing n) = Unit {0}
 IsReady w seen task.Yielding = Unit {0}
 
 -- the bridge that a stopped replica shows, where its own log ended there
-abbrev pub bridge_at : ServerNo → Stopped → Coord → Bridge
-bridge_at f s own = record { no = s.no; source = f; own = own; exec = s.exec }
+abbrev pub stopped_bridge : ServerNo → Stopped → Coord → Bridge
+stopped_bridge f s own = record { no = s.no; source = f; own = own; exec = s.exec }
 
 -- a replica that was stopped below the failed server: it was read; where it logs its own end was seen; and where that
 -- was seen both ends have places
@@ -57,7 +57,7 @@ pub record IsStopped (w : World) (seen : List Sight) (f : ServerNo) (s : Stopped
   pub there : server_at w s.no.0 ≡ Some server
   pub read : is_some (seen_of seen s.no.0) ≡ true
   pub logs : server.settings.logs ≡ true → (own : Coord) × (s.own_end ≡ Some own)
-  pub spans : (own : Coord) → s.own_end ≡ Some own → Spans w (bridge_at f s own)
+  pub spans : (own : Coord) → s.own_end ≡ Some own → Spans w (stopped_bridge f s own)
 
 -- where a designated replica stopped below its master
 pub record IsLead (w : World) (f : ServerNo) (b : Bridge) : Type 0 where

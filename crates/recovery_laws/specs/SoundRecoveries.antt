@@ -18,7 +18,7 @@ use Rattle.recovery_plans.specs.declared.task.Way.{Way}
 use Rattle.recovery_plans.specs.declared.task.Way.TheVariants as way
 use Rattle.recovery_plans.specs.Recoveries.{Recovery}
 use Rattle.recovery_plans.specs.Taking.{Taken}
-use Rattle.recovery_laws.specs.HeldRecoveries.{bridge_at}
+use Rattle.recovery_laws.specs.HeldRecoveries.{stopped_bridge}
 
 abbrev pub IsSoundWay : World → Way → Type 0
 IsSoundWay w (way.Down b) = StandsIn w b
@@ -39,7 +39,7 @@ IsSoundTask w task.Yielding = Unit {0}
 
 -- the bridge that a stopped replica shows stands
 abbrev pub IsSoundStop : World → ServerNo → Stopped → Type 0
-IsSoundStop w f s = (own : Coord) → s.own_end ≡ Some own → StandsIn w (bridge_at f s own)
+IsSoundStop w f s = (own : Coord) → s.own_end ≡ Some own → StandsIn w (stopped_bridge f s own)
 
 -- the bridge by which a stage goes stands
 abbrev pub IsSoundStage : World → Stage → Type 0

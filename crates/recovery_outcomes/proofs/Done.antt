@@ -21,8 +21,8 @@ use Rattle.server_model.specs.Worlds.{World, server_at}
 use Rattle.commands.specs.declared.cause.Cause.{Cause}
 use Rattle.commands.specs.declared.cause.Cause.TheVariants as cause
 use Rattle.commands.specs.declared.line.Line.{Line}
-use Rattle.instance_keeper.specs.declared.observation.Observation.{Observation}
-use Rattle.instance_keeper.specs.Seeing.{seen_in}
+use Rattle.kept_rows.specs.declared.observation.Observation.{Observation}
+use Rattle.kept_rows.specs.Seeing.{seen_in}
 use Rattle.operations.specs.declared.op.Crossing.TheVariants as cross
 use Rattle.operations.specs.declared.op.Op.{Op}
 use Rattle.operations.specs.declared.op.Op.TheVariants as op
@@ -263,7 +263,7 @@ module _ (w : World) (read : ℕ) (now : Moment) (r : Recovery) (o : Op) (rest :
       lines-in : JobStep → List Line
       lines-in step.Going = []
       lines-in (step.Done xs) = xs
-      lines-in (step.Failed x) = []
+      lines-in (step.Failed x ls) = []
 
       lines-by : (a b : JobStep) → a ≡ b → lines-in a ≡ lines-in b
       lines-by a b f = ap lines-in f

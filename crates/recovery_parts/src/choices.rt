@@ -2,7 +2,8 @@
 
 ghost use Rattle.std.specs.Prelude.{◌≡◌, ◌<◌, ◌==◌, All, IfOk, find, length, map};
 ghost use Rattle.std.specs.Option.{option_copied};
-ghost use Rattle.recovery_plans.specs.Deciding.{better_of, chosen_of, drained_of, expels, follower_of, is_apart, is_elsewhere, is_reached, logs_at, lot_of, may_lead, releases, stopped_in, unfit, way_below};
+ghost use Rattle.server_model.specs.Worlds.{server_at};
+ghost use Rattle.recovery_plans.specs.Deciding.{better_of, center_in, chosen_of, drained_of, expels, follower_of, is_apart, is_elsewhere, is_near, is_reached, logs_at, lot_of, may_lead, releases, stopped_in, unfit, way_below};
 ghost use Rattle.recovery_plans.specs.declared.outcome.Follower.{Follower as AFollower};
 ghost use Rattle.recovery_parts.specs.Lots.{by_lot};
 
@@ -35,10 +36,28 @@ fn logs_at(world: &World, no: ServerNo) -> bool
     no.0 < world.servers() && world.settings(no).logs
 }
 
-// A drained replica as the choice looks at it.
-fn drained_of(by: &Ground<'_>, replica: &Stopped) -> Drained
+// The data centre that a server stands in.
+fn center(world: &World, no: ServerNo) -> &str
+    ensures { result.now ≡ center_in (server_at world.now no.0) }
+{
+    if no.0 < world.servers() {
+        world.settings(no).dc.as_str()
+    } else {
+        ""
+    }
+}
+
+// Whether two servers stand in one data centre.
+fn is_near(world: &World, one: ServerNo, other: ServerNo) -> bool
+    ensures { result ≡ is_near world.now one other }
+{
+    center(world, one) == center(world, other)
+}
+
+// A drained replica of a failed server as the choice looks at it.
+fn drained_of(by: &Ground<'_>, failed: ServerNo, replica: &Stopped) -> Drained
     requires { replica.now.no.0 < length by.now.book.now.names }
-    ensures { result ≡ drained_of by.now.world.now by.now.book.now by.now.moment replica.now }
+    ensures { result ≡ drained_of by.now.world.now by.now.book.now by.now.moment failed replica.now }
 {
     Drained {
         no: replica.no,
@@ -46,17 +65,23 @@ fn drained_of(by: &Ground<'_>, replica: &Stopped) -> Drained
         own_end: replica.own_end,
         rule: by.book.rule(replica.no, by.moment),
         logs: logs_at(by.world, replica.no),
+        near: is_near(by.world, failed, replica.no),
     }
 }
 
-fn drained_all(alloc: Global, by: &Ground<'_>, list: &[Stopped]) -> Result<Vec<Drained>, Memory>
+fn drained_all(
+    alloc: Global,
+    by: &Ground<'_>,
+    failed: ServerNo,
+    list: &[Stopped],
+) -> Result<Vec<Drained>, Memory>
     requires { All (λ s. s.no.0 < length by.now.book.now.names) list.now }
     ensures { IfOk result (λ all. all.items
-        ≡ map (drained_of by.now.world.now by.now.book.now by.now.moment) list.now) }
+        ≡ map (drained_of by.now.world.now by.now.book.now by.now.moment failed) list.now) }
 {
     let mut all = Vec::with_capacity(alloc, list.len())?;
     for replica in list {
-        all.push(drained_of(by, replica))?;
+        all.push(drained_of(by, failed, replica))?;
     }
     Ok(all)
 }
@@ -73,16 +98,18 @@ fn stopped_in(list: &[Stopped], no: Option<ServerNo>) -> Option<Stopped>
     stopped_at(list, no?).copied()
 }
 
-/// The drained replica that is promoted.
+/// The drained replica of a failed server that is promoted.
 pub fn chosen_of(
     alloc: Global,
     by: &Ground<'_>,
+    failed: ServerNo,
     list: &[Stopped],
 ) -> Result<Option<Stopped>, Memory>
     requires { All (λ s. s.no.0 < length by.now.book.now.names) list.now }
-    ensures { IfOk result (λ o. o ≡ chosen_of by.now.world.now by.now.book.now by.now.moment list.now) }
+    ensures { IfOk result (λ o. o
+        ≡ chosen_of by.now.world.now by.now.book.now by.now.moment failed list.now) }
 {
-    let all = drained_all(alloc, by, list)?;
+    let all = drained_all(alloc, by, failed, list)?;
     Ok(stopped_in(list, most_advanced(&all, by.book.names())))
 }
 
@@ -91,14 +118,13 @@ pub(crate) fn may_lead(by: &Ground<'_>, replica: &Stopped) -> bool
     requires { replica.now.no.0 < length by.now.book.now.names }
     ensures { result ≡ may_lead by.now.world.now by.now.book.now by.now.moment replica.now }
 {
-    let drained = drained_of(by, replica);
-    drained.logs && drained.rule != Rule::MustNot
+    logs_at(by.world, replica.no) && by.book.rule(replica.no, by.moment) != Rule::MustNot
 }
 
 // A follower as the choice of a better one looks at it.
-fn follower_of(by: &Ground<'_>, no: ServerNo) -> Drained
+fn follower_of(by: &Ground<'_>, failed: ServerNo, no: ServerNo) -> Drained
     requires { no.0 < length by.now.book.now.names }
-    ensures { result ≡ follower_of by.now.world.now by.now.book.now by.now.moment no }
+    ensures { result ≡ follower_of by.now.world.now by.now.book.now by.now.moment failed no }
 {
     Drained {
         no,
@@ -106,17 +132,23 @@ fn follower_of(by: &Ground<'_>, no: ServerNo) -> Drained
         own_end: None,
         rule: by.book.rule(no, by.moment),
         logs: logs_at(by.world, no),
+        near: is_near(by.world, failed, no),
     }
 }
 
-fn followers_all(alloc: Global, by: &Ground<'_>, list: &[Follower]) -> Result<Vec<Drained>, Memory>
+fn followers_all(
+    alloc: Global,
+    by: &Ground<'_>,
+    failed: ServerNo,
+    list: &[Follower],
+) -> Result<Vec<Drained>, Memory>
     requires { All (λ x. x.no.0 < length by.now.book.now.names) list.now }
     ensures { IfOk result (λ all. all.items ≡ map (λ (x : AFollower).
-        follower_of by.now.world.now by.now.book.now by.now.moment x.no) list.now) }
+        follower_of by.now.world.now by.now.book.now by.now.moment failed x.no) list.now) }
 {
     let mut all = Vec::with_capacity(alloc, list.len())?;
     for follower in list {
-        all.push(follower_of(by, follower.no))?;
+        all.push(follower_of(by, failed, follower.no))?;
     }
     Ok(all)
 }
@@ -125,17 +157,18 @@ fn followers_all(alloc: Global, by: &Ground<'_>, list: &[Follower]) -> Result<Ve
 pub fn better_of(
     alloc: Global,
     by: &Ground<'_>,
+    failed: ServerNo,
     promoted: ServerNo,
     list: &[Follower],
 ) -> Result<Option<ServerNo>, Memory>
     requires promoted { promoted.0 < length by.now.book.now.names }
     requires followers { All (λ x. x.no.0 < length by.now.book.now.names) list.now }
-    ensures { IfOk result (λ o. o ≡ better_of by.now.world.now by.now.book.now by.now.moment promoted
-        (map (λ (x : AFollower). x.no) list.now)) }
+    ensures { IfOk result (λ o. o ≡ better_of by.now.world.now by.now.book.now by.now.moment failed
+        promoted (map (λ (x : AFollower). x.no) list.now)) }
 {
-    let all = followers_all(alloc, by, list)?;
-    let rule = by.book.rule(promoted, by.moment);
-    Ok(better(rule, &all, by.book.names()))
+    let all = followers_all(alloc, by, failed, list)?;
+    let of = follower_of(by, failed, promoted);
+    Ok(better(&of, &all, by.book.names()))
 }
 
 /// How a drained replica goes below the chosen one; `Err` is why it is left.
@@ -206,12 +239,12 @@ pub fn way_below(
     Some(Way::Up(bridge))
 }
 
-// Whether a lost one executed what the new source didn't, or less.
+// Whether a lost one executed what the new source didn't, or less, or was to go on in a purged file.
 fn is_apart(why: Option<Lost>) -> bool
     ensures { result ≡ is_apart why }
 {
     match why {
-        Some(Lost::Ahead(_) | Lost::Behind(_)) => true,
+        Some(Lost::Ahead(_) | Lost::Behind(_) | Lost::Purged(_)) => true,
         Some(Lost::Unreachable | Lost::Moved(_) | Lost::NotLogging | Lost::MustNot) | None => false,
     }
 }
@@ -223,7 +256,12 @@ fn is_elsewhere(why: Option<Lost>) -> bool
     match why {
         Some(Lost::Moved(_)) => true,
         Some(
-            Lost::Ahead(_) | Lost::Behind(_) | Lost::Unreachable | Lost::NotLogging | Lost::MustNot,
+            Lost::Ahead(_)
+            | Lost::Behind(_)
+            | Lost::Purged(_)
+            | Lost::Unreachable
+            | Lost::NotLogging
+            | Lost::MustNot,
         )
         | None => false,
     }
@@ -235,7 +273,12 @@ fn is_reached(why: Option<Lost>) -> bool
 {
     match why {
         Some(
-            Lost::Ahead(_) | Lost::Behind(_) | Lost::Moved(_) | Lost::NotLogging | Lost::MustNot,
+            Lost::Ahead(_)
+            | Lost::Behind(_)
+            | Lost::Purged(_)
+            | Lost::Moved(_)
+            | Lost::NotLogging
+            | Lost::MustNot,
         ) => true,
         Some(Lost::Unreachable) | None => false,
     }

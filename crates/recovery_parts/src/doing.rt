@@ -137,7 +137,8 @@ pub fn perform(alloc: Global, world: &mut World, doing: Doing) -> Result<(), Mem
                 | AttachFault::Running(_)
                 | AttachFault::Interfered(_, _)
                 | AttachFault::Loop
-                | AttachFault::Errant(_),
+                | AttachFault::Errant(_)
+                | AttachFault::Purged(_),
             ) => Ok(()),
         },
     }

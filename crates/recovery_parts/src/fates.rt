@@ -71,7 +71,11 @@ fn of_drain(no: ServerNo, cause: &Cause) -> Fate
         | Cause::Errant(_, _)
         | Cause::Moved(_, _)
         | Cause::Reachable(_)
-        | Cause::NoCandidate => Fate::Fails,
+        | Cause::NoCandidate
+        | Cause::Purged(_, _)
+        | Cause::NoMark(_)
+        | Cause::Mismatch(_, _)
+        | Cause::HookFailed { .. } => Fate::Fails,
     }
 }
 
@@ -88,7 +92,11 @@ fn of_trail(world: &World, no: ServerNo, cause: &Cause) -> Fate
         | Cause::Errant(_, _)
         | Cause::Moved(_, _)
         | Cause::Reachable(_)
-        | Cause::NoCandidate => Fate::Fails,
+        | Cause::NoCandidate
+        | Cause::Purged(_, _)
+        | Cause::NoMark(_)
+        | Cause::Mismatch(_, _)
+        | Cause::HookFailed { .. } => Fate::Fails,
     }
 }
 
@@ -117,7 +125,11 @@ fn of_move(world: &World, purpose: Purpose, no: ServerNo, way: Way, cause: &Caus
         | Cause::Loop(_)
         | Cause::Moved(_, _)
         | Cause::Reachable(_)
-        | Cause::NoCandidate => Fate::Fails,
+        | Cause::NoCandidate
+        | Cause::Purged(_, _)
+        | Cause::NoMark(_)
+        | Cause::Mismatch(_, _)
+        | Cause::HookFailed { .. } => Fate::Fails,
     }
 }
 

@@ -6,10 +6,9 @@ ghost use Rattle.recovery_plans.specs.Stages.{drain, gather, level, move, target
 
 use gtid_sets::GtidSet;
 use instance_keeper::Bridge;
-use operations::{Aim, Crossing, Op, Sight};
-use orch_base::{IoState, Memory, ServerNo, SourceState};
+use operations::{Aim, Crossing, Op, Position, Sight};
+use orch_base::{Memory, ServerNo, SourceState};
 use recovery_plans::Way;
-use server_words::Status;
 use std::alloc::Global;
 
 /// One operation.
@@ -109,21 +108,16 @@ pub(crate) fn target(way: Way) -> ServerNo
     }
 }
 
-/// What was seen when this bridge was taken.
+/// Where a bridge's server stood when the bridge was taken.
 pub fn sight_of(alloc: Global, bridge: Bridge) -> Sight
     ensures { result ≡ record { no = bridge.no; seen = sight_of bridge } }
 {
     Sight {
         no: bridge.no,
-        seen: Status {
+        seen: Position {
             own_end: Some(bridge.own),
             source: SourceState::Attached(bridge.source),
             exec: bridge.exec,
-            read: bridge.exec,
-            auto: false,
-            io: IoState::No,
-            sql: false,
-            read_only: true,
             set: GtidSet::empty(alloc),
         },
     }

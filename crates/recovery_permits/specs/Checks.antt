@@ -44,7 +44,7 @@ held_by (Ok id) = None
 held_by (Err h) = Some (refused_as h)
 
 abbrev pub held_back : BookState → AuditState → Attempt → ServerNo → Option Refusal
-held_back b audit a f = held_by (may_begin audit (label_at b f) a.now.0 a.block)
+held_back b audit a f = held_by (may_begin audit (label_at b f) a.now.0)
 
 -- 26: none of a master's replicas may be promoted
 abbrev pub without_candidate : World → BookState → Attempt → ServerNo → Option Refusal

@@ -57,11 +57,10 @@ pub(crate) fn held_back(
 ) -> Option<Refusal>
     requires server { failed.0 < length book.now.names }
     requires begun { All (λ r. r.begun.0 ≤ 2 ^ 63) audit.now.audit.recoveries }
-    requires block { attempt.block ≤ 1000000000 }
     ensures { result ≡ held_back book.now audit.now.audit attempt failed }
 {
     let cluster = book.settings(failed).cluster.as_str();
-    match audit.may_begin(cluster, attempt.now, attempt.block) {
+    match audit.may_begin(cluster, attempt.now) {
         Ok(_) => None,
         Err(held) => Some(refused_as(held)),
     }

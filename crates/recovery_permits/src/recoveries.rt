@@ -76,7 +76,6 @@ fn held_off(
 ) -> Option<Refusal>
     requires server { failed.0 < length book.now.names }
     requires begun { All (λ r. r.begun.0 ≤ 2 ^ 63) audit.now.audit.recoveries }
-    requires block { attempt.block ≤ 1000000000 }
     ensures { result ≡ held_off book.now audit.now.audit attempt failed passes }
 {
     match unasked(book, attempt, failed, passes) {
@@ -86,8 +85,7 @@ fn held_off(
 }
 
 /// What refuses the recovery of a server where no job has a lease of it or of its replicas, by its code and its
-/// replicas in name order: the refusal of the lowest number. Moments are at most 2^63, and a block period at most
-/// 1,000,000,000 seconds. It takes no memory.
+/// replicas in name order: the refusal of the lowest number. Moments are at most 2^63. It takes no memory.
 pub fn refusal_by_code(
     book: &Book,
     world: &World,
@@ -100,7 +98,6 @@ pub fn refusal_by_code(
     requires server { failed.0 < length book.now.names }
     requires replicas { replicas.now ≡ replicas_of book.now failed }
     requires begun { All (λ r. r.begun.0 ≤ 2 ^ 63) audit.now.audit.recoveries }
-    requires block { attempt.block ≤ 1000000000 }
     ensures { result ≡ refusal_for world.now book.now audit.now.audit attempt failed code
         (action_of code) }
 {
@@ -134,7 +131,6 @@ fn refusal_by(
     requires server { failed.0 < length book.now.names }
     requires forest { forest.now ≡ book_forest book.now }
     requires begun { All (λ r. r.begun.0 ≤ 2 ^ 63) audit.now.audit.recoveries }
-    requires block { attempt.block ≤ 1000000000 }
     ensures { IfOk result (λ r. r ≡ refusal_by world.now book.now audit.now.audit attempt
         failed code) }
 {
@@ -152,8 +148,8 @@ fn refusal_by(
 }
 
 /// Refuses the recovery of a server, by its code, with the refusal of the lowest number that applies. It goes by the
-/// book, the audit, the servers' settings and the moment, and changes nothing. Moments are at most 2^63, and a block
-/// period at most 1,000,000,000 seconds. `Memory` comes only for want of memory.
+/// book, the audit, the servers' settings and the moment, and changes nothing. Moments are at most 2^63. `Memory` comes
+/// only for want of memory.
 pub fn permit_recovery(
     alloc: Global,
     book: &Book,
@@ -168,7 +164,6 @@ pub fn permit_recovery(
     requires forest { forest.now ≡ book_forest book.now }
     requires code { code ≡ code_at book.now failed }
     requires begun { All (λ r. r.begun.0 ≤ 2 ^ 63) audit.now.audit.recoveries }
-    requires block { attempt.block ≤ 1000000000 }
     ensures { Gives (λ _. tt) permit_fault result (permitted (recovery_refusal world.now book.now
         audit.now.audit attempt failed)) }
 {

@@ -77,7 +77,6 @@ fn takeover_refusal(
     requires servers { (i.0 < length book.now.names) × (d.0 < length book.now.names) }
     requires forest { forest.now ≡ book_forest book.now }
     requires begun { All (λ r. r.begun.0 ≤ 2 ^ 63) audit.now.audit.recoveries }
-    requires block { attempt.block ≤ 1000000000 }
     ensures { IfOk result (λ r. r ≡ takeover_refusal world.now book.now audit.now.audit attempt
         i d) }
 {
@@ -98,8 +97,8 @@ fn takeover_refusal(
 }
 
 /// Refuses the takeover of a master's place by a replica with the refusal of the lowest number that applies. It goes by
-/// the book, the audit, the servers' settings and the moment, and changes nothing. Moments are at most 2^63, and a
-/// block period at most 1,000,000,000 seconds. `Memory` comes only for want of memory.
+/// the book, the audit, the servers' settings and the moment, and changes nothing. Moments are at most 2^63. `Memory`
+/// comes only for want of memory.
 pub fn permit_takeover(
     alloc: Global,
     book: &Book,
@@ -113,7 +112,6 @@ pub fn permit_takeover(
     requires servers { (i.0 < length book.now.names) × (d.0 < length book.now.names) }
     requires forest { forest.now ≡ book_forest book.now }
     requires begun { All (λ r. r.begun.0 ≤ 2 ^ 63) audit.now.audit.recoveries }
-    requires block { attempt.block ≤ 1000000000 }
     ensures { Gives (λ _. tt) permit_fault result (permitted (takeover_refusal world.now book.now
         audit.now.audit attempt i d)) }
 {

@@ -6,7 +6,7 @@ use Rattle.server_words.specs.declared.changes.Ask.TheVariants as asking
 use Rattle.server_model.specs.Run.{Exchange, Request, after, run, AllAllowed}
 use Rattle.server_model.specs.Worlds.{World}
 use Rattle.commands.specs.declared.cause.Cause.{Cause}
-use Rattle.instance_keeper.specs.declared.observation.Observation.{Observation}
+use Rattle.kept_rows.specs.declared.observation.Observation.{Observation}
 use Rattle.instance_keeper.specs.Book.{BookState}
 use Rattle.operations.specs.declared.op.Crossing.TheVariants as cross
 use Rattle.operations.specs.declared.op.Op.{Op}

@@ -67,7 +67,7 @@ module _ (st : Settings) where
       rounds (book (109 ∷ 97 ∷ 98 ∷ []) ([] ∷ [] ∷ [] ∷ []) (rule.Neutral ∷ rule.MustNot ∷ rule.MustNot ∷ [])) (each_turn []) 0 60 gathered_servers
       (begun_recovery purpose.Regroup 1 5 (server_no 0) (server_no 1 ∷ server_no 2 ∷ []) [])
 
-  bars : barring.0.step ≡ step.Failed cause.NoCandidate
+  bars : barring.0.step ≡ step.Failed cause.NoCandidate []
   bars = refl
 
   bars-in : barring.1 ≡ 9
@@ -122,11 +122,24 @@ module _ (st : Settings) where
   crowns-in : (mastering rule.Neutral replicates).1 ≡ 21
   crowns-in = refl
 
+  -- where a stands in another data centre than m, c is chosen, which has executed as much
+  abbrev elsewhere : Server → Server
+  elsewhere s = record s { settings = record s.settings { dc = 120 ∷ [] } }
+
+  abbrev scattered_servers : World
+  scattered_servers = world st (
+      server st 0 Without 3 false ∷ elsewhere (server st 1 (Attached (server_no 0)) 3 true) ∷ server st 2 (Attached (server_no 0)) 2 true
+      ∷ server st 3 (Attached (server_no 0)) 3 true ∷ [])
+
+  chooses-near : (rounds (mastered_book rule.Neutral) (each_turn []) 0 80 scattered_servers (begun_recovery purpose.Master 1 5 (server_no 0) three three)).0.step
+      ≡ step.Done (line.Promoted (server_no 3) ∷ line.Follows (server_no 1) (server_no 3) ∷ line.Lost (server_no 2) (lost.Behind (end 2)) true ∷ [])
+  chooses-near = refl
+
   -- a reached master hasn't failed
   abbrev living : Taken × ℕ × World
   living = rounds (mastered_book rule.Neutral) (each_turn []) 0 9 (world st (server st 0 Without 3 true ∷ [])) (begun_recovery purpose.Master 1 5 (server_no 0) three three)
 
-  lives : living.0.step ≡ step.Failed (cause.Reachable (server_no 0))
+  lives : living.0.step ≡ step.Failed (cause.Reachable (server_no 0)) []
   lives = refl
 
   -- ---- lost ones: a is down; of b and c, which executed three and one, b is promoted, and c is behind without a

@@ -14,7 +14,7 @@ use Rattle.orch_base.specs.declared.server.SourceState.{SourceState}
 use Rattle.orch_base.specs.declared.server.SourceState.TheVariants.{Without, Attached, Detached}
 use Rattle.server_words.specs.declared.attach.Spot.TheVariants as spot
 use Rattle.server_words.specs.declared.changes.Ask.TheVariants as asking
-use Rattle.server_words.specs.declared.status.Status.{Status}
+use Rattle.operations.specs.declared.sight.Position.{Position}
 use Rattle.server_model.specs.Run.{Exchange, Request, Attach}
 use Rattle.server_model.specs.Worlds.{World}
 use Rattle.commands.specs.declared.cause.Cause.{Cause}
@@ -22,9 +22,9 @@ use Rattle.commands.specs.declared.cause.Cause.TheVariants as cause
 use Rattle.commands.specs.declared.line.Lost.{Lost}
 use Rattle.commands.specs.declared.line.Lost.TheVariants as lost
 use Rattle.instance_keeper.specs.declared.bridge.Bridge.{Bridge}
-use Rattle.instance_keeper.specs.declared.observation.Observation.{Observation}
+use Rattle.kept_rows.specs.declared.observation.Observation.{Observation}
 use Rattle.instance_keeper.specs.Book.{BookState}
-use Rattle.instance_keeper.specs.Bridges.{bridge_by, bridge_in}
+use Rattle.instance_keeper.specs.Bridges.{bridge_by}
 use Rattle.operations.specs.declared.op.Crossing.TheVariants as cross
 use Rattle.operations.specs.declared.op.Op.{Op}
 use Rattle.operations.specs.declared.op.Op.TheVariants as op
@@ -34,7 +34,7 @@ use Rattle.operations.specs.Deeds.{deed_of}
 use Rattle.operations.specs.Jobs.{Job, seen_of}
 use Rattle.operations.specs.Targets.{can_attach}
 use Rattle.operations.specs.Turns as attempt
-use Rattle.operations.specs.Turns.{Attempt, Turned, by_deed, crossed, crossing_of, restarts, turned}
+use Rattle.operations.specs.Turns.{bridge_at, Attempt, Turned, by_deed, crossed, crossing_of, restarts, turned}
 use Rattle.operations.proofs.Changing.{ChangesOf, StaysOf, turn-stays}
 use Rattle.operations.proofs.Left.{turn-left}
 use Rattle.recovery_plans.specs.declared.outcome.Follower.{Follower}
@@ -58,7 +58,7 @@ use Rattle.recovery_plans.specs.Named.{changed_by, IsOpOf, IsTaskOf, AreSourcesO
 use Rattle.recovery_plans.proofs.Choices.{All-chosen, All-better}
 
 -- a bridge that was seen of a server is of that server
-bridge-no : (n : ServerNo) (o : Option Status) (b : Bridge) → bridge_in n o ≡ Some b → n.0 ≡ b.no.0
+bridge-no : (n : ServerNo) (o : Option Position) (b : Bridge) → bridge_at n o ≡ Some b → n.0 ≡ b.no.0
 bridge-no n None b h = cc
 bridge-no n (Some s) b h = go s.own_end s.source h
   where
@@ -239,10 +239,10 @@ module _ (P Q : ℕ → Type 0) (id : ℕ) (pq : (n : ℕ) → P n → Q n) wher
   marks-of f t ns each all = All-map (IsTaskOf P Q f) t ns (All-weaker Mine (λ n. IsTaskOf P Q f (t n)) each ns all)
 
   module _ (w : World) (b : BookState) (now : Moment) where
-    choose-of : (r : Recovery) → IsOf P Q id r → IsOf P Q id (choose w b now r (chosen_of w b now r.drained))
-    choose-of r has = go (chosen_of w b now r.drained) refl
+    choose-of : (r : Recovery) → IsOf P Q id r → IsOf P Q id (choose w b now r (chosen_of w b now r.failed r.drained))
+    choose-of r has = go (chosen_of w b now r.failed r.drained) refl
       where
-        go : (o : Option Stopped) → chosen_of w b now r.drained ≡ o → IsOf P Q id (choose w b now r o)
+        go : (o : Option Stopped) → chosen_of w b now r.failed r.drained ≡ o → IsOf P Q id (choose w b now r o)
         go None e = record {
           number = has.number;
           ops = has.ops;
@@ -268,7 +268,7 @@ module _ (P Q : ℕ → Type 0) (id : ℕ) (pq : (n : ℕ) → P n → Q n) wher
           failed = has.failed;
           replicas = has.replicas;
           drained = All-nil (λ (d : Stopped). P d.no.0);
-          sources = one-chosen r.purpose r.failed p.no r.chosen has.sources (All-chosen w b now (λ (d : Stopped). P d.no.0) r.drained p has.drained e);
+          sources = one-chosen r.purpose r.failed p.no r.chosen has.sources (All-chosen w b now r.failed (λ (d : Stopped). P d.no.0) r.drained p has.drained e);
           lead = has.lead;
           followers = has.followers;
         }
@@ -301,12 +301,12 @@ module _ (P Q : ℕ → Type 0) (id : ℕ) (pq : (n : ℕ) → P n → Q n) wher
 
     swap-of : (r : Recovery) (o : Option ServerNo) → IfSome o Mine → IsOf P Q id r → IsOf P Q id (swap w b now r o)
     swap-of r None h has = has
-    swap-of r (Some p) h has = go (better_of w b now p (map (λ x. x.no) r.outcome.followers)) refl
+    swap-of r (Some p) h has = go (better_of w b now r.failed p (map (λ x. x.no) r.outcome.followers)) refl
       where
-        go : (o : Option ServerNo) → better_of w b now p (map (λ x. x.no) r.outcome.followers) ≡ o → IsOf P Q id (swap_by r p o)
+        go : (o : Option ServerNo) → better_of w b now r.failed p (map (λ x. x.no) r.outcome.followers) ≡ o → IsOf P Q id (swap_by r p o)
         go None e = has
         go (Some q) e =
-            let mine : Mine q = (All-better w b now Mine p (map (λ x. x.no) r.outcome.followers) q (All-map Mine (λ (x : Follower). x.no) r.outcome.followers has.followers) e).0 in
+            let mine : Mine q = (All-better w b now r.failed Mine p (map (λ x. x.no) r.outcome.followers) q (All-map Mine (λ (x : Follower). x.no) r.outcome.followers has.followers) e).0 in
             working-of r (stage.Level p q) (level p q) has (two p q h mine) (level-of p q h mine)
 
     crown-of : (r : Recovery) (o : Option ServerNo) → IfSome o Mine → IsOf P Q id r → IsOf P Q id (crown r o)
@@ -386,7 +386,7 @@ module _ (P Q : ℕ → Type 0) (id : ℕ) (pq : (n : ℕ) → P n → Q n) wher
   frees-of : (r : Recovery) (n : ServerNo) (why : Lost) → Mine n → IsOf P Q id r → IsOf P Q id (frees r n why)
   frees-of r n why h has = working-of (loses r n why) (stage.Release n) (op.Start n ∷ []) has (one n h) (each-of (op.Start n ∷ []) (does n h, tt))
 
-  judged-of : (r : Recovery) (n : ServerNo) (o : Option Status) → Mine n → IsOf P Q id r → IsOf P Q id (idle (judged r n o))
+  judged-of : (r : Recovery) (n : ServerNo) (o : Option Position) → Mine n → IsOf P Q id r → IsOf P Q id (idle (judged r n o))
   judged-of r n None h has = idle-of r has
   judged-of r n (Some s) h has = go (is_below s r.failed)
     where
@@ -424,11 +424,11 @@ module _ (P Q : ℕ → Type 0) (id : ℕ) (pq : (n : ℕ) → P n → Q n) wher
     replicas = has.replicas;
     drained = has.drained;
     sources = has.sources;
-    lead = go (bridge_in d (seen_of r.core.seen d.0)) refl;
+    lead = go (bridge_at d (seen_of r.core.seen d.0)) refl;
     followers = has.followers;
   }
     where
-      go : (o : Option Bridge) → bridge_in d (seen_of r.core.seen d.0) ≡ o → IfSome (lead_under r.failed o) (λ x. P x.no.0)
+      go : (o : Option Bridge) → bridge_at d (seen_of r.core.seen d.0) ≡ o → IfSome (lead_under r.failed o) (λ x. P x.no.0)
       go None e = tt
       go (Some x) e = at (x.source.0 == r.failed.0)
         where
@@ -436,7 +436,7 @@ module _ (P Q : ℕ → Type 0) (id : ℕ) (pq : (n : ℕ) → P n → Q n) wher
           at true = subst (λ (i : ℕ). P i) (bridge-no d (seen_of r.core.seen d.0) x e) h
           at false = tt
 
-  looked-of : (r : Recovery) (n : ServerNo) (b : Bridge) (o : Option Status) → Mine n → IsOf P Q id r → IsOf P Q id (looked r n b o)
+  looked-of : (r : Recovery) (n : ServerNo) (b : Bridge) (o : Option Position) → Mine n → IsOf P Q id r → IsOf P Q id (looked r n b o)
   looked-of r n b None h has = idle-of r has
   looked-of r n b (Some s) h has = go (is_below s r.failed)
     where
@@ -457,7 +457,7 @@ module _ (P Q : ℕ → Type 0) (id : ℕ) (pq : (n : ℕ) → P n → Q n) wher
       }
       go false = idle-of r has
 
-  halted-of : (r : Recovery) (n : ServerNo) (b : Bridge) (o : Option Status) → Mine n → IsOf P Q id r → IsOf P Q id (halted r n b o)
+  halted-of : (r : Recovery) (n : ServerNo) (b : Bridge) (o : Option Position) → Mine n → IsOf P Q id r → IsOf P Q id (halted r n b o)
   halted-of r n b None h has = frees-of r n lost.Unreachable h has
   halted-of r n b (Some s) h has = go (same_coord s.exec b.exec)
     where
@@ -546,7 +546,7 @@ module _ (P Q : ℕ → Type 0) (id : ℕ) (pq : (n : ℕ) → P n → Q n) wher
       go (Some x) e = at (can_attach w x)
         where
           at : (b : Bool) → All With (cond b (x ∷ []) [])
-          at true = All-cons With x [] (subst (λ (i : ℕ). P i) (sym (back-server d m (bridge_in d (seen_of seen d.0)) x e)) k) none
+          at true = All-cons With x [] (subst (λ (i : ℕ). P i) (sym (back-server d m (bridge_at d (seen_of seen d.0)) x e)) k) none
           at false = none
 
   way-back-mine : (w : World) (seen : List Sight) (m : ServerNo) (s : Stage) → Mine m → All Mine (changed_by s) → All With (way_back w seen m s)

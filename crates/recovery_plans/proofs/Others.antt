@@ -101,7 +101,7 @@ module _ (st : Settings) where
   abbrev cut_off : Taken × ℕ × World
   cut_off = taking (at_turn 15 (Befall 1 event.Fail ∷ [])) (server_no 1 ∷ server_no 2 ∷ [])
 
-  is-cut-off : cut_off.0.step ≡ step.Failed (cause.Unreachable (server_no 1))
+  is-cut-off : cut_off.0.step ≡ step.Failed (cause.Unreachable (server_no 1)) []
   is-cut-off = refl
 
   cut-off-back : cut_off.0.exchanges ≡ Request 0 (asking.SetReadOnly false) ∷ Request 1 asking.Start ∷ []
@@ -113,7 +113,7 @@ module _ (st : Settings) where
   rotated = taking (at_turn 16 (Rotate 0 ∷ [])) (server_no 1 ∷ server_no 2 ∷ [])
 
   is-rotated : rotated.0.step
-      ≡ step.Failed (cause.Interfered (server_no 0) (spot.OwnEnd (end 2)) (spot.OwnEnd (record { file = 2; pos = 4 })))
+      ≡ step.Failed (cause.Interfered (server_no 0) (spot.OwnEnd (end 2)) (spot.OwnEnd (record { file = 2; pos = 4 }))) []
   is-rotated = refl
 
   rotated-back : rotated.0.exchanges
@@ -125,5 +125,5 @@ module _ (st : Settings) where
 
   -- a master with a source has no place to give
   has-source : (rounds taking_book (each_turn []) 0 9 chain (begun_recovery (purpose.Takeover (server_no 3)) 1 5 (server_no 2) (server_no 3 ∷ []) [])).0.step
-      ≡ step.Failed (cause.Moved (server_no 2) (Attached (server_no 1)))
+      ≡ step.Failed (cause.Moved (server_no 2) (Attached (server_no 1))) []
   has-source = refl

@@ -1,8 +1,10 @@
 -- What is decided at the beginning of a turn, by the servers' settings, what was drained and the book of that turn.
-use Rattle.std.specs.Prelude.{Bool, true, false, ◌==◌, ◌&&◌, not, if◌then◌else◌, List, [], ◌∷◌, ◌++◌, map, filter, find, Option, Some, None, is_some, option_map, unwrap_or}
+use Rattle.std.specs.Prelude.{ℕ, nat_eq, Bool, true, false, ◌==◌, ◌&&◌, not, if◌then◌else◌, List, [], ◌∷◌, ◌++◌, map, filter, find, Option, Some, None, is_some, option_map, unwrap_or}
+use Rattle.std.specs.Cmp.Lexicographic.{pointwise}
 use Rattle.binlog_coords.specs.declared.Coord.{Coord}
 use Rattle.orch_base.specs.declared.server.Moment.{Moment}
 use Rattle.orch_base.specs.declared.server.ServerNo.{ServerNo}
+use Rattle.server_model.specs.declared.server.Server.{Server}
 use Rattle.server_model.specs.Worlds.{World, server_at}
 use Rattle.commands.specs.declared.line.Lost.{Lost}
 use Rattle.commands.specs.declared.line.Lost.TheVariants as lost
@@ -16,7 +18,7 @@ use Rattle.operations.specs.declared.sight.Sight.{Sight}
 use Rattle.operations.specs.Jobs.{seen_of}
 use Rattle.operations.specs.Targets.{logs_by}
 use Rattle.promotion_rules.specs.declared.drained.Drained.{Drained}
-use Rattle.promotion_rules.specs.Choice.{better, is_eligible, most_advanced}
+use Rattle.promotion_rules.specs.Choice.{better, is_barred, most_advanced}
 use Rattle.replica_groups.specs.declared.groups.Group.{Group}
 use Rattle.replica_groups.specs.declared.groups.Group.TheVariants as group
 use Rattle.replica_groups.specs.Groups.{group_of}
@@ -38,26 +40,49 @@ use Rattle.recovery_plans.specs.Telling.{told}
 abbrev pub logs_at : World → ServerNo → Bool
 logs_at w n = logs_by (server_at w n.0)
 
--- a drained replica as the choice looks at it, with its rule at this moment
-abbrev pub drained_of : World → BookState → Moment → Stopped → Drained
-drained_of w b now s = record { no = s.no; exec = s.exec; own_end = s.own_end; rule = rule_at b s.no now; logs = logs_at w s.no }
+abbrev pub center_in : Option Server → List ℕ
+center_in None = []
+center_in (Some s) = s.settings.dc
+
+-- two servers stand in one data centre
+abbrev pub is_near : World → ServerNo → ServerNo → Bool
+is_near w one other = pointwise nat_eq (center_in (server_at w one.0)) (center_in (server_at w other.0))
+
+-- a drained replica of a failed server as the choice looks at it, with its rule at this moment
+abbrev pub drained_of : World → BookState → Moment → ServerNo → Stopped → Drained
+drained_of w b now f s = record {
+  no = s.no;
+  exec = s.exec;
+  own_end = s.own_end;
+  rule = rule_at b s.no now;
+  logs = logs_at w s.no;
+  near = is_near w f s.no;
+}
 
 -- a server that may take the promoted one's place; at its coordinates nobody looks
-abbrev pub follower_of : World → BookState → Moment → ServerNo → Drained
-follower_of w b now n = record { no = n; exec = record { file = 1; pos = 4 }; own_end = None; rule = rule_at b n now; logs = logs_at w n }
+abbrev pub follower_of : World → BookState → Moment → ServerNo → ServerNo → Drained
+follower_of w b now f n = record {
+  no = n;
+  exec = record { file = 1; pos = 4 };
+  own_end = None;
+  rule = rule_at b n now;
+  logs = logs_at w n;
+  near = is_near w f n;
+}
 
 abbrev pub stopped_in : List Stopped → Option ServerNo → Option Stopped
 stopped_in xs None = None
 stopped_in xs (Some n) = find (λ s. s.no.0 == n.0) xs
 
+-- it logs, and its rule doesn't bar it, wherever it stands
 abbrev pub may_lead : World → BookState → Moment → Stopped → Bool
-may_lead w b now s = is_eligible (drained_of w b now s)
+may_lead w b now s = logs_at w s.no && not (is_barred (rule_at b s.no now))
 
-abbrev pub chosen_of : World → BookState → Moment → List Stopped → Option Stopped
-chosen_of w b now xs = stopped_in xs (most_advanced b.names (map (drained_of w b now) xs))
+abbrev pub chosen_of : World → BookState → Moment → ServerNo → List Stopped → Option Stopped
+chosen_of w b now f xs = stopped_in xs (most_advanced b.names (map (drained_of w b now f) xs))
 
-abbrev pub better_of : World → BookState → Moment → ServerNo → List ServerNo → Option ServerNo
-better_of w b now p qs = better b.names (rule_at b p now) (map (follower_of w b now) qs)
+abbrev pub better_of : World → BookState → Moment → ServerNo → ServerNo → List ServerNo → Option ServerNo
+better_of w b now f p qs = better b.names (follower_of w b now f p) (map (follower_of w b now f) qs)
 
 -- ---- where the others go
 
@@ -157,11 +182,12 @@ hand_over w b r (Some s) = hand w b s r r.drained
 abbrev pub why_of : List LostReplica → ServerNo → Option Lost
 why_of xs n = option_map (λ l. l.why) (find (λ l. l.no.0 == n.0) xs)
 
--- a lost one that executed what the new source didn't, or less, is detached
+-- a lost one that executed what the new source didn't, or less, or whose place the new source has purged
 abbrev pub is_apart : Option Lost → Bool
 is_apart None = false
 is_apart (Some (lost.Ahead c)) = true
 is_apart (Some (lost.Behind c)) = true
+is_apart (Some (lost.Purged c)) = true
 is_apart (Some lost.Unreachable) = false
 is_apart (Some (lost.Moved s)) = false
 is_apart (Some lost.NotLogging) = false
@@ -172,6 +198,7 @@ abbrev pub is_elsewhere : Option Lost → Bool
 is_elsewhere None = false
 is_elsewhere (Some (lost.Ahead c)) = false
 is_elsewhere (Some (lost.Behind c)) = false
+is_elsewhere (Some (lost.Purged c)) = false
 is_elsewhere (Some lost.Unreachable) = false
 is_elsewhere (Some (lost.Moved s)) = true
 is_elsewhere (Some lost.NotLogging) = false
@@ -182,6 +209,7 @@ abbrev pub is_reached : Option Lost → Bool
 is_reached None = false
 is_reached (Some (lost.Ahead c)) = true
 is_reached (Some (lost.Behind c)) = true
+is_reached (Some (lost.Purged c)) = true
 is_reached (Some lost.Unreachable) = false
 is_reached (Some (lost.Moved s)) = true
 is_reached (Some lost.NotLogging) = true
@@ -217,7 +245,7 @@ swap_by r p (Some q) = working r (stage.Level p q) (level p q)
 
 abbrev pub swap : World → BookState → Moment → Recovery → Option ServerNo → Recovery
 swap w b now r None = r
-swap w b now r (Some p) = swap_by r p (better_of w b now p (map (λ x. x.no) r.outcome.followers))
+swap w b now r (Some p) = swap_by r p (better_of w b now r.failed p (map (λ x. x.no) r.outcome.followers))
 
 abbrev pub crown : Recovery → Option ServerNo → Recovery
 crown r None = r
@@ -255,7 +283,7 @@ yield r (Some b) =
 abbrev pub by_task : World → BookState → Moment → Recovery → Task → Recovery
 by_task w b now r (task.Reading n) = working r (stage.Read n) (op.Status n None ∷ [])
 by_task w b now r (task.Draining n) = working r (stage.Drain n) (drain n)
-by_task w b now r task.Choosing = choose w b now r (chosen_of w b now r.drained)
+by_task w b now r task.Choosing = choose w b now r (chosen_of w b now r.failed r.drained)
 by_task w b now r task.Handing = hand_over w b r r.chosen
 by_task w b now r (task.Moving n by) = moving r n by
 by_task w b now r task.Sorting = sort r

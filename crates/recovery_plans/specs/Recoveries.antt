@@ -1,12 +1,11 @@
 -- Recoveries under way.
-use Rattle.std.specs.Prelude.{Bool, true, false, ◌==◌, not, List, [], ◌∷◌, ◌++◌, filter, Option, Some, None}
-use Rattle.orch_base.specs.declared.server.IoState.TheVariants as io
+use Rattle.std.specs.Prelude.{Bool, false, ◌==◌, not, List, [], ◌∷◌, ◌++◌, filter, Option, Some, None}
 use Rattle.orch_base.specs.declared.server.ServerNo.{ServerNo}
 use Rattle.orch_base.specs.declared.server.SourceState.TheVariants.{Attached}
-use Rattle.server_words.specs.declared.status.Status.{Status}
 use Rattle.commands.specs.declared.line.Lost.{Lost}
 use Rattle.instance_keeper.specs.declared.bridge.Bridge.{Bridge}
 use Rattle.operations.specs.declared.op.Op.{Op}
+use Rattle.operations.specs.declared.sight.Position.{Position}
 use Rattle.operations.specs.Jobs.{Job}
 use Rattle.recovery_plans.specs.declared.outcome.Follower.{Follower}
 use Rattle.recovery_plans.specs.declared.outcome.LostReplica.{LostReplica}
@@ -41,19 +40,9 @@ pub record Recovery : Type 0 where
   pub swaps : Bool
   pub outcome : Outcome
 
--- what a status showed from which a bridge was taken
-abbrev pub sight_of : Bridge → Status
-sight_of b = record {
-  own_end = Some b.own;
-  source = Attached b.source;
-  exec = b.exec;
-  read = b.exec;
-  auto = false;
-  io = io.No;
-  sql = false;
-  read_only = true;
-  set = [];
-}
+-- where a bridge's server stood when the bridge was taken
+abbrev pub sight_of : Bridge → Position
+sight_of b = record { own_end = Some b.own; source = Attached b.source; exec = b.exec; set = [] }
 
 -- a stage begins, with its operations
 abbrev pub working : Recovery → Stage → List Op → Recovery

@@ -10,7 +10,6 @@ use Rattle.orch_base.specs.declared.server.SourceState.TheVariants.{Without, Att
 use Rattle.server_words.specs.declared.attach.Spot.{Spot}
 use Rattle.server_words.specs.declared.attach.Spot.TheVariants as spot
 use Rattle.server_words.specs.declared.changes.Ask.TheVariants as asking
-use Rattle.server_words.specs.declared.status.Status.{Status}
 use Rattle.server_model.specs.declared.server.Server.{Server}
 use Rattle.server_model.specs.Attach.{spot_below}
 use Rattle.server_model.specs.Run.{Exchange, Request}
@@ -20,12 +19,12 @@ use Rattle.commands.specs.declared.cause.Cause.TheVariants as cause
 use Rattle.commands.specs.declared.line.Lost.{Lost}
 use Rattle.commands.specs.declared.line.Lost.TheVariants as lost
 use Rattle.instance_keeper.specs.declared.bridge.Bridge.{Bridge}
-use Rattle.instance_keeper.specs.declared.observation.Observation.{Observation}
+use Rattle.kept_rows.specs.declared.observation.Observation.{Observation}
 use Rattle.instance_keeper.specs.Book.{BookState}
-use Rattle.instance_keeper.specs.Bridges.{bridge_in}
 use Rattle.operations.specs.declared.op.Crossing.TheVariants as cross
 use Rattle.operations.specs.declared.op.Op.{Op}
 use Rattle.operations.specs.declared.op.Op.TheVariants as op
+use Rattle.operations.specs.declared.sight.Position.{Position}
 use Rattle.operations.specs.declared.sight.Sight.{Sight}
 use Rattle.operations.specs.declared.step.JobStep.{JobStep}
 use Rattle.operations.specs.declared.step.JobStep.TheVariants as step
@@ -33,7 +32,7 @@ use Rattle.operations.specs.Deeds.{deed_of}
 use Rattle.operations.specs.Jobs.{Job, seen_of}
 use Rattle.operations.specs.Targets.{can_attach}
 use Rattle.operations.specs.Turns as attempt
-use Rattle.operations.specs.Turns.{Attempt, by_deed, crossing_of, ended, restarts}
+use Rattle.operations.specs.Turns.{Attempt, bridge_at, by_deed, crossing_of, ended, restarts}
 use Rattle.recovery_plans.specs.declared.outcome.LostReplica.{LostReplica}
 use Rattle.recovery_plans.specs.declared.purpose.Purpose.{Purpose}
 use Rattle.recovery_plans.specs.declared.purpose.Purpose.TheVariants as purpose
@@ -74,13 +73,13 @@ abbrev pub is_source : Option ℕ → ServerNo → Bool
 is_source None f = false
 is_source (Some m) f = m == f.0
 
-abbrev pub is_below : Status → ServerNo → Bool
+abbrev pub is_below : Position → ServerNo → Bool
 is_below s f = is_source (source_no s.source) f
 
 -- ---- a stage that is done
 
 -- a replica that was stopped is drained where its source is the failed server; else it is lost
-abbrev pub judged : Recovery → ServerNo → Option Status → Recovery
+abbrev pub judged : Recovery → ServerNo → Option Position → Recovery
 judged r n None = loses r n lost.Unreachable
 judged r n (Some s) =
     if is_below s r.failed then record r { drained = r.drained ++ record { no = n; exec = s.exec; own_end = s.own_end } ∷ [] }
@@ -103,7 +102,7 @@ lead_under m None = None
 lead_under m (Some b) = if b.source.0 == m.0 then Some b else None
 
 abbrev pub gathered : Recovery → ServerNo → Recovery
-gathered r d = record r { lead = lead_under r.failed (bridge_in d (seen_of r.core.seen d.0)) }
+gathered r d = record r { lead = lead_under r.failed (bridge_at d (seen_of r.core.seen d.0)) }
 
 abbrev pub idle : Recovery → Recovery
 idle r = record r { stage = stage.Idle }
@@ -113,14 +112,14 @@ abbrev pub frees : Recovery → ServerNo → Lost → Recovery
 frees r n why = working (loses r n why) (stage.Release n) (op.Start n ∷ [])
 
 -- a replica of the master goes to where the designated one stopped; one that stands elsewhere is lost
-abbrev pub looked : Recovery → ServerNo → Bridge → Option Status → Recovery
+abbrev pub looked : Recovery → ServerNo → Bridge → Option Position → Recovery
 looked r n b None = idle (loses r n lost.Unreachable)
 looked r n b (Some s) =
     if is_below s r.failed then working (record r { core = record r.core { seen = with_bridge r.core.seen b } }) (stage.Trail n b) (trail n b.no)
     else idle (loses r n (lost.Moved (spot_seen s.source s.exec)))
 
 -- one that stands there goes below the designated one; another is behind
-abbrev pub halted : Recovery → ServerNo → Bridge → Option Status → Recovery
+abbrev pub halted : Recovery → ServerNo → Bridge → Option Position → Recovery
 halted r n b None = frees r n lost.Unreachable
 halted r n b (Some s) = if same_coord s.exec b.exec then moving r n (way.Down b) else frees r n (lost.Behind s.exec)
 
@@ -200,6 +199,10 @@ fate_of_drain n (cause.Errant m set) = Fails
 fate_of_drain n (cause.Moved m source) = Fails
 fate_of_drain n (cause.Reachable m) = Fails
 fate_of_drain n cause.NoCandidate = Fails
+fate_of_drain n (cause.Purged m first) = Fails
+fate_of_drain n (cause.NoMark m) = Fails
+fate_of_drain n (cause.Mismatch m entry) = Fails
+fate_of_drain n (cause.HookFailed number exit) = Fails
 
 -- a replica that comes to where another stopped: one that takes too long is behind, where it stands
 abbrev pub fate_of_trail : World → ServerNo → Cause → Fate
@@ -212,6 +215,10 @@ fate_of_trail w n (cause.Errant m set) = Fails
 fate_of_trail w n (cause.Moved m source) = Fails
 fate_of_trail w n (cause.Reachable m) = Fails
 fate_of_trail w n cause.NoCandidate = Fails
+fate_of_trail w n (cause.Purged m first) = Fails
+fate_of_trail w n (cause.NoMark m) = Fails
+fate_of_trail w n (cause.Mismatch m entry) = Fails
+fate_of_trail w n (cause.HookFailed number exit) = Fails
 
 -- a replica that is lost on its way is started at once in a takeover, and is looked after later else
 abbrev pub lost_on_way : Purpose → ServerNo → Lost → Fate
@@ -236,6 +243,10 @@ fate_of_move w u n by (cause.Loop m) = Fails
 fate_of_move w u n by (cause.Moved m source) = Fails
 fate_of_move w u n by (cause.Reachable m) = Fails
 fate_of_move w u n by cause.NoCandidate = Fails
+fate_of_move w u n by (cause.Purged m first) = Fails
+fate_of_move w u n by (cause.NoMark m) = Fails
+fate_of_move w u n by (cause.Mismatch m entry) = Fails
+fate_of_move w u n by (cause.HookFailed number exit) = Fails
 
 abbrev pub fate : World → Purpose → Stage → Cause → Fate
 fate w u (stage.Drain n) c = fate_of_drain n c
@@ -325,7 +336,7 @@ abbrev pub last_exchanges : World → Recovery → List Exchange
 last_exchanges w r = undone w r.purpose r.core.seen r.failed r.stage ++ restarts r.core.hands
 
 abbrev pub fails : World → Recovery → Cause → Option Observation → Taken
-fails w r c o = record { step = step.Failed c; observation = o; exchanges = last_exchanges w r; recovery = record r { core = ended r.core } }
+fails w r c o = record { step = step.Failed c []; observation = o; exchanges = last_exchanges w r; recovery = record r { core = ended r.core } }
 
 abbrev pub goes_on : Option Observation → List Exchange → Recovery → Taken
 goes_on o es r = record { step = step.Going; observation = o; exchanges = es; recovery = r }
@@ -343,7 +354,7 @@ abbrev pub is_waiting : Job → Bool
 is_waiting j = not (j.waited == 0)
 
 -- a master that is to give up its place has no source
-abbrev pub source_cause : ServerNo → Option Status → Option Cause
+abbrev pub source_cause : ServerNo → Option Position → Option Cause
 source_cause m None = None
 source_cause m (Some s) = if has_source s.source then Some (cause.Moved m s.source) else None
 

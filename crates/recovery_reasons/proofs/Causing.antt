@@ -1,5 +1,5 @@
 -- The cause of an operation that stops its job is true in the world in which it stopped it.
-use Rattle.std.proofs.Common.{◌≡◌, ℕ, ◌+◌, Bool, true, false, cond, not, List, [], ◌∷◌, length, refl, sym, ◌∙◌, ap, subst, Option, Some, None, Ok, Err, Result, ◌&&◌, ◌||◌}
+use Rattle.std.proofs.Common.{◌≡◌, ℕ, ◌+◌, Bool, true, false, cond, not, List, [], ◌∷◌, length, refl, sym, ◌∙◌, ap, subst, Option, Some, None, Ok, Err, Result, ◌&&◌, ◌||◌, inl, inr}
 use Rattle.std.specs.Prelude.{nat_lt}
 use Rattle.std.proofs.lemmas.Option.{same_Some}
 use Rattle.binlog_coords.specs.declared.Coord.{Coord}
@@ -18,26 +18,26 @@ use Rattle.server_words.specs.declared.changes.Ask.TheVariants as asking
 use Rattle.server_words.specs.declared.status.Status.{Status}
 use Rattle.server_words.specs.declared.status.StatusFault.TheVariants as seeing
 use Rattle.server_model.specs.declared.server.Server.{Server}
-use Rattle.server_model.specs.Attach.{spot_below, live_spot, same_spot, chain_meets, attach_answer}
+use Rattle.server_model.specs.Attach.{spot_below, live_spot, same_spot, chain_meets, attach_answer, first_kept, purged_answer}
 use Rattle.server_model.specs.Desk.{desk_answer}
-use Rattle.server_model.specs.Gtids.{shown_of, status, status_in, attach_auto_answer, uuids, errant_set, errant_answer, answer_by_sets}
+use Rattle.server_model.specs.Gtids.{shown_of, status, status_in, attach_auto_answer, auto_purged, uuids, errant_set, errant_answer, answer_by_sets, held_of, purged_len}
 use Rattle.server_model.specs.Run.{Exchange, Attach, AttachAuto}
 use Rattle.server_model.specs.Worlds.{World, server_at, sources}
 use Rattle.commands.specs.declared.cause.Cause.{Cause}
 use Rattle.commands.specs.declared.cause.Cause.TheVariants as cause
 use Rattle.instance_keeper.specs.declared.bridge.Bridge.{Bridge}
-use Rattle.instance_keeper.specs.declared.observation.Observation.{Observation}
-use Rattle.instance_keeper.specs.Seeing.{seen_in}
+use Rattle.kept_rows.specs.declared.observation.Observation.{Observation}
+use Rattle.kept_rows.specs.Seeing.{seen_in}
 use Rattle.operations.specs.declared.op.Crossing.{Crossing}
 use Rattle.operations.specs.declared.op.Crossing.TheVariants as cross
 use Rattle.operations.specs.declared.op.Op.{Op}
+use Rattle.operations.specs.declared.sight.Position.{Position}
 use Rattle.operations.specs.Deeds as deed
 use Rattle.operations.specs.Deeds.{Deed}
 use Rattle.operations.specs.Jobs.{Job, seen_of}
-use Rattle.instance_keeper.specs.Bridges.{bridge_in}
 use Rattle.operations.specs.Targets.{can_attach}
 use Rattle.operations.specs.Turns as attempt
-use Rattle.operations.specs.Turns.{Attempt, next, saw, observed, is_moved, after_status, after_look, after_ask, aim_of, is_reached, until_by, after_until, after_wait_by, after_wait, holds_seen, settles, by_deed, read_by, crossed, attached_anew, same_again, by_set, attach_answer_of, cause_by, after_answer, after_attach}
+use Rattle.operations.specs.Turns.{bridge_at, Attempt, next, saw, observed, is_moved, after_status, after_look, after_ask, aim_of, is_reached, until_by, after_until, after_wait_by, after_wait, holds_seen, settles, by_deed, read_by, crossed, attached_anew, same_again, by_set, attach_answer_of, cause_by, after_answer, after_attach}
 use Rattle.recovery_plans.specs.Named.{spoken_to}
 use Rattle.recovery_reasons.specs.Causes.{IsUnreached, IsTrueOf}
 
@@ -101,38 +101,61 @@ module _ (w : World) (j : Job) (rest : List Op) (n : ServerNo) where
       fault-of (Ok t) = attaching.Unreachable
       fault-of (Err y) = y
 
-  answer-true : (expect : Spot) (to : ℕ) (o : Option Server) → server_at w n.0 ≡ o → (f : AttachFault) → attach_answer w n.0 expect to o ≡ Err f → IsTrueOf w n (cause_by n f)
-  answer-true expect to None at f e = by-fault attaching.Unreachable f (refl, ap desk_answer at) e
-  answer-true expect to (Some s) at f e =
-      go (s.up && s.desk) refl (s.receiver || s.applier) refl (same_spot expect (live_spot s expect)) refl (chain_meets (sources w) (length w.servers) to n.0) e
+  answer-true : (expect : Spot) (to : ServerNo) (c : Coord) (o : Option Server) → server_at w n.0 ≡ o → (f : AttachFault) → attach_answer w n.0 expect to.0 c o ≡ Err f
+      → IsTrueOf w n (cause_by n f)
+  answer-true expect to c None at f e = by-fault attaching.Unreachable f (refl, ap desk_answer at) e
+  answer-true expect to c (Some s) at f e =
+      go (s.up && s.desk) refl (s.receiver || s.applier) refl (same_spot expect (live_spot s expect)) refl (chain_meets (sources w) (length w.servers) to.0 n.0) (nat_lt c.file first) e
     where
-      go : (a : Bool) → (s.up && s.desk) ≡ a → (b : Bool) → (s.receiver || s.applier) ≡ b → (c : Bool) → same_spot expect (live_spot s expect) ≡ c → (d : Bool)
-          → cond (not a) (Err attaching.Unreachable) (cond b (Err (attaching.Running (spot_below s s.source))) (cond (not c) (Err (attaching.Interfered expect (live_spot s expect))) (cond d (Err attaching.Loop) accepted))) ≡ refused f
+      first : ℕ
+      first = first_kept (server_at w to.0)
+
+      purged : attach_answer w n.0 expect to.0 c (Some s) ≡ Err (attaching.Purged first) → IsTrueOf w n (cause.Purged n first)
+      purged h = (refl, inl (expect, to, c, ap (attach_answer w n.0 expect to.0 c) at ∙ h))
+
+      go : (a : Bool) → (s.up && s.desk) ≡ a → (b : Bool) → (s.receiver || s.applier) ≡ b → (x : Bool) → same_spot expect (live_spot s expect) ≡ x → (d p : Bool)
+          → cond (not a) (Err attaching.Unreachable) (cond b (Err (attaching.Running (spot_below s s.source))) (cond (not x) (Err (attaching.Interfered expect (live_spot s expect))) (cond d (Err attaching.Loop) (purged_answer p first)))) ≡ refused f
           → IsTrueOf w n (cause_by n f)
-      go false p b q c x d e = by-fault attaching.Unreachable f (refl, ap desk_answer at ∙ ap (λ y. cond y (Ok tt) (Err (record {}))) p) e
-      go true p true q c x d e = by-fault (attaching.Running (spot_below s s.source)) f (refl, record { server = s; there = at; running = q }) e
-      go true p false q false x d e = by-fault (attaching.Interfered expect (live_spot s expect)) f (refl, (s, at, refl, x)) e
-      go true p false q true x true e = by-fault attaching.Loop f refl e
-      go true p false q true x false e = cc
+      go false p b q x y d k e = by-fault attaching.Unreachable f (refl, ap desk_answer at ∙ ap (λ y. cond y (Ok tt) (Err (record {}))) p) e
+      go true p true q x y d k e = by-fault (attaching.Running (spot_below s s.source)) f (refl, record { server = s; there = at; running = q }) e
+      go true p false q false y d k e = by-fault (attaching.Interfered expect (live_spot s expect)) f (refl, (s, at, refl, y)) e
+      go true p false q true y true k e = by-fault attaching.Loop f refl e
+      go true p false q true y false true g = by-fault (attaching.Purged first) f (purged (e ∙ sym g)) g
+      go true p false q true y false false e = cc
 
   auto-true : (observed : List Interval) (to : ServerNo) (o : Option Server) → server_at w n.0 ≡ o → (f : AttachFault) → attach_auto_answer w n.0 observed to.0 o ≡ Err f → IsTrueOf w n (cause_by n f)
   auto-true observed to None at f e = by-fault attaching.Unreachable f (refl, ap desk_answer at) e
-  auto-true observed to (Some s) at f e = go (s.up && s.desk) refl (s.receiver || s.applier) refl (chain_meets (sources w) (length w.servers) to.0 n.0) (errant_set (uuids w) observed s.history.txns) refl e
+  auto-true observed to (Some s) at f e =
+      go (s.up && s.desk) refl (s.receiver || s.applier) refl (chain_meets (sources w) (length w.servers) to.0 n.0) (errant_set (uuids w) observed s.history.txns) e
     where
+      later : Result (Unit {0}) AttachFault
+      later = auto_purged (uuids w) s (server_at w to.0)
+
       whole : (set : List Interval) → attach_auto_answer w n.0 observed to.0 (Some s) ≡ Err (attaching.Errant set) → IsTrueOf w n (cause.Errant n set)
       whole set h = (refl, (observed, to, ap (attach_auto_answer w n.0 observed to.0) at ∙ h))
 
-      errant : (xs : List Interval) → errant_answer xs ≡ Err f → attach_auto_answer w n.0 observed to.0 (Some s) ≡ Err f → IsTrueOf w n (cause_by n f)
-      errant [] e h = cc
-      errant (x ∷ xs) e h = by-fault (attaching.Errant (x ∷ xs)) f (whole (x ∷ xs) (h ∙ sym e)) e
+      purged : (first : ℕ) → attach_auto_answer w n.0 observed to.0 (Some s) ≡ Err (attaching.Purged first) → IsTrueOf w n (cause.Purged n first)
+      purged first h = (refl, inr (observed, to, ap (attach_auto_answer w n.0 observed to.0) at ∙ h))
 
-      go : (a : Bool) → (s.up && s.desk) ≡ a → (b : Bool) → (s.receiver || s.applier) ≡ b → (d : Bool) → (xs : List Interval) → errant_set (uuids w) observed s.history.txns ≡ xs
-          → answer_by_sets (cond (not a) (Err attaching.Unreachable) (cond b (Err (attaching.Running (spot_below s s.source))) (cond d (Err attaching.Loop) accepted))) xs ≡ refused f
+      by-purge : (p : Bool) (first : ℕ) → purged_answer p first ≡ refused f → IsTrueOf w n (cause_by n f)
+      by-purge true first g = by-fault (attaching.Purged first) f (purged first (e ∙ sym g)) g
+      by-purge false first g = cc
+
+      kept : (t : Option Server) → auto_purged (uuids w) s t ≡ refused f → IsTrueOf w n (cause_by n f)
+      kept None g = cc
+      kept (Some t) g = by-purge (nat_lt (held_of (uuids w) s t) (purged_len t)) t.first g
+
+      errant : (xs : List Interval) → errant_answer xs later ≡ refused f → IsTrueOf w n (cause_by n f)
+      errant [] g = kept (server_at w to.0) g
+      errant (x ∷ xs) g = by-fault (attaching.Errant (x ∷ xs)) f (whole (x ∷ xs) (e ∙ sym g)) g
+
+      go : (a : Bool) → (s.up && s.desk) ≡ a → (b : Bool) → (s.receiver || s.applier) ≡ b → (d : Bool) → (xs : List Interval)
+          → answer_by_sets (cond (not a) (Err attaching.Unreachable) (cond b (Err (attaching.Running (spot_below s s.source))) (cond d (Err attaching.Loop) accepted))) xs later ≡ refused f
           → IsTrueOf w n (cause_by n f)
-      go false p b q d xs x g = by-fault attaching.Unreachable f (refl, ap desk_answer at ∙ ap (λ y. cond y (Ok tt) (Err (record {}))) p) g
-      go true p true q d xs x g = by-fault (attaching.Running (spot_below s s.source)) f (refl, record { server = s; there = at; running = q }) g
-      go true p false q true xs x g = by-fault attaching.Loop f refl g
-      go true p false q false xs x g = errant xs g e
+      go false p b q d xs g = by-fault attaching.Unreachable f (refl, ap desk_answer at ∙ ap (λ y. cond y (Ok tt) (Err (record {}))) p) g
+      go true p true q d xs g = by-fault (attaching.Running (spot_below s s.source)) f (refl, record { server = s; there = at; running = q }) g
+      go true p false q true xs g = by-fault attaching.Loop f refl g
+      go true p false q false xs g = errant xs g
 
   attach-true : (e : Exchange) → ((f : AttachFault) → attach_answer_of w e ≡ Err f → IsTrueOf w n (cause_by n f)) → StopsTruly w n (after_attach w j rest n (Some e))
   attach-true e h = by (can_attach w e)
@@ -147,21 +170,21 @@ module _ (w : World) (j : Job) (rest : List Op) (n : ServerNo) where
 
   crossed-true : (x : Crossing) (o : Option Bridge) → StopsTruly w n (after_attach w j rest n (crossed x n o))
   crossed-true x None = tt
-  crossed-true cross.Up (Some b) = attach-true (Attach n.0 (spot.At b.no b.own) b.source b.exec) (answer-true (spot.At b.no b.own) b.source.0 (server_at w n.0) refl)
-  crossed-true cross.Down (Some b) = attach-true (Attach n.0 (spot.At b.source b.exec) b.no b.own) (answer-true (spot.At b.source b.exec) b.no.0 (server_at w n.0) refl)
-  crossed-true cross.About (Some b) = attach-true (Attach n.0 (spot.OwnEnd b.exec) b.no b.own) (answer-true (spot.OwnEnd b.exec) b.no.0 (server_at w n.0) refl)
-  crossed-true cross.Back (Some b) = attach-true (Attach n.0 (spot.OwnEnd b.own) b.source b.exec) (answer-true (spot.OwnEnd b.own) b.source.0 (server_at w n.0) refl)
+  crossed-true cross.Up (Some b) = attach-true (Attach n.0 (spot.At b.no b.own) b.source b.exec) (answer-true (spot.At b.no b.own) b.source b.exec (server_at w n.0) refl)
+  crossed-true cross.Down (Some b) = attach-true (Attach n.0 (spot.At b.source b.exec) b.no b.own) (answer-true (spot.At b.source b.exec) b.no b.own (server_at w n.0) refl)
+  crossed-true cross.About (Some b) = attach-true (Attach n.0 (spot.OwnEnd b.exec) b.no b.own) (answer-true (spot.OwnEnd b.exec) b.no b.own (server_at w n.0) refl)
+  crossed-true cross.Back (Some b) = attach-true (Attach n.0 (spot.OwnEnd b.own) b.source b.exec) (answer-true (spot.OwnEnd b.own) b.source b.exec (server_at w n.0) refl)
 
   anew-true : (at : Coord) (x : SourceState) → StopsTruly w n (after_attach w j rest n (attached_anew n at x))
   anew-true at Without = tt
-  anew-true at (Attached m) = attach-true (Attach n.0 (spot.At m at) m at) (answer-true (spot.At m at) m.0 (server_at w n.0) refl)
-  anew-true at (Detached m) = attach-true (Attach n.0 (spot.At m at) m at) (answer-true (spot.At m at) m.0 (server_at w n.0) refl)
+  anew-true at (Attached m) = attach-true (Attach n.0 (spot.At m at) m at) (answer-true (spot.At m at) m at (server_at w n.0) refl)
+  anew-true at (Detached m) = attach-true (Attach n.0 (spot.At m at) m at) (answer-true (spot.At m at) m at (server_at w n.0) refl)
 
-  same-true : (o : Option Status) → StopsTruly w n (after_attach w j rest n (same_again n o))
+  same-true : (o : Option Position) → StopsTruly w n (after_attach w j rest n (same_again n o))
   same-true None = tt
   same-true (Some s) = anew-true s.exec s.source
 
-  set-true : (m : ServerNo) (o : Option Status) → StopsTruly w n (after_attach w j rest n (by_set n m o))
+  set-true : (m : ServerNo) (o : Option Position) → StopsTruly w n (after_attach w j rest n (by_set n m o))
   set-true m None = tt
   set-true m (Some s) = attach-true (AttachAuto n.0 s.set m) (auto-true s.set m (server_at w n.0) refl)
 
@@ -179,7 +202,7 @@ module _ (w : World) (j : Job) (rest : List Op) (n : ServerNo) where
       go (deed.Await m to) e = for-it m (λ k. by_deed w read now j rest (deed.Await k to)) e (wait-true (λ s. is_reached (aim_of j.seen to) s.exec) (seen_in (status w n.0)) refl)
       go (deed.AwaitSet m k) e = for-it m (λ i. by_deed w read now j rest (deed.AwaitSet i k)) e (wait-true (holds_seen (seen_of j.seen k.0)) (seen_in (status w n.0)) refl)
       go (deed.Settle m) e = for-it m (λ k. by_deed w read now j rest (deed.Settle k)) e (wait-true (settles j) (seen_in (status w n.0)) refl)
-      go (deed.Cross x a b) e = for-it a (λ k. by_deed w read now j rest (deed.Cross x k b)) e (crossed-true x (bridge_in (read_by x n b) (seen_of j.seen (read_by x n b).0)))
+      go (deed.Cross x a b) e = for-it a (λ k. by_deed w read now j rest (deed.Cross x k b)) e (crossed-true x (bridge_at (read_by x n b) (seen_of j.seen (read_by x n b).0)))
       go (deed.Same m) e = for-it m (λ k. by_deed w read now j rest (deed.Same k)) e (same-true (seen_of j.seen n.0))
       go (deed.Auto m k) e = for-it m (λ i. by_deed w read now j rest (deed.Auto i k)) e (set-true k (seen_of j.seen k.0))
       go (deed.Finish lines) e = tt

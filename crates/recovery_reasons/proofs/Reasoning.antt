@@ -1,4 +1,5 @@
 -- Each entry of the lost was there before, or has its reason in this turn.
+use Rattle.operations.specs.declared.sight.Position.{Position}
 use Rattle.recovery_plans.specs.Named.{spoken_to}
 use Rattle.server_model.specs.Desk.{desk_answer}
 use Rattle.server_model.specs.declared.server.Server.{Server}
@@ -32,15 +33,15 @@ use Rattle.commands.specs.declared.cause.Cause.TheVariants as cause
 use Rattle.commands.specs.declared.line.Lost.{Lost}
 use Rattle.commands.specs.declared.line.Lost.TheVariants as lost
 use Rattle.instance_keeper.specs.declared.bridge.Bridge.{Bridge}
-use Rattle.instance_keeper.specs.declared.observation.Observation.{Observation}
+use Rattle.kept_rows.specs.declared.observation.Observation.{Observation}
 use Rattle.instance_keeper.specs.Book.{BookState, rule_at}
 use Rattle.instance_keeper.specs.Bridges.{has_exec, has_own, latest_that, ring_at}
-use Rattle.instance_keeper.specs.Seeing.{seen_in}
+use Rattle.kept_rows.specs.Seeing.{seen_in}
 use Rattle.operations.specs.declared.op.Op.{Op}
 use Rattle.operations.specs.declared.op.Op.TheVariants as op
 use Rattle.operations.specs.declared.sight.Sight.{Sight}
 use Rattle.operations.specs.Deeds.{deed_of, Deed}
-use Rattle.operations.specs.Jobs.{Job, seen_of}
+use Rattle.operations.specs.Jobs.{Job, position_of, seen_of}
 use Rattle.operations.specs.Turns as attempt
 use Rattle.operations.specs.Turns.{Attempt, after_look, by_deed, observed, aim_of, is_reached, next, saw, is_moved, after_status, after_ask, until_by, after_until, after_wait_by, after_wait, settles, holds_seen, crossing_of, same_again, by_set, attach_answer_of, after_answer, after_attach, cause_by}
 use Rattle.job_laws.proofs.Sights.{seen-at}
@@ -104,7 +105,7 @@ unread s o rest n f h = cc
 
 -- what a status of this turn showed
 abbrev ShowsNow : World → List Sight → ServerNo → Type 0
-ShowsNow w seen n = (s : Status) × (seen_in (status w n.0) ≡ Some s) × (seen_of seen n.0 ≡ Some s)
+ShowsNow w seen n = (s : Status) × (seen_in (status w n.0) ≡ Some s) × (seen_of seen n.0 ≡ Some (position_of s))
 
 abbrev ReadsNow : World → ServerNo → Attempt → Type 0
 ReadsNow w n (attempt.Goes o es k) = ShowsNow w k.seen n
@@ -116,7 +117,7 @@ read-now w read now j rest n = go (seen_in (status w n.0)) refl
   where
     go : (x : Option Status) → seen_in (status w n.0) ≡ x → ReadsNow w n (after_look j rest n None (observed w read now n) x)
     go None e = tt
-    go (Some s) e = (s, e, seen-at j.seen n s n.0 ∙ ap (λ b. cond b (Some s) (seen_of j.seen n.0)) (eq-eqb n.0 n.0 refl))
+    go (Some s) e = (s, e, seen-at j.seen n (position_of s) n.0 ∙ ap (λ b. cond b (Some (position_of s)) (seen_of j.seen n.0)) (eq-eqb n.0 n.0 refl))
 
 -- ---- waits that are spent
 
@@ -131,6 +132,10 @@ IsLate w n to (cause.Errant m set) = Unit {0}
 IsLate w n to (cause.Moved m source) = Unit {0}
 IsLate w n to (cause.Reachable m) = Unit {0}
 IsLate w n to cause.NoCandidate = Unit {0}
+IsLate w n to (cause.Purged m first) = Unit {0}
+IsLate w n to (cause.NoMark m) = Unit {0}
+IsLate w n to (cause.Mismatch m entry) = Unit {0}
+IsLate w n to (cause.HookFailed number exit) = Unit {0}
 
 abbrev StopsLate : World → ServerNo → Option Coord → Attempt → Type 0
 StopsLate w n to (attempt.Goes o es k) = Unit {0}
@@ -172,6 +177,7 @@ module _ (w : World) (j : Job) (rest : List Op) (n : ServerNo) (to : Option Coor
   fault-late (attaching.Interfered expected found) = tt
   fault-late attaching.Loop = tt
   fault-late (attaching.Errant set) = tt
+  fault-late (attaching.Purged first) = tt
   fault-late attaching.Memory = tt
 
   attach-late : (o : Option Exchange) → StopsLate w n to (after_attach w j rest n o)
@@ -221,6 +227,10 @@ IsUnspent (cause.Errant m set) = Unit {0}
 IsUnspent (cause.Moved m source) = Unit {0}
 IsUnspent (cause.Reachable m) = Unit {0}
 IsUnspent cause.NoCandidate = Unit {0}
+IsUnspent (cause.Purged m first) = Unit {0}
+IsUnspent (cause.NoMark m) = Unit {0}
+IsUnspent (cause.Mismatch m entry) = Unit {0}
+IsUnspent (cause.HookFailed number exit) = Unit {0}
 
 abbrev StopsUnspent : Attempt → Type 0
 StopsUnspent (attempt.Goes o es k) = Unit {0}
@@ -330,31 +340,31 @@ module _ (w : World) (b : BookState) (now : Moment) (r : Recovery) (P : ServerNo
       go (deciding.Stays y) h rest = All-cons Each (record { no = s.no; why = y; detached = false }) (losses_in lot ss) h rest
 
   -- a number that one of the list has is found
-  found-some : (xs : List Stopped) (n : ServerNo) → find (λ (x : Stopped). x.no.0 == n.0) xs ≡ None → All (λ (d : Drained). d.no ≡ n → ⊥) (map (drained_of w b now) xs)
-  found-some [] n h = All-nil (λ (d : Drained). d.no ≡ n → ⊥)
-  found-some (x ∷ xs) n h = go (x.no.0 == n.0) refl h (found-some xs n)
+  found-some : (f : ServerNo) (xs : List Stopped) (n : ServerNo) → find (λ (x : Stopped). x.no.0 == n.0) xs ≡ None → All (λ (d : Drained). d.no ≡ n → ⊥) (map (drained_of w b now f) xs)
+  found-some f [] n h = All-nil (λ (d : Drained). d.no ≡ n → ⊥)
+  found-some f (x ∷ xs) n h = go (x.no.0 == n.0) refl h (found-some f xs n)
     where
       go : (a : Bool) → (x.no.0 == n.0) ≡ a → cond a (Some x) (find (λ (y : Stopped). y.no.0 == n.0) xs) ≡ None
-          → (find (λ (y : Stopped). y.no.0 == n.0) xs ≡ None → All (λ (d : Drained). d.no ≡ n → ⊥) (map (drained_of w b now) xs)) → All (λ (d : Drained). d.no ≡ n → ⊥) (map (drained_of w b now) (x ∷ xs))
+          → (find (λ (y : Stopped). y.no.0 == n.0) xs ≡ None → All (λ (d : Drained). d.no ≡ n → ⊥) (map (drained_of w b now f) xs)) → All (λ (d : Drained). d.no ≡ n → ⊥) (map (drained_of w b now f) (x ∷ xs))
       go true e g rest = cc
       go false e g rest =
-          All-cons (λ (d : Drained). d.no ≡ n → ⊥) (drained_of w b now x) (map (drained_of w b now) xs) (λ same. false≢true (sym e ∙ eq-eqb x.no.0 n.0 (ap (λ (k : ServerNo). k.0) same))) (rest g)
+          All-cons (λ (d : Drained). d.no ≡ n → ⊥) (drained_of w b now f x) (map (drained_of w b now f) xs) (λ same. false≢true (sym e ∙ eq-eqb x.no.0 n.0 (ap (λ (k : ServerNo). k.0) same))) (rest g)
 
   -- where none is chosen none may be
-  none-may : (xs : List Stopped) → chosen_of w b now xs ≡ None → All (λ s. may_lead w b now s ≡ false) xs
-  none-may xs h = go (most_advanced b.names (map (drained_of w b now) xs)) refl h
+  none-may : (f : ServerNo) (xs : List Stopped) → chosen_of w b now f xs ≡ None → All (λ s. may_lead w b now s ≡ false) xs
+  none-may f xs h = go (most_advanced b.names (map (drained_of w b now f) xs)) refl h
     where
-      back : (ys : List Stopped) → All (λ (d : Drained). is_eligible d ≡ false) (map (drained_of w b now) ys) → All (λ s. may_lead w b now s ≡ false) ys
+      back : (ys : List Stopped) → All (λ (d : Drained). is_eligible d ≡ false) (map (drained_of w b now f) ys) → All (λ s. may_lead w b now s ≡ false) ys
       back [] all = All-nil (λ (s : Stopped). may_lead w b now s ≡ false)
       back (y ∷ ys) all =
-          All-cons (λ (s : Stopped). may_lead w b now s ≡ false) y ys (All-head (λ (d : Drained). is_eligible d ≡ false) (drained_of w b now y) (map (drained_of w b now) ys) all)
-          (back ys (All-tail (λ (d : Drained). is_eligible d ≡ false) (drained_of w b now y) (map (drained_of w b now) ys) all))
+          All-cons (λ (s : Stopped). may_lead w b now s ≡ false) y ys (All-head (λ (d : Drained). is_eligible d ≡ false) (drained_of w b now f y) (map (drained_of w b now f) ys) all)
+          (back ys (All-tail (λ (d : Drained). is_eligible d ≡ false) (drained_of w b now f y) (map (drained_of w b now f) ys) all))
 
-      go : (o : Option ServerNo) → most_advanced b.names (map (drained_of w b now) xs) ≡ o → stopped_in xs o ≡ None → All (λ s. may_lead w b now s ≡ false) xs
-      go None e g = back xs ((none-chosen (advance_order b.names) is_eligible (map (drained_of w b now) xs) (advance_total b.names)).0 e)
+      go : (o : Option ServerNo) → most_advanced b.names (map (drained_of w b now f) xs) ≡ o → stopped_in xs o ≡ None → All (λ s. may_lead w b now s ≡ false) xs
+      go None e g = back xs ((none-chosen (advance_order b.names) is_eligible (map (drained_of w b now f) xs) (advance_total b.names)).0 e)
       go (Some n) e g =
-          let first = chosen-first (advance_order b.names) is_eligible (map (drained_of w b now) xs) n e in
-          absurd (All-contains (λ (d : Drained). d.no ≡ n → ⊥) (map (drained_of w b now) xs) first.1 (found-some xs n g) (first.0, first.2, first.3) first.4.named)
+          let first = chosen-first (advance_order b.names) is_eligible (map (drained_of w b now f) xs) n e in
+          absurd (All-contains (λ (d : Drained). d.no ≡ n → ⊥) (map (drained_of w b now f) xs) first.1 (found-some f xs n g) (first.0, first.2, first.3) first.4.named)
 
   unfit-explained : (ss : List Stopped) → All (λ s. may_lead w b now s ≡ false) ss → All Each (map (unfit w) ss)
   unfit-explained [] all = All-nil Each
@@ -370,11 +380,11 @@ module _ (w : World) (b : BookState) (now : Moment) (r : Recovery) (P : ServerNo
       go true e h = why.without s lost.MustNot (e, barred (is_barred (rule_at b s.no now)) h)
       go false e h = why.without s lost.NotLogging e
 
-  choose-explained : (x : Recovery) → Fine x → Fine (choose w b now x (chosen_of w b now x.drained))
-  choose-explained x fine = go (chosen_of w b now x.drained) refl
+  choose-explained : (x : Recovery) → Fine x → Fine (choose w b now x (chosen_of w b now x.failed x.drained))
+  choose-explained x fine = go (chosen_of w b now x.failed x.drained) refl
     where
-      go : (o : Option Stopped) → chosen_of w b now x.drained ≡ o → Fine (choose w b now x o)
-      go None e = (fine.0, fine.1, fine.2, All-append Each x.outcome.lost (map (unfit w) x.drained) fine.3 (unfit-explained x.drained (none-may x.drained e)))
+      go : (o : Option Stopped) → chosen_of w b now x.failed x.drained ≡ o → Fine (choose w b now x o)
+      go None e = (fine.0, fine.1, fine.2, All-append Each x.outcome.lost (map (unfit w) x.drained) fine.3 (unfit-explained x.drained (none-may x.failed x.drained e)))
       go (Some p) e = (
         fine.0,
         fine.1,
@@ -450,7 +460,7 @@ module _ (w : World) (b : BookState) (now : Moment) (r : Recovery) (P : ServerNo
 
       swapped : (o : Option ServerNo) → Fine (swap w b now (record x { swaps = false }) o)
       swapped None = fine
-      swapped (Some p) = swapping p (better_of w b now p (map (λ y. y.no) x.outcome.followers))
+      swapped (Some p) = swapping p (better_of w b now x.failed p (map (λ y. y.no) x.outcome.followers))
 
       crowned : (o : Option ServerNo) → Fine (crown x o)
       crowned None = fine
@@ -483,25 +493,25 @@ module _ (w : World) (b : BookState) (now : Moment) (r : Recovery) (P : ServerNo
   abbrev Good : Recovery → Type 0
   Good x = AllLost P x.outcome.lost
 
-  moved-away : (x : Recovery) → Fine x → (n : ServerNo) (s : Status) → seen_in (status w n.0) ≡ Some s → is_below s x.failed ≡ false → Each (record { no = n; why = lost.Moved (spot_seen s.source s.exec); detached = false })
-  moved-away x fine n s is e = why.moved n s is (ap (is_below s) (sym fine.0) ∙ e)
+  moved-away : (x : Recovery) → Fine x → (n : ServerNo) (s : Status) → seen_in (status w n.0) ≡ Some s → is_below (position_of s) x.failed ≡ false → Each (record { no = n; why = lost.Moved (spot_seen s.source s.exec); detached = false })
+  moved-away x fine n s is e = why.moved n s is (ap (is_below (position_of s)) (sym fine.0) ∙ e)
 
-  judged-good : (x : Recovery) (n : ServerNo) (s : Status) → seen_in (status w n.0) ≡ Some s → Fine x → Good (judged x n (Some s))
-  judged-good x n s is fine = go (is_below s x.failed) refl
+  judged-good : (x : Recovery) (n : ServerNo) (s : Status) → seen_in (status w n.0) ≡ Some s → Fine x → Good (judged x n (Some (position_of s)))
+  judged-good x n s is fine = go (is_below (position_of s) x.failed) refl
     where
-      go : (a : Bool) → is_below s x.failed ≡ a → Good (cond a (record x { drained = x.drained ++ record { no = n; exec = s.exec; own_end = s.own_end } ∷ [] }) (loses x n (lost.Moved (spot_seen s.source s.exec))))
+      go : (a : Bool) → is_below (position_of s) x.failed ≡ a → Good (cond a (record x { drained = x.drained ++ record { no = n; exec = s.exec; own_end = s.own_end } ∷ [] }) (loses x n (lost.Moved (spot_seen s.source s.exec))))
       go true e = fine.3
       go false e = All-push Each x.outcome.lost _ fine.3 (moved-away x fine n s is e)
 
-  looked-good : (x : Recovery) (n : ServerNo) (y : Bridge) (s : Status) → seen_in (status w n.0) ≡ Some s → Fine x → Good (looked x n y (Some s))
-  looked-good x n y s is fine = go (is_below s x.failed) refl
+  looked-good : (x : Recovery) (n : ServerNo) (y : Bridge) (s : Status) → seen_in (status w n.0) ≡ Some s → Fine x → Good (looked x n y (Some (position_of s)))
+  looked-good x n y s is fine = go (is_below (position_of s) x.failed) refl
     where
-      go : (a : Bool) → is_below s x.failed ≡ a
+      go : (a : Bool) → is_below (position_of s) x.failed ≡ a
           → Good (cond a (working (record x { core = record x.core { seen = with_bridge x.core.seen y } }) (stage.Trail n y) (trail n y.no)) (idle (loses x n (lost.Moved (spot_seen s.source s.exec)))))
       go true e = fine.3
       go false e = All-push Each x.outcome.lost _ fine.3 (moved-away x fine n s is e)
 
-  halted-good : (x : Recovery) (n : ServerNo) (y : Bridge) (s : Status) → x.lead ≡ Some y → seen_in (status w n.0) ≡ Some s → Fine x → Good (halted x n y (Some s))
+  halted-good : (x : Recovery) (n : ServerNo) (y : Bridge) (s : Status) → x.lead ≡ Some y → seen_in (status w n.0) ≡ Some s → Fine x → Good (halted x n y (Some (position_of s)))
   halted-good x n y s lead is fine = go (same_coord s.exec y.exec) refl
     where
       go : (a : Bool) → same_coord s.exec y.exec ≡ a → Good (cond a (moving x n (way.Down y)) (frees x n (lost.Behind s.exec)))
@@ -517,10 +527,10 @@ module _ (w : World) (b : BookState) (now : Moment) (r : Recovery) (P : ServerNo
       go false = All-head Each l ls all
 
   completed-good : (x : Recovery) (s : Stage) → ((y : Bridge) → lead_of s ≡ Some y → x.lead ≡ Some y) → ((n : ServerNo) → reader_of s ≡ Some n → ShowsNow w x.core.seen n) → Fine x → Good (completed x s)
-  completed-good x (stage.Judged n) lead reads fine = let y = reads n refl in subst (λ (o : Option Status). Good (idle (judged x n o))) (sym y.2) (judged-good x n y.0 y.1 fine)
-  completed-good x (stage.Looked n b) lead reads fine = let y = reads n refl in subst (λ (o : Option Status). Good (looked x n b o)) (sym y.2) (looked-good x n b y.0 y.1 fine)
+  completed-good x (stage.Judged n) lead reads fine = let y = reads n refl in subst (λ (o : Option Position). Good (idle (judged x n o))) (sym y.2) (judged-good x n y.0 y.1 fine)
+  completed-good x (stage.Looked n b) lead reads fine = let y = reads n refl in subst (λ (o : Option Position). Good (looked x n b o)) (sym y.2) (looked-good x n b y.0 y.1 fine)
   completed-good x (stage.Halted n b) lead reads fine =
-      let y = reads n refl in subst (λ (o : Option Status). Good (halted x n b o)) (sym y.2) (halted-good x n b y.0 (lead b refl) y.1 fine)
+      let y = reads n refl in subst (λ (o : Option Position). Good (halted x n b o)) (sym y.2) (halted-good x n b y.0 (lead b refl) y.1 fine)
   completed-good x (stage.Expelled n) lead reads fine = marked-good n x.outcome.lost fine.3
   completed-good x s lead reads fine = fine.3
 

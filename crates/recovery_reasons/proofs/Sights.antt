@@ -16,12 +16,12 @@ use Rattle.server_model.specs.Gtids.{status}
 use Rattle.server_model.specs.Run.{Exchange}
 use Rattle.server_model.specs.Worlds.{World, server_at}
 use Rattle.commands.specs.declared.cause.Cause.TheVariants as cause
-use Rattle.instance_keeper.specs.declared.observation.Observation.{Observation}
-use Rattle.instance_keeper.specs.Seeing.{seen_in}
+use Rattle.kept_rows.specs.declared.observation.Observation.{Observation}
+use Rattle.kept_rows.specs.Seeing.{seen_in}
 use Rattle.operations.specs.declared.op.Op.{Op}
 use Rattle.operations.specs.Deeds as deed
 use Rattle.operations.specs.Deeds.{Deed}
-use Rattle.operations.specs.Jobs.{Job, seen_of, with_seen}
+use Rattle.operations.specs.Jobs.{Job, position_of, seen_of, with_seen}
 use Rattle.operations.specs.Targets.{can_attach}
 use Rattle.operations.specs.Turns as attempt
 use Rattle.operations.specs.Turns.{Attempt, next, saw, observed, is_moved, after_status, after_look, after_ask, aim_of, is_reached, until_by, after_until, after_wait_by, after_wait, holds_seen, settles, crossing_of, same_again, by_set, attach_answer_of, after_answer, after_attach, by_deed}
@@ -35,8 +35,8 @@ SeesOnly j m (attempt.Stops c o) = Unit {0}
 SeesOnly j m (attempt.Ends lines) = Unit {0}
 
 module _ (j : Job) (rest : List Op) (n : ServerNo) (m : ℕ) (apart : m ≡ n.0 → ⊥) where
-  saw-other : (s : Status) → seen_of (with_seen j.seen n s) m ≡ seen_of j.seen m
-  saw-other s = seen-at j.seen n s m ∙ ap (λ (b : Bool). cond b (Some s) (seen_of j.seen m)) (ne_eqb n.0 m (λ same. apart (sym same)))
+  saw-other : (s : Status) → seen_of (with_seen j.seen n (position_of s)) m ≡ seen_of j.seen m
+  saw-other s = seen-at j.seen n (position_of s) m ∙ ap (λ (b : Bool). cond b (Some (position_of s)) (seen_of j.seen m)) (ne_eqb n.0 m (λ same. apart (sym same)))
 
   look-sees : (from : Option ServerNo) (o : Observation) (r : Option Status) → SeesOnly j m (after_look j rest n from o r)
   look-sees from o None = tt

@@ -1,5 +1,6 @@
 -- Each operation of a stage that places a replica speaks with that replica.
 use Rattle.job_laws.proofs.Sights.{seen-at}
+use Rattle.operations.specs.declared.sight.Position.{Position}
 use Rattle.operations.specs.declared.sight.Sight.{Sight}
 use Rattle.std.proofs.Common.{◌≡◌, ℕ, Bool, true, false, cond, List, [], ◌∷◌, map, refl, sym, ◌∙◌, ap, subst, Option, Some, None, option_map, ◌⊎◌, inl, inr}
 use Rattle.std.specs.List.{All}
@@ -9,7 +10,6 @@ use Rattle.std.proofs.lemmas.List.Elements.{All-nil, All-cons, All-head, All-tai
 use Rattle.binlog_coords.specs.Log.{same_coord}
 use Rattle.orch_base.specs.declared.server.Moment.{Moment}
 use Rattle.orch_base.specs.declared.server.ServerNo.{ServerNo}
-use Rattle.server_words.specs.declared.status.Status.{Status}
 use Rattle.server_model.specs.Run.{Exchange}
 use Rattle.server_model.specs.Worlds.{World}
 use Rattle.commands.specs.declared.cause.Cause.{Cause}
@@ -17,7 +17,7 @@ use Rattle.commands.specs.declared.cause.Cause.TheVariants as cause
 use Rattle.commands.specs.declared.line.Lost.{Lost}
 use Rattle.commands.specs.declared.line.Lost.TheVariants as lost
 use Rattle.instance_keeper.specs.declared.bridge.Bridge.{Bridge}
-use Rattle.instance_keeper.specs.declared.observation.Observation.{Observation}
+use Rattle.kept_rows.specs.declared.observation.Observation.{Observation}
 use Rattle.instance_keeper.specs.Book.{BookState}
 use Rattle.operations.specs.declared.op.Op.{Op}
 use Rattle.operations.specs.declared.op.Op.TheVariants as op
@@ -113,9 +113,9 @@ trail-waits n b =
     (All-cons (Waits b) (op.Stop n) (op.Status n None ∷ []) tt (All-cons (Waits b) (op.Status n None) [] tt (All-nil (Waits b)))))
 
 -- the reading that is put in is the bridge's
-bridge-aims : (xs : List Sight) (b : Bridge) → option_map (λ (s : Status). s.exec) (seen_of (with_bridge xs b) b.no.0) ≡ Some b.exec
+bridge-aims : (xs : List Sight) (b : Bridge) → option_map (λ (s : Position). s.exec) (seen_of (with_bridge xs b) b.no.0) ≡ Some b.exec
 bridge-aims xs b =
-    ap (option_map (λ (s : Status). s.exec)) (seen-at xs b.no (sight_of b) b.no.0 ∙ ap (λ (x : Bool). cond x (Some (sight_of b)) (seen_of xs b.no.0)) (eq-eqb b.no.0 b.no.0 refl))
+    ap (option_map (λ (s : Position). s.exec)) (seen-at xs b.no (sight_of b) b.no.0 ∙ ap (λ (x : Bool). cond x (Some (sight_of b)) (seen_of xs b.no.0)) (eq-eqb b.no.0 b.no.0 refl))
 
 way-speaks : (by : Way) (n : ServerNo) → spoken_to (deed_of (move by n)) ≡ Some n
 way-speaks (way.Down b) n = refl
@@ -140,7 +140,7 @@ module _ (w : World) (b : BookState) (now : Moment) where
   task-speaks : (r : Recovery) (t : Task) → Speaks r → Speaks (by_task w b now r t)
   task-speaks r (task.Reading n) s = silent (by_task w b now r (task.Reading n)) refl refl
   task-speaks r (task.Draining n) s = speaking (by_task w b now r (task.Draining n)) n refl (drain-speaks n) refl (λ m p e. cc)
-  task-speaks r task.Choosing s = go (chosen_of w b now r.drained)
+  task-speaks r task.Choosing s = go (chosen_of w b now r.failed r.drained)
     where
       go : (o : Option Stopped) → Speaks (choose w b now r o)
       go None = alike r _ refl refl refl s
@@ -185,7 +185,7 @@ module _ (w : World) (b : BookState) (now : Moment) where
 
       swapped : (o : Option ServerNo) → Speaks (swap w b now (record r { swaps = false }) o)
       swapped None = alike r _ refl refl refl s
-      swapped (Some p) = swapping p (better_of w b now p (map (λ x. x.no) r.outcome.followers))
+      swapped (Some p) = swapping p (better_of w b now r.failed p (map (λ x. x.no) r.outcome.followers))
 
       crowned : (o : Option ServerNo) → Speaks (crown r o)
       crowned None = s
@@ -220,7 +220,7 @@ idle-speaks r = silent (idle r) refl refl
 frees-speaks : (r : Recovery) (n : ServerNo) (why : Lost) → Speaks (frees r n why)
 frees-speaks r n why = silent (frees r n why) refl refl
 
-looked-speaks : (r : Recovery) (n : ServerNo) (b : Bridge) → r.lead ≡ Some b → (o : Option Status) → Speaks (looked r n b o)
+looked-speaks : (r : Recovery) (n : ServerNo) (b : Bridge) → r.lead ≡ Some b → (o : Option Position) → Speaks (looked r n b o)
 looked-speaks r n b lead None = idle-speaks (loses r n lost.Unreachable)
 looked-speaks r n b lead (Some s) = go (is_below s r.failed)
   where
@@ -235,7 +235,7 @@ looked-speaks r n b lead (Some s) = go (is_below s r.failed)
     }
     go false = idle-speaks (loses r n (lost.Moved (spot_seen s.source s.exec)))
 
-halted-speaks : (r : Recovery) (n : ServerNo) (b : Bridge) (o : Option Status) → Speaks (halted r n b o)
+halted-speaks : (r : Recovery) (n : ServerNo) (b : Bridge) (o : Option Position) → Speaks (halted r n b o)
 halted-speaks r n b None = frees-speaks r n lost.Unreachable
 halted-speaks r n b (Some s) = go (same_coord s.exec b.exec)
   where
@@ -315,7 +315,7 @@ module _ (w : World) (read : ℕ) (now : Moment) (r : Recovery) (o : Op) (rest :
     -- what is waited for stays
     aims-on : (n : ServerNo) (x : Bridge) → r.stage ≡ stage.Trail n x → AimsAt k.seen n x
     aims-on n x at apart =
-        ap (option_map (λ (y : Status). y.exec))
+        ap (option_map (λ (y : Position). y.exec))
         (subst (λ (a : Attempt). SeesOnly r.core x.no.0 a) e (deed-sees w read now r.core rest (deed_of o) n x.no.0 (due-speaks n (ap speaks_of at)) (λ same. apart (sym same))))
         ∙ s.aims n x at apart
 

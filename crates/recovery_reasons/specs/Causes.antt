@@ -1,12 +1,14 @@
 -- What a job's cause says of the world in which an operation stopped it.
-use Rattle.std.specs.Prelude.{◌≡◌, ℕ, true, false, ◌||◌, List, Some, Err}
+use Rattle.std.specs.Prelude.{◌≡◌, ℕ, true, false, ◌||◌, ◌⊎◌, List, Some, Err}
+use Rattle.binlog_coords.specs.declared.Coord.{Coord}
 use Rattle.orch_base.specs.declared.server.ServerNo.{ServerNo}
 use Rattle.gtid_sets.specs.declared.interval.Interval.{Interval}
 use Rattle.server_words.specs.declared.attach.AttachFault.TheVariants as attaching
+use Rattle.server_words.specs.declared.attach.Spot.{Spot}
 use Rattle.server_words.specs.declared.status.Status.{Status}
-use Rattle.instance_keeper.specs.Seeing.{seen_in}
+use Rattle.kept_rows.specs.Seeing.{seen_in}
 use Rattle.server_model.specs.declared.server.Server.{Server}
-use Rattle.server_model.specs.Attach.{live_spot, same_spot}
+use Rattle.server_model.specs.Attach.{attach_answer, live_spot, same_spot}
 use Rattle.server_model.specs.Desk.{desk_answer}
 use Rattle.server_model.specs.Gtids.{status, attach_auto_answer}
 use Rattle.server_model.specs.Worlds.{World, server_at}
@@ -22,7 +24,13 @@ pub record IsRunning (w : World) (n : ℕ) : Type 0 where
   pub there : server_at w n ≡ Some server
   pub running : (server.receiver || server.applier) ≡ true
 
--- what the cause of an operation that spoke with server n says
+-- an attachment of the server is refused for what its new source has purged
+abbrev pub IsPurgedFor : World → ServerNo → ℕ → Type 0
+IsPurgedFor w n first =
+    ((expect : Spot) × (to : ServerNo) × (at : Coord) × (attach_answer w n.0 expect to.0 at (server_at w n.0) ≡ Err (attaching.Purged first)))
+    ⊎ ((observed : List Interval) × (to : ServerNo) × (attach_auto_answer w n.0 observed to.0 (server_at w n.0) ≡ Err (attaching.Purged first)))
+
+-- What the cause of an operation that spoke with server n says. No operation matches logs or runs hooks.
 abbrev pub IsTrueOf : World → ServerNo → Cause → Type 0
 IsTrueOf w n (cause.Unreachable m) = (m ≡ n) × IsUnreached w n.0
 IsTrueOf w n (cause.WaitSpent m) = (m ≡ n) × ((s : Status) × (seen_in (status w n.0) ≡ Some s))
@@ -32,5 +40,9 @@ IsTrueOf w n (cause.Running m) = (m ≡ n) × IsRunning w n.0
 IsTrueOf w n (cause.Loop m) = m ≡ n
 IsTrueOf w n (cause.Errant m set) = (m ≡ n) × ((observed : List Interval) × (to : ServerNo) × (attach_auto_answer w n.0 observed to.0 (server_at w n.0) ≡ Err (attaching.Errant set)))
 IsTrueOf w n (cause.Moved m source) = (m ≡ n) × ((s : Status) × (seen_in (status w n.0) ≡ Some s) × (s.source ≡ source))
+IsTrueOf w n (cause.Purged m first) = (m ≡ n) × IsPurgedFor w n first
 IsTrueOf w n (cause.Reachable m) = ⊥
 IsTrueOf w n cause.NoCandidate = ⊥
+IsTrueOf w n (cause.NoMark m) = ⊥
+IsTrueOf w n (cause.Mismatch m entry) = ⊥
+IsTrueOf w n (cause.HookFailed number exit) = ⊥

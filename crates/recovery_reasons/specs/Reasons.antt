@@ -15,12 +15,12 @@ use Rattle.commands.specs.declared.line.Lost.TheVariants as lost
 use Rattle.instance_keeper.specs.declared.bridge.Bridge.{Bridge}
 use Rattle.instance_keeper.specs.Book.{BookState, rule_at}
 use Rattle.instance_keeper.specs.Bridges.{has_exec, has_own, latest_that, ring_at}
-use Rattle.instance_keeper.specs.Seeing.{seen_in}
+use Rattle.kept_rows.specs.Seeing.{seen_in}
 use Rattle.operations.specs.declared.sight.Sight.{Sight}
 use Rattle.operations.specs.declared.op.Aim.TheVariants.{ExecOf}
 use Rattle.operations.specs.Deeds as deed
 use Rattle.operations.specs.Deeds.{Deed, deed_of}
-use Rattle.operations.specs.Jobs.{seen_of}
+use Rattle.operations.specs.Jobs.{position_of, seen_of}
 use Rattle.promotion_rules.specs.Choice.{is_barred}
 use Rattle.recovery_plans.specs.declared.outcome.LostReplica.{LostReplica}
 use Rattle.recovery_plans.specs.declared.outcome.Stopped.{Stopped}
@@ -38,6 +38,7 @@ use Rattle.recovery_reasons.specs.Causes.{IsRunning, IsTrueOf, IsUnreached}
 abbrev pub BesideChosen : BookState → ServerNo → Stopped → Stopped → Lost → Type 0
 BesideChosen b f p s (lost.Ahead c) = (c ≡ s.exec) × (is_before p.exec c ≡ true)
 BesideChosen b f p s (lost.Behind c) = (c ≡ s.exec) × (is_before c p.exec ≡ true) × (latest_that (has_exec f c) (ring_at b.rings p.no) ≡ None)
+BesideChosen b f p s (lost.Purged c) = ⊥
 BesideChosen b f p s lost.Unreachable = ⊥
 BesideChosen b f p s (lost.Moved at) = ⊥
 BesideChosen b f p s lost.NotLogging = ⊥
@@ -49,6 +50,7 @@ WithoutChosen w b now s lost.NotLogging = logs_at w s.no ≡ false
 WithoutChosen w b now s lost.MustNot = (logs_at w s.no ≡ true) × (is_barred (rule_at b s.no now) ≡ true)
 WithoutChosen w b now s (lost.Ahead c) = ⊥
 WithoutChosen w b now s (lost.Behind c) = ⊥
+WithoutChosen w b now s (lost.Purged c) = ⊥
 WithoutChosen w b now s lost.Unreachable = ⊥
 WithoutChosen w b now s (lost.Moved at) = ⊥
 
@@ -179,6 +181,6 @@ pub record ExplainsTruly (w : World) (b : BookState) (now : Moment) (r : Recover
   pub running : (n : ServerNo) → IsRunning w n.0 → P n (lost.Moved (spot_by (server_at w n.0))) ≡ true
   pub interfered : (n : ServerNo) (expected found : Spot) → IsTrueOf w n (cause.Interfered n expected found) → P n (lost.Moved found) ≡ true
   pub errant : (n : ServerNo) (set : List Interval) (exec : Coord) → IsTrueOf w n (cause.Errant n set) → P n (lost.Ahead exec) ≡ true
-  pub moved : (n : ServerNo) (s : Status) → seen_in (status w n.0) ≡ Some s → is_below s r.failed ≡ false → P n (lost.Moved (spot_seen s.source s.exec)) ≡ true
+  pub moved : (n : ServerNo) (s : Status) → seen_in (status w n.0) ≡ Some s → is_below (position_of s) r.failed ≡ false → P n (lost.Moved (spot_seen s.source s.exec)) ≡ true
   pub halted : (n : ServerNo) (x : Bridge) (s : Status) → r.lead ≡ Some x → seen_in (status w n.0) ≡ Some s → same_coord s.exec x.exec ≡ false → P n (lost.Behind s.exec) ≡ true
   pub late : (n : ServerNo) (x : Bridge) (s : Status) → r.lead ≡ Some x → seen_in (status w n.0) ≡ Some s → (n.0 ≡ x.no.0) ⊎ (is_at_or_before x.exec s.exec ≡ false) → P n (lost.Behind s.exec) ≡ true

@@ -4,7 +4,7 @@ ghost use Rattle.std.specs.Prelude.{◌≡◌, ℕ, List, Option, Some};
 ghost use Rattle.orch_base.specs.declared.server.Moment.{Moment as AMoment};
 ghost use Rattle.orch_base.specs.declared.server.ServerNo.{ServerNo as Number};
 ghost use Rattle.commands.specs.declared.cause.Cause.{Cause as Why};
-ghost use Rattle.instance_keeper.specs.declared.observation.Observation.{Observation as AnObservation};
+ghost use Rattle.kept_rows.specs.declared.observation.Observation.{Observation as AnObservation};
 ghost use Rattle.operations.specs.declared.op.Op.{Op as AnOp};
 ghost use Rattle.operations.specs.Deeds.{Deed};
 ghost use Rattle.operations.specs.Jobs.{Job};

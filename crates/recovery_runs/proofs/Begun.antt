@@ -5,7 +5,7 @@ use Rattle.std.proofs.lemmas.Bool.{ltb-true}
 use Rattle.std.proofs.lemmas.List.Elements.{All-cons, All-head, All-nil, All-tail}
 use Rattle.orch_base.specs.declared.server.ServerNo.{ServerNo}
 use Rattle.server_words.specs.declared.status.Status.{Status as Seen}
-use Rattle.instance_keeper.specs.declared.observation.Observation.{Observation}
+use Rattle.kept_rows.specs.declared.observation.Observation.{Observation}
 use Rattle.instance_keeper.specs.Book.{BookState, IsBook}
 use Rattle.instance_keeper.specs.Leases.{taken}
 use Rattle.commands.specs.declared.line.Line.{Line}
@@ -15,12 +15,14 @@ use Rattle.commands.specs.declared.turn.Command.{Command}
 use Rattle.commands.specs.declared.turn.CommandTurn.{CommandTurn}
 use Rattle.commands.specs.Turns.{is_within}
 use Rattle.command_routes.specs.declared.route.Planner.{Planner}
-use Rattle.command_routes.specs.declared.route.Planner.TheVariants.{Coordinates, Gtids, Paths, Regroups}
+use Rattle.command_routes.specs.declared.route.Planner.TheVariants.{Coordinates, Gtids, Matches, Paths, Regroups}
+use Rattle.command_routes.specs.declared.kinds.Regrouping.TheVariants.{ByBridges, ByMatches}
 use Rattle.command_routes.specs.declared.route.Route.{Route}
 use Rattle.command_routes.specs.declared.route.Route.TheVariants.{Discovers, Forgets, Asks, Decides, Begins, Recovers, TakesOver}
 use Rattle.command_routes.specs.Routes.{route_of}
 use Rattle.command_jobs.specs.Jobs.{job_by, leases_by, refusal_by, regroup_about}
 use Rattle.asking_commands.specs.Answers.{allowed, lines_of, permitted}
+use Rattle.asking_commands.specs.Asking.{label_at}
 use Rattle.audit_log.specs.Audits.{AuditState}
 use Rattle.audit_log.specs.Audits.{begun as begun_audit}
 use Rattle.book_commands.specs.declared.decided.Decided.{Decided}
@@ -29,31 +31,38 @@ use Rattle.recovery_permits.specs.declared.attempt.Attempt.{Attempt}
 use Rattle.recovery_permits.specs.Recoveries.{recovery_refusal}
 use Rattle.recovery_permits.specs.Takeovers.{takeover_refusal}
 use Rattle.recovery_core.specs.Begun.{BeginInTurn, IsFresh}
-use Rattle.recovery_core.specs.Scans.{attempt_of, scanned}
 use Rattle.recovery_core.specs.Tries.{Begins as RecoveryBegins, recovery_begins, recovery_try, takeover_begins, takeover_try}
 use Rattle.recovery_core.proofs.Beginning.{unrefused}
 use Rattle.recovery_core.proofs.InTurn.{scan-in-turn}
 use Rattle.run_laws.specs.Begins.{NamesReplicasOnce}
 use Rattle.run_laws.proofs.Naming.{recovery-names, regroup-are, scan-names, takeover-names}
-use Rattle.scenarios.specs.Turns.{IsCommand, IsTurn}
+use Rattle.scenarios.specs.Turns.{IsAct, IsCommand, IsTurn}
 use Rattle.server_model.specs.Worlds.{World}
+use Rattle.turns.specs.declared.turn.Act.{Act}
+use Rattle.turns.specs.declared.turn.Act.TheVariants as act
 use Rattle.turns.specs.declared.turn.Turn.{Turn}
 use Rattle.turns.specs.declared.turn.Turn.TheVariants as turn
 use Rattle.unended_jobs.specs.declared.unended.Unended.{Unended}
-use Rattle.orch_core.specs.Commands.{Outcome, about as given_or, asked, begun, by_hand, decided, discovered, forgotten, jobs_updated, outcome_by, outcome_of, question, recovered, recovery_begun, recovery_job, refusal, removal_refusal, taken_over, terms_of}
+use Rattle.orch_core.specs.Knowing.{recovery_job}
+use Rattle.orch_core.specs.Commands.{Outcome, about as given_or, asked, begun, by_hand, decided, discovered, forgotten, outcome_by, outcome_of, question, recovered, recovery_begun, refusal, removal_refusal, taken_over}
 use Rattle.orch_core.specs.Polls.{command_outcome, numbers_of, reading, scan_outcome}
 use Rattle.orch_core.specs.States.{State}
-use Rattle.run_laws.specs.Ready.{Ready}
+use Rattle.run_laws.specs.Entries.{attempt_in, recoveries_scanned}
+use Rattle.run_laws.specs.Ready.{AreShort, Ready}
+use Rattle.run_laws.proofs.Periods.{short-by}
 use Rattle.run_laws.proofs.ReadyOutcomes.{within-book}
-use Rattle.recovery_runs.specs.Begun.{jobs_begun, BeginsOnce}
+use Rattle.recovery_runs.specs.Begun.{BeginsOnce, jobs_begun, jobs_of, jobs_in_act}
 
--- what an outcome begins, on a book
-module _ (b : BookState) where
+-- what an outcome begins in a state
+module _ (state : State) where
+  abbrev b : BookState
+  b = state.book
+
   abbrev Once : Unended → Type 0
   Once u = BeginsOnce b u
 
   abbrev New : Outcome → Type 0
-  New o = All Once (jobs_updated [] o.book)
+  New o = All Once (jobs_of state o)
 
   none-new : All Once []
   none-new = All-nil Once
@@ -76,15 +85,17 @@ module _ (b : BookState) where
 
   -- ---- the job of a command
 
-  new-begun : (s : State) (r : Option Refusal) (list : List ServerNo) (job : Unended) → Once job → New (begun (numbers_of s) r list job)
-  new-begun s (Some why) list job once = none-new
-  new-begun s None list job once = All-cons Once job [] once none-new
+  new-begun : (r : Option Refusal) (list : List ServerNo) (job : Unended) → Once job → New (begun (numbers_of state) r list job)
+  new-begun (Some why) list job once = none-new
+  new-begun None list job once = All-cons Once job [] once none-new
 
   job-once : (w : World) (c : Command) (p : Planner) (id wait : ℕ) → Once (job_by w b c p id wait)
-  job-once w c Coordinates id wait = tt
-  job-once w c Gtids id wait = tt
-  job-once w c Paths id wait = tt
-  job-once w c Regroups id wait = go c.i
+  job-once w c (Coordinates kind) id wait = tt
+  job-once w c (Gtids kind) id wait = tt
+  job-once w c (Paths kind) id wait = tt
+  job-once w c (Matches kind) id wait = tt
+  job-once w c (Regroups ByMatches) id wait = tt
+  job-once w c (Regroups ByBridges) id wait = go c.i
     where
       go : (i : Option ServerNo) → Once (regroup_about b id wait i)
       go None = tt
@@ -92,9 +103,9 @@ module _ (b : BookState) where
 
   -- ---- recoveries
 
-  new-recovery : (s : State) (r : Result RecoveryBegins Refusal) → ((x : RecoveryBegins) → r ≡ Ok x → Once (recovery_job x)) → New (recovery_begun (numbers_of s) r)
-  new-recovery s (Ok x) once = All-cons Once (recovery_job x) [] (once x refl) none-new
-  new-recovery s (Err why) once = none-new
+  new-recovery : (r : Result RecoveryBegins Refusal) → ((x : RecoveryBegins) → r ≡ Ok x → Once (recovery_job x)) → New (recovery_begun (numbers_of state) r)
+  new-recovery (Ok x) once = All-cons Once (recovery_job x) [] (once x refl) none-new
+  new-recovery (Err why) once = none-new
 
   begins-once : (x : RecoveryBegins) → IsFresh x.job → NamesReplicasOnce b x → Once (recovery_job x)
   begins-once x fresh names = record { fresh = fresh; replicas = names.replicas; once = names.once }
@@ -103,13 +114,13 @@ module _ (b : BookState) where
     recovery-once : (f : ServerNo) (x : RecoveryBegins) → recovery_try w b audit a wait job f ≡ Ok x → Once (recovery_job x)
     recovery-once f x h =
         begins-once x
-        (subst (λ (y : RecoveryBegins). IsFresh y.job) (unrefused (recovery_refusal w b audit a f) (recovery_begins b audit a.now wait job f) x h).1 refl)
+        (subst (λ (y : RecoveryBegins). IsFresh y.job) (unrefused (recovery_refusal w b audit a f) (recovery_begins b audit a.now a.block wait job f) x h).1 refl)
         (recovery-names w b audit a wait job f x h)
 
     takeover-once : (i d : ServerNo) (x : RecoveryBegins) → d.0 < length b.names → takeover_try w b audit a wait job i d ≡ Ok x → Once (recovery_job x)
     takeover-once i d x there h =
         begins-once x
-        (subst (λ (y : RecoveryBegins). IsFresh y.job) (unrefused (takeover_refusal w b audit a i d) (takeover_begins b audit a.now wait job i d) x h).1 refl)
+        (subst (λ (y : RecoveryBegins). IsFresh y.job) (unrefused (takeover_refusal w b audit a i d) (takeover_begins b audit a.now a.block wait job i d) x h).1 refl)
         (takeover-names w b audit a wait job i d x there h)
 
   -- of several, each as it begins
@@ -124,75 +135,74 @@ module _ (b : BookState) where
 
 module _ (s : State) (is : IsBook s.book) where
   abbrev Begins_new : Outcome → Type 0
-  Begins_new o = All (BeginsOnce s.book) (jobs_updated [] o.book)
+  Begins_new o = All (BeginsOnce s.book) (jobs_of s o)
 
-  scan-new : Begins_new (scan_outcome s)
-  scan-new =
-      let attempt = attempt_of s.configuration.master s.configuration.intermediate (terms_of s.book (numbers_of s)) in
-      all-once s.book (length s.book.names) s.book.leases s.audit s.last_job (scanned s.world s.book s.audit attempt s.configuration.wait s.last_job).begun
-      (scan-in-turn s.world s.book attempt s.configuration.wait s.audit s.last_job is) (scan-names s.world s.book attempt s.configuration.wait s.audit s.last_job)
+  scan-new : AreShort s.configuration → Begins_new (scan_outcome s)
+  scan-new periods =
+      all-once s (length s.book.names) s.book.leases s.audit s.last_job (recoveries_scanned s)
+      (scan-in-turn s.world s.book (attempt_in s) s.configuration.wait s.audit s.last_job is (λ n. short-by s.configuration periods (label_at s.book n)))
+      (scan-names s.world s.book (attempt_in s) s.configuration.wait s.audit s.last_job)
 
   -- ---- any command
 
   module _ (t : CommandTurn) (d_within : is_within (length s.book.names) t.command.d ≡ true) where
     asks : Begins_new (question s.book s.audit s.reads t)
-    asks = new-asked s.book s.reads (permitted s.book t.command) (lines_of s.book s.audit.recoveries t t.command.name)
+    asks = new-asked s s.reads (permitted s.book t.command) (lines_of s.book s.audit.recoveries t t.command.name)
 
     given : (none : Outcome) (some : ServerNo → Outcome) → Begins_new none → ((i : ServerNo) → Begins_new (some i)) → (i : Option ServerNo) → Begins_new (given_or none some i)
     given none some here each None = here
     given none some here each (Some i) = each i
 
-    new-recovered : (i : ServerNo) → Begins_new (recovered s.world s.book s.audit (numbers_of s) i)
+    new-recovered : (i : ServerNo) → Begins_new (recovered s.world s.book s.audit s.configuration (numbers_of s) i)
     new-recovered i =
-        new-recovery s.book s (recovery_try s.world s.book s.audit (by_hand (numbers_of s)) s.configuration.wait (s.last_job + 1) i)
-        (recovery-once s.book s.world s.audit (by_hand (numbers_of s)) s.configuration.wait (s.last_job + 1) i)
+        new-recovery s (recovery_try s.world s.book s.audit (by_hand s.book s.configuration (numbers_of s) i) s.configuration.wait (s.last_job + 1) i)
+        (recovery-once s s.world s.audit (by_hand s.book s.configuration (numbers_of s) i) s.configuration.wait (s.last_job + 1) i)
 
-    new-taken_over : (d : Option ServerNo) → is_within (length s.book.names) d ≡ true → (i : ServerNo) → Begins_new (taken_over s.world s.book s.audit (numbers_of s) d i)
-    new-taken_over None there i = none-new s.book
+    new-taken_over : (d : Option ServerNo) → is_within (length s.book.names) d ≡ true → (i : ServerNo) → Begins_new (taken_over s.world s.book s.audit s.configuration (numbers_of s) d i)
+    new-taken_over None there i = none-new s
     new-taken_over (Some d) there i =
-        new-recovery s.book s (takeover_try s.world s.book s.audit (by_hand (numbers_of s)) s.configuration.wait (s.last_job + 1) i d)
-        (λ x h. takeover-once s.book s.world s.audit (by_hand (numbers_of s)) s.configuration.wait (s.last_job + 1) i d x (ltb-true d.0 (length s.book.names) there) h)
+        new-recovery s (takeover_try s.world s.book s.audit (by_hand s.book s.configuration (numbers_of s) i) s.configuration.wait (s.last_job + 1) i d)
+        (λ x h. takeover-once s s.world s.audit (by_hand s.book s.configuration (numbers_of s) i) s.configuration.wait (s.last_job + 1) i d x (ltb-true d.0 (length s.book.names) there) h)
 
-    new-route : (r : Route) → Begins_new (outcome_by s.world s.book s.audit (numbers_of s) t r)
+    new-route : (r : Route) → Begins_new (outcome_by s.world s.book s.audit s.configuration (numbers_of s) t r)
     new-route Discovers =
         given (question s.book s.audit s.reads t) (λ i. discovered s.book s.reads (reading s i) (reading s i).seen) asks
-        (λ i. new-discovered s.book s.reads (reading s i) (reading s i).seen) t.command.i
+        (λ i. new-discovered s s.reads (reading s i) (reading s i).seen) t.command.i
     new-route Forgets =
         given (question s.book s.audit s.reads t) (forgotten s.reads (allowed (removal_refusal s.book t.command))) asks
-        (new-forgotten s.book s.reads (allowed (removal_refusal s.book t.command))) t.command.i
+        (new-forgotten s s.reads (allowed (removal_refusal s.book t.command))) t.command.i
     new-route (Asks q) = asks
     new-route (Decides d) =
-        new-decided s.book s.reads s.audit (permitted s.book t.command) (decided_of s.book s.audit (record { 0 = s.moment }) t.keys t.command.i d)
+        new-decided s s.reads s.audit (permitted s.book t.command) (decided_of s.book s.audit (record { 0 = s.moment }) t.keys t.command.i d)
     new-route (Begins p) =
-        new-begun s.book s (refusal_by s.world s.book (record { 0 = s.moment }) t.command p) (leases_by s.world s.book t.command p)
-        (job_by s.world s.book t.command p (s.last_job + 1) s.configuration.wait) (job-once s.book s.world t.command p (s.last_job + 1) s.configuration.wait)
-    new-route Recovers = given (refusal s.reads UnknownInstance) (recovered s.world s.book s.audit (numbers_of s)) (none-new s.book) new-recovered t.command.i
+        new-begun s (refusal_by s.world s.book (record { 0 = s.moment }) t.command p) (leases_by s.world s.book t.command p)
+        (job_by s.world s.book t.command p (s.last_job + 1) s.configuration.wait) (job-once s s.world t.command p (s.last_job + 1) s.configuration.wait)
+    new-route Recovers = given (refusal s.reads UnknownInstance) (recovered s.world s.book s.audit s.configuration (numbers_of s)) (none-new s) new-recovered t.command.i
     new-route TakesOver =
-        given (refusal s.reads UnknownInstance) (taken_over s.world s.book s.audit (numbers_of s) t.command.d) (none-new s.book) (new-taken_over t.command.d d_within)
+        given (refusal s.reads UnknownInstance) (taken_over s.world s.book s.audit s.configuration (numbers_of s) t.command.d) (none-new s) (new-taken_over t.command.d d_within)
         t.command.i
 
 -- ---- any turn
 
-pub command-once : (count : ℕ) (s : State) → Ready count s → (c : CommandTurn) → IsCommand count c → All (BeginsOnce s.book) (jobs_updated [] (command_outcome s c).book)
+pub command-once : (count : ℕ) (s : State) → Ready count s → (c : CommandTurn) → IsCommand count c → All (BeginsOnce s.book) (jobs_of s (command_outcome s c))
 unfolding outcome_of
 command-once count s ready c command = new-route s ready.book c (within-book count s ready c command).1 (route_of c.command.name)
 
-pub scan-once : (count : ℕ) (s : State) → Ready count s → All (BeginsOnce s.book) (jobs_updated [] (scan_outcome s).book)
-scan-once count s ready = scan-new s ready.book
+pub scan-once : (count : ℕ) (s : State) → Ready count s → All (BeginsOnce s.book) (jobs_of s (scan_outcome s))
+scan-once count s ready = scan-new s ready.book ready.periods
+
+act-once : (count : ℕ) (s : State) (a : Act) → Ready count s → IsAct count a → All (BeginsOnce s.book) (jobs_in_act s a)
+act-once count s (act.PollRead p n) ready is = none-new s
+act-once count s (act.PollStore p) ready is = none-new s
+act-once count s (act.Command c) ready is = command-once count s ready c is
+act-once count s (act.Job job) ready is = none-new s
+act-once count s act.Scan ready is = scan-once count s ready
+act-once count s act.Restart ready is = none-new s
 
 pub begun-once : (count : ℕ) (s : State) (t : Turn) → Ready count s → IsTurn count t → All (BeginsOnce s.book) (jobs_begun s t)
-begun-once count s (turn.Command c) ready is = command-once count s ready c is
-begun-once count s turn.Scan ready is = scan-once count s ready
-begun-once count s (turn.Write n size) ready is = none-new s.book
-begun-once count s (turn.Fetch n) ready is = none-new s.book
-begun-once count s (turn.Apply n) ready is = none-new s.book
-begun-once count s (turn.Fail n) ready is = none-new s.book
-begun-once count s (turn.Heal n) ready is = none-new s.book
-begun-once count s (turn.Cut n link) ready is = none-new s.book
-begun-once count s (turn.Join n link) ready is = none-new s.book
-begun-once count s (turn.Rotate n) ready is = none-new s.book
-begun-once count s (turn.Tick seconds) ready is = none-new s.book
-begun-once count s (turn.Job job) ready is = none-new s.book
-begun-once count s (turn.PollRead p n) ready is = none-new s.book
-begun-once count s (turn.PollStore p) ready is = none-new s.book
-begun-once count s turn.Restart ready is = none-new s.book
+begun-once count s (turn.Step x) ready is = none-new s
+begun-once count s (turn.Tick seconds) ready is = none-new s
+begun-once count s (turn.Act a) ready is = act-once count s a ready is
+begun-once count s (turn.As node a) ready is = absurd is
+begun-once count s (turn.Claim node) ready is = absurd is
+begun-once count s (turn.Release node) ready is = absurd is

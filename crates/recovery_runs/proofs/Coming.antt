@@ -4,11 +4,13 @@ use Rattle.std.specs.Prelude.{◌==◌, All, Contains}
 use Rattle.std.specs.Option.{option_map}
 use Rattle.std.proofs.lemmas.List.Elements.{All-contains_itself, All-nil, All-weaker, Contains-append_left, Contains-append_right}
 use Rattle.orch_base.specs.Memory.{next_count}
-use Rattle.instance_keeper.specs.declared.row.Row.{Row}
+use Rattle.kept_rows.specs.declared.row.Row.{Row}
 use Rattle.job_laws.proofs.Lists.{All-find}
 use Rattle.jobs_in_flight.specs.Jobs.{job_at, jobs_turned}
 use Rattle.operations.specs.Turns.{is_going}
 use Rattle.recovery_histories.proofs.Staying.{same-choice, taken-aim}
+use Rattle.turns.specs.declared.turn.Act.{Act}
+use Rattle.turns.specs.declared.turn.Act.TheVariants as act
 use Rattle.turns.specs.declared.turn.Turn.{Turn}
 use Rattle.turns.specs.declared.turn.Turn.TheVariants as turn
 use Rattle.unended_jobs.specs.declared.unended.Unended.{Unended}
@@ -16,14 +18,15 @@ use Rattle.unended_jobs.specs.declared.unended.Unended.TheVariants as unended
 use Rattle.unended_jobs.specs.Unended.{IsReady, number_of}
 use Rattle.unended_jobs.proofs.Going.{flown-number}
 use Rattle.covered_laws.proofs.Turning.{all-turned}
-use Rattle.orch_core.specs.Commands.{jobs_updated}
 use Rattle.orch_core.specs.Jobs.{turn_of}
 use Rattle.orch_core.specs.Polls.{command_outcome, scan_outcome}
-use Rattle.orch_core.specs.Runs.{step}
+use Rattle.orch_core.specs.After.{after_act, step}
 use Rattle.orch_core.specs.States.{State}
+use Rattle.orch_core.specs.Settling.{known_of}
+use Rattle.orch_core.specs.Knowing.{updated}
 use Rattle.run_laws.specs.Ready.{Ready}
 use Rattle.run_laws.specs.Flights.{moment_at}
-use Rattle.recovery_runs.specs.Begun.{jobs_begun, ComesOf}
+use Rattle.recovery_runs.specs.Begun.{ComesOf, jobs_begun, jobs_of, jobs_in_act}
 use Rattle.recovery_runs.proofs.Joining.{command-joins, joined, scan-joins}
 
 of-itself : (us : List Unended) (u : Unended) → Contains us u → ComesOf us u
@@ -61,19 +64,18 @@ module _ (count : ℕ) (s : State) (id : ℕ) (ready : Ready count s) where
 
 -- ---- any turn
 
+act-come : (count : ℕ) (rows : List Row) (s : State) (a : Act) → Ready count s → All (ComesOf (s.jobs ++ jobs_in_act s a)) (after_act rows s a).jobs
+act-come count rows s (act.PollRead p n) ready = all-stay s.jobs []
+act-come count rows s (act.PollStore p) ready = all-stay s.jobs []
+act-come count rows s (act.Command c) ready = come-joined s.jobs (jobs_of s (command_outcome s c)) (updated (known_of s) (command_outcome s c).book).jobs (command-joins s c)
+act-come count rows s (act.Job id) ready = turn-come count s id ready (job_at s.jobs id) refl
+act-come count rows s act.Scan ready = come-joined s.jobs (jobs_of s (scan_outcome s)) (updated (known_of s) (scan_outcome s).book).jobs (scan-joins s)
+act-come count rows s act.Restart ready = All-nil (ComesOf (s.jobs ++ []))
+
 pub all-come : (count : ℕ) (rows : List Row) (s : State) (t : Turn) → Ready count s → All (ComesOf (s.jobs ++ jobs_begun s t)) (step rows s t).jobs
-all-come count rows s (turn.Write n size) ready = all-stay s.jobs []
-all-come count rows s (turn.Fetch n) ready = all-stay s.jobs []
-all-come count rows s (turn.Apply n) ready = all-stay s.jobs []
-all-come count rows s (turn.Fail n) ready = all-stay s.jobs []
-all-come count rows s (turn.Heal n) ready = all-stay s.jobs []
-all-come count rows s (turn.Cut n link) ready = all-stay s.jobs []
-all-come count rows s (turn.Join n link) ready = all-stay s.jobs []
-all-come count rows s (turn.Rotate n) ready = all-stay s.jobs []
+all-come count rows s (turn.Step x) ready = all-stay s.jobs []
 all-come count rows s (turn.Tick seconds) ready = all-stay s.jobs []
-all-come count rows s (turn.PollRead p n) ready = all-stay s.jobs []
-all-come count rows s (turn.PollStore p) ready = all-stay s.jobs []
-all-come count rows s (turn.Job id) ready = turn-come count s id ready (job_at s.jobs id) refl
-all-come count rows s turn.Scan ready = come-joined s.jobs (jobs_updated [] (scan_outcome s).book) (jobs_updated s.jobs (scan_outcome s).book) (scan-joins s)
-all-come count rows s (turn.Command c) ready = come-joined s.jobs (jobs_updated [] (command_outcome s c).book) (jobs_updated s.jobs (command_outcome s c).book) (command-joins s c)
-all-come count rows s turn.Restart ready = All-nil (ComesOf (s.jobs ++ []))
+all-come count rows s (turn.Act a) ready = act-come count rows s a ready
+all-come count rows s (turn.As node a) ready = act-come count rows s a ready
+all-come count rows s (turn.Claim node) ready = all-stay s.jobs []
+all-come count rows s (turn.Release node) ready = all-stay s.jobs []

@@ -4,14 +4,16 @@ use Rattle.std.specs.Prelude.{All}
 use Rattle.std.proofs.lemmas.List.Elements.{All-weaker}
 use Rattle.orch_base.specs.Memory.{next_count}
 use Rattle.instance_keeper.specs.Book.{BookState}
-use Rattle.instance_keeper.specs.declared.row.Row.{Row}
+use Rattle.kept_rows.specs.declared.row.Row.{Row}
 use Rattle.commands.specs.declared.turn.CommandTurn.{CommandTurn}
-use Rattle.server_words.specs.declared.changes.Event.TheVariants as event
-use Rattle.server_model.specs.Run.{Write, Fetch, Apply, Befall, Rotate}
 use Rattle.server_model.specs.Worlds.{World}
+use Rattle.turns.specs.declared.turn.Act.{Act}
+use Rattle.turns.specs.declared.turn.Act.TheVariants as act
+use Rattle.turns.specs.declared.turn.Step.{Step}
+use Rattle.turns.specs.declared.turn.Step.TheVariants as step
 use Rattle.turns.specs.declared.turn.Turn.{Turn}
 use Rattle.turns.specs.declared.turn.Turn.TheVariants as turn
-use Rattle.scenarios.specs.Turns.{IsCommand, IsTurn}
+use Rattle.scenarios.specs.Turns.{IsAct, IsCommand, IsTurn}
 use Rattle.scenarios.specs.declared.scenario.Scenario.{Scenario}
 use Rattle.job_laws.specs.Flights.{Flight}
 use Rattle.job_laws.specs.Passages as pass
@@ -23,16 +25,20 @@ use Rattle.covered_laws.specs.Beside.{IsAimedBeside, IsCoveredBeside, IsKeptBesi
 use Rattle.covered_laws.specs.Flights.{CoveredJobs, KeptJobs}
 use Rattle.covered_laws.proofs.Beside.{apart-stays, none-aimed, none-covered, none-kept, none-speak, outside-stays, recovery-covered, recovery-kept, recovery-speaks}
 use Rattle.covered_laws.proofs.Turning.{number-aimed, number-covered, number-kept, number-speaking}
-use Rattle.orch_core.specs.Commands.{jobs_updated}
 use Rattle.orch_core.specs.Polls.{command_outcome, scan_outcome}
-use Rattle.orch_core.specs.Runs.{step}
+use Rattle.orch_core.specs.After.{after_act, step as turn_step}
 use Rattle.orch_core.specs.Scenarios.{start}
 use Rattle.orch_core.specs.States.{State}
+use Rattle.orch_core.specs.Turns.{exchange_of}
+use Rattle.covered_laws.specs.Passages.{IsOutside}
+use Rattle.orch_core.specs.Settling.{known_of}
+use Rattle.orch_core.specs.Knowing.{updated}
 use Rattle.run_laws.specs.Ready.{Ready}
 use Rattle.run_laws.specs.Flights.{flight_of, moment_at, takes}
 use Rattle.run_laws.specs.States.{HeldState, SoundState}
 use Rattle.run_laws.proofs.Flown.{flown}
-use Rattle.recovery_runs.specs.Begun.{jobs_begun, BeginsOnce}
+use Rattle.run_laws.proofs.Passing.{step-may}
+use Rattle.recovery_runs.specs.Begun.{BeginsOnce, jobs_begun, jobs_of, jobs_in_act}
 use Rattle.recovery_runs.specs.States.{AimedState, CoveredState, KeptState, SpeakingState}
 use Rattle.recovery_runs.proofs.Begun.{command-once, scan-once}
 use Rattle.recovery_runs.proofs.Joining.{command-joins, joined, scan-joins}
@@ -57,93 +63,103 @@ once-speaks b (unended.Recovery r entry) once =
 
 -- with what a command or a scan begins
 module _ (P : Unended → Type 0) (count : ℕ) (s : State) (fits : (u : Unended) → BeginsOnce s.book u → P u) (ready : Ready count s) (all : All P s.jobs) where
-  with-command : (c : CommandTurn) → IsCommand count c → All P (jobs_updated s.jobs (command_outcome s c).book)
-  with-command c is = joined P s.jobs (jobs_updated [] (command_outcome s c).book) (jobs_updated s.jobs (command_outcome s c).book) (command-joins s c) all (All-weaker (BeginsOnce s.book) P fits (jobs_updated [] (command_outcome s c).book) (command-once count s ready c is))
+  with-command : (c : CommandTurn) → IsCommand count c → All P (updated (known_of s) (command_outcome s c).book).jobs
+  with-command c is = joined P s.jobs (jobs_of s (command_outcome s c)) (updated (known_of s) (command_outcome s c).book).jobs (command-joins s c) all (All-weaker (BeginsOnce s.book) P fits (jobs_of s (command_outcome s c)) (command-once count s ready c is))
 
-  with-scan : All P (jobs_updated s.jobs (scan_outcome s).book)
-  with-scan = joined P s.jobs (jobs_updated [] (scan_outcome s).book) (jobs_updated s.jobs (scan_outcome s).book) (scan-joins s) all (All-weaker (BeginsOnce s.book) P fits (jobs_updated [] (scan_outcome s).book) (scan-once count s ready))
+  with-scan : All P (updated (known_of s) (scan_outcome s).book).jobs
+  with-scan = joined P s.jobs (jobs_of s (scan_outcome s)) (updated (known_of s) (scan_outcome s).book).jobs (scan-joins s) all (All-weaker (BeginsOnce s.book) P fits (jobs_of s (scan_outcome s)) (scan-once count s ready))
+
+-- what befalls a server is outside, and may pass
+step-outside : (x : Step) → IsOutside (pass.Exchanging (exchange_of x))
+step-outside (step.Write n size) = refl
+step-outside (step.Fetch n) = refl
+step-outside (step.Apply n) = refl
+step-outside (step.Fail n) = refl
+step-outside (step.Heal n) = refl
+step-outside (step.Cut n link) = refl
+step-outside (step.Join n link) = refl
+step-outside (step.Rotate n) = refl
+step-outside (step.Purge n file) = refl
 
 -- ---- covered
 
-pub covered-step : (count : ℕ) (rows : List Row) (s : State) (t : Turn) → Ready count s → HeldState s → IsTurn count t → CoveredState s → CoveredState (step rows s t)
-covered-step count rows s (turn.Write n size) ready held is covered = outside-stays (flight_of s) s.jobs (pass.Exchanging (Write n.0 size)) refl covered
-covered-step count rows s (turn.Fetch n) ready held is covered = outside-stays (flight_of s) s.jobs (pass.Exchanging (Fetch n.0)) refl covered
-covered-step count rows s (turn.Apply n) ready held is covered = outside-stays (flight_of s) s.jobs (pass.Exchanging (Apply n.0)) refl covered
-covered-step count rows s (turn.Fail n) ready held is covered = outside-stays (flight_of s) s.jobs (pass.Exchanging (Befall n.0 event.Fail)) refl covered
-covered-step count rows s (turn.Heal n) ready held is covered = outside-stays (flight_of s) s.jobs (pass.Exchanging (Befall n.0 event.Heal)) refl covered
-covered-step count rows s (turn.Cut n link) ready held is covered = outside-stays (flight_of s) s.jobs (pass.Exchanging (Befall n.0 (event.Cut link))) refl covered
-covered-step count rows s (turn.Join n link) ready held is covered = outside-stays (flight_of s) s.jobs (pass.Exchanging (Befall n.0 (event.Join link))) refl covered
-covered-step count rows s (turn.Rotate n) ready held is covered = outside-stays (flight_of s) s.jobs (pass.Exchanging (Rotate n.0)) refl covered
-covered-step count rows s (turn.Tick seconds) ready held is covered = record { jobs = covered.jobs }
-covered-step count rows s (turn.PollRead p n) ready held is covered = record { jobs = covered.jobs }
-covered-step count rows s (turn.PollStore p) ready held is covered = record { jobs = covered.jobs }
-covered-step count rows s (turn.Job id) ready held is covered =
-    subst (λ (f : Flight). CoveredJobs f (step rows s (turn.Job id)).jobs) (sym (flown count rows s (turn.Job id) ready is))
+covered-act : (count : ℕ) (rows : List Row) (s : State) (a : Act) → Ready count s → HeldState s → IsAct count a → CoveredState s → CoveredState (after_act rows s a)
+covered-act count rows s (act.PollRead p n) ready held is covered = record { jobs = covered.jobs }
+covered-act count rows s (act.PollStore p) ready held is covered = record { jobs = covered.jobs }
+covered-act count rows s (act.Command c) ready held is covered = record { jobs = with-command (IsCoveredBeside s.world) count s (once-covered s.world s.book) ready covered.jobs c is }
+covered-act count rows s (act.Job id) ready held is covered =
+    subst (λ (f : Flight). CoveredJobs f (after_act rows s (act.Job id)).jobs) (sym (flown count rows s (turn.Act (act.Job id)) ready is))
     (number-covered (flight_of s) s.jobs s.book id (next_count s.reads) (moment_at s) refl held (takes s.book) (job_at s.jobs id) refl covered)
-covered-step count rows s turn.Scan ready held is covered = record { jobs = with-scan (IsCoveredBeside s.world) count s (once-covered s.world s.book) ready covered.jobs }
-covered-step count rows s (turn.Command c) ready held is covered = record { jobs = with-command (IsCoveredBeside s.world) count s (once-covered s.world s.book) ready covered.jobs c is }
-covered-step count rows s turn.Restart ready held is covered = none-covered (flight_of (step rows s turn.Restart))
+covered-act count rows s act.Scan ready held is covered = record { jobs = with-scan (IsCoveredBeside s.world) count s (once-covered s.world s.book) ready covered.jobs }
+covered-act count rows s act.Restart ready held is covered = none-covered (flight_of (after_act rows s act.Restart))
+
+pub covered-step : (count : ℕ) (rows : List Row) (s : State) (t : Turn) → Ready count s → HeldState s → IsTurn count t → CoveredState s → CoveredState (turn_step rows s t)
+covered-step count rows s (turn.Step x) ready held is covered = outside-stays (flight_of s) s.jobs (pass.Exchanging (exchange_of x)) (step-outside x) covered
+covered-step count rows s (turn.Tick seconds) ready held is covered = record { jobs = covered.jobs }
+covered-step count rows s (turn.Act a) ready held is covered = covered-act count rows s a ready held is covered
+covered-step count rows s (turn.As node a) ready held is covered = absurd is
+covered-step count rows s (turn.Claim node) ready held is covered = absurd is
+covered-step count rows s (turn.Release node) ready held is covered = absurd is
 
 -- ---- kept
 
-pub kept-step : (count : ℕ) (rows : List Row) (s : State) (t : Turn) → Ready count s → HeldState s → SoundState s → IsTurn count t → CoveredState s → KeptState s → KeptState (step rows s t)
-kept-step count rows s (turn.Write n size) ready held sound is covered kept = apart-stays (flight_of s) s.jobs (pass.Exchanging (Write n.0 size)) (is.1, tt) tt held kept
-kept-step count rows s (turn.Fetch n) ready held sound is covered kept = apart-stays (flight_of s) s.jobs (pass.Exchanging (Fetch n.0)) (tt, tt) tt held kept
-kept-step count rows s (turn.Apply n) ready held sound is covered kept = apart-stays (flight_of s) s.jobs (pass.Exchanging (Apply n.0)) (tt, tt) tt held kept
-kept-step count rows s (turn.Fail n) ready held sound is covered kept = apart-stays (flight_of s) s.jobs (pass.Exchanging (Befall n.0 event.Fail)) (tt, tt) tt held kept
-kept-step count rows s (turn.Heal n) ready held sound is covered kept = apart-stays (flight_of s) s.jobs (pass.Exchanging (Befall n.0 event.Heal)) (tt, tt) tt held kept
-kept-step count rows s (turn.Cut n link) ready held sound is covered kept = apart-stays (flight_of s) s.jobs (pass.Exchanging (Befall n.0 (event.Cut link))) (tt, tt) tt held kept
-kept-step count rows s (turn.Join n link) ready held sound is covered kept = apart-stays (flight_of s) s.jobs (pass.Exchanging (Befall n.0 (event.Join link))) (tt, tt) tt held kept
-kept-step count rows s (turn.Rotate n) ready held sound is covered kept = apart-stays (flight_of s) s.jobs (pass.Exchanging (Rotate n.0)) (tt, tt) tt held kept
-kept-step count rows s (turn.Tick seconds) ready held sound is covered kept = record { jobs = kept.jobs }
-kept-step count rows s (turn.PollRead p n) ready held sound is covered kept = record { jobs = kept.jobs }
-kept-step count rows s (turn.PollStore p) ready held sound is covered kept = record { jobs = kept.jobs }
-kept-step count rows s (turn.Job id) ready held sound is covered kept =
-    subst (λ (f : Flight). KeptJobs f (step rows s (turn.Job id)).jobs) (sym (flown count rows s (turn.Job id) ready is))
+kept-act : (count : ℕ) (rows : List Row) (s : State) (a : Act) → Ready count s → HeldState s → SoundState s → IsAct count a → CoveredState s → KeptState s → KeptState (after_act rows s a)
+kept-act count rows s (act.PollRead p n) ready held sound is covered kept = record { jobs = kept.jobs }
+kept-act count rows s (act.PollStore p) ready held sound is covered kept = record { jobs = kept.jobs }
+kept-act count rows s (act.Command c) ready held sound is covered kept = record { jobs = with-command (IsKeptBeside s.world) count s (once-kept s.world s.book) ready kept.jobs c is }
+kept-act count rows s (act.Job id) ready held sound is covered kept =
+    subst (λ (f : Flight). KeptJobs f (after_act rows s (act.Job id)).jobs) (sym (flown count rows s (turn.Act (act.Job id)) ready is))
     (number-kept (flight_of s) s.jobs s.book id (next_count s.reads) (moment_at s) refl held (takes s.book) (job_at s.jobs id) refl sound covered kept)
-kept-step count rows s turn.Scan ready held sound is covered kept = record { jobs = with-scan (IsKeptBeside s.world) count s (once-kept s.world s.book) ready kept.jobs }
-kept-step count rows s (turn.Command c) ready held sound is covered kept = record { jobs = with-command (IsKeptBeside s.world) count s (once-kept s.world s.book) ready kept.jobs c is }
-kept-step count rows s turn.Restart ready held sound is covered kept = none-kept (flight_of (step rows s turn.Restart))
+kept-act count rows s act.Scan ready held sound is covered kept = record { jobs = with-scan (IsKeptBeside s.world) count s (once-kept s.world s.book) ready kept.jobs }
+kept-act count rows s act.Restart ready held sound is covered kept = none-kept (flight_of (after_act rows s act.Restart))
+
+pub kept-step : (count : ℕ) (rows : List Row) (s : State) (t : Turn) → Ready count s → HeldState s → SoundState s → IsTurn count t → CoveredState s → KeptState s → KeptState (turn_step rows s t)
+kept-step count rows s (turn.Step x) ready held sound is covered kept = apart-stays (flight_of s) s.jobs (pass.Exchanging (exchange_of x)) (step-may count (flight_of s) x is) tt held kept
+kept-step count rows s (turn.Tick seconds) ready held sound is covered kept = record { jobs = kept.jobs }
+kept-step count rows s (turn.Act a) ready held sound is covered kept = kept-act count rows s a ready held sound is covered kept
+kept-step count rows s (turn.As node a) ready held sound is covered kept = absurd is
+kept-step count rows s (turn.Claim node) ready held sound is covered kept = absurd is
+kept-step count rows s (turn.Release node) ready held sound is covered kept = absurd is
 
 -- ---- speaking
 
-pub speaking-step : (count : ℕ) (rows : List Row) (s : State) (t : Turn) → Ready count s → HeldState s → IsTurn count t → SpeakingState s → SpeakingState (step rows s t)
-speaking-step count rows s (turn.Write n size) ready held is speaking = speaking
-speaking-step count rows s (turn.Fetch n) ready held is speaking = speaking
-speaking-step count rows s (turn.Apply n) ready held is speaking = speaking
-speaking-step count rows s (turn.Fail n) ready held is speaking = speaking
-speaking-step count rows s (turn.Heal n) ready held is speaking = speaking
-speaking-step count rows s (turn.Cut n link) ready held is speaking = speaking
-speaking-step count rows s (turn.Join n link) ready held is speaking = speaking
-speaking-step count rows s (turn.Rotate n) ready held is speaking = speaking
-speaking-step count rows s (turn.Tick seconds) ready held is speaking = speaking
-speaking-step count rows s (turn.PollRead p n) ready held is speaking = speaking
-speaking-step count rows s (turn.PollStore p) ready held is speaking = speaking
-speaking-step count rows s (turn.Job id) ready held is speaking =
+speaking-act : (count : ℕ) (rows : List Row) (s : State) (a : Act) → Ready count s → HeldState s → IsAct count a → SpeakingState s → SpeakingState (after_act rows s a)
+speaking-act count rows s (act.PollRead p n) ready held is speaking = speaking
+speaking-act count rows s (act.PollStore p) ready held is speaking = speaking
+speaking-act count rows s (act.Command c) ready held is speaking = record { jobs = with-command IsSpeakingBeside count s (once-speaks s.book) ready speaking.jobs c is }
+speaking-act count rows s (act.Job id) ready held is speaking =
     number-speaking (flight_of s) s.jobs s.book id (next_count s.reads) (moment_at s) refl held (job_at s.jobs id) refl speaking
-speaking-step count rows s turn.Scan ready held is speaking = record { jobs = with-scan IsSpeakingBeside count s (once-speaks s.book) ready speaking.jobs }
-speaking-step count rows s (turn.Command c) ready held is speaking = record { jobs = with-command IsSpeakingBeside count s (once-speaks s.book) ready speaking.jobs c is }
-speaking-step count rows s turn.Restart ready held is speaking = none-speak
+speaking-act count rows s act.Scan ready held is speaking = record { jobs = with-scan IsSpeakingBeside count s (once-speaks s.book) ready speaking.jobs }
+speaking-act count rows s act.Restart ready held is speaking = none-speak
+
+pub speaking-step : (count : ℕ) (rows : List Row) (s : State) (t : Turn) → Ready count s → HeldState s → IsTurn count t → SpeakingState s → SpeakingState (turn_step rows s t)
+speaking-step count rows s (turn.Step x) ready held is speaking = speaking
+speaking-step count rows s (turn.Tick seconds) ready held is speaking = speaking
+speaking-step count rows s (turn.Act a) ready held is speaking = speaking-act count rows s a ready held is speaking
+speaking-step count rows s (turn.As node a) ready held is speaking = absurd is
+speaking-step count rows s (turn.Claim node) ready held is speaking = absurd is
+speaking-step count rows s (turn.Release node) ready held is speaking = absurd is
 
 -- ---- aimed
 
-pub aimed-step : (begun : ℕ → Recovery) (rows : List Row) (s : State) (t : Turn) → HeldState s → All (IsAimedBeside begun) (jobs_begun s t) → AimedState begun s → AimedState begun (step rows s t)
-aimed-step begun rows s (turn.Write n size) held new aimed = aimed
-aimed-step begun rows s (turn.Fetch n) held new aimed = aimed
-aimed-step begun rows s (turn.Apply n) held new aimed = aimed
-aimed-step begun rows s (turn.Fail n) held new aimed = aimed
-aimed-step begun rows s (turn.Heal n) held new aimed = aimed
-aimed-step begun rows s (turn.Cut n link) held new aimed = aimed
-aimed-step begun rows s (turn.Join n link) held new aimed = aimed
-aimed-step begun rows s (turn.Rotate n) held new aimed = aimed
-aimed-step begun rows s (turn.Tick seconds) held new aimed = aimed
-aimed-step begun rows s (turn.PollRead p n) held new aimed = aimed
-aimed-step begun rows s (turn.PollStore p) held new aimed = aimed
-aimed-step begun rows s (turn.Job id) held new aimed =
+aimed-act : (begun : ℕ → Recovery) (rows : List Row) (s : State) (a : Act) → HeldState s → All (IsAimedBeside begun) (jobs_in_act s a) → AimedState begun s → AimedState begun (after_act rows s a)
+aimed-act begun rows s (act.PollRead p n) held new aimed = aimed
+aimed-act begun rows s (act.PollStore p) held new aimed = aimed
+aimed-act begun rows s (act.Command c) held new aimed =
+    record { jobs = joined (IsAimedBeside begun) s.jobs (jobs_of s (command_outcome s c)) (updated (known_of s) (command_outcome s c).book).jobs (command-joins s c) aimed.jobs new }
+aimed-act begun rows s (act.Job id) held new aimed =
     number-aimed (flight_of s) s.jobs s.book id (next_count s.reads) (moment_at s) refl held begun (job_at s.jobs id) refl aimed
-aimed-step begun rows s turn.Scan held new aimed = record { jobs = joined (IsAimedBeside begun) s.jobs (jobs_updated [] (scan_outcome s).book) (jobs_updated s.jobs (scan_outcome s).book) (scan-joins s) aimed.jobs new }
-aimed-step begun rows s (turn.Command c) held new aimed = record { jobs = joined (IsAimedBeside begun) s.jobs (jobs_updated [] (command_outcome s c).book) (jobs_updated s.jobs (command_outcome s c).book) (command-joins s c) aimed.jobs new }
-aimed-step begun rows s turn.Restart held new aimed = none-aimed begun
+aimed-act begun rows s act.Scan held new aimed =
+    record { jobs = joined (IsAimedBeside begun) s.jobs (jobs_of s (scan_outcome s)) (updated (known_of s) (scan_outcome s).book).jobs (scan-joins s) aimed.jobs new }
+aimed-act begun rows s act.Restart held new aimed = none-aimed begun
+
+pub aimed-step : (begun : ℕ → Recovery) (rows : List Row) (s : State) (t : Turn) → HeldState s → All (IsAimedBeside begun) (jobs_begun s t) → AimedState begun s → AimedState begun (turn_step rows s t)
+aimed-step begun rows s (turn.Step x) held new aimed = aimed
+aimed-step begun rows s (turn.Tick seconds) held new aimed = aimed
+aimed-step begun rows s (turn.Act a) held new aimed = aimed-act begun rows s a held new aimed
+aimed-step begun rows s (turn.As node a) held new aimed = aimed-act begun rows s a held new aimed
+aimed-step begun rows s (turn.Claim node) held new aimed = aimed
+aimed-step begun rows s (turn.Release node) held new aimed = aimed
 
 -- ---- the opening
 

@@ -9,22 +9,22 @@ use Rattle.orch_base.specs.declared.server.Moment.{Moment}
 use Rattle.orch_base.specs.declared.server.ServerNo.{ServerNo}
 use Rattle.audit_log.specs.Audits.{AuditState, acked_so, acknowledged_at, ended, ended_so, recovery_at}
 use Rattle.commands.specs.declared.line.Line.{Line}
-use Rattle.instance_keeper.specs.declared.recovery.Recovery.{Recovery as KeptRecovery}
-use Rattle.instance_keeper.specs.declared.row.Change.{Change}
-use Rattle.instance_keeper.specs.declared.row.Change.TheVariants as change
-use Rattle.instance_keeper.specs.declared.row.Row.{Row}
-use Rattle.instance_keeper.specs.declared.row.Row.TheVariants as row
+use Rattle.kept_rows.specs.Recoveries.{put_recovery}
+use Rattle.kept_rows.specs.declared.recovery.Recovery.{Recovery as KeptRecovery}
+use Rattle.kept_rows.specs.declared.row.Change.{Change}
+use Rattle.kept_rows.specs.declared.row.Row.{Row}
 use Rattle.jobs_in_flight.specs.Jobs.{job_observation}
 use Rattle.operations.specs.declared.step.JobStep.{JobStep}
 use Rattle.recovery_core.specs.Endings.{done_with, is_takeover}
 use Rattle.recovery_plans.specs.Recoveries.{Recovery}
 use Rattle.recovery_plans.specs.declared.purpose.Purpose.{Purpose}
+use Rattle.turns.specs.declared.turn.Act.TheVariants as act
 use Rattle.turns.specs.declared.turn.Turn.TheVariants as turn
 use Rattle.unended_jobs.specs.declared.unended.Unended.{Unended}
 use Rattle.orch_core.specs.Closings.{closed_by, closing_at, closing_changes, closing_of}
 use Rattle.orch_core.specs.Jobs.{turn_of, turned_at}
 use Rattle.orch_core.specs.Polls.{changes_by, changes_of}
-use Rattle.orch_core.specs.Runs.{step}
+use Rattle.orch_core.specs.After.{step}
 use Rattle.orch_core.specs.States.{State}
 use Rattle.run_laws.specs.Flights.{moment_at}
 use Rattle.recovery_runs.specs.Finishes.{finished_so, recovery_after, IsFinish}
@@ -86,7 +86,7 @@ module _ (s : State) (id e : ℕ) (r : Recovery) (lines : List Line) (n : Server
   same-purpose : (recovery_after s r).purpose ≡ r.purpose
   same-purpose = (aim-at s id r (Some e) is.found).purpose
 
-  pub audit-ends : (rows : List Row) → recovery_at (step rows s (turn.Job id)).audit e ≡ option_map (finished_so (moment_at s) r.purpose n) (recovery_at s.audit e)
+  pub audit-ends : (rows : List Row) → recovery_at (step rows s (turn.Act (act.Job id))).audit e ≡ option_map (finished_so (moment_at s) r.purpose n) (recovery_at s.audit e)
   audit-ends rows =
       ap (λ (o : Option Unended). recovery_at (closed_by s.audit (moment_at s) (closing_of (option_map (turn_of s) o))) e) is.found
       ∙ (ap (λ (x : JobStep). recovery_at (closed_by s.audit (moment_at s) (closing_at (recovery_after s r) x e)) e) is.done
@@ -103,20 +103,20 @@ module _ (s : State) (id e : ℕ) (r : Recovery) (lines : List Line) (n : Server
 
   -- the entry as it is kept
   abbrev kept_as : Bool → Ending → Option KeptRecovery → List Change
-  kept_as b o found = option_to_list (option_map (λ k. change.Put (row.Recovery (closed_so (moment_at s) b o k))) found)
+  kept_as b o found = option_to_list (option_map (λ k. put_recovery (closed_so (moment_at s) b o k)) found)
 
   changes-are : (rows : List Row) (k : KeptRecovery) → recovery_at s.audit e ≡ Some k
-      → changes_of rows s (turn.Job id) ≡ before ++ change.Put (row.Recovery (finished_so (moment_at s) r.purpose n k)) ∷ []
+      → changes_of rows s (turn.Act (act.Job id)) ≡ before ++ put_recovery (finished_so (moment_at s) r.purpose n k) ∷ []
   changes-are rows k at =
       ap (λ (o : Option Unended). before ++ closing_changes s.audit (moment_at s) (closing_of (option_map (turn_of s) o))) is.found
       ∙ (ap (λ (x : JobStep). before ++ closing_changes s.audit (moment_at s) (closing_at (recovery_after s r) x e)) is.done
       ∙ (ap (λ (o : Option ServerNo). before ++ kept_as (is_takeover (recovery_after s r).purpose) (done_with o) (recovery_at s.audit e)) promoted
       ∙ (ap (λ (u : Purpose). before ++ kept_as (is_takeover u) (ending.Promoted n) (recovery_at s.audit e)) same-purpose
       ∙ (ap (λ (o : Option KeptRecovery). before ++ kept_as (is_takeover r.purpose) (ending.Promoted n) o) at
-      ∙ ap (λ (x : KeptRecovery). before ++ change.Put (row.Recovery x) ∷ []) (closed-same k (is_takeover r.purpose))))))
+      ∙ ap (λ (x : KeptRecovery). before ++ put_recovery x ∷ []) (closed-same k (is_takeover r.purpose))))))
 
   pub entry-kept : (rows : List Row) (k : KeptRecovery) → recovery_at s.audit e ≡ Some k
-      → Contains (changes_of rows s (turn.Job id)) (change.Put (row.Recovery (finished_so (moment_at s) r.purpose n k)))
+      → Contains (changes_of rows s (turn.Act (act.Job id))) (put_recovery (finished_so (moment_at s) r.purpose n k))
   entry-kept rows k at =
-      let put = change.Put (row.Recovery (finished_so (moment_at s) r.purpose n k)) in
+      let put = put_recovery (finished_so (moment_at s) r.purpose n k) in
       subst (λ (cs : List Change). Contains cs put) (sym (changes-are rows k at)) (Contains-push before put)

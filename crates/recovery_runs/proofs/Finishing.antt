@@ -6,7 +6,7 @@ use Rattle.orch_base.specs.Memory.{next_count}
 use Rattle.orch_base.specs.declared.server.ServerNo.{ServerNo}
 use Rattle.commands.specs.declared.line.Line.{Line}
 use Rattle.commands.specs.declared.line.Lost.{Lost}
-use Rattle.instance_keeper.specs.declared.row.Row.{Row}
+use Rattle.kept_rows.specs.declared.row.Row.{Row}
 use Rattle.operations.specs.declared.step.JobStep.{JobStep}
 use Rattle.server_model.specs.Run.{run}
 use Rattle.server_model.specs.Safe.{Safe}
@@ -18,7 +18,8 @@ use Rattle.recovery_histories.specs.Kept.{IsBeginning, Keeps, SameAim}
 use Rattle.recovery_plans.specs.Named.{IsNamedRecovery}
 use Rattle.recovery_plans.specs.Recoveries.{Recovery}
 use Rattle.recovery_reasons.specs.Reasons.{AllLost, ExplainsTruly}
-use Rattle.turns.specs.declared.turn.Reply.TheVariants as answered
+use Rattle.turns.specs.declared.reply.Reply.TheVariants as answered
+use Rattle.turns.specs.declared.turn.Act.TheVariants as act
 use Rattle.turns.specs.declared.turn.Turn.TheVariants as turn
 use Rattle.unended_jobs.specs.declared.unended.Unended.{Unended}
 use Rattle.unended_jobs.specs.declared.unended.Unended.TheVariants as unended
@@ -27,7 +28,7 @@ use Rattle.covered_laws.specs.Turns.{RecoveryTurn}
 use Rattle.covered_laws.proofs.Ending.{done-named, done-old, done-placed, done-promoted, done-told, last-aim, turn-aim, turn-explained}
 use Rattle.orch_core.specs.Jobs.{turn_of}
 use Rattle.orch_core.specs.Replies.{reply_of}
-use Rattle.orch_core.specs.Runs.{step}
+use Rattle.orch_core.specs.After.{step}
 use Rattle.orch_core.specs.States.{State}
 use Rattle.run_laws.specs.Ready.{Ready}
 use Rattle.run_laws.specs.Flights.{flight_of, moment_at}
@@ -40,7 +41,7 @@ module _ (s : State) (id : ℕ) (r : Recovery) (entry : Option ℕ) where
     abbrev turn_in : RecoveryTurn (flight_of s) s.jobs
     turn_in = record { id = id; recovery = r; entry = entry; found = found; book = s.book; rings = refl; at_read = next_count s.reads; at_moment = moment_at s }
 
-    world-then : (rows : List Row) → (step rows s (turn.Job id)).world ≡ run s.world (turn_taken s r).exchanges
+    world-then : (rows : List Row) → (step rows s (turn.Act (act.Job id))).world ≡ run s.world (turn_taken s r).exchanges
     world-then rows = ap (λ (o : Option Unended). run s.world (job_exchanges (option_map (turn_of s) o))) found
 
     -- its servers are there
@@ -55,10 +56,10 @@ module _ (s : State) (id : ℕ) (r : Recovery) (entry : Option ℕ) where
     losses-true P held speaking explains lost = turn-explained (flight_of s) s.jobs turn_in held P speaking explains lost
 
   module _ (lines : List Line) (is : IsFinish s id r entry lines) where
-    pub reply-told : reply_of s (turn.Job id) ≡ answered.Told lines
+    pub reply-told : reply_of s (turn.Act (act.Job id)) ≡ answered.Told lines
     reply-told = ap (λ (o : Option Unended). job_reply (option_map (turn_of s) o)) is.found ∙ ap (λ (x : JobStep). step_reply x) is.done
 
-    pub owes-nothing : (count : ℕ) (rows : List Row) → Ready count s → HeldState s → CoveredState s → OwesNothing count (step rows s (turn.Job id)).world r (recovery_after s r) lines
+    pub owes-nothing : (count : ℕ) (rows : List Row) → Ready count s → HeldState s → CoveredState s → OwesNothing count (step rows s (turn.Act (act.Job id))).world r (recovery_after s r) lines
     owes-nothing count rows ready held covered = record {
       aim = aim-at is.found;
       told =
@@ -68,8 +69,8 @@ module _ (s : State) (id : ℕ) (r : Recovery) (entry : Option ℕ) where
       named = done-named (flight_of s) s.jobs (turn_in is.found) held covered lines is.done count (named-at is.found count ready);
     }
 
-    pub keeps-histories : (rows : List Row) → HeldState s → SoundState s → CoveredState s → KeptState s → Safe (step rows s (turn.Job id)).world
-        → KeepsHistories (step rows s (turn.Job id)).world r (recovery_after s r)
+    pub keeps-histories : (rows : List Row) → HeldState s → SoundState s → CoveredState s → KeptState s → Safe (step rows s (turn.Act (act.Job id))).world
+        → KeepsHistories (step rows s (turn.Act (act.Job id))).world r (recovery_after s r)
     keeps-histories rows held sound covered kept safe = record {
       promoted = λ n has.
           subst (λ (w : World). All (λ x. Keeps w r.failed.0 x.exec n.0) (recovery_after s r).eligible) (sym (world-then is.found rows))

@@ -5,7 +5,7 @@ use Rattle.std.proofs.lemmas.List.{append-nil}
 use Rattle.std.proofs.lemmas.List.Elements.{All-append}
 use Rattle.orch_base.specs.declared.server.ServerNo.{ServerNo}
 use Rattle.server_words.specs.declared.status.Status.{Status as Seen}
-use Rattle.instance_keeper.specs.declared.observation.Observation.{Observation}
+use Rattle.kept_rows.specs.declared.observation.Observation.{Observation}
 use Rattle.commands.specs.declared.line.Line.{Line}
 use Rattle.commands.specs.declared.refusal.Refusal.{Refusal}
 use Rattle.commands.specs.declared.refusal.Refusal.TheVariants.{UnknownInstance}
@@ -19,16 +19,19 @@ use Rattle.book_commands.specs.declared.decided.Decided.{Decided}
 use Rattle.book_commands.specs.Decisions.{decided_of}
 use Rattle.recovery_core.specs.Tries.{Begins as RecoveryBegins, recovery_try, takeover_try}
 use Rattle.unended_jobs.specs.declared.unended.Unended.{Unended}
-use Rattle.orch_core.specs.Commands.{Outcome, about as given_or, asked, begun, by_hand, decided, discovered, forgotten, jobs_updated, outcome_by, outcome_of, question, recovered, recovery_begun, refusal, removal_refusal, taken_over}
+use Rattle.orch_core.specs.Commands.{Outcome, about as given_or, asked, begun, by_hand, decided, discovered, forgotten, outcome_by, outcome_of, question, recovered, recovery_begun, refusal, removal_refusal, taken_over}
 use Rattle.orch_core.specs.Polls.{command_outcome, numbers_of, reading, scan_outcome}
 use Rattle.orch_core.specs.States.{State}
+use Rattle.orch_core.specs.Settling.{known_of}
+use Rattle.orch_core.specs.Knowing.{updated}
+use Rattle.recovery_runs.specs.Begun.{jobs_of}
 
 pub joined : (P : Unended → Type 0) (us vs ws : List Unended) → ws ≡ us ++ vs → All P us → All P vs → All P ws
 joined P us vs ws is all new = subst (All P) (sym is) (All-append P us vs all new)
 
 module _ (s : State) where
   abbrev Joins : Outcome → Type 0
-  Joins o = jobs_updated s.jobs o.book ≡ s.jobs ++ jobs_updated [] o.book
+  Joins o = (updated (known_of s) o.book).jobs ≡ s.jobs ++ jobs_of s o
 
   none-joins : s.jobs ≡ s.jobs ++ []
   none-joins = sym (append-nil s.jobs)
@@ -57,11 +60,11 @@ module _ (s : State) where
   joins-recovery (Ok x) = refl
   joins-recovery (Err why) = none-joins
 
-  joins-taken_over : (d : Option ServerNo) (i : ServerNo) → Joins (taken_over s.world s.book s.audit (numbers_of s) d i)
+  joins-taken_over : (d : Option ServerNo) (i : ServerNo) → Joins (taken_over s.world s.book s.audit s.configuration (numbers_of s) d i)
   joins-taken_over None i = none-joins
-  joins-taken_over (Some d) i = joins-recovery (takeover_try s.world s.book s.audit (by_hand (numbers_of s)) s.configuration.wait (s.last_job + 1) i d)
+  joins-taken_over (Some d) i = joins-recovery (takeover_try s.world s.book s.audit (by_hand s.book s.configuration (numbers_of s) i) s.configuration.wait (s.last_job + 1) i d)
 
-  pub scan-joins : jobs_updated s.jobs (scan_outcome s).book ≡ s.jobs ++ jobs_updated [] (scan_outcome s).book
+  pub scan-joins : (updated (known_of s) (scan_outcome s).book).jobs ≡ s.jobs ++ jobs_of s (scan_outcome s)
   scan-joins = refl
 
   -- ---- any command
@@ -74,7 +77,7 @@ module _ (s : State) where
     given none some here each None = here
     given none some here each (Some i) = each i
 
-    joins-route : (r : Route) → Joins (outcome_by s.world s.book s.audit (numbers_of s) t r)
+    joins-route : (r : Route) → Joins (outcome_by s.world s.book s.audit s.configuration (numbers_of s) t r)
     joins-route Discovers =
         given (question s.book s.audit s.reads t) (λ i. discovered s.book s.reads (reading s i) (reading s i).seen) asks
         (λ i. joins-discovered s.reads (reading s i) (reading s i).seen) t.command.i
@@ -88,11 +91,11 @@ module _ (s : State) where
         joins-begun (refusal_by s.world s.book (record { 0 = s.moment }) t.command p) (leases_by s.world s.book t.command p)
         (job_by s.world s.book t.command p (s.last_job + 1) s.configuration.wait)
     joins-route Recovers =
-        given (refusal s.reads UnknownInstance) (recovered s.world s.book s.audit (numbers_of s)) none-joins
-        (λ i. joins-recovery (recovery_try s.world s.book s.audit (by_hand (numbers_of s)) s.configuration.wait (s.last_job + 1) i)) t.command.i
+        given (refusal s.reads UnknownInstance) (recovered s.world s.book s.audit s.configuration (numbers_of s)) none-joins
+        (λ i. joins-recovery (recovery_try s.world s.book s.audit (by_hand s.book s.configuration (numbers_of s) i) s.configuration.wait (s.last_job + 1) i)) t.command.i
     joins-route TakesOver =
-        given (refusal s.reads UnknownInstance) (taken_over s.world s.book s.audit (numbers_of s) t.command.d) none-joins (joins-taken_over t.command.d) t.command.i
+        given (refusal s.reads UnknownInstance) (taken_over s.world s.book s.audit s.configuration (numbers_of s) t.command.d) none-joins (joins-taken_over t.command.d) t.command.i
 
-  pub command-joins : (c : CommandTurn) → jobs_updated s.jobs (command_outcome s c).book ≡ s.jobs ++ jobs_updated [] (command_outcome s c).book
+  pub command-joins : (c : CommandTurn) → (updated (known_of s) (command_outcome s c).book).jobs ≡ s.jobs ++ jobs_of s (command_outcome s c)
   unfolding outcome_of
   command-joins c = joins-route c (route_of c.command.name)

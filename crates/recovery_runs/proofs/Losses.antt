@@ -7,7 +7,7 @@ use Rattle.orch_base.specs.Memory.{next_count}
 use Rattle.orch_base.specs.declared.server.ServerNo.{ServerNo}
 use Rattle.commands.specs.declared.line.Lost.{Lost}
 use Rattle.instance_keeper.specs.Book.{BookState}
-use Rattle.instance_keeper.specs.declared.row.Row.{Row}
+use Rattle.kept_rows.specs.declared.row.Row.{Row}
 use Rattle.job_laws.proofs.Lists.{All-find}
 use Rattle.jobs_in_flight.specs.Jobs.{job_at, jobs_turned}
 use Rattle.jobs_in_flight.proofs.Numbers.{found-number}
@@ -15,8 +15,10 @@ use Rattle.operations.specs.Turns.{is_going}
 use Rattle.recovery_plans.specs.declared.outcome.LostReplica.{LostReplica}
 use Rattle.recovery_plans.specs.Recoveries.{Recovery}
 use Rattle.recovery_reasons.specs.Reasons.{AllLost, ExplainsTruly}
-use Rattle.scenarios.specs.Turns.{IsTurn}
+use Rattle.scenarios.specs.Turns.{IsAct, IsTurn}
 use Rattle.scenarios.specs.declared.scenario.Scenario.{Scenario}
+use Rattle.turns.specs.declared.turn.Act.{Act}
+use Rattle.turns.specs.declared.turn.Act.TheVariants as act
 use Rattle.turns.specs.declared.turn.Turn.{Turn}
 use Rattle.turns.specs.declared.turn.Turn.TheVariants as turn
 use Rattle.unended_jobs.specs.declared.unended.Unended.{Unended}
@@ -24,21 +26,22 @@ use Rattle.unended_jobs.specs.declared.unended.Unended.TheVariants as unended
 use Rattle.unended_jobs.specs.Unended.{IsReady, number_of}
 use Rattle.unended_jobs.proofs.Going.{flown-number}
 use Rattle.covered_laws.proofs.Turning.{all-turned}
-use Rattle.orch_core.specs.Commands.{jobs_updated}
 use Rattle.orch_core.specs.Jobs.{turn_of}
 use Rattle.orch_core.specs.Polls.{command_outcome, scan_outcome}
-use Rattle.orch_core.specs.Runs.{step}
+use Rattle.orch_core.specs.After.{after_act, step}
 use Rattle.orch_core.specs.Scenarios.{start}
 use Rattle.orch_core.specs.States.{State}
+use Rattle.orch_core.specs.Settling.{known_of}
+use Rattle.orch_core.specs.Knowing.{updated}
 use Rattle.run_laws.specs.Ready.{Ready}
 use Rattle.run_laws.specs.Flights.{moment_at}
 use Rattle.run_laws.specs.States.{HeldState}
-use Rattle.recovery_runs.specs.Begun.{BeginsOnce}
+use Rattle.recovery_runs.specs.Begun.{BeginsOnce, jobs_of}
 use Rattle.recovery_runs.specs.States.{SpeakingState}
 use Rattle.recovery_runs.proofs.Begun.{command-once, scan-once}
 use Rattle.recovery_runs.proofs.Joining.{command-joins, joined, scan-joins}
 use Rattle.recovery_runs.specs.Finishes.{recovery_after}
-use Rattle.recovery_runs.specs.Losses.{ExplainedState, ExplainsTurn, HasReasons}
+use Rattle.recovery_runs.specs.Losses.{ExplainedState, ExplainsAct, ExplainsTurn, HasReasons}
 use Rattle.recovery_runs.proofs.Finishing.{losses-true}
 
 module _ (P : ServerNo → Lost → Bool) (id : ℕ) where
@@ -79,26 +82,26 @@ module _ (P : ServerNo → Lost → Bool) (id : ℕ) where
 
   -- ---- every turn
 
+  explained-act : (count : ℕ) (rows : List Row) (s : State) (a : Act) → Ready count s → IsAct count a → HeldState s → SpeakingState s → ExplainsAct P id s a
+      → ExplainedState P id s → ExplainedState P id (after_act rows s a)
+  explained-act count rows s (act.PollRead p n) ready is held speaking explains explained = explained
+  explained-act count rows s (act.PollStore p) ready is held speaking explains explained = explained
+  explained-act count rows s (act.Command c) ready is held speaking explains explained =
+      with-begun s (jobs_of s (command_outcome s c)) (updated (known_of s) (command_outcome s c).book).jobs (command-joins s c) (command-once count s ready c is) explained
+  explained-act count rows s (act.Job job) ready is held speaking explains explained =
+      turn-explained count s job ready held speaking explained explains (job_at s.jobs job) refl
+  explained-act count rows s act.Scan ready is held speaking explains explained =
+      with-begun s (jobs_of s (scan_outcome s)) (updated (known_of s) (scan_outcome s).book).jobs (scan-joins s) (scan-once count s ready) explained
+  explained-act count rows s act.Restart ready is held speaking explains explained = All-nil Explained
+
   pub explained-step : (count : ℕ) (rows : List Row) (s : State) (t : Turn) → Ready count s → IsTurn count t → HeldState s → SpeakingState s → ExplainsTurn P id s t
       → ExplainedState P id s → ExplainedState P id (step rows s t)
-  explained-step count rows s (turn.Write n size) ready is held speaking explains explained = explained
-  explained-step count rows s (turn.Fetch n) ready is held speaking explains explained = explained
-  explained-step count rows s (turn.Apply n) ready is held speaking explains explained = explained
-  explained-step count rows s (turn.Fail n) ready is held speaking explains explained = explained
-  explained-step count rows s (turn.Heal n) ready is held speaking explains explained = explained
-  explained-step count rows s (turn.Cut n link) ready is held speaking explains explained = explained
-  explained-step count rows s (turn.Join n link) ready is held speaking explains explained = explained
-  explained-step count rows s (turn.Rotate n) ready is held speaking explains explained = explained
+  explained-step count rows s (turn.Step x) ready is held speaking explains explained = explained
   explained-step count rows s (turn.Tick seconds) ready is held speaking explains explained = explained
-  explained-step count rows s (turn.PollRead p n) ready is held speaking explains explained = explained
-  explained-step count rows s (turn.PollStore p) ready is held speaking explains explained = explained
-  explained-step count rows s (turn.Job job) ready is held speaking explains explained =
-      turn-explained count s job ready held speaking explained explains (job_at s.jobs job) refl
-  explained-step count rows s turn.Scan ready is held speaking explains explained =
-      with-begun s (jobs_updated [] (scan_outcome s).book) (jobs_updated s.jobs (scan_outcome s).book) (scan-joins s) (scan-once count s ready) explained
-  explained-step count rows s (turn.Command c) ready is held speaking explains explained =
-      with-begun s (jobs_updated [] (command_outcome s c).book) (jobs_updated s.jobs (command_outcome s c).book) (command-joins s c) (command-once count s ready c is) explained
-  explained-step count rows s turn.Restart ready is held speaking explains explained = All-nil Explained
+  explained-step count rows s (turn.Act a) ready is held speaking explains explained = explained-act count rows s a ready is held speaking explains explained
+  explained-step count rows s (turn.As node a) ready is held speaking explains explained = absurd is
+  explained-step count rows s (turn.Claim node) ready is held speaking explains explained = absurd is
+  explained-step count rows s (turn.Release node) ready is held speaking explains explained = absurd is
 
   pub explained-start : (s : Scenario) (wait : ℕ) (rows : List Row) → ExplainedState P id (start s wait rows)
   explained-start s wait rows = All-nil Explained

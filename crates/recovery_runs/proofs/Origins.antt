@@ -3,7 +3,7 @@ use Rattle.std.proofs.Common.{◌≡◌, ◌∙◌, ℕ, List, [], ◌∷◌, �
 use Rattle.std.specs.Prelude.{All, Contains, slice_get}
 use Rattle.std.proofs.lemmas.List.Elements.{All-contains, All-weaker, Contains-append_cases}
 use Rattle.book_views.specs.Sources.{replicas_of}
-use Rattle.instance_keeper.specs.declared.row.Row.{Row}
+use Rattle.kept_rows.specs.declared.row.Row.{Row}
 use Rattle.recovery_plans.specs.Recoveries.{Recovery}
 use Rattle.recovery_histories.specs.Kept.{SameAim}
 use Rattle.recovery_histories.proofs.Staying.{then-aim}
@@ -11,7 +11,8 @@ use Rattle.scenarios.specs.Turns.{IsTurn}
 use Rattle.turns.specs.declared.turn.Turn.{Turn}
 use Rattle.unended_jobs.specs.declared.unended.Unended.{Unended}
 use Rattle.unended_jobs.specs.declared.unended.Unended.TheVariants as unended
-use Rattle.orch_core.specs.Runs.{engine, run_turns, step}
+use Rattle.orch_core.specs.After.{step}
+use Rattle.orch_core.specs.Runs.{engine, run_turns}
 use Rattle.orch_core.specs.States.{State}
 use Rattle.run_laws.specs.Ready.{Ready}
 use Rattle.recovery_runs.specs.Begun.{jobs_begun, BeginsOnce, ComesOf}

@@ -8,7 +8,7 @@ use Rattle.orch_base.specs.declared.server.ServerNo.{ServerNo}
 use Rattle.audit_log.specs.Audits.{recovery_at}
 use Rattle.commands.specs.declared.line.Line.{Line}
 use Rattle.commands.specs.declared.line.Lost.{Lost}
-use Rattle.instance_keeper.specs.declared.row.Row.{Row}
+use Rattle.kept_rows.specs.declared.row.Row.{Row}
 use Rattle.job_laws.proofs.Lists.{All-find}
 use Rattle.jobs_in_flight.specs.Jobs.{job_at}
 use Rattle.jobs_in_flight.proofs.Numbers.{found-number}
@@ -19,11 +19,13 @@ use Rattle.replication_laws.proofs.Runs as exchanges
 use Rattle.scenarios.specs.Turns.{IsTurn}
 use Rattle.scenarios.specs.declared.scenario.Scenario.{Scenario}
 use Rattle.turns.specs.declared.turn.Turn.{Turn}
+use Rattle.turns.specs.declared.turn.Act.TheVariants as act
 use Rattle.turns.specs.declared.turn.Turn.TheVariants as turn
 use Rattle.unended_jobs.specs.declared.unended.Unended.{Unended}
 use Rattle.unended_jobs.specs.declared.unended.Unended.TheVariants as unended
 use Rattle.unended_jobs.specs.Unended.{number_of}
-use Rattle.orch_core.specs.Runs.{engine, run_turns, step, turns_of}
+use Rattle.orch_core.specs.After.{step}
+use Rattle.orch_core.specs.Runs.{engine, run_turns, turns_of}
 use Rattle.orch_core.specs.Scenarios.{start}
 use Rattle.orch_core.specs.States.{State}
 use Rattle.orch_core.specs.Turns.{exchanges_at}
@@ -38,6 +40,7 @@ use Rattle.recovery_runs.specs.States.{CoveredState, KeptState, SpeakingState}
 use Rattle.recovery_runs.proofs.Covering.{covered-start, covered-step, kept-start, kept-step, speaking-step}
 use Rattle.run_laws.specs.Runs.{ComesTo}
 use Rattle.run_laws.proofs.RunLaws.{Goes, Goes-start, Goes-step}
+use Rattle.run_laws.proofs.Worlds.{world-turn}
 use Rattle.recovery_runs.specs.RunFinishes.{FinishesWell}
 use Rattle.recovery_runs.specs.Origins.{Began, ExplainsAlong}
 use Rattle.recovery_runs.proofs.Origins.{HasOrigin, Step, origins-step, take-all}
@@ -55,7 +58,7 @@ Cares-step count rows s t is goes cares = record {
   covered = covered-step count rows s t goes.ready goes.held is cares.covered;
   speaking = speaking-step count rows s t goes.ready goes.held is cares.speaking;
   kept = λ q.
-      let before = exchanges.quiet-run s.world (exchanges_at s t) q in
+      let before = exchanges.quiet-run s.world (exchanges_at s t) (subst IsQuiet (world-turn rows s t) q) in
       kept-step count rows s t goes.ready goes.held (goes.sound before) is cares.covered (cares.kept before);
 }
 
@@ -139,7 +142,7 @@ module _ (s : Scenario) (xs : List Step) (now : State) (comes : ComesTo s xs now
       (found-number now.jobs id (unended.Recovery r entry) at)
 
   -- and so has each that its next turn makes
-  pub lost-next : (P : ServerNo → Lost → Bool) (id : ℕ) (r : Recovery) (entry : Option ℕ) → ExplainsAlong P id begun xs → ExplainsTurn P id now (turn.Job id) → job_at now.jobs id ≡ Some (unended.Recovery r entry)
+  pub lost-next : (P : ServerNo → Lost → Bool) (id : ℕ) (r : Recovery) (entry : Option ℕ) → ExplainsAlong P id begun xs → ExplainsTurn P id now (turn.Act (act.Job id)) → job_at now.jobs id ≡ Some (unended.Recovery r entry)
       → AllLost P (recovery_after now r).outcome.lost
   lost-next P id r entry explains here at =
       let t = tends-comes in
@@ -155,13 +158,13 @@ module _ (s : Scenario) (xs : List Step) (now : State) (comes : ComesTo s xs now
         owes = owes-nothing now id r entry lines is (length s.opening.servers) rows goes.ready goes.held t.cares.covered;
         began = began-comes id r entry is.found;
         histories = λ q.
-            let before = exchanges.quiet-run now.world (exchanges_at now (turn.Job id)) q in
+            let before = exchanges.quiet-run now.world (exchanges_at now (turn.Act (act.Job id))) q in
             keeps-histories now id r entry lines is rows goes.held (goes.sound before) t.cares.covered (t.cares.kept before)
-            ((Goes-step (length s.opening.servers) rows now (turn.Job id) tt goes).sound q).flight.safe;
+            ((Goes-step (length s.opening.servers) rows now (turn.Act (act.Job id)) tt goes).sound q).flight.safe;
         lost = λ P explains here. lost-next P id r entry explains here is.found;
         ends = λ e n same promoted. ended rows id r entry lines is e n same promoted;
       }
     where
       ended : (rows : List Row) (id : ℕ) (r : Recovery) (entry : Option ℕ) (lines : List Line) → IsFinish now id r entry lines → (e : ℕ) (n : ServerNo) → entry ≡ Some e → (recovery_after now r).outcome.promoted ≡ Some n
-          → recovery_at (step rows now (turn.Job id)).audit e ≡ option_map (finished_so (moment_at now) r.purpose n) (recovery_at now.audit e)
+          → recovery_at (step rows now (turn.Act (act.Job id))).audit e ≡ option_map (finished_so (moment_at now) r.purpose n) (recovery_at now.audit e)
       ended rows id r entry lines is e n same promoted = audit-ends now id e r lines n (subst (λ (o : Option ℕ). IsFinish now id r o lines) same is) promoted rows

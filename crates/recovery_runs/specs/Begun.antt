@@ -2,35 +2,42 @@
 use Rattle.std.specs.Prelude.{◌≡◌, ℕ, Contains, List, [], Option}
 use Rattle.book_views.specs.Sources.{replicas_of}
 use Rattle.instance_keeper.specs.Book.{BookState}
-use Rattle.orch_core.specs.Commands.{jobs_updated}
+use Rattle.orch_core.specs.Commands.{Outcome}
+use Rattle.orch_core.specs.Knowing.{updated}
 use Rattle.orch_core.specs.Polls.{command_outcome, scan_outcome}
+use Rattle.orch_core.specs.Settling.{known_of}
 use Rattle.orch_core.specs.States.{State}
 use Rattle.recovery_core.specs.Begun.{IsFresh}
 use Rattle.recovery_covers.specs.Covers.{AreReplicas}
 use Rattle.recovery_histories.specs.Kept.{SameAim}
 use Rattle.recovery_plans.specs.Recoveries.{Recovery}
+use Rattle.turns.specs.declared.turn.Act.{Act}
+use Rattle.turns.specs.declared.turn.Act.TheVariants as act
 use Rattle.turns.specs.declared.turn.Turn.{Turn}
 use Rattle.turns.specs.declared.turn.Turn.TheVariants as turn
 use Rattle.unended_jobs.specs.declared.unended.Unended.{Unended}
 use Rattle.unended_jobs.specs.declared.unended.Unended.TheVariants as unended
 
+-- those of what a command or a scan answers: the jobs that it leaves where there are none before it
+abbrev pub jobs_of : State → Outcome → List Unended
+jobs_of s o = (updated (record (known_of s) { jobs = [] }) o.book).jobs
+
 -- a command begins one at most, and a scan a recovery for each try that isn't refused
+abbrev pub jobs_in_act : State → Act → List Unended
+jobs_in_act s (act.PollRead p n) = []
+jobs_in_act s (act.PollStore p) = []
+jobs_in_act s (act.Command c) = jobs_of s (command_outcome s c)
+jobs_in_act s (act.Job job) = []
+jobs_in_act s act.Scan = jobs_of s (scan_outcome s)
+jobs_in_act s act.Restart = []
+
 abbrev pub jobs_begun : State → Turn → List Unended
-jobs_begun s (turn.Command c) = jobs_updated [] (command_outcome s c).book
-jobs_begun s turn.Scan = jobs_updated [] (scan_outcome s).book
-jobs_begun s (turn.Write n size) = []
-jobs_begun s (turn.Fetch n) = []
-jobs_begun s (turn.Apply n) = []
-jobs_begun s (turn.Fail n) = []
-jobs_begun s (turn.Heal n) = []
-jobs_begun s (turn.Cut n link) = []
-jobs_begun s (turn.Join n link) = []
-jobs_begun s (turn.Rotate n) = []
+jobs_begun s (turn.Step x) = []
 jobs_begun s (turn.Tick seconds) = []
-jobs_begun s (turn.Job job) = []
-jobs_begun s (turn.PollRead p n) = []
-jobs_begun s (turn.PollStore p) = []
-jobs_begun s turn.Restart = []
+jobs_begun s (turn.Act a) = jobs_in_act s a
+jobs_begun s (turn.As node a) = jobs_in_act s a
+jobs_begun s (turn.Claim node) = []
+jobs_begun s (turn.Release node) = []
 
 -- a recovery as it begins, of the replicas that the book has of the failed server, which names none twice
 pub record IsBegunOnce (b : BookState) (r : Recovery) : Type 0 where

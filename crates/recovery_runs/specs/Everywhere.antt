@@ -2,7 +2,7 @@
 use Rattle.std.specs.Prelude.{◌≡◌, ℕ, Bool, List, Option, Some, length}
 use Rattle.commands.specs.declared.line.Line.{Line}
 use Rattle.commands.specs.declared.line.Lost.{Lost}
-use Rattle.instance_keeper.specs.declared.row.Row.{Row}
+use Rattle.kept_rows.specs.declared.row.Row.{Row}
 use Rattle.jobs_in_flight.specs.Jobs.{job_at}
 use Rattle.orch_base.specs.declared.server.ServerNo.{ServerNo}
 use Rattle.orch_core.specs.Scenarios.{start}
@@ -11,6 +11,7 @@ use Rattle.recovery_plans.specs.Recoveries.{Recovery}
 use Rattle.recovery_reasons.specs.Reasons.{AllLost}
 use Rattle.scenarios.specs.declared.scenario.Scenario.{Scenario}
 use Rattle.turns.specs.declared.turn.Turn.{Turn}
+use Rattle.turns.specs.declared.turn.Act.TheVariants as act
 use Rattle.turns.specs.declared.turn.Turn.TheVariants as turn
 use Rattle.unended_jobs.specs.declared.unended.Unended.TheVariants as unended
 use Rattle.run_laws.specs.Runs.{ComesTo}
@@ -32,7 +33,7 @@ LostHaveReasons = (s : Scenario) (xs : List (List Row × Turn)) (now : State) (c
 -- and so have all that it has lost after its next turn
 abbrev pub NextLostHaveReasons : Type 0
 NextLostHaveReasons = (s : Scenario) (xs : List (List Row × Turn)) (now : State) (comes : ComesTo s xs now) (P : ServerNo → Lost → Bool) (id : ℕ) (r : Recovery) (entry : Option ℕ)
-    → ExplainsAlong P id (start s comes.wait comes.rows) xs → ExplainsTurn P id now (turn.Job id) → job_at now.jobs id ≡ Some (unended.Recovery r entry) → AllLost P (recovery_after now r).outcome.lost
+    → ExplainsAlong P id (start s comes.wait comes.rows) xs → ExplainsTurn P id now (turn.Act (act.Job id)) → job_at now.jobs id ≡ Some (unended.Recovery r entry) → AllLost P (recovery_after now r).outcome.lost
 
 -- the turn in which it is done leaves nothing owed, whatever rows the keeper hands back
 abbrev pub RecoveriesFinishWell : Type 0

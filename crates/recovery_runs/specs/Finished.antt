@@ -4,15 +4,14 @@ use Rattle.std.specs.Option.{option_map}
 use Rattle.audit_log.specs.Audits.{recovery_at}
 use Rattle.commands.specs.declared.line.Line.{Line}
 use Rattle.commands.specs.declared.line.Lost.{Lost}
-use Rattle.instance_keeper.specs.declared.recovery.Recovery.{Recovery as KeptRecovery}
-use Rattle.instance_keeper.specs.declared.row.Change.TheVariants as change
-use Rattle.instance_keeper.specs.declared.row.Row.{Row}
-use Rattle.instance_keeper.specs.declared.row.Row.TheVariants as row
+use Rattle.kept_rows.specs.Recoveries.{put_recovery}
+use Rattle.kept_rows.specs.declared.recovery.Recovery.{Recovery as KeptRecovery}
+use Rattle.kept_rows.specs.declared.row.Row.{Row}
 use Rattle.jobs_in_flight.specs.Jobs.{job_at}
 use Rattle.orch_base.specs.declared.server.ServerNo.{ServerNo}
 use Rattle.orch_core.specs.Polls.{changes_of}
 use Rattle.orch_core.specs.Replies.{reply_of}
-use Rattle.orch_core.specs.Runs.{step}
+use Rattle.orch_core.specs.After.{step}
 use Rattle.orch_core.specs.Scenarios.{start}
 use Rattle.orch_core.specs.States.{State}
 use Rattle.recovery_histories.specs.Kept.{SameAim}
@@ -21,8 +20,9 @@ use Rattle.recovery_reasons.specs.Reasons.{AllLost, ExplainsTruly}
 use Rattle.scenarios.specs.declared.scenario.Scenario.{Scenario}
 use Rattle.scenarios.specs.Turns.{IsTurn}
 use Rattle.server_model.specs.Safe.{Safe}
-use Rattle.turns.specs.declared.turn.Reply.TheVariants as answered
+use Rattle.turns.specs.declared.reply.Reply.TheVariants as answered
 use Rattle.turns.specs.declared.turn.Turn.{Turn}
+use Rattle.turns.specs.declared.turn.Act.TheVariants as act
 use Rattle.turns.specs.declared.turn.Turn.TheVariants as turn
 use Rattle.unended_jobs.specs.declared.unended.Unended.TheVariants as unended
 use Rattle.run_laws.specs.Flights.{moment_at}
@@ -36,17 +36,17 @@ use Rattle.recovery_runs.specs.States.{AimedState, CoveredState, KeptState, Spea
 
 -- it answers the recovery's lines
 abbrev pub FinishedTellLines : Type 0
-FinishedTellLines = (s : State) (id : ℕ) (r : Recovery) (entry : Option ℕ) (lines : List Line) → IsFinish s id r entry lines → reply_of s (turn.Job id) ≡ answered.Told lines
+FinishedTellLines = (s : State) (id : ℕ) (r : Recovery) (entry : Option ℕ) (lines : List Line) → IsFinish s id r entry lines → reply_of s (turn.Act (act.Job id)) ≡ answered.Told lines
 
 -- it leaves nothing owed to the replicas
 abbrev pub FinishedOweNothing : Type 0
 FinishedOweNothing = (count : ℕ) (rows : List Row) (s : State) (id : ℕ) (r : Recovery) (entry : Option ℕ) (lines : List Line) → Ready count s → HeldState s → CoveredState s → IsFinish s id r entry lines
-    → OwesNothing count (step rows s (turn.Job id)).world r (recovery_after s r) lines
+    → OwesNothing count (step rows s (turn.Act (act.Job id))).world r (recovery_after s r) lines
 
 -- where the servers are safe afterwards, histories are kept
 abbrev pub FinishedKeepHistories : Type 0
 FinishedKeepHistories = (rows : List Row) (s : State) (id : ℕ) (r : Recovery) (entry : Option ℕ) (lines : List Line) → HeldState s → SoundState s → CoveredState s → KeptState s → IsFinish s id r entry lines
-    → Safe (step rows s (turn.Job id)).world → KeepsHistories (step rows s (turn.Job id)).world r (recovery_after s r)
+    → Safe (step rows s (turn.Act (act.Job id))).world → KeepsHistories (step rows s (turn.Act (act.Job id))).world r (recovery_after s r)
 
 -- the recovery is about what it began with
 abbrev pub FinishedKeepAims : Type 0
@@ -58,12 +58,12 @@ FinishedKeepAims = (begun : ℕ → Recovery) (s : State) (id : ℕ) (r : Recove
 -- it ends with the server that was promoted, at the moment of the turn
 abbrev pub FinishedEndEntries : Type 0
 FinishedEndEntries = (rows : List Row) (s : State) (id e : ℕ) (r : Recovery) (lines : List Line) (n : ServerNo) → IsFinish s id r (Some e) lines → (recovery_after s r).outcome.promoted ≡ Some n
-    → recovery_at (step rows s (turn.Job id)).audit e ≡ option_map (finished_so (moment_at s) r.purpose n) (recovery_at s.audit e)
+    → recovery_at (step rows s (turn.Act (act.Job id))).audit e ≡ option_map (finished_so (moment_at s) r.purpose n) (recovery_at s.audit e)
 
 -- and is kept so
 abbrev pub FinishedKeepEntries : Type 0
 FinishedKeepEntries = (had : List Row) (s : State) (id e : ℕ) (r : Recovery) (lines : List Line) (n : ServerNo) (k : KeptRecovery) → IsFinish s id r (Some e) lines → (recovery_after s r).outcome.promoted ≡ Some n
-    → recovery_at s.audit e ≡ Some k → Contains (changes_of had s (turn.Job id)) (change.Put (row.Recovery (finished_so (moment_at s) r.purpose n k)))
+    → recovery_at s.audit e ≡ Some k → Contains (changes_of had s (turn.Act (act.Job id))) (put_recovery (finished_so (moment_at s) r.purpose n k))
 
 -- ---- the lost
 

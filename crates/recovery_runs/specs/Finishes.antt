@@ -7,7 +7,7 @@ use Rattle.orch_base.specs.declared.server.ServerNo.{ServerNo}
 use Rattle.commands.specs.declared.line.Line.{Line}
 use Rattle.covered_laws.specs.Turns.{IsNamedOutcome}
 use Rattle.run_laws.specs.Flights.{moment_at}
-use Rattle.instance_keeper.specs.declared.recovery.Recovery.{Recovery as KeptRecovery}
+use Rattle.kept_rows.specs.declared.recovery.Recovery.{Recovery as KeptRecovery}
 use Rattle.jobs_in_flight.specs.Jobs.{job_at}
 use Rattle.operations.specs.declared.step.JobStep.TheVariants as step
 use Rattle.orch_core.specs.States.{State}

@@ -7,6 +7,8 @@ use Rattle.jobs_in_flight.specs.Jobs.{job_at}
 use Rattle.orch_core.specs.States.{State}
 use Rattle.recovery_plans.specs.Recoveries.{Recovery}
 use Rattle.recovery_reasons.specs.Reasons.{AllLost, ExplainsTruly}
+use Rattle.turns.specs.declared.turn.Act.{Act}
+use Rattle.turns.specs.declared.turn.Act.TheVariants as act
 use Rattle.turns.specs.declared.turn.Turn.{Turn}
 use Rattle.turns.specs.declared.turn.Turn.TheVariants as turn
 use Rattle.unended_jobs.specs.declared.unended.Unended.{Unended}
@@ -23,20 +25,19 @@ abbrev pub ExplainedState : (ServerNo → Lost → Bool) → ℕ → State → T
 ExplainedState P id s = All (λ u. number_of u ≡ id → HasReasons P u) s.jobs
 
 -- each reason that is true in the turn of that job counts
-abbrev pub ExplainsTurn : (ServerNo → Lost → Bool) → ℕ → State → Turn → Type 0
-ExplainsTurn P id s (turn.Job job) =
+abbrev pub ExplainsAct : (ServerNo → Lost → Bool) → ℕ → State → Act → Type 0
+ExplainsAct P id s (act.PollRead p n) = Unit {0}
+ExplainsAct P id s (act.PollStore p) = Unit {0}
+ExplainsAct P id s (act.Command c) = Unit {0}
+ExplainsAct P id s (act.Job job) =
     job ≡ id → (r : Recovery) (entry : Option ℕ) → job_at s.jobs id ≡ Some (unended.Recovery r entry) → ExplainsTruly s.world s.book (moment_at s) r P
-ExplainsTurn P id s (turn.Write n size) = Unit {0}
-ExplainsTurn P id s (turn.Fetch n) = Unit {0}
-ExplainsTurn P id s (turn.Apply n) = Unit {0}
-ExplainsTurn P id s (turn.Fail n) = Unit {0}
-ExplainsTurn P id s (turn.Heal n) = Unit {0}
-ExplainsTurn P id s (turn.Cut n link) = Unit {0}
-ExplainsTurn P id s (turn.Join n link) = Unit {0}
-ExplainsTurn P id s (turn.Rotate n) = Unit {0}
+ExplainsAct P id s act.Scan = Unit {0}
+ExplainsAct P id s act.Restart = Unit {0}
+
+abbrev pub ExplainsTurn : (ServerNo → Lost → Bool) → ℕ → State → Turn → Type 0
+ExplainsTurn P id s (turn.Step x) = Unit {0}
 ExplainsTurn P id s (turn.Tick seconds) = Unit {0}
-ExplainsTurn P id s turn.Scan = Unit {0}
-ExplainsTurn P id s (turn.PollRead p n) = Unit {0}
-ExplainsTurn P id s (turn.PollStore p) = Unit {0}
-ExplainsTurn P id s (turn.Command c) = Unit {0}
-ExplainsTurn P id s turn.Restart = Unit {0}
+ExplainsTurn P id s (turn.Act a) = ExplainsAct P id s a
+ExplainsTurn P id s (turn.As node a) = ExplainsAct P id s a
+ExplainsTurn P id s (turn.Claim node) = Unit {0}
+ExplainsTurn P id s (turn.Release node) = Unit {0}

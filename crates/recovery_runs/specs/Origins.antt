@@ -3,7 +3,7 @@ use Rattle.std.specs.Prelude.{◌≡◌, ℕ, Bool, List, Option, Some, Contains
 use Rattle.orch_base.specs.declared.server.ServerNo.{ServerNo}
 use Rattle.book_views.specs.Sources.{replicas_of}
 use Rattle.commands.specs.declared.line.Lost.{Lost}
-use Rattle.instance_keeper.specs.declared.row.Row.{Row}
+use Rattle.kept_rows.specs.declared.row.Row.{Row}
 use Rattle.recovery_histories.specs.Kept.{SameAim}
 use Rattle.recovery_plans.specs.Recoveries.{Recovery}
 use Rattle.turns.specs.declared.turn.Turn.{Turn}

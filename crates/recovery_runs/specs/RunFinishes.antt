@@ -5,16 +5,17 @@ use Rattle.orch_base.specs.declared.server.ServerNo.{ServerNo}
 use Rattle.audit_log.specs.Audits.{recovery_at}
 use Rattle.commands.specs.declared.line.Line.{Line}
 use Rattle.commands.specs.declared.line.Lost.{Lost}
-use Rattle.instance_keeper.specs.declared.row.Row.{Row}
+use Rattle.kept_rows.specs.declared.row.Row.{Row}
 use Rattle.recovery_plans.specs.Recoveries.{Recovery}
 use Rattle.recovery_reasons.specs.Reasons.{AllLost}
 use Rattle.server_model.specs.Safe.{IsQuiet}
 use Rattle.server_model.specs.Worlds.{World}
-use Rattle.turns.specs.declared.turn.Reply.TheVariants as answered
+use Rattle.turns.specs.declared.reply.Reply.TheVariants as answered
 use Rattle.turns.specs.declared.turn.Turn.{Turn}
+use Rattle.turns.specs.declared.turn.Act.TheVariants as act
 use Rattle.turns.specs.declared.turn.Turn.TheVariants as turn
 use Rattle.orch_core.specs.Replies.{reply_of}
-use Rattle.orch_core.specs.Runs.{step}
+use Rattle.orch_core.specs.After.{step}
 use Rattle.orch_core.specs.States.{State}
 use Rattle.run_laws.specs.Flights.{moment_at}
 use Rattle.recovery_runs.specs.Losses.{ExplainsTurn}
@@ -23,17 +24,17 @@ use Rattle.recovery_runs.specs.Origins.{Began, ExplainsAlong}
 
 -- the servers after it
 abbrev pub world_then : List Row → State → ℕ → World
-world_then rows s id = (step rows s (turn.Job id)).world
+world_then rows s id = (step rows s (turn.Act (act.Job id))).world
 
 -- Its reply is the lines; its outcome covers the replicas, which are those that the book had attached to the failed
 -- server when it began, and is what the lines tell; in a quiet state the promoted server has the histories; each of its
 -- lost has a reason that was true in one of its turns: one that counts where each that was true counts; and its entry
 -- ends with the promoted server.
 pub record FinishesWell (count : ℕ) (from : State) (xs : List (List Row × Turn)) (rows : List Row) (s : State) (id : ℕ) (r : Recovery) (entry : Option ℕ) (lines : List Line) : Type 0 where
-  pub reply : reply_of s (turn.Job id) ≡ answered.Told lines
+  pub reply : reply_of s (turn.Act (act.Job id)) ≡ answered.Told lines
   pub owes : OwesNothing count (world_then rows s id) r (recovery_after s r) lines
   pub began : Began from xs r entry
   pub histories : IsQuiet (world_then rows s id) → KeepsHistories (world_then rows s id) r (recovery_after s r)
-  pub lost : (P : ServerNo → Lost → Bool) → ExplainsAlong P id from xs → ExplainsTurn P id s (turn.Job id) → AllLost P (recovery_after s r).outcome.lost
+  pub lost : (P : ServerNo → Lost → Bool) → ExplainsAlong P id from xs → ExplainsTurn P id s (turn.Act (act.Job id)) → AllLost P (recovery_after s r).outcome.lost
   pub ends : (e : ℕ) (n : ServerNo) → entry ≡ Some e → (recovery_after s r).outcome.promoted ≡ Some n
-      → recovery_at (step rows s (turn.Job id)).audit e ≡ option_map (finished_so (moment_at s) r.purpose n) (recovery_at s.audit e)
+      → recovery_at (step rows s (turn.Act (act.Job id))).audit e ≡ option_map (finished_so (moment_at s) r.purpose n) (recovery_at s.audit e)

@@ -1,8 +1,8 @@
 -- What single turns and openings leave of recoveries, whatever rows the keeper hands back.
 use Rattle.std.specs.Prelude.{◌++◌, ℕ, All, List}
 use Rattle.covered_laws.specs.Beside.{IsAimedBeside}
-use Rattle.instance_keeper.specs.declared.row.Row.{Row}
-use Rattle.orch_core.specs.Runs.{step}
+use Rattle.kept_rows.specs.declared.row.Row.{Row}
+use Rattle.orch_core.specs.After.{step}
 use Rattle.orch_core.specs.Scenarios.{start}
 use Rattle.orch_core.specs.States.{State}
 use Rattle.recovery_plans.specs.Recoveries.{Recovery}

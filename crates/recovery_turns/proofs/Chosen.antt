@@ -13,9 +13,10 @@ use Rattle.recovery_plans.specs.Named.{AreSourcesOf, IsNamedRecovery}
 use Rattle.recovery_plans.specs.Recoveries.{Recovery}
 use Rattle.recovery_plans.proofs.Choices.{All-chosen}
 
-pub chosen-there : (n : ℕ) (w : World) (b : BookState) (now : Moment) (xs ys : List Stopped) (p : Stopped) → ys ≡ xs → chosen_of w b now ys ≡ Some p → All (λ (d : Stopped). d.no.0 < n) xs → p.no.0 < n
-chosen-there n w b now xs ys p same is all =
-    All-chosen w b now (λ (d : Stopped). d.no.0 < n) ys p (subst (All (λ (d : Stopped). d.no.0 < n)) (sym same) all) is
+pub chosen-there : (n : ℕ) (w : World) (b : BookState) (now : Moment) (f : ServerNo) (xs ys : List Stopped) (p : Stopped)
+    → ys ≡ xs → chosen_of w b now f ys ≡ Some p → All (λ (d : Stopped). d.no.0 < n) xs → p.no.0 < n
+chosen-there n w b now f xs ys p same is all =
+    All-chosen w b now f (λ (d : Stopped). d.no.0 < n) ys p (subst (All (λ (d : Stopped). d.no.0 < n)) (sym same) all) is
 
 pub master-there : (n : ℕ) (r : Recovery) (p : ServerNo) → IsNamedRecovery n r → r.purpose ≡ purpose.Master → r.chosen ≡ Some p → p.0 < n
 master-there n r p has master chosen =

@@ -3,7 +3,7 @@ use Rattle.std.proofs.Common.{◌≡◌, ℕ, Bool, true, false, cond, not, List
 use Rattle.std.specs.Prelude.{◌==◌}
 use Rattle.std.proofs.lemmas.Bool.{false≢true, eqb-true, eq-eqb, ne_eqb}
 use Rattle.orch_base.specs.declared.server.ServerNo.{ServerNo}
-use Rattle.server_words.specs.declared.status.Status.{Status}
+use Rattle.operations.specs.declared.sight.Position.{Position}
 use Rattle.operations.specs.declared.sight.Sight.{Sight}
 use Rattle.operations.specs.Jobs.{seen_of, others, with_seen}
 
@@ -21,7 +21,7 @@ seen-more : (xs : List Sight) (x : Sight) (k : ℕ) → (x.no.0 == k) ≡ false 
 seen-more [] x k apart = ap (λ b. cond b (Some x.seen) None) apart
 seen-more (y ∷ ys) x k apart = ap (λ o. cond (y.no.0 == k) (Some y.seen) o) (seen-more ys x k apart)
 
-seen-last : (xs : List Sight) (n : ServerNo) (s : Status) (k : ℕ) → (n.0 == k) ≡ true → seen_of (others xs n ++ record { no = n; seen = s } ∷ []) k ≡ Some s
+seen-last : (xs : List Sight) (n : ServerNo) (s : Position) (k : ℕ) → (n.0 == k) ≡ true → seen_of (others xs n ++ record { no = n; seen = s } ∷ []) k ≡ Some s
 seen-last [] n s k here = ap (λ b. cond b (Some s) None) here
 seen-last (x ∷ xs) n s k here = go (x.no.0 == n.0) refl (seen-last xs n s k here)
   where
@@ -33,7 +33,7 @@ seen-last (x ∷ xs) n s k here = go (x.no.0 == n.0) refl (seen-last xs n s k he
         ap (λ b. cond b (Some x.seen) (seen_of (others xs n ++ record { no = n; seen = s } ∷ []) k)) apart ∙ rest
 
 -- what was seen last of each server
-pub seen-at : (xs : List Sight) (n : ServerNo) (s : Status) (k : ℕ) → seen_of (with_seen xs n s) k ≡ cond (n.0 == k) (Some s) (seen_of xs k)
+pub seen-at : (xs : List Sight) (n : ServerNo) (s : Position) (k : ℕ) → seen_of (with_seen xs n s) k ≡ cond (n.0 == k) (Some s) (seen_of xs k)
 seen-at xs n s k = go (n.0 == k) refl
   where
     go : (b : Bool) → (n.0 == k) ≡ b → seen_of (with_seen xs n s) k ≡ cond b (Some s) (seen_of xs k)

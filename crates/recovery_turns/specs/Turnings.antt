@@ -1,6 +1,6 @@
 -- What a recovery makes of its job's turn.
 use Rattle.std.specs.Prelude.{Bool, [], List, Option, Some, None}
-use Rattle.instance_keeper.specs.declared.observation.Observation.{Observation}
+use Rattle.kept_rows.specs.declared.observation.Observation.{Observation}
 use Rattle.server_model.specs.Run.{Exchange}
 use Rattle.server_model.specs.Worlds.{World}
 use Rattle.commands.specs.declared.cause.Cause.{Cause}
@@ -24,7 +24,7 @@ going_by w r ending o es j = going_unless w r ending o es j (barred_by r.stage r
 
 abbrev pub stepped_to : World → Recovery → Bool → Turned → JobStep → Taken
 stepped_to w r ending t step.Going = going_by w r ending t.observation t.exchanges t.job
-stepped_to w r ending t (step.Failed c) = met w r c t.observation (fate w r.purpose r.stage c)
+stepped_to w r ending t (step.Failed c lines) = met w r c t.observation (fate w r.purpose r.stage c)
 stepped_to w r ending t (step.Done lines) = record { step = step.Done lines; observation = None; exchanges = []; recovery = record r { core = ended r.core } }
 
 abbrev pub turned_by : World → Recovery → Bool → Turned → Taken

@@ -51,9 +51,10 @@ impl RecoveryJob {
     pub(crate) fn choose(&mut self, alloc: Global, by: &Ground<'_>) -> Result<(), Memory>
         requires { All (λ s. s.no.0 < length by.now.book.now.names) self.old.drained }
         ensures { OnOk result (self.new ≡ choose by.now.world.now by.now.book.now by.now.moment
-            self.old (chosen_of by.now.world.now by.now.book.now by.now.moment self.old.drained)) }
+            self.old (chosen_of by.now.world.now by.now.book.now by.now.moment self.old.failed
+            self.old.drained)) }
     {
-        match chosen_of(alloc, by, &self.drained)? {
+        match chosen_of(alloc, by, self.failed, &self.drained)? {
             None => self.leave(alloc, by),
             Some(chosen) => self.promote(alloc, by, chosen),
         }

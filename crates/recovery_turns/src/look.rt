@@ -13,17 +13,17 @@ ghost use Rattle.recovery_turns.specs.Steps.{borne, followed};
 ghost use Rattle.recovery_turns.specs.Turnings.{going_by, looked_by};
 
 use crate::RecoveryJob;
-use commands::Cause;
+use commands::{Cause, Lines};
 use instance_keeper::{Book, Observation};
 use job_plans::{Act, Job, Look, has_place};
-use operations::{Crossing, JobStep, Op, Sight};
+use operations::{Crossing, JobStep, Op, Position, Sight};
 use orch_base::{Memory, Moment, ServerNo, SourceState};
 use recovery_parts::{
     Change, Doing, Fate, Ground, doing_of, ends, fate_of, only, then_starts, two,
 };
 use recovery_plans::{Purpose, Stage};
 use server_model::World;
-use server_words::{Ask, Spot, Status};
+use server_words::{Ask, Spot};
 use std::alloc::Global;
 
 /// What the next turn of a recovery does and tells, on the world and with the book on which it was looked up.
@@ -40,7 +40,7 @@ pub struct RecoveryLook {
 }
 
 // The latest that is seen of a server after this was seen.
-fn kept<'a>(job: &'a Job, sight: &'a Sight, no: ServerNo) -> Option<&'a Status>
+fn kept<'a>(job: &'a Job, sight: &'a Sight, no: ServerNo) -> Option<&'a Position>
     ensures { option_copied result ≡ seen_of
         (with_seen job.now.seen sight.now.no sight.now.seen) no.0 }
 {
@@ -52,7 +52,7 @@ fn kept<'a>(job: &'a Job, sight: &'a Sight, no: ServerNo) -> Option<&'a Status>
 }
 
 // The latest that is seen of a server after an act.
-fn seen_after<'a>(job: &'a Job, act: &'a Act, no: ServerNo) -> Option<&'a Status>
+fn seen_after<'a>(job: &'a Job, act: &'a Act, no: ServerNo) -> Option<&'a Position>
     ensures { option_copied result ≡ seen_of (job_after job.now act.now).seen no.0 }
 {
     match act {
@@ -96,7 +96,7 @@ impl RecoveryJob {
             ≡ goes_back world.now self.now.core.seen m d) }
     {
         let mut changes = Vec::with_capacity(alloc, 3)?;
-        if let Some(bridge) = self.bridge(d) {
+        if let Some(bridge) = self.core.bridge(d) {
             if has_place(world, bridge.source, bridge.exec) {
                 let spot = Spot::OwnEnd(bridge.own);
                 changes.push(Change::Attach(d, spot, bridge.source, bridge.exec))?;
@@ -180,7 +180,7 @@ impl RecoveryJob {
         let changes = self.last_changes(alloc, world)?;
         self.core.end();
         Ok(RecoveryLook {
-            step: JobStep::Failed(cause),
+            step: JobStep::Failed(cause, Lines::new(Vec::new(alloc))),
             observation,
             doing: Doing::Each(changes),
             after: self,
@@ -345,7 +345,7 @@ impl RecoveryJob {
         } = look;
         match step {
             JobStep::Going => self.go_on(alloc, world, ending, observation, act),
-            JobStep::Failed(cause) => self.meet(alloc, world, cause, observation),
+            JobStep::Failed(cause, _) => self.meet(alloc, world, cause, observation),
             JobStep::Done(lines) => {
                 self.core.end();
                 Ok(RecoveryLook {

@@ -39,9 +39,9 @@ impl RecoveryJob {
         requires followers { All (λ x. x.no.0 < length by.now.book.now.names)
             self.now.outcome.followers }
         ensures { IfOk result (λ o. o ≡ better_of by.now.world.now by.now.book.now by.now.moment
-            promoted (map (λ (x : AFollower). x.no) self.now.outcome.followers)) }
+            self.now.failed promoted (map (λ (x : AFollower). x.no) self.now.outcome.followers)) }
     {
-        better_of(alloc, by, promoted, self.outcome.followers())
+        better_of(alloc, by, self.failed, promoted, self.outcome.followers())
     }
 
     // A better one is looked for among the followers.

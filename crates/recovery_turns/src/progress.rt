@@ -1,7 +1,6 @@
 //! A stage that is done.
 
 ghost use Rattle.std.specs.Prelude.{◌≡◌, IfOk, OnOk, map};
-ghost use Rattle.instance_keeper.specs.Bridges.{bridge_in as bridge_of};
 ghost use Rattle.operations.specs.Jobs.{seen_of};
 ghost use Rattle.recovery_plans.specs.Taking.{completed, frees, gathered, halted, idle, is_below, last_looks, lead_under, looked, marked, swapped};
 ghost use Rattle.recovery_plans.specs.Deciding.{closing};
@@ -10,16 +9,15 @@ ghost use Rattle.recovery_turns.specs.Steps.{progressed_by, stepped_by};
 
 use crate::RecoveryJob;
 use commands::Lost;
-use instance_keeper::{Bridge, bridge_in};
-use operations::Op;
+use instance_keeper::Bridge;
+use operations::{Op, Position};
 use orch_base::{Memory, ServerNo, SourceState};
 use recovery_parts::{leaver, moved, one, shut, spot_seen, trail, two};
 use recovery_plans::{LostReplica, Purpose, Stage, Stopped, Way};
-use server_words::Status;
 use std::alloc::Global;
 
 // Whether a server was seen with this source.
-fn is_below(seen: &Status, failed: ServerNo) -> bool
+fn is_below(seen: &Position, failed: ServerNo) -> bool
     ensures { result ≡ is_below seen.now failed }
 {
     match seen.source {
@@ -107,17 +105,11 @@ impl RecoveryJob {
         Ok(())
     }
 
-    pub(crate) fn bridge(&self, no: ServerNo) -> Option<Bridge>
-        ensures { result ≡ bridge_of no (seen_of self.now.core.seen no.0) }
-    {
-        bridge_in(no, self.core.sight(no)?)
-    }
-
     // Where the designated replica stopped.
     fn gather(&mut self, d: ServerNo)
         ensures { self.new ≡ idle (gathered self.old d) }
     {
-        self.lead = lead_under(self.failed, self.bridge(d));
+        self.lead = lead_under(self.failed, self.core.bridge(d));
         self.idle();
     }
 

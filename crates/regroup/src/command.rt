@@ -3,6 +3,7 @@
 ghost use Rattle.std.specs.Prelude.{◌≡◌};
 ghost use Rattle.regroup.specs.Commands.{regroup_command};
 
+use command_routes::{PathCommand, Planner, Regrouping, Route};
 use commands::CommandName;
 
 /// A command that takes servers below another one by whatever path, or sets a server's replicas in order
@@ -21,48 +22,18 @@ pub enum RegroupCommand {
 pub fn regroup_command(name: CommandName) -> Option<RegroupCommand>
     ensures { result ≡ regroup_command name }
 {
-    match name {
-        CommandName::Relocate => Some(RegroupCommand::Relocate),
-        CommandName::RelocateReplicas => Some(RegroupCommand::RelocateReplicas),
-        CommandName::RegroupReplicas => Some(RegroupCommand::RegroupReplicas),
-        CommandName::MoveUp
-        | CommandName::MoveUpReplicas
-        | CommandName::MoveBelow
-        | CommandName::Repoint
-        | CommandName::TakeSiblings
-        | CommandName::TakeMaster
-        | CommandName::MoveGtid
-        | CommandName::MoveReplicasGtid
-        | CommandName::EnableGtid
-        | CommandName::DisableGtid
-        | CommandName::DetachReplica
-        | CommandName::ReattachReplica
-        | CommandName::ResetReplica
-        | CommandName::StartReplica
-        | CommandName::StopReplica
-        | CommandName::RestartReplica
-        | CommandName::SetReadOnly
-        | CommandName::SetWriteable
-        | CommandName::Discover
-        | CommandName::Forget
-        | CommandName::BeginDowntime
-        | CommandName::EndDowntime
-        | CommandName::RegisterCandidate
-        | CommandName::Recover
-        | CommandName::GracefulMasterTakeover
-        | CommandName::AckClusterRecoveries
-        | CommandName::Topology
-        | CommandName::WhichMaster
-        | CommandName::WhichReplicas
-        | CommandName::WhichCluster
-        | CommandName::WhichClusterInstances
-        | CommandName::Clusters
-        | CommandName::AllInstances
-        | CommandName::Find
-        | CommandName::ReplicationAnalysis
-        | CommandName::AuditRecoveries
-        | CommandName::DisableGlobalRecoveries
-        | CommandName::EnableGlobalRecoveries
-        | CommandName::CheckGlobalRecoveries => None,
+    match Route::of(name).planner() {
+        Some(Planner::Paths(PathCommand::Relocate)) => Some(RegroupCommand::Relocate),
+        Some(Planner::Paths(PathCommand::RelocateReplicas)) => {
+            Some(RegroupCommand::RelocateReplicas)
+        }
+        Some(Planner::Regroups(Regrouping::ByBridges)) => Some(RegroupCommand::RegroupReplicas),
+        Some(
+            Planner::Regroups(Regrouping::ByMatches)
+            | Planner::Coordinates(_)
+            | Planner::Gtids(_)
+            | Planner::Matches(_),
+        )
+        | None => None,
     }
 }

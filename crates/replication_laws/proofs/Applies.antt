@@ -21,6 +21,7 @@ use Rattle.orch_base.specs.Histories.{count_own, holds}
 use Rattle.server_model.specs.Safe.{Safe, Placed, StandsIn, AttachedWell}
 use Rattle.server_model.specs.Worlds.{World, server_at, with_server, histories, history_of, source_no}
 use Rattle.server_model.proofs.Lists.{slice_get-take, take-more}
+use Rattle.server_model.proofs.PurgedFiles.{KeepsFrom-took}
 use Rattle.replication_laws.specs.Growth.{GoesOn, Grows}
 use Rattle.replication_laws.proofs.Histories.{IsKin-extended, IsKin-once, holds-at}
 use Rattle.replication_laws.proofs.Keeping.{Same, Still, Standing-well, Standing-placed, Linked-safe, Safe-linked, Linked-placed, Placed-linked, Placed-safe, Linked-keeps, Linked-same, Linked-still, Grows-refl, Grows-with, Idle-same, Safe-idle}
@@ -152,10 +153,10 @@ Facing-step w n r at placed = go (r.up && (is_attached r.source && r.applier)) (
     go true false = from_source r.source refl
 
 Same-exec : (r : Server) (to : Coord) → Same r (record r { exec = to })
-Same-exec r to = record { history = refl; log = refl; settings = refl }
+Same-exec r to = record { history = refl; log = refl; first = refl; settings = refl }
 
 Still-forgot : (r : Server) → Still r (record r { applier = false; until = None })
-Still-forgot r = record { same = record { history = refl; log = refl; settings = refl }; source = refl; exec = refl; read = inl refl }
+Still-forgot r = record { same = record { history = refl; log = refl; first = refl; settings = refl }; source = refl; exec = refl; read = inl refl }
 
 -- in a placed world
 
@@ -183,7 +184,7 @@ module _ (w : World) (n : ℕ) (r : Server) (placed : Placed w) (at : server_at 
   executed-on : (t : Txn) (to : Coord) → Taking w r t to → GoesOn r (record (took r t) { exec = to })
   executed-on t to due =
       let on = GoesOn-took r t (taken-size t to due) (placed.laid n r at) in
-      record { settings = on.settings; prefix = on.prefix; places = on.places }
+      record { settings = on.settings; prefix = on.prefix; places = on.places; first = on.first }
 
   executed : (t : Txn) (to : Coord) → Taking w r t to → Placed (with_server w n (record (took r t) { exec = to }))
   executed t to due =
@@ -192,6 +193,7 @@ module _ (w : World) (n : ℕ) (r : Server) (placed : Placed w) (at : server_at 
         goes_on = executed-on t to due;
         source = refl;
         laid = LaysOut-took r t (taken-size t to due) (placed.laid n r at);
+        kept = KeepsFrom-took r t (placed.kept n r at);
         stands = λ b x from_b at_b stood.
             subst (λ (y : Server). StandsIn (record (took r t) { exec = to }) y) (same_source w r due.source due.number b x due.from due.source_at from_b at_b)
             (record {
@@ -276,6 +278,7 @@ module _ (w : World) (n : ℕ) (r : Server) (safe : Safe w) (at : server_at w n 
           goes_on = executed-on w n r (Placed-safe w safe) at t to due;
           source = refl;
           laid = LaysOut-took r t size (safe.laid n r at);
+          kept = KeepsFrom-took r t (safe.kept n r at);
           stands = λ b x from_b at_b stood.
               subst (λ (y : Server). AttachedWell (record (took r t) { exec = to }) y) (same_source w r due.source due.number b x due.from due.source_at from_b at_b)
               (record {

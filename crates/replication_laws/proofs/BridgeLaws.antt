@@ -18,7 +18,7 @@ use Rattle.server_model.specs.declared.server.Server.{Server}
 use Rattle.server_words.specs.declared.status.Status.{Status}
 use Rattle.server_words.specs.declared.status.StatusFault.TheVariants as seeing
 use Rattle.server_model.specs.Attach.{same_spot, spot_below, live_spot}
-use Rattle.server_model.specs.Gtids.{status, status_in, status_of, own_end_of, source_at, seen_set}
+use Rattle.server_model.specs.Gtids.{status, status_in, shown_of, own_end_of}
 use Rattle.server_model.specs.Layout.{LaysOut}
 use Rattle.server_model.specs.Run.{IsJunction, JoinsWell, Attach}
 use Rattle.server_model.specs.Safe.{Safe, AttachedWell}
@@ -83,11 +83,11 @@ Stands-replica w n m r safe at_n from logs =
     }
 
 -- the status of a server that is reached
-pub seen-of : (w : World) (n : ℕ) (seen : Status) (o : Option Server) → server_at w n ≡ o → status_in w o ≡ Ok seen → (s : Server) × (server_at w n ≡ Some s) × (status_of s (source_at w s) (seen_set w s) ≡ seen)
+pub seen-of : (w : World) (n : ℕ) (seen : Status) (o : Option Server) → server_at w n ≡ o → status_in w o ≡ Ok seen → (s : Server) × (server_at w n ≡ Some s) × (shown_of w s ≡ seen)
 seen-of w n seen None at h = cc
 seen-of w n seen (Some s) at h = (s, at, go (s.up && s.desk) h)
   where
-    go : (b : Bool) → cond b (Ok (status_of s (source_at w s) (seen_set w s))) (Err seeing.Unreachable) ≡ Ok seen → status_of s (source_at w s) (seen_set w s) ≡ seen
+    go : (b : Bool) → cond b (Ok (shown_of w s)) (Err seeing.Unreachable) ≡ Ok seen → shown_of w s ≡ seen
     go true k = cc
     go false k = cc
 

@@ -1,5 +1,6 @@
 -- Fetches: the read coordinate of a replica goes on by one step of its source's log.
-use Rattle.std.proofs.Common.{◌≡◌, ℕ, ◌+◌, Bool, true, false, cond, refl, sym, ◌∙◌, ap, subst, Option, Some, None, ◌&&◌}
+use Rattle.std.proofs.Common.{◌≡◌, ℕ, ◌+◌, Bool, true, false, cond, refl, sym, ◌∙◌, ap, subst, inl, Option, Some, None, ◌&&◌}
+use Rattle.std.specs.Prelude.{nat_lt}
 use Rattle.std.proofs.lemmas.Option.{same_Some}
 use Rattle.binlog_coords.specs.declared.Coord.{Coord}
 use Rattle.binlog_coords.specs.declared.Next.{Next}
@@ -11,10 +12,10 @@ use Rattle.orch_base.specs.declared.server.SourceState.TheVariants.{Without, Att
 use Rattle.server_model.specs.declared.decisions.FetchStep.{FetchStep}
 use Rattle.server_model.specs.declared.decisions.FetchStep.TheVariants as receiving
 use Rattle.server_model.specs.declared.server.Server.{Server}
-use Rattle.server_model.specs.Exchanges.{fetch_step, fetch_from, after_fetch, attached_at, is_attached}
+use Rattle.server_model.specs.Exchanges.{fetch_step, fetch_from, fetch_kept, after_fetch, attached_at, is_attached}
 use Rattle.server_model.specs.Layout.{LaysOut}
 use Rattle.server_model.specs.Worlds.{World, server_at, with_server, source_no}
-use Rattle.replication_laws.proofs.Keeping.{Same, Standing, Linked, Linked-same, Idle, Idle-refl, Idle-same}
+use Rattle.replication_laws.proofs.Keeping.{Same, Still, Standing, Linked, Linked-same, Linked-still, Idle, Idle-refl, Idle-same}
 use Rattle.replication_laws.proofs.Logs.{LaysOut-Grown}
 
 -- a source's log lays out its history, and so it grew from nothing
@@ -37,13 +38,17 @@ same_source w r s m b t is at_m from at_b =
     same_Some s t (sym at_m ∙ ap (server_at w) e ∙ at_b)
 
 Same-read : (r : Server) (to : Coord) → Same r (record r { read = to })
-Same-read r to = record { history = refl; log = refl; settings = refl }
+Same-read r to = record { history = refl; log = refl; first = refl; settings = refl }
+
+Still-refused : (r : Server) → Still r (record r { receiver = false })
+Still-refused r = record { same = record { history = refl; log = refl; first = refl; settings = refl }; source = refl; exec = refl; read = inl refl }
 
 -- a fetch writes nothing
 pub Idle-fetch : (w : World) (n : ℕ) (o : Option Server) → server_at w n ≡ o → (a : FetchStep) → Idle w (after_fetch w n o a)
 Idle-fetch w n None at a = Idle-refl w
 Idle-fetch w n (Some r) at receiving.Halt = Idle-refl w
 Idle-fetch w n (Some r) at receiving.Unlinked = Idle-refl w
+Idle-fetch w n (Some r) at (receiving.Refuse first) = Idle-same w n r (record r { receiver = false }) at (Still-refused r).same
 Idle-fetch w n (Some r) at (receiving.Take (next.Entry index to)) = Idle-same w n r (record r { read = to }) at (Same-read r to)
 Idle-fetch w n (Some r) at (receiving.Take (next.Rotate to)) = Idle-same w n r (record r { read = to }) at (Same-read r to)
 Idle-fetch w n (Some r) at (receiving.Take next.End) = Idle-refl w
@@ -73,9 +78,14 @@ pub Linked-fetch : (R : Server → Server → Type 0) → Standing R → (w : Wo
 Linked-fetch R standing w n None at linked = linked
 Linked-fetch R standing w n (Some r) at linked = go (r.up && (is_attached r.source && r.receiver))
   where
+    kept : (m : ℕ) (s : Server) → source_no r.source ≡ Some m → server_at w m ≡ Some s → (b : Bool)
+        → Linked R (after_fetch w n (Some r) (cond b (receiving.Refuse s.first) (receiving.Take (next_after s.log.log r.read))))
+    kept m s is at_m true = Linked-still R standing w n r (record r { receiver = false }) linked at (Still-refused r)
+    kept m s is at_m false = Linked-step R standing w linked n m r s at is at_m (next_after s.log.log r.read) refl
+
     source_linked : (m : ℕ) (s : Server) → source_no r.source ≡ Some m → server_at w m ≡ Some s → (b : Bool)
-        → Linked R (after_fetch w n (Some r) (cond b (receiving.Take (next_after s.log.log r.read)) receiving.Unlinked))
-    source_linked m s is at_m true = Linked-step R standing w linked n m r s at is at_m (next_after s.log.log r.read) refl
+        → Linked R (after_fetch w n (Some r) (cond b (fetch_kept r s) receiving.Unlinked))
+    source_linked m s is at_m true = kept m s is at_m (nat_lt r.read.file s.first)
     source_linked m s is at_m false = linked
 
     under : (m : ℕ) → source_no r.source ≡ Some m → (p : Option Server) → server_at w m ≡ p → Linked R (after_fetch w n (Some r) (fetch_from r p))

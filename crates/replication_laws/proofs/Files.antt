@@ -15,6 +15,8 @@ use Rattle.server_model.specs.declared.decisions.ApplyStep.{ApplyStep}
 use Rattle.server_model.specs.declared.decisions.ApplyStep.TheVariants as applying
 use Rattle.server_model.specs.declared.decisions.FetchStep.{FetchStep}
 use Rattle.server_model.specs.declared.decisions.FetchStep.TheVariants as receiving
+use Rattle.server_words.specs.declared.answers.PurgeAnswer.{PurgeAnswer}
+use Rattle.server_words.specs.declared.answers.PurgeAnswer.TheVariants as purging
 use Rattle.server_words.specs.declared.answers.RotateAnswer.{RotateAnswer}
 use Rattle.server_words.specs.declared.answers.RotateAnswer.TheVariants as rotating
 use Rattle.server_words.specs.declared.answers.Unreachable.{Unreachable}
@@ -27,7 +29,8 @@ use Rattle.server_model.specs.Attach.{attach_answer, attached_to, after_attach}
 use Rattle.server_model.specs.Desk.{asked, befallen, rotated, desk_answer, rotate_answer, after_change, after_desk, after_rotate}
 use Rattle.server_model.specs.Exchanges.{took, own_txn, write_answer, after_write, fetch_step, after_fetch, apply_step, after_apply}
 use Rattle.server_model.specs.Gtids.{attach_auto_answer, after_attach_auto, attached_auto, auto_coord, uuids}
-use Rattle.server_model.specs.Run.{Exchange, Write, Fetch, Apply, Request, Befall, Rotate, Attach, AttachAuto, is_rotate, after, run}
+use Rattle.server_model.specs.Purging.{purge_answer, after_purge}
+use Rattle.server_model.specs.Run.{Exchange, Write, Fetch, Apply, Request, Befall, Rotate, Purge, Attach, AttachAuto, is_rotate, after, run}
 use Rattle.server_model.specs.Worlds.{World, server_at, with_server}
 use Rattle.replication_laws.specs.Room.{HasFiles}
 use Rattle.replication_laws.proofs.Keeping.{at_cases, Same}
@@ -64,6 +67,7 @@ module _ (k : ℕ) (w : World) where
   HasFiles-fetch n None at has a = has
   HasFiles-fetch n (Some r) at has receiving.Halt = has
   HasFiles-fetch n (Some r) at has receiving.Unlinked = has
+  HasFiles-fetch n (Some r) at has (receiving.Refuse first) = HasFiles-kept n r (record r { receiver = false }) at has refl
   HasFiles-fetch n (Some r) at has (receiving.Take (next.Entry index to)) = HasFiles-kept n r (record r { read = to }) at has refl
   HasFiles-fetch n (Some r) at has (receiving.Take (next.Rotate to)) = HasFiles-kept n r (record r { read = to }) at has refl
   HasFiles-fetch n (Some r) at has (receiving.Take next.End) = has
@@ -85,6 +89,13 @@ module _ (k : ℕ) (w : World) where
   HasFiles-ask : (n : ℕ) (a : Ask) → HasFiles k w → (answer : Result (Unit {0}) Unreachable) → HasFiles k (after_desk w n a answer)
   HasFiles-ask n a has (Ok t) = HasFiles-change n (asked a) (Same-asked a) (server_at w n) refl has
   HasFiles-ask n a has (Err e) = has
+
+  HasFiles-purge : (n : ℕ) (o : Option Server) → server_at w n ≡ o → HasFiles k w → (answer : PurgeAnswer) → HasFiles k (after_purge w n o answer)
+  HasFiles-purge n None at has answer = has
+  HasFiles-purge n (Some s) at has purging.Down = has
+  HasFiles-purge n (Some s) at has purging.NotLogging = has
+  HasFiles-purge n (Some s) at has purging.NoFile = has
+  HasFiles-purge n (Some s) at has (purging.Done first) = HasFiles-kept n s (record s { first = first }) at has refl
 
   HasFiles-attach : (n : ℕ) (to : ServerNo) (c : Coord) (o : Option Server) → server_at w n ≡ o → HasFiles k w → (answer : Result (Unit {0}) AttachFault)
       → HasFiles k (after_attach w n to c o answer)
@@ -117,7 +128,8 @@ HasFiles-after k w (Apply n) has = HasFiles-apply k w n (server_at w n) refl (Ha
 HasFiles-after k w (Request n a) has = HasFiles-ask k w n a (HasFiles-same k w has) (desk_answer (server_at w n))
 HasFiles-after k w (Befall n e) has = HasFiles-change k w n (befallen e) (Same-befallen e) (server_at w n) refl (HasFiles-same k w has)
 HasFiles-after k w (Rotate n) has = HasFiles-rotate k w n (server_at w n) refl has (rotate_answer (server_at w n))
-HasFiles-after k w (Attach n expect to at) has = HasFiles-attach k w n to at (server_at w n) refl (HasFiles-same k w has) (attach_answer w n expect to.0 (server_at w n))
+HasFiles-after k w (Purge n file) has = HasFiles-purge k w n (server_at w n) refl (HasFiles-same k w has) (purge_answer w n file (server_at w n))
+HasFiles-after k w (Attach n expect to at) has = HasFiles-attach k w n to at (server_at w n) refl (HasFiles-same k w has) (attach_answer w n expect to.0 at (server_at w n))
 HasFiles-after k w (AttachAuto n observed to) has = HasFiles-attach_auto k w n to (server_at w n) refl (HasFiles-same k w has) (attach_auto_answer w n observed to.0 (server_at w n))
 
 not_full-rotate : (w : World) (n : ℕ) (o : Option Server) → server_at w n ≡ o → HasFiles 1 w → rotate_answer o ≡ rotating.Full → ⊥

@@ -14,8 +14,8 @@ use Rattle.server_model.specs.declared.server.Server.{Server}
 use Rattle.server_model.specs.Kept.{Kept}
 use Rattle.server_model.specs.Layout.{LaysOut}
 use Rattle.orch_base.specs.declared.server.Settings.{Settings}
-use Rattle.server_model.specs.Safe.{IsKin, Safe, Placed, StandsIn, AttachedWell, Grounded, IsSource, HaveOwnUuids}
-use Rattle.server_model.specs.Worlds.{World, server_at, with_server, histories, sources, source_of, source_no}
+use Rattle.server_model.specs.Safe.{IsKin, Safe, Placed, StandsIn, AttachedWell, Grounded, IsSource, HaveOwnUuids, KeepFiles}
+use Rattle.server_model.specs.Worlds.{World, server_at, with_server, histories, sources, source_of, source_no, KeepsFrom}
 use Rattle.replication_laws.specs.Growth.{GoesOn, Grows}
 use Rattle.server_model.proofs.Chains.{not_self}
 use Rattle.replication_laws.proofs.Worlds.{at_with_same, at_with_other, sources-kept, histories-kept}
@@ -53,13 +53,14 @@ IsSource-with w n s s' here settings m source =
 -- servers that go on
 
 pub GoesOn-refl : (s : Server) → GoesOn s s
-GoesOn-refl s = record { settings = refl; prefix = take-length s.history.txns; places = λ c k h. h }
+GoesOn-refl s = record { settings = refl; prefix = take-length s.history.txns; places = λ c k h. h; first = omega arith }
 
 pub GoesOn-trans : (s t u : Server) → GoesOn s t → GoesOn t u → GoesOn s u
 GoesOn-trans s t u on more = record {
   settings = more.settings ∙ on.settings;
   prefix = prefix-trans s.history.txns t.history.txns u.history.txns on.prefix more.prefix;
   places = λ c k h. more.places c k (on.places c k h);
+  first = let a = on.first in let b = more.first in omega arith;
 }
 
 pub Grows-refl : (w : World) → Grows w w
@@ -84,22 +85,27 @@ Grows-with w n s s' here on = λ m t h.
 pub record Same (s s' : Server) : Type 0 where
   pub history : s'.history ≡ s.history
   pub log : s'.log ≡ s.log
+  pub first : s'.first ≡ s.first
   pub settings : s'.settings ≡ s.settings
 
 pub Same-refl : (s : Server) → Same s s
-Same-refl s = record { history = refl; log = refl; settings = refl }
+Same-refl s = record { history = refl; log = refl; first = refl; settings = refl }
 
 pub GoesOn-same : (s s' : Server) → Same s s' → GoesOn s s'
 GoesOn-same s s' same = record {
   settings = same.settings;
   prefix = ap (λ (h : Kept). take (length s.history.txns) h.txns) same.history ∙ take-length s.history.txns;
   places = λ c k h. ap (λ (l : Index). place l.log c) same.log ∙ h;
+  first = let e = same.first in omega arith;
 }
 
 LaysOut-same : (s s' : Server) → Same s s' → (s.settings.logs ≡ true → LaysOut s.history.txns s.log.log) → s'.settings.logs ≡ true → LaysOut s'.history.txns s'.log.log
 LaysOut-same s s' same laid on =
     subst (λ (l : Index). LaysOut s'.history.txns l.log) (sym same.log)
     (subst (λ (h : Kept). LaysOut h.txns s.log.log) (sym same.history) (laid (sym (ap (λ (x : Settings). x.logs) same.settings) ∙ on)))
+
+KeepsFrom-same : (s s' : Server) → Same s s' → KeepsFrom s.settings.logs s.log.log s.first → KeepsFrom s'.settings.logs s'.log.log s'.first
+KeepsFrom-same s s' same kept = rw (same.settings, same.log, same.first) kept
 
 -- the same server but for its threads, its links and how far it has read
 pub record Still (s s' : Server) : Type 0 where
@@ -169,27 +175,29 @@ Standing-placed = record {
 -- what holds of a world in which each replica stands in such a way
 pub record Linked (R : Server → Server → Type 0) (w : World) : Type 0 where
   pub laid : (n : ℕ) (s : Server) → server_at w n ≡ Some s → s.settings.logs ≡ true → LaysOut s.history.txns s.log.log
+  pub kept : KeepFiles w
   pub stands : (n m : ℕ) (r s : Server) → server_at w n ≡ Some r → source_no r.source ≡ Some m → server_at w m ≡ Some s → R r s
   pub logging : (n m : ℕ) (r : Server) → server_at w n ≡ Some r → source_no r.source ≡ Some m → IsSource w m
   pub grounded : (n : ℕ) → Grounded (sources w) n
   pub uuids : HaveOwnUuids w
 
 pub Linked-safe : (w : World) → Safe w → Linked AttachedWell w
-Linked-safe w safe = record { laid = safe.laid; stands = safe.well; logging = safe.logging; grounded = safe.grounded; uuids = safe.uuids }
+Linked-safe w safe = record { laid = safe.laid; kept = safe.kept; stands = safe.well; logging = safe.logging; grounded = safe.grounded; uuids = safe.uuids }
 
 pub Safe-linked : (w : World) → Linked AttachedWell w → IsKin (histories w) → Safe w
-Safe-linked w linked kin = record { laid = linked.laid; well = linked.stands; logging = linked.logging; kin = kin; grounded = linked.grounded; uuids = linked.uuids }
+Safe-linked w linked kin = record { laid = linked.laid; kept = linked.kept; well = linked.stands; logging = linked.logging; kin = kin; grounded = linked.grounded; uuids = linked.uuids }
 
 pub Linked-placed : (w : World) → Placed w → Linked StandsIn w
-Linked-placed w placed = record { laid = placed.laid; stands = placed.stands; logging = placed.logging; grounded = placed.grounded; uuids = placed.uuids }
+Linked-placed w placed = record { laid = placed.laid; kept = placed.kept; stands = placed.stands; logging = placed.logging; grounded = placed.grounded; uuids = placed.uuids }
 
 pub Placed-linked : (w : World) → Linked StandsIn w → Placed w
-Placed-linked w linked = record { laid = linked.laid; stands = linked.stands; logging = linked.logging; grounded = linked.grounded; uuids = linked.uuids }
+Placed-linked w linked = record { laid = linked.laid; kept = linked.kept; stands = linked.stands; logging = linked.logging; grounded = linked.grounded; uuids = linked.uuids }
 
 -- a safe world is placed
 pub Placed-safe : (w : World) → Safe w → Placed w
 Placed-safe w safe = record {
   laid = safe.laid;
+  kept = safe.kept;
   stands = λ n m r s at from at_m.
       let well = safe.well n m r s at from at_m in
       record { exec_place = (length r.history.txns, well.exec_place); read_place = well.read_place; order = well.order };
@@ -200,12 +208,13 @@ Placed-safe w safe = record {
 
 -- nothing of this is about the count of errant writes
 pub Linked-errant : (R : Server → Server → Type 0) (w : World) (errant : ℕ) → Linked R w → Linked R (record w { errant = errant })
-Linked-errant R w errant linked = record { laid = linked.laid; stands = linked.stands; logging = linked.logging; grounded = linked.grounded; uuids = linked.uuids }
+Linked-errant R w errant linked = record { laid = linked.laid; kept = linked.kept; stands = linked.stands; logging = linked.logging; grounded = linked.grounded; uuids = linked.uuids }
 
 -- what a change of one server owes
 pub record Changes (R : Server → Server → Type 0) (w : World) (n : ℕ) (s s' : Server) : Type 0 where
   pub goes_on : GoesOn s s'
   pub laid : s'.settings.logs ≡ true → LaysOut s'.history.txns s'.log.log
+  pub kept : KeepsFrom s'.settings.logs s'.log.log s'.first
   pub stands : (m : ℕ) (t : Server) → source_no s'.source ≡ Some m → server_at w m ≡ Some t → R s' t
   pub logging : (m : ℕ) → source_no s'.source ≡ Some m → IsSource w m
   pub grounded : (m : ℕ) → Grounded (sources (with_server w n s')) m
@@ -217,6 +226,11 @@ Linked-with R standing w n s s' linked here changes = record {
       elim (at_cases w n s s' here m t at) [
         | inl new ↦ subst (λ (x : Server). x.settings.logs ≡ true → LaysOut x.history.txns x.log.log) (sym new.1) changes.laid logs
         | inr old ↦ linked.laid m t old.1 logs
+      ];
+  kept = λ m t at.
+      elim (at_cases w n s s' here m t at) [
+        | inl new ↦ subst (λ (x : Server). KeepsFrom x.settings.logs x.log.log x.first) (sym new.1) changes.kept
+        | inr old ↦ linked.kept m t old.1
       ];
   stands = λ a b r t at_a source at_b.
       elim (at_cases w n s s' here a r at_a) [
@@ -258,6 +272,7 @@ pub record Keeps (R : Server → Server → Type 0) (w : World) (n : ℕ) (s s' 
   pub goes_on : GoesOn s s'
   pub source : source_no s'.source ≡ source_no s.source
   pub laid : s'.settings.logs ≡ true → LaysOut s'.history.txns s'.log.log
+  pub kept : KeepsFrom s'.settings.logs s'.log.log s'.first
   pub stands : (m : ℕ) (t : Server) → source_no s.source ≡ Some m → server_at w m ≡ Some t → R s t → R s' t
 
 pub Linked-keeps : (R : Server → Server → Type 0) → Standing R → (w : World) (n : ℕ) (s s' : Server) → Linked R w → server_at w n ≡ Some s
@@ -266,6 +281,7 @@ Linked-keeps R standing w n s s' linked here keeps =
     Linked-with R standing w n s s' linked here (record {
       goes_on = keeps.goes_on;
       laid = keeps.laid;
+      kept = keeps.kept;
       stands = λ m t from at. let was : source_no s.source ≡ Some m = sym keeps.source ∙ from in keeps.stands m t was at (linked.stands n m s t here was at);
       logging = λ m from. linked.logging n m s here (sym keeps.source ∙ from);
       grounded = λ m. subst (λ (up : ℕ → Option ℕ). Grounded up m) (sym (sources-kept w n s s' here keeps.source)) (linked.grounded m);
@@ -278,7 +294,13 @@ pub Linked-same : (R : Server → Server → Type 0) → Standing R → (w : Wor
     → Linked R (with_server w n s')
 Linked-same R standing w n s s' linked here same source stands =
     Linked-keeps R standing w n s s' linked here
-    (record { goes_on = GoesOn-same s s' same; source = source; laid = LaysOut-same s s' same (linked.laid n s here); stands = stands })
+    (record {
+      goes_on = GoesOn-same s s' same;
+      source = source;
+      laid = LaysOut-same s s' same (linked.laid n s here);
+      kept = KeepsFrom-same s s' same (linked.kept n s here);
+      stands = stands;
+    })
 
 pub Linked-still : (R : Server → Server → Type 0) → Standing R → (w : World) (n : ℕ) (s s' : Server) → Linked R w → server_at w n ≡ Some s
     → Still s s' → Linked R (with_server w n s')
@@ -298,6 +320,7 @@ Linked-moves R standing w n s s' linked here moves =
     Linked-with R standing w n s s' linked here (record {
       goes_on = GoesOn-same s s' moves.same;
       laid = LaysOut-same s s' moves.same (linked.laid n s here);
+      kept = KeepsFrom-same s s' moves.same (linked.kept n s here);
       stands = moves.stands;
       logging = moves.logging;
       grounded = moves.grounded;

@@ -7,10 +7,13 @@ pub mod Writes
 pub mod Fetches
 pub mod Applies
 pub mod Moves
+pub mod Purges
 pub mod Subsets
 pub mod Runs
 pub mod Crossings
 pub mod BridgeLaws
+pub mod Refusals
+pub mod Entries
 pub mod Loops
 pub mod Unchanged
 pub mod Files

@@ -1,4 +1,4 @@
-use Rattle.std.proofs.Common.{◌≡◌, ℕ, ◌<◌, Bool, true, false, cond, List, [], ◌∷◌, ◌++◌, ◌+◌, length, length-append, refl, sym, ◌∙◌, ap, subst, inl, inr, Some}
+use Rattle.std.proofs.Common.{◌≡◌, ℕ, ◌<◌, Bool, true, false, cond, List, [], ◌∷◌, ◌++◌, ◌+◌, length, length-append, refl, sym, ◌∙◌, ap, subst, inl, inr, Some, arith}
 use Rattle.std.specs.Prelude.{slice_get}
 use Rattle.server_model.proofs.Lists.{slice_get-snoc_cases}
 use Rattle.std.proofs.Math.Seq.{take-append_seam}
@@ -25,6 +25,7 @@ GoesOn-took s t some laid = record {
   settings = refl;
   prefix = take-append_seam s.history.txns (t ∷ []);
   places = λ c k h. go s.settings.logs refl c k h;
+  first = omega arith;
 }
   where
     go : (b : Bool) → s.settings.logs ≡ b → (c : Coord) (k : ℕ) → place s.log.log c ≡ Some k → place (cond b (record s.log { log = push s.log.log t.size }) s.log).log c ≡ Some k

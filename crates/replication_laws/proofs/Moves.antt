@@ -1,11 +1,12 @@
 -- What orchestrator asks of a server, what befalls it, a new file of its log, and an attachment: what each keeps.
-use Rattle.std.proofs.Common.{◌≡◌, ℕ, Bool, true, false, cond, not, List, [], ◌∷◌, take, length, refl, sym, ◌∙◌, ap, subst, inl, inr, ◌⊎◌, Option, Some, None, ◌||◌, ◌&&◌, count_by}
-use Rattle.std.specs.Prelude.{Result, Ok, Err}
+use Rattle.std.proofs.Common.{◌≡◌, ℕ, Bool, true, false, cond, not, List, [], ◌∷◌, take, length, refl, sym, ◌∙◌, ap, subst, inl, inr, ◌⊎◌, Option, Some, None, ◌||◌, ◌&&◌, count_by, ◌≤◌, arith}
+use Rattle.std.specs.Prelude.{Result, Ok, Err, nat_lt, nat_le, ◌==◌}
 use Rattle.std.proofs.Math.Seq.{take-length}
+use Rattle.std.proofs.lemmas.Bool.Decides.{nat_tests}
 use Rattle.std.proofs.lemmas.Option.{same_Some}
 use Rattle.binlog_coords.specs.declared.Coord.{Coord}
-use Rattle.binlog_coords.specs.Log.{place, ends_by}
-use Rattle.binlog_coords.proofs.Places.{stable_flush, place-from, place-coord_after, Laid-Grown}
+use Rattle.binlog_coords.specs.Log.{place, ends_by, coord_after, file_start, is_at_or_before}
+use Rattle.binlog_coords.proofs.Places.{stable_flush, place-from, place-coord_after, place-monotone, Laid-Grown}
 use Rattle.gtid_sets.specs.declared.interval.Interval.{Interval}
 use Rattle.orch_base.specs.declared.server.ServerNo.{ServerNo}
 use Rattle.orch_base.specs.declared.server.SourceState.{SourceState}
@@ -24,15 +25,16 @@ use Rattle.server_words.specs.declared.changes.Link.TheVariants as link
 use Rattle.server_words.specs.declared.changes.Threads.{Threads}
 use Rattle.server_words.specs.declared.changes.Threads.TheVariants as threads
 use Rattle.server_model.specs.declared.server.Server.{Server}
-use Rattle.server_model.specs.Attach.{spot_below, live_spot, same_spot, chain_meets, attach_answer, attached_to, after_attach, IsTarget}
+use Rattle.server_model.specs.Attach.{spot_below, live_spot, same_spot, chain_meets, first_kept, purged_answer, attach_answer, attached_to, after_attach, IsTarget}
 use Rattle.server_model.specs.Desk.{stopped, started, detached, detached_source, reattached, attached_source, is_detached, without_source, asked, healed, befallen, rotated, after_change, after_desk, after_rotate}
 use Rattle.server_model.specs.Exchanges.{is_attached}
-use Rattle.server_model.specs.Gtids.{uuids, set_of, held_len, errant_set, auto_coord, answer_by_sets, attach_auto_answer, after_attach_auto, IsAutoTarget}
+use Rattle.server_model.specs.Gtids.{uuids, set_of, held_len, held_of, purged_len, errant_set, auto_coord, auto_purged, answer_by_sets, attach_auto_answer, after_attach_auto, IsAutoTarget}
 use Rattle.server_model.specs.Layout.{LaysOut, Flushed}
 use Rattle.server_model.proofs.AutoAttached.{held-within}
+use Rattle.server_model.proofs.PurgedFiles.{purged-place}
 use Rattle.server_model.specs.Run.{IsJunction}
-use Rattle.server_model.specs.Safe.{StandsIn, AttachedWell, IsSource}
-use Rattle.server_model.specs.Worlds.{World, server_at, with_server, sources, source_of, source_no}
+use Rattle.server_model.specs.Safe.{StandsIn, AttachedWell, IsSource, KeepFiles}
+use Rattle.server_model.specs.Worlds.{World, server_at, with_server, sources, source_of, source_no, KeepsFrom}
 use Rattle.replication_laws.specs.Growth.{GoesOn}
 use Rattle.replication_laws.proofs.Chains.{Grounded-cut, Grounded-apart, Grounded-joined}
 use Rattle.replication_laws.proofs.Keeping.{at_or_before-refl, Same, Still, Still-refl, Standing, Linked, Linked-still, Linked-keeps, Linked-moves, Idle, Idle-refl, Idle-same, Idle-with}
@@ -42,15 +44,15 @@ use Rattle.replication_laws.proofs.Worlds.{at_with_same, at_with_other}
 -- changes that leave the source
 
 Still-stopped : (which : Threads) (s : Server) → Still s (stopped which s)
-Still-stopped threads.Both s = record { same = record { history = refl; log = refl; settings = refl }; source = refl; exec = refl; read = inl refl }
-Still-stopped threads.Receiver s = record { same = record { history = refl; log = refl; settings = refl }; source = refl; exec = refl; read = inl refl }
-Still-stopped threads.Applier s = record { same = record { history = refl; log = refl; settings = refl }; source = refl; exec = refl; read = inl refl }
+Still-stopped threads.Both s = record { same = record { history = refl; log = refl; first = refl; settings = refl }; source = refl; exec = refl; read = inl refl }
+Still-stopped threads.Receiver s = record { same = record { history = refl; log = refl; first = refl; settings = refl }; source = refl; exec = refl; read = inl refl }
+Still-stopped threads.Applier s = record { same = record { history = refl; log = refl; first = refl; settings = refl }; source = refl; exec = refl; read = inl refl }
 
 Still-started : (until : Option Coord) (s : Server) → Still s (started until s)
 Still-started until s = go (is_attached s.source)
   where
     go : (b : Bool) → Still s (cond b (record s { receiver = true; applier = true; until = until }) s)
-    go true = record { same = record { history = refl; log = refl; settings = refl }; source = refl; exec = refl; read = inl refl }
+    go true = record { same = record { history = refl; log = refl; first = refl; settings = refl }; source = refl; exec = refl; read = inl refl }
     go false = Still-refl s
 
 detached_source-no : (source : SourceState) → source_no (detached_source source) ≡ source_no source
@@ -62,7 +64,7 @@ Still-detached : (s : Server) → Still s (detached s)
 Still-detached s = go (is_attached s.source)
   where
     go : (b : Bool) → Still s (cond b (record s { source = detached_source s.source; receiver = false; applier = false; read = s.exec; until = None }) s)
-    go true = record { same = record { history = refl; log = refl; settings = refl }; source = detached_source-no s.source; exec = refl; read = inr refl }
+    go true = record { same = record { history = refl; log = refl; first = refl; settings = refl }; source = detached_source-no s.source; exec = refl; read = inr refl }
     go false = Still-refl s
 
 attached_source-no : (source : SourceState) → source_no (attached_source source) ≡ source_no source
@@ -74,7 +76,7 @@ Still-reattached : (s : Server) → Still s (reattached s)
 Still-reattached s = go (is_detached s.source)
   where
     go : (b : Bool) → Still s (cond b (record s { source = attached_source s.source; receiver = false; applier = false }) s)
-    go true = record { same = record { history = refl; log = refl; settings = refl }; source = attached_source-no s.source; exec = refl; read = inl refl }
+    go true = record { same = record { history = refl; log = refl; first = refl; settings = refl }; source = attached_source-no s.source; exec = refl; read = inl refl }
     go false = Still-refl s
 
 Still-healed : (s : Server) → Still s (healed s)
@@ -82,15 +84,15 @@ Still-healed s = go s.up
   where
     go : (b : Bool) → Still s (cond b s (record s { up = true; until = None; receiver = is_attached s.source || s.receiver; applier = is_attached s.source || s.applier }))
     go true = Still-refl s
-    go false = record { same = record { history = refl; log = refl; settings = refl }; source = refl; exec = refl; read = inl refl }
+    go false = record { same = record { history = refl; log = refl; first = refl; settings = refl }; source = refl; exec = refl; read = inl refl }
 
 Still-befallen : (e : Event) (s : Server) → Still s (befallen e s)
-Still-befallen event.Fail s = record { same = record { history = refl; log = refl; settings = refl }; source = refl; exec = refl; read = inl refl }
+Still-befallen event.Fail s = record { same = record { history = refl; log = refl; first = refl; settings = refl }; source = refl; exec = refl; read = inl refl }
 Still-befallen event.Heal s = Still-healed s
-Still-befallen (event.Cut link.Desk) s = record { same = record { history = refl; log = refl; settings = refl }; source = refl; exec = refl; read = inl refl }
-Still-befallen (event.Cut link.Feed) s = record { same = record { history = refl; log = refl; settings = refl }; source = refl; exec = refl; read = inl refl }
-Still-befallen (event.Join link.Desk) s = record { same = record { history = refl; log = refl; settings = refl }; source = refl; exec = refl; read = inl refl }
-Still-befallen (event.Join link.Feed) s = record { same = record { history = refl; log = refl; settings = refl }; source = refl; exec = refl; read = inl refl }
+Still-befallen (event.Cut link.Desk) s = record { same = record { history = refl; log = refl; first = refl; settings = refl }; source = refl; exec = refl; read = inl refl }
+Still-befallen (event.Cut link.Feed) s = record { same = record { history = refl; log = refl; first = refl; settings = refl }; source = refl; exec = refl; read = inl refl }
+Still-befallen (event.Join link.Desk) s = record { same = record { history = refl; log = refl; first = refl; settings = refl }; source = refl; exec = refl; read = inl refl }
+Still-befallen (event.Join link.Feed) s = record { same = record { history = refl; log = refl; first = refl; settings = refl }; source = refl; exec = refl; read = inl refl }
 
 -- of what orchestrator asks only RESET REPLICA ALL changes the source
 Still-asked : (a : Ask) (s : Server) → Still s (asked a s) ⊎ (asked a s ≡ without_source s)
@@ -100,7 +102,7 @@ Still-asked (asking.StartUntil to) s = inl (Still-started (Some to) s)
 Still-asked asking.Detach s = inl (Still-detached s)
 Still-asked asking.Reattach s = inl (Still-reattached s)
 Still-asked asking.Reset s = inr refl
-Still-asked (asking.SetReadOnly on) s = inl (record { same = record { history = refl; log = refl; settings = refl }; source = refl; exec = refl; read = inl refl })
+Still-asked (asking.SetReadOnly on) s = inl (record { same = record { history = refl; log = refl; first = refl; settings = refl }; source = refl; exec = refl; read = inl refl })
 
 -- none of these writes, and none touches the log
 
@@ -108,24 +110,24 @@ pub Same-asked : (a : Ask) (s : Server) → Same s (asked a s)
 Same-asked a s =
     elim (Still-asked a s) [
       | inl still ↦ still.same
-      | inr reset ↦ subst (Same s) (sym reset) (record { history = refl; log = refl; settings = refl })
+      | inr reset ↦ subst (Same s) (sym reset) (record { history = refl; log = refl; first = refl; settings = refl })
     ]
 
 pub Same-befallen : (e : Event) (s : Server) → Same s (befallen e s)
 Same-befallen e s = (Still-befallen e s).same
 
 pub Same-attached : (to : ServerNo) (at : Coord) (s : Server) → Same s (attached_to to at s)
-Same-attached to at s = record { history = refl; log = refl; settings = refl }
+Same-attached to at s = record { history = refl; log = refl; first = refl; settings = refl }
 
 -- a server attached there, by its coordinate or by its set
 abbrev pub joined : Bool → ServerNo → Coord → Server → Server
 joined auto to at s = record (attached_to to at s) { auto = auto }
 
 Same-joined : (auto : Bool) (to : ServerNo) (at : Coord) (s : Server) → Same s (joined auto to at s)
-Same-joined auto to at s = record { history = refl; log = refl; settings = refl }
+Same-joined auto to at s = record { history = refl; log = refl; first = refl; settings = refl }
 
 GoesOn-rotated : (s : Server) → GoesOn s (rotated s)
-GoesOn-rotated s = record { settings = refl; prefix = take-length s.history.txns; places = λ c k h. stable_flush s.log.log c k h }
+GoesOn-rotated s = record { settings = refl; prefix = take-length s.history.txns; places = λ c k h. stable_flush s.log.log c k h; first = omega arith }
 
 Idle-change : (w : World) (n : ℕ) (f : Server → Server) → ((s : Server) → Same s (f s)) → (o : Option Server) → server_at w n ≡ o → Idle w (after_change w n f o)
 Idle-change w n f same None at = Idle-refl w
@@ -162,7 +164,7 @@ module _ (R : Server → Server → Type 0) (standing : Standing R) (w : World) 
   Linked-reset : (s : Server) → server_at w n ≡ Some s → Linked R (with_server w n (without_source s))
   Linked-reset s here =
       Linked-moves R standing w n s (without_source s) linked here (record {
-        same = record { history = refl; log = refl; settings = refl };
+        same = record { history = refl; log = refl; first = refl; settings = refl };
         stands = λ m t from at_m. absurd (none m from);
         logging = λ m from. absurd (none m from);
         grounded = λ m.
@@ -202,6 +204,7 @@ module _ (R : Server → Server → Type 0) (standing : Standing R) (w : World) 
         goes_on = GoesOn-rotated s;
         source = refl;
         laid = λ logs. Flushed s.history.txns s.log.log (linked.laid n s at logs);
+        kept = (let kept = linked.kept n s at in let high = kept.high in record { low = kept.low; high = omega arith; unlogged = kept.unlogged });
         stands = λ m t from at_m stood. on s t stood;
       })
 
@@ -228,7 +231,7 @@ module _ (R : Server → Server → Type 0) (standing : Standing R) (w : World) 
 
   pub Linked-attach : (expect : Spot) (to : ServerNo) (c : Coord) → IsTarget w to.0 c
       → ((r s : Server) → server_at w n ≡ Some r → server_at w to.0 ≡ Some s → same_spot expect (live_spot r expect) ≡ true → R (attached_to to c r) s)
-      → (o : Option Server) → server_at w n ≡ o → Linked R (after_attach w n to c o (attach_answer w n expect to.0 o))
+      → (o : Option Server) → server_at w n ≡ o → Linked R (after_attach w n to c o (attach_answer w n expect to.0 c o))
   Linked-attach expect to c target stands None here = linked
   Linked-attach expect to c target stands (Some s) here =
       go (s.up && s.desk) (s.receiver || s.applier) (same_spot expect (live_spot s expect)) (chain_meets (sources w) (length w.servers) to.0 n) refl refl
@@ -237,15 +240,20 @@ module _ (R : Server → Server → Type 0) (standing : Standing R) (w : World) 
           → Linked R (after_attach w n to c (Some s)
           (cond (not reached) (Err attaching.Unreachable)
           (cond on (Err (attaching.Running (spot_below s s.source)))
-          (cond (not expected) (Err (attaching.Interfered expect (live_spot s expect))) (cond loops (Err attaching.Loop) (Ok tt))))))
+          (cond (not expected) (Err (attaching.Interfered expect (live_spot s expect))) (cond loops (Err attaching.Loop) (purged_answer (nat_lt c.file (first_kept (server_at w to.0))) (first_kept (server_at w to.0))))))))
       go false on expected loops is e = linked
       go true true expected loops is e = linked
       go true false false loops is e = linked
       go true false true true is e = linked
-      go true false true false is e = Linked-joined false to c s target.target here target.there target.logs (stands s target.target here target.there is) e
+      go true false true false is e = kept (nat_lt c.file (first_kept (server_at w to.0))) (first_kept (server_at w to.0))
+        where
+          kept : (purged : Bool) (k : ℕ) → Linked R (after_attach w n to c (Some s) (purged_answer purged k))
+          kept true k = linked
+          kept false k = Linked-joined false to c s target.target here target.there target.logs (stands s target.target here target.there is) e
 
   pub Linked-attach_auto : (observed : List Interval) (to : ServerNo) → IsAutoTarget w to.0
-      → ((r s : Server) → server_at w n ≡ Some r → server_at w to.0 ≡ Some s → errant_set (uuids w) observed r.history.txns ≡ [] → R (joined true to (auto_coord (uuids w) r (Some s)) r) s)
+      → ((r s : Server) → server_at w n ≡ Some r → server_at w to.0 ≡ Some s → errant_set (uuids w) observed r.history.txns ≡ [] → nat_lt (held_of (uuids w) r s) (purged_len s) ≡ false
+      → R (joined true to (auto_coord (uuids w) r (Some s)) r) s)
       → (o : Option Server) → server_at w n ≡ o → Linked R (after_attach_auto w n to o (attach_auto_answer w n observed to.0 o))
   Linked-attach_auto observed to target stands None here = linked
   Linked-attach_auto observed to target stands (Some s) here =
@@ -255,15 +263,22 @@ module _ (R : Server → Server → Type 0) (standing : Standing R) (w : World) 
           → Linked R (after_attach_auto w n to (Some s)
           (answer_by_sets
           (cond (not reached) (Err attaching.Unreachable) (cond on (Err (attaching.Running (spot_below s s.source))) (cond loops (Err attaching.Loop) (Ok tt))))
-          errant))
+          errant (auto_purged (uuids w) s (server_at w to.0))))
       go false on loops errant e none = linked
       go true true loops errant e none = linked
       go true false true errant e none = linked
       go true false false (x ∷ xs) e none = linked
       go true false false [] e none =
-          let at : auto_coord (uuids w) s (Some target.target) ≡ auto_coord (uuids w) s (server_at w to.0) = ap (auto_coord (uuids w) s) (sym target.there) in
-          subst (λ (c : Coord). Linked R (with_server w n (joined true to c s))) at
-          (Linked-joined true to (auto_coord (uuids w) s (Some target.target)) s target.target here target.there target.logs (stands s target.target here target.there none) e)
+          subst (λ (p : Option Server). Linked R (after_attach_auto w n to (Some s) (auto_purged (uuids w) s p))) (sym target.there)
+          (kept (nat_lt (held_of (uuids w) s target.target) (purged_len target.target)) refl)
+        where
+          kept : (purged : Bool) → nat_lt (held_of (uuids w) s target.target) (purged_len target.target) ≡ purged
+              → Linked R (after_attach_auto w n to (Some s) (purged_answer purged target.target.first))
+          kept true is = linked
+          kept false is =
+              let at : auto_coord (uuids w) s (Some target.target) ≡ auto_coord (uuids w) s (server_at w to.0) = ap (auto_coord (uuids w) s) (sym target.there) in
+              subst (λ (c : Coord). Linked R (with_server w n (joined true to c s))) at
+              (Linked-joined true to (auto_coord (uuids w) s (Some target.target)) s target.target here target.there target.logs (stands s target.target here target.there none is) e)
 
 -- how an attached replica stands
 
@@ -289,30 +304,46 @@ AttachedWell-attached to c r s junction =
     record { prefix = junction.prefix; exec_place = junction.place; read_place = (length r.history.txns, junction.place); order = at_or_before-refl c }
 
 -- where a server goes on by its set has a place in the source's log
-auto-place : (uuid : ℕ → ℕ) (r s : Server) → LaysOut s.history.txns s.log.log → place s.log.log (auto_coord uuid r (Some s)) ≡ Some (held_len uuid (set_of uuid r.history.txns) s.history.txns)
-auto-place uuid r s laid =
-    place-coord_after s.log.log (Laid-Grown s.log.log (LaysOut-Grown s.history.txns s.log.log laid)) (held_len uuid (set_of uuid r.history.txns) s.history.txns)
-    (held-within uuid (set_of uuid r.history.txns) s (LaysOut-length s.history.txns s.log.log laid))
+pub auto-place : (uuid : ℕ → ℕ) (r s : Server) → LaysOut s.history.txns s.log.log → KeepsFrom s.settings.logs s.log.log s.first → nat_lt (held_of uuid r s) (purged_len s) ≡ false
+    → place s.log.log (auto_coord uuid r (Some s)) ≡ Some (held_of uuid r s)
+auto-place uuid r s laid kept enough = go (nat_lt (coord_after s.log.log (held_of uuid r s)).file s.first) refl
+  where
+    ends : place s.log.log (coord_after s.log.log (held_of uuid r s)) ≡ Some (held_of uuid r s)
+    ends =
+        place-coord_after s.log.log (Laid-Grown s.log.log (LaysOut-Grown s.history.txns s.log.log laid)) (held_of uuid r s)
+        (held-within uuid (set_of uuid r.history.txns) s (LaysOut-length s.history.txns s.log.log laid))
+
+    go : (b : Bool) → nat_lt (coord_after s.log.log (held_of uuid r s)).file s.first ≡ b
+        → place s.log.log (cond b (file_start s.first) (coord_after s.log.log (held_of uuid r s))) ≡ Some (held_of uuid r s)
+    go false is = ends
+    go true is =
+        let end = coord_after s.log.log (held_of uuid r s) in
+        let starts = purged-place s kept.low kept.high in
+        let before : is_at_or_before end (file_start s.first) ≡ true = ap (λ b. b || (end.file == s.first && nat_le end.pos 4)) is in
+        let few = place-monotone s.log.log end (file_start s.first) (held_of uuid r s) (purged_len s) before ends starts in
+        let least : purged_len s ≤ held_of uuid r s = grind (arith, nat_tests) in
+        let same : purged_len s ≡ held_of uuid r s = omega (arith, few, least) in
+        starts ∙ ap Some same
 
 -- the source of an attachment by a set has a log
-auto-laid : (w : World) (to : ServerNo) (s : Server) → ((n : ℕ) (x : Server) → server_at w n ≡ Some x → x.settings.logs ≡ true → LaysOut x.history.txns x.log.log) → IsAutoTarget w to.0
+pub auto-laid : (w : World) (to : ServerNo) (s : Server) → ((n : ℕ) (x : Server) → server_at w n ≡ Some x → x.settings.logs ≡ true → LaysOut x.history.txns x.log.log) → IsAutoTarget w to.0
     → server_at w to.0 ≡ Some s → LaysOut s.history.txns s.log.log
 auto-laid w to s laid target there =
     let is : target.target ≡ s = same_Some target.target s (sym target.there ∙ there) in
     laid to.0 s there (ap (λ (x : Server). x.settings.logs) (sym is) ∙ target.logs)
 
-pub StandsIn-auto : (w : World) (to : ServerNo) (r s : Server) → ((n : ℕ) (x : Server) → server_at w n ≡ Some x → x.settings.logs ≡ true → LaysOut x.history.txns x.log.log) → IsAutoTarget w to.0
-    → server_at w to.0 ≡ Some s → StandsIn (joined true to (auto_coord (uuids w) r (Some s)) r) s
-StandsIn-auto w to r s laid target there =
+pub StandsIn-auto : (w : World) (to : ServerNo) (r s : Server) → ((n : ℕ) (x : Server) → server_at w n ≡ Some x → x.settings.logs ≡ true → LaysOut x.history.txns x.log.log) → KeepFiles w
+    → IsAutoTarget w to.0 → server_at w to.0 ≡ Some s → nat_lt (held_of (uuids w) r s) (purged_len s) ≡ false → StandsIn (joined true to (auto_coord (uuids w) r (Some s)) r) s
+StandsIn-auto w to r s laid kept target there enough =
     let c = auto_coord (uuids w) r (Some s) in
-    let at : (k : ℕ) × (place s.log.log c ≡ Some k) = (held_len (uuids w) (set_of (uuids w) r.history.txns) s.history.txns, auto-place (uuids w) r s (auto-laid w to s laid target there)) in
+    let at : (k : ℕ) × (place s.log.log c ≡ Some k) = (held_of (uuids w) r s, auto-place (uuids w) r s (auto-laid w to s laid target there) (kept to.0 s there) enough) in
     record { exec_place = at; read_place = at; order = at_or_before-refl c }
 
 -- and where it has executed a beginning of the source's history it goes on at that beginning's end
-pub AttachedWell-auto : (w : World) (to : ServerNo) (r s : Server) → ((n : ℕ) (x : Server) → server_at w n ≡ Some x → x.settings.logs ≡ true → LaysOut x.history.txns x.log.log) → IsAutoTarget w to.0
-    → server_at w to.0 ≡ Some s → take (length r.history.txns) s.history.txns ≡ r.history.txns
+pub AttachedWell-auto : (w : World) (to : ServerNo) (r s : Server) → ((n : ℕ) (x : Server) → server_at w n ≡ Some x → x.settings.logs ≡ true → LaysOut x.history.txns x.log.log) → KeepFiles w
+    → IsAutoTarget w to.0 → server_at w to.0 ≡ Some s → nat_lt (held_of (uuids w) r s) (purged_len s) ≡ false → take (length r.history.txns) s.history.txns ≡ r.history.txns
     → held_len (uuids w) (set_of (uuids w) r.history.txns) s.history.txns ≡ length r.history.txns → AttachedWell (joined true to (auto_coord (uuids w) r (Some s)) r) s
-AttachedWell-auto w to r s laid target there prefix held =
+AttachedWell-auto w to r s laid kept target there enough prefix held =
     let c = auto_coord (uuids w) r (Some s) in
-    let at : place s.log.log c ≡ Some (length r.history.txns) = auto-place (uuids w) r s (auto-laid w to s laid target there) ∙ ap Some held in
+    let at : place s.log.log c ≡ Some (length r.history.txns) = auto-place (uuids w) r s (auto-laid w to s laid target there) (kept to.0 s there) enough ∙ ap Some held in
     record { prefix = prefix; exec_place = at; read_place = (length r.history.txns, at); order = at_or_before-refl c }

@@ -1,9 +1,9 @@
 -- No history of a quiet run gets full.
-use Rattle.std.proofs.Common.{◌≡◌, ℕ, ◌+◌, ◌<◌, ◌≤◌, Bool, true, false, cond, not, List, [], ◌∷◌, length, take, refl, sym, ◌∙◌, ap, subst, inl, inr, Option, Some, None, arith, length-append, zero, suc, count_by, sum_by}
+use Rattle.std.proofs.Common.{◌≡◌, ℕ, ◌+◌, ◌<◌, ◌≤◌, Bool, true, false, cond, not, List, [], ◌∷◌, length, take, refl, sym, ◌∙◌, ap, subst, inl, inr, Option, Some, None, arith, length-append, zero, suc, count_by}
 use Rattle.std.specs.Prelude.{slice_get, nat_le, Result, Ok, Err}
 use Rattle.std.proofs.lemmas.Bool.Decides.{nat_tests}
-use Rattle.std.proofs.lemmas.List.Sums.{sum_by-cons, get_or-le-sum_by}
-use Rattle.std.proofs.lemmas.Option.{same_Some, slice_get_within, get_or_from_slice_get}
+use Rattle.std.proofs.lemmas.List.Sums.{sum_by-cons}
+use Rattle.std.proofs.lemmas.Option.{same_Some, slice_get_within}
 use Rattle.binlog_coords.specs.declared.Coord.{Coord}
 use Rattle.binlog_coords.specs.declared.Next.TheVariants as next
 use Rattle.orch_base.specs.declared.server.ServerNo.{ServerNo}
@@ -12,6 +12,8 @@ use Rattle.server_words.specs.declared.answers.ApplyAnswer.TheVariants as answer
 use Rattle.server_model.specs.declared.decisions.ApplyStep.{ApplyStep}
 use Rattle.server_model.specs.declared.decisions.FetchStep.{FetchStep}
 use Rattle.server_model.specs.declared.decisions.FetchStep.TheVariants as receiving
+use Rattle.server_words.specs.declared.answers.PurgeAnswer.{PurgeAnswer}
+use Rattle.server_words.specs.declared.answers.PurgeAnswer.TheVariants as purging
 use Rattle.server_words.specs.declared.answers.RotateAnswer.{RotateAnswer}
 use Rattle.server_words.specs.declared.answers.RotateAnswer.TheVariants as rotating
 use Rattle.server_words.specs.declared.answers.Unreachable.{Unreachable}
@@ -25,7 +27,8 @@ use Rattle.server_model.specs.Desk.{asked, befallen, rotated, desk_answer, rotat
 use Rattle.server_model.specs.Exchanges.{took, own_txn, write_answer, after_write, fetch_step, after_fetch, apply_step, apply_answer, after_apply}
 use Rattle.orch_base.specs.Histories.{count_own}
 use Rattle.server_model.specs.Gtids.{attach_auto_answer, after_attach_auto, attached_auto, auto_coord, uuids}
-use Rattle.server_model.specs.Run.{Exchange, Write, Fetch, Apply, Request, Befall, Rotate, Attach, AttachAuto, is_write, after, run, AllAllowed, AllJoinWell}
+use Rattle.server_model.specs.Purging.{purge_answer, after_purge}
+use Rattle.server_model.specs.Run.{Exchange, Write, Fetch, Apply, Request, Befall, Rotate, Purge, Attach, AttachAuto, is_write, after, run, AllAllowed, AllJoinWell}
 use Rattle.server_model.specs.Safe.{Safe, IsQuiet}
 use Rattle.server_model.specs.Worlds.{World, server_at, with_server}
 use Rattle.replication_laws.specs.Room.{Fitting, AllFit, IsNotFull}
@@ -66,6 +69,7 @@ module _ (room total : ℕ) (w : World) (fit : AllFit room total w) where
   AllFit-fetch n None at a = AllFit-more 0
   AllFit-fetch n (Some r) at receiving.Halt = AllFit-more 0
   AllFit-fetch n (Some r) at receiving.Unlinked = AllFit-more 0
+  AllFit-fetch n (Some r) at (receiving.Refuse first) = AllFit-still n r (record r { receiver = false }) at refl
   AllFit-fetch n (Some r) at (receiving.Take (next.Entry index to)) = AllFit-still n r (record r { read = to }) at refl
   AllFit-fetch n (Some r) at (receiving.Take (next.Rotate to)) = AllFit-still n r (record r { read = to }) at refl
   AllFit-fetch n (Some r) at (receiving.Take next.End) = AllFit-more 0
@@ -84,6 +88,13 @@ module _ (room total : ℕ) (w : World) (fit : AllFit room total w) where
   AllFit-rotate n (Some s) at rotating.NotLogging = AllFit-more 0
   AllFit-rotate n (Some s) at rotating.Full = AllFit-more 0
   AllFit-rotate n (Some s) at (rotating.Done c) = AllFit-still n s (rotated s) at refl
+
+  AllFit-purge : (n : ℕ) (o : Option Server) → server_at w n ≡ o → (answer : PurgeAnswer) → AllFit room (total + 0) (after_purge w n o answer)
+  AllFit-purge n None at answer = AllFit-more 0
+  AllFit-purge n (Some s) at purging.Down = AllFit-more 0
+  AllFit-purge n (Some s) at purging.NotLogging = AllFit-more 0
+  AllFit-purge n (Some s) at purging.NoFile = AllFit-more 0
+  AllFit-purge n (Some s) at (purging.Done first) = AllFit-still n s (record s { first = first }) at refl
 
   AllFit-attach : (n : ℕ) (to : ServerNo) (c : Coord) (o : Option Server) → server_at w n ≡ o → (answer : Result (Unit {0}) AttachFault) → AllFit room (total + 0) (after_attach w n to c o answer)
   AllFit-attach n to c None at answer = AllFit-more 0
@@ -151,7 +162,8 @@ AllFit-after room total w fit safe (Apply n) = AllFit-apply room total w fit n (
 AllFit-after room total w fit safe (Request n a) = AllFit-ask room total w fit n a (desk_answer (server_at w n))
 AllFit-after room total w fit safe (Befall n e) = AllFit-change room total w fit n (befallen e) (Same-befallen e) (server_at w n) refl
 AllFit-after room total w fit safe (Rotate n) = AllFit-rotate room total w fit n (server_at w n) refl (rotate_answer (server_at w n))
-AllFit-after room total w fit safe (Attach n expect to at) = AllFit-attach room total w fit n to at (server_at w n) refl (attach_answer w n expect to.0 (server_at w n))
+AllFit-after room total w fit safe (Purge n file) = AllFit-purge room total w fit n (server_at w n) refl (purge_answer w n file (server_at w n))
+AllFit-after room total w fit safe (Attach n expect to at) = AllFit-attach room total w fit n to at (server_at w n) refl (attach_answer w n expect to.0 at (server_at w n))
 AllFit-after room total w fit safe (AttachAuto n observed to) = AllFit-attach_auto room total w fit n to (server_at w n) refl (attach_auto_answer w n observed to.0 (server_at w n))
 
 not_full-here : (room total : ℕ) (w : World) → AllFit room total w → Safe w → (e : Exchange) → total + tick (is_write e) ≤ room → IsNotFull w e
@@ -161,6 +173,7 @@ not_full-here room total w fit safe (Apply n) more = not_full-apply room total w
 not_full-here room total w fit safe (Request n a) more = tt
 not_full-here room total w fit safe (Befall n e) more = tt
 not_full-here room total w fit safe (Rotate n) more = tt
+not_full-here room total w fit safe (Purge n file) more = tt
 not_full-here room total w fit safe (Attach n expect to at) more = tt
 not_full-here room total w fit safe (AttachAuto n observed to) more = tt
 

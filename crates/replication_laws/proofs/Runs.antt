@@ -15,7 +15,7 @@ use Rattle.server_model.specs.Desk.{desk_answer, rotate_answer}
 use Rattle.server_model.specs.Exchanges.{write_answer, after_write, fetch_step, after_apply, apply_step}
 use Rattle.gtid_sets.specs.declared.interval.Interval.{Interval}
 use Rattle.server_model.specs.Gtids.{attach_auto_answer}
-use Rattle.server_model.specs.Run.{Exchange, Write, Fetch, Apply, Request, Befall, Rotate, Attach, AttachAuto, after, Allowed, JoinsWell, run, AllAllowed, AllJoinWell}
+use Rattle.server_model.specs.Run.{Exchange, Write, Fetch, Apply, Request, Befall, Rotate, Purge, Attach, AttachAuto, after, Allowed, JoinsWell, run, AllAllowed, AllJoinWell}
 use Rattle.server_model.specs.Safe.{Safe, Placed, StandsIn, AttachedWell, IsQuiet}
 use Rattle.server_model.specs.Worlds.{World, server_at, has_source}
 use Rattle.replication_laws.specs.Growth.{Grows}
@@ -24,6 +24,7 @@ use Rattle.replication_laws.proofs.Writes.{Safe-write, Placed-write, Grows-write
 use Rattle.replication_laws.proofs.Fetches.{Linked-fetch, Idle-fetch}
 use Rattle.replication_laws.proofs.Applies.{Safe-apply, Placed-apply, Grows-apply}
 use Rattle.replication_laws.proofs.Moves.{Linked-ask, Idle-ask, Linked-befall, Idle-befall, Linked-rotate, Idle-rotate, Linked-attach, Idle-attach, Linked-attach_auto, Idle-attach_auto, StandsIn-rotated, AttachedWell-rotated, StandsIn-attached, AttachedWell-attached, StandsIn-auto, AttachedWell-auto}
+use Rattle.replication_laws.proofs.Purges.{Linked-purge, Idle-purge, StandsIn-purged, AttachedWell-purged}
 use Rattle.replication_laws.proofs.Subsets.{prefix-observed, held-prefix}
 
 -- the count of errant writes never falls
@@ -63,8 +64,11 @@ Idle-asked w n a = Idle-ask w n a (desk_answer (server_at w n))
 pub Idle-rotated : (w : World) (n : ℕ) → Idle w (after w (Rotate n))
 Idle-rotated w n = Idle-rotate w n (server_at w n) refl (rotate_answer (server_at w n))
 
+pub Idle-purged : (w : World) (n file : ℕ) → Idle w (after w (Purge n file))
+Idle-purged w n file = Idle-purge w n file (server_at w n) refl
+
 pub Idle-attached : (w : World) (n : ℕ) (expect : Spot) (to : ServerNo) (at : Coord) → Idle w (after w (Attach n expect to at))
-Idle-attached w n expect to at = Idle-attach w n to at (server_at w n) refl (attach_answer w n expect to.0 (server_at w n))
+Idle-attached w n expect to at = Idle-attach w n to at (server_at w n) refl (attach_answer w n expect to.0 at (server_at w n))
 
 pub Idle-auto : (w : World) (n : ℕ) (observed : List Interval) (to : ServerNo) → Idle w (after w (AttachAuto n observed to))
 Idle-auto w n observed to = Idle-attach_auto w n to (server_at w n) refl (attach_auto_answer w n observed to.0 (server_at w n))
@@ -76,6 +80,7 @@ errant-after w (Apply n) = errant-apply w n (server_at w n) (apply_step w (serve
 errant-after w (Request n a) = errant-idle w (after w (Request n a)) (Idle-asked w n a)
 errant-after w (Befall n e) = errant-idle w (after w (Befall n e)) (Idle-befall w n e)
 errant-after w (Rotate n) = errant-idle w (after w (Rotate n)) (Idle-rotated w n)
+errant-after w (Purge n file) = errant-idle w (after w (Purge n file)) (Idle-purged w n file)
 errant-after w (Attach n expect to at) = errant-idle w (after w (Attach n expect to at)) (Idle-attached w n expect to at)
 errant-after w (AttachAuto n observed to) = errant-idle w (after w (AttachAuto n observed to)) (Idle-auto w n observed to)
 
@@ -105,12 +110,14 @@ Placed-after w (Befall n e) placed free = Placed-linked (after w (Befall n e)) (
 Placed-after w (Rotate n) placed free =
     Placed-linked (after w (Rotate n))
     (Linked-rotate StandsIn Standing-placed w n (Linked-placed w placed) (server_at w n) refl StandsIn-rotated (rotate_answer (server_at w n)))
+Placed-after w (Purge n file) placed free =
+    Placed-linked (after w (Purge n file)) (Linked-purge StandsIn Standing-placed w n file (Linked-placed w placed) StandsIn-purged (server_at w n) refl)
 Placed-after w (Attach n expect to at) placed target =
     Placed-linked (after w (Attach n expect to at))
     (Linked-attach StandsIn Standing-placed w n (Linked-placed w placed) expect to at target (λ r s here there is. StandsIn-attached w to at r s target there) (server_at w n) refl)
 Placed-after w (AttachAuto n observed to) placed target =
     Placed-linked (after w (AttachAuto n observed to))
-    (Linked-attach_auto StandsIn Standing-placed w n (Linked-placed w placed) observed to target (λ r s here there none. StandsIn-auto w to r s placed.laid target there) (server_at w n) refl)
+    (Linked-attach_auto StandsIn Standing-placed w n (Linked-placed w placed) observed to target (λ r s here there none enough. StandsIn-auto w to r s placed.laid placed.kept target there enough) (server_at w n) refl)
 
 pub Grows-after : (w : World) (e : Exchange) → Placed w → Allowed w e → Grows w (after w e)
 Grows-after w (Write n size) placed some = Grows-write w n size some placed (server_at w n) refl (write_answer n (server_at w n))
@@ -119,6 +126,7 @@ Grows-after w (Apply n) placed free = Grows-apply w n (server_at w n) refl place
 Grows-after w (Request n a) placed free = (Idle-asked w n a).grows
 Grows-after w (Befall n e) placed free = (Idle-befall w n e).grows
 Grows-after w (Rotate n) placed free = (Idle-rotated w n).grows
+Grows-after w (Purge n file) placed free = (Idle-purged w n file).grows
 Grows-after w (Attach n expect to at) placed target = (Idle-attached w n expect to at).grows
 Grows-after w (AttachAuto n observed to) placed target = (Idle-auto w n observed to).grows
 
@@ -156,6 +164,11 @@ Safe-rotated w n safe =
     Safe-idle w (after w (Rotate n)) safe (Idle-rotated w n)
     (Linked-rotate AttachedWell Standing-well w n (Linked-safe w safe) (server_at w n) refl AttachedWell-rotated (rotate_answer (server_at w n)))
 
+pub Safe-purged : (w : World) (n file : ℕ) → Safe w → Safe (after w (Purge n file))
+Safe-purged w n file safe =
+    Safe-idle w (after w (Purge n file)) safe (Idle-purged w n file)
+    (Linked-purge AttachedWell Standing-well w n file (Linked-safe w safe) AttachedWell-purged (server_at w n) refl)
+
 pub Safe-attached : (w : World) (n : ℕ) (expect : Spot) (to : ServerNo) (at : Coord) → Safe w → Allowed w (Attach n expect to at) → JoinsWell w (Attach n expect to at)
     → Safe (after w (Attach n expect to at))
 Safe-attached w n expect to at safe target joins =
@@ -168,9 +181,9 @@ pub Safe-auto : (w : World) (n : ℕ) (observed : List Interval) (to : ServerNo)
 Safe-auto w n observed to safe target within =
     Safe-idle w (after w (AttachAuto n observed to)) safe (Idle-auto w n observed to)
     (Linked-attach_auto AttachedWell Standing-well w n (Linked-safe w safe) observed to target
-    (λ r s here there none.
+    (λ r s here there none enough.
     let front = prefix-observed w safe n to.0 r s here there observed within none in
-    AttachedWell-auto w to r s safe.laid target there front (held-prefix w safe n to.0 r s here there front))
+    AttachedWell-auto w to r s safe.laid safe.kept target there enough front (held-prefix w safe n to.0 r s here there front))
     (server_at w n) refl)
 
 pub Safe-after : (w : World) (e : Exchange) → Safe w → Allowed w e → JoinsWell w e → IsQuiet (after w e) → Safe (after w e)
@@ -180,6 +193,7 @@ Safe-after w (Apply n) safe free also q = Safe-apply w n (server_at w n) refl sa
 Safe-after w (Request n a) safe free also q = Safe-asked w n a safe
 Safe-after w (Befall n e) safe free also q = Safe-befallen w n e safe
 Safe-after w (Rotate n) safe free also q = Safe-rotated w n safe
+Safe-after w (Purge n file) safe free also q = Safe-purged w n file safe
 Safe-after w (Attach n expect to at) safe target joins q = Safe-attached w n expect to at safe target joins
 Safe-after w (AttachAuto n observed to) safe target joins q = Safe-auto w n observed to safe target joins
 

@@ -2,7 +2,7 @@
 use Rattle.std.proofs.Common.{◌≡◌, ℕ, ◌<◌, Bool, true, false, cond, List, [], ◌∷◌, ◌++◌, length, take, drop, refl, sym, ◌∙◌, ap, subst, Option, Some, None, Ok, arith, ◌||◌}
 use Rattle.std.specs.List.{list_any}
 use Rattle.std.proofs.lemmas.Bool.{false≢true}
-use Rattle.std.proofs.lemmas.List.{length-set, take-append-drop}
+use Rattle.std.proofs.lemmas.List.{take-append-drop}
 use Rattle.std.proofs.lemmas.List.Folds.{list_any-append}
 use Rattle.std.proofs.lemmas.Option.{same_Some, slice_get_within}
 use Rattle.gtid_sets.specs.Sets.{holds}
@@ -10,52 +10,18 @@ use Rattle.gtid_sets.specs.declared.interval.Interval.{Interval}
 use Rattle.orch_base.specs.declared.server.ServerNo.{ServerNo}
 use Rattle.orch_base.specs.declared.server.Settings.{Settings}
 use Rattle.orch_base.specs.declared.server.Txn.{Txn}
-use Rattle.server_model.specs.declared.decisions.ApplyStep.{ApplyStep}
-use Rattle.server_model.specs.declared.decisions.ApplyStep.TheVariants as applying
-use Rattle.server_words.specs.declared.answers.WriteAnswer.{WriteAnswer}
-use Rattle.server_words.specs.declared.answers.WriteAnswer.TheVariants as wrote
 use Rattle.server_model.specs.declared.server.Server.{Server}
 use Rattle.server_words.specs.declared.status.Status.{Status}
-use Rattle.server_model.specs.Exchanges.{took, own_txn, write_answer, after_write, apply_step, after_apply}
 use Rattle.server_model.specs.Gtids.{uuid_of, uuids, executed_set, status}
-use Rattle.server_model.specs.Run.{Exchange, Write, Fetch, Apply, Request, Befall, Rotate, Attach, AttachAuto, after, run, Allowed, JoinsWell, AllAllowed}
+use Rattle.server_model.specs.Run.{Exchange, AttachAuto, after, run, Allowed, JoinsWell, AllAllowed}
 use Rattle.server_model.specs.Safe.{Placed}
 use Rattle.server_model.specs.Worlds.{World, server_at}
+use Rattle.server_model.proofs.Counts.{servers-after}
 use Rattle.server_model.proofs.ExecutedSets.{is_gtid, holds-set_of, set_of-same, server-there}
 use Rattle.replication_laws.specs.Growth.{Grows}
 use Rattle.replication_laws.specs.Observed.{HasExecuted}
 use Rattle.replication_laws.proofs.BridgeLaws.{seen-of}
-use Rattle.replication_laws.proofs.Moves.{Idle-befall}
-use Rattle.replication_laws.proofs.Runs.{Idle-fetched, Idle-asked, Idle-rotated, Idle-attached, Idle-auto, Grows-after, Placed-after}
-
--- no server comes or goes
-
-count-write : (w : World) (n size : ℕ) (o : Option Server) (a : WriteAnswer) → length (after_write w n size o a).servers ≡ length w.servers
-count-write w n size None a = refl
-count-write w n size (Some s) wrote.Down = refl
-count-write w n size (Some s) wrote.ReadOnly = refl
-count-write w n size (Some s) wrote.Full = refl
-count-write w n size (Some s) (wrote.Done seq) = length-set w.servers n (took s (own_txn n seq size))
-
-count-apply : (w : World) (n : ℕ) (o : Option Server) (a : ApplyStep) → length (after_apply w n o a).servers ≡ length w.servers
-count-apply w n None a = refl
-count-apply w n (Some r) applying.Halt = refl
-count-apply w n (Some r) applying.ForgetUntil = length-set w.servers n (record r { applier = false; until = None })
-count-apply w n (Some r) applying.Idle = refl
-count-apply w n (Some r) applying.NoRoom = refl
-count-apply w n (Some r) (applying.Pass to) = length-set w.servers n (record r { exec = to })
-count-apply w n (Some r) (applying.Skip to) = length-set w.servers n (record r { exec = to })
-count-apply w n (Some r) (applying.Execute t to) = length-set w.servers n (record (took r t) { exec = to })
-
-count-after : (w : World) (e : Exchange) → length (after w e).servers ≡ length w.servers
-count-after w (Write n size) = count-write w n size (server_at w n) (write_answer n (server_at w n))
-count-after w (Fetch n) = (Idle-fetched w n).count
-count-after w (Apply n) = count-apply w n (server_at w n) (apply_step w (server_at w n))
-count-after w (Request n a) = (Idle-asked w n a).count
-count-after w (Befall n e) = (Idle-befall w n e).count
-count-after w (Rotate n) = (Idle-rotated w n).count
-count-after w (Attach n expect to at) = (Idle-attached w n expect to at).count
-count-after w (AttachAuto n observed to) = (Idle-auto w n observed to).count
+use Rattle.replication_laws.proofs.Runs.{Grows-after, Placed-after}
 
 module _ (w w' : World) (grows : Grows w w') (count : length w'.servers ≡ length w.servers) where
   -- UUIDs stay
@@ -91,7 +57,7 @@ module _ (w w' : World) (grows : Grows w w') (count : length w'.servers ≡ leng
       }
 
 pub executed-after : (w : World) (e : Exchange) (n : ℕ) (set : List Interval) → Placed w → Allowed w e → HasExecuted w n set → HasExecuted (after w e) n set
-executed-after w e n set placed allowed has = executed-grown w (after w e) (Grows-after w e placed allowed) (count-after w e) n set has
+executed-after w e n set placed allowed has = executed-grown w (after w e) (Grows-after w e placed allowed) (servers-after w e) n set has
 
 pub executed-run : (w : World) (es : List Exchange) (n : ℕ) (set : List Interval) → Placed w → AllAllowed w es → HasExecuted w n set → HasExecuted (run w es) n set
 executed-run w [] n set placed allowed has = has

@@ -7,7 +7,9 @@ use Rattle.binlog_coords.specs.declared.Coord.{Coord}
 use Rattle.binlog_coords.specs.Log.{has_place, ends_by, end_of, is_at_or_before}
 use Rattle.binlog_coords.proofs.Places.{place-parts, place-from, has_place-of_end, Laid-Grown}
 use Rattle.gtid_sets.specs.Sets.{holds}
+use Rattle.gtid_sets.specs.declared.interval.Interval.{Interval}
 use Rattle.orch_base.specs.declared.server.Settings.{Settings}
+use Rattle.orch_base.specs.declared.server.SourceState.{SourceState}
 use Rattle.server_words.specs.declared.status.Status.{Status}
 use Rattle.server_words.specs.declared.status.StatusFault.TheVariants as seeing
 use Rattle.server_model.specs.declared.server.Server.{Server}
@@ -18,7 +20,7 @@ use Rattle.server_model.specs.Safe.{Placed}
 use Rattle.server_model.specs.Worlds.{World, server_at, source_no}
 use Rattle.replication_laws.specs.Growth.{Grows}
 use Rattle.replication_laws.specs.Observed.{HasExecuted}
-use Rattle.replication_laws.specs.Showing.{Shows}
+use Rattle.replication_laws.specs.Showing.{IsPosition, Shows}
 use Rattle.replication_laws.proofs.Logs.{LaysOut-Grown}
 use Rattle.replication_laws.proofs.Runs.{Grows-after, Grows-run}
 use Rattle.replication_laws.proofs.SeenSets.{executed-after, executed-run}
@@ -38,24 +40,35 @@ Target-on w w' n c grows t =
       place = (place-parts on.0.log.log c count kept).0;
     }
 
-Shows-on : (w w' : World) (n : ℕ) (seen : Status) → Grows w w' → HasExecuted w' n seen.set → Shows w n seen → Shows w' n seen
-Shows-on w w' n seen grows set s = record {
+Position-on : (w w' : World) (n : ℕ) (own : Option Coord) (source : SourceState) (exec : Coord) (set : List Interval) → Grows w w' → HasExecuted w' n set
+    → IsPosition w n own source exec set → IsPosition w' n own source exec set
+Position-on w w' n own source exec set grows executed s = record {
   own = λ c e. Target-on w w' n c grows (s.own c e);
   logs = λ t at logs.
       let on = grows n s.set.server s.set.there in
       let same : on.0 ≡ t = same_Some on.0 t (sym on.1 ∙ at) in
       s.logs s.set.server s.set.there (sym (ap (λ (x : Settings). x.logs) on.2.settings) ∙ ap (λ (x : Server). x.settings.logs) same ∙ logs);
-  under = λ m e. Target-on w w' m seen.exec grows (s.under m e);
+  under = λ m e. Target-on w w' m exec grows (s.under m e);
+  set = executed;
+}
+
+pub Position-run : (w : World) (es : List Exchange) (n : ℕ) (own : Option Coord) (source : SourceState) (exec : Coord) (set : List Interval) → Placed w → AllAllowed w es
+    → IsPosition w n own source exec set → IsPosition (run w es) n own source exec set
+Position-run w es n own source exec set placed allowed s =
+    Position-on w (run w es) n own source exec set (Grows-run w es placed allowed) (executed-run w es n set placed allowed s.set) s
+
+Shows-on : (w w' : World) (n : ℕ) (seen : Status) → Grows w w' → HasExecuted w' n seen.set → Shows w n seen → Shows w' n seen
+Shows-on w w' n seen grows set s = record {
+  at = Position-on w w' n seen.own_end seen.source seen.exec seen.set grows set s.at;
   read = λ m e. Target-on w w' m seen.read grows (s.read m e);
   order = s.order;
-  set = set;
 }
 
 pub Shows-after : (w : World) (e : Exchange) (n : ℕ) (seen : Status) → Placed w → Allowed w e → Shows w n seen → Shows (after w e) n seen
-Shows-after w e n seen placed allowed s = Shows-on w (after w e) n seen (Grows-after w e placed allowed) (executed-after w e n seen.set placed allowed s.set) s
+Shows-after w e n seen placed allowed s = Shows-on w (after w e) n seen (Grows-after w e placed allowed) (executed-after w e n seen.set placed allowed s.at.set) s
 
 pub Shows-run : (w : World) (es : List Exchange) (n : ℕ) (seen : Status) → Placed w → AllAllowed w es → Shows w n seen → Shows (run w es) n seen
-Shows-run w es n seen placed allowed s = Shows-on w (run w es) n seen (Grows-run w es placed allowed) (executed-run w es n seen.set placed allowed s.set) s
+Shows-run w es n seen placed allowed s = Shows-on w (run w es) n seen (Grows-run w es placed allowed) (executed-run w es n seen.set placed allowed s.at.set) s
 
 -- ---- what is shown
 
@@ -112,7 +125,11 @@ module _ (w : World) (n : ℕ) (s : Server) (placed : Placed w) (at : server_at 
       go false u k h = absurd (false≢true h)
 
   Shows-server : Shows w n (shown_of w s)
-  Shows-server = record { own = own-target; logs = own-there; under = exec-target; read = read-target; order = in-order; set = executed }
+  Shows-server = record {
+    at = record { own = own-target; logs = own-there; under = exec-target; set = executed };
+    read = read-target;
+    order = in-order;
+  }
 
 pub Shows-shown : (w : World) (n : ℕ) (seen : Status) → Placed w → shown w n ≡ Some seen → Shows w n seen
 Shows-shown w n seen placed h = go (server_at w n) refl h

@@ -11,6 +11,7 @@ use Rattle.server_model.specs.Exchanges.{took, own_txn, write_answer, after_writ
 use Rattle.orch_base.specs.Histories.{same_txn, count_own}
 use Rattle.server_model.specs.Safe.{Safe, Placed, StandsIn, AttachedWell, IsQuiet}
 use Rattle.server_model.specs.Worlds.{World, server_at, with_server, histories, history_of, source_no, has_source}
+use Rattle.server_model.proofs.PurgedFiles.{KeepsFrom-took}
 use Rattle.replication_laws.specs.Growth.{Grows}
 use Rattle.replication_laws.proofs.Worlds.{at_with_same, at_with_other}
 use Rattle.replication_laws.proofs.Histories.{Extends, IsKin-extended, IsKin-fresh}
@@ -42,6 +43,7 @@ Safe-wrote w n size errant s safe here some free =
       goes_on = GoesOn-took s (written n size s) some (safe.laid n s here);
       source = refl;
       laid = LaysOut-took s (written n size s) some (safe.laid n s here);
+      kept = KeepsFrom-took s (written n size s) (safe.kept n s here);
       stands = λ m t from at_m stood. absurd (contradiction m from);
     })))
     (IsKin-extended (histories w) (histories (with_server w n (took s (written n size s)))) n (written n size s) (Extends-with w n s (took s (written n size s)) (written n size s) here refl) safe.kin
@@ -93,6 +95,7 @@ module _ (w : World) (n size : ℕ) (some : 0 < size) (placed : Placed w) where
         goes_on = GoesOn-took s (own_txn n seq size) some (placed.laid n s here);
         source = refl;
         laid = LaysOut-took s (own_txn n seq size) some (placed.laid n s here);
+        kept = KeepsFrom-took s (own_txn n seq size) (placed.kept n s here);
         stands = λ m t from at_m stood. record { exec_place = stood.exec_place; read_place = stood.read_place; order = stood.order };
       })))
 

@@ -4,6 +4,8 @@ use Rattle.server_words.specs.declared.answers.ApplyAnswer.{ApplyAnswer}
 use Rattle.server_words.specs.declared.answers.ApplyAnswer.TheVariants as applied_as
 use Rattle.server_words.specs.declared.answers.FetchAnswer.{FetchAnswer}
 use Rattle.server_words.specs.declared.answers.FetchAnswer.TheVariants as fetching
+use Rattle.server_words.specs.declared.answers.PurgeAnswer.{PurgeAnswer}
+use Rattle.server_words.specs.declared.answers.PurgeAnswer.TheVariants as purging
 use Rattle.server_words.specs.declared.answers.RotateAnswer.{RotateAnswer}
 use Rattle.server_words.specs.declared.answers.RotateAnswer.TheVariants as rotating
 use Rattle.server_words.specs.declared.answers.WriteAnswer.{WriteAnswer}
@@ -12,7 +14,8 @@ use Rattle.server_model.specs.Attach.{attach_at}
 use Rattle.server_model.specs.Desk.{ask, rotate}
 use Rattle.server_model.specs.Exchanges.{write, fetch, apply}
 use Rattle.server_model.specs.Gtids.{attach_auto}
-use Rattle.server_model.specs.Run.{Exchange, Write, Fetch, Apply, Request, Befall, Rotate, Attach, AttachAuto}
+use Rattle.server_model.specs.Purging.{purge}
+use Rattle.server_model.specs.Run.{Exchange, Write, Fetch, Apply, Request, Befall, Rotate, Purge, Attach, AttachAuto}
 use Rattle.server_model.specs.Worlds.{World}
 
 -- a client's transaction was not written
@@ -22,11 +25,12 @@ nothing_written wrote.ReadOnly = true
 nothing_written wrote.Full = true
 nothing_written (wrote.Done seq) = false
 
--- the receiver read nothing
+-- the receiver read nothing, and goes on as it did
 abbrev pub nothing_read : FetchAnswer → Bool
 nothing_read fetching.Stopped = true
 nothing_read fetching.NoLink = true
 nothing_read fetching.Nothing = true
+nothing_read (fetching.Purged first) = false
 nothing_read (fetching.Got to) = false
 nothing_read (fetching.Rotated to) = false
 
@@ -47,13 +51,20 @@ no_new_file rotating.NotLogging = true
 no_new_file rotating.Full = true
 no_new_file (rotating.Done at) = false
 
+-- nothing was purged
+abbrev pub nothing_purged : PurgeAnswer → Bool
+nothing_purged purging.Down = true
+nothing_purged purging.NotLogging = true
+nothing_purged purging.NoFile = true
+nothing_purged (purging.Done first) = false
+
 -- a fault
 abbrev pub is_fault : {E : Type 0} → Result (Unit {0}) E → Bool
 is_fault (Ok t) = false
 is_fault (Err e) = true
 
--- the exchange answers a fault, or Down, ReadOnly, Full, Stopped, NoLink, Nothing or NotLogging; what befalls a server
--- has no answer
+-- the exchange answers a fault, or Down, ReadOnly, Full, Stopped, NoLink, Nothing, NotLogging or NoFile; what befalls a
+-- server has no answer
 abbrev pub nothing_done : World → Exchange → Bool
 nothing_done w (Write n size) = nothing_written (write w n size).0
 nothing_done w (Fetch n) = nothing_read (fetch w n).0
@@ -61,5 +72,6 @@ nothing_done w (Apply n) = nothing_applied (apply w n).0
 nothing_done w (Request n a) = is_fault (ask w n a).0
 nothing_done w (Befall n e) = false
 nothing_done w (Rotate n) = no_new_file (rotate w n).0
+nothing_done w (Purge n file) = nothing_purged (purge w n file).0
 nothing_done w (Attach n expect to at) = is_fault (attach_at w n expect to at).0
 nothing_done w (AttachAuto n observed to) = is_fault (attach_auto w n observed to).0

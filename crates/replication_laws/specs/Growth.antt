@@ -1,16 +1,17 @@
 -- How servers go on from one world to a later one.
-use Rattle.std.specs.Prelude.{◌≡◌, ℕ, length, take, Some}
+use Rattle.std.specs.Prelude.{◌≡◌, ◌≤◌, ℕ, length, take, Some}
 use Rattle.binlog_coords.specs.declared.Coord.{Coord}
 use Rattle.binlog_coords.specs.Log.{place}
 use Rattle.server_model.specs.Worlds.{World, server_at}
 use Rattle.server_model.specs.declared.server.Server.{Server}
 
--- a server that goes on: its settings stay, what it had executed is a beginning of what it has executed now, and each
--- place of its log stays
+-- a server that goes on: its settings stay, what it had executed is a beginning of what it has executed now, each place
+-- of its log stays, and what is purged of it stays purged
 pub record GoesOn (s s' : Server) : Type 0 where
   pub settings : s'.settings ≡ s.settings
   pub prefix : take (length s.history.txns) s'.history.txns ≡ s.history.txns
   pub places : (c : Coord) (k : ℕ) → place s.log.log c ≡ Some k → place s'.log.log c ≡ Some k
+  pub first : s.first ≤ s'.first
 
 -- each server of a world goes on in another
 abbrev pub Grows : World → World → Type 0

@@ -4,7 +4,7 @@ use Rattle.server_words.specs.declared.answers.ApplyAnswer.TheVariants as applie
 use Rattle.server_words.specs.declared.answers.WriteAnswer.TheVariants as wrote
 use Rattle.server_model.specs.declared.server.Server.{Server}
 use Rattle.server_model.specs.Exchanges.{write, apply}
-use Rattle.server_model.specs.Run.{Exchange, Write, Fetch, Apply, Request, Befall, Rotate, Attach, AttachAuto}
+use Rattle.server_model.specs.Run.{Exchange, Write, Fetch, Apply, Request, Befall, Rotate, Purge, Attach, AttachAuto}
 use Rattle.server_model.specs.Worlds.{World, server_at}
 
 -- a server with this room for transactions that has executed at most so many
@@ -28,5 +28,6 @@ IsNotFull w (Fetch n) = Unit {0}
 IsNotFull w (Request n a) = Unit {0}
 IsNotFull w (Befall n e) = Unit {0}
 IsNotFull w (Rotate n) = Unit {0}
+IsNotFull w (Purge n file) = Unit {0}
 IsNotFull w (Attach n expect to at) = Unit {0}
 IsNotFull w (AttachAuto n observed to) = Unit {0}

@@ -6,7 +6,7 @@ ghost use Rattle.server_model.specs.Worlds.{World};
 ghost use Rattle.replication_laws.specs.Faults.{nothing_done};
 
 /// An exchange that answers a fault (Unreachable, or any fault of an attachment), or Down, ReadOnly, Full, Stopped,
-/// NoLink, Nothing or NotLogging, leaves the world as it was.
+/// NoLink, Nothing, NotLogging or NoFile, leaves the world as it was.
 pub fn faults_change_nothing()
     ensures { (w : World) (e : Exchange) → nothing_done w e ≡ true → after w e ≡ w }
 {}

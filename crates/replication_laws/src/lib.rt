@@ -5,6 +5,7 @@ mod bridges;
 mod faults;
 mod observed;
 mod placed;
+mod purging;
 mod showing;
 
 ghost use Rattle.std.specs.Prelude.{◌≡◌, ◌≢◌, ℕ, ◌+◌, ◌<◌, ◌≤◌, List, Some, true, count_by, slice_get, take};
@@ -35,6 +36,10 @@ pub use faults::faults_change_nothing;
 pub use observed::observed_sets_stand;
 pub use placed::{
     each_exchange_keeps_placed, loops_are_found, no_server_is_below_itself, safe_worlds_are_placed,
+};
+pub use purging::{
+    attachments_go_to_kept_files, logs_are_read_where_kept, purged_files_are_not_read,
+    purged_sets_are_shown, purges_keep_safe, purges_spare_what_is_read,
 };
 pub use showing::shown_coordinates_have_places;
 

@@ -1,5 +1,5 @@
 -- The texts of causes.
-use Rattle.std.specs.Prelude.{ℕ, List, [], ◌++◌, codes}
+use Rattle.std.specs.Prelude.{ℕ, List, [], ◌++◌, codes, decimal, Option, Some, None}
 use Rattle.orch_base.specs.Names.{HostPort}
 use Rattle.orch_base.specs.declared.server.ServerNo.{ServerNo}
 use Rattle.orch_base.specs.declared.server.SourceState.{SourceState}
@@ -11,7 +11,7 @@ use Rattle.server_words.specs.declared.attach.Spot.TheVariants.{At, OwnEnd, Nowh
 use Rattle.commands.specs.declared.cause.Cause.{Cause}
 use Rattle.commands.specs.declared.cause.Cause.TheVariants as cause
 use Rattle.commands.specs.Causes.{cause_name}
-use Rattle.report_text.specs.Names.{name_text}
+use Rattle.report_text.specs.Names.{name_text, given_text}
 use Rattle.report_text.specs.Words.{cause_name_text}
 
 -- where a server stands
@@ -30,21 +30,43 @@ source_text names Without = codes "none"
 source_text names (Attached source) = name_text names source
 source_text names (Detached source) = name_text names source ++ codes " detached"
 
-abbrev server_text : List HostPort → ServerNo → List ℕ
-server_text names n = codes " " ++ name_text names n
+-- the server that the cause speaks of
+abbrev pub server_of : Cause → Option ServerNo
+server_of (cause.Unreachable n) = Some n
+server_of (cause.WaitSpent n) = Some n
+server_of (cause.Interfered n expected found) = Some n
+server_of (cause.Running n) = Some n
+server_of (cause.Loop n) = Some n
+server_of (cause.Errant n set) = Some n
+server_of (cause.Moved n source) = Some n
+server_of (cause.Reachable n) = Some n
+server_of cause.NoCandidate = None
+server_of (cause.Purged n first) = Some n
+server_of (cause.NoMark n) = Some n
+server_of (cause.Mismatch n entry) = Some n
+server_of (cause.HookFailed number exit) = None
 
--- what the cause speaks of, each value behind a space
+-- what else it speaks of, each value behind a space
 abbrev pub details_text : List HostPort → Cause → List ℕ
-details_text names (cause.Unreachable n) = server_text names n
-details_text names (cause.WaitSpent n) = server_text names n
-details_text names (cause.Interfered n expected found) = server_text names n ++ spots_text names expected found
-details_text names (cause.Running n) = server_text names n
-details_text names (cause.Loop n) = server_text names n
-details_text names (cause.Errant n set) = server_text names n ++ codes " " ++ printed set
-details_text names (cause.Moved n source) = server_text names n ++ codes " " ++ source_text names source
-details_text names (cause.Reachable n) = server_text names n
+details_text names (cause.Unreachable n) = []
+details_text names (cause.WaitSpent n) = []
+details_text names (cause.Interfered n expected found) = spots_text names expected found
+details_text names (cause.Running n) = []
+details_text names (cause.Loop n) = []
+details_text names (cause.Errant n set) = codes " " ++ printed set
+details_text names (cause.Moved n source) = codes " " ++ source_text names source
+details_text names (cause.Reachable n) = []
 details_text names cause.NoCandidate = []
+details_text names (cause.Purged n first) = codes " " ++ decimal first
+details_text names (cause.NoMark n) = []
+details_text names (cause.Mismatch n entry) = codes " " ++ decimal entry
+details_text names (cause.HookFailed number exit) = codes " " ++ decimal number ++ codes " exit " ++ decimal exit
 
--- the cause's name, and what it speaks of
+-- the cause's name, the server and what else it speaks of
 abbrev pub cause_text : List HostPort → Cause → List ℕ
-cause_text names c = cause_name_text (cause_name c) ++ details_text names c
+cause_text names c =
+    cause_name_text (cause_name c) ++ given_text names (server_of c) ++ details_text names c
+
+-- the same without the server
+abbrev pub unnamed_text : List HostPort → Cause → List ℕ
+unnamed_text names c = cause_name_text (cause_name c) ++ details_text names c

@@ -6,4 +6,5 @@ pub mod Recoveries
 pub mod Refusals
 pub mod Tables
 pub mod Told
+pub mod Turns
 pub mod Words

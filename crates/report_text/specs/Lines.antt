@@ -1,5 +1,5 @@
 -- The line of a turn with its reply.
-use Rattle.std.specs.Prelude.{ℕ, ◌+◌, List, [], ◌∷◌, ◌++◌, codes, decimal, Option, Some, None}
+use Rattle.std.specs.Prelude.{ℕ, ◌+◌, Bool, true, false, List, [], ◌∷◌, ◌++◌, codes, decimal, if◌then◌else◌}
 use Rattle.orch_base.specs.Names.{HostPort}
 use Rattle.binlog_coords.specs.Text.{coord_text}
 use Rattle.server_words.specs.declared.answers.WriteAnswer.{WriteAnswer}
@@ -10,39 +10,16 @@ use Rattle.server_words.specs.declared.answers.ApplyAnswer.{ApplyAnswer}
 use Rattle.server_words.specs.declared.answers.ApplyAnswer.TheVariants as applied
 use Rattle.server_words.specs.declared.answers.RotateAnswer.{RotateAnswer}
 use Rattle.server_words.specs.declared.answers.RotateAnswer.TheVariants as rotated
-use Rattle.server_words.specs.declared.changes.Link.{Link}
-use Rattle.server_words.specs.declared.changes.Link.TheVariants as link
+use Rattle.server_words.specs.declared.answers.PurgeAnswer.{PurgeAnswer}
+use Rattle.server_words.specs.declared.answers.PurgeAnswer.TheVariants as purged
 use Rattle.commands.specs.declared.line.Line.{Line}
-use Rattle.report_text.specs.Names.{name_text}
 use Rattle.report_text.specs.Causes.{cause_text}
-use Rattle.report_text.specs.Commands.{command_text}
 use Rattle.report_text.specs.Refusals.{refusal_text}
 use Rattle.report_text.specs.Told.{told_lines}
+use Rattle.report_text.specs.Turns.{words_text}
 use Rattle.turns.specs.declared.turn.Turn.{Turn}
-use Rattle.turns.specs.declared.turn.Turn.TheVariants as turn
-use Rattle.turns.specs.declared.turn.Reply.{Reply}
-use Rattle.turns.specs.declared.turn.Reply.TheVariants as answered
-
-abbrev pub link_text : Link → List ℕ
-link_text link.Desk = codes "desk"
-link_text link.Feed = codes "feed"
-
-abbrev pub words_text : List HostPort → Turn → List ℕ
-words_text names (turn.Write n size) = codes "write " ++ name_text names n ++ codes " " ++ decimal size
-words_text names (turn.Fetch n) = codes "fetch " ++ name_text names n
-words_text names (turn.Apply n) = codes "apply " ++ name_text names n
-words_text names (turn.Fail n) = codes "fail " ++ name_text names n
-words_text names (turn.Heal n) = codes "heal " ++ name_text names n
-words_text names (turn.Cut n link) = codes "cut " ++ name_text names n ++ codes " " ++ link_text link
-words_text names (turn.Join n link) = codes "join " ++ name_text names n ++ codes " " ++ link_text link
-words_text names (turn.Rotate n) = codes "rotate " ++ name_text names n
-words_text names (turn.Tick seconds) = codes "tick " ++ decimal seconds
-words_text names (turn.PollRead poller n) = codes "poll-read " ++ decimal poller ++ codes " " ++ name_text names n
-words_text names (turn.PollStore poller) = codes "poll-store " ++ decimal poller
-words_text names (turn.Command c) = command_text names c.command
-words_text names (turn.Job job) = codes "job " ++ decimal job
-words_text names turn.Scan = codes "scan"
-words_text names turn.Restart = codes "restart"
+use Rattle.turns.specs.declared.reply.Reply.{Reply}
+use Rattle.turns.specs.declared.reply.Reply.TheVariants as answered
 
 abbrev pub write_text : WriteAnswer → List ℕ
 write_text (wrote.Done seq) = codes "done " ++ decimal seq
@@ -53,6 +30,7 @@ write_text wrote.Full = codes "full"
 abbrev pub fetch_text : FetchAnswer → List ℕ
 fetch_text (fetched.Got c) = codes "got " ++ coord_text c
 fetch_text (fetched.Rotated c) = codes "rotated " ++ coord_text c
+fetch_text (fetched.Purged first) = codes "purged " ++ decimal first
 fetch_text fetched.Nothing = codes "nothing"
 fetch_text fetched.Stopped = codes "stopped"
 fetch_text fetched.NoLink = codes "no link"
@@ -72,12 +50,19 @@ rotate_text rotated.Down = codes "down"
 rotate_text rotated.NotLogging = codes "not logging"
 rotate_text rotated.Full = codes "full"
 
+abbrev pub purge_text : PurgeAnswer → List ℕ
+purge_text (purged.Done first) = codes "done " ++ decimal first
+purge_text purged.Down = codes "down"
+purge_text purged.NotLogging = codes "not logging"
+purge_text purged.NoFile = codes "no file"
+
 abbrev pub answer_text : List HostPort → Reply → List ℕ
 answer_text names (answered.Write a) = write_text a
 answer_text names (answered.Fetch a) = fetch_text a
 answer_text names (answered.Apply a) = apply_text a
 answer_text names answered.Done = codes "done"
 answer_text names (answered.Rotate a) = rotate_text a
+answer_text names (answered.Purge a) = purge_text a
 answer_text names (answered.Now t) = codes "now " ++ decimal t.0
 answer_text names (answered.Read number) = codes "read " ++ decimal number
 answer_text names (answered.ReadUnreachable number) = codes "read " ++ decimal number ++ codes " unreachable"
@@ -89,47 +74,55 @@ answer_text names (answered.Told lines) = codes "done"
 answer_text names (answered.Refused r) = codes "refused " ++ refusal_text names r
 answer_text names (answered.Begun job) = codes "begun " ++ decimal job
 answer_text names answered.Going = codes "going"
-answer_text names (answered.Failed cause) = codes "failed " ++ cause_text names cause
+answer_text names (answered.Failed failure) = codes "failed " ++ cause_text names failure.cause
 answer_text names answered.NoJob = codes "no job"
+answer_text names (answered.Held until) = codes "held until " ++ decimal until.0
+answer_text names (answered.Taken node until) = codes "taken " ++ decimal node ++ codes " until " ++ decimal until.0
+answer_text names answered.Released = codes "released"
+answer_text names answered.NotHeld = codes "not held"
+answer_text names answered.Lapsed = codes "lapsed"
 
--- the lines of what is done
-abbrev pub told_in : Reply → Option (List Line)
-told_in (answered.Write a) = None
-told_in (answered.Fetch a) = None
-told_in (answered.Apply a) = None
-told_in answered.Done = None
-told_in (answered.Rotate a) = None
-told_in (answered.Now t) = None
-told_in (answered.Read n) = None
-told_in (answered.ReadUnreachable n) = None
-told_in answered.Unknown = None
-told_in answered.Stored = None
-told_in (answered.Old n) = None
-told_in answered.Nothing = None
-told_in (answered.Told lines) = Some lines
-told_in (answered.Refused refusal) = None
-told_in (answered.Begun job) = None
-told_in answered.Going = None
-told_in (answered.Failed cause) = None
-told_in answered.NoJob = None
+-- whether a reply that stands alone has its own line, and the lines behind it: those of what is done, or of the hooks
+-- of a recovery that failed
+abbrev pub behind : Reply → Bool × List Line
+behind (answered.Write a) = (true, [])
+behind (answered.Fetch a) = (true, [])
+behind (answered.Apply a) = (true, [])
+behind answered.Done = (true, [])
+behind (answered.Rotate a) = (true, [])
+behind (answered.Purge a) = (true, [])
+behind (answered.Now t) = (true, [])
+behind (answered.Read n) = (true, [])
+behind (answered.ReadUnreachable n) = (true, [])
+behind answered.Unknown = (true, [])
+behind answered.Stored = (true, [])
+behind (answered.Old n) = (true, [])
+behind answered.Nothing = (true, [])
+behind (answered.Told lines) = (false, lines)
+behind (answered.Refused refusal) = (true, [])
+behind (answered.Begun job) = (true, [])
+behind answered.Going = (true, [])
+behind (answered.Failed failure) = (true, failure.lines)
+behind answered.NoJob = (true, [])
+behind (answered.Held until) = (true, [])
+behind (answered.Taken node until) = (true, [])
+behind answered.Released = (true, [])
+behind answered.NotHeld = (true, [])
+behind answered.Lapsed = (true, [])
 
-abbrev pub lines_of : Option (List Line) → List Line
-lines_of None = []
-lines_of (Some lines) = lines
-
--- N WORDS: REPLY, and the lines of what is done, each behind two spaces
+-- N WORDS: REPLY, and the lines behind it, each after two spaces
 unfoldable pub line_text : List HostPort → ℕ → Turn → Reply → List ℕ
-line_text names number t r = decimal number ++ codes " " ++ words_text names t ++ codes ": " ++ answer_text names r ++ codes "\n" ++ told_lines (codes "  ") names (lines_of (told_in r))
+line_text names number t r = decimal number ++ codes " " ++ words_text names t ++ codes ": " ++ answer_text names r ++ codes "\n" ++ told_lines (codes "  ") names (behind r).1
 
 -- a line for each turn with its reply, numbered from this number on
 abbrev pub lines_text : List HostPort → ℕ → List (Turn × Reply) → List ℕ
 lines_text names number [] = []
 lines_text names number (e ∷ es) = line_text names number e.0 e.1 ++ lines_text names (number + 1) es
 
-abbrev pub plain_by : List HostPort → Reply → Option (List Line) → List ℕ
-plain_by names r None = answer_text names r ++ codes "\n"
-plain_by names r (Some lines) = told_lines [] names lines
+-- the reply's own line, where it has one
+abbrev pub own_text : List HostPort → Reply → Bool → List ℕ
+own_text names r own = if own then answer_text names r ++ codes "\n" else []
 
--- what a single command writes of its reply: the lines of what is done, else the reply
+-- what a single command writes of its reply: the lines of what is done, else the reply and the lines behind it
 unfoldable pub plain_text_of : List HostPort → Reply → List ℕ
-plain_text_of names r = plain_by names r (told_in r)
+plain_text_of names r = own_text names r (behind r).0 ++ told_lines [] names (behind r).1

@@ -1,5 +1,5 @@
 -- Servers' names by their numbers.
-use Rattle.std.specs.Prelude.{ℕ, List, [], slice_get, Option, Some, None}
+use Rattle.std.specs.Prelude.{ℕ, List, [], ◌++◌, codes, slice_get, Option, Some, None}
 use Rattle.orch_base.specs.Names.{HostPort, printed}
 use Rattle.orch_base.specs.declared.server.ServerNo.{ServerNo}
 
@@ -10,3 +10,8 @@ printed_at (Some name) = printed name
 -- the name of the server of this number
 abbrev pub name_text : List HostPort → ServerNo → List ℕ
 name_text names n = printed_at (slice_get names n.0)
+
+-- a space and the name, where one is given
+abbrev pub given_text : List HostPort → Option ServerNo → List ℕ
+given_text names None = []
+given_text names (Some n) = codes " " ++ name_text names n

@@ -37,6 +37,9 @@ refusal_name refused.NoCandidate = codes "NoCandidate"
 refusal_name refused.NotMaster = codes "NotMaster"
 refusal_name refused.NotReplica = codes "NotReplica"
 refusal_name (refused.NotQuiet count) = codes "NotQuiet"
+refusal_name (refused.Purged n first) = codes "Purged"
+refusal_name refused.PseudoOff = codes "PseudoOff"
+refusal_name (refused.MovedNotLogging n) = codes "MovedNotLogging"
 
 -- what the refusal speaks of, each value behind a space
 abbrev pub values_text : List HostPort → Refusal → List ℕ
@@ -68,6 +71,9 @@ values_text names refused.NoCandidate = []
 values_text names refused.NotMaster = []
 values_text names refused.NotReplica = []
 values_text names (refused.NotQuiet count) = codes " " ++ decimal count
+values_text names (refused.Purged n first) = codes " " ++ name_text names n ++ codes " " ++ decimal first
+values_text names refused.PseudoOff = []
+values_text names (refused.MovedNotLogging n) = codes " " ++ name_text names n
 
 -- the refusal's number, its name, and what it speaks of
 abbrev pub refusal_text : List HostPort → Refusal → List ℕ

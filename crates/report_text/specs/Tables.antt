@@ -1,6 +1,6 @@
 -- The tables: a line for each server, each recovery and each unended job, and how many writes servers with a source
 -- accepted.
-use Rattle.std.specs.Prelude.{ℕ, Bool, List, [], ◌∷◌, ◌++◌, length, map, codes, decimal, Option, Some, None, if◌then◌else◌}
+use Rattle.std.specs.Prelude.{ℕ, Bool, List, [], ◌∷◌, ◌++◌, length, map, codes, decimal, Option, Some, None, nat_lt, if◌then◌else◌}
 use Rattle.orch_base.specs.Names.{HostPort, printed}
 use Rattle.orch_base.specs.declared.server.SourceState.{SourceState}
 use Rattle.orch_base.specs.declared.server.SourceState.TheVariants.{Without, Attached, Detached}
@@ -64,10 +64,15 @@ state_text name p = codes "server " ++ printed name ++ codes " " ++ up_text p.up
 abbrev pub log_text : ℕ → Option Index → List ℕ
 log_text executed log = codes " executed " ++ decimal executed ++ codes " end " ++ end_text log
 
--- server NAME up|down rw|ro executed N end C|none source ..
+-- the first kept file, where earlier ones are purged
+abbrev pub purged_text : ℕ → List ℕ
+purged_text first = if nat_lt 1 first then codes " purged " ++ decimal first else []
+
+-- server NAME up|down rw|ro executed N end C|none source ..[ purged FILE]
 abbrev pub told_text : World → HostPort → Plain → ℕ → Option Index → List ℕ
 told_text w name p executed log =
-    state_text name p ++ log_text executed log ++ codes " source " ++ source_text w p p.source ++ codes "\n"
+    state_text name p ++ log_text executed log ++ codes " source " ++ source_text w p p.source
+    ++ purged_text p.first ++ codes "\n"
 
 -- the line of a server
 abbrev pub server_text : World → Server → List ℕ

@@ -9,11 +9,12 @@ use Rattle.commands.specs.declared.line.Line.TheVariants as line
 use Rattle.commands.specs.declared.line.Lost.{Lost}
 use Rattle.commands.specs.declared.line.Lost.TheVariants as lost
 use Rattle.commands.specs.declared.line.StateWord.{StateWord}
-use Rattle.report_text.specs.Causes.{spot_text}
+use Rattle.commands.specs.declared.line.HookPhase.{HookPhase}
+use Rattle.report_text.specs.Causes.{spot_text, unnamed_text}
 use Rattle.report_text.specs.Names.{name_text}
 use Rattle.report_text.specs.Recoveries.{recovery_text}
 use Rattle.report_text.specs.Refusals.{refusal_text}
-use Rattle.report_text.specs.Words.{code_text, mode_text, rule_text, state_text}
+use Rattle.report_text.specs.Words.{code_text, mode_text, phase_text, rule_text, state_text}
 
 abbrev pub version_text : Version → List ℕ
 version_text v = decimal v.major ++ codes "." ++ decimal v.minor ++ codes "." ++ decimal v.patch
@@ -36,6 +37,7 @@ marks_text word v read_only = codes " [" ++ state_text word ++ codes "," ++ vers
 abbrev pub lost_text : List HostPort → Lost → List ℕ
 lost_text names (lost.Ahead c) = codes " ahead " ++ coord_text c
 lost_text names (lost.Behind c) = codes " behind " ++ coord_text c
+lost_text names (lost.Purged c) = codes " purged " ++ coord_text c
 lost_text names lost.Unreachable = codes " unreachable"
 lost_text names (lost.Moved spot) = codes " moved " ++ spot_text names spot
 lost_text names lost.NotLogging = codes " not logging"
@@ -57,6 +59,10 @@ counts_text replicas valid replicating lagging =
 abbrev pub named_text : List HostPort → ServerNo → List ℕ → List ℕ
 named_text names n word = name_text names n ++ codes " " ++ word
 
+-- hook PHASE TEXT exit E
+abbrev pub hook_text : HookPhase → List ℕ → ℕ → List ℕ
+hook_text phase text exit = codes "hook " ++ phase_text phase ++ codes " " ++ text ++ codes " exit " ++ decimal exit
+
 abbrev pub told_text : List HostPort → Line → List ℕ
 told_text names (line.Server n) = name_text names n
 told_text names line.NoMaster = codes "none"
@@ -76,6 +82,8 @@ told_text names line.Disabled = codes "disabled"
 told_text names (line.Recovery recovery) = recovery_text names recovery
 told_text names (line.Begun n code job) = named_text names n (code_text code) ++ codes " begun " ++ decimal job
 told_text names (line.Refused n code refusal) = named_text names n (code_text code) ++ codes " refused " ++ refusal_text names refusal
+told_text names (line.Hook phase text exit) = hook_text phase text exit
+told_text names (line.Unmatched n why) = name_text names n ++ codes " " ++ unnamed_text names why
 
 -- each line behind an indentation
 abbrev pub told_lines : List ℕ → List HostPort → List Line → List ℕ

@@ -8,6 +8,8 @@ use Rattle.orch_base.specs.declared.recovery.Kind.{Kind}
 use Rattle.orch_base.specs.declared.recovery.Kind.TheVariants as kind
 use Rattle.orch_base.specs.declared.rule.Rule.{Rule}
 use Rattle.orch_base.specs.declared.rule.Rule.TheVariants as rule
+use Rattle.commands.specs.declared.line.HookPhase.{HookPhase}
+use Rattle.commands.specs.declared.line.HookPhase.TheVariants as phase
 use Rattle.commands.specs.declared.line.StateWord.{StateWord}
 use Rattle.commands.specs.declared.line.StateWord.TheVariants as state
 
@@ -67,6 +69,16 @@ cause_name_text cause.Errant = codes "Errant"
 cause_name_text cause.Moved = codes "Moved"
 cause_name_text cause.Reachable = codes "Reachable"
 cause_name_text cause.NoCandidate = codes "NoCandidate"
+cause_name_text cause.Purged = codes "Purged"
+cause_name_text cause.NoMark = codes "NoMark"
+cause_name_text cause.Mismatch = codes "Mismatch"
+cause_name_text cause.HookFailed = codes "HookFailed"
+
+-- when a hook runs
+abbrev pub phase_text : HookPhase → List ℕ
+phase_text phase.PreFailover = codes "pre_failover"
+phase_text phase.PostFailover = codes "post_failover"
+phase_text phase.PostUnsuccessful = codes "post_unsuccessful"
 
 -- whether a recovery is acknowledged
 abbrev pub acked_text : Bool → List ℕ

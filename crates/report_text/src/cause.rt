@@ -1,9 +1,10 @@
 //! The texts of causes.
 
 ghost use Rattle.std.specs.Prelude.{◌≡◌, ◌++◌, OnOk};
-ghost use Rattle.report_text.specs.Causes.{cause_text, details_text, source_text, spot_text, spots_text};
+ghost use Rattle.report_text.specs.Causes.{cause_text, details_text, server_of, source_text, spot_text, spots_text, unnamed_text};
 
-use crate::names::{PrintedNames, print_at_server, print_name};
+use crate::names::{PrintedNames, print_given, print_name};
+use crate::number::print_counted;
 use crate::words::cause_name_word;
 use binlog_coords::print_coord;
 use commands::Cause;
@@ -64,45 +65,80 @@ fn print_spots(
     print_spot(found, names, out)
 }
 
-// What the cause speaks of, each value behind a space.
-fn print_details(cause: &Cause, names: &PrintedNames<'_>, out: &mut Vec<u8>) -> Result<(), Memory>
-    ensures { OnOk result (out.new.items ≡ out.old.items ++ details_text names.now cause.now) }
+// The server that the cause speaks of.
+fn server_of(cause: &Cause) -> Option<ServerNo>
+    ensures { result ≡ server_of cause.now }
 {
     match cause {
         Cause::Unreachable(no)
         | Cause::WaitSpent(no)
+        | Cause::Interfered { no, .. }
         | Cause::Running(no)
         | Cause::Loop(no)
-        | Cause::Reachable(no) => print_at_server(b" ", names, *no, out),
-        Cause::Interfered {
-            no,
-            expected,
-            found,
-        } => {
-            print_at_server(b" ", names, *no, out)?;
-            print_spots(*expected, *found, names, out)
-        }
-        Cause::Errant(no, set) => {
-            print_at_server(b" ", names, *no, out)?;
-            out.extend_from_slice(b" ")?;
-            set.as_set().print(out)
-        }
-        Cause::Moved(no, source) => {
-            print_at_server(b" ", names, *no, out)?;
-            out.extend_from_slice(b" ")?;
-            print_source(*source, names, out)
-        }
-        Cause::NoCandidate => Ok(()),
+        | Cause::Errant(no, _)
+        | Cause::Moved(no, _)
+        | Cause::Reachable(no)
+        | Cause::Purged(no, _)
+        | Cause::NoMark(no)
+        | Cause::Mismatch(no, _) => Some(*no),
+        Cause::NoCandidate | Cause::HookFailed { .. } => None,
     }
 }
 
-/// The cause's name, and what it speaks of.
+// What else it speaks of, each value behind a space.
+fn print_details(cause: &Cause, names: &PrintedNames<'_>, out: &mut Vec<u8>) -> Result<(), Memory>
+    ensures { OnOk result (out.new.items ≡ out.old.items ++ details_text names.now cause.now) }
+{
+    match cause {
+        Cause::Interfered {
+            expected,
+            found,
+            ..
+        } => print_spots(*expected, *found, names, out),
+        Cause::Errant(_, set) => {
+            out.extend_from_slice(b" ")?;
+            set.as_set().print(out)
+        }
+        Cause::Moved(_, source) => {
+            out.extend_from_slice(b" ")?;
+            print_source(*source, names, out)
+        }
+        Cause::Purged(_, first) => print_counted(b" ", u64::from(*first), out),
+        Cause::Mismatch(_, entry) => print_counted(b" ", *entry, out),
+        Cause::HookFailed { number, exit } => {
+            print_counted(b" ", u64::from(*number), out)?;
+            print_counted(b" exit ", u64::from(*exit), out)
+        }
+        Cause::Unreachable(_)
+        | Cause::WaitSpent(_)
+        | Cause::Running(_)
+        | Cause::Loop(_)
+        | Cause::Reachable(_)
+        | Cause::NoCandidate
+        | Cause::NoMark(_) => Ok(()),
+    }
+}
+
+/// The cause's name, the server and what else it speaks of.
 pub(crate) fn print_cause(
     cause: &Cause,
     names: &PrintedNames<'_>,
     out: &mut Vec<u8>,
 ) -> Result<(), Memory>
     ensures { OnOk result (out.new.items ≡ out.old.items ++ cause_text names.now cause.now) }
+{
+    out.extend_from_slice(cause_name_word(cause.name()))?;
+    print_given(names, server_of(cause), out)?;
+    print_details(cause, names, out)
+}
+
+/// The same without the server.
+pub(crate) fn print_unnamed(
+    cause: &Cause,
+    names: &PrintedNames<'_>,
+    out: &mut Vec<u8>,
+) -> Result<(), Memory>
+    ensures { OnOk result (out.new.items ≡ out.old.items ++ unnamed_text names.now cause.now) }
 {
     out.extend_from_slice(cause_name_word(cause.name()))?;
     print_details(cause, names, out)

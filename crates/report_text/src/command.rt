@@ -1,27 +1,11 @@
 //! The words of commands.
 
 ghost use Rattle.std.specs.Prelude.{◌≡◌, ◌++◌, OnOk};
-ghost use Rattle.report_text.specs.Commands.{command_text, given_text};
+ghost use Rattle.report_text.specs.Commands.{command_text};
 
-use crate::names::{PrintedNames, print_name};
+use crate::names::{PrintedNames, print_given};
 use commands::Command;
-use orch_base::{Memory, ServerNo};
-
-fn print_given(
-    names: &PrintedNames<'_>,
-    no: Option<ServerNo>,
-    out: &mut Vec<u8>,
-) -> Result<(), Memory>
-    ensures { OnOk result (out.new.items ≡ out.old.items ++ given_text names.now no) }
-{
-    match no {
-        Some(no) => {
-            out.extend_from_slice(b" ")?;
-            print_name(names, no, out)
-        }
-        None => Ok(()),
-    }
-}
+use orch_base::Memory;
 
 /// `command COMMAND`, then the instance and the destination where they are given.
 pub(crate) fn print_command(

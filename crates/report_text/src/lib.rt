@@ -10,6 +10,7 @@ mod recovery;
 mod refusal;
 mod replies;
 mod table;
+mod turn;
 mod words;
 
 pub use names::PrintedNames;

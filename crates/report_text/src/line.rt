@@ -1,16 +1,16 @@
 //! The lines of what is done.
 
 ghost use Rattle.std.specs.Prelude.{◌≡◌, ◌++◌, codes, OnOk};
-ghost use Rattle.report_text.specs.Told.{counts_text, depth_text, detached_text, levels_text, lost_text, marks_text, named_text, told_lines, told_text, two_text, version_text};
+ghost use Rattle.report_text.specs.Told.{counts_text, depth_text, detached_text, hook_text, levels_text, lost_text, marks_text, named_text, told_lines, told_text, two_text, version_text};
 
-use crate::cause::print_spot;
+use crate::cause::{print_spot, print_unnamed};
 use crate::names::{PrintedNames, print_at_server, print_name};
 use crate::number::{print_counted, print_number};
 use crate::recovery::print_recovery;
 use crate::refusal::print_refusal;
-use crate::words::{code_word, mode_word, rule_word, state_word};
+use crate::words::{code_word, mode_word, phase_word, rule_word, state_word};
 use binlog_coords::print_coord;
-use commands::{Line, Lost, StateWord};
+use commands::{HookPhase, Line, Lost, StateWord};
 use orch_base::{Memory, ServerNo, Version};
 
 fn print_version(version: Version, out: &mut Vec<u8>) -> Result<(), Memory>
@@ -63,7 +63,7 @@ fn print_marks(
     out.extend_from_slice(b"]")
 }
 
-// ` ahead C`, ` behind C`, ` unreachable`, ` moved SPOT`, ` not logging` or ` must not`
+// ` ahead C`, ` behind C`, ` purged C`, ` unreachable`, ` moved SPOT`, ` not logging` or ` must not`
 fn print_lost(why: Lost, names: &PrintedNames<'_>, out: &mut Vec<u8>) -> Result<(), Memory>
     ensures { OnOk result (out.new.items ≡ out.old.items ++ lost_text names.now why) }
 {
@@ -74,6 +74,10 @@ fn print_lost(why: Lost, names: &PrintedNames<'_>, out: &mut Vec<u8>) -> Result<
         }
         Lost::Behind(coord) => {
             out.extend_from_slice(b" behind ")?;
+            print_coord(coord, out)
+        }
+        Lost::Purged(coord) => {
+            out.extend_from_slice(b" purged ")?;
             print_coord(coord, out)
         }
         Lost::Unreachable => out.extend_from_slice(b" unreachable"),
@@ -126,6 +130,17 @@ fn print_name_word(
     print_name(names, no, out)?;
     out.extend_from_slice(b" ")?;
     out.extend_from_slice(word)
+}
+
+// hook PHASE TEXT exit E
+fn print_hook(phase: HookPhase, text: &str, exit: u8, out: &mut Vec<u8>) -> Result<(), Memory>
+    ensures { OnOk result (out.new.items ≡ out.old.items ++ hook_text phase text.now exit) }
+{
+    out.extend_from_slice(b"hook ")?;
+    out.extend_from_slice(phase_word(phase))?;
+    out.extend_from_slice(b" ")?;
+    out.extend_from_slice(text.as_bytes())?;
+    print_counted(b" exit ", u64::from(exit), out)
 }
 
 fn print_told(line: &Line, names: &PrintedNames<'_>, out: &mut Vec<u8>) -> Result<(), Memory>
@@ -188,6 +203,12 @@ fn print_told(line: &Line, names: &PrintedNames<'_>, out: &mut Vec<u8>) -> Resul
             print_name_word(*no, code_word(*code), names, out)?;
             out.extend_from_slice(b" refused ")?;
             print_refusal(refusal, names, out)
+        }
+        Line::Hook { phase, text, exit } => print_hook(*phase, text.as_str(), *exit, out),
+        Line::Unmatched { no, why } => {
+            print_name(names, *no, out)?;
+            out.extend_from_slice(b" ")?;
+            print_unnamed(why, names, out)
         }
     }
 }

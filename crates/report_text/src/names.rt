@@ -1,7 +1,7 @@
 //! Servers' names by their numbers.
 
 ghost use Rattle.std.specs.Prelude.{◌≡◌, ◌++◌, IfOk, OnOk};
-ghost use Rattle.report_text.specs.Names.{name_text};
+ghost use Rattle.report_text.specs.Names.{name_text, given_text};
 
 use orch_base::{Memory, Name, ServerNo};
 use std::alloc::Global;
@@ -65,4 +65,18 @@ pub(crate) fn print_at_server(
 {
     out.extend_from_slice(word)?;
     print_name(names, no, out)
+}
+
+/// A space and the name, where one is given.
+pub(crate) fn print_given(
+    names: &PrintedNames<'_>,
+    no: Option<ServerNo>,
+    out: &mut Vec<u8>,
+) -> Result<(), Memory>
+    ensures { OnOk result (out.new.items ≡ out.old.items ++ given_text names.now no) }
+{
+    match no {
+        Some(no) => print_at_server(b" ", names, no, out),
+        None => Ok(()),
+    }
 }

@@ -41,6 +41,9 @@ fn name_word(refusal: &Refusal) -> &'static [u8]
         Refusal::NotMaster => b"NotMaster",
         Refusal::NotReplica => b"NotReplica",
         Refusal::NotQuiet(_) => b"NotQuiet",
+        Refusal::Purged(_, _) => b"Purged",
+        Refusal::PseudoOff => b"PseudoOff",
+        Refusal::MovedNotLogging(_) => b"MovedNotLogging",
     }
 }
 
@@ -57,9 +60,10 @@ fn print_values(
             print_at_server(b" ", names, *no, out)?;
             print_counted(b" ", *job, out)
         }
-        Refusal::Unreachable(no) | Refusal::SameServerId(no) | Refusal::VersionLower(no) => {
-            print_at_server(b" ", names, *no, out)
-        }
+        Refusal::Unreachable(no)
+        | Refusal::SameServerId(no)
+        | Refusal::VersionLower(no)
+        | Refusal::MovedNotLogging(no) => print_at_server(b" ", names, *no, out),
         Refusal::Errant(set) => {
             out.extend_from_slice(b" ")?;
             set.as_set().print(out)
@@ -75,6 +79,10 @@ fn print_values(
             print_counted(b" until ", until.0, out)
         }
         Refusal::NotQuiet(count) => print_counted(b" ", *count, out),
+        Refusal::Purged(no, first) => {
+            print_at_server(b" ", names, *no, out)?;
+            print_counted(b" ", u64::from(*first), out)
+        }
         Refusal::UnknownInstance
         | Refusal::SameInstance
         | Refusal::NoSource
@@ -92,7 +100,8 @@ fn print_values(
         | Refusal::FilteredOut
         | Refusal::NoCandidate
         | Refusal::NotMaster
-        | Refusal::NotReplica => Ok(()),
+        | Refusal::NotReplica
+        | Refusal::PseudoOff => Ok(()),
     }
 }
 

@@ -1,84 +1,20 @@
 //! The line of a turn with its reply.
 
-ghost use Rattle.std.specs.Prelude.{◌≡◌, ◌++◌, codes, decimal, option_map, OnOk, OnErr};
-ghost use Rattle.report_text.specs.Told.{told_lines};
-ghost use Rattle.report_text.specs.Names.{name_text};
-ghost use Rattle.report_text.specs.Lines.{lines_of, plain_text_of, told_in, link_text, words_text, write_text, fetch_text, apply_text, rotate_text, answer_text, line_text};
+ghost use Rattle.std.specs.Prelude.{◌≡◌, ◌++◌, decimal, OnOk, OnErr};
+ghost use Rattle.report_text.specs.Lines.{behind, plain_text_of, write_text, fetch_text, apply_text, rotate_text, purge_text, answer_text, line_text, own_text};
 ghost use Rattle.binlog_coords.specs.Text.{coord_text};
 
 use crate::cause::print_cause;
-use crate::command::print_command;
 use crate::line::print_told_lines;
-use crate::names::{PrintedNames, print_at_server};
+use crate::names::PrintedNames;
 use crate::number::{print_counted, print_number};
 use crate::refusal::print_refusal;
+use crate::turn::print_words;
 use binlog_coords::{Coord, print_coord};
 use commands::Line;
-use orch_base::{Memory, Name, ServerNo};
-use server_words::{ApplyAnswer, FetchAnswer, Link, RotateAnswer, WriteAnswer};
+use orch_base::{Memory, Name};
+use server_words::{ApplyAnswer, FetchAnswer, PurgeAnswer, RotateAnswer, WriteAnswer};
 use turns::{Reply, Turn};
-
-fn link_word(link: Link) -> &'static [u8]
-    ensures { result.now ≡ link_text link }
-{
-    match link {
-        Link::Desk => b"desk",
-        Link::Feed => b"feed",
-    }
-}
-
-// The word, a space, the server's name, a space and the link.
-fn print_link(
-    word: &[u8],
-    names: &PrintedNames<'_>,
-    no: ServerNo,
-    link: Link,
-    out: &mut Vec<u8>,
-) -> Result<(), Memory>
-    ensures { OnOk result (out.new.items ≡ out.old.items ++ (word.now ++ name_text names.now no ++ codes " " ++ link_text link)) }
-{
-    print_at_server(word, names, no, out)?;
-    out.extend_from_slice(b" ")?;
-    out.extend_from_slice(link_word(link))
-}
-
-// `poll-read `, the poller, a space and the server's name.
-fn print_poll_read(
-    poller: u32,
-    names: &PrintedNames<'_>,
-    no: ServerNo,
-    out: &mut Vec<u8>,
-) -> Result<(), Memory>
-    ensures { OnOk result (out.new.items ≡ out.old.items ++ (codes "poll-read " ++ decimal poller ++ codes " " ++ name_text names.now no)) }
-{
-    print_counted(b"poll-read ", u64::from(poller), out)?;
-    print_at_server(b" ", names, no, out)
-}
-
-fn print_words(t: &Turn, names: &PrintedNames<'_>, out: &mut Vec<u8>) -> Result<(), Memory>
-    ensures { OnOk result (out.new.items ≡ out.old.items ++ words_text names.now t.now) }
-{
-    match t {
-        Turn::Write(no, size) => {
-            print_at_server(b"write ", names, *no, out)?;
-            print_counted(b" ", u64::from(*size), out)
-        }
-        Turn::Fetch(no) => print_at_server(b"fetch ", names, *no, out),
-        Turn::Apply(no) => print_at_server(b"apply ", names, *no, out),
-        Turn::Fail(no) => print_at_server(b"fail ", names, *no, out),
-        Turn::Heal(no) => print_at_server(b"heal ", names, *no, out),
-        Turn::Cut(no, link) => print_link(b"cut ", names, *no, *link, out),
-        Turn::Join(no, link) => print_link(b"join ", names, *no, *link, out),
-        Turn::Rotate(no) => print_at_server(b"rotate ", names, *no, out),
-        Turn::Tick(seconds) => print_counted(b"tick ", *seconds, out),
-        Turn::PollRead(poller, no) => print_poll_read(*poller, names, *no, out),
-        Turn::PollStore(poller) => print_counted(b"poll-store ", u64::from(*poller), out),
-        Turn::Command(held) => print_command(&held.as_turn().command, names, out),
-        Turn::Job(job) => print_counted(b"job ", *job, out),
-        Turn::Scan => out.extend_from_slice(b"scan"),
-        Turn::Restart => out.extend_from_slice(b"restart"),
-    }
-}
 
 fn print_write(answer: &WriteAnswer, out: &mut Vec<u8>) -> Result<(), Memory>
     ensures { OnOk result (out.new.items ≡ out.old.items ++ write_text answer.now) }
@@ -105,6 +41,7 @@ fn print_fetch(answer: &FetchAnswer, out: &mut Vec<u8>) -> Result<(), Memory>
     match answer {
         FetchAnswer::Got(c) => print_at(b"got ", *c, out),
         FetchAnswer::Rotated(c) => print_at(b"rotated ", *c, out),
+        FetchAnswer::Purged(first) => print_counted(b"purged ", u64::from(*first), out),
         FetchAnswer::Nothing => out.extend_from_slice(b"nothing"),
         FetchAnswer::Stopped => out.extend_from_slice(b"stopped"),
         FetchAnswer::NoLink => out.extend_from_slice(b"no link"),
@@ -136,6 +73,17 @@ fn print_rotate(answer: &RotateAnswer, out: &mut Vec<u8>) -> Result<(), Memory>
     }
 }
 
+fn print_purge(answer: &PurgeAnswer, out: &mut Vec<u8>) -> Result<(), Memory>
+    ensures { OnOk result (out.new.items ≡ out.old.items ++ purge_text answer.now) }
+{
+    match answer {
+        PurgeAnswer::Done(first) => print_counted(b"done ", u64::from(*first), out),
+        PurgeAnswer::Down => out.extend_from_slice(b"down"),
+        PurgeAnswer::NotLogging => out.extend_from_slice(b"not logging"),
+        PurgeAnswer::NoFile => out.extend_from_slice(b"no file"),
+    }
+}
+
 // The number between the words.
 fn print_between(before: &[u8], number: u64, after: &[u8], out: &mut Vec<u8>) -> Result<(), Memory>
     ensures { OnOk result (out.new.items ≡ out.old.items ++ (before.now ++ decimal number ++ after.now)) }
@@ -153,6 +101,7 @@ fn print_answer(r: &Reply, names: &PrintedNames<'_>, out: &mut Vec<u8>) -> Resul
         Reply::Apply(answer) => print_apply(answer, out),
         Reply::Done => out.extend_from_slice(b"done"),
         Reply::Rotate(answer) => print_rotate(answer, out),
+        Reply::Purge(answer) => print_purge(answer, out),
         Reply::Now(now) => print_counted(b"now ", now.0, out),
         Reply::Read(number) => print_counted(b"read ", *number, out),
         Reply::ReadUnreachable(number) => print_between(b"read ", *number, b" unreachable", out),
@@ -169,23 +118,35 @@ fn print_answer(r: &Reply, names: &PrintedNames<'_>, out: &mut Vec<u8>) -> Resul
         Reply::Going => out.extend_from_slice(b"going"),
         Reply::Failed(held) => {
             out.extend_from_slice(b"failed ")?;
-            print_cause(held.as_cause(), names, out)
+            print_cause(&held.as_failure().cause, names, out)
         }
         Reply::NoJob => out.extend_from_slice(b"no job"),
+        Reply::Held(until) => print_counted(b"held until ", until.0, out),
+        Reply::Taken { node, until } => {
+            print_counted(b"taken ", u64::from(*node), out)?;
+            print_counted(b" until ", until.0, out)
+        }
+        Reply::Released => out.extend_from_slice(b"released"),
+        Reply::NotHeld => out.extend_from_slice(b"not held"),
+        Reply::Lapsed => out.extend_from_slice(b"lapsed"),
     }
 }
 
-// The lines of what is done.
-fn told_in(r: &Reply) -> Option<&[Line]>
-    ensures { option_map (λ lines. lines.now) result ≡ told_in r.now }
+// Whether a reply that stands alone has its own line, and the lines behind it: those of what is done, or of the hooks
+// of a recovery that failed.
+fn behind(r: &Reply) -> (bool, &[Line])
+    ensures own { result.0 ≡ (behind r.now).0 }
+    ensures lines { result.1.now ≡ (behind r.now).1 }
 {
     match r {
-        Reply::Told(lines) => Some(lines.as_slice()),
+        Reply::Told(lines) => (false, lines.as_slice()),
+        Reply::Failed(held) => (true, held.as_failure().lines.as_slice()),
         Reply::Write(_)
         | Reply::Fetch(_)
         | Reply::Apply(_)
         | Reply::Done
         | Reply::Rotate(_)
+        | Reply::Purge(_)
         | Reply::Now(_)
         | Reply::Read(_)
         | Reply::ReadUnreachable(_)
@@ -196,18 +157,12 @@ fn told_in(r: &Reply) -> Option<&[Line]>
         | Reply::Refused(_)
         | Reply::Begun(_)
         | Reply::Going
-        | Reply::Failed(_)
-        | Reply::NoJob => None,
-    }
-}
-
-// The lines of what is done, each behind two spaces.
-fn print_lines(r: &Reply, names: &PrintedNames<'_>, out: &mut Vec<u8>) -> Result<(), Memory>
-    ensures { OnOk result (out.new.items ≡ out.old.items ++ told_lines (codes "  ") names.now (lines_of (told_in r.now))) }
-{
-    match told_in(r) {
-        Some(lines) => print_told_lines(b"  ", lines, names, out),
-        None => Ok(()),
+        | Reply::NoJob
+        | Reply::Held(_)
+        | Reply::Taken { .. }
+        | Reply::Released
+        | Reply::NotHeld
+        | Reply::Lapsed => (true, &[]),
     }
 }
 
@@ -227,12 +182,12 @@ fn print_line(
     out.extend_from_slice(b": ")?;
     print_answer(r, names, out)?;
     out.extend_from_slice(b"\n")?;
-    print_lines(r, names, out)
+    print_told_lines(b"  ", behind(r).1, names, out)
 }
 
 /// Appends the line of a turn with its reply: the number, the turn's words, `: ` and the reply; and behind it the lines
-/// of a command that is done, each after two spaces; or nothing at want of memory. A server has its name in `names` by
-/// its number.
+/// of what is done, or of the hooks of a recovery that failed, each after two spaces; or nothing at want of memory. A
+/// server has its name in `names` by its number.
 pub fn reply_text(
     number: u64,
     t: &Turn,
@@ -266,21 +221,33 @@ pub fn reply_text_by(
     out.extend_from_slice(line)
 }
 
+// The reply's own line, where it has one.
+fn print_own(
+    r: &Reply,
+    own: bool,
+    names: &PrintedNames<'_>,
+    out: &mut Vec<u8>,
+) -> Result<(), Memory>
+    ensures { OnOk result (out.new.items ≡ out.old.items ++ own_text names.now r.now own) }
+{
+    if !own {
+        return Ok(());
+    }
+    print_answer(r, names, out)?;
+    out.extend_from_slice(b"\n")
+}
+
 #[tactic(auto, unfolding(crate::specs::Lines::plain_text_of))]
 fn print_plain(r: &Reply, names: &PrintedNames<'_>, out: &mut Vec<u8>) -> Result<(), Memory>
     ensures { OnOk result (out.new.items ≡ out.old.items ++ plain_text_of names.now r.now) }
 {
-    match told_in(r) {
-        Some(lines) => print_told_lines(b"", lines, names, out),
-        None => {
-            print_answer(r, names, out)?;
-            out.extend_from_slice(b"\n")
-        }
-    }
+    let (own, lines) = behind(r);
+    print_own(r, own, names, out)?;
+    print_told_lines(b"", lines, names, out)
 }
 
-/// Appends what a single command writes of its reply: the lines of one that is done, else the reply's own line; or
-/// nothing at want of memory. A server has its name in `names` by its number.
+/// Appends what a single command writes of its reply: the lines of one that is done, else the reply's own line and the
+/// lines behind it; or nothing at want of memory. A server has its name in `names` by its number.
 pub fn plain_text(r: &Reply, names: &[Name], out: &mut Vec<u8>) -> Result<(), Memory>
     ensures ok { OnOk result (out.new.items ≡ out.old.items ++ plain_text_of names.now r.now) }
     ensures err { OnErr result (out.new.items ≡ out.old.items) }

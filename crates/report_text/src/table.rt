@@ -4,7 +4,7 @@ ghost use Rattle.std.specs.Prelude.{◌≡◌, ◌++◌, ◌<◌, [], length, If
 ghost use Rattle.std.specs.Option.{option_copied};
 ghost use Rattle.server_model.specs.Worlds.{server_at};
 ghost use Rattle.report_text.specs.Told.{told_lines};
-ghost use Rattle.report_text.specs.Tables.{up_text, on_text, end_text, until_text, auto_text, places_text, threads_text, standing_text, name_text, source_text, state_text, log_text, line_at, servers_text, job_text, jobs_text, names_in, errant_text, tables_text};
+ghost use Rattle.report_text.specs.Tables.{up_text, on_text, end_text, until_text, auto_text, places_text, threads_text, standing_text, name_text, source_text, state_text, log_text, purged_text, line_at, servers_text, job_text, jobs_text, names_in, errant_text, tables_text};
 
 use crate::line::print_told_lines;
 use crate::names::PrintedNames;
@@ -128,6 +128,15 @@ fn print_log(executed: u64, log: Option<&LogIndex>, out: &mut Vec<u8>) -> Result
     print_end(log, out)
 }
 
+fn print_purged(first: u32, out: &mut Vec<u8>) -> Result<(), Memory>
+    ensures { OnOk result (out.new.items ≡ out.old.items ++ purged_text first) }
+{
+    if first <= 1 {
+        return Ok(());
+    }
+    print_counted(b" purged ", u64::from(first), out)
+}
+
 #[tactic(auto, using(crate::proofs::ServerLines::told_is_line))]
 fn print_server(world: &World, no: ServerNo, out: &mut Vec<u8>) -> Result<(), Memory>
     requires { no.0 < length world.now.servers }
@@ -138,6 +147,7 @@ fn print_server(world: &World, no: ServerNo, out: &mut Vec<u8>) -> Result<(), Me
     print_log(world.executed(no), world.log(no), out)?;
     out.extend_from_slice(b" source ")?;
     print_source(world, &plain, out)?;
+    print_purged(plain.first, out)?;
     out.extend_from_slice(b"\n")
 }
 

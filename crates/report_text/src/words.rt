@@ -1,9 +1,9 @@
 //! Words that stand for one value each.
 
 ghost use Rattle.std.specs.Prelude.{◌≡◌};
-ghost use Rattle.report_text.specs.Words.{acked_text, cause_name_text, code_text, kind_text, mode_text, rule_text, state_text};
+ghost use Rattle.report_text.specs.Words.{acked_text, cause_name_text, code_text, kind_text, mode_text, phase_text, rule_text, state_text};
 
-use commands::StateWord;
+use commands::{HookPhase, StateWord};
 use orch_base::{CauseName, Code, Kind, Rule};
 
 /// How an instance stands.
@@ -90,6 +90,21 @@ pub(crate) fn cause_name_word(cause: CauseName) -> &'static [u8]
         CauseName::Moved => b"Moved",
         CauseName::Reachable => b"Reachable",
         CauseName::NoCandidate => b"NoCandidate",
+        CauseName::Purged => b"Purged",
+        CauseName::NoMark => b"NoMark",
+        CauseName::Mismatch => b"Mismatch",
+        CauseName::HookFailed => b"HookFailed",
+    }
+}
+
+/// When a hook runs.
+pub(crate) fn phase_word(phase: HookPhase) -> &'static [u8]
+    ensures { result.now ≡ phase_text phase }
+{
+    match phase {
+        HookPhase::PreFailover => b"pre_failover",
+        HookPhase::PostFailover => b"post_failover",
+        HookPhase::PostUnsuccessful => b"post_unsuccessful",
     }
 }
 

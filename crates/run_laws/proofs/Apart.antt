@@ -1,4 +1,4 @@
--- What begins keeps the block period of its cluster.
+-- What begins keeps the block periods of its cluster's recoveries.
 use Rattle.std.proofs.Common.{◌≡◌, ℕ, ◌+◌, ◌∙◌, List, [], ◌∷◌, ◌++◌, refl, sym, ap, subst, Option, Some, None, Ok}
 use Rattle.orch_base.specs.declared.server.Moment.{Moment}
 use Rattle.orch_base.specs.declared.server.ServerNo.{ServerNo}
@@ -20,29 +20,29 @@ use Rattle.server_model.specs.Worlds.{World}
 use Rattle.run_laws.specs.Begins.{entries_of, BeginApartInTurn, BeginsApart}
 
 module _ (w : World) (b : BookState) (audit : AuditState) (a : Attempt) where
-  recovery-clear : (wait job : ℕ) (f : ServerNo) → recovery_refusal w b audit a f ≡ None → BeginsApart a.block a.now audit (recovery_begins b audit a.now wait job f).entry
+  recovery-clear : (wait job : ℕ) (f : ServerNo) → recovery_refusal w b audit a f ≡ None → BeginsApart a.now audit (recovery_begins b audit a.now a.block wait job f).entry
   recovery-clear wait job f free = record {
     number = refl;
     moment = refl;
-    clear = (apart-begins (label_at b f) a.now.0 a.block audit audit.next (recovery-may b audit a f w free)).1;
+    clear = (apart-begins (label_at b f) a.now.0 audit audit.next (recovery-may b audit a f w free)).1;
   }
 
-  takeover-clear : (wait job : ℕ) (i d : ServerNo) → takeover_refusal w b audit a i d ≡ None → BeginsApart a.block a.now audit (takeover_begins b audit a.now wait job i d).entry
+  takeover-clear : (wait job : ℕ) (i d : ServerNo) → takeover_refusal w b audit a i d ≡ None → BeginsApart a.now audit (takeover_begins b audit a.now a.block wait job i d).entry
   takeover-clear wait job i d free = record {
     number = refl;
     moment = refl;
-    clear = (apart-begins (label_at b i) a.now.0 a.block audit audit.next (takeover-may b audit a i w d free)).1;
+    clear = (apart-begins (label_at b i) a.now.0 audit audit.next (takeover-may b audit a i w d free)).1;
   }
 
-  pub recovery-apart : (wait job : ℕ) (f : ServerNo) (x : Begins) → recovery_try w b audit a wait job f ≡ Ok x → BeginsApart a.block a.now audit x.entry
+  pub recovery-apart : (wait job : ℕ) (f : ServerNo) (x : Begins) → recovery_try w b audit a wait job f ≡ Ok x → BeginsApart a.now audit x.entry
   recovery-apart wait job f x h =
-      let parts = unrefused (recovery_refusal w b audit a f) (recovery_begins b audit a.now wait job f) x h in
-      subst (λ (y : Begins). BeginsApart a.block a.now audit y.entry) parts.1 (recovery-clear wait job f parts.0)
+      let parts = unrefused (recovery_refusal w b audit a f) (recovery_begins b audit a.now a.block wait job f) x h in
+      subst (λ (y : Begins). BeginsApart a.now audit y.entry) parts.1 (recovery-clear wait job f parts.0)
 
-  pub takeover-apart : (wait job : ℕ) (i d : ServerNo) (x : Begins) → takeover_try w b audit a wait job i d ≡ Ok x → BeginsApart a.block a.now audit x.entry
+  pub takeover-apart : (wait job : ℕ) (i d : ServerNo) (x : Begins) → takeover_try w b audit a wait job i d ≡ Ok x → BeginsApart a.now audit x.entry
   takeover-apart wait job i d x h =
-      let parts = unrefused (takeover_refusal w b audit a i d) (takeover_begins b audit a.now wait job i d) x h in
-      subst (λ (y : Begins). BeginsApart a.block a.now audit y.entry) parts.1 (takeover-clear wait job i d parts.0)
+      let parts = unrefused (takeover_refusal w b audit a i d) (takeover_begins b audit a.now a.block wait job i d) x h in
+      subst (λ (y : Begins). BeginsApart a.now audit y.entry) parts.1 (takeover-clear wait job i d parts.0)
 
 -- ---- one after another
 
@@ -50,28 +50,26 @@ after-more : (a : AuditState) (xs : List Begins) (x : Begins) → audit_after a 
 after-more a [] x = refl
 after-more a (y ∷ ys) x = after-more (begun a y.entry) ys x
 
-apart-more : (block : ℕ) (now : Moment) (a : AuditState) (xs : List Begins) (x : Begins) → BeginApartInTurn block now a (entries_of xs)
-    → BeginsApart block now (audit_after a xs) x.entry → BeginApartInTurn block now a (entries_of (xs ++ x ∷ []))
-apart-more block now a [] x each last = (last, tt)
-apart-more block now a (y ∷ ys) x each last = (each.0, apart-more block now (begun a y.entry) ys x each.1 last)
+apart-more : (now : Moment) (a : AuditState) (xs : List Begins) (x : Begins) → BeginApartInTurn now a (entries_of xs)
+    → BeginsApart now (audit_after a xs) x.entry → BeginApartInTurn now a (entries_of (xs ++ x ∷ []))
+apart-more now a [] x each last = (last, tt)
+apart-more now a (y ∷ ys) x each last = (each.0, apart-more now (begun a y.entry) ys x each.1 last)
 
 -- ---- by a scan
 
-module _ (w : World) (b : BookState) (by : ServerNo → Attempt) (wait block : ℕ) (now : Moment) (blocks : (n : ServerNo) → (by n).block ≡ block)
-    (moments : (n : ServerNo) → (by n).now ≡ now) (audit : AuditState) where
+module _ (w : World) (b : BookState) (by : ServerNo → Attempt) (wait : ℕ) (now : Moment) (moments : (n : ServerNo) → (by n).now ≡ now) (audit : AuditState) where
   -- what has begun so far, beside the audit from which the scan started
   record HasBegun (s : Staged) : Type 0 where
     audit_is : s.audit ≡ audit_after audit s.begun
-    apart : BeginApartInTurn block now audit (entries_of s.begun)
+    apart : BeginApartInTurn now audit (entries_of s.begun)
 
   abbrev begins_at : Staged → Entry → Begins
-  begins_at s e = recovery_begins (record b { leases = s.leases }) s.audit (by e.no).now wait (s.last + 1) e.no
+  begins_at s e = recovery_begins (record b { leases = s.leases }) s.audit (by e.no).now (by e.no).block wait (s.last + 1) e.no
 
-  clear-at : (s : Staged) (e : Entry) → staged_refusal w b (by e.no) s e.no ≡ None → BeginsApart block now s.audit (begins_at s e).entry
+  clear-at : (s : Staged) (e : Entry) → staged_refusal w b (by e.no) s e.no ≡ None → BeginsApart now s.audit (begins_at s e).entry
   clear-at s e free =
-      subst (λ (k : ℕ). BeginsApart k now s.audit (begins_at s e).entry) (blocks e.no)
-      (subst (λ (t : Moment). BeginsApart (by e.no).block t s.audit (begins_at s e).entry) (moments e.no)
-      (recovery-clear w (record b { leases = s.leases }) s.audit (by e.no) wait (s.last + 1) e.no free))
+      subst (λ (t : Moment). BeginsApart t s.audit (begins_at s e).entry) (moments e.no)
+      (recovery-clear w (record b { leases = s.leases }) s.audit (by e.no) wait (s.last + 1) e.no free)
 
   step-begun : (s : Staged) (e : Entry) → HasBegun s → HasBegun (scan_step w b by wait s e)
   step-begun s e so_far = go (staged_refusal w b (by e.no) s e.no) refl
@@ -79,8 +77,8 @@ module _ (w : World) (b : BookState) (by : ServerNo → Attempt) (wait block : �
       go : (o : Option Refusal) → staged_refusal w b (by e.no) s e.no ≡ o → HasBegun (after_try s e (unless_refused o (begins_at s e)))
       go None free = record {
         audit_is = ap (λ (a : AuditState). begun a (begins_at s e).entry) so_far.audit_is ∙ sym (after-more audit s.begun (begins_at s e));
-        apart = apart-more block now audit s.begun (begins_at s e) so_far.apart
-            (subst (λ (a : AuditState). BeginsApart block now a (begins_at s e).entry) so_far.audit_is (clear-at s e free));
+        apart = apart-more now audit s.begun (begins_at s e) so_far.apart
+            (subst (λ (a : AuditState). BeginsApart now a (begins_at s e).entry) so_far.audit_is (clear-at s e free));
       }
       go (Some r) why = record { audit_is = so_far.audit_is; apart = so_far.apart }
 
@@ -88,5 +86,5 @@ module _ (w : World) (b : BookState) (by : ServerNo → Attempt) (wait block : �
   over-begun s [] so_far = so_far
   over-begun s (e ∷ es) so_far = over-begun (scan_step w b by wait s e) es (step-begun s e so_far)
 
-  pub scan-apart : (last : ℕ) → BeginApartInTurn block now audit (entries_of (scanned w b audit by wait last).begun)
+  pub scan-apart : (last : ℕ) → BeginApartInTurn now audit (entries_of (scanned w b audit by wait last).begun)
   scan-apart last = (over-begun (from_start b audit last) (actionable_in b) (record { audit_is = refl; apart = tt })).apart

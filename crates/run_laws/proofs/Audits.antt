@@ -1,11 +1,11 @@
 -- Kept rows follow the audit of a run.
-use Rattle.std.proofs.Common.{◌≡◌, ◌∙◌, ℕ, ◌+◌, ◌<◌, ◌≤◌, ◌^◌, Bool, true, false, List, [], ◌∷◌, ◌++◌, length, refl, sym, subst, Option, Some, None, Result, Ok, Err, arith}
-use Rattle.std.specs.Prelude.{All, IfSome, nat_lt, if◌then◌else◌}
+use Rattle.std.proofs.Common.{◌≡◌, ◌∙◌, ℕ, ◌+◌, ◌<◌, ◌≤◌, ◌^◌, Bool, true, false, List, [], ◌∷◌, ◌++◌, length, refl, sym, ap, subst, Option, Some, None, Result, Ok, Err, arith}
+use Rattle.std.specs.Prelude.{All, IfSome, fold, nat_lt, if◌then◌else◌}
 use Rattle.std.specs.Option.{option_map, option_to_list}
 use Rattle.std.proofs.lemmas.Bool.{ltb-true}
 use Rattle.std.proofs.lemmas.List.Elements.{All-cons, All-head, All-nil, All-tail}
 use Rattle.std.proofs.lemmas.List.Sums.{fold-append}
-use Rattle.audit_log.specs.Audits.{AuditState, begun as begun_with, closed}
+use Rattle.audit_log.specs.Audits.{AuditState, begun as begun_with, closed, longest_block, recovery_at}
 use Rattle.book_commands.specs.declared.decided.Decided.{Decided}
 use Rattle.book_commands.specs.declared.decided.Effect.{Effect}
 use Rattle.book_commands.specs.declared.decided.Effect.TheVariants as effect
@@ -14,19 +14,24 @@ use Rattle.orch_base.specs.Memory.{next_count}
 use Rattle.orch_base.specs.declared.server.Moment.{Moment}
 use Rattle.orch_base.specs.declared.server.ServerNo.{ServerNo}
 use Rattle.server_words.specs.declared.status.Status.{Status as Seen}
-use Rattle.instance_keeper.specs.Book.{BookState, IsBook, are_known, discovery_change, first_seen, fits, instance_at, observed_servers, renewed, seen_servers, store_change}
-use Rattle.instance_keeper.specs.Ranges.{IsInRange}
-use Rattle.instance_keeper.specs.Rows.{changed, changed_by, IsRising}
-use Rattle.instance_keeper.specs.Same.{same_instance}
-use Rattle.instance_keeper.specs.declared.observation.Instance.{Instance}
-use Rattle.instance_keeper.specs.declared.observation.Observation.{Observation}
-use Rattle.instance_keeper.specs.declared.row.Change.{Change}
-use Rattle.instance_keeper.specs.declared.row.Change.TheVariants as change
-use Rattle.instance_keeper.specs.declared.row.Row.{Row}
-use Rattle.instance_keeper.specs.declared.row.Row.TheVariants as row
-use Rattle.opening_book.specs.Following.{Follow, FollowAudit}
-use Rattle.opening_book.specs.Opening.{interrupting, missing_from, put_recovery, registering_from}
-use Rattle.opening_book.proofs.Recoveries.{FollowAudit-acknowledged, FollowAudit-book, FollowAudit-closed, FollowAudit-loaded, FollowAudit-opened}
+use Rattle.kept_rows.specs.Servers.{are_known, fits, observed_servers, seen_servers}
+use Rattle.instance_keeper.specs.Book.{BookState, IsBook, discovery_change, first_seen, instance_at, renewed, store_change}
+use Rattle.kept_rows.specs.Ranges.{IsInRange}
+use Rattle.kept_rows.specs.Rows.{changed, changed_by, row_after, row_at, row_in, sort_key, IsRising}
+use Rattle.kept_rows.specs.declared.row.Key.TheVariants as key
+use Rattle.kept_rows.specs.declared.row.Table.TheVariants as table
+use Rattle.kept_rows.proofs.LookUps.{row_in-changed}
+use Rattle.kept_rows.specs.Same.{same_instance}
+use Rattle.kept_rows.specs.declared.observation.Instance.{Instance}
+use Rattle.kept_rows.specs.declared.observation.Observation.{Observation}
+use Rattle.kept_rows.specs.declared.row.Change.{Change}
+use Rattle.kept_rows.specs.declared.row.Change.TheVariants as change
+use Rattle.kept_rows.specs.declared.row.Row.{Row}
+use Rattle.kept_rows.specs.declared.row.Row.TheVariants as row
+use Rattle.opening_book.specs.Following.{Follow, FollowAudit, IsAudited}
+use Rattle.kept_rows.specs.Recoveries.{put_recovery}
+use Rattle.opening_book.specs.Opening.{blocks_given, interrupting, missing_from, registering_from}
+use Rattle.opening_book.proofs.Recoveries.{FollowAudit-acknowledged, FollowAudit-book, FollowAudit-closed, FollowAudit-loaded, FollowAudit-opened, left-alone}
 use Rattle.opening_book.specs.Audits.{audit_of}
 use Rattle.opening_book.specs.Counting.{counted}
 use Rattle.commands.specs.declared.line.Line.{Line}
@@ -45,32 +50,41 @@ use Rattle.job_laws.proofs.Lists.{All-at}
 use Rattle.run_laws.proofs.Readiness.{job-sees}
 use Rattle.unended_jobs.specs.declared.unended.Unended.{Unended}
 use Rattle.operations.specs.Turns.{observed}
+use Rattle.turns.specs.declared.turn.Act.{Act}
+use Rattle.turns.specs.declared.turn.Act.TheVariants as act
 use Rattle.turns.specs.declared.turn.Turn.{Turn}
 use Rattle.turns.specs.declared.turn.Turn.TheVariants as turn
 use Rattle.scenarios.specs.declared.scenario.Scenario.{Scenario}
-use Rattle.scenarios.specs.Scenarios.{IsScenario}
-use Rattle.scenarios.specs.Turns.{IsCommand, IsTurn}
+use Rattle.scenarios.specs.Scenarios.{IsScenario, period_of}
+use Rattle.scenarios.specs.Turns.{IsAct, IsCommand, IsTurn}
 use Rattle.orch_core.specs.Closings.{closed_by, closing_changes, closing_of}
-use Rattle.orch_core.specs.Commands.{Outcome, about as given_or, asked, audit_updated, begun, by_hand, decided, discovered, entries_put, forgotten, next_reading, outcome_by, outcome_of, question, recovered, recovery_begun, refusal, removal, removal_refusal, taken_over}
+use Rattle.orch_core.specs.Commands.{Outcome, about as given_or, asked, begun, by_hand, decided, discovered, entries_put, forgotten, next_reading, outcome_by, outcome_of, question, recovered, recovery_begun, refusal, removal, removal_refusal, taken_over}
 use Rattle.recovery_core.specs.Begun.{audit_after}
 use Rattle.recovery_core.specs.Tries.{Begins as RecoveryBegins, recovery_begins, takeover_begins, unless_refused}
 use Rattle.recovery_permits.specs.Recoveries.{recovery_refusal}
 use Rattle.recovery_permits.specs.Takeovers.{takeover_refusal}
 use Rattle.orch_core.specs.Jobs.{turn_of, turned_at}
-use Rattle.orch_core.specs.Polls.{changes_by, changes_of, command_outcome, numbers_of, slot_at}
-use Rattle.orch_core.specs.Restarts.{interrupted_at, last_given, reloaded_audit, restart_changes}
-use Rattle.orch_core.specs.Runs.{Held, engine, held_run, held_step, step}
-use Rattle.orch_core.specs.Scenarios.{loaded_audit, loaded_book, start, start_changes, start_moment, start_world}
+use Rattle.orch_core.specs.Polls.{act_changes, changes_by, changes_of, command_outcome, numbers_of, slot_at}
+use Rattle.orch_core.specs.Restarts.{interrupted_at, last_given, reloaded_audit, reloaded_rows, restart_changes}
+use Rattle.orch_core.specs.Periods.{period_by}
+use Rattle.asking_commands.specs.Asking.{label_at}
+use Rattle.orch_core.specs.After.{after_act, step}
+use Rattle.orch_core.specs.Runs.{Held, engine, held_run, held_step}
+use Rattle.orch_core.specs.Scenarios.{loaded_audit, loaded_book, start, start_changes, start_moment, start_rows, start_world}
 use Rattle.orch_core.specs.States.{State, IsSlot, IsState}
 use Rattle.orch_core.proofs.Outcomes.{IsEffectFor, decided-effect}
+use Rattle.orch_core.proofs.Periods.{short-in}
 use Rattle.orch_core.proofs.Servers.{servers-start}
 use Rattle.orch_core.proofs.Starts.{all-missing, all-registering, sources-start}
 use Rattle.orch_core.proofs.States.{one_known}
+use Rattle.orch_core.specs.Settling.{known_of}
+use Rattle.orch_core.specs.Knowing.{Knowledge, updated}
 use Rattle.run_laws.specs.Begins.{BeginApartInTurn, entries_of}
 use Rattle.run_laws.proofs.Ready.{observed-known, put-kept, settings-count}
 use Rattle.run_laws.proofs.Readiness.{Ready-start, Ready-step}
 use Rattle.run_laws.specs.Ready.{Ready}
-use Rattle.run_laws.proofs.Beginnings.{next-after, turn-apart}
+use Rattle.run_laws.proofs.Periods.{short-by}
+use Rattle.run_laws.proofs.Beginnings.{next-after, turn-apart, turn-short}
 use Rattle.run_laws.proofs.Closings.{follow-end, turned-ends}
 use Rattle.run_laws.proofs.Counting.{next-goes-on}
 use Rattle.run_laws.proofs.Entering.{follow-entry}
@@ -131,35 +145,41 @@ job-booked count s id (Some u) at ready = observed-booked count s (next_count s.
 
 -- ---- recoveries that begin
 
-follow-begins : (count block : ℕ) (now : Moment) (rows : List Row) (a : AuditState) (xs : List RecoveryBegins) → BeginApartInTurn block now a (entries_of xs) → (audit_after a xs).next ≤ 2 ^ 64
-    → FollowAudit count rows a → FollowAudit count (changed rows (entries_put xs)) (audit_after a xs)
-follow-begins count block now rows a [] each most follow = follow
-follow-begins count block now rows a (x ∷ xs) each most follow =
-    let on = next-after block now (begun_with a x.entry) xs each.1 in
-    follow-begins count block now (changed_by rows (put_recovery x.entry)) (begun_with a x.entry) xs each.1 most
-    (follow-entry count rows a x.entry each.0.number follow (omega (arith, on, most)))
+follow-begins : (count : ℕ) (now : Moment) (rows : List Row) (a : AuditState) (xs : List RecoveryBegins) → BeginApartInTurn now a (entries_of xs) → All (λ x. x.entry.block ≤ longest_block) xs
+    → (audit_after a xs).next ≤ 2 ^ 64 → FollowAudit count rows a → FollowAudit count (changed rows (entries_put xs)) (audit_after a xs)
+follow-begins count now rows a [] each short most follow = follow
+follow-begins count now rows a (x ∷ xs) each short most follow =
+    let on = next-after now (begun_with a x.entry) xs each.1 in
+    follow-begins count now (changed_by rows (put_recovery x.entry)) (begun_with a x.entry) xs each.1 (All-tail (λ (y : RecoveryBegins). y.entry.block ≤ longest_block) x xs short) most
+    (follow-entry count rows a x.entry each.0.number (All-head (λ (y : RecoveryBegins). y.entry.block ≤ longest_block) x xs short) follow (omega (arith, on, most)))
 
 -- ---- a command
 
 -- the kept rows follow the audit that an outcome leaves
-abbrev FollowsOutcome : ℕ → List Row → AuditState → Outcome → Type 0
-FollowsOutcome count rows a o = FollowAudit count (changed rows o.rows) (audit_updated a o.book)
+abbrev FollowsOutcome : ℕ → List Row → Knowledge → Outcome → Type 0
+FollowsOutcome count rows k o = FollowAudit count (changed rows o.rows) (updated k o.book).audit
 
-module _ (count : ℕ) (few : count < 2 ^ 32) (rows : List Row) (a : AuditState) (b : BookState) (reads : ℕ) (is : IsBook b) (names : length b.names ≡ count) (follow : FollowAudit count rows a) where
+module _ (count : ℕ) (few : count < 2 ^ 32) (rows : List Row) (k : Knowledge) (reads : ℕ) (is : IsBook k.book) (names : length k.book.names ≡ count) (follow : FollowAudit count rows k.audit) where
+  abbrev a : AuditState
+  a = k.audit
+
+  abbrev b : BookState
+  b = k.book
+
   follow-all : (cs : List Change) → All (IsBooked (length b.names)) cs → FollowAudit count (changed rows cs) a
   follow-all cs all = booked-follow count rows a cs (omega (arith, few)) (subst (λ (n : ℕ). All (IsBooked n) cs) names all) follow
 
-  follow-asked : (p : Result Unit Refusal) (lines : List Line) → FollowsOutcome count rows a (asked reads p lines)
+  follow-asked : (p : Result Unit Refusal) (lines : List Line) → FollowsOutcome count rows k (asked reads p lines)
   follow-asked (Ok permit) lines = follow
   follow-asked (Err r) lines = follow
 
-  follow-forgotten : (p : Result Unit Refusal) (i : ServerNo) → nat_lt i.0 (length b.names) ≡ true → FollowsOutcome count rows a (forgotten reads p i)
+  follow-forgotten : (p : Result Unit Refusal) (i : ServerNo) → nat_lt i.0 (length b.names) ≡ true → FollowsOutcome count rows k (forgotten reads p i)
   follow-forgotten (Ok permit) i known =
       let within = ltb-true i.0 (length b.names) known in
       follow-all (removal i ∷ []) (one-booked (length b.names) (removal i) (one_known (length b.names) i.0 within, omega (arith, within, few, names)))
   follow-forgotten (Err r) i known = follow
 
-  follow-discovered : (o : Observation) → are_known (length b.names) (observed_servers o) ≡ true → (x : Option Seen) → o.seen ≡ x → FollowsOutcome count rows a (discovered b reads o x)
+  follow-discovered : (o : Observation) → are_known (length b.names) (observed_servers o) ≡ true → (x : Option Seen) → o.seen ≡ x → FollowsOutcome count rows k (discovered b reads o x)
   follow-discovered o known None at = follow
   follow-discovered o known (Some seen) at = follow-all (option_to_list (discovery_change (instance_at b o.no) o seen)) (discovery-booked b o is known seen at (instance_at b o.no) refl)
 
@@ -168,66 +188,69 @@ module _ (count : ℕ) (few : count < 2 ^ 32) (rows : List Row) (a : AuditState)
   follow-effect (effect.Change c) fits = follow-all (c ∷ []) (one-booked (length b.names) c fits)
   follow-effect (effect.Acks cluster) fits = FollowAudit-acknowledged count rows a cluster follow
 
-  follow-decided : (p : Result Unit Refusal) (d : Decided) → IsEffectFor (length b.names) d.effect → FollowsOutcome count rows a (decided reads a p d)
+  follow-decided : (p : Result Unit Refusal) (d : Decided) → IsEffectFor (length b.names) d.effect → FollowsOutcome count rows k (decided reads a p d)
   follow-decided (Ok permit) d fits = follow-effect d.effect fits
   follow-decided (Err r) d fits = follow
 
   -- a recovery that begins, where nothing refuses it
-  follow-try : (s : State) (o : Option Refusal) (x : RecoveryBegins) → x.entry.id ≡ a.next → (audit_updated a (recovery_begun (numbers_of s) (unless_refused o x)).book).next ≤ 2 ^ 64
-      → FollowsOutcome count rows a (recovery_begun (numbers_of s) (unless_refused o x))
-  follow-try s None x next most = follow-entry count rows a x.entry next follow most
-  follow-try s (Some why) x next most = follow
+  follow-try : (s : State) (o : Option Refusal) (x : RecoveryBegins) → x.entry.id ≡ a.next → x.entry.block ≤ longest_block → (updated k (recovery_begun (numbers_of s) (unless_refused o x)).book).audit.next ≤ 2 ^ 64
+      → FollowsOutcome count rows k (recovery_begun (numbers_of s) (unless_refused o x))
+  follow-try s None x next short most = follow-entry count rows a x.entry next short follow most
+  follow-try s (Some why) x next short most = follow
 
-follow-command : (rows : List Row) (count : ℕ) (s : State) (c : CommandTurn) → Ready count s → (audit_updated s.audit (command_outcome s c).book).next ≤ 2 ^ 64 → IsCommand count c → FollowAudit count rows s.audit
-    → FollowAudit count (changed rows (command_outcome s c).rows) (audit_updated s.audit (command_outcome s c).book)
+follow-command : (rows : List Row) (count : ℕ) (s : State) (c : CommandTurn) → Ready count s → (updated (known_of s) (command_outcome s c).book).audit.next ≤ 2 ^ 64 → IsCommand count c → FollowAudit count rows s.audit
+    → FollowAudit count (changed rows (command_outcome s c).rows) (updated (known_of s) (command_outcome s c).book).audit
 unfolding outcome_of
 follow-command rows count s c ready most command follow = by (route_of c.command.name) most
   where
     few : count < 2 ^ 32
     few = subst (λ (n : ℕ). n < 2 ^ 32) ready.names ready.book.small
 
-    asks : FollowsOutcome count rows s.audit (question s.book s.audit s.reads c)
-    asks = follow-asked count few rows s.audit s.book s.reads ready.book ready.names follow (permitted s.book c.command) (lines_of s.book s.audit.recoveries c c.command.name)
+    short : (i : ServerNo) → period_by s.configuration (label_at s.book i) ≤ longest_block
+    short i = short-by s.configuration ready.periods (label_at s.book i)
 
-    given : (some : ServerNo → Outcome) → ((i : ServerNo) → nat_lt i.0 (length s.book.names) ≡ true → FollowsOutcome count rows s.audit (some i)) → (i : Option ServerNo) → is_within (length s.book.names) i ≡ true
-        → FollowsOutcome count rows s.audit (given_or (question s.book s.audit s.reads c) some i)
+    asks : FollowsOutcome count rows (known_of s) (question s.book s.audit s.reads c)
+    asks = follow-asked count few rows (known_of s) s.reads ready.book ready.names follow (permitted s.book c.command) (lines_of s.book s.audit.recoveries c c.command.name)
+
+    given : (some : ServerNo → Outcome) → ((i : ServerNo) → nat_lt i.0 (length s.book.names) ≡ true → FollowsOutcome count rows (known_of s) (some i)) → (i : Option ServerNo) → is_within (length s.book.names) i ≡ true
+        → FollowsOutcome count rows (known_of s) (given_or (question s.book s.audit s.reads c) some i)
     given some each None within = asks
     given some each (Some i) within = each i within
 
-    begins : (p : Planner) (r : Option Refusal) → FollowsOutcome count rows s.audit (begun (numbers_of s) r (leases_by s.world s.book c.command p) (job_by s.world s.book c.command p (s.last_job + 1) s.configuration.wait))
+    begins : (p : Planner) (r : Option Refusal) → FollowsOutcome count rows (known_of s) (begun (numbers_of s) r (leases_by s.world s.book c.command p) (job_by s.world s.book c.command p (s.last_job + 1) s.configuration.wait))
     begins p (Some why) = follow
     begins p None = follow
 
-    recovers : (i : Option ServerNo) → (audit_updated s.audit (given_or (refusal s.reads UnknownInstance) (recovered s.world s.book s.audit (numbers_of s)) i).book).next ≤ 2 ^ 64
-        → FollowsOutcome count rows s.audit (given_or (refusal s.reads UnknownInstance) (recovered s.world s.book s.audit (numbers_of s)) i)
+    recovers : (i : Option ServerNo) → (updated (known_of s) (given_or (refusal s.reads UnknownInstance) (recovered s.world s.book s.audit s.configuration (numbers_of s)) i).book).audit.next ≤ 2 ^ 64
+        → FollowsOutcome count rows (known_of s) (given_or (refusal s.reads UnknownInstance) (recovered s.world s.book s.audit s.configuration (numbers_of s)) i)
     recovers None most = follow
     recovers (Some i) most =
-        follow-try count few rows s.audit s.book s.reads ready.book ready.names follow s (recovery_refusal s.world s.book s.audit (by_hand (numbers_of s)) i)
-        (recovery_begins s.book s.audit (moment_at s) s.configuration.wait (s.last_job + 1) i) refl most
+        follow-try count few rows (known_of s) s.reads ready.book ready.names follow s (recovery_refusal s.world s.book s.audit (by_hand s.book s.configuration (numbers_of s) i) i)
+        (recovery_begins s.book s.audit (moment_at s) (period_by s.configuration (label_at s.book i)) s.configuration.wait (s.last_job + 1) i) refl (short i) most
 
-    takes : (i : ServerNo) (d : Option ServerNo) → (audit_updated s.audit (taken_over s.world s.book s.audit (numbers_of s) d i).book).next ≤ 2 ^ 64
-        → FollowsOutcome count rows s.audit (taken_over s.world s.book s.audit (numbers_of s) d i)
+    takes : (i : ServerNo) (d : Option ServerNo) → (updated (known_of s) (taken_over s.world s.book s.audit s.configuration (numbers_of s) d i).book).audit.next ≤ 2 ^ 64
+        → FollowsOutcome count rows (known_of s) (taken_over s.world s.book s.audit s.configuration (numbers_of s) d i)
     takes i None most = follow
     takes i (Some d) most =
-        follow-try count few rows s.audit s.book s.reads ready.book ready.names follow s (takeover_refusal s.world s.book s.audit (by_hand (numbers_of s)) i d)
-        (takeover_begins s.book s.audit (moment_at s) s.configuration.wait (s.last_job + 1) i d) refl most
+        follow-try count few rows (known_of s) s.reads ready.book ready.names follow s (takeover_refusal s.world s.book s.audit (by_hand s.book s.configuration (numbers_of s) i) i d)
+        (takeover_begins s.book s.audit (moment_at s) (period_by s.configuration (label_at s.book i)) s.configuration.wait (s.last_job + 1) i d) refl (short i) most
 
-    takes-over : (i d : Option ServerNo) → (audit_updated s.audit (given_or (refusal s.reads UnknownInstance) (taken_over s.world s.book s.audit (numbers_of s) d) i).book).next ≤ 2 ^ 64
-        → FollowsOutcome count rows s.audit (given_or (refusal s.reads UnknownInstance) (taken_over s.world s.book s.audit (numbers_of s) d) i)
+    takes-over : (i d : Option ServerNo) → (updated (known_of s) (given_or (refusal s.reads UnknownInstance) (taken_over s.world s.book s.audit s.configuration (numbers_of s) d) i).book).audit.next ≤ 2 ^ 64
+        → FollowsOutcome count rows (known_of s) (given_or (refusal s.reads UnknownInstance) (taken_over s.world s.book s.audit s.configuration (numbers_of s) d) i)
     takes-over None d most = follow
     takes-over (Some i) d most = takes i d most
 
-    by : (r : Route) → (audit_updated s.audit (outcome_by s.world s.book s.audit (numbers_of s) c r).book).next ≤ 2 ^ 64 → FollowsOutcome count rows s.audit (outcome_by s.world s.book s.audit (numbers_of s) c r)
+    by : (r : Route) → (updated (known_of s) (outcome_by s.world s.book s.audit s.configuration (numbers_of s) c r).book).audit.next ≤ 2 ^ 64 → FollowsOutcome count rows (known_of s) (outcome_by s.world s.book s.audit s.configuration (numbers_of s) c r)
     by Discovers most =
         given (λ i. discovered s.book s.reads (next_reading s.world (numbers_of s) i) (next_reading s.world (numbers_of s) i).seen)
-        (λ i h. follow-discovered count few rows s.audit s.book s.reads ready.book ready.names follow (next_reading s.world (numbers_of s) i) (reading-known count s i ready (ltb-true i.0 (length s.book.names) h)) (next_reading s.world (numbers_of s) i).seen refl)
+        (λ i h. follow-discovered count few rows (known_of s) s.reads ready.book ready.names follow (next_reading s.world (numbers_of s) i) (reading-known count s i ready (ltb-true i.0 (length s.book.names) h)) (next_reading s.world (numbers_of s) i).seen refl)
         c.command.i (within-given count s c ready command)
     by Forgets most =
-        given (forgotten s.reads (allowed (removal_refusal s.book c.command))) (follow-forgotten count few rows s.audit s.book s.reads ready.book ready.names follow (allowed (removal_refusal s.book c.command)))
+        given (forgotten s.reads (allowed (removal_refusal s.book c.command))) (follow-forgotten count few rows (known_of s) s.reads ready.book ready.names follow (allowed (removal_refusal s.book c.command)))
         c.command.i (within-given count s c ready command)
     by (Asks q) most = asks
     by (Decides d) most =
-        follow-decided count few rows s.audit s.book s.reads ready.book ready.names follow (permitted s.book c.command) (decided_of s.book s.audit (moment_at s) c.keys c.command.i d)
+        follow-decided count few rows (known_of s) s.reads ready.book ready.names follow (permitted s.book c.command) (decided_of s.book s.audit (moment_at s) c.keys c.command.i d)
         (decided-effect s.book (length s.book.names) ready.book.small s.audit (moment_at s) c.keys c.command.i d (within-given count s c ready command))
     by (Begins p) most = begins p (refusal_by s.world s.book (moment_at s) c.command p)
     by Recovers most = recovers c.command.i most
@@ -242,9 +265,12 @@ follow-restart : (count : ℕ) (rows : List Row) (s : State) → Ready count s �
 follow-restart count rows s ready rising follow =
     let few = ready.book.small in
     let names = ready.names in
-    let loads = FollowAudit-loaded count s.audit.next rows (omega (arith, few, names)) follow.audit.first follow.small rising in
-    FollowAudit-closed count rows (reloaded_audit rows s) (interrupted_at rows s)
-    (subst (λ (n : ℕ). FollowAudit count rows (audit_of s.audit.next (counted n (last_given s) rows))) (sym (settings-are count s ready)) loads)
+    let period = period_by s.configuration in
+    let given = blocks_given period (reloaded_rows rows s) in
+    let loads = FollowAudit-loaded period count s.audit.next rows (short-by s.configuration ready.periods) (omega (arith, few, names)) follow.audit.first follow.small rising in
+    subst (λ (xs : List Row). FollowAudit count xs (closed (reloaded_audit rows s) (interrupted_at rows s))) (sym (fold-append changed_by rows given (interrupting (reloaded_audit rows s) (interrupted_at rows s))))
+    (FollowAudit-closed count (changed rows given) (reloaded_audit rows s) (interrupted_at rows s)
+    (subst (λ (n : ℕ). FollowAudit count (changed rows (blocks_given period (counted n (last_given s) rows))) (audit_of period s.audit.next (counted n (last_given s) rows))) (sym (settings-are count s ready)) loads))
 
 -- a job's turn: what it observed, and the entry that ends
 follow-job : (count : ℕ) (rows : List Row) (s : State) (id : ℕ) → Ready count s → FollowAudit count rows s.audit
@@ -257,36 +283,60 @@ follow-job count rows s id is follow =
     subst (λ (xs : List Row). FollowAudit count xs (closed_by s.audit (moment_at s) (closing_of (turned_at s id)))) (sym (fold-append changed_by rows cs (closing_changes s.audit (moment_at s) (closing_of (turned_at s id)))))
     (turned-ends count s id (λ a ds. FollowAudit count (changed (changed rows cs) ds) a) booked (λ entry e acked closes there. follow-end (moment_at s) entry e count (changed rows cs) s.audit acked booked))
 
-pub follow-turn : (count : ℕ) (rows : List Row) (s : State) (t : Turn) → Ready count s → IsTurn count t → IsRising rows → (step rows s t).audit.next ≤ 2 ^ 64 → FollowAudit count rows s.audit
-    → FollowAudit count (changed rows (changes_of rows s t)) (step rows s t).audit
-follow-turn count rows s (turn.Write n size) is within rising most follow = follow
-follow-turn count rows s (turn.Fetch n) is within rising most follow = follow
-follow-turn count rows s (turn.Apply n) is within rising most follow = follow
-follow-turn count rows s (turn.Fail n) is within rising most follow = follow
-follow-turn count rows s (turn.Heal n) is within rising most follow = follow
-follow-turn count rows s (turn.Cut n link) is within rising most follow = follow
-follow-turn count rows s (turn.Join n link) is within rising most follow = follow
-follow-turn count rows s (turn.Rotate n) is within rising most follow = follow
-follow-turn count rows s (turn.Tick seconds) is within rising most follow = follow
-follow-turn count rows s (turn.Job job) is within rising most follow = follow-job count rows s job is follow
-follow-turn count rows s turn.Scan is within rising most follow =
-    follow-begins count s.configuration.block (moment_at s) rows s.audit (recoveries_begun s turn.Scan) (turn-apart s turn.Scan) most follow
-follow-turn count rows s (turn.PollRead p n) is within rising most follow = follow
-follow-turn count rows s (turn.PollStore p) is within rising most follow =
+follow-act : (count : ℕ) (rows : List Row) (s : State) (a : Act) → Ready count s → IsAct count a → IsRising rows → (after_act rows s a).audit.next ≤ 2 ^ 64 → FollowAudit count rows s.audit
+    → FollowAudit count (changed rows (act_changes rows s a)) (after_act rows s a).audit
+follow-act count rows s (act.PollRead p n) is within rising most follow = follow
+follow-act count rows s (act.PollStore p) is within rising most follow =
     let known : IsSlot count (slot_at s p) = All-at (IsSlot count) s.slots p None tt is.observed in
     let small = is.book.small in
     let names = is.names in
     booked-follow count rows s.audit (changes_by s.book (slot_at s p)) (omega (arith, small, names))
     (subst (λ (n : ℕ). All (IsBooked n) (changes_by s.book (slot_at s p))) is.names
     (slot-booked s.book (slot_at s p) is.book (subst (λ n. IfSome (slot_at s p) (λ o. are_known n (observed_servers o) ≡ true)) (sym is.names) known))) follow
-follow-turn count rows s (turn.Command c) is command rising most follow = follow-command rows count s c is most command follow
-follow-turn count rows s turn.Restart is within rising most follow = follow-restart count rows s is rising follow
+follow-act count rows s (act.Command c) is command rising most follow = follow-command rows count s c is most command follow
+follow-act count rows s (act.Job job) is within rising most follow = follow-job count rows s job is follow
+follow-act count rows s act.Scan is within rising most follow =
+    follow-begins count (moment_at s) rows s.audit (recoveries_begun s (turn.Act act.Scan)) (turn-apart s (turn.Act act.Scan)) (turn-short count s (turn.Act act.Scan) is) most follow
+follow-act count rows s act.Restart is within rising most follow = follow-restart count rows s is rising follow
+
+pub follow-turn : (count : ℕ) (rows : List Row) (s : State) (t : Turn) → Ready count s → IsTurn count t → IsRising rows → (step rows s t).audit.next ≤ 2 ^ 64 → FollowAudit count rows s.audit
+    → FollowAudit count (changed rows (changes_of rows s t)) (step rows s t).audit
+follow-turn count rows s (turn.Step x) is within rising most follow = follow
+follow-turn count rows s (turn.Tick seconds) is within rising most follow = follow
+follow-turn count rows s (turn.Act a) is within rising most follow = follow-act count rows s a is within rising most follow
+follow-turn count rows s (turn.As node a) is within rising most follow = absurd within
+follow-turn count rows s (turn.Claim node) is within rising most follow = absurd within
+follow-turn count rows s (turn.Release node) is within rising most follow = absurd within
 
 pub FollowAudit-step : (rows : List Row) (s : State) (t : Turn) → IsState s → IsTurn (length s.world.servers) t → (step rows s t).audit.next ≤ 2 ^ 64 → Follow rows s.book → FollowAudit (length s.world.servers) rows s.audit
     → FollowAudit (length s.world.servers) (changed rows (changes_of rows s t)) (step rows s t).audit
 FollowAudit-step rows s t is turn most book follow = follow-turn (length s.world.servers) rows s t (ready-of s is book.book) turn book.rising most follow
 
 -- ---- an opening
+
+-- changes of the book leave what is kept under the ids of recoveries
+rows-stay : (count id : ℕ) → count ≤ 2 ^ 32 → id < 2 ^ 64 → (cs : List Change) → All (IsBooked count) cs → (x : Option Row) → fold (row_after (sort_key table.Recovery (key.Id id))) x cs ≡ x
+rows-stay count id few small [] all x = refl
+rows-stay count id few small (c ∷ cs) all x =
+    let here = All-head (IsBooked count) c cs all in
+    ap (λ (y : Option Row). fold (row_after (sort_key table.Recovery (key.Id id))) y cs) (left-alone count id few small c here.0 here.1 x)
+    ∙ rows-stay count id few small cs (All-tail (IsBooked count) c cs all) x
+
+-- so it makes no difference that they come first
+follow-behind : (count : ℕ) (rows : List Row) (a : AuditState) (before cs : List Change) → count ≤ 2 ^ 32 → All (IsBooked count) before → FollowAudit count (changed rows cs) a → FollowAudit count (changed rows (before ++ cs)) a
+follow-behind count rows a before cs few all follow = record {
+  audit = follow.audit;
+  small = follow.small;
+  each = λ id small. subst (λ (k : Option Row). IsAudited count a.next k (recovery_at a id)) (same id small) (follow.each id small);
+}
+  where
+    same : (id : ℕ) → id < 2 ^ 64 → row_at (changed rows cs) table.Recovery (key.Id id) ≡ row_at (changed rows (before ++ cs)) table.Recovery (key.Id id)
+    same id small =
+        let p = sort_key table.Recovery (key.Id id) in
+        row_in-changed rows cs p
+        ∙ sym (row_in-changed rows (before ++ cs) p
+        ∙ (fold-append (row_after p) (row_in rows p) before cs
+        ∙ ap (λ (x : Option Row). fold (row_after p) x cs) (rows-stay count id few small before all (row_in rows p))))
 
 module _ (s : Scenario) (wait : ℕ) (rows : List Row) (is : IsScenario s) where
   pub FollowAudit-start : IsRising rows → FollowAudit (length s.opening.servers) (changed rows (start_changes s rows)) (start s wait rows).audit
@@ -300,12 +350,14 @@ module _ (s : Scenario) (wait : ℕ) (rows : List Row) (is : IsScenario s) where
       let few : n ≤ 2 ^ 32 = omega (arith, least) in
       let instances = missing_from w at b 0 s.known in
       let candidates = registering_from at b 0 s.rules in
+      let given = blocks_given (period_of s) (start_rows s rows) in
+      let ended = interrupting a at in
       let P : Change → Type 0 = IsBooked n in
-      let first = booked-follow n rows a instances few (all-missing P n (λ i h. (h, tt)) w at b (sources-start s is) (servers-start s) s.known) (FollowAudit-opened n rows few rising) in
-      let second = booked-follow n (changed rows instances) a candidates few (all-registering P n (λ c h. (h, tt)) at b s.rules is.rules) first in
-      let third = FollowAudit-closed n (changed (changed rows instances) candidates) a at second in
-      subst (λ (x : List Row). FollowAudit n x (closed a at))
-      (sym (fold-append changed_by rows instances (candidates ++ interrupting a at) ∙ fold-append changed_by (changed rows instances) candidates (interrupting a at))) third
+      let loads = FollowAudit-opened (period_of s) n rows (λ cluster. short-in s.blocks s.block cluster is.blocks is.block) few rising in
+      let ends : FollowAudit n (changed rows (given ++ ended)) (closed a at) =
+      subst (λ (xs : List Row). FollowAudit n xs (closed a at)) (sym (fold-append changed_by rows given ended)) (FollowAudit-closed n (changed rows given) a at loads) in
+      follow-behind n rows (closed a at) instances (candidates ++ (given ++ ended)) few (all-missing P n (λ i h. (h, tt)) w at b (sources-start s is) (servers-start s) s.known)
+      (follow-behind n rows (closed a at) candidates (given ++ ended) few (all-registering P n (λ c h. (h, tt)) at b s.rules is.rules) ends)
 
 -- ---- over a whole run
 

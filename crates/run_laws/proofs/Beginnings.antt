@@ -3,7 +3,7 @@ use Rattle.std.proofs.Common.{◌≡◌, ◌∙◌, ℕ, ◌+◌, ◌<◌, ◌�
 use Rattle.std.specs.Prelude.{All}
 use Rattle.std.proofs.lemmas.Bool.{ltb-true}
 use Rattle.std.proofs.lemmas.List.Elements.{All-cons, All-nil, All-weaker}
-use Rattle.audit_log.specs.Audits.{AuditState, begun}
+use Rattle.audit_log.specs.Audits.{AuditState, begun, longest_block}
 use Rattle.command_routes.specs.declared.route.Route.{Route}
 use Rattle.command_routes.specs.declared.route.Route.TheVariants.{Discovers, Forgets, Asks, Decides, Begins, Recovers, TakesOver}
 use Rattle.command_routes.specs.Routes.{route_of}
@@ -11,42 +11,50 @@ use Rattle.commands.specs.declared.refusal.Refusal.{Refusal}
 use Rattle.commands.specs.declared.turn.Command.{Command}
 use Rattle.commands.specs.declared.turn.CommandTurn.{CommandTurn}
 use Rattle.commands.specs.Turns.{is_within}
-use Rattle.instance_keeper.specs.declared.recovery.Recovery.{Recovery as KeptRecovery}
+use Rattle.kept_rows.specs.declared.recovery.Recovery.{Recovery as KeptRecovery}
 use Rattle.orch_base.specs.declared.server.Moment.{Moment}
 use Rattle.orch_base.specs.declared.server.ServerNo.{ServerNo}
-use Rattle.recovery_core.proofs.Beginning.{recovery-begins, takeover-begins}
-use Rattle.recovery_core.proofs.InTurn.{scan-in-turn}
+use Rattle.asking_commands.specs.Asking.{label_at}
+use Rattle.recovery_core.proofs.Beginning.{recovery-begins, takeover-begins, unrefused}
+use Rattle.recovery_core.proofs.InTurn.{scan-blocks, scan-in-turn}
+use Rattle.recovery_permits.specs.declared.attempt.Attempt.{Attempt}
+use Rattle.recovery_permits.specs.Recoveries.{recovery_refusal}
+use Rattle.recovery_permits.specs.Takeovers.{takeover_refusal}
 use Rattle.recovery_core.specs.Begun.{BeginInTurn, audit_after}
-use Rattle.recovery_core.specs.Tries.{Begins as RecoveryBegins, recovery_try, takeover_try}
-use Rattle.scenarios.specs.Turns.{IsCommand, IsTurn}
+use Rattle.recovery_core.specs.Tries.{Begins as RecoveryBegins, recovery_begins, recovery_try, takeover_begins, takeover_try}
+use Rattle.scenarios.specs.Turns.{IsAct, IsCommand, IsTurn}
+use Rattle.turns.specs.declared.turn.Act.{Act}
+use Rattle.turns.specs.declared.turn.Act.TheVariants as act
 use Rattle.turns.specs.declared.turn.Turn.{Turn}
 use Rattle.turns.specs.declared.turn.Turn.TheVariants as turn
 use Rattle.orch_core.specs.Commands.{by_hand}
+use Rattle.orch_core.specs.Periods.{period_by}
 use Rattle.orch_core.specs.Polls.{numbers_of}
 use Rattle.orch_core.specs.States.{State}
 use Rattle.run_laws.proofs.ReadyOutcomes.{within-both}
 use Rattle.run_laws.specs.Ready.{Ready}
+use Rattle.run_laws.proofs.Periods.{short-by}
 use Rattle.run_laws.proofs.Apart.{recovery-apart, scan-apart, takeover-apart}
 use Rattle.run_laws.specs.Begins.{BeginApartInTurn, entries_of}
-use Rattle.run_laws.specs.Entries.{attempt_in, entries_begun, recoveries_begun, recoveries_by, recoveries_of, takeovers_by, takeovers_of, tried}
+use Rattle.run_laws.specs.Entries.{attempt_in, entries_begun, recoveries_begun, recoveries_by, recoveries_in_act, recoveries_of, takeovers_by, takeovers_of, tried}
 
 -- ---- what a command begins: nothing, a recovery that isn't refused, or a takeover that isn't
 
 module _ (s : State) (c : Command) (P : List RecoveryBegins → Type 0) (none : P [])
-    (recovers : (i : ServerNo) → c.i ≡ Some i → (x : RecoveryBegins) → recovery_try s.world s.book s.audit (by_hand (numbers_of s)) s.configuration.wait (s.last_job + 1) i ≡ Ok x → P (x ∷ []))
+    (recovers : (i : ServerNo) → c.i ≡ Some i → (x : RecoveryBegins) → recovery_try s.world s.book s.audit (by_hand s.book s.configuration (numbers_of s) i) s.configuration.wait (s.last_job + 1) i ≡ Ok x → P (x ∷ []))
     (takes : (i d : ServerNo) → c.i ≡ Some i → c.d ≡ Some d → (x : RecoveryBegins)
-    → takeover_try s.world s.book s.audit (by_hand (numbers_of s)) s.configuration.wait (s.last_job + 1) i d ≡ Ok x → P (x ∷ [])) where
+    → takeover_try s.world s.book s.audit (by_hand s.book s.configuration (numbers_of s) i) s.configuration.wait (s.last_job + 1) i d ≡ Ok x → P (x ∷ [])) where
   begun-try : (r : Result RecoveryBegins Refusal) → ((x : RecoveryBegins) → r ≡ Ok x → P (x ∷ [])) → P (tried r)
   begun-try (Ok x) each = each x refl
   begun-try (Err why) each = none
 
   begun-recovery : (i : Option ServerNo) → c.i ≡ i → P (recoveries_of s i)
   begun-recovery None at = none
-  begun-recovery (Some i) at = begun-try (recovery_try s.world s.book s.audit (by_hand (numbers_of s)) s.configuration.wait (s.last_job + 1) i) (recovers i at)
+  begun-recovery (Some i) at = begun-try (recovery_try s.world s.book s.audit (by_hand s.book s.configuration (numbers_of s) i) s.configuration.wait (s.last_job + 1) i) (recovers i at)
 
   begun-taken : (i : ServerNo) → c.i ≡ Some i → (d : Option ServerNo) → c.d ≡ d → P (takeovers_by s i d)
   begun-taken i at None there = none
-  begun-taken i at (Some d) there = begun-try (takeover_try s.world s.book s.audit (by_hand (numbers_of s)) s.configuration.wait (s.last_job + 1) i d) (takes i d at there)
+  begun-taken i at (Some d) there = begun-try (takeover_try s.world s.book s.audit (by_hand s.book s.configuration (numbers_of s) i) s.configuration.wait (s.last_job + 1) i d) (takes i d at there)
 
   begun-takeover : (i : Option ServerNo) → c.i ≡ i → P (takeovers_of s i c.d)
   begun-takeover None at = none
@@ -69,70 +77,121 @@ within-of count o i at within = ltb-true i.0 count (sym (ap (is_within count) at
 abbrev Can : State → List RecoveryBegins → Type 0
 Can s xs = BeginInTurn (length s.book.names) s.book.leases s.audit s.last_job xs
 
-command-can : (count : ℕ) (s : State) (c : CommandTurn) → Ready count s → IsCommand count c → Can s (recoveries_begun s (turn.Command c))
+command-can : (count : ℕ) (s : State) (c : CommandTurn) → Ready count s → IsCommand count c → Can s (recoveries_begun s (turn.Act (act.Command c)))
 command-can count s c ready command =
     let there = subst (λ (n : ℕ). IsCommand n c) (sym ready.names) command in
     let within = within-both (length s.book.names) c there in
     command-begins s c.command (Can s) tt
     (λ i at x is. (
-      recovery-begins s.world s.book s.audit (by_hand (numbers_of s)) s.configuration.wait s.last_job ready.book i x
+      recovery-begins s.world s.book s.audit (by_hand s.book s.configuration (numbers_of s) i) s.configuration.wait s.last_job ready.book (short-by s.configuration ready.periods (label_at s.book i)) i x
           (within-of (length s.book.names) c.command.i i at within.0) is,
       tt,
     ))
     (λ i d at by x is. (
-      takeover-begins s.world s.book s.audit (by_hand (numbers_of s)) s.configuration.wait s.last_job ready.book i d x
+      takeover-begins s.world s.book s.audit (by_hand s.book s.configuration (numbers_of s) i) s.configuration.wait s.last_job ready.book (short-by s.configuration ready.periods (label_at s.book i)) i d x
           (within-of (length s.book.names) c.command.i i at within.0) (within-of (length s.book.names) c.command.d d by within.1) is,
       tt,
     ))
     (route_of c.command.name)
 
+act-can : (count : ℕ) (s : State) (a : Act) → Ready count s → IsAct count a → Can s (recoveries_in_act s a)
+act-can count s (act.PollRead p n) ready is = tt
+act-can count s (act.PollStore p) ready is = tt
+act-can count s (act.Command c) ready is = command-can count s c ready is
+act-can count s (act.Job job) ready is = tt
+act-can count s act.Scan ready is =
+    scan-in-turn s.world s.book (attempt_in s) s.configuration.wait s.audit s.last_job ready.book (λ n. short-by s.configuration ready.periods (label_at s.book n))
+act-can count s act.Restart ready is = tt
+
 pub turn-can : (count : ℕ) (s : State) (t : Turn) → Ready count s → IsTurn count t → Can s (recoveries_begun s t)
-turn-can count s (turn.Command c) ready is = command-can count s c ready is
-turn-can count s turn.Scan ready is = scan-in-turn s.world s.book (attempt_in s) s.configuration.wait s.audit s.last_job ready.book
-turn-can count s (turn.Job job) ready is = tt
-turn-can count s turn.Restart ready is = tt
-turn-can count s (turn.PollRead p n) ready is = tt
-turn-can count s (turn.PollStore p) ready is = tt
-turn-can count s (turn.Write n size) ready is = tt
-turn-can count s (turn.Fetch n) ready is = tt
-turn-can count s (turn.Apply n) ready is = tt
-turn-can count s (turn.Fail n) ready is = tt
-turn-can count s (turn.Heal n) ready is = tt
-turn-can count s (turn.Cut n link) ready is = tt
-turn-can count s (turn.Join n link) ready is = tt
-turn-can count s (turn.Rotate n) ready is = tt
+turn-can count s (turn.Step x) ready is = tt
 turn-can count s (turn.Tick seconds) ready is = tt
+turn-can count s (turn.Act a) ready is = act-can count s a ready is
+turn-can count s (turn.As node a) ready is = absurd is
+turn-can count s (turn.Claim node) ready is = absurd is
+turn-can count s (turn.Release node) ready is = absurd is
 
 -- ---- and apart, at the moment of the turn
 
 abbrev Apart : State → List RecoveryBegins → Type 0
-Apart s xs = BeginApartInTurn s.configuration.block (record { 0 = s.moment }) s.audit (entries_of xs)
+Apart s xs = BeginApartInTurn (record { 0 = s.moment }) s.audit (entries_of xs)
+
+act-apart : (s : State) (a : Act) → Apart s (recoveries_in_act s a)
+act-apart s (act.PollRead p n) = tt
+act-apart s (act.PollStore p) = tt
+act-apart s (act.Command c) =
+    command-begins s c.command (Apart s) tt
+    (λ i at x is. (recovery-apart s.world s.book s.audit (by_hand s.book s.configuration (numbers_of s) i) s.configuration.wait (s.last_job + 1) i x is, tt))
+    (λ i d at by x is. (takeover-apart s.world s.book s.audit (by_hand s.book s.configuration (numbers_of s) i) s.configuration.wait (s.last_job + 1) i d x is, tt))
+    (route_of c.command.name)
+act-apart s (act.Job job) = tt
+act-apart s act.Scan = scan-apart s.world s.book (attempt_in s) s.configuration.wait (record { 0 = s.moment }) (λ n. refl) s.audit s.last_job
+act-apart s act.Restart = tt
 
 pub turn-apart : (s : State) (t : Turn) → Apart s (recoveries_begun s t)
-turn-apart s (turn.Command c) =
-    command-begins s c.command (Apart s) tt
-    (λ i at x is. (recovery-apart s.world s.book s.audit (by_hand (numbers_of s)) s.configuration.wait (s.last_job + 1) i x is, tt))
-    (λ i d at by x is. (takeover-apart s.world s.book s.audit (by_hand (numbers_of s)) s.configuration.wait (s.last_job + 1) i d x is, tt))
-    (route_of c.command.name)
-turn-apart s turn.Scan =
-    scan-apart s.world s.book (attempt_in s) s.configuration.wait s.configuration.block (record { 0 = s.moment }) (λ n. refl) (λ n. refl) s.audit s.last_job
-turn-apart s (turn.Job job) = tt
-turn-apart s turn.Restart = tt
-turn-apart s (turn.PollRead p n) = tt
-turn-apart s (turn.PollStore p) = tt
-turn-apart s (turn.Write n size) = tt
-turn-apart s (turn.Fetch n) = tt
-turn-apart s (turn.Apply n) = tt
-turn-apart s (turn.Fail n) = tt
-turn-apart s (turn.Heal n) = tt
-turn-apart s (turn.Cut n link) = tt
-turn-apart s (turn.Join n link) = tt
-turn-apart s (turn.Rotate n) = tt
+turn-apart s (turn.Step x) = tt
 turn-apart s (turn.Tick seconds) = tt
+turn-apart s (turn.Act a) = act-apart s a
+turn-apart s (turn.As node a) = act-apart s a
+turn-apart s (turn.Claim node) = tt
+turn-apart s (turn.Release node) = tt
 
-module _ (block : ℕ) (now : Moment) where
+-- ---- with the block periods of their clusters
+
+abbrev HasPeriod : State → RecoveryBegins → Type 0
+HasPeriod s x = x.entry.block ≡ period_by s.configuration x.entry.cluster
+
+abbrev HavePeriods : State → List RecoveryBegins → Type 0
+HavePeriods s xs = All (HasPeriod s) xs
+
+none-periods : (s : State) → HavePeriods s []
+none-periods s = All-nil (HasPeriod s)
+
+one-period : (s : State) (x : RecoveryBegins) → HasPeriod s x → HavePeriods s (x ∷ [])
+one-period s x is = All-cons (HasPeriod s) x [] is (none-periods s)
+
+-- by its label what begins has the period of its attempt
+module _ (s : State) (i : ServerNo) where
+  abbrev attempt : Attempt
+  attempt = by_hand s.book s.configuration (numbers_of s) i
+
+  recovery-period : (x : RecoveryBegins) → recovery_try s.world s.book s.audit attempt s.configuration.wait (s.last_job + 1) i ≡ Ok x → HasPeriod s x
+  recovery-period x h =
+      subst (HasPeriod s) (unrefused (recovery_refusal s.world s.book s.audit attempt i) (recovery_begins s.book s.audit attempt.now attempt.block s.configuration.wait (s.last_job + 1) i) x h).1 refl
+
+  takeover-period : (d : ServerNo) (x : RecoveryBegins) → takeover_try s.world s.book s.audit attempt s.configuration.wait (s.last_job + 1) i d ≡ Ok x → HasPeriod s x
+  takeover-period d x h =
+      subst (HasPeriod s) (unrefused (takeover_refusal s.world s.book s.audit attempt i d) (takeover_begins s.book s.audit attempt.now attempt.block s.configuration.wait (s.last_job + 1) i d) x h).1 refl
+
+act-periods : (s : State) (a : Act) → HavePeriods s (recoveries_in_act s a)
+act-periods s (act.PollRead p n) = none-periods s
+act-periods s (act.PollStore p) = none-periods s
+act-periods s (act.Command c) =
+    command-begins s c.command (HavePeriods s) (none-periods s)
+    (λ i at x is. one-period s x (recovery-period s i x is))
+    (λ i d at by x is. one-period s x (takeover-period s i d x is))
+    (route_of c.command.name)
+act-periods s (act.Job job) = none-periods s
+act-periods s act.Scan = scan-blocks s.world s.book (attempt_in s) s.configuration.wait s.audit s.last_job (period_by s.configuration) (λ n. refl)
+act-periods s act.Restart = none-periods s
+
+pub turn-periods : (s : State) (t : Turn) → HavePeriods s (recoveries_begun s t)
+turn-periods s (turn.Step x) = none-periods s
+turn-periods s (turn.Tick seconds) = none-periods s
+turn-periods s (turn.Act a) = act-periods s a
+turn-periods s (turn.As node a) = act-periods s a
+turn-periods s (turn.Claim node) = none-periods s
+turn-periods s (turn.Release node) = none-periods s
+
+-- so none is too long
+pub turn-short : (count : ℕ) (s : State) (t : Turn) → Ready count s → All (λ x. x.entry.block ≤ longest_block) (recoveries_begun s t)
+turn-short count s t ready =
+    All-weaker (HasPeriod s) (λ x. x.entry.block ≤ longest_block)
+    (λ x is. subst (λ (n : ℕ). n ≤ longest_block) (sym is) (short-by s.configuration ready.periods x.entry.cluster)) (recoveries_begun s t) (turn-periods s t)
+
+module _ (now : Moment) where
   -- ids go on
-  pub next-after : (a : AuditState) (xs : List RecoveryBegins) → BeginApartInTurn block now a (entries_of xs) → a.next ≤ (audit_after a xs).next
+  pub next-after : (a : AuditState) (xs : List RecoveryBegins) → BeginApartInTurn now a (entries_of xs) → a.next ≤ (audit_after a xs).next
   next-after a [] each = omega arith
   next-after a (x ∷ xs) each =
       let rest = next-after (begun a x.entry) xs each.1 in
@@ -140,14 +199,14 @@ module _ (block : ℕ) (now : Moment) where
       omega (arith, rest, same)
 
   -- and each is below the next one
-  pub ids-after : (a : AuditState) (xs : List RecoveryBegins) → BeginApartInTurn block now a (entries_of xs) → All (λ r. r.id < (audit_after a xs).next) (entries_of xs)
+  pub ids-after : (a : AuditState) (xs : List RecoveryBegins) → BeginApartInTurn now a (entries_of xs) → All (λ r. r.id < (audit_after a xs).next) (entries_of xs)
   ids-after a [] each = All-nil (λ (r : KeptRecovery). r.id < a.next)
   ids-after a (x ∷ xs) each =
       let more = next-after (begun a x.entry) xs each.1 in
       All-cons (λ (r : KeptRecovery). r.id < (audit_after a (x ∷ xs)).next) x.entry (entries_of xs) (omega (arith, more)) (ids-after (begun a x.entry) xs each.1)
 
   -- they began then
-  pub began-then : (a : AuditState) (xs : List RecoveryBegins) → BeginApartInTurn block now a (entries_of xs) → All (λ x. x.entry.begun ≡ now) xs
+  pub began-then : (a : AuditState) (xs : List RecoveryBegins) → BeginApartInTurn now a (entries_of xs) → All (λ x. x.entry.begun ≡ now) xs
   began-then a [] each = All-nil (λ (x : RecoveryBegins). x.entry.begun ≡ now)
   began-then a (x ∷ xs) each = All-cons (λ (y : RecoveryBegins). y.entry.begun ≡ now) x xs each.0.moment (began-then (begun a x.entry) xs each.1)
 
@@ -155,4 +214,4 @@ module _ (block : ℕ) (now : Moment) where
 pub small-ids : (s : State) (t : Turn) → (audit_after s.audit (recoveries_begun s t)).next ≤ 2 ^ 64 → All (λ r. r.id < 2 ^ 64) (entries_begun s t)
 small-ids s t most =
     All-weaker (λ (r : KeptRecovery). r.id < (audit_after s.audit (recoveries_begun s t)).next) (λ r. r.id < 2 ^ 64) (λ r less. omega (arith, less, most)) (entries_begun s t)
-    (ids-after s.configuration.block (record { 0 = s.moment }) s.audit (recoveries_begun s t) (turn-apart s t))
+    (ids-after (record { 0 = s.moment }) s.audit (recoveries_begun s t) (turn-apart s t))

@@ -10,19 +10,17 @@ use Rattle.audit_log.proofs.Parting.{acknowledged_at-apart, ended-apart}
 use Rattle.audit_log.specs.Apart.{IsApart}
 use Rattle.audit_log.specs.Audits.{AuditState, IsAudit, acked_so, acknowledged_at, ended, ended_so, is_open, recovery_at}
 use Rattle.commands.specs.Causes.{cause_name}
-use Rattle.instance_keeper.proofs.Lists.{pairs_head, pairs_tail}
-use Rattle.instance_keeper.specs.Book.{are_known, ending_servers}
-use Rattle.instance_keeper.specs.Rows.{changed}
-use Rattle.instance_keeper.specs.declared.recovery.Recovery.{Recovery}
-use Rattle.instance_keeper.specs.declared.row.Change.{Change}
-use Rattle.instance_keeper.specs.declared.row.Change.TheVariants as change
-use Rattle.instance_keeper.specs.declared.row.Row.{Row}
-use Rattle.instance_keeper.specs.declared.row.Row.TheVariants as row
+use Rattle.kept_rows.proofs.Lists.{pairs_head, pairs_tail}
+use Rattle.kept_rows.specs.Servers.{are_known, ending_servers}
+use Rattle.kept_rows.specs.Rows.{changed}
+use Rattle.kept_rows.specs.declared.recovery.Recovery.{Recovery}
+use Rattle.kept_rows.specs.declared.row.Change.{Change}
+use Rattle.kept_rows.specs.declared.row.Row.{Row}
 use Rattle.job_laws.proofs.Lists.{All-find}
 use Rattle.jobs_in_flight.specs.Jobs.{job_at}
 use Rattle.opening_book.proofs.Recoveries.{FollowAudit-mapped}
 use Rattle.opening_book.specs.Following.{FollowAudit}
-use Rattle.opening_book.specs.Opening.{put_recovery}
+use Rattle.kept_rows.specs.Recoveries.{put_recovery}
 use Rattle.operations.specs.declared.step.JobStep.{JobStep}
 use Rattle.operations.specs.declared.step.JobStep.TheVariants as step
 use Rattle.orch_base.specs.Memory.{next_count}
@@ -58,7 +56,7 @@ ended_in now id e acked r = if r.id == id then ended_as now e acked r else r
 
 -- how it is kept then
 abbrev pub end_changes : AuditState → Moment → ℕ → Ending → Bool → List Change
-end_changes a now id e acked = option_to_list (option_map (λ r. change.Put (row.Recovery (ended_as now e acked r))) (recovery_at a id))
+end_changes a now id e acked = option_to_list (option_map (λ r. put_recovery (ended_as now e acked r)) (recovery_at a id))
 
 module _ (now : Moment) (id : ℕ) (e : Ending) where
   abbrev ends : Recovery → Recovery
@@ -98,13 +96,25 @@ module _ (now : Moment) (id : ℕ) (e : Ending) where
       go true = as-id acked r
       go false = refl
 
+  -- the block period stays
+  as-block : (acked : Bool) (r : Recovery) → (ended_as now e acked r).block ≡ r.block
+  as-block true r = refl
+  as-block false r = refl
+
+  in-block : (acked : Bool) (r : Recovery) → (ended_in now id e acked r).block ≡ r.block
+  in-block acked r = go (r.id == id)
+    where
+      go : (b : Bool) → (if b then ended_as now e acked r else r).block ≡ r.block
+      go true = as-block acked r
+      go false = refl
+
   abbrev is-its : Recovery → Bool
   is-its r = r.id == id
 
   pub end-puts : (a : AuditState) (acked : Bool) → end_changes a now id e acked ≡ map put_recovery (option_to_list (option_map (ended_as now e acked) (recovery_at a id)))
   end-puts a acked = go (recovery_at a id)
     where
-      go : (o : Option Recovery) → option_to_list (option_map (λ r. change.Put (row.Recovery (ended_as now e acked r))) o) ≡ map put_recovery (option_to_list (option_map (ended_as now e acked) o))
+      go : (o : Option Recovery) → option_to_list (option_map (λ r. put_recovery (ended_as now e acked r)) o) ≡ map put_recovery (option_to_list (option_map (ended_as now e acked) o))
       go None = refl
       go (Some r) = refl
 
@@ -145,7 +155,7 @@ module _ (now : Moment) (id : ℕ) (e : Ending) where
   put-one a acked rising = ap (λ (xs : List Recovery). map put_recovery (map (ended_in now id e acked) xs)) (one-its a.recoveries rising) ∙ go (recovery_at a id) refl
     where
       go : (o : Option Recovery) → recovery_at a id ≡ o
-          → map put_recovery (map (ended_in now id e acked) (option_to_list o)) ≡ option_to_list (option_map (λ r. change.Put (row.Recovery (ended_as now e acked r))) o)
+          → map put_recovery (map (ended_in now id e acked) (option_to_list o)) ≡ option_to_list (option_map (λ r. put_recovery (ended_as now e acked r)) o)
       go None at = refl
       go (Some r) at = ap (λ (b : Bool). put_recovery (if b then ended_as now e acked r else r) ∷ []) (found-passes is-its a.recoveries r at)
 
@@ -154,7 +164,7 @@ module _ (now : Moment) (id : ℕ) (e : Ending) where
   follow-end count rows a acked follow =
       subst (FollowAudit count (changed rows (end_changes a now id e acked))) (sym (ended-map a acked))
       (subst (λ (cs : List Change). FollowAudit count (changed rows cs) (record a { recoveries = map (ended_in now id e acked) a.recoveries })) (put-one a acked follow.audit.rising)
-      (FollowAudit-mapped (ended_in now id e acked) (in-id acked) is-its (λ r off. ap (λ (b : Bool). if b then ended_as now e acked r else r) off) count rows a follow))
+      (FollowAudit-mapped (ended_in now id e acked) (in-id acked) (in-block acked) is-its (λ r off. ap (λ (b : Bool). if b then ended_as now e acked r else r) off) count rows a follow))
 
   -- an audit stays apart
   pub end-apart : (a : AuditState) (acked : Bool) → is_open e ≡ false → IsApart a → IsApart (ended_with a now id e acked)
@@ -173,7 +183,7 @@ module _ (count : ℕ) where
   ending-known r step.Going e there is = cc
   ending-known r (step.Done lines) e there is =
       subst (λ (x : Ending). are_known count (ending_servers x) ≡ true) (same_Some (done_with r.outcome.promoted) e is) (done-known r.outcome.promoted there)
-  ending-known r (step.Failed c) e there is =
+  ending-known r (step.Failed c lines) e there is =
       subst (λ (x : Ending). are_known count (ending_servers x) ≡ true) (same_Some (ending.Failed (cause_name c)) e is) refl
 
 -- what a job's turn leaves of the audit and the kept rows: nothing ends, or the entry of its recovery does
@@ -189,9 +199,9 @@ module _ (count : ℕ) (s : State) (id : ℕ) (P : AuditState → List Change �
   recovery-ends r entry (step.Done lines) there =
       some entry (done_with r.outcome.promoted) (is_acknowledged r (step.Done lines)) (ending-closed r (step.Done lines) (done_with r.outcome.promoted) refl)
       (λ ready. ending-known count r (step.Done lines) (done_with r.outcome.promoted) (there ready) refl)
-  recovery-ends r entry (step.Failed c) there =
-      some entry (ending.Failed (cause_name c)) false (ending-closed r (step.Failed c) (ending.Failed (cause_name c)) refl)
-      (λ ready. ending-known count r (step.Failed c) (ending.Failed (cause_name c)) (there ready) refl)
+  recovery-ends r entry (step.Failed c lines) there =
+      some entry (ending.Failed (cause_name c)) false (ending-closed r (step.Failed c lines) (ending.Failed (cause_name c)) refl)
+      (λ ready. ending-known count r (step.Failed c lines) (ending.Failed (cause_name c)) (there ready) refl)
 
   flown-ends : (u : Unended) → (Ready count s → IsReady count u) → P (closed_by s.audit now (closing_by (turn_of s u).next (turn_of s u).step)) (closing_changes s.audit now (closing_by (turn_of s u).next (turn_of s u).step))
   flown-ends (unended.Plan j) is = none

@@ -5,12 +5,13 @@ use Rattle.std.proofs.lemmas.Bool.{le-leb, leb-true}
 use Rattle.std.proofs.lemmas.List.Elements.{All-head, All-map, All-push, All-tail, All-weaker}
 use Rattle.audit_log.proofs.Parting.{acknowledged-apart, closed-apart}
 use Rattle.audit_log.specs.Apart.{IsApart}
-use Rattle.audit_log.specs.Audits.{AuditState, acked_so, acknowledged, acknowledged_for, begun, closed, ended_so, interrupted, is_of, is_unended}
-use Rattle.instance_keeper.proofs.Books.{both_true}
-use Rattle.instance_keeper.specs.Book.{are_known, ending_servers}
-use Rattle.instance_keeper.specs.declared.recovery.Recovery.{Recovery}
-use Rattle.instance_keeper.specs.declared.row.Row.{Row}
-use Rattle.instance_keeper.specs.declared.row.Row.TheVariants as row
+use Rattle.audit_log.specs.Audits.{AuditState, acked_so, acknowledged, acknowledged_for, begun, closed, ended_so, interrupted, is_of, is_unended, longest_block}
+use Rattle.kept_rows.proofs.Known.{both_true}
+use Rattle.kept_rows.specs.Recoveries.{as_row}
+use Rattle.kept_rows.specs.Servers.{are_known, ending_servers}
+use Rattle.kept_rows.specs.declared.recovery.Recovery.{Recovery}
+use Rattle.kept_rows.specs.declared.row.Row.{Row}
+use Rattle.kept_rows.specs.declared.row.Row.TheVariants as row
 use Rattle.opening_book.specs.Counting.{counts, greatest, greatest_id, is_end_in_range, is_in_range}
 use Rattle.orch_base.specs.declared.recovery.Ending.{Ending}
 use Rattle.orch_base.specs.declared.recovery.Ending.TheVariants as ending
@@ -19,24 +20,30 @@ use Rattle.orch_base.specs.declared.server.ServerNo.{ServerNo}
 use Rattle.recovery_core.proofs.InTurn.{apart-after}
 use Rattle.recovery_core.specs.Begun.{BeginInTurn, CanBegin, audit_after}
 use Rattle.recovery_core.specs.Tries.{Begins}
-use Rattle.scenarios.specs.Scenarios.{IsScenario}
-use Rattle.scenarios.specs.Turns.{IsTurn}
+use Rattle.scenarios.specs.Scenarios.{IsScenario, period_of}
+use Rattle.scenarios.specs.Turns.{IsAct, IsTurn}
 use Rattle.scenarios.specs.declared.scenario.Scenario.{Scenario}
+use Rattle.turns.specs.declared.turn.Act.{Act}
+use Rattle.turns.specs.declared.turn.Act.TheVariants as act
 use Rattle.turns.specs.declared.turn.Turn.{Turn}
 use Rattle.turns.specs.declared.turn.Turn.TheVariants as turn
 use Rattle.orch_core.proofs.Closed.{closed_by-next}
+use Rattle.orch_core.proofs.Periods.{short-in}
 use Rattle.orch_core.proofs.Recoveries.{reloaded-most}
 use Rattle.orch_core.proofs.Starts.{moment-within, opened-is}
 use Rattle.orch_core.proofs.States.{one_known}
 use Rattle.orch_core.specs.Closings.{closing_of}
-use Rattle.orch_core.specs.Commands.{audit_updated}
 use Rattle.orch_core.specs.Jobs.{turned_at}
 use Rattle.orch_core.specs.Polls.{command_outcome}
-use Rattle.orch_core.specs.Restarts.{interrupted_at, last_given, reloaded_audit}
-use Rattle.orch_core.specs.Runs.{engine, run_turns, step, turns_of}
+use Rattle.orch_core.specs.Restarts.{interrupted_at, last_given, reloaded_audit, reloaded_moment}
+use Rattle.orch_core.specs.After.{after_act, step}
+use Rattle.orch_core.specs.Periods.{period_by}
+use Rattle.orch_core.specs.Runs.{engine, run_turns, turns_of}
 use Rattle.orch_core.specs.Scenarios.{loaded_audit, start, start_moment, start_rows}
 use Rattle.orch_core.specs.States.{State}
-use Rattle.orch_core.specs.Turns.{later, moment_after}
+use Rattle.orch_core.specs.Turns.{later}
+use Rattle.orch_core.specs.Settling.{known_of}
+use Rattle.orch_core.specs.Knowing.{updated}
 use Rattle.run_laws.specs.Begins.{BeginApartInTurn, entries_of}
 use Rattle.run_laws.proofs.Readiness.{Ready-start, Ready-step}
 use Rattle.run_laws.proofs.Ready.{settings-count}
@@ -45,6 +52,7 @@ use Rattle.run_laws.proofs.Beginnings.{began-then, next-after, turn-apart, turn-
 use Rattle.run_laws.proofs.Closings.{end-apart, ended-map, ended_as, ended_in, ended_with, turned-ends}
 use Rattle.run_laws.proofs.Loads.{audit-of, counted-counts}
 use Rattle.run_laws.proofs.Logged.{Becomes, command-becomes}
+use Rattle.run_laws.proofs.Periods.{short-by}
 use Rattle.run_laws.specs.Entries.{recoveries_begun, recoveries_scanned}
 use Rattle.run_laws.specs.Runs.{ComesTo}
 
@@ -58,16 +66,18 @@ pub record IsKnown (count : ℕ) (r : Recovery) : Type 0 where
 
 module _ (count : ℕ) where
   -- of a row that counts
-  known-of : (last : ℕ) (r : Recovery) → counts count last (row.Recovery r) ≡ true → IsKnown count r
+  known-of : (last : ℕ) (r : Recovery) → counts count last (row.Recovery (as_row r)) ≡ true → IsKnown count r
   known-of last r is =
-      let parts = both_true (are_known count (r.failed.0 ∷ ending_servers r.outcome)) (is_in_range last (row.Recovery r)) is in
-      let moments = (both_true (leb 1 r.id && leb r.id last) (leb r.begun.0 greatest && is_end_in_range r.ended) parts.1).1 in
-      let both = both_true (leb r.begun.0 greatest) (is_end_in_range r.ended) moments in
-      record { servers = parts.0; begins = leb-true r.begun.0 greatest both.0; ends = both.1 }
+      let parts = both_true (are_known count (r.failed.0 ∷ ending_servers r.outcome)) (is_in_range last (row.Recovery (as_row r))) is in
+      let moments = (both_true (leb 1 r.id && leb r.id last) (leb r.begun.0 greatest && (is_end_in_range r.ended && leb r.block longest_block)) parts.1).1 in
+      let both = both_true (leb r.begun.0 greatest) (is_end_in_range r.ended && leb r.block longest_block) moments in
+      let ends = both_true (is_end_in_range r.ended) (leb r.block longest_block) both.1 in
+      record { servers = parts.0; begins = leb-true r.begun.0 greatest both.0; ends = ends.0 }
 
   -- and back
-  known-counts : (last : ℕ) (r : Recovery) → IsKnown count r → 1 ≤ r.id → r.id ≤ last → counts count last (row.Recovery r) ≡ true
-  known-counts last r is low high = λ i. is.servers i && ((le-leb 1 r.id low i && le-leb r.id last high i) && (le-leb r.begun.0 greatest is.begins i && is.ends i))
+  known-counts : (last : ℕ) (r : Recovery) → IsKnown count r → 1 ≤ r.id → r.id ≤ last → r.block ≤ longest_block → counts count last (row.Recovery (as_row r)) ≡ true
+  known-counts last r is low high short = λ i.
+      is.servers i && ((le-leb 1 r.id low i && le-leb r.id last high i) && (le-leb r.begun.0 greatest is.begins i && (is.ends i && le-leb r.block longest_block short i)))
 
   -- with an end by servers that are there, at a moment in its range
   known-ended : (now : Moment) (e : Ending) (r : Recovery) → now.0 ≤ greatest → are_known count (ending_servers e) ≡ true → IsKnown count r → IsKnown count (ended_so now e r)
@@ -137,23 +147,26 @@ module _ (count : ℕ) where
 later-most : (now seconds : ℕ) → later now seconds ≤ greatest
 later-most now seconds = omega arith
 
+-- a restart raises it within its range
+moment-reloaded : (rows : List Row) (s : State) → s.moment ≤ greatest → reloaded_moment rows s ≤ greatest
+moment-reloaded rows s most = reloaded-most (period_by s.configuration) (length s.book.settings) (last_given s) s.moment rows most
+
+act-moment : (rows : List Row) (s : State) (a : Act) → s.moment ≤ greatest → (after_act rows s a).moment ≤ greatest
+act-moment rows s (act.PollRead p n) most = most
+act-moment rows s (act.PollStore p) most = most
+act-moment rows s (act.Command c) most = most
+act-moment rows s (act.Job job) most = most
+act-moment rows s act.Scan most = most
+act-moment rows s act.Restart most = moment-reloaded rows s most
+
 -- time stands still at the end of its range
-moment-stays : (rows : List Row) (s : State) (t : Turn) → s.moment ≤ greatest → moment_after rows s t ≤ greatest
+moment-stays : (rows : List Row) (s : State) (t : Turn) → s.moment ≤ greatest → (step rows s t).moment ≤ greatest
+moment-stays rows s (turn.Step x) most = most
 moment-stays rows s (turn.Tick seconds) most = later-most s.moment seconds
-moment-stays rows s turn.Restart most = reloaded-most (length s.book.settings) (last_given s) s.moment rows most
-moment-stays rows s (turn.Job job) most = most
-moment-stays rows s turn.Scan most = most
-moment-stays rows s (turn.PollRead p n) most = most
-moment-stays rows s (turn.PollStore p) most = most
-moment-stays rows s (turn.Command c) most = most
-moment-stays rows s (turn.Write n size) most = most
-moment-stays rows s (turn.Fetch n) most = most
-moment-stays rows s (turn.Apply n) most = most
-moment-stays rows s (turn.Fail n) most = most
-moment-stays rows s (turn.Heal n) most = most
-moment-stays rows s (turn.Cut n link) most = most
-moment-stays rows s (turn.Join n link) most = most
-moment-stays rows s (turn.Rotate n) most = most
+moment-stays rows s (turn.Act a) most = act-moment rows s a most
+moment-stays rows s (turn.As node a) most = act-moment rows s a most
+moment-stays rows s (turn.Claim node) most = most
+moment-stays rows s (turn.Release node) most = most
 
 -- ---- each turn
 
@@ -170,50 +183,51 @@ record IsLogged (count : ℕ) (a : AuditState) : Type 0 where
   known : All (IsKnown count) a.recoveries
 
 logged-becomes : (count : ℕ) (s : State) (xs : List Begins) (a : AuditState) → IsReckoned count s → BeginInTurn (length s.book.names) s.book.leases s.audit s.last_job xs
-    → BeginApartInTurn s.configuration.block (record { 0 = s.moment }) s.audit (entries_of xs) → Becomes s.audit xs a → IsLogged count a
+    → BeginApartInTurn (record { 0 = s.moment }) s.audit (entries_of xs) → Becomes s.audit xs a → IsLogged count a
 logged-becomes count s xs a is each apart (inl (cluster, same, none)) =
     subst (IsLogged count) (sym same) (record { apart = acknowledged-apart s.audit cluster is.apart; known = known-acknowledged count s.audit cluster is.known })
 logged-becomes count s xs a is each apart (inr same) =
     let now : Moment = record { 0 = s.moment } in
     subst (IsLogged count) (sym same) (record {
       apart = apart-after (length s.book.names) s.book.leases s.audit s.last_job xs each is.apart;
-      known = known-after count (length s.book.names) s.book.leases s.audit s.last_job now xs is.ready.names is.moment each (began-then s.configuration.block now s.audit xs apart) is.known;
+      known = known-after count (length s.book.names) s.book.leases s.audit s.last_job now xs is.ready.names is.moment each (began-then now s.audit xs apart) is.known;
     })
 
 logged-restart : (count : ℕ) (rows : List Row) (s : State) → IsReckoned count s → IsLogged count (closed (reloaded_audit rows s) (interrupted_at rows s))
 logged-restart count rows s is =
     let first = is.apart.audit.first in
     let settings : length s.book.settings ≡ count = settings-count s.book is.ready.book ∙ is.ready.names in
+    let period = period_by s.configuration in
+    let short = short-by s.configuration is.ready.periods in
     record {
-      apart = closed-apart (reloaded_audit rows s) (interrupted_at rows s) (audit-of (length s.book.settings) (last_given s) s.audit.next rows first (omega (arith, first)));
-      known = known-interrupted count (reloaded_audit rows s) (interrupted_at rows s) (moment-stays rows s turn.Restart is.moment)
-          (All-weaker (λ (r : Recovery). counts (length s.book.settings) (last_given s) (row.Recovery r) ≡ true) (IsKnown count)
-          (λ r here. known-of count (last_given s) r (subst (λ (n : ℕ). counts n (last_given s) (row.Recovery r) ≡ true) settings here))
-          (reloaded_audit rows s).recoveries (counted-counts (length s.book.settings) (last_given s) rows));
+      apart = closed-apart (reloaded_audit rows s) (interrupted_at rows s) (audit-of (length s.book.settings) (last_given s) period short s.audit.next rows first (omega (arith, first)));
+      known = known-interrupted count (reloaded_audit rows s) (interrupted_at rows s) (moment-reloaded rows s is.moment)
+          (All-weaker (λ (r : Recovery). counts (length s.book.settings) (last_given s) (row.Recovery (as_row r)) ≡ true) (IsKnown count)
+          (λ r here. known-of count (last_given s) r (subst (λ (n : ℕ). counts n (last_given s) (row.Recovery (as_row r)) ≡ true) settings here))
+          (reloaded_audit rows s).recoveries (counted-counts (length s.book.settings) (last_given s) period short rows));
     }
 
-logged-step : (count : ℕ) (rows : List Row) (s : State) (t : Turn) → IsReckoned count s → IsTurn count t → IsLogged count (step rows s t).audit
-logged-step count rows s (turn.Command c) is fits =
-    logged-becomes count s (recoveries_begun s (turn.Command c)) (audit_updated s.audit (command_outcome s c).book) is (turn-can count s (turn.Command c) is.ready fits)
-    (turn-apart s (turn.Command c)) (command-becomes s c)
-logged-step count rows s turn.Scan is fits =
-    logged-becomes count s (recoveries_scanned s) (audit_after s.audit (recoveries_scanned s)) is (turn-can count s turn.Scan is.ready fits) (turn-apart s turn.Scan) (inr refl)
-logged-step count rows s (turn.Job job) is fits =
+logged-act : (count : ℕ) (rows : List Row) (s : State) (a : Act) → IsReckoned count s → IsAct count a → IsLogged count (after_act rows s a).audit
+logged-act count rows s (act.PollRead p n) is fits = record { apart = is.apart; known = is.known }
+logged-act count rows s (act.PollStore p) is fits = record { apart = is.apart; known = is.known }
+logged-act count rows s (act.Command c) is fits =
+    logged-becomes count s (recoveries_begun s (turn.Act (act.Command c))) (updated (known_of s) (command_outcome s c).book).audit is (turn-can count s (turn.Act (act.Command c)) is.ready fits)
+    (turn-apart s (turn.Act (act.Command c))) (command-becomes s c)
+logged-act count rows s (act.Job job) is fits =
     let now : Moment = record { 0 = s.moment } in
     turned-ends count s job (λ a cs. IsLogged count a) (record { apart = is.apart; known = is.known })
     (λ id e acked closes there. record { apart = end-apart now id e s.audit acked closes is.apart; known = known-end count s.audit now id e acked is.moment (there is.ready) is.known })
-logged-step count rows s turn.Restart is fits = logged-restart count rows s is
-logged-step count rows s (turn.PollRead p n) is fits = record { apart = is.apart; known = is.known }
-logged-step count rows s (turn.PollStore p) is fits = record { apart = is.apart; known = is.known }
-logged-step count rows s (turn.Write n size) is fits = record { apart = is.apart; known = is.known }
-logged-step count rows s (turn.Fetch n) is fits = record { apart = is.apart; known = is.known }
-logged-step count rows s (turn.Apply n) is fits = record { apart = is.apart; known = is.known }
-logged-step count rows s (turn.Fail n) is fits = record { apart = is.apart; known = is.known }
-logged-step count rows s (turn.Heal n) is fits = record { apart = is.apart; known = is.known }
-logged-step count rows s (turn.Cut n link) is fits = record { apart = is.apart; known = is.known }
-logged-step count rows s (turn.Join n link) is fits = record { apart = is.apart; known = is.known }
-logged-step count rows s (turn.Rotate n) is fits = record { apart = is.apart; known = is.known }
+logged-act count rows s act.Scan is fits =
+    logged-becomes count s (recoveries_scanned s) (audit_after s.audit (recoveries_scanned s)) is (turn-can count s (turn.Act act.Scan) is.ready fits) (turn-apart s (turn.Act act.Scan)) (inr refl)
+logged-act count rows s act.Restart is fits = logged-restart count rows s is
+
+logged-step : (count : ℕ) (rows : List Row) (s : State) (t : Turn) → IsReckoned count s → IsTurn count t → IsLogged count (step rows s t).audit
+logged-step count rows s (turn.Step x) is fits = record { apart = is.apart; known = is.known }
 logged-step count rows s (turn.Tick seconds) is fits = record { apart = is.apart; known = is.known }
+logged-step count rows s (turn.Act a) is fits = logged-act count rows s a is fits
+logged-step count rows s (turn.As node a) is fits = absurd fits
+logged-step count rows s (turn.Claim node) is fits = absurd fits
+logged-step count rows s (turn.Release node) is fits = absurd fits
 
 reckoned-step : (count : ℕ) (rows : List Row) (s : State) (t : Turn) → IsReckoned count s → IsTurn count t → IsReckoned count (step rows s t)
 reckoned-step count rows s t is fits =
@@ -234,7 +248,8 @@ reckoned-start s wait rows is =
       moment = most;
       apart = closed-apart (loaded_audit s rows) (start_moment s rows) (opened-is s rows is);
       known = known-interrupted n (loaded_audit s rows) (start_moment s rows) most
-          (All-weaker (λ (r : Recovery). counts n greatest_id (row.Recovery r) ≡ true) (IsKnown n) (known-of n greatest_id) (loaded_audit s rows).recoveries (counted-counts n greatest_id rows));
+          (All-weaker (λ (r : Recovery). counts n greatest_id (row.Recovery (as_row r)) ≡ true) (IsKnown n) (known-of n greatest_id) (loaded_audit s rows).recoveries
+          (counted-counts n greatest_id (period_of s) (λ cluster. short-in s.blocks s.block cluster is.blocks is.block) rows));
     }
 
 pub reckoned-comes : (s : Scenario) (xs : List (List Row × Turn)) (now : State) → ComesTo s xs now → IsReckoned (length s.opening.servers) now
@@ -246,38 +261,38 @@ pub apart-comes : (s : Scenario) (xs : List (List Row × Turn)) (now : State) �
 apart-comes s xs now comes = (reckoned-comes s xs now comes).apart
 
 -- each recovery of the audit counts at a restart
-pub counting-recoveries : (count : ℕ) (s : State) → IsReckoned count s → All (λ r. counts count (last_given s) (row.Recovery r) ≡ true) s.audit.recoveries
+pub counting-recoveries : (count : ℕ) (s : State) → IsReckoned count s → All (λ r. counts count (last_given s) (row.Recovery (as_row r)) ≡ true) s.audit.recoveries
 counting-recoveries count s is k d within =
     let r = get_or s.audit.recoveries k d in
     let low = is.apart.audit.above k d within in
     let high = is.apart.audit.below k d within in
-    known-counts count (last_given s) r (is.known k d within) low (omega (arith, high))
+    known-counts count (last_given s) r (is.known k d within) low (omega (arith, high)) (is.apart.audit.short k d within)
 
-pub counts-comes : (s : Scenario) (xs : List (List Row × Turn)) (now : State) → ComesTo s xs now → All (λ r. counts (length s.opening.servers) (last_given now) (row.Recovery r) ≡ true) now.audit.recoveries
+pub counts-comes : (s : Scenario) (xs : List (List Row × Turn)) (now : State) → ComesTo s xs now → All (λ r. counts (length s.opening.servers) (last_given now) (row.Recovery (as_row r)) ≡ true) now.audit.recoveries
 counts-comes s xs now comes = counting-recoveries (length s.opening.servers) now (reckoned-comes s xs now comes)
 
 -- ---- ids go on
 
-next-becomes : (s : State) (xs : List Begins) (a : AuditState) → BeginApartInTurn s.configuration.block (record { 0 = s.moment }) s.audit (entries_of xs) → Becomes s.audit xs a → s.audit.next ≤ a.next
+next-becomes : (s : State) (xs : List Begins) (a : AuditState) → BeginApartInTurn (record { 0 = s.moment }) s.audit (entries_of xs) → Becomes s.audit xs a → s.audit.next ≤ a.next
 next-becomes s xs a apart (inl (cluster, same, none)) = let next : a.next ≡ s.audit.next = ap (λ (x : AuditState). x.next) same in omega (arith, next)
 next-becomes s xs a apart (inr same) =
     let next : a.next ≡ (audit_after s.audit xs).next = ap (λ (x : AuditState). x.next) same in
-    let more = next-after s.configuration.block (record { 0 = s.moment }) s.audit xs apart in
+    let more = next-after (record { 0 = s.moment }) s.audit xs apart in
     omega (arith, next, more)
 
+act-goes-on : (rows : List Row) (s : State) (a : Act) → s.audit.next ≤ (after_act rows s a).audit.next
+act-goes-on rows s (act.PollRead p n) = omega arith
+act-goes-on rows s (act.PollStore p) = omega arith
+act-goes-on rows s (act.Command c) =
+    next-becomes s (recoveries_begun s (turn.Act (act.Command c))) (updated (known_of s) (command_outcome s c).book).audit (turn-apart s (turn.Act (act.Command c))) (command-becomes s c)
+act-goes-on rows s (act.Job job) = let same = closed_by-next s.audit (record { 0 = s.moment }) (closing_of (turned_at s job)) in omega (arith, same)
+act-goes-on rows s act.Scan = next-after (record { 0 = s.moment }) s.audit (recoveries_scanned s) (turn-apart s (turn.Act act.Scan))
+act-goes-on rows s act.Restart = omega arith
+
 pub next-goes-on : (rows : List Row) (s : State) (t : Turn) → s.audit.next ≤ (step rows s t).audit.next
-next-goes-on rows s (turn.Command c) = next-becomes s (recoveries_begun s (turn.Command c)) (audit_updated s.audit (command_outcome s c).book) (turn-apart s (turn.Command c)) (command-becomes s c)
-next-goes-on rows s turn.Scan = next-after s.configuration.block (record { 0 = s.moment }) s.audit (recoveries_scanned s) (turn-apart s turn.Scan)
-next-goes-on rows s (turn.Job job) = let same = closed_by-next s.audit (record { 0 = s.moment }) (closing_of (turned_at s job)) in omega (arith, same)
-next-goes-on rows s turn.Restart = omega arith
-next-goes-on rows s (turn.PollRead p n) = omega arith
-next-goes-on rows s (turn.PollStore p) = omega arith
-next-goes-on rows s (turn.Write n size) = omega arith
-next-goes-on rows s (turn.Fetch n) = omega arith
-next-goes-on rows s (turn.Apply n) = omega arith
-next-goes-on rows s (turn.Fail n) = omega arith
-next-goes-on rows s (turn.Heal n) = omega arith
-next-goes-on rows s (turn.Cut n link) = omega arith
-next-goes-on rows s (turn.Join n link) = omega arith
-next-goes-on rows s (turn.Rotate n) = omega arith
+next-goes-on rows s (turn.Step x) = omega arith
 next-goes-on rows s (turn.Tick seconds) = omega arith
+next-goes-on rows s (turn.Act a) = act-goes-on rows s a
+next-goes-on rows s (turn.As node a) = act-goes-on rows s a
+next-goes-on rows s (turn.Claim node) = omega arith
+next-goes-on rows s (turn.Release node) = omega arith

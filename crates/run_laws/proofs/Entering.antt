@@ -6,18 +6,18 @@ use Rattle.std.proofs.lemmas.Bool.{cases_lt, eq-eqb, eqb-true, false≢true, le-
 use Rattle.std.proofs.lemmas.List.Elements.{All-weaker}
 use Rattle.std.proofs.lemmas.List.Folds.{find-append}
 use Rattle.audit_log.proofs.Changes.{IsAudit-begun, none-at}
-use Rattle.audit_log.specs.Audits.{AuditState, begun, recovery_at}
-use Rattle.instance_keeper.proofs.LookUps.{row_in-changed_by}
-use Rattle.instance_keeper.specs.Book.{are_known, ending_servers}
-use Rattle.instance_keeper.specs.Rows.{changed_by, row_after, row_at, row_in, sort_key, sort_key_of}
-use Rattle.instance_keeper.specs.declared.recovery.Recovery.{Recovery}
-use Rattle.instance_keeper.specs.declared.row.Key.TheVariants as key
-use Rattle.instance_keeper.specs.declared.row.Row.{Row}
-use Rattle.instance_keeper.specs.declared.row.Row.TheVariants as row
-use Rattle.instance_keeper.specs.declared.row.Table.TheVariants as table
-use Rattle.opening_book.specs.Counting.{counts, greatest, is_end_in_range}
+use Rattle.audit_log.specs.Audits.{AuditState, begun, longest_block, recovery_at}
+use Rattle.kept_rows.proofs.LookUps.{row_in-changed_by}
+use Rattle.kept_rows.specs.Servers.{are_known, ending_servers}
+use Rattle.kept_rows.specs.Rows.{changed_by, row_after, row_at, row_in, sort_key, sort_key_of}
+use Rattle.kept_rows.specs.declared.recovery.Recovery.{Recovery}
+use Rattle.kept_rows.specs.declared.row.Key.TheVariants as key
+use Rattle.kept_rows.specs.declared.row.Row.{Row}
+use Rattle.kept_rows.specs.declared.row.Row.TheVariants as row
+use Rattle.kept_rows.specs.declared.row.Table.TheVariants as table
+use Rattle.opening_book.specs.Counting.{counts, greatest, is_block_in_range, is_end_in_range}
 use Rattle.opening_book.specs.Following.{FollowAudit, IsAudited}
-use Rattle.opening_book.specs.Opening.{put_recovery}
+use Rattle.kept_rows.specs.Recoveries.{as_row, put_recovery}
 
 -- where the recovery of an id stands
 abbrev at : ℕ → ℕ
@@ -59,9 +59,10 @@ counts-on count next id (row.Instance i) is other off = off
 counts-on count next id (row.Downtime d) is other off = off
 counts-on count next id (row.Candidate c) is other off = off
 counts-on count next id (row.Switch e) is other off = off
+counts-on count next id (row.Active node end) is other off = off
 counts-on count next id (row.Recovery y) is other off =
     let same : y.id ≡ id = omega (arith, is) in
-    and-on (are_known count (y.failed.0 ∷ ending_servers y.outcome)) (leb 1 y.id) (leb y.begun.0 greatest && is_end_in_range y.ended) (leb y.id (next - 1)) (leb y.id next)
+    and-on (are_known count (y.failed.0 ∷ ending_servers y.outcome)) (leb 1 y.id) (leb y.begun.0 greatest && (is_end_in_range y.ended && is_block_in_range y.block)) (leb y.id (next - 1)) (leb y.id next)
     (leb-on y.id next (λ e. other (sym same ∙ e))) off
 
 or-none : (o : Option Recovery) → option_or o None ≡ o
@@ -69,7 +70,7 @@ or-none None = refl
 or-none (Some r) = refl
 
 -- one more recovery, with the next id, is kept
-module _ (count : ℕ) (rows : List Row) (a : AuditState) (r : Recovery) (next : r.id ≡ a.next) (follow : FollowAudit count rows a) where
+module _ (count : ℕ) (rows : List Row) (a : AuditState) (r : Recovery) (next : r.id ≡ a.next) (short : r.block ≤ longest_block) (follow : FollowAudit count rows a) where
   none-there : (id : ℕ) → (r.id == id) ≡ true → recovery_at a id ≡ None
   none-there id here =
       let same = eqb-true r.id id here in
@@ -93,15 +94,15 @@ module _ (count : ℕ) (rows : List Row) (a : AuditState) (r : Recovery) (next :
       (subst (IsAudited count (r.id + 1) (row_after (at id) (row_in rows (at id)) (put_recovery r))) (sym (added-at id)) (go (r.id == id) refl))
     where
       go : (b : Bool) → (r.id == id) ≡ b
-          → IsAudited count (r.id + 1) (if sort_key_of (row.Recovery r) == at id then Some (row.Recovery r) else row_in rows (at id)) (option_or (recovery_at a id) (if r.id == id then Some r else None))
+          → IsAudited count (r.id + 1) (if sort_key_of (row.Recovery (as_row r)) == at id then Some (row.Recovery (as_row r)) else row_in rows (at id)) (option_or (recovery_at a id) (if r.id == id then Some r else None))
       go true is =
-          subst (λ (b : Bool). IsAudited count (r.id + 1) (if b then Some (row.Recovery r) else row_in rows (at id)) (option_or (recovery_at a id) (if r.id == id then Some r else None))) (sym (key-same r.id id ∙ is))
-          (subst (λ (b : Bool). IsAudited count (r.id + 1) (Some (row.Recovery r)) (option_or (recovery_at a id) (if b then Some r else None))) (sym is)
-          (subst (λ (o : Option Recovery). IsAudited count (r.id + 1) (Some (row.Recovery r)) (option_or o (Some r))) (sym (none-there id is)) refl))
+          subst (λ (b : Bool). IsAudited count (r.id + 1) (if b then Some (row.Recovery (as_row r)) else row_in rows (at id)) (option_or (recovery_at a id) (if r.id == id then Some r else None))) (sym (key-same r.id id ∙ is))
+          (subst (λ (b : Bool). IsAudited count (r.id + 1) (Some (row.Recovery (as_row r))) (option_or (recovery_at a id) (if b then Some r else None))) (sym is)
+          (subst (λ (o : Option Recovery). IsAudited count (r.id + 1) (Some (row.Recovery (as_row r))) (option_or o (Some r))) (sym (none-there id is)) refl))
       go false is =
-          subst (λ (b : Bool). IsAudited count (r.id + 1) (if b then Some (row.Recovery r) else row_in rows (at id)) (option_or (recovery_at a id) (if r.id == id then Some r else None))) (sym (key-same r.id id ∙ is))
+          subst (λ (b : Bool). IsAudited count (r.id + 1) (if b then Some (row.Recovery (as_row r)) else row_in rows (at id)) (option_or (recovery_at a id) (if r.id == id then Some r else None))) (sym (key-same r.id id ∙ is))
           (subst (λ (b : Bool). IsAudited count (r.id + 1) (row_in rows (at id)) (option_or (recovery_at a id) (if b then Some r else None))) (sym is)
           (subst (IsAudited count (r.id + 1) (row_in rows (at id))) (sym (or-none (recovery_at a id))) (kept-on id is (recovery_at a id) (row_in rows (at id)) refl (follow.each id small))))
 
   pub follow-entry : r.id + 1 ≤ 2 ^ 64 → FollowAudit count (changed_by rows (put_recovery r)) (begun a r)
-  follow-entry most = record { audit = IsAudit-begun a r next follow.audit; small = most; each = one-at }
+  follow-entry most = record { audit = IsAudit-begun a r next short follow.audit; small = most; each = one-at }

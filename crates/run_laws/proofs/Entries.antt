@@ -4,23 +4,26 @@ use Rattle.std.specs.Prelude.{◌==◌, if◌then◌else◌}
 use Rattle.std.proofs.lemmas.Bool.{false≢true}
 use Rattle.std.proofs.lemmas.List.{append-nil}
 use Rattle.audit_log.specs.Audits.{AuditState, acked_so, acknowledged, acknowledged_for, begun, ended_so, is_of}
-use Rattle.instance_keeper.specs.declared.recovery.Recovery.{Recovery}
-use Rattle.instance_keeper.specs.declared.row.Row.{Row}
+use Rattle.kept_rows.specs.declared.recovery.Recovery.{Recovery}
+use Rattle.kept_rows.specs.declared.row.Row.{Row}
 use Rattle.orch_base.specs.declared.recovery.Ending.{Ending}
 use Rattle.orch_base.specs.declared.server.Moment.{Moment}
 use Rattle.recovery_core.specs.Begun.{audit_after}
 use Rattle.recovery_core.specs.Tries.{Begins}
+use Rattle.turns.specs.declared.turn.Act.{Act}
+use Rattle.turns.specs.declared.turn.Act.TheVariants as act
 use Rattle.turns.specs.declared.turn.Turn.{Turn}
 use Rattle.turns.specs.declared.turn.Turn.TheVariants as turn
-use Rattle.orch_core.specs.Commands.{audit_updated}
-use Rattle.orch_core.specs.Keeping.{asks}
+use Rattle.orch_core.specs.Keeping.{act_asks, asks}
 use Rattle.orch_core.specs.Polls.{command_outcome}
-use Rattle.orch_core.specs.Runs.{step}
+use Rattle.orch_core.specs.After.{after_act, step}
 use Rattle.orch_core.specs.States.{State}
+use Rattle.orch_core.specs.Settling.{known_of}
+use Rattle.orch_core.specs.Knowing.{updated}
 use Rattle.run_laws.specs.Begins.{entries_of}
 use Rattle.run_laws.proofs.Closings.{ended-map, ended_as, ended_in, ended_with, turned-ends}
 use Rattle.run_laws.proofs.Logged.{Becomes, command-becomes}
-use Rattle.run_laws.specs.Entries.{HasMore, as_begun, entries_begun, recoveries_begun, recoveries_scanned}
+use Rattle.run_laws.specs.Entries.{HasMore, as_begun, entries_begun, recoveries_begun, recoveries_in_act, recoveries_scanned}
 
 -- nothing happens
 more-none : (a : AuditState) → HasMore a [] a
@@ -64,20 +67,20 @@ more-becomes a xs now (inl (cluster, same, none)) =
     subst (HasMore a (entries_of xs)) (sym same) (subst (λ (ys : List Begins). HasMore a (entries_of ys) (acknowledged a cluster)) (sym none) (more-acknowledged a cluster))
 more-becomes a xs now (inr same) = subst (HasMore a (entries_of xs)) (sym same) (record { kept = a.recoveries; same = refl; all = after-all a xs })
 
-pub more-after : (rows : List Row) (s : State) (t : Turn) → asks t ≡ false → HasMore s.audit (entries_begun s t) (step rows s t).audit
-more-after rows s (turn.Command c) none = more-becomes s.audit (recoveries_begun s (turn.Command c)) (audit_updated s.audit (command_outcome s c).book) (command-becomes s c)
-more-after rows s turn.Scan none = more-becomes s.audit (recoveries_scanned s) (audit_after s.audit (recoveries_scanned s)) (inr refl)
-more-after rows s (turn.Job job) none =
+more-act : (rows : List Row) (s : State) (a : Act) → act_asks a ≡ false → HasMore s.audit (entries_of (recoveries_in_act s a)) (after_act rows s a).audit
+more-act rows s (act.PollRead p n) none = more-none s.audit
+more-act rows s (act.PollStore p) none = more-none s.audit
+more-act rows s (act.Command c) none =
+    more-becomes s.audit (recoveries_begun s (turn.Act (act.Command c))) (updated (known_of s) (command_outcome s c).book).audit (command-becomes s c)
+more-act rows s (act.Job job) none =
     turned-ends 0 s job (λ a cs. HasMore s.audit [] a) (more-none s.audit) (λ id e acked closes there. more-end s.audit (record { 0 = s.moment }) id e acked)
-more-after rows s turn.Restart none = absurd (false≢true (sym none))
-more-after rows s (turn.PollRead p n) none = more-none s.audit
-more-after rows s (turn.PollStore p) none = more-none s.audit
-more-after rows s (turn.Write n size) none = more-none s.audit
-more-after rows s (turn.Fetch n) none = more-none s.audit
-more-after rows s (turn.Apply n) none = more-none s.audit
-more-after rows s (turn.Fail n) none = more-none s.audit
-more-after rows s (turn.Heal n) none = more-none s.audit
-more-after rows s (turn.Cut n link) none = more-none s.audit
-more-after rows s (turn.Join n link) none = more-none s.audit
-more-after rows s (turn.Rotate n) none = more-none s.audit
+more-act rows s act.Scan none = more-becomes s.audit (recoveries_scanned s) (audit_after s.audit (recoveries_scanned s)) (inr refl)
+more-act rows s act.Restart none = absurd (false≢true (sym none))
+
+pub more-after : (rows : List Row) (s : State) (t : Turn) → asks t ≡ false → HasMore s.audit (entries_begun s t) (step rows s t).audit
+more-after rows s (turn.Step x) none = more-none s.audit
 more-after rows s (turn.Tick seconds) none = more-none s.audit
+more-after rows s (turn.Act a) none = more-act rows s a none
+more-after rows s (turn.As node a) none = more-act rows s a none
+more-after rows s (turn.Claim node) none = more-none s.audit
+more-after rows s (turn.Release node) none = more-none s.audit

@@ -7,17 +7,20 @@ use Rattle.orch_base.specs.declared.server.Settings.{Settings}
 use Rattle.orch_base.specs.declared.server.ServerNo.{ServerNo}
 use Rattle.orch_base.specs.Memory.{next_count}
 use Rattle.instance_keeper.specs.declared.bridge.Bridge.{Bridge}
-use Rattle.instance_keeper.specs.declared.observation.Instance.{Instance}
-use Rattle.instance_keeper.specs.declared.observation.Observation.{Observation}
-use Rattle.instance_keeper.specs.declared.row.Row.{Row}
-use Rattle.instance_keeper.specs.declared.row.Row.TheVariants as row
-use Rattle.instance_keeper.specs.Book.{BookState, after_put, after_row, empty_book, instance_at, renewed, renewed_book, row_fits, stored_over}
+use Rattle.kept_rows.specs.declared.observation.Instance.{Instance}
+use Rattle.kept_rows.specs.declared.observation.Observation.{Observation}
+use Rattle.kept_rows.specs.declared.row.Row.{Row}
+use Rattle.kept_rows.specs.declared.row.Row.TheVariants as row
+use Rattle.kept_rows.specs.Servers.{row_fits}
+use Rattle.instance_keeper.specs.Book.{BookState, after_put, after_row, empty_book, instance_at, renewed, renewed_book, stored_over}
 use Rattle.instance_keeper.specs.Leases.{given_back}
 use Rattle.opening_book.specs.Counting.{counted, loaded}
 use Rattle.server_model.specs.Run.{Exchange, run}
+use Rattle.turns.specs.declared.turn.Act.{Act}
+use Rattle.turns.specs.declared.turn.Act.TheVariants as act
 use Rattle.turns.specs.declared.turn.Turn.{Turn}
 use Rattle.turns.specs.declared.turn.Turn.TheVariants as turn
-use Rattle.scenarios.specs.Turns.{IsTurn}
+use Rattle.scenarios.specs.Turns.{IsAct, IsTurn}
 use Rattle.operations.specs.Jobs.{Job}
 use Rattle.operations.specs.declared.step.JobStep.{JobStep}
 use Rattle.operations.specs.Turns.{is_going, turned}
@@ -37,9 +40,9 @@ use Rattle.jobs_in_flight.specs.Jobs.{book_turned, job_at, job_exchanges, jobs_t
 use Rattle.orch_core.specs.Jobs.{turn_of}
 use Rattle.orch_core.specs.Polls.{empty_slots, reading, slot_at}
 use Rattle.orch_core.specs.Restarts.{last_given, reloaded_book}
-use Rattle.orch_core.specs.Runs.{step}
+use Rattle.orch_core.specs.After.{after_act, after_restart, step}
 use Rattle.orch_core.specs.States.{State}
-use Rattle.run_laws.specs.Flights.{by_job, flight_of, moment_at, passages_of, takes, takes_over}
+use Rattle.run_laws.specs.Flights.{act_passages, by_job, flight_of, moment_at, passages_of, takes, takes_over}
 use Rattle.run_laws.proofs.FlownOutcomes.{Leaves-command, Leaves-scan}
 use Rattle.run_laws.specs.Ready.{Ready}
 use Rattle.run_laws.proofs.Ready.{settings-count}
@@ -146,6 +149,7 @@ rings-rows b (r ∷ rows) = rings-rows (after_row b r) rows ∙ one (row_fits (l
     put (row.Candidate c) = refl
     put (row.Recovery r) = refl
     put (row.Switch enabled) = refl
+    put (row.Active node until) = refl
 
     one : (fit : Bool) (r : Row) → (if fit then after_put b r else b).rings ≡ b.rings
     one true r = put r
@@ -161,6 +165,7 @@ leases-rows b (r ∷ rows) = leases-rows (after_row b r) rows ∙ one (row_fits 
     put (row.Candidate c) = refl
     put (row.Recovery r) = refl
     put (row.Switch enabled) = refl
+    put (row.Active node until) = refl
 
     one : (fit : Bool) (r : Row) → (if fit then after_put b r else b).leases ≡ b.leases
     one true r = put r
@@ -180,7 +185,7 @@ rings-loaded settings last rows = rings-rows (empty_book settings) (counted (len
 pub leases-loaded : (settings : List Settings) (last : ℕ) (rows : List Row) → leases_of (loaded settings last rows).leases ≡ no_leases
 leases-loaded settings last rows = ap leases_of (leases-rows (empty_book settings) (counted (length settings) last rows)) ∙ none-leased (length settings)
 
-restart-flown : (count : ℕ) (rows : List Row) (s : State) → Ready count s → flight_of (step rows s turn.Restart) ≡ passing (flight_of s) (pass.Restarting ∷ [])
+restart-flown : (count : ℕ) (rows : List Row) (s : State) → Ready count s → flight_of (after_restart rows s) ≡ passing (flight_of s) (pass.Restarting ∷ [])
 restart-flown count rows s ready =
     let b = s.book in
     let rings : (reloaded_book rows s).rings ≡ replicate (length b.rings) [] = rings-loaded b.settings (last_given s) rows ∙ ap (λ (n : ℕ). replicate n []) (settings-count b ready.book ∙ sym ready.book.rings) in
@@ -191,21 +196,20 @@ restart-flown count rows s ready =
 
 -- ---- every turn
 
-pub flown : (count : ℕ) (rows : List Row) (s : State) (t : Turn) → Ready count s → IsTurn count t → flight_of (step rows s t) ≡ passing (flight_of s) (passages_of s t)
-flown count rows s (turn.Write n size) ready is = refl
-flown count rows s (turn.Fetch n) ready is = refl
-flown count rows s (turn.Apply n) ready is = refl
-flown count rows s (turn.Fail n) ready is = refl
-flown count rows s (turn.Heal n) ready is = refl
-flown count rows s (turn.Cut n link) ready is = refl
-flown count rows s (turn.Join n link) ready is = refl
-flown count rows s (turn.Rotate n) ready is = refl
-flown count rows s (turn.Tick seconds) ready is = refl
-flown count rows s (turn.Job job) ready is = job-flown s job (job_at s.jobs job) refl
-flown count rows s turn.Scan ready is = (Leaves-scan count s ready).flown
-flown count rows s (turn.PollRead p n) ready is = poll-flown s p n (is_some (instance_at s.book n))
-flown count rows s (turn.PollStore p) ready is =
+flown-act : (count : ℕ) (rows : List Row) (s : State) (a : Act) → Ready count s → IsAct count a → flight_of (after_act rows s a) ≡ passing (flight_of s) (act_passages s a)
+flown-act count rows s (act.PollRead p n) ready is = poll-flown s p n (is_some (instance_at s.book n))
+flown-act count rows s (act.PollStore p) ready is =
     ap (λ (l : List (Option ℕ)). record (flight_of s) { rings = (stored s.book (slot_at s p)).rings; slots = slice_set s.slots p None; leases = leases_of l }) (leases-stored s.book (slot_at s p))
     ∙ ap (λ (f : Flight). record f { slots = slice_set f.slots p None }) (stored-flown (flight_of s) s.book (slot_at s p))
-flown count rows s (turn.Command c) ready is = (Leaves-command count s c ready is).flown
-flown count rows s turn.Restart ready is = restart-flown count rows s ready
+flown-act count rows s (act.Command c) ready is = (Leaves-command count s c ready is).flown
+flown-act count rows s (act.Job job) ready is = job-flown s job (job_at s.jobs job) refl
+flown-act count rows s act.Scan ready is = (Leaves-scan count s ready).flown
+flown-act count rows s act.Restart ready is = restart-flown count rows s ready
+
+pub flown : (count : ℕ) (rows : List Row) (s : State) (t : Turn) → Ready count s → IsTurn count t → flight_of (step rows s t) ≡ passing (flight_of s) (passages_of s t)
+flown count rows s (turn.Step x) ready is = refl
+flown count rows s (turn.Tick seconds) ready is = refl
+flown count rows s (turn.Act a) ready is = flown-act count rows s a ready is
+flown count rows s (turn.As node a) ready is = absurd is
+flown count rows s (turn.Claim node) ready is = absurd is
+flown count rows s (turn.Release node) ready is = absurd is

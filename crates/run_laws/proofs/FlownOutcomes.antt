@@ -1,12 +1,12 @@
 -- A command or a scan leaves what its passages leave.
-use Rattle.std.proofs.Common.{◌≡◌, ◌∙◌, ℕ, ◌+◌, ◌<◌, Bool, true, false, List, [], ◌∷◌, ◌++◌, length, refl, sym, ap, subst, Option, Some, None, Result, Ok, Err}
+use Rattle.std.proofs.Common.{◌≡◌, ◌∙◌, ℕ, ◌+◌, ◌<◌, ◌≤◌, Bool, true, false, List, [], ◌∷◌, ◌++◌, length, refl, sym, ap, subst, Option, Some, None, Result, Ok, Err}
 use Rattle.std.specs.Prelude.{All, ◌&&◌, ◌==◌, is_some, map, nat_lt, not, if◌then◌else◌}
-use Rattle.std.proofs.lemmas.Bool.{ltb-true}
+use Rattle.std.proofs.lemmas.Bool.{false≢true, ltb-true}
 use Rattle.orch_base.specs.declared.server.ServerNo.{ServerNo}
 use Rattle.orch_base.specs.Memory.{next_count}
 use Rattle.server_words.specs.declared.status.Status.{Status as Seen}
-use Rattle.instance_keeper.specs.declared.observation.Instance.{Instance}
-use Rattle.instance_keeper.specs.declared.observation.Observation.{Observation}
+use Rattle.kept_rows.specs.declared.observation.Instance.{Instance}
+use Rattle.kept_rows.specs.declared.observation.Observation.{Observation}
 use Rattle.instance_keeper.specs.Book.{BookState, IsBook, added_over, after_change, after_put, discovered_over, downtime_at, instance_at, renewed, renewed_book}
 use Rattle.instance_keeper.specs.declared.bridge.Bridge.{Bridge}
 use Rattle.instance_keeper.specs.Bridges.{bridge_in, ringed}
@@ -16,7 +16,8 @@ use Rattle.commands.specs.declared.refusal.Refusal.TheVariants.{UnknownInstance,
 use Rattle.command_routes.specs.declared.route.Decision.{Decision}
 use Rattle.command_routes.specs.declared.route.Decision.TheVariants as decision
 use Rattle.command_routes.specs.declared.route.Planner.{Planner}
-use Rattle.command_routes.specs.declared.route.Planner.TheVariants.{Coordinates, Gtids, Paths, Regroups}
+use Rattle.command_routes.specs.declared.route.Planner.TheVariants.{Coordinates, Gtids, Matches, Paths, Regroups}
+use Rattle.command_routes.specs.declared.kinds.Regrouping.TheVariants.{ByBridges, ByMatches}
 use Rattle.command_routes.specs.declared.route.Route.{Route}
 use Rattle.command_routes.specs.declared.route.Route.TheVariants.{Discovers, Forgets, Asks, Decides, Begins, Recovers, TakesOver}
 use Rattle.command_routes.specs.Routes.{planner_of, route_of}
@@ -26,7 +27,8 @@ use Rattle.commands.specs.declared.turn.Command.{Command}
 use Rattle.commands.specs.declared.turn.CommandTurn.{CommandTurn}
 use Rattle.commands.specs.Turns.{is_within}
 use Rattle.asking_commands.specs.Answers.{allowed, lines_of, permitted}
-use Rattle.audit_log.specs.Audits.{AuditState}
+use Rattle.asking_commands.specs.Asking.{label_at}
+use Rattle.audit_log.specs.Audits.{AuditState, longest_block}
 use Rattle.book_commands.specs.declared.decided.Decided.{Decided}
 use Rattle.book_commands.specs.declared.decided.Effect.{Effect}
 use Rattle.book_commands.specs.declared.decided.Effect.TheVariants as effect
@@ -34,11 +36,11 @@ use Rattle.book_commands.specs.Decisions.{about, acked, candidate_of, decided_of
 use Rattle.commands.specs.declared.turn.Keys.{Keys}
 use Rattle.orch_base.specs.declared.server.Moment.{Moment}
 use Rattle.instance_keeper.specs.Had.{has_row, put_change}
-use Rattle.instance_keeper.specs.declared.row.Change.TheVariants as change
-use Rattle.instance_keeper.specs.declared.row.Key.TheVariants as key
-use Rattle.instance_keeper.specs.declared.row.Row.{Row}
-use Rattle.instance_keeper.specs.declared.row.Row.TheVariants as row
-use Rattle.instance_keeper.specs.declared.row.Table.TheVariants as table
+use Rattle.kept_rows.specs.declared.row.Change.TheVariants as change
+use Rattle.kept_rows.specs.declared.row.Key.TheVariants as key
+use Rattle.kept_rows.specs.declared.row.Row.{Row}
+use Rattle.kept_rows.specs.declared.row.Row.TheVariants as row
+use Rattle.kept_rows.specs.declared.row.Table.TheVariants as table
 use Rattle.job_laws.specs.Flights.{Flight, leased_to}
 use Rattle.job_laws.specs.Leases.{Begins as JobBegins, Leases, leases_of}
 use Rattle.job_laws.specs.Passages as pass
@@ -47,7 +49,7 @@ use Rattle.job_laws.proofs.Listed.{taken-leases}
 use Rattle.move_laws.proofs.Begun as coords
 use Rattle.move_laws.proofs.BegunGtid as gtids
 use Rattle.path_laws.proofs.Begun as paths
-use Rattle.operations.specs.Jobs.{Job}
+use Rattle.operations.specs.Jobs.{Job, job_with}
 use Rattle.recovery_plans.specs.declared.purpose.Purpose.TheVariants as purpose
 use Rattle.regroup.specs.Permits.{leased_about, leased_in}
 use Rattle.regroup.specs.declared.command.RegroupCommand.{RegroupCommand}
@@ -59,19 +61,23 @@ use Rattle.server_model.specs.Worlds.{World}
 use Rattle.recovery_core.proofs.Beginning.{recovery-begins, takeover-begins}
 use Rattle.recovery_core.proofs.InTurn.{scan-in-turn}
 use Rattle.recovery_core.specs.Begun.{BeginInTurn, CanBegin, leases_after}
-use Rattle.recovery_core.specs.Scans.{attempt_of}
 use Rattle.recovery_core.specs.Tries.{Begins as RecoveryBegins, recovery_try, takeover_try}
-use Rattle.orch_core.specs.Commands.{Outcome, about as given_or, asked, begun, by_hand, decided, discovered, forgotten, jobs_updated, outcome_by, outcome_of, question, recovered, recovery_begun, recovery_job, refusal, removal_refusal, taken_over, terms_of, updated}
+use Rattle.orch_core.specs.Knowing.{recovery_job, updated}
+use Rattle.orch_core.specs.Commands.{Outcome, about as given_or, asked, begun, by_hand, decided, discovered, forgotten, outcome_by, outcome_of, question, recovered, recovery_begun, refusal, removal_refusal, taken_over}
+use Rattle.orch_core.specs.Periods.{period_by}
 use Rattle.orch_core.specs.Polls.{command_outcome, numbers_of, reading, scan_outcome}
 use Rattle.orch_core.specs.States.{State}
 use Rattle.orch_core.proofs.Beginnings.{may-take}
+use Rattle.orch_core.specs.Settling.{known_of}
 use Rattle.scenarios.specs.Turns.{IsCommand}
-use Rattle.run_laws.specs.Entries.{recoveries_scanned}
+use Rattle.run_laws.specs.Entries.{attempt_in, recoveries_scanned}
+use Rattle.run_laws.proofs.Periods.{short-by}
 use Rattle.run_laws.specs.Flights.{by_command, by_discovery, by_instance, by_permission, by_recoveries, by_recovery, by_removal, by_route, by_takeover, by_try, flight_of, moment_at, takes_first}
 use Rattle.run_laws.specs.States.{HeldState, SoundState}
-use Rattle.run_laws.specs.Ready.{Ready}
+use Rattle.run_laws.specs.Ready.{AreShort, Ready}
 use Rattle.run_laws.proofs.ReadyOutcomes.{within-book}
 use Rattle.run_laws.proofs.Routed.{regroups-only}
+use Rattle.unended_jobs.specs.declared.unended.Unended.TheVariants as unended
 use Rattle.unended_jobs.specs.Unended.{core_of, number_of}
 use Rattle.unended_laws.specs.Beside.{IsHeldBeside, IsSoundBeside}
 use Rattle.unended_laws.specs.Flights.{HeldJobs, SoundJobs}
@@ -83,7 +89,7 @@ use Rattle.run_laws.proofs.Recoveries.{recoveries-flown, recoveries-held, recove
 
 -- what an outcome makes of a flight
 abbrev flight_with : State → Outcome → Flight
-flight_with s o = record (flight_of s) { rings = (updated s.book o.book).rings; jobs = map core_of (jobs_updated s.jobs o.book); leases = leases_of (updated s.book o.book).leases }
+flight_with s o = record (flight_of s) { rings = (updated (known_of s) o.book).book.rings; jobs = map core_of (updated (known_of s) o.book).jobs; leases = leases_of (updated (known_of s) o.book).book.leases }
 
 -- an outcome leaves what the passages leave, each of which may pass, and passes well; and all that goes on beside stays
 -- held, and sound where it is
@@ -91,8 +97,8 @@ pub record Leaves (s : State) (ps : List Passage) (o : Outcome) : Type 0 where
   pub flown : flight_with s o ≡ passing (flight_of s) ps
   pub may : AllMayPass (flight_of s) ps
   pub well : AllPassWell (flight_of s) ps
-  pub held : HeldState s → HeldJobs (passing (flight_of s) ps) (jobs_updated s.jobs o.book)
-  pub sound : HeldState s → SoundState s → IsQuiet s.world → SoundJobs (passing (flight_of s) ps) (jobs_updated s.jobs o.book)
+  pub held : HeldState s → HeldJobs (passing (flight_of s) ps) (updated (known_of s) o.book).jobs
+  pub sound : HeldState s → SoundState s → IsQuiet s.world → SoundJobs (passing (flight_of s) ps) (updated (known_of s) o.book).jobs
 
 -- ---- readings that the book takes
 
@@ -154,18 +160,24 @@ module _ (b : BookState) where
   decided-still a now k i decision.EnableRecoveries = put-still (row.Switch true) refl refl
   decided-still a now k i decision.AckRecoveries = about-still (acked b a) (λ n. tt) i
 
+-- a job that does nothing may begin without leases
+unmatched-begin : (w : World) (js : List Job) (b : BookState) (id wait : ℕ) → JobBegins w js (leases_of b.leases) [] (core_of (unended.Plan (job_with id wait [])))
+unmatched-begin w js b id wait = record { seen = refl; hands = refl; left = refl; listed = refl; free = λ n listed. absurd (false≢true listed) }
+
 -- the job of a command that isn't refused may begin: a regroup has no operations yet
 permitted-begin : (w : World) (b : BookState) (now : Moment) (js : List Job) (c : Command) (p : Planner) (id wait : ℕ) → refusal_by w b now c p ≡ None
     → JobBegins w js (leases_of b.leases) (leases_by w b c p) (core_of (job_by w b c p id wait))
-permitted-begin w b now js c Coordinates id wait h = coords.permitted-begin w b js c id wait h
-permitted-begin w b now js c Gtids id wait h = gtids.permitted-begin w b js c id wait h
-permitted-begin w b now js c Paths id wait h = paths.permitted-begin w b now js c id wait h
-permitted-begin w b now js c Regroups id wait h = go c.i
+permitted-begin w b now js c (Coordinates kind) id wait h = coords.permitted-begin w b js c id wait h
+permitted-begin w b now js c (Gtids kind) id wait h = gtids.permitted-begin w b js c id wait h
+permitted-begin w b now js c (Paths kind) id wait h = paths.permitted-begin w b now js c id wait h
+permitted-begin w b now js c (Regroups ByMatches) id wait h = unmatched-begin w js b id wait
+permitted-begin w b now js c (Matches kind) id wait h = unmatched-begin w js b id wait
+permitted-begin w b now js c (Regroups ByBridges) id wait h = go c.i
   where
-    free : (n : ℕ) → list_any (λ k. k.0 == n) (leases_by w b c Regroups) ≡ true → leases_of b.leases n ≡ None
+    free : (n : ℕ) → list_any (λ k. k.0 == n) (leases_by w b c (Regroups ByBridges)) ≡ true → leases_of b.leases n ≡ None
     free = (paths.permitted-begin w b now js c id wait h).free
 
-    go : (i : Option ServerNo) → JobBegins w js (leases_of b.leases) (leases_by w b c Regroups) (core_of (regroup_about b id wait i))
+    go : (i : Option ServerNo) → JobBegins w js (leases_of b.leases) (leases_by w b c (Regroups ByBridges)) (core_of (regroup_about b id wait i))
     go None = record { seen = refl; hands = refl; left = refl; listed = refl; free = free }
     go (Some i) = record { seen = refl; hands = refl; left = refl; listed = refl; free = free }
 
@@ -177,10 +189,12 @@ regroup-beside w b l c id wait (Some i) d = recovery-held w l (i ∷ replicas_of
 
 job-beside : (w : World) (b : BookState) (l : Leases) (c : Command) (p : Planner) (id wait : ℕ) → planner_for c.name ≡ Some p
     → IsHeldBeside w (leased_to l (leases_by w b c p) id) (job_by w b c p id wait)
-job-beside w b l c Coordinates id wait by = tt
-job-beside w b l c Gtids id wait by = tt
-job-beside w b l c Paths id wait by = tt
-job-beside w b l c Regroups id wait by =
+job-beside w b l c (Coordinates kind) id wait by = tt
+job-beside w b l c (Gtids kind) id wait by = tt
+job-beside w b l c (Paths kind) id wait by = tt
+job-beside w b l c (Regroups ByMatches) id wait by = tt
+job-beside w b l c (Matches kind) id wait by = tt
+job-beside w b l c (Regroups ByBridges) id wait by =
     subst (λ (r : Option RegroupCommand). IsHeldBeside w (leased_to l (leased_in w b c r) id) (regroup_about b id wait c.i)) (sym (regroups-only c.name by)) (regroup-beside w b l c id wait c.i c.d)
 
 regroup-sound : (w : World) (b : BookState) (id wait : ℕ) (i : Option ServerNo) → IsSoundBeside w (regroup_about b id wait i)
@@ -188,10 +202,12 @@ regroup-sound w b id wait None = tt
 regroup-sound w b id wait (Some i) = recovery-sound w purpose.Regroup id wait i (replicas_of b i) (replicas_of b i) None
 
 job-sound : (w : World) (b : BookState) (c : Command) (p : Planner) (id wait : ℕ) → IsSoundBeside w (job_by w b c p id wait)
-job-sound w b c Coordinates id wait = tt
-job-sound w b c Gtids id wait = tt
-job-sound w b c Paths id wait = tt
-job-sound w b c Regroups id wait = regroup-sound w b id wait c.i
+job-sound w b c (Coordinates kind) id wait = tt
+job-sound w b c (Gtids kind) id wait = tt
+job-sound w b c (Paths kind) id wait = tt
+job-sound w b c (Regroups ByMatches) id wait = tt
+job-sound w b c (Matches kind) id wait = tt
+job-sound w b c (Regroups ByBridges) id wait = regroup-sound w b id wait c.i
 
 module _ (s : State) where
   -- what changes neither bridges nor leases nor jobs passes nothing
@@ -262,7 +278,7 @@ module _ (s : State) where
   Leaves-decided reads a (Ok permit) d still = Leaves-effect reads a d.lines d.effect still
   Leaves-decided reads a (Err r) d still = Leaves-refusal reads r
 
-module _ (s : State) (is : IsBook s.book) where
+module _ (s : State) (is : IsBook s.book) (periods : AreShort s.configuration) where
   -- a job begins
   Leaves-begun : (t : CommandTurn) (p : Planner) (r : Option Refusal) → planner_for t.command.name ≡ Some p → refusal_by s.world s.book (moment_at s) t.command p ≡ r
       → is_within (length s.book.names) t.command.i ≡ true → is_within (length s.book.names) t.command.d ≡ true
@@ -302,6 +318,10 @@ module _ (s : State) (is : IsBook s.book) where
     begun-sound : HeldState s → SoundState s → IsQuiet s.world → SoundJobs (passing (flight_of s) (by_recoveries xs)) (s.jobs ++ map recovery_job xs)
     begun-sound h x q = recoveries-sound (length s.book.names) (flight_of s) s.jobs s.book.leases s.audit s.last_job xs each is.leases refl h x
 
+  -- the block period of a server's recovery isn't too long
+  short : (n : ServerNo) → period_by s.configuration (label_at s.book n) ≤ longest_block
+  short n = short-by s.configuration periods (label_at s.book n)
+
   Leaves-recovery : (r : Result RecoveryBegins Refusal) → ((x : RecoveryBegins) → r ≡ Ok x → CanBegin (length s.book.names) s.book.leases s.audit s.last_job x)
       → Leaves s (by_try r) (recovery_begun (numbers_of s) r)
   Leaves-recovery (Ok x) can =
@@ -310,25 +330,24 @@ module _ (s : State) (is : IsBook s.book) where
       record { flown = begun-flown xs each; may = begun-may xs each; well = recoveries-well (flight_of s) xs; held = begun-held xs each; sound = begun-sound xs each }
   Leaves-recovery (Err why) can = Leaves-refusal s s.reads why
 
-  Leaves-recovered : (i : ServerNo) → i.0 < length s.book.names → Leaves s (by_recovery s i) (recovered s.world s.book s.audit (numbers_of s) i)
+  Leaves-recovered : (i : ServerNo) → i.0 < length s.book.names → Leaves s (by_recovery s i) (recovered s.world s.book s.audit s.configuration (numbers_of s) i)
   Leaves-recovered i within =
-      Leaves-recovery (recovery_try s.world s.book s.audit (by_hand (numbers_of s)) s.configuration.wait (s.last_job + 1) i)
-      (λ x e. recovery-begins s.world s.book s.audit (by_hand (numbers_of s)) s.configuration.wait s.last_job is i x within e)
+      Leaves-recovery (recovery_try s.world s.book s.audit (by_hand s.book s.configuration (numbers_of s) i) s.configuration.wait (s.last_job + 1) i)
+      (λ x e. recovery-begins s.world s.book s.audit (by_hand s.book s.configuration (numbers_of s) i) s.configuration.wait s.last_job is (short i) i x within e)
 
   Leaves-taken_over : (d : Option ServerNo) → is_within (length s.book.names) d ≡ true → (i : ServerNo) → i.0 < length s.book.names
-      → Leaves s (by_takeover s d i) (taken_over s.world s.book s.audit (numbers_of s) d i)
+      → Leaves s (by_takeover s d i) (taken_over s.world s.book s.audit s.configuration (numbers_of s) d i)
   Leaves-taken_over None there i within = Leaves-refusal s s.reads UnknownInstance
   Leaves-taken_over (Some d) there i within =
-      Leaves-recovery (takeover_try s.world s.book s.audit (by_hand (numbers_of s)) s.configuration.wait (s.last_job + 1) i d)
-      (λ x e. takeover-begins s.world s.book s.audit (by_hand (numbers_of s)) s.configuration.wait s.last_job is i d x within (ltb-true d.0 (length s.book.names) there) e)
+      Leaves-recovery (takeover_try s.world s.book s.audit (by_hand s.book s.configuration (numbers_of s) i) s.configuration.wait (s.last_job + 1) i d)
+      (λ x e. takeover-begins s.world s.book s.audit (by_hand s.book s.configuration (numbers_of s) i) s.configuration.wait s.last_job is (short i) i d x within (ltb-true d.0 (length s.book.names) there) e)
 
   -- ---- a scan
 
   scan-leaves : Leaves s (by_recoveries (recoveries_scanned s)) (scan_outcome s)
   scan-leaves =
-      let attempt = attempt_of s.configuration.master s.configuration.intermediate (terms_of s.book (numbers_of s)) in
       let xs = recoveries_scanned s in
-      let each = scan-in-turn s.world s.book attempt s.configuration.wait s.audit s.last_job is in
+      let each = scan-in-turn s.world s.book (attempt_in s) s.configuration.wait s.audit s.last_job is short in
       record { flown = begun-flown xs each; may = begun-may xs each; well = recoveries-well (flight_of s) xs; held = begun-held xs each; sound = begun-sound xs each }
 
   -- ---- any command
@@ -342,7 +361,7 @@ module _ (s : State) (is : IsBook s.book) where
     given none passages some here each None within = here
     given none passages some here each (Some i) within = each i (ltb-true i.0 (length s.book.names) within)
 
-    Leaves-route : (r : Route) → route_of t.command.name ≡ r → Leaves s (by_route s t.command r) (outcome_by s.world s.book s.audit (numbers_of s) t r)
+    Leaves-route : (r : Route) → route_of t.command.name ≡ r → Leaves s (by_route s t.command r) (outcome_by s.world s.book s.audit s.configuration (numbers_of s) t r)
     Leaves-route Discovers at =
         given (question s.book s.audit s.reads t) (by_discovery s) (λ i. discovered s.book s.reads (reading s i) (reading s i).seen) asks (λ i h. Leaves-discovered s i) t.command.i i_within
     Leaves-route Forgets at =
@@ -353,16 +372,16 @@ module _ (s : State) (is : IsBook s.book) where
         Leaves-decided s s.reads s.audit (permitted s.book t.command) (decided_of s.book s.audit (moment_at s) t.keys t.command.i d) (decided-still s.book s.audit (moment_at s) t.keys t.command.i d)
     Leaves-route (Begins p) at = Leaves-begun t p (refusal_by s.world s.book (moment_at s) t.command p) (ap planner_of at) refl i_within d_within
     Leaves-route Recovers at =
-        given (refusal s.reads UnknownInstance) (by_recovery s) (recovered s.world s.book s.audit (numbers_of s)) (Leaves-refusal s s.reads UnknownInstance) Leaves-recovered t.command.i i_within
+        given (refusal s.reads UnknownInstance) (by_recovery s) (recovered s.world s.book s.audit s.configuration (numbers_of s)) (Leaves-refusal s s.reads UnknownInstance) Leaves-recovered t.command.i i_within
     Leaves-route TakesOver at =
-        given (refusal s.reads UnknownInstance) (by_takeover s t.command.d) (taken_over s.world s.book s.audit (numbers_of s) t.command.d) (Leaves-refusal s s.reads UnknownInstance)
+        given (refusal s.reads UnknownInstance) (by_takeover s t.command.d) (taken_over s.world s.book s.audit s.configuration (numbers_of s) t.command.d) (Leaves-refusal s s.reads UnknownInstance)
         (Leaves-taken_over t.command.d d_within) t.command.i i_within
 
 pub Leaves-command : (count : ℕ) (s : State) (c : CommandTurn) → Ready count s → IsCommand count c → Leaves s (by_command s c.command) (command_outcome s c)
 unfolding outcome_of
 Leaves-command count s c ready command =
     let within = within-book count s ready c command in
-    Leaves-route s ready.book c within.0 within.1 (route_of c.command.name) refl
+    Leaves-route s ready.book ready.periods c within.0 within.1 (route_of c.command.name) refl
 
 pub Leaves-scan : (count : ℕ) (s : State) → Ready count s → Leaves s (by_recoveries (recoveries_scanned s)) (scan_outcome s)
-Leaves-scan count s ready = scan-leaves s ready.book
+Leaves-scan count s ready = scan-leaves s ready.book ready.periods

@@ -8,37 +8,43 @@ use Rattle.book_commands.specs.declared.decided.Decided.{Decided}
 use Rattle.book_commands.specs.declared.decided.Effect.{Effect}
 use Rattle.book_commands.specs.declared.decided.Effect.TheVariants as effect
 use Rattle.book_commands.specs.Decisions.{book_after as book_decided, decided_of, rows_of}
-use Rattle.opening_book.specs.Opening.{put_recovery}
-use Rattle.opening_book.proofs.Recoveries.{acking-small, audit-loaded, closing-small, last_id-within}
-use Rattle.instance_keeper.specs.declared.recovery.Recovery.{Recovery}
-use Rattle.instance_keeper.specs.declared.row.Change.{Change}
+use Rattle.kept_rows.specs.Recoveries.{put_recovery}
+use Rattle.opening_book.proofs.Recoveries.{acking-small, audit-loaded, closing-small, last_id-within, puts-loaded, Follow-given}
+use Rattle.kept_rows.specs.declared.recovery.Recovery.{Recovery}
+use Rattle.kept_rows.specs.declared.row.Change.{Change}
 use Rattle.std.proofs.lemmas.List.{length-map}
-use Rattle.instance_keeper.specs.declared.observation.Instance.{Instance}
-use Rattle.instance_keeper.specs.declared.observation.Observation.{Observation}
+use Rattle.kept_rows.specs.declared.observation.Instance.{Instance}
+use Rattle.kept_rows.specs.declared.observation.Observation.{Observation}
 use Rattle.server_words.specs.declared.status.Status.{Status as Seen}
-use Rattle.instance_keeper.specs.declared.row.Row.{Row}
-use Rattle.instance_keeper.specs.declared.row.Row.TheVariants as row
-use Rattle.instance_keeper.specs.declared.row.Change.TheVariants as change
-use Rattle.instance_keeper.specs.Book.{BookState, added_over, are_known, after_put, discovered_over, discovery_change, first_seen, fits, instance_at, observed_servers, renewal, renewed, renewed_book, seen_servers, store_change, stored_over}
+use Rattle.kept_rows.specs.declared.row.Row.{Row}
+use Rattle.kept_rows.specs.declared.row.Row.TheVariants as row
+use Rattle.kept_rows.specs.declared.row.Change.TheVariants as change
+use Rattle.kept_rows.specs.Servers.{are_known, fits, observed_servers, seen_servers}
+use Rattle.instance_keeper.specs.Book.{BookState, added_over, after_put, discovered_over, discovery_change, first_seen, instance_at, renewal, renewed, renewed_book, store_change, stored_over, IsBook}
 use Rattle.instance_keeper.specs.Bridges.{bridge_in, ringed}
-use Rattle.instance_keeper.specs.Rows.{changed, changed_by, IsRising}
-use Rattle.instance_keeper.specs.Same.{same_instance}
-use Rattle.instance_keeper.proofs.Same.{instance_is}
+use Rattle.kept_rows.specs.Rows.{changed, changed_by, IsRising}
+use Rattle.kept_rows.specs.Same.{same_instance}
+use Rattle.kept_rows.proofs.Same.{instance_is}
 use Rattle.opening_book.specs.Following.{Follow}
-use Rattle.opening_book.proofs.Following.{Follow-addition, Follow-change, Follow-loaded, Follow-opened, Follow-recoveries, Follow-rings, Takes, length-ringed}
+use Rattle.opening_book.proofs.Following.{Follow-addition, Follow-change, Follow-loaded, Follow-opened, Follow-recoveries, Follow-rings, PutsRecovery, Takes, length-ringed}
 use Rattle.scenarios.specs.declared.scenario.Scenario.{Scenario}
+use Rattle.turns.specs.declared.turn.Act.{Act}
+use Rattle.turns.specs.declared.turn.Act.TheVariants as act
 use Rattle.turns.specs.declared.turn.Turn.{Turn}
 use Rattle.turns.specs.declared.turn.Turn.TheVariants as turn
 use Rattle.commands.specs.declared.turn.CommandTurn.{CommandTurn}
-use Rattle.orch_core.specs.Polls.{changes_by, changes_of, command_outcome, numbers_of, slot_at}
+use Rattle.orch_core.specs.Polls.{act_changes, changes_by, changes_of, command_outcome, numbers_of, slot_at}
 use Rattle.jobs_in_flight.specs.Jobs.{book_turned, job_at, job_observation, stored, without_leases}
 use Rattle.orch_core.specs.Jobs.{turn_of, turned_at}
 use Rattle.recovery_core.specs.Begun.{leases_after}
 use Rattle.recovery_core.specs.Tries.{Begins as RecoveryBegins, recovery_try, takeover_try}
 use Rattle.orch_base.specs.declared.recovery.Ending.{Ending}
 use Rattle.orch_core.specs.Closings.{closing_changes, closing_of}
-use Rattle.orch_core.specs.Commands.{Outcome, about as given_or, asked, audit_updated, begun, by_hand, decided, discovered, entries_put, forgotten, next_reading, outcome_by, outcome_of, question, recovered, recovery_begun, refusal, removal, removal_refusal, taken_over, updated}
-use Rattle.orch_core.specs.Restarts.{interrupted_at, last_given, reloaded_audit, reloaded_book, restart_changes}
+use Rattle.orch_core.specs.Knowing.{Knowledge, updated}
+use Rattle.orch_core.specs.Commands.{Outcome, about as given_or, asked, begun, by_hand, decided, discovered, entries_put, forgotten, next_reading, outcome_by, outcome_of, question, recovered, recovery_begun, refusal, removal, removal_refusal, taken_over}
+use Rattle.orch_core.specs.Restarts.{interrupted_at, last_given, reloaded_audit, reloaded_book, reloaded_rows, restart_changes}
+use Rattle.orch_core.specs.Periods.{period_by}
+use Rattle.opening_book.specs.Opening.{blocks_given, loading}
 use Rattle.orch_core.proofs.Outcomes.{IsEffectFor, decided-effect}
 use Rattle.command_routes.specs.declared.route.Route.{Route}
 use Rattle.command_routes.specs.declared.route.Route.TheVariants.{Discovers, Forgets, Asks, Decides, Begins, Recovers, TakesOver}
@@ -49,22 +55,21 @@ use Rattle.commands.specs.declared.refusal.Refusal.{Refusal}
 use Rattle.commands.specs.declared.refusal.Refusal.TheVariants.{UnknownInstance}
 use Rattle.commands.specs.Turns.{is_within}
 use Rattle.asking_commands.specs.Answers.{allowed, lines_of, permitted}
-use Rattle.scenarios.specs.Scenarios.{IsScenario, settings_of}
-use Rattle.orch_core.specs.Scenarios.{loaded_audit, loaded_book, start, start_changes, start_moment, start_world}
+use Rattle.scenarios.specs.Scenarios.{IsScenario, period_of, settings_of}
+use Rattle.orch_core.specs.Scenarios.{loaded_audit, loaded_book, start, start_changes, start_moment, start_rows, start_world}
 use Rattle.opening_book.specs.Counting.{greatest_id}
 use Rattle.orch_base.specs.Memory.{next_count}
 use Rattle.orch_core.specs.States.{State, IsState}
-use Rattle.scenarios.specs.Turns.{IsCommand, IsTurn}
-use Rattle.orch_core.specs.Runs.{step}
+use Rattle.scenarios.specs.Turns.{IsAct, IsCommand, IsTurn}
+use Rattle.orch_core.specs.After.{after_act, step}
 use Rattle.orch_core.proofs.Servers.{servers-start}
 use Rattle.orch_core.proofs.Starts.{all-missing, all-opening, all-registering, opened-is, sources-start}
 use Rattle.orch_core.proofs.States.{reading_known, names-loaded}
 use Rattle.orch_base.specs.declared.server.Moment.{Moment}
-use Rattle.std.proofs.lemmas.List.Elements.{All-cons, All-map, All-nil, All-weaker}
+use Rattle.std.proofs.lemmas.List.Elements.{All-append, All-cons, All-map, All-nil, All-weaker}
 use Rattle.std.proofs.lemmas.List.Sums.{fold-append}
 use Rattle.command_routes.specs.declared.route.Planner.{Planner}
 use Rattle.command_jobs.specs.Jobs.{job_by, leases_by, refusal_by}
-use Rattle.instance_keeper.specs.Book.{IsBook}
 use Rattle.instance_keeper.specs.Leases.{given_back, taken}
 use Rattle.instance_keeper.proofs.Books.{leases_set}
 use Rattle.unended_jobs.specs.declared.unended.Unended.{Unended}
@@ -74,10 +79,12 @@ use Rattle.run_laws.proofs.Readiness.{job-sees}
 use Rattle.operations.specs.Turns.{is_going, observed}
 use Rattle.job_laws.proofs.Lists.{All-at}
 use Rattle.orch_core.specs.States.{IsSlot}
+use Rattle.orch_core.specs.Settling.{known_of}
 use Rattle.run_laws.specs.Begins.{entries_of}
 use Rattle.run_laws.proofs.BegunInTurn.{length-after, length-taken}
 use Rattle.run_laws.proofs.ReadyOutcomes.{within-both}
-use Rattle.run_laws.specs.Ready.{Ready}
+use Rattle.run_laws.specs.Ready.{AreShort, Ready}
+use Rattle.run_laws.proofs.Periods.{short-by}
 use Rattle.run_laws.proofs.Ready.{observed-known, put-kept}
 use Rattle.run_laws.proofs.Beginnings.{small-ids}
 use Rattle.run_laws.proofs.Closings.{end-puts, end-small, end_changes, ended_as, turned-ends}
@@ -105,11 +112,15 @@ module _ (s : Scenario) (wait : ℕ) (rows : List Row) (is : IsScenario s) where
   takes-start =
       let count = length (loaded_book s rows).names in
       let P : Change → Type 0 = Takes count in
-      all-opening P (start_world s) (start_moment s rows) (loaded_book s rows) s.known s.rules (loaded_audit s rows)
+      let given = blocks_given (period_of s) (start_rows s rows) in
+      let ended = closing (loaded_audit s rows) (start_moment s rows) in
+      let most = is.checked.listed.few in
+      all-opening P (start_world s) (start_moment s rows) (loaded_book s rows) s.known s.rules (loading (period_of s) (start_rows s rows) (loaded_audit s rows) (start_moment s rows))
       (all-missing P count (λ i h. (h, tt, tt)) (start_world s) (start_moment s rows) (loaded_book s rows) (sources-start s is) (servers-same ∙ sym names-same) s.known)
       (all-registering P count (λ c h. (h, tt, tt)) (start_moment s rows) (loaded_book s rows) s.rules (is.rules ∙ sym names-same))
-      (All-map P put_recovery (closing (loaded_audit s rows) (start_moment s rows))
-      (All-weaker (λ (r : Recovery). r.id < 2 ^ 64) (λ r. P (put_recovery r)) (λ r h. (refl, tt, h)) (closing (loaded_audit s rows) (start_moment s rows)) small-ends))
+      (All-append P given (map put_recovery ended)
+      (All-weaker PutsRecovery P (λ c puts. subst P (sym puts.2) (refl, tt, puts.1)) given (puts-loaded (period_of s) (length s.opening.servers) greatest_id rows (omega (arith, most)) (omega arith)))
+      (All-map P put_recovery ended (All-weaker (λ (r : Recovery). r.id < 2 ^ 64) (λ r. P (put_recovery r)) (λ r h. (refl, tt, h)) ended small-ends)))
 
   pub Follow-start : IsRising rows → Follow (changed rows (start_changes s rows)) (start s wait rows).book
   Follow-start rising =
@@ -219,15 +230,18 @@ module _ (rows : List Row) (count : ℕ) (s : State) (id : ℕ) (ready : Ready c
       (λ entry e acked closes there. Follow-ending (changed rows cs) (book_turned s.book id (turned_at s id)) s.audit (moment_at s) entry e acked is small (Follow-seen (job_at s.jobs id) refl)))
 
 -- what a command makes of the book, and the changes of the kept rows
-abbrev Follows-outcome : List Row → BookState → Outcome → Type 0
-Follows-outcome rows b o = Follow (changed rows o.rows) (updated b o.book)
+abbrev Follows-outcome : List Row → Knowledge → Outcome → Type 0
+Follows-outcome rows k o = Follow (changed rows o.rows) (updated k o.book).book
 
-module _ (rows : List Row) (b : BookState) (reads : ℕ) (follow : Follow rows b) where
-  Follow-asked : (p : Result Unit Refusal) (lines : List Line) → Follows-outcome rows b (asked reads p lines)
+module _ (rows : List Row) (k : Knowledge) (reads : ℕ) (follow : Follow rows k.book) where
+  abbrev b : BookState
+  b = k.book
+
+  Follow-asked : (p : Result Unit Refusal) (lines : List Line) → Follows-outcome rows k (asked reads p lines)
   Follow-asked (Ok permit) lines = follow
   Follow-asked (Err r) lines = follow
 
-  Follow-forgotten : (p : Result Unit Refusal) (i : ServerNo) → nat_lt i.0 (length b.names) ≡ true → Follows-outcome rows b (forgotten reads p i)
+  Follow-forgotten : (p : Result Unit Refusal) (i : ServerNo) → nat_lt i.0 (length b.names) ≡ true → Follows-outcome rows k (forgotten reads p i)
   Follow-forgotten (Ok permit) i known =
       let within = ltb-true i.0 (length b.names) known in
       let small = follow.book.small in
@@ -235,7 +249,7 @@ module _ (rows : List Row) (b : BookState) (reads : ℕ) (follow : Follow rows b
       Follow-change rows b (removal i) follow fit (omega (arith, within, small))
   Follow-forgotten (Err r) i known = follow
 
-  Follow-discovered : (o : Observation) → are_known (length b.names) (observed_servers o) ≡ true → (x : Option Seen) → o.seen ≡ x → Follows-outcome rows b (discovered b reads o x)
+  Follow-discovered : (o : Observation) → are_known (length b.names) (observed_servers o) ≡ true → (x : Option Seen) → o.seen ≡ x → Follows-outcome rows k (discovered b reads o x)
   Follow-discovered o known None at = follow
   Follow-discovered o known (Some seen) at = Follow-discovery rows b o follow known seen at (instance_at b o.no) refl
 
@@ -245,16 +259,16 @@ module _ (rows : List Row) (b : BookState) (reads : ℕ) (follow : Follow rows b
   Follow-effect a (effect.Change c) is small fits = Follow-change rows b c follow fits.0 fits.1
   Follow-effect a (effect.Acks cluster) is small fits = Follow-recoveries rows b (acking a cluster) (acking-small a cluster is small) follow
 
-  Follow-decided : (a : AuditState) (p : Result Unit Refusal) (d : Decided) → IsAudit a → a.next ≤ 2 ^ 64 → IsEffectFor (length b.names) d.effect → Follows-outcome rows b (decided reads a p d)
+  Follow-decided : (a : AuditState) (p : Result Unit Refusal) (d : Decided) → IsAudit a → a.next ≤ 2 ^ 64 → IsEffectFor (length b.names) d.effect → Follows-outcome rows k (decided reads a p d)
   Follow-decided a (Ok permit) d is small fits = Follow-effect a d.effect is small fits
   Follow-decided a (Err r) d is small fits = follow
 
   -- a recovery that begins
-  Follow-recovery : (a : AuditState) (s : State) (r : Result RecoveryBegins Refusal) → (audit_updated a (recovery_begun (numbers_of s) r).book).next ≤ 2 ^ 64 → Follows-outcome rows b (recovery_begun (numbers_of s) r)
-  Follow-recovery a s (Ok x) most =
+  Follow-recovery : (s : State) (r : Result RecoveryBegins Refusal) → (updated k (recovery_begun (numbers_of s) r).book).audit.next ≤ 2 ^ 64 → Follows-outcome rows k (recovery_begun (numbers_of s) r)
+  Follow-recovery s (Ok x) most =
       let less : x.entry.id + 1 ≤ 2 ^ 64 = most in
       Follow-begins rows b (x ∷ []) (All-cons (λ (r : Recovery). r.id < 2 ^ 64) x.entry [] (omega (arith, less)) (All-nil (λ (r : Recovery). r.id < 2 ^ 64))) follow
-  Follow-recovery a s (Err why) most = follow
+  Follow-recovery s (Err why) most = follow
 
 -- what a command is given is of the book
 pub within-given : (count : ℕ) (s : State) (c : CommandTurn) → Ready count s → IsCommand count c → is_within (length s.book.names) c.command.i ≡ true
@@ -266,85 +280,90 @@ reading-known count s i ready h =
     subst (λ (n : ℕ). are_known n (observed_servers (next_reading s.world (numbers_of s) i)) ≡ true) same
     (reading_known s.world i (next_count s.reads) s.moment ready.sources (subst (λ (n : ℕ). i.0 < n) (sym same) h))
 
-Follow-command : (rows : List Row) (count : ℕ) (s : State) (c : CommandTurn) → Ready count s → IsAudit s.audit → s.audit.next ≤ 2 ^ 64 → (audit_updated s.audit (command_outcome s c).book).next ≤ 2 ^ 64 → IsCommand count c
-    → Follow rows s.book → Follow (changed rows (command_outcome s c).rows) (updated s.book (command_outcome s c).book)
+Follow-command : (rows : List Row) (count : ℕ) (s : State) (c : CommandTurn) → Ready count s → IsAudit s.audit → s.audit.next ≤ 2 ^ 64 → (updated (known_of s) (command_outcome s c).book).audit.next ≤ 2 ^ 64 → IsCommand count c
+    → Follow rows s.book → Follow (changed rows (command_outcome s c).rows) (updated (known_of s) (command_outcome s c).book).book
 unfolding outcome_of
 Follow-command rows count s c ready audit small most command follow = by (route_of c.command.name) most
   where
-    asks : Follows-outcome rows s.book (question s.book s.audit s.reads c)
-    asks = Follow-asked rows s.book s.reads follow (permitted s.book c.command) (lines_of s.book s.audit.recoveries c c.command.name)
+    asks : Follows-outcome rows (known_of s) (question s.book s.audit s.reads c)
+    asks = Follow-asked rows (known_of s) s.reads follow (permitted s.book c.command) (lines_of s.book s.audit.recoveries c c.command.name)
 
-    given : (some : ServerNo → Outcome) → ((i : ServerNo) → nat_lt i.0 (length s.book.names) ≡ true → Follows-outcome rows s.book (some i)) → (i : Option ServerNo) → is_within (length s.book.names) i ≡ true
-        → Follows-outcome rows s.book (given_or (question s.book s.audit s.reads c) some i)
+    given : (some : ServerNo → Outcome) → ((i : ServerNo) → nat_lt i.0 (length s.book.names) ≡ true → Follows-outcome rows (known_of s) (some i)) → (i : Option ServerNo) → is_within (length s.book.names) i ≡ true
+        → Follows-outcome rows (known_of s) (given_or (question s.book s.audit s.reads c) some i)
     given some each None within = asks
     given some each (Some i) within = each i within
 
-    begins : (p : Planner) (r : Option Refusal) → Follows-outcome rows s.book (begun (numbers_of s) r (leases_by s.world s.book c.command p) (job_by s.world s.book c.command p (s.last_job + 1) s.configuration.wait))
+    begins : (p : Planner) (r : Option Refusal) → Follows-outcome rows (known_of s) (begun (numbers_of s) r (leases_by s.world s.book c.command p) (job_by s.world s.book c.command p (s.last_job + 1) s.configuration.wait))
     begins p (Some why) = follow
     begins p None =
         let list = leases_by s.world s.book c.command p in
         let number = number_of (job_by s.world s.book c.command p (s.last_job + 1) s.configuration.wait) in
         Follow-leases rows s.book (taken s.book.leases list number) (length-taken list s.book.leases number) follow
 
-    recovers : (i : Option ServerNo) → (audit_updated s.audit (given_or (refusal s.reads UnknownInstance) (recovered s.world s.book s.audit (numbers_of s)) i).book).next ≤ 2 ^ 64
-        → Follows-outcome rows s.book (given_or (refusal s.reads UnknownInstance) (recovered s.world s.book s.audit (numbers_of s)) i)
+    recovers : (i : Option ServerNo) → (updated (known_of s) (given_or (refusal s.reads UnknownInstance) (recovered s.world s.book s.audit s.configuration (numbers_of s)) i).book).audit.next ≤ 2 ^ 64
+        → Follows-outcome rows (known_of s) (given_or (refusal s.reads UnknownInstance) (recovered s.world s.book s.audit s.configuration (numbers_of s)) i)
     recovers None most = follow
     recovers (Some i) most =
-        Follow-recovery rows s.book s.reads follow s.audit s (recovery_try s.world s.book s.audit (by_hand (numbers_of s)) s.configuration.wait (s.last_job + 1) i) most
+        Follow-recovery rows (known_of s) s.reads follow s (recovery_try s.world s.book s.audit (by_hand s.book s.configuration (numbers_of s) i) s.configuration.wait (s.last_job + 1) i) most
 
-    takes : (i : ServerNo) (d : Option ServerNo) → (audit_updated s.audit (taken_over s.world s.book s.audit (numbers_of s) d i).book).next ≤ 2 ^ 64 → Follows-outcome rows s.book (taken_over s.world s.book s.audit (numbers_of s) d i)
+    takes : (i : ServerNo) (d : Option ServerNo) → (updated (known_of s) (taken_over s.world s.book s.audit s.configuration (numbers_of s) d i).book).audit.next ≤ 2 ^ 64 → Follows-outcome rows (known_of s) (taken_over s.world s.book s.audit s.configuration (numbers_of s) d i)
     takes i None most = follow
     takes i (Some d) most =
-        Follow-recovery rows s.book s.reads follow s.audit s (takeover_try s.world s.book s.audit (by_hand (numbers_of s)) s.configuration.wait (s.last_job + 1) i d) most
+        Follow-recovery rows (known_of s) s.reads follow s (takeover_try s.world s.book s.audit (by_hand s.book s.configuration (numbers_of s) i) s.configuration.wait (s.last_job + 1) i d) most
 
-    takes-over : (i d : Option ServerNo) → (audit_updated s.audit (given_or (refusal s.reads UnknownInstance) (taken_over s.world s.book s.audit (numbers_of s) d) i).book).next ≤ 2 ^ 64
-        → Follows-outcome rows s.book (given_or (refusal s.reads UnknownInstance) (taken_over s.world s.book s.audit (numbers_of s) d) i)
+    takes-over : (i d : Option ServerNo) → (updated (known_of s) (given_or (refusal s.reads UnknownInstance) (taken_over s.world s.book s.audit s.configuration (numbers_of s) d) i).book).audit.next ≤ 2 ^ 64
+        → Follows-outcome rows (known_of s) (given_or (refusal s.reads UnknownInstance) (taken_over s.world s.book s.audit s.configuration (numbers_of s) d) i)
     takes-over None d most = follow
     takes-over (Some i) d most = takes i d most
 
-    by : (r : Route) → (audit_updated s.audit (outcome_by s.world s.book s.audit (numbers_of s) c r).book).next ≤ 2 ^ 64 → Follows-outcome rows s.book (outcome_by s.world s.book s.audit (numbers_of s) c r)
+    by : (r : Route) → (updated (known_of s) (outcome_by s.world s.book s.audit s.configuration (numbers_of s) c r).book).audit.next ≤ 2 ^ 64 → Follows-outcome rows (known_of s) (outcome_by s.world s.book s.audit s.configuration (numbers_of s) c r)
     by Discovers most =
         given (λ i. discovered s.book s.reads (next_reading s.world (numbers_of s) i) (next_reading s.world (numbers_of s) i).seen)
-        (λ i h. Follow-discovered rows s.book s.reads follow (next_reading s.world (numbers_of s) i) (reading-known count s i ready (ltb-true i.0 (length s.book.names) h)) (next_reading s.world (numbers_of s) i).seen refl)
+        (λ i h. Follow-discovered rows (known_of s) s.reads follow (next_reading s.world (numbers_of s) i) (reading-known count s i ready (ltb-true i.0 (length s.book.names) h)) (next_reading s.world (numbers_of s) i).seen refl)
         c.command.i (within-given count s c ready command)
-    by Forgets most = given (forgotten s.reads (allowed (removal_refusal s.book c.command))) (Follow-forgotten rows s.book s.reads follow (allowed (removal_refusal s.book c.command))) c.command.i (within-given count s c ready command)
+    by Forgets most = given (forgotten s.reads (allowed (removal_refusal s.book c.command))) (Follow-forgotten rows (known_of s) s.reads follow (allowed (removal_refusal s.book c.command))) c.command.i (within-given count s c ready command)
     by (Asks q) most = asks
     by (Decides d) most =
-        Follow-decided rows s.book s.reads follow s.audit (permitted s.book c.command) (decided_of s.book s.audit (moment_at s) c.keys c.command.i d) audit small
+        Follow-decided rows (known_of s) s.reads follow s.audit (permitted s.book c.command) (decided_of s.book s.audit (moment_at s) c.keys c.command.i d) audit small
         (decided-effect s.book (length s.book.names) follow.book.small s.audit (moment_at s) c.keys c.command.i d (within-given count s c ready command))
     by (Begins p) most = begins p (refusal_by s.world s.book (moment_at s) c.command p)
     by Recovers most = recovers c.command.i most
     by TakesOver most = takes-over c.command.i c.command.d most
 
-Follow-restart : (rows : List Row) (s : State) → IsAudit s.audit → s.audit.next ≤ 2 ^ 64 → Follow rows s.book → Follow (changed rows (restart_changes rows s)) (reloaded_book rows s)
-Follow-restart rows s audit small follow =
+Follow-restart : (rows : List Row) (s : State) → AreShort s.configuration → IsAudit s.audit → s.audit.next ≤ 2 ^ 64 → Follow rows s.book → Follow (changed rows (restart_changes rows s)) (reloaded_book rows s)
+Follow-restart rows s periods audit small follow =
     let count = ap length follow.book.named ∙ length-map s.book.settings (λ x. x.name) in
     let few = follow.book.small in
     let first = audit.first in
-    let is = audit-loaded (length s.book.settings) s.audit.next (last_given s) rows (omega (arith, count, few)) first small (omega (arith, first)) in
-    Follow-recoveries rows (reloaded_book rows s) (closing (reloaded_audit rows s) (interrupted_at rows s)) (closing-small (reloaded_audit rows s) (interrupted_at rows s) is small)
-    (Follow-loaded s.book.settings (last_given s) rows (omega (arith, count, few)) follow.rising)
+    let period = period_by s.configuration in
+    let given = blocks_given period (reloaded_rows rows s) in
+    let ended = closing (reloaded_audit rows s) (interrupted_at rows s) in
+    let is = audit-loaded period (short-by s.configuration periods) (length s.book.settings) s.audit.next (last_given s) rows (omega (arith, count, few)) first small (omega (arith, first)) in
+    subst (λ (xs : List Row). Follow xs (reloaded_book rows s)) (sym (fold-append changed_by rows given (map put_recovery ended)))
+    (Follow-recoveries (changed rows given) (reloaded_book rows s) ended (closing-small (reloaded_audit rows s) (interrupted_at rows s) is small)
+    (Follow-given period rows rows (reloaded_book rows s) (length s.book.settings) (last_given s) (omega (arith, count, few)) (omega (arith, first, small))
+    (Follow-loaded s.book.settings (last_given s) rows (omega (arith, count, few)) follow.rising)))
+
+Follow-act : (count : ℕ) (rows : List Row) (s : State) (a : Act) → Ready count s → IsAudit s.audit → (after_act rows s a).audit.next ≤ 2 ^ 64 → IsAct count a → Follow rows s.book
+    → Follow (changed rows (act_changes rows s a)) (after_act rows s a).book
+Follow-act count rows s (act.PollRead p n) is audit most within follow = follow
+Follow-act count rows s (act.PollStore p) is audit most within follow =
+    let known : IsSlot count (slot_at s p) = All-at (IsSlot count) s.slots p None tt is.observed in
+    Follow-stored rows s.book (slot_at s p) follow (subst (λ n. IfSome (slot_at s p) (λ o. are_known n (observed_servers o) ≡ true)) (sym is.names) known)
+Follow-act count rows s (act.Command c) is audit most within follow =
+    Follow-command rows count s c is audit (let on = next-goes-on rows s (turn.Act (act.Command c)) in omega (arith, on, most)) most within follow
+Follow-act count rows s (act.Job job) is audit most within follow = Follow-job rows count s job is follow audit (let on = next-goes-on rows s (turn.Act (act.Job job)) in omega (arith, on, most))
+Follow-act count rows s act.Scan is audit most within follow = Follow-begins rows s.book (recoveries_begun s (turn.Act act.Scan)) (small-ids s (turn.Act act.Scan) most) follow
+Follow-act count rows s act.Restart is audit most within follow = Follow-restart rows s is.periods audit most follow
 
 pub Follow-turn : (count : ℕ) (rows : List Row) (s : State) (t : Turn) → Ready count s → IsAudit s.audit → (step rows s t).audit.next ≤ 2 ^ 64 → IsTurn count t → Follow rows s.book
     → Follow (changed rows (changes_of rows s t)) (step rows s t).book
-Follow-turn count rows s (turn.Write n size) is audit most within follow = follow
-Follow-turn count rows s (turn.Fetch n) is audit most within follow = follow
-Follow-turn count rows s (turn.Apply n) is audit most within follow = follow
-Follow-turn count rows s (turn.Fail n) is audit most within follow = follow
-Follow-turn count rows s (turn.Heal n) is audit most within follow = follow
-Follow-turn count rows s (turn.Cut n link) is audit most within follow = follow
-Follow-turn count rows s (turn.Join n link) is audit most within follow = follow
-Follow-turn count rows s (turn.Rotate n) is audit most within follow = follow
+Follow-turn count rows s (turn.Step x) is audit most within follow = follow
 Follow-turn count rows s (turn.Tick seconds) is audit most within follow = follow
-Follow-turn count rows s (turn.Job job) is audit most within follow = Follow-job rows count s job is follow audit (let on = next-goes-on rows s (turn.Job job) in omega (arith, on, most))
-Follow-turn count rows s turn.Scan is audit most within follow = Follow-begins rows s.book (recoveries_begun s turn.Scan) (small-ids s turn.Scan most) follow
-Follow-turn count rows s (turn.PollRead p n) is audit most within follow = follow
-Follow-turn count rows s (turn.PollStore p) is audit most within follow =
-    let known : IsSlot count (slot_at s p) = All-at (IsSlot count) s.slots p None tt is.observed in
-    Follow-stored rows s.book (slot_at s p) follow (subst (λ n. IfSome (slot_at s p) (λ o. are_known n (observed_servers o) ≡ true)) (sym is.names) known)
-Follow-turn count rows s (turn.Command c) is audit most within follow =
-    Follow-command rows count s c is audit (let on = next-goes-on rows s (turn.Command c) in omega (arith, on, most)) most within follow
-Follow-turn count rows s turn.Restart is audit most within follow = Follow-restart rows s audit most follow
+Follow-turn count rows s (turn.Act a) is audit most within follow = Follow-act count rows s a is audit most within follow
+Follow-turn count rows s (turn.As node a) is audit most within follow = absurd within
+Follow-turn count rows s (turn.Claim node) is audit most within follow = absurd within
+Follow-turn count rows s (turn.Release node) is audit most within follow = absurd within
 
 -- what states are, with a book
 pub ready-of : (s : State) → IsState s → IsBook s.book → Ready (length s.world.servers) s
@@ -356,6 +375,7 @@ ready-of s is book = record {
   observed = is.observed;
   sources = is.sources;
   jobs = All-weaker (IsUnended (length s.world.servers)) (IsReady (length s.world.servers)) (λ u range. job-ready (length s.world.servers) u range) s.jobs is.jobs;
+  periods = record { block = is.block; blocks = is.blocks };
 }
 
 pub Follow-step : (rows : List Row) (s : State) (t : Turn) → IsState s → IsTurn (length s.world.servers) t → (step rows s t).audit.next ≤ 2 ^ 64 → Follow rows s.book → Follow (changed rows (changes_of rows s t)) (step rows s t).book

@@ -4,9 +4,10 @@ use Rattle.std.specs.Prelude.{◌==◌, is_some, map}
 use Rattle.std.specs.Option.{option_map}
 use Rattle.std.proofs.lemmas.Bool.{false≢true}
 use Rattle.orch_base.specs.Memory.{next_count}
-use Rattle.instance_keeper.specs.declared.row.Row.{Row}
+use Rattle.kept_rows.specs.declared.row.Row.{Row}
 use Rattle.server_model.specs.Run.{run}
 use Rattle.server_model.specs.Worlds.{server_at}
+use Rattle.turns.specs.declared.turn.Act.TheVariants as act
 use Rattle.turns.specs.declared.turn.Turn.TheVariants as turn
 use Rattle.job_laws.specs.Leases.{IsLeased, job_at as core_at, leases_of}
 use Rattle.job_laws.specs.Flights.{job_turned}
@@ -22,7 +23,7 @@ use Rattle.unended_laws.proofs.Cores.{core-found}
 use Rattle.jobs_in_flight.proofs.Numbers.{found-number}
 use Rattle.jobs_in_flight.specs.Jobs.{is_open, job_at, job_exchanges, jobs_turned, most_turns}
 use Rattle.orch_core.specs.Jobs.{turn_of}
-use Rattle.orch_core.specs.Runs.{step}
+use Rattle.orch_core.specs.After.{step}
 use Rattle.orch_core.specs.States.{State}
 use Rattle.orch_core.proofs.Finishing.{fewer}
 use Rattle.job_laws.specs.Passages.{AllMayPass}
@@ -44,7 +45,7 @@ others-by s id m held apart (Some (unended.Plan j)) at may =
 others-by s id m held apart (Some (unended.Recovery r entry)) at may =
     unleased-run (leases_of s.book.leases) id s.world (turn_of s (unended.Recovery r entry)).exchanges m may.0.leases.exchanges apart
 
-pub others-stay : (rows : List Row) (s : State) (id m : ℕ) → HeldState s → (IsLeased (leases_of s.book.leases) id m → ⊥) → server_at (step rows s (turn.Job id)).world m ≡ server_at s.world m
+pub others-stay : (rows : List Row) (s : State) (id m : ℕ) → HeldState s → (IsLeased (leases_of s.book.leases) id m → ⊥) → server_at (step rows s (turn.Act (act.Job id))).world m ≡ server_at s.world m
 others-stay rows s id m held apart = others-by s id m held apart (job_at s.jobs id) refl (job-may s id held)
 
 -- a lease names an unended job
@@ -57,7 +58,7 @@ named-job us id found = go (job_at us id) refl
 
 -- ---- a job that goes on has fewer turns left
 
-pub fewer-left : (count : ℕ) (rows : List Row) (s : State) (id : ℕ) → Ready count s → is_open (step rows s (turn.Job id)).jobs id ≡ true → most_turns (step rows s (turn.Job id)).jobs id < most_turns s.jobs id
+pub fewer-left : (count : ℕ) (rows : List Row) (s : State) (id : ℕ) → Ready count s → is_open (step rows s (turn.Act (act.Job id))).jobs id ≡ true → most_turns (step rows s (turn.Act (act.Job id))).jobs id < most_turns s.jobs id
 fewer-left count rows s id ready open_ = go (job_at s.jobs id) refl open_
   where
     go : (o : Option Unended) → job_at s.jobs id ≡ o → is_open (jobs_turned s.jobs id (option_map (turn_of s) o)) id ≡ true

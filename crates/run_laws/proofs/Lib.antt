@@ -11,7 +11,9 @@ pub mod Routed
 pub mod FlownOutcomes
 pub mod Flown
 pub mod Openings
+pub mod Worlds
 pub mod Passing
+pub mod Periods
 pub mod Beginnings
 pub mod Logged
 pub mod Lines

@@ -37,7 +37,7 @@ counted last (e ∷ es) (x ∷ xs) (l ∷ ls) (inr (refused, rest)) = counted la
 
 module _ (w : World) (b : BookState) (by : ServerNo → Attempt) (wait : ℕ) where
   abbrev begins_at : Staged → Entry → Begins
-  begins_at s e = recovery_begins (record b { leases = s.leases }) s.audit (by e.no).now wait (s.last + 1) e.no
+  begins_at s e = recovery_begins (record b { leases = s.leases }) s.audit (by e.no).now (by e.no).block wait (s.last + 1) e.no
 
   abbrev after_by : Staged → Entry → Option Refusal → Staged
   after_by s e o = after_try s e (unless_refused o (begins_at s e))

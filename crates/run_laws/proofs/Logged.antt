@@ -16,16 +16,19 @@ use Rattle.commands.specs.declared.refusal.Refusal.{Refusal}
 use Rattle.commands.specs.declared.refusal.Refusal.TheVariants.{UnknownInstance}
 use Rattle.commands.specs.declared.turn.CommandTurn.{CommandTurn}
 use Rattle.instance_keeper.specs.Book.{BookState}
-use Rattle.instance_keeper.specs.declared.observation.Observation.{Observation}
+use Rattle.kept_rows.specs.declared.observation.Observation.{Observation}
 use Rattle.orch_base.specs.declared.server.ServerNo.{ServerNo}
 use Rattle.server_words.specs.declared.status.Status.{Status as Seen}
 use Rattle.recovery_core.specs.Begun.{audit_after}
 use Rattle.recovery_core.specs.Tries.{Begins as RecoveryBegins, recovery_try, takeover_try}
+use Rattle.turns.specs.declared.turn.Act.TheVariants as act
 use Rattle.turns.specs.declared.turn.Turn.TheVariants as turn
 use Rattle.unended_jobs.specs.declared.unended.Unended.{Unended}
-use Rattle.orch_core.specs.Commands.{Outcome, about as given_or, asked, audit_updated, begun as job_begun, by_hand, decided, discovered, forgotten, next_reading, outcome_by, outcome_of, question, recovered, recovery_begun, refusal, removal_refusal, taken_over}
+use Rattle.orch_core.specs.Commands.{Outcome, about as given_or, asked, begun as job_begun, by_hand, decided, discovered, forgotten, next_reading, outcome_by, outcome_of, question, recovered, recovery_begun, refusal, removal_refusal, taken_over}
 use Rattle.orch_core.specs.Polls.{command_outcome, numbers_of}
 use Rattle.orch_core.specs.States.{State}
+use Rattle.orch_core.specs.Settling.{known_of}
+use Rattle.orch_core.specs.Knowing.{updated}
 use Rattle.run_laws.specs.Entries.{recoveries_begun, recoveries_by, recoveries_of, takeovers_by, takeovers_of, tried}
 
 -- what a command makes of an audit: a cluster's recoveries are acknowledged, or these begin
@@ -35,7 +38,7 @@ Becomes a xs now = ((cluster : List ℕ) × (now ≡ acknowledged a cluster) × 
 module _ (s : State) (c : CommandTurn) where
   -- by an outcome
   abbrev By : List RecoveryBegins → Outcome → Type 0
-  By xs o = Becomes s.audit xs (audit_updated s.audit o.book)
+  By xs o = Becomes s.audit xs (updated (known_of s) o.book).audit
 
   by-discovered : (b : BookState) (reads : ℕ) (o : Observation) (x : Option Seen) → By [] (discovered b reads o x)
   by-discovered b reads o None = inr refl
@@ -66,15 +69,15 @@ module _ (s : State) (c : CommandTurn) where
   by-try (Ok x) = inr refl
   by-try (Err why) = inr refl
 
-  by-recovery : (i : Option ServerNo) → By (recoveries_of s i) (given_or (refusal s.reads UnknownInstance) (recovered s.world s.book s.audit (numbers_of s)) i)
+  by-recovery : (i : Option ServerNo) → By (recoveries_of s i) (given_or (refusal s.reads UnknownInstance) (recovered s.world s.book s.audit s.configuration (numbers_of s)) i)
   by-recovery None = inr refl
-  by-recovery (Some i) = by-try (recovery_try s.world s.book s.audit (by_hand (numbers_of s)) s.configuration.wait (s.last_job + 1) i)
+  by-recovery (Some i) = by-try (recovery_try s.world s.book s.audit (by_hand s.book s.configuration (numbers_of s) i) s.configuration.wait (s.last_job + 1) i)
 
-  by-taken : (i : ServerNo) (d : Option ServerNo) → By (takeovers_by s i d) (taken_over s.world s.book s.audit (numbers_of s) d i)
+  by-taken : (i : ServerNo) (d : Option ServerNo) → By (takeovers_by s i d) (taken_over s.world s.book s.audit s.configuration (numbers_of s) d i)
   by-taken i None = inr refl
-  by-taken i (Some d) = by-try (takeover_try s.world s.book s.audit (by_hand (numbers_of s)) s.configuration.wait (s.last_job + 1) i d)
+  by-taken i (Some d) = by-try (takeover_try s.world s.book s.audit (by_hand s.book s.configuration (numbers_of s) i) s.configuration.wait (s.last_job + 1) i d)
 
-  by-takeover : (i d : Option ServerNo) → By (takeovers_of s i d) (given_or (refusal s.reads UnknownInstance) (taken_over s.world s.book s.audit (numbers_of s) d) i)
+  by-takeover : (i d : Option ServerNo) → By (takeovers_of s i d) (given_or (refusal s.reads UnknownInstance) (taken_over s.world s.book s.audit s.configuration (numbers_of s) d) i)
   by-takeover None d = inr refl
   by-takeover (Some i) d = by-taken i d
 
@@ -85,7 +88,7 @@ module _ (s : State) (c : CommandTurn) where
   by-question : By [] (question s.book s.audit s.reads c)
   by-question = by-asked s.reads (permitted s.book c.command) (lines_of s.book s.audit.recoveries c c.command.name)
 
-  by-route : (r : Route) → By (recoveries_by s c.command r) (outcome_by s.world s.book s.audit (numbers_of s) c r)
+  by-route : (r : Route) → By (recoveries_by s c.command r) (outcome_by s.world s.book s.audit s.configuration (numbers_of s) c r)
   by-route Discovers =
       by-given (question s.book s.audit s.reads c) (λ i. discovered s.book s.reads (next_reading s.world (numbers_of s) i) (next_reading s.world (numbers_of s) i).seen) by-question
       (λ i. by-discovered s.book s.reads (next_reading s.world (numbers_of s) i) (next_reading s.world (numbers_of s) i).seen) c.command.i
@@ -100,6 +103,6 @@ module _ (s : State) (c : CommandTurn) where
   by-route Recovers = by-recovery c.command.i
   by-route TakesOver = by-takeover c.command.i c.command.d
 
-  pub command-becomes : Becomes s.audit (recoveries_begun s (turn.Command c)) (audit_updated s.audit (command_outcome s c).book)
+  pub command-becomes : Becomes s.audit (recoveries_begun s (turn.Act (act.Command c))) (updated (known_of s) (command_outcome s c).book).audit
   unfolding outcome_of
   command-becomes = by-route (route_of c.command.name)

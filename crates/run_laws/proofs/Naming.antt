@@ -12,7 +12,7 @@ use Rattle.commands.specs.declared.refusal.Refusal.{Refusal}
 use Rattle.commands.specs.declared.refusal.Refusal.TheVariants.{NoCandidate, NotMaster, NotReplica, UnknownInstance}
 use Rattle.name_order.specs.NameOrder.{by_name}
 use Rattle.instance_keeper.specs.Book.{BookState, instance_at}
-use Rattle.instance_keeper.specs.declared.observation.Instance.{Instance}
+use Rattle.kept_rows.specs.declared.observation.Instance.{Instance}
 use Rattle.book_views.specs.Sources.{is_attached_to, is_instance, is_replica_of, replicas_of, seen_source, source_in}
 use Rattle.audit_log.specs.Audits.{AuditState}
 use Rattle.failure_analysis.specs.Analysis.{counts_of, entry_of}
@@ -169,19 +169,19 @@ module _ (w : World) (b : BookState) (audit : AuditState) (a : Attempt) where
 
   pub recovery-names : (wait job : ℕ) (f : ServerNo) (x : Begins) → recovery_try w b audit a wait job f ≡ Ok x → NamesReplicasOnce b x
   recovery-names wait job f x h =
-      let parts = unrefused (recovery_refusal w b audit a f) (recovery_begins b audit a.now wait job f) x h in
+      let parts = unrefused (recovery_refusal w b audit a f) (recovery_begins b audit a.now a.block wait job f) x h in
       subst (NamesReplicasOnce b) parts.1 (record { replicas = refl; once = recovery-are f parts.0 })
 
   pub takeover-names : (wait job : ℕ) (i d : ServerNo) (x : Begins) → d.0 < length b.names → takeover_try w b audit a wait job i d ≡ Ok x → NamesReplicasOnce b x
   takeover-names wait job i d x within h =
-      let parts = unrefused (takeover_refusal w b audit a i d) (takeover_begins b audit a.now wait job i d) x h in
+      let parts = unrefused (takeover_refusal w b audit a i d) (takeover_begins b audit a.now a.block wait job i d) x h in
       subst (NamesReplicasOnce b) parts.1 (record { replicas = refl; once = takeover-are i d within parts.0 })
 
 -- ---- by a scan
 
 module _ (w : World) (b : BookState) (by : ServerNo → Attempt) (wait : ℕ) where
   abbrev begins_at : Staged → Entry → Begins
-  begins_at s e = recovery_begins (record b { leases = s.leases }) s.audit (by e.no).now wait (s.last + 1) e.no
+  begins_at s e = recovery_begins (record b { leases = s.leases }) s.audit (by e.no).now (by e.no).block wait (s.last + 1) e.no
 
   abbrev Names : Begins → Type 0
   Names x = NamesReplicasOnce b x

@@ -1,23 +1,22 @@
 -- A run begins held and sound: the bridges of an opening are those that the servers show.
 use Rattle.std.proofs.Common.{◌≡◌, ◌∙◌, ◌⊎◌, ℕ, Bool, true, false, List, [], ◌∷◌, length, refl, sym, ap, subst, Option, Some, None, inl, inr}
 use Rattle.std.specs.Prelude.{All, IfSome, ◌&&◌, is_none, slice_index_or, if◌then◌else◌}
-use Rattle.std.proofs.lemmas.List.Elements.{All-head, All-map, All-nil, All-replicate, All-set, All-tail}
-use Rattle.audit_log.specs.Audits.{closing}
+use Rattle.std.proofs.lemmas.List.Elements.{All-head, All-nil, All-replicate, All-set, All-tail}
 use Rattle.orch_base.specs.declared.rule.Rule.{Rule}
 use Rattle.orch_base.specs.declared.server.Moment.{Moment}
 use Rattle.orch_base.specs.declared.server.ServerNo.{ServerNo}
 use Rattle.server_words.specs.declared.status.StatusFault.TheVariants as seeing
 use Rattle.instance_keeper.specs.declared.bridge.Bridge.{Bridge}
-use Rattle.instance_keeper.specs.declared.row.Change.{Change}
-use Rattle.instance_keeper.specs.declared.row.Change.TheVariants as change
-use Rattle.instance_keeper.specs.declared.row.Row.{Row}
-use Rattle.instance_keeper.specs.declared.row.Row.TheVariants as row
+use Rattle.kept_rows.specs.declared.row.Change.{Change}
+use Rattle.kept_rows.specs.declared.row.Change.TheVariants as change
+use Rattle.kept_rows.specs.declared.row.Row.{Row}
+use Rattle.kept_rows.specs.declared.row.Row.TheVariants as row
 use Rattle.instance_keeper.specs.Book.{BookState}
 use Rattle.instance_keeper.specs.Bridges.{bridge_in, ring_at, ringed, with_bridge}
 use Rattle.instance_keeper.specs.Had.{has_row}
 use Rattle.opening_book.specs.Counting.{greatest_id}
-use Rattle.opening_book.specs.Opening.{after_opening, missing, opened_book, opening_instance, put_instance, put_recovery, registered, registering}
-use Rattle.instance_keeper.specs.Seeing.{seen_in}
+use Rattle.opening_book.specs.Opening.{after_opening, loading, missing, opened_book, opening_instance, put_instance, registered, registering}
+use Rattle.kept_rows.specs.Seeing.{seen_in}
 use Rattle.server_model.specs.declared.server.Server.{Server}
 use Rattle.server_model.specs.Gtids.{shown_of, status}
 use Rattle.server_model.specs.Safe.{Safe, Placed}
@@ -25,7 +24,7 @@ use Rattle.server_model.specs.Worlds.{World, server_at}
 use Rattle.replication_laws.proofs.Keeping.{Placed-safe}
 use Rattle.opening_laws.proofs.Openings.{Safe-opened}
 use Rattle.scenarios.specs.declared.scenario.Scenario.{Scenario}
-use Rattle.scenarios.specs.Scenarios.{IsScenario, flushes_of, room_of, settings_of}
+use Rattle.scenarios.specs.Scenarios.{IsScenario, flushes_of, period_of, room_of, settings_of}
 use Rattle.scenarios.specs.Turns.{pollers}
 use Rattle.job_laws.specs.Flights.{Held, Sound, IsShown, IsShownBridged, StandsIn, no_leases}
 use Rattle.job_laws.specs.Held.{HeldJob, Spans}
@@ -35,8 +34,8 @@ use Rattle.job_laws.proofs.Bridging.{stands-by}
 use Rattle.job_laws.proofs.Lists.{All-at, All-ring}
 use Rattle.job_laws.proofs.Showing.{Shows-seen, Bridged-seen}
 use Rattle.job_laws.proofs.Spanning.{spans-by}
-use Rattle.orch_core.specs.Scenarios.{loaded_audit, loaded_book, start, start_changes, start_moment, start_world}
-use Rattle.orch_core.proofs.Starts.{all-from, all-opening}
+use Rattle.orch_core.specs.Scenarios.{loaded_audit, loaded_book, start, start_changes, start_moment, start_rows, start_world}
+use Rattle.orch_core.proofs.Starts.{all-from, all-loading, all-opening}
 use Rattle.recovery_laws.specs.Rings.{AreOwn}
 use Rattle.recovery_laws.proofs.Ringed.{fresh-own, kept-own, shown-own}
 use Rattle.unended_laws.specs.Beside.{IsHeldBeside, IsSoundBeside}
@@ -87,8 +86,9 @@ Opens-start s rows =
     let at = start_moment s rows in
     let b = loaded_book s rows in
     let P : Change → Type 0 = Opens w at in
-    all-opening P w at b s.known s.rules (loaded_audit s rows) (all-from P (missing w at b) 0 s.known (λ n k h. Opens-missing w at b n k)) (all-from P (registering at b) 0 s.rules (λ n rule h. Opens-registering w at b n rule))
-    (All-map P put_recovery (closing (loaded_audit s rows) at) (λ k d h. inr (record { rings = λ b. refl; leases = λ b. refl })))
+    let a = loaded_audit s rows in
+    all-opening P w at b s.known s.rules (loading (period_of s) (start_rows s rows) a at) (all-from P (missing w at b) 0 s.known (λ n k h. Opens-missing w at b n k)) (all-from P (registering at b) 0 s.rules (λ n rule h. Opens-registering w at b n rule))
+    (all-loading P (period_of s) (start_rows s rows) a at (λ r. inr (record { rings = λ b. refl; leases = λ b. refl })))
 
 -- ---- the rings
 

@@ -4,17 +4,18 @@ use Rattle.std.proofs.Common.{ℕ, Bool, true, false, List, [], ◌∷◌, refl,
 use Rattle.std.specs.Prelude.{is_some, if◌then◌else◌}
 use Rattle.orch_base.specs.Memory.{next_count}
 use Rattle.orch_base.specs.declared.server.ServerNo.{ServerNo}
-use Rattle.instance_keeper.specs.declared.row.Row.{Row}
+use Rattle.kept_rows.specs.declared.row.Row.{Row}
 use Rattle.instance_keeper.specs.Book.{instance_at}
-use Rattle.server_words.specs.declared.changes.Event.TheVariants as event
-use Rattle.server_model.specs.Run.{Write, Fetch, Apply, Befall, Rotate}
 use Rattle.server_model.specs.Safe.{IsQuiet}
+use Rattle.turns.specs.declared.turn.Act.{Act}
+use Rattle.turns.specs.declared.turn.Act.TheVariants as act
+use Rattle.turns.specs.declared.turn.Step.{Step}
 use Rattle.turns.specs.declared.turn.Turn.{Turn}
 use Rattle.turns.specs.declared.turn.Turn.TheVariants as turn
-use Rattle.scenarios.specs.Turns.{IsTurn}
+use Rattle.scenarios.specs.Turns.{IsAct, IsStep, IsTurn}
 use Rattle.job_laws.specs.Flights.{Flight}
 use Rattle.job_laws.specs.Passages as pass
-use Rattle.job_laws.specs.Passages.{AllMayPass, AllPassWell, passing}
+use Rattle.job_laws.specs.Passages.{AllMayPass, AllPassWell, MayPass, passing}
 use Rattle.unended_laws.specs.Flights.{HeldJobs, SoundJobs}
 use Rattle.unended_laws.proofs.Beside.{apart-held, apart-sound, restart-held, restart-sound}
 use Rattle.unended_laws.proofs.Turning.{number-held, number-may, number-sound, number-well}
@@ -22,9 +23,11 @@ use Rattle.jobs_in_flight.specs.Jobs.{job_at, jobs_turned}
 use Rattle.std.specs.Option.{option_map}
 use Rattle.orch_core.specs.Jobs.{turn_of}
 use Rattle.orch_core.specs.Polls.{slot_at}
-use Rattle.orch_core.specs.Runs.{step}
+use Rattle.orch_core.specs.After.{after_act, step}
 use Rattle.orch_core.specs.States.{State}
-use Rattle.run_laws.specs.Flights.{by_job, flight_of, moment_at, passages_of, takes}
+use Rattle.orch_core.specs.Turns.{exchange_of}
+use Rattle.orch_core.proofs.States.{Allowed-step}
+use Rattle.run_laws.specs.Flights.{act_passages, by_job, flight_of, moment_at, passages_of, takes}
 use Rattle.run_laws.specs.States.{HeldState, SoundState}
 use Rattle.run_laws.proofs.Flown.{flown, poll-may}
 use Rattle.run_laws.proofs.FlownOutcomes.{Leaves-command, Leaves-scan}
@@ -64,81 +67,83 @@ module _ (s : State) (p : ℕ) (n : ServerNo) where
   poll-sound held sound true quiet = apart-sound (flight_of s) s.jobs (pass.Polling p n (next_count s.reads) (moment_at s)) tt tt quiet held sound
   poll-sound held sound false quiet = sound
 
+-- ---- what befalls a server
+
+pub step-may : (count : ℕ) (f : Flight) (x : Step) → IsStep count x → MayPass f (pass.Exchanging (exchange_of x))
+step-may count f x is = let fit = Allowed-step count f.world x is in (fit.0.0, fit.1.0)
+
 -- ---- every turn
 
+act-may : (count : ℕ) (s : State) (a : Act) → Ready count s → HeldState s → IsAct count a → AllMayPass (flight_of s) (act_passages s a)
+act-may count s (act.PollRead p n) ready held is = poll-may s p n (is_some (instance_at s.book n))
+act-may count s (act.PollStore p) ready held is = (tt, tt)
+act-may count s (act.Command c) ready held is = (Leaves-command count s c ready is).may
+act-may count s (act.Job job) ready held is = job-may s job held
+act-may count s act.Scan ready held is = (Leaves-scan count s ready).may
+act-may count s act.Restart ready held is = (tt, tt)
+
 pub may-pass : (count : ℕ) (s : State) (t : Turn) → Ready count s → HeldState s → IsTurn count t → AllMayPass (flight_of s) (passages_of s t)
-may-pass count s (turn.Write n size) ready held is = ((is.1, tt), tt)
-may-pass count s (turn.Fetch n) ready held is = ((tt, tt), tt)
-may-pass count s (turn.Apply n) ready held is = ((tt, tt), tt)
-may-pass count s (turn.Fail n) ready held is = ((tt, tt), tt)
-may-pass count s (turn.Heal n) ready held is = ((tt, tt), tt)
-may-pass count s (turn.Cut n link) ready held is = ((tt, tt), tt)
-may-pass count s (turn.Join n link) ready held is = ((tt, tt), tt)
-may-pass count s (turn.Rotate n) ready held is = ((tt, tt), tt)
+may-pass count s (turn.Step x) ready held is = (step-may count (flight_of s) x is, tt)
 may-pass count s (turn.Tick seconds) ready held is = tt
-may-pass count s (turn.Job job) ready held is = job-may s job held
-may-pass count s turn.Scan ready held is = (Leaves-scan count s ready).may
-may-pass count s (turn.PollRead p n) ready held is = poll-may s p n (is_some (instance_at s.book n))
-may-pass count s (turn.PollStore p) ready held is = (tt, tt)
-may-pass count s (turn.Command c) ready held is = (Leaves-command count s c ready is).may
-may-pass count s turn.Restart ready held is = (tt, tt)
+may-pass count s (turn.Act a) ready held is = act-may count s a ready held is
+may-pass count s (turn.As node a) ready held is = absurd is
+may-pass count s (turn.Claim node) ready held is = absurd is
+may-pass count s (turn.Release node) ready held is = absurd is
+
+act-well : (count : ℕ) (s : State) (a : Act) → Ready count s → HeldState s → SoundState s → IsAct count a → AllPassWell (flight_of s) (act_passages s a)
+act-well count s (act.PollRead p n) ready held sound is = poll-well s p n (is_some (instance_at s.book n))
+act-well count s (act.PollStore p) ready held sound is = (tt, tt)
+act-well count s (act.Command c) ready held sound is = (Leaves-command count s c ready is).well
+act-well count s (act.Job job) ready held sound is = job-well s job held sound
+act-well count s act.Scan ready held sound is = (Leaves-scan count s ready).well
+act-well count s act.Restart ready held sound is = (tt, tt)
 
 pub pass-well : (count : ℕ) (s : State) (t : Turn) → Ready count s → HeldState s → SoundState s → IsTurn count t → AllPassWell (flight_of s) (passages_of s t)
-pass-well count s (turn.Write n size) ready held sound is = (tt, tt)
-pass-well count s (turn.Fetch n) ready held sound is = (tt, tt)
-pass-well count s (turn.Apply n) ready held sound is = (tt, tt)
-pass-well count s (turn.Fail n) ready held sound is = (tt, tt)
-pass-well count s (turn.Heal n) ready held sound is = (tt, tt)
-pass-well count s (turn.Cut n link) ready held sound is = (tt, tt)
-pass-well count s (turn.Join n link) ready held sound is = (tt, tt)
-pass-well count s (turn.Rotate n) ready held sound is = (tt, tt)
+pass-well count s (turn.Step x) ready held sound is = (tt, tt)
 pass-well count s (turn.Tick seconds) ready held sound is = tt
-pass-well count s (turn.Job job) ready held sound is = job-well s job held sound
-pass-well count s turn.Scan ready held sound is = (Leaves-scan count s ready).well
-pass-well count s (turn.PollRead p n) ready held sound is = poll-well s p n (is_some (instance_at s.book n))
-pass-well count s (turn.PollStore p) ready held sound is = (tt, tt)
-pass-well count s (turn.Command c) ready held sound is = (Leaves-command count s c ready is).well
-pass-well count s turn.Restart ready held sound is = (tt, tt)
+pass-well count s (turn.Act a) ready held sound is = act-well count s a ready held sound is
+pass-well count s (turn.As node a) ready held sound is = absurd is
+pass-well count s (turn.Claim node) ready held sound is = absurd is
+pass-well count s (turn.Release node) ready held sound is = absurd is
 
 -- what a turn leaves, by its passages
+act-held : (count : ℕ) (rows : List Row) (s : State) (a : Act) → Ready count s → HeldState s → IsAct count a → HeldJobs (passing (flight_of s) (act_passages s a)) (after_act rows s a).jobs
+act-held count rows s (act.PollRead p n) ready held is = poll-held s p n held (is_some (instance_at s.book n))
+act-held count rows s (act.PollStore p) ready held is = apart-held (flight_of s) s.jobs (pass.Storing p (takes s.book (slot_at s p))) tt tt held
+act-held count rows s (act.Command c) ready held is = (Leaves-command count s c ready is).held held
+act-held count rows s (act.Job job) ready held is = job-held s job held
+act-held count rows s act.Scan ready held is = (Leaves-scan count s ready).held held
+act-held count rows s act.Restart ready held is = restart-held (flight_of s) s.jobs held
+
 goes-held : (count : ℕ) (rows : List Row) (s : State) (t : Turn) → Ready count s → HeldState s → IsTurn count t → HeldJobs (passing (flight_of s) (passages_of s t)) (step rows s t).jobs
-goes-held count rows s (turn.Write n size) ready held is = apart-held (flight_of s) s.jobs (pass.Exchanging (Write n.0 size)) (is.1, tt) tt held
-goes-held count rows s (turn.Fetch n) ready held is = apart-held (flight_of s) s.jobs (pass.Exchanging (Fetch n.0)) (tt, tt) tt held
-goes-held count rows s (turn.Apply n) ready held is = apart-held (flight_of s) s.jobs (pass.Exchanging (Apply n.0)) (tt, tt) tt held
-goes-held count rows s (turn.Fail n) ready held is = apart-held (flight_of s) s.jobs (pass.Exchanging (Befall n.0 event.Fail)) (tt, tt) tt held
-goes-held count rows s (turn.Heal n) ready held is = apart-held (flight_of s) s.jobs (pass.Exchanging (Befall n.0 event.Heal)) (tt, tt) tt held
-goes-held count rows s (turn.Cut n link) ready held is = apart-held (flight_of s) s.jobs (pass.Exchanging (Befall n.0 (event.Cut link))) (tt, tt) tt held
-goes-held count rows s (turn.Join n link) ready held is = apart-held (flight_of s) s.jobs (pass.Exchanging (Befall n.0 (event.Join link))) (tt, tt) tt held
-goes-held count rows s (turn.Rotate n) ready held is = apart-held (flight_of s) s.jobs (pass.Exchanging (Rotate n.0)) (tt, tt) tt held
+goes-held count rows s (turn.Step x) ready held is = apart-held (flight_of s) s.jobs (pass.Exchanging (exchange_of x)) (step-may count (flight_of s) x is) tt held
 goes-held count rows s (turn.Tick seconds) ready held is = held
-goes-held count rows s (turn.Job job) ready held is = job-held s job held
-goes-held count rows s turn.Scan ready held is = (Leaves-scan count s ready).held held
-goes-held count rows s (turn.PollRead p n) ready held is = poll-held s p n held (is_some (instance_at s.book n))
-goes-held count rows s (turn.PollStore p) ready held is = apart-held (flight_of s) s.jobs (pass.Storing p (takes s.book (slot_at s p))) tt tt held
-goes-held count rows s (turn.Command c) ready held is = (Leaves-command count s c ready is).held held
-goes-held count rows s turn.Restart ready held is = restart-held (flight_of s) s.jobs held
+goes-held count rows s (turn.Act a) ready held is = act-held count rows s a ready held is
+goes-held count rows s (turn.As node a) ready held is = absurd is
+goes-held count rows s (turn.Claim node) ready held is = absurd is
+goes-held count rows s (turn.Release node) ready held is = absurd is
+
+act-sound : (count : ℕ) (rows : List Row) (s : State) (a : Act) → Ready count s → HeldState s → SoundState s → IsAct count a → IsQuiet (passing (flight_of s) (act_passages s a)).world
+    → SoundJobs (passing (flight_of s) (act_passages s a)) (after_act rows s a).jobs
+act-sound count rows s (act.PollRead p n) ready held sound is quiet = poll-sound s p n held sound (is_some (instance_at s.book n)) quiet
+act-sound count rows s (act.PollStore p) ready held sound is quiet = apart-sound (flight_of s) s.jobs (pass.Storing p (takes s.book (slot_at s p))) tt tt quiet held sound
+act-sound count rows s (act.Command c) ready held sound is quiet =
+    let leaves = Leaves-command count s c ready is in
+    leaves.sound held sound (subst IsQuiet (sym (ap (λ (f : Flight). f.world) leaves.flown)) quiet)
+act-sound count rows s (act.Job job) ready held sound is quiet = job-sound s job held sound quiet
+act-sound count rows s act.Scan ready held sound is quiet =
+    let leaves = Leaves-scan count s ready in
+    leaves.sound held sound (subst IsQuiet (sym (ap (λ (f : Flight). f.world) leaves.flown)) quiet)
+act-sound count rows s act.Restart ready held sound is quiet = restart-sound (flight_of s) s.jobs sound
 
 goes-sound : (count : ℕ) (rows : List Row) (s : State) (t : Turn) → Ready count s → HeldState s → SoundState s → IsTurn count t → IsQuiet (passing (flight_of s) (passages_of s t)).world
     → SoundJobs (passing (flight_of s) (passages_of s t)) (step rows s t).jobs
-goes-sound count rows s (turn.Write n size) ready held sound is quiet = apart-sound (flight_of s) s.jobs (pass.Exchanging (Write n.0 size)) (is.1, tt) tt quiet held sound
-goes-sound count rows s (turn.Fetch n) ready held sound is quiet = apart-sound (flight_of s) s.jobs (pass.Exchanging (Fetch n.0)) (tt, tt) tt quiet held sound
-goes-sound count rows s (turn.Apply n) ready held sound is quiet = apart-sound (flight_of s) s.jobs (pass.Exchanging (Apply n.0)) (tt, tt) tt quiet held sound
-goes-sound count rows s (turn.Fail n) ready held sound is quiet = apart-sound (flight_of s) s.jobs (pass.Exchanging (Befall n.0 event.Fail)) (tt, tt) tt quiet held sound
-goes-sound count rows s (turn.Heal n) ready held sound is quiet = apart-sound (flight_of s) s.jobs (pass.Exchanging (Befall n.0 event.Heal)) (tt, tt) tt quiet held sound
-goes-sound count rows s (turn.Cut n link) ready held sound is quiet = apart-sound (flight_of s) s.jobs (pass.Exchanging (Befall n.0 (event.Cut link))) (tt, tt) tt quiet held sound
-goes-sound count rows s (turn.Join n link) ready held sound is quiet = apart-sound (flight_of s) s.jobs (pass.Exchanging (Befall n.0 (event.Join link))) (tt, tt) tt quiet held sound
-goes-sound count rows s (turn.Rotate n) ready held sound is quiet = apart-sound (flight_of s) s.jobs (pass.Exchanging (Rotate n.0)) (tt, tt) tt quiet held sound
+goes-sound count rows s (turn.Step x) ready held sound is quiet = apart-sound (flight_of s) s.jobs (pass.Exchanging (exchange_of x)) (step-may count (flight_of s) x is) tt quiet held sound
 goes-sound count rows s (turn.Tick seconds) ready held sound is quiet = sound
-goes-sound count rows s (turn.Job job) ready held sound is quiet = job-sound s job held sound quiet
-goes-sound count rows s turn.Scan ready held sound is quiet =
-    let leaves = Leaves-scan count s ready in
-    leaves.sound held sound (subst IsQuiet (sym (ap (λ (f : Flight). f.world) leaves.flown)) quiet)
-goes-sound count rows s (turn.PollRead p n) ready held sound is quiet = poll-sound s p n held sound (is_some (instance_at s.book n)) quiet
-goes-sound count rows s (turn.PollStore p) ready held sound is quiet = apart-sound (flight_of s) s.jobs (pass.Storing p (takes s.book (slot_at s p))) tt tt quiet held sound
-goes-sound count rows s (turn.Command c) ready held sound is quiet =
-    let leaves = Leaves-command count s c ready is in
-    leaves.sound held sound (subst IsQuiet (sym (ap (λ (f : Flight). f.world) leaves.flown)) quiet)
-goes-sound count rows s turn.Restart ready held sound is quiet = restart-sound (flight_of s) s.jobs sound
+goes-sound count rows s (turn.Act a) ready held sound is quiet = act-sound count rows s a ready held sound is quiet
+goes-sound count rows s (turn.As node a) ready held sound is quiet = absurd is
+goes-sound count rows s (turn.Claim node) ready held sound is quiet = absurd is
+goes-sound count rows s (turn.Release node) ready held sound is quiet = absurd is
 
 pub Held-step : (count : ℕ) (rows : List Row) (s : State) (t : Turn) → Ready count s → HeldState s → IsTurn count t → HeldState (step rows s t)
 Held-step count rows s t ready held is = subst (λ (f : Flight). HeldJobs f (step rows s t).jobs) (sym (flown count rows s t ready is)) (goes-held count rows s t ready held is)

@@ -2,9 +2,9 @@
 use Rattle.std.proofs.Common.{◌≡◌, ◌∙◌, ℕ, ◌+◌, Bool, List, [], ◌∷◌, ◌++◌, refl, sym, ap, subst, Option, Some, None, Ok}
 use Rattle.std.specs.Prelude.{is_some, if◌then◌else◌}
 use Rattle.orch_base.specs.declared.server.ServerNo.{ServerNo}
-use Rattle.instance_keeper.specs.declared.observation.Observation.{Observation}
+use Rattle.kept_rows.specs.declared.observation.Observation.{Observation}
 use Rattle.server_words.specs.declared.status.Status.{Status as Seen}
-use Rattle.instance_keeper.specs.declared.row.Row.{Row}
+use Rattle.kept_rows.specs.declared.row.Row.{Row}
 use Rattle.instance_keeper.specs.Book.{BookState}
 use Rattle.commands.specs.declared.line.Line.{Line}
 use Rattle.commands.specs.declared.line.Line.TheVariants as line
@@ -15,13 +15,15 @@ use Rattle.commands.specs.declared.refusal.Refusal.TheVariants.{UnknownInstance,
 use Rattle.commands.specs.declared.turn.CommandTurn.{CommandTurn}
 use Rattle.commands.specs.Unknown.{unknown_of}
 use Rattle.asking_commands.specs.Answers.{allowed, is_known, lines_of}
-use Rattle.turns.specs.declared.turn.Reply.TheVariants as answered
+use Rattle.turns.specs.declared.reply.Reply.TheVariants as answered
+use Rattle.turns.specs.declared.turn.Act.TheVariants as act
 use Rattle.turns.specs.declared.turn.Turn.TheVariants as turn
 use Rattle.command_routes.specs.declared.route.Planner.{Planner}
 use Rattle.command_jobs.specs.Jobs.{job_by, leases_by, refusal_by as planned_refusal}
 use Rattle.command_jobs.proofs.Begun.{job-number}
 use Rattle.unended_jobs.specs.declared.unended.Unended.{Unended}
-use Rattle.orch_core.specs.Commands.{Outcome, about as given_or, asked, audit_updated, begun, busy_given, by_hand, decided, discovered, first_of, forgotten, jobs_updated, last_job_updated, next_reading, outcome_by, outcome_of, recovered, recovery_begun, refusal, stays, taken_over, updated}
+use Rattle.orch_core.specs.Knowing.{updated}
+use Rattle.orch_core.specs.Commands.{Outcome, about as given_or, asked, begun, busy_given, by_hand, decided, discovered, first_of, forgotten, next_reading, outcome_by, outcome_of, recovered, recovery_begun, refusal, stays, taken_over}
 use Rattle.audit_log.specs.Audits.{AuditState}
 use Rattle.book_commands.specs.declared.decided.Decided.{Decided}
 use Rattle.book_commands.specs.Decisions.{decided_of}
@@ -33,14 +35,17 @@ use Rattle.orch_core.specs.Permission.{IsAnswer, IsDone, recovery_refused, refus
 use Rattle.recovery_core.specs.Tries.{Begins as RecoveryBegins, recovery_begins, takeover_begins, unless_refused}
 use Rattle.recovery_permits.specs.Recoveries.{recovery_refusal}
 use Rattle.recovery_permits.specs.Takeovers.{takeover_refusal}
-use Rattle.turns.specs.declared.turn.Reply.{Reply}
+use Rattle.turns.specs.declared.reply.Reply.{Reply}
 use Rattle.unended_jobs.specs.Unended.{number_of}
 use Rattle.run_laws.specs.BegunJobs.{BegunJob, begun_by, begun_of, entry_kept, of_plan, of_try, recovering, taking_by, taking_over, with_entry}
 use Rattle.run_laws.specs.Runs.{IsBegun}
 use Rattle.orch_core.specs.Polls.{changes_of, command_outcome, numbers_of}
 use Rattle.orch_core.specs.Replies.{reply_of}
-use Rattle.orch_core.specs.Runs.{step}
+use Rattle.orch_core.specs.After.{step}
 use Rattle.orch_core.specs.States.{State}
+use Rattle.orch_core.specs.Settling.{known_of, with_known}
+use Rattle.orch_core.specs.Periods.{period_by}
+use Rattle.asking_commands.specs.Asking.{label_at}
 
 -- refused exactly with the refusal that applies, else so
 abbrev AnswersBy : (Reply → Type 0) → Option Refusal → Reply → Type 0
@@ -88,6 +93,10 @@ route_discovers name.DisableGtid is = cc
 route_discovers name.Relocate is = cc
 route_discovers name.RelocateReplicas is = cc
 route_discovers name.RegroupReplicas is = cc
+route_discovers name.Match is = cc
+route_discovers name.MatchUp is = cc
+route_discovers name.MatchReplicas is = cc
+route_discovers name.RegroupReplicasPgtid is = cc
 route_discovers name.DetachReplica is = cc
 route_discovers name.ReattachReplica is = cc
 route_discovers name.ResetReplica is = cc
@@ -182,23 +191,23 @@ module _ (s : State) (c : CommandTurn) where
   at_removal None = without
   at_removal (Some k) = forgotten_by s.reads (first_of (unknown (Some k)) (busy_given s.book (Some k))) k
 
-  at_recovery : (i : Option ServerNo) → Answers s.reads IsJob (recovery_refused s.world s.book s.audit (numbers_of s) i) (given_or (refusal s.reads UnknownInstance) (recovered s.world s.book s.audit (numbers_of s)) i)
+  at_recovery : (i : Option ServerNo) → Answers s.reads IsJob (recovery_refused s.world s.book s.audit s.configuration (numbers_of s) i) (given_or (refusal s.reads UnknownInstance) (recovered s.world s.book s.audit s.configuration (numbers_of s)) i)
   at_recovery None = refused_answers s.reads IsJob UnknownInstance
   at_recovery (Some i) =
-      try_answers s (recovery_refusal s.world s.book s.audit (by_hand (numbers_of s)) i) (recovery_begins s.book s.audit (record { 0 = s.moment }) s.configuration.wait (s.last_job + 1) i)
+      try_answers s (recovery_refusal s.world s.book s.audit (by_hand s.book s.configuration (numbers_of s) i) i) (recovery_begins s.book s.audit (record { 0 = s.moment }) (period_by s.configuration (label_at s.book i)) s.configuration.wait (s.last_job + 1) i)
 
-  at_taking : (i : ServerNo) (d : Option ServerNo) → Answers s.reads IsJob (takeover_given s.world s.book s.audit (numbers_of s) i d) (taken_over s.world s.book s.audit (numbers_of s) d i)
+  at_taking : (i : ServerNo) (d : Option ServerNo) → Answers s.reads IsJob (takeover_given s.world s.book s.audit s.configuration (numbers_of s) i d) (taken_over s.world s.book s.audit s.configuration (numbers_of s) d i)
   at_taking i None = refused_answers s.reads IsJob UnknownInstance
   at_taking i (Some d) =
-      try_answers s (takeover_refusal s.world s.book s.audit (by_hand (numbers_of s)) i d) (takeover_begins s.book s.audit (record { 0 = s.moment }) s.configuration.wait (s.last_job + 1) i d)
+      try_answers s (takeover_refusal s.world s.book s.audit (by_hand s.book s.configuration (numbers_of s) i) i d) (takeover_begins s.book s.audit (record { 0 = s.moment }) (period_by s.configuration (label_at s.book i)) s.configuration.wait (s.last_job + 1) i d)
 
   at_takeover : (i d : Option ServerNo)
-      → Answers s.reads IsJob (takeover_refused s.world s.book s.audit (numbers_of s) i d) (given_or (refusal s.reads UnknownInstance) (taken_over s.world s.book s.audit (numbers_of s) d) i)
+      → Answers s.reads IsJob (takeover_refused s.world s.book s.audit s.configuration (numbers_of s) i d) (given_or (refusal s.reads UnknownInstance) (taken_over s.world s.book s.audit s.configuration (numbers_of s) d) i)
   at_takeover None d = refused_answers s.reads IsJob UnknownInstance
   at_takeover (Some i) d = at_taking i d
 
   answers_by : (r : Route) → route_of c.command.name ≡ r
-      → Answers s.reads (λ x. IsDone r x) (refusal_by s.world s.book s.audit (numbers_of s) c.command r) (outcome_by s.world s.book s.audit (numbers_of s) c r)
+      → Answers s.reads (λ x. IsDone r x) (refusal_by s.world s.book s.audit s.configuration (numbers_of s) c.command r) (outcome_by s.world s.book s.audit s.configuration (numbers_of s) c r)
   answers_by Discovers is = at_discovery is c.command.i
   answers_by Forgets is = at_removal c.command.i
   answers_by (Asks q) is = asked_by s.reads (unknown c.command.i) lines
@@ -212,26 +221,18 @@ outcome_answers : (s : State) (c : CommandTurn) → Answers s.reads (λ x. IsDon
 unfolding outcome_of
 outcome_answers s c = answers_by s c (route_of c.command.name) refl
 
-pub answers_by_table : (s : State) (c : CommandTurn) → IsAnswer (route_of c.command.name) (refusal_at s c.command) (reply_of s (turn.Command c))
-answers_by_table s c = by-table (route_of c.command.name) (refusal_at s c.command) (reply_of s (turn.Command c)) (outcome_answers s c).answer
+pub answers_by_table : (s : State) (c : CommandTurn) → IsAnswer (route_of c.command.name) (refusal_at s c.command) (reply_of s (turn.Act (act.Command c)))
+answers_by_table s c = by-table (route_of c.command.name) (refusal_at s c.command) (reply_of s (turn.Act (act.Command c))) (outcome_answers s c).answer
 
 -- a refused command changes nothing
-pub refused_changes_nothing : (rows : List Row) (s : State) (c : CommandTurn) (r : Refusal) → reply_of s (turn.Command c) ≡ answered.Refused r
-    → (changes_of rows s (turn.Command c) ≡ []) × (step rows s (turn.Command c) ≡ s)
+pub refused_changes_nothing : (rows : List Row) (s : State) (c : CommandTurn) (r : Refusal) → reply_of s (turn.Act (act.Command c)) ≡ answered.Refused r
+    → (changes_of rows s (turn.Act (act.Command c)) ≡ []) × (step rows s (turn.Act (act.Command c)) ≡ s)
 refused_changes_nothing rows s c r is =
     let o = outcome_answers s c in
-    let u = (command_outcome s c).book in
-    let reads = (command_outcome s c).reads in
-    let after : BookState → AuditState → List Unended → ℕ → ℕ → State = λ b a jobs last reads. record s { book = b; audit = a; jobs = jobs; last_job = last; reads = reads } in
-    let book : updated s.book u ≡ s.book = ap (updated s.book) (o.book r is) in
-    let audit : audit_updated s.audit u ≡ s.audit = ap (audit_updated s.audit) (o.book r is) in
-    let jobs : jobs_updated s.jobs u ≡ s.jobs = ap (jobs_updated s.jobs) (o.book r is) in
-    let last : last_job_updated s.last_job u ≡ s.last_job = ap (last_job_updated s.last_job) (o.book r is) in (
+    let reads = (command_outcome s c).reads in (
       o.rows r is,
-      ap (λ b. after b (audit_updated s.audit u) (jobs_updated s.jobs u) (last_job_updated s.last_job u) reads) book
-          ∙ (ap (λ a. after s.book a (jobs_updated s.jobs u) (last_job_updated s.last_job u) reads) audit
-          ∙ (ap (λ js. after s.book s.audit js (last_job_updated s.last_job u) reads) jobs
-          ∙ (ap (λ last. after s.book s.audit s.jobs last reads) last ∙ ap (after s.book s.audit s.jobs s.last_job) (o.reads_stay r is)))),
+      ap (λ u. with_known (record s { reads = reads }) (updated (known_of s) u)) (o.book r is)
+          ∙ ap (λ (n : ℕ). with_known (record s { reads = n }) (known_of s)) (o.reads_stay r is),
     )
 
 -- ---- what a job that is begun leaves
@@ -240,10 +241,10 @@ refused_changes_nothing rows s c r is =
 record LeavesJob (s : State) (x : BegunJob) (o : Outcome) : Type 0 where
   reply : o.reply ≡ answered.Begun (s.last_job + 1)
   number : number_of x.job ≡ s.last_job + 1
-  jobs : jobs_updated s.jobs o.book ≡ s.jobs ++ x.job ∷ []
-  last : last_job_updated s.last_job o.book ≡ s.last_job + 1
-  leases : (updated s.book o.book).leases ≡ taken s.book.leases x.list (s.last_job + 1)
-  audit : audit_updated s.audit o.book ≡ with_entry s.audit x.entry
+  jobs : (updated (known_of s) o.book).jobs ≡ s.jobs ++ x.job ∷ []
+  last : (updated (known_of s) o.book).last_job ≡ s.last_job + 1
+  leases : (updated (known_of s) o.book).book.leases ≡ taken s.book.leases x.list (s.last_job + 1)
+  audit : (updated (known_of s) o.book).audit ≡ with_entry s.audit x.entry
   rows : o.rows ≡ entry_kept x.entry
 
 -- where none begins, the outcome doesn't answer so
@@ -272,21 +273,21 @@ module _ (s : State) (c : CommandTurn) where
   try_leaves None x same = record { reply = refl; number = same; jobs = refl; last = same; leases = ap (taken s.book.leases x.list) same; audit = refl; rows = refl }
   try_leaves (Some why) x same = refusal_begins s.reads why
 
-  recovery_leaves : (i : Option ServerNo) → LeavesBegun s (recovering s i) (given_or (refusal s.reads UnknownInstance) (recovered s.world s.book s.audit (numbers_of s)) i)
+  recovery_leaves : (i : Option ServerNo) → LeavesBegun s (recovering s i) (given_or (refusal s.reads UnknownInstance) (recovered s.world s.book s.audit s.configuration (numbers_of s)) i)
   recovery_leaves None = refusal_begins s.reads UnknownInstance
   recovery_leaves (Some i) =
-      try_leaves (recovery_refusal s.world s.book s.audit (by_hand (numbers_of s)) i) (recovery_begins s.book s.audit (record { 0 = s.moment }) s.configuration.wait (s.last_job + 1) i) refl
+      try_leaves (recovery_refusal s.world s.book s.audit (by_hand s.book s.configuration (numbers_of s) i) i) (recovery_begins s.book s.audit (record { 0 = s.moment }) (period_by s.configuration (label_at s.book i)) s.configuration.wait (s.last_job + 1) i) refl
 
-  taking_leaves : (i : ServerNo) (d : Option ServerNo) → LeavesBegun s (taking_by s i d) (taken_over s.world s.book s.audit (numbers_of s) d i)
+  taking_leaves : (i : ServerNo) (d : Option ServerNo) → LeavesBegun s (taking_by s i d) (taken_over s.world s.book s.audit s.configuration (numbers_of s) d i)
   taking_leaves i None = refusal_begins s.reads UnknownInstance
   taking_leaves i (Some d) =
-      try_leaves (takeover_refusal s.world s.book s.audit (by_hand (numbers_of s)) i d) (takeover_begins s.book s.audit (record { 0 = s.moment }) s.configuration.wait (s.last_job + 1) i d) refl
+      try_leaves (takeover_refusal s.world s.book s.audit (by_hand s.book s.configuration (numbers_of s) i) i d) (takeover_begins s.book s.audit (record { 0 = s.moment }) (period_by s.configuration (label_at s.book i)) s.configuration.wait (s.last_job + 1) i d) refl
 
-  takeover_leaves : (i d : Option ServerNo) → LeavesBegun s (taking_over s i d) (given_or (refusal s.reads UnknownInstance) (taken_over s.world s.book s.audit (numbers_of s) d) i)
+  takeover_leaves : (i d : Option ServerNo) → LeavesBegun s (taking_over s i d) (given_or (refusal s.reads UnknownInstance) (taken_over s.world s.book s.audit s.configuration (numbers_of s) d) i)
   takeover_leaves None d = refusal_begins s.reads UnknownInstance
   takeover_leaves (Some i) d = taking_leaves i d
 
-  route_leaves : (r : Route) → route_of c.command.name ≡ r → LeavesBegun s (begun_by s c.command r) (outcome_by s.world s.book s.audit (numbers_of s) c r)
+  route_leaves : (r : Route) → route_of c.command.name ≡ r → LeavesBegun s (begun_by s c.command r) (outcome_by s.world s.book s.audit s.configuration (numbers_of s) c r)
   route_leaves Discovers is = told_begins s.reads _ _ (answers_by s c Discovers is)
   route_leaves Forgets is = told_begins s.reads _ _ (answers_by s c Forgets is)
   route_leaves (Asks q) is = told_begins s.reads _ _ (answers_by s c (Asks q) is)
@@ -325,17 +326,17 @@ module _ (s : State) (c : CommandTurn) where
     pub begun_numbered : number_of x.job ≡ s.last_job + 1
     begun_numbered = leaves.number
 
-    pub begun_joins : (rows : List Row) → (step rows s (turn.Command c)).jobs ≡ s.jobs ++ x.job ∷ []
+    pub begun_joins : (rows : List Row) → (step rows s (turn.Act (act.Command c))).jobs ≡ s.jobs ++ x.job ∷ []
     begun_joins rows = leaves.jobs
 
-    pub begun_counts : (rows : List Row) → (step rows s (turn.Command c)).last_job ≡ s.last_job + 1
+    pub begun_counts : (rows : List Row) → (step rows s (turn.Act (act.Command c))).last_job ≡ s.last_job + 1
     begun_counts rows = leaves.last
 
-    pub begun_leased : (rows : List Row) → (step rows s (turn.Command c)).book.leases ≡ taken s.book.leases x.list (s.last_job + 1)
+    pub begun_leased : (rows : List Row) → (step rows s (turn.Act (act.Command c))).book.leases ≡ taken s.book.leases x.list (s.last_job + 1)
     begun_leased rows = leaves.leases
 
-    pub begun_logged : (rows : List Row) → (step rows s (turn.Command c)).audit ≡ with_entry s.audit x.entry
+    pub begun_logged : (rows : List Row) → (step rows s (turn.Act (act.Command c))).audit ≡ with_entry s.audit x.entry
     begun_logged rows = leaves.audit
 
-    pub begun_kept : (rows : List Row) → changes_of rows s (turn.Command c) ≡ entry_kept x.entry
+    pub begun_kept : (rows : List Row) → changes_of rows s (turn.Act (act.Command c)) ≡ entry_kept x.entry
     begun_kept rows = leaves.rows

@@ -10,15 +10,14 @@ use Rattle.orch_base.specs.declared.server.SourceState.{SourceState}
 use Rattle.orch_base.specs.declared.server.SourceState.TheVariants.{Without, Attached, Detached}
 use Rattle.binlog_coords.specs.declared.Coord.{Coord}
 use Rattle.instance_keeper.specs.declared.bridge.Bridge.{Bridge}
-use Rattle.instance_keeper.specs.declared.observation.Observation.{Observation}
-use Rattle.instance_keeper.specs.Bridges.{bridge_in}
+use Rattle.kept_rows.specs.declared.observation.Observation.{Observation}
 use Rattle.server_words.specs.declared.answers.Unreachable.{Unreachable}
 use Rattle.server_words.specs.declared.attach.AttachFault.{AttachFault}
 use Rattle.server_words.specs.declared.attach.Spot.TheVariants as spot
 use Rattle.server_words.specs.declared.changes.Ask.{Ask}
 use Rattle.server_words.specs.declared.changes.Ask.TheVariants as asking
 use Rattle.server_words.specs.declared.status.Status.{Status}
-use Rattle.instance_keeper.specs.Seeing.{seen_in}
+use Rattle.kept_rows.specs.Seeing.{seen_in}
 use Rattle.server_model.specs.Desk.{desk_answer}
 use Rattle.server_model.specs.Gtids.{status}
 use Rattle.server_model.specs.Run.{Exchange, Attach, AttachAuto, Request, is_rotate, is_write}
@@ -26,6 +25,7 @@ use Rattle.server_model.specs.Worlds.{World, server_at}
 use Rattle.commands.specs.declared.cause.Cause.{Cause}
 use Rattle.commands.specs.declared.cause.Cause.TheVariants as cause
 use Rattle.instance_keeper.specs.Book.{BookState}
+use Rattle.operations.specs.declared.sight.Position.{Position}
 use Rattle.operations.specs.declared.sight.Sight.{Sight}
 use Rattle.recovery_plans.specs.declared.purpose.Purpose.{Purpose}
 use Rattle.recovery_plans.specs.declared.purpose.Purpose.TheVariants as purpose
@@ -44,7 +44,7 @@ use Rattle.operations.specs.Deeds as deed
 use Rattle.operations.specs.Deeds.{Deed, deed_of}
 use Rattle.operations.specs.Jobs.{Job, seen_of}
 use Rattle.operations.specs.Targets.{can_attach}
-use Rattle.operations.specs.Turns.{Attempt, Turned, Goes, Stops, Ends, crossing_of, settled, next, saw, restarts, observed, is_moved, after_status, after_look, after_ask, aim_of, attached_anew, is_reached, until_by, after_until, after_wait_by, after_wait, holds_seen, settles, read_by, crossed, same_again, by_set, attach_answer_of, after_answer, after_attach, by_deed, by_ops, turned}
+use Rattle.operations.specs.Turns.{Attempt, Turned, bridge_at, Goes, Stops, Ends, crossing_of, settled, next, saw, restarts, observed, is_moved, after_status, after_look, after_ask, aim_of, attached_anew, is_reached, until_by, after_until, after_wait_by, after_wait, holds_seen, settles, read_by, crossed, same_again, by_set, attach_answer_of, after_answer, after_attach, by_deed, by_ops, turned}
 
 -- an exchange that adds neither a transaction of a client nor a file
 pub record IsPlain (e : Exchange) : Type 0 where
@@ -75,11 +75,11 @@ anew-plain n exec Without e h = cc
 anew-plain n exec (Attached m) e h = subst IsPlain (same_Some (Attach n.0 (spot.At m exec) m exec) e h) (record { writes_not = refl; rotates_not = refl })
 anew-plain n exec (Detached m) e h = subst IsPlain (same_Some (Attach n.0 (spot.At m exec) m exec) e h) (record { writes_not = refl; rotates_not = refl })
 
-same-plain : (n : ServerNo) (o : Option Status) (e : Exchange) → same_again n o ≡ Some e → IsPlain e
+same-plain : (n : ServerNo) (o : Option Position) (e : Exchange) → same_again n o ≡ Some e → IsPlain e
 same-plain n None e h = cc
 same-plain n (Some s) e h = anew-plain n s.exec s.source e h
 
-set-plain : (n m : ServerNo) (o : Option Status) (e : Exchange) → by_set n m o ≡ Some e → IsPlain e
+set-plain : (n m : ServerNo) (o : Option Position) (e : Exchange) → by_set n m o ≡ Some e → IsPlain e
 set-plain n m None e h = cc
 set-plain n m (Some s) e h = subst IsPlain (same_Some (AttachAuto n.0 s.set m) e h) (record { writes_not = refl; rotates_not = refl })
 
@@ -136,7 +136,7 @@ module _ (w : World) (j : Job) (rest : List Op) where
   deed-plain read now (deed.Await n to) = wait-plain n (λ s. is_reached (aim_of j.seen to) s.exec) (seen_in (status w n.0))
   deed-plain read now (deed.AwaitSet n m) = wait-plain n (holds_seen (seen_of j.seen m.0)) (seen_in (status w n.0))
   deed-plain read now (deed.Settle n) = wait-plain n (settles j) (seen_in (status w n.0))
-  deed-plain read now (deed.Cross c a b) = attach-plain a (crossed c a (bridge_in (read_by c a b) (seen_of j.seen (read_by c a b).0))) (crossed-plain c a (bridge_in (read_by c a b) (seen_of j.seen (read_by c a b).0)))
+  deed-plain read now (deed.Cross c a b) = attach-plain a (crossed c a (bridge_at (read_by c a b) (seen_of j.seen (read_by c a b).0))) (crossed-plain c a (bridge_at (read_by c a b) (seen_of j.seen (read_by c a b).0)))
   deed-plain read now (deed.Same n) = attach-plain n (same_again n (seen_of j.seen n.0)) (same-plain n (seen_of j.seen n.0))
   deed-plain read now (deed.Auto n m) = attach-plain n (by_set n m (seen_of j.seen m.0)) (set-plain n m (seen_of j.seen m.0))
   deed-plain read now (deed.Finish lines) = All-nil IsPlain
@@ -168,7 +168,7 @@ writes-plain m = one-plain (Request m.0 (asking.SetReadOnly false)) (request-pla
 goes-back-plain : (w : World) (seen : List Sight) (m d : ServerNo) → All IsPlain (taking.goes_back w seen m d)
 goes-back-plain w seen m d =
     append-plain (taking.that_can w (crossing_of seen cross.Back d m)) (Request d.0 asking.Start ∷ taking.takes_writes m)
-    (back-plain w (crossing_of seen cross.Back d m) (crossed-plain cross.Back d (bridge_in (read_by cross.Back d m) (seen_of seen (read_by cross.Back d m).0))))
+    (back-plain w (crossing_of seen cross.Back d m) (crossed-plain cross.Back d (bridge_at (read_by cross.Back d m) (seen_of seen (read_by cross.Back d m).0))))
     (All-cons IsPlain (Request d.0 asking.Start) (taking.takes_writes m) (request-plain d asking.Start) (writes-plain m))
 
 way-back-plain : (w : World) (seen : List Sight) (m : ServerNo) (s : Stage) → All IsPlain (taking.way_back w seen m s)

@@ -5,52 +5,56 @@ use Rattle.std.specs.Option.{option_map}
 use Rattle.std.proofs.lemmas.List.{length-map, length-replicate, length-set}
 use Rattle.std.proofs.lemmas.List.Elements.{All-cons, All-nil, All-head, All-tail, All-filter, All-replicate, All-set}
 use Rattle.orch_base.specs.Memory.{next_count}
-use Rattle.instance_keeper.specs.declared.observation.Observation.{Observation}
-use Rattle.instance_keeper.specs.declared.row.Change.{Change}
-use Rattle.instance_keeper.specs.declared.row.Change.TheVariants as change
-use Rattle.instance_keeper.specs.declared.row.Row.{Row}
-use Rattle.instance_keeper.specs.declared.row.Row.TheVariants as row
+use Rattle.kept_rows.specs.declared.observation.Observation.{Observation}
+use Rattle.kept_rows.specs.declared.row.Change.{Change}
+use Rattle.kept_rows.specs.declared.row.Change.TheVariants as change
+use Rattle.kept_rows.specs.declared.row.Row.{Row}
+use Rattle.kept_rows.specs.declared.row.Row.TheVariants as row
 use Rattle.instance_keeper.specs.Book.{BookState, IsBook, instance_at, shown_by}
 use Rattle.instance_keeper.proofs.Books.{change_is, put_is}
 use Rattle.audit_log.specs.Audits.{AuditState}
-use Rattle.opening_book.specs.Opening.{after_opening, is_opening_change, opened_book}
+use Rattle.opening_book.specs.Opening.{after_opening, is_opening_change, loading, opened_book}
 use Rattle.opening_book.specs.Counting.{greatest_id}
 use Rattle.opening_book.proofs.Following.{names-opening}
 use Rattle.server_model.specs.Run.{Exchange, AllAllowed, run}
+use Rattle.turns.specs.declared.turn.Act.{Act}
+use Rattle.turns.specs.declared.turn.Act.TheVariants as act
 use Rattle.turns.specs.declared.turn.Turn.{Turn}
 use Rattle.turns.specs.declared.turn.Turn.TheVariants as turn
 use Rattle.scenarios.specs.declared.scenario.Scenario.{Scenario}
-use Rattle.scenarios.specs.Scenarios.{IsScenario, settings_of}
-use Rattle.scenarios.specs.Turns.{IsTurn, pollers}
+use Rattle.scenarios.specs.Scenarios.{IsScenario, period_of, settings_of}
+use Rattle.scenarios.specs.Turns.{IsAct, IsTurn, pollers}
 use Rattle.operations.specs.Turns.{is_going}
 use Rattle.unended_jobs.specs.declared.unended.Unended.{Unended}
 use Rattle.unended_jobs.specs.Unended.{Flown, IsReady, number_of}
 use Rattle.unended_jobs.proofs.Going.{flown-allowed, flown-ready, flown-sees}
 use Rattle.operations.specs.Turns.{observed}
 use Rattle.orch_base.specs.declared.server.ServerNo.{ServerNo}
-use Rattle.orch_core.specs.Commands.{Outcome, audit_updated, jobs_updated, last_job_updated, updated}
+use Rattle.orch_core.specs.Knowing.{updated}
+use Rattle.orch_core.specs.Commands.{Outcome}
 use Rattle.jobs_in_flight.specs.Jobs.{book_turned, job_at, job_exchanges, jobs_turned, stored, with_job, without_job, without_leases}
 use Rattle.orch_core.specs.Jobs.{turn_of}
 use Rattle.orch_core.specs.Polls.{command_outcome, reading, scan_outcome, slot_at}
 use Rattle.orch_core.specs.Restarts.{last_given}
-use Rattle.orch_core.specs.Runs.{step}
-use Rattle.orch_core.specs.Scenarios.{loaded_audit, loaded_book, start, start_changes, start_moment, start_world}
+use Rattle.orch_core.specs.After.{after_act, after_tick, step}
+use Rattle.orch_core.specs.Scenarios.{loaded_audit, loaded_book, start, start_changes, start_moment, start_rows, start_world}
 use Rattle.orch_core.specs.States.{State, IsSlot}
-use Rattle.orch_core.specs.Turns.{exchanges_of}
+use Rattle.orch_core.specs.Turns.{exchange_of}
 use Rattle.orch_core.proofs.Servers.{servers-run, servers-start}
 use Rattle.orch_core.proofs.Sources.{sources-run}
-use Rattle.orch_core.proofs.Starts.{fits-opening, sources-start}
-use Rattle.orch_core.proofs.States.{Allowed-turn, names-loaded, names-stored, reading_known}
+use Rattle.orch_core.proofs.Starts.{all-loading, fits-opening, sources-start}
+use Rattle.orch_core.proofs.States.{Allowed-step, names-loaded, names-stored, reading_known}
 use Rattle.orch_core.proofs.Turned.{All-found}
+use Rattle.orch_core.specs.Settling.{known_of, settled}
 use Rattle.run_laws.specs.Ready.{Ready}
 use Rattle.run_laws.proofs.ReadyOutcomes.{Keeps, command-keeps, scan-keeps}
 use Rattle.run_laws.proofs.Ready.{IsBook-freed, IsBook-loaded, IsBook-observed, IsBook-ringed, IsBook-stored, settings-count}
 
 -- ---- exchanges
 
--- the servers go on, and the moment
-Ready-run : (count : ℕ) (s : State) (es : List Exchange) (moment : ℕ) → Ready count s → AllAllowed s.world es → Ready count (record s { world = run s.world es; moment = moment })
-Ready-run count s es moment ready allowed = record {
+-- the servers go on
+Ready-run : (count : ℕ) (s : State) (es : List Exchange) → Ready count s → AllAllowed s.world es → Ready count (record s { world = run s.world es })
+Ready-run count s es ready allowed = record {
   servers = servers-run s.world es ∙ ready.servers;
   book = ready.book;
   names = ready.names;
@@ -58,10 +62,8 @@ Ready-run count s es moment ready allowed = record {
   observed = ready.observed;
   sources = sources-run s.world es allowed ready.sources;
   jobs = ready.jobs;
+  periods = ready.periods;
 }
-
-Ready-turn : (count : ℕ) (s : State) (t : Turn) (moment : ℕ) → Ready count s → IsTurn count t → Ready count (record s { world = run s.world (exchanges_of t); moment = moment })
-Ready-turn count s t moment ready is = Ready-run count s (exchanges_of t) moment ready (Allowed-turn count s.world t is).0
 
 -- ---- a job's turn
 
@@ -103,6 +105,7 @@ module _ (count : ℕ) (s : State) (id : ℕ) (ready : Ready count s) where
     observed = ready.observed;
     sources = sources-run s.world t.exchanges allowed ready.sources;
     jobs = All-map-if (IsReady count) s.jobs id t.next (next refl) ready.jobs;
+    periods = ready.periods;
   }
   Ready-by t false allowed next book audit reads = record {
     servers = servers-run s.world t.exchanges ∙ ready.servers;
@@ -112,6 +115,7 @@ module _ (count : ℕ) (s : State) (id : ℕ) (ready : Ready count s) where
     observed = ready.observed;
     sources = sources-run s.world t.exchanges allowed ready.sources;
     jobs = All-filter (λ (k : Unended). not (number_of k == id)) (IsReady count) s.jobs ready.jobs;
+    periods = ready.periods;
   }
 
   Ready-job : (o : Option Unended) → job_at s.jobs id ≡ o → (audit : AuditState) (reads : ℕ)
@@ -130,6 +134,7 @@ module _ (count : ℕ) (s : State) (id : ℕ) (ready : Ready count s) where
     observed = ready.observed;
     sources = ready.sources;
     jobs = ready.jobs;
+    periods = ready.periods;
   }
   Ready-job (Some u) at audit reads =
       let is : IsReady count u = All-found (IsReady count) s.jobs id u ready.jobs at in
@@ -157,8 +162,7 @@ module _ (s : State) (p : ℕ) (n : ServerNo) where
 
 -- ---- a command or a scan
 
-Ready-outcome : (count : ℕ) (s : State) (o : Outcome) → Ready count s → Keeps s o
-    → Ready count (record s { book = updated s.book o.book; audit = audit_updated s.audit o.book; reads = o.reads; jobs = jobs_updated s.jobs o.book; last_job = last_job_updated s.last_job o.book })
+Ready-outcome : (count : ℕ) (s : State) (o : Outcome) → Ready count s → Keeps s o → Ready count (settled s o)
 Ready-outcome count s o ready keeps = record {
   servers = ready.servers;
   book = keeps.book;
@@ -166,24 +170,26 @@ Ready-outcome count s o ready keeps = record {
   slots = ready.slots;
   observed = ready.observed;
   sources = ready.sources;
-  jobs = subst (λ (k : ℕ). All (IsReady k) (jobs_updated s.jobs o.book)) ready.names keeps.jobs;
+  jobs = subst (λ (k : ℕ). All (IsReady k) (updated (known_of s) o.book).jobs) ready.names keeps.jobs;
+  periods = ready.periods;
 }
 
 -- ---- every turn
 
-pub Ready-step : (count : ℕ) (rows : List Row) (s : State) (t : Turn) → Ready count s → IsTurn count t → Ready count (step rows s t)
-Ready-step count rows s (turn.Write n size) ready is = Ready-turn count s (turn.Write n size) _ ready is
-Ready-step count rows s (turn.Fetch n) ready is = Ready-turn count s (turn.Fetch n) _ ready is
-Ready-step count rows s (turn.Apply n) ready is = Ready-turn count s (turn.Apply n) _ ready is
-Ready-step count rows s (turn.Fail n) ready is = Ready-turn count s (turn.Fail n) _ ready is
-Ready-step count rows s (turn.Heal n) ready is = Ready-turn count s (turn.Heal n) _ ready is
-Ready-step count rows s (turn.Cut n link) ready is = Ready-turn count s (turn.Cut n link) _ ready is
-Ready-step count rows s (turn.Join n link) ready is = Ready-turn count s (turn.Join n link) _ ready is
-Ready-step count rows s (turn.Rotate n) ready is = Ready-turn count s (turn.Rotate n) _ ready is
-Ready-step count rows s (turn.Tick seconds) ready is = Ready-turn count s (turn.Tick seconds) _ ready is
-Ready-step count rows s (turn.Job job) ready is = Ready-job count s job ready (job_at s.jobs job) refl _ _
-Ready-step count rows s turn.Scan ready is = Ready-outcome count s (scan_outcome s) ready (scan-keeps count s ready)
-Ready-step count rows s (turn.PollRead p n) ready is =
+Ready-tick : (count : ℕ) (s : State) (seconds : ℕ) → Ready count s → Ready count (after_tick s seconds)
+Ready-tick count s seconds ready = record {
+  servers = ready.servers;
+  book = ready.book;
+  names = ready.names;
+  slots = ready.slots;
+  observed = ready.observed;
+  sources = ready.sources;
+  jobs = ready.jobs;
+  periods = ready.periods;
+}
+
+Ready-act : (count : ℕ) (rows : List Row) (s : State) (a : Act) → Ready count s → IsAct count a → Ready count (after_act rows s a)
+Ready-act count rows s (act.PollRead p n) ready is =
     let known : IsSlot count (Some (reading s n)) =
     subst (λ (k : ℕ). IsSlot k (Some (reading s n))) ready.servers (reading_known s.world n (next_count s.reads) s.moment ready.sources (subst (λ (k : ℕ). n.0 < k) (sym ready.servers) is.1)) in
     record {
@@ -194,8 +200,9 @@ Ready-step count rows s (turn.PollRead p n) ready is =
       observed = poll-slots s p n count (is_some (instance_at s.book n)) known ready.observed;
       sources = ready.sources;
       jobs = ready.jobs;
+      periods = ready.periods;
     }
-Ready-step count rows s (turn.PollStore p) ready is =
+Ready-act count rows s (act.PollStore p) ready is =
     let known : IsSlot count (slot_at s p) = slot-there count s.slots p ready.observed in
     record {
       servers = ready.servers;
@@ -205,9 +212,12 @@ Ready-step count rows s (turn.PollStore p) ready is =
       observed = All-set (IsSlot count) s.slots p None tt ready.observed;
       sources = ready.sources;
       jobs = ready.jobs;
+      periods = ready.periods;
     }
-Ready-step count rows s (turn.Command c) ready is = Ready-outcome count s (command_outcome s c) ready (command-keeps count s ready c is)
-Ready-step count rows s turn.Restart ready is =
+Ready-act count rows s (act.Command c) ready is = Ready-outcome count s (command_outcome s c) ready (command-keeps count s ready c is)
+Ready-act count rows s (act.Job job) ready is = Ready-job count s job ready (job_at s.jobs job) refl _ _
+Ready-act count rows s act.Scan ready is = Ready-outcome count s (scan_outcome s) ready (scan-keeps count s ready)
+Ready-act count rows s act.Restart ready is =
     let few : length s.book.settings ≡ length s.book.names = settings-count s.book ready.book in
     let small = ready.book.small in
     record {
@@ -218,7 +228,16 @@ Ready-step count rows s turn.Restart ready is =
       observed = All-replicate (IsSlot count) pollers None tt;
       sources = ready.sources;
       jobs = All-nil (IsReady count);
+      periods = ready.periods;
     }
+
+pub Ready-step : (count : ℕ) (rows : List Row) (s : State) (t : Turn) → Ready count s → IsTurn count t → Ready count (step rows s t)
+Ready-step count rows s (turn.Step x) ready is = Ready-run count s (exchange_of x ∷ []) ready (Allowed-step count s.world x is).0
+Ready-step count rows s (turn.Tick seconds) ready is = Ready-tick count s seconds ready
+Ready-step count rows s (turn.Act a) ready is = Ready-act count rows s a ready is
+Ready-step count rows s (turn.As node a) ready is = absurd is
+Ready-step count rows s (turn.Claim node) ready is = absurd is
+Ready-step count rows s (turn.Release node) ready is = absurd is
 
 -- ---- an opening
 
@@ -229,6 +248,7 @@ IsBook-opening b (change.Put (row.Downtime d)) is fit = put_is b (row.Downtime d
 IsBook-opening b (change.Put (row.Candidate c)) is fit = put_is b (row.Candidate c) is fit
 IsBook-opening b (change.Put (row.Recovery r)) is fit = is
 IsBook-opening b (change.Put (row.Switch enabled)) is fit = put_is b (row.Switch enabled) is fit
+IsBook-opening b (change.Put (row.Active node until)) is fit = is
 
 names-opened : (b : BookState) (cs : List Change) → (opened_book b cs).names ≡ b.names
 names-opened b [] = refl
@@ -249,10 +269,13 @@ Ready-start s wait rows is =
     record {
       servers = servers-start s;
       book = IsBook-opened b (start_changes s rows) (IsBook-loaded (settings_of s) greatest_id rows (omega (arith, count, few)))
-          (fits-opening (start_world s) (start_moment s rows) b s.known s.rules (loaded_audit s rows) (sources-start s is) (names ∙ sym (servers-start s)) (is.rules ∙ sym (servers-start s)));
+          (fits-opening (start_world s) (start_moment s rows) b s.known s.rules (loading (period_of s) (start_rows s rows) (loaded_audit s rows) (start_moment s rows)) (sources-start s is) (names ∙ sym (servers-start s))
+          (is.rules ∙ sym (servers-start s))
+          (all-loading (λ c. IsTrue (is_opening_change (length b.names) c)) (period_of s) (start_rows s rows) (loaded_audit s rows) (start_moment s rows) (λ r. refl)));
       names = ap length (names-opened b (start_changes s rows)) ∙ names;
       slots = length-replicate {A = Option Observation} pollers None;
       observed = All-replicate (IsSlot (length s.opening.servers)) pollers None tt;
       sources = sources-start s is;
       jobs = All-nil (IsReady (length s.opening.servers));
+      periods = record { block = is.block; blocks = is.blocks };
     }

@@ -7,15 +7,17 @@ use Rattle.orch_base.specs.declared.server.ServerNo.{ServerNo}
 use Rattle.orch_base.specs.declared.server.Settings.{Settings}
 use Rattle.server_words.specs.declared.status.Status.{Status as Seen}
 use Rattle.instance_keeper.specs.declared.bridge.Bridge.{Bridge}
-use Rattle.instance_keeper.specs.declared.observation.Instance.{Instance}
-use Rattle.instance_keeper.specs.declared.observation.Observation.{Observation}
-use Rattle.instance_keeper.specs.declared.row.Change.TheVariants as change
-use Rattle.instance_keeper.specs.declared.row.Row.{Row}
-use Rattle.instance_keeper.specs.declared.row.Row.TheVariants as row
-use Rattle.instance_keeper.specs.Book.{BookState, HasKnownSource, IsBook, added_over, after_put, after_row, are_known, discovered_over, empty_book, first_seen, fits, instance_at, observed_servers, renewed, row_fits, seen_servers, shown_by, source_servers, stored_over}
+use Rattle.kept_rows.specs.declared.observation.Instance.{Instance}
+use Rattle.kept_rows.specs.declared.observation.Observation.{Observation}
+use Rattle.kept_rows.specs.declared.row.Change.TheVariants as change
+use Rattle.kept_rows.specs.declared.row.Row.{Row}
+use Rattle.kept_rows.specs.declared.row.Row.TheVariants as row
+use Rattle.kept_rows.specs.Servers.{are_known, fits, observed_servers, row_fits, seen_servers, source_servers}
+use Rattle.instance_keeper.specs.Book.{BookState, HasKnownSource, IsBook, added_over, after_put, after_row, discovered_over, empty_book, first_seen, instance_at, renewed, shown_by, stored_over}
 use Rattle.instance_keeper.specs.Bridges.{bridge_in, ring_at, ringed, with_bridge}
 use Rattle.instance_keeper.specs.Leases.{given_back}
-use Rattle.instance_keeper.proofs.Books.{both_true, empty_is, known_at, leases_set, put_is, rings_set}
+use Rattle.kept_rows.proofs.Known.{both_true}
+use Rattle.instance_keeper.proofs.Books.{empty_is, known_at, leases_set, put_is, rings_set}
 use Rattle.opening_book.specs.Counting.{counted, loaded}
 use Rattle.operations.specs.Turns.{observed}
 use Rattle.orch_base.specs.declared.server.Moment.{Moment}

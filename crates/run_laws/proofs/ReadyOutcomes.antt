@@ -1,16 +1,18 @@
 -- What a command or a scan makes of a book leaves it one, of the same servers, and each job is of them.
-use Rattle.std.proofs.Common.{◌≡◌, ◌∙◌, ℕ, ◌+◌, ◌<◌, true, List, [], ◌∷◌, ◌++◌, length, map, refl, sym, subst, Option, Some, None, Result, Ok, Err}
+use Rattle.std.proofs.Common.{◌≡◌, ◌∙◌, ℕ, ◌+◌, ◌<◌, ◌≤◌, true, List, [], ◌∷◌, ◌++◌, length, map, refl, sym, subst, Option, Some, None, Result, Ok, Err}
 use Rattle.std.specs.Prelude.{All, ◌&&◌}
 use Rattle.std.proofs.lemmas.Bool.{ltb-true}
 use Rattle.std.proofs.lemmas.List.Elements.{All-append, All-push}
 use Rattle.orch_base.specs.declared.server.ServerNo.{ServerNo}
 use Rattle.orch_base.specs.Memory.{next_count}
 use Rattle.server_words.specs.declared.status.Status.{Status as Seen}
-use Rattle.instance_keeper.specs.declared.observation.Instance.{Instance}
-use Rattle.instance_keeper.specs.declared.observation.Observation.{Observation}
-use Rattle.instance_keeper.specs.Book.{BookState, IsBook, added_over, are_known, discovered_over, instance_at, observed_servers}
+use Rattle.kept_rows.specs.declared.observation.Instance.{Instance}
+use Rattle.kept_rows.specs.declared.observation.Observation.{Observation}
+use Rattle.kept_rows.specs.Servers.{are_known, observed_servers}
+use Rattle.instance_keeper.specs.Book.{BookState, IsBook, added_over, discovered_over, instance_at}
 use Rattle.instance_keeper.specs.Leases.{taken}
-use Rattle.instance_keeper.proofs.Books.{both_true, change_is, leases_set}
+use Rattle.kept_rows.proofs.Known.{both_true}
+use Rattle.instance_keeper.proofs.Books.{change_is, leases_set}
 use Rattle.opening_book.proofs.Following.{names-change}
 use Rattle.commands.specs.declared.line.Line.{Line}
 use Rattle.commands.specs.declared.refusal.Refusal.{Refusal}
@@ -23,7 +25,8 @@ use Rattle.command_jobs.proofs.Begun.{job-ready}
 use Rattle.commands.specs.declared.turn.CommandTurn.{CommandTurn}
 use Rattle.commands.specs.Turns.{has_needed, is_within}
 use Rattle.asking_commands.specs.Answers.{allowed, lines_of, permitted}
-use Rattle.audit_log.specs.Audits.{AuditState}
+use Rattle.asking_commands.specs.Asking.{label_at}
+use Rattle.audit_log.specs.Audits.{AuditState, longest_block}
 use Rattle.book_commands.specs.declared.decided.Decided.{Decided}
 use Rattle.book_commands.specs.declared.decided.Effect.{Effect}
 use Rattle.book_commands.specs.declared.decided.Effect.TheVariants as effect
@@ -36,20 +39,24 @@ use Rattle.recovery_core.specs.Tries.{Begins as RecoveryBegins, recovery_try, ta
 use Rattle.scenarios.specs.Turns.{IsCommand}
 use Rattle.unended_jobs.specs.declared.unended.Unended.{Unended}
 use Rattle.unended_jobs.specs.Unended.{IsReady, number_of}
-use Rattle.orch_core.specs.Commands.{Outcome, about as given_or, asked, begun, by_hand, decided, discovered, forgotten, jobs_updated, outcome_by, outcome_of, question, recovered, recovery_begun, recovery_job, refusal, removal, removal_refusal, taken_over, terms_of, updated}
+use Rattle.orch_core.specs.Knowing.{recovery_job, updated}
+use Rattle.orch_core.specs.Commands.{Outcome, about as given_or, asked, begun, by_hand, decided, discovered, forgotten, outcome_by, outcome_of, question, recovered, recovery_begun, refusal, removal, removal_refusal, taken_over, terms_of}
+use Rattle.orch_core.specs.Periods.{period_by}
 use Rattle.orch_core.specs.Polls.{command_outcome, numbers_of, reading, scan_outcome}
 use Rattle.orch_core.specs.States.{State}
 use Rattle.orch_core.proofs.Outcomes.{IsEffectFor, decided-effect}
 use Rattle.orch_core.proofs.States.{names-over, one_known, reading_known}
-use Rattle.run_laws.specs.Ready.{Ready}
+use Rattle.orch_core.specs.Settling.{known_of}
+use Rattle.run_laws.specs.Ready.{AreShort, Ready}
+use Rattle.run_laws.proofs.Periods.{short-by}
 use Rattle.run_laws.proofs.BegunInTurn.{IsBook-after, all-ready, length-taken}
 use Rattle.run_laws.proofs.Ready.{IsBook-discovered}
 
 -- what an outcome makes of the book stays one, its names stay, and each job is of its servers
 pub record Keeps (s : State) (o : Outcome) : Type 0 where
-  pub book : IsBook (updated s.book o.book)
-  pub names : (updated s.book o.book).names ≡ s.book.names
-  pub jobs : All (IsReady (length s.book.names)) (jobs_updated s.jobs o.book)
+  pub book : IsBook (updated (known_of s) o.book).book
+  pub names : (updated (known_of s) o.book).book.names ≡ s.book.names
+  pub jobs : All (IsReady (length s.book.names)) (updated (known_of s) o.book).jobs
 
 added-names : (b : BookState) (o : Observation) (x : Option Seen) → (added_over b o x).names ≡ b.names
 added-names b o None = refl
@@ -59,9 +66,13 @@ found-names : (b : BookState) (o : Observation) (x : Option Instance) → (disco
 found-names b o None = added-names b o o.seen
 found-names b o (Some kept) = names-over b o (Some kept)
 
-module _ (s : State) (is : IsBook s.book) (jobs : All (IsReady (length s.book.names)) s.jobs) where
+module _ (s : State) (is : IsBook s.book) (periods : AreShort s.configuration) (jobs : All (IsReady (length s.book.names)) s.jobs) where
   abbrev count : ℕ
   count = length s.book.names
+
+  -- the block period of a server's recovery isn't too long
+  short : (n : ServerNo) → period_by s.configuration (label_at s.book n) ≤ longest_block
+  short n = short-by s.configuration periods (label_at s.book n)
 
   Keeps-refusal : (reads : ℕ) (r : Refusal) → Keeps s (refusal reads r)
   Keeps-refusal reads r = record { book = is; names = refl; jobs = jobs }
@@ -113,24 +124,24 @@ module _ (s : State) (is : IsBook s.book) (jobs : All (IsReady (length s.book.na
   Keeps-recovery (Ok x) can = record { book = IsBook-after s.book (x ∷ []) is; names = refl; jobs = all-named (x ∷ []) (can x refl, tt) }
   Keeps-recovery (Err why) can = Keeps-refusal s.reads why
 
-  Keeps-recovered : (i : ServerNo) → i.0 < count → Keeps s (recovered s.world s.book s.audit (numbers_of s) i)
+  Keeps-recovered : (i : ServerNo) → i.0 < count → Keeps s (recovered s.world s.book s.audit s.configuration (numbers_of s) i)
   Keeps-recovered i within =
-      Keeps-recovery (recovery_try s.world s.book s.audit (by_hand (numbers_of s)) s.configuration.wait (s.last_job + 1) i)
-      (λ x e. recovery-begins s.world s.book s.audit (by_hand (numbers_of s)) s.configuration.wait s.last_job is i x within e)
+      Keeps-recovery (recovery_try s.world s.book s.audit (by_hand s.book s.configuration (numbers_of s) i) s.configuration.wait (s.last_job + 1) i)
+      (λ x e. recovery-begins s.world s.book s.audit (by_hand s.book s.configuration (numbers_of s) i) s.configuration.wait s.last_job is (short i) i x within e)
 
-  Keeps-taken_over : (d : Option ServerNo) → is_within count d ≡ true → (i : ServerNo) → i.0 < count → Keeps s (taken_over s.world s.book s.audit (numbers_of s) d i)
+  Keeps-taken_over : (d : Option ServerNo) → is_within count d ≡ true → (i : ServerNo) → i.0 < count → Keeps s (taken_over s.world s.book s.audit s.configuration (numbers_of s) d i)
   Keeps-taken_over None there i within = Keeps-refusal s.reads UnknownInstance
   Keeps-taken_over (Some d) there i within =
-      Keeps-recovery (takeover_try s.world s.book s.audit (by_hand (numbers_of s)) s.configuration.wait (s.last_job + 1) i d)
-      (λ x e. takeover-begins s.world s.book s.audit (by_hand (numbers_of s)) s.configuration.wait s.last_job is i d x within (ltb-true d.0 count there) e)
+      Keeps-recovery (takeover_try s.world s.book s.audit (by_hand s.book s.configuration (numbers_of s) i) s.configuration.wait (s.last_job + 1) i d)
+      (λ x e. takeover-begins s.world s.book s.audit (by_hand s.book s.configuration (numbers_of s) i) s.configuration.wait s.last_job is (short i) i d x within (ltb-true d.0 count there) e)
 
   -- ---- a scan
 
   pub Keeps-scan : Keeps s (scan_outcome s)
   Keeps-scan =
-      let attempt = attempt_of s.configuration.master s.configuration.intermediate (terms_of s.book (numbers_of s)) in
+      let attempt = attempt_of s.configuration.master s.configuration.intermediate (period_by s.configuration) s.book (terms_of s.book (numbers_of s)) in
       let xs = (scanned s.world s.book s.audit attempt s.configuration.wait s.last_job).begun in
-      record { book = IsBook-after s.book xs is; names = refl; jobs = all-named xs (scan-in-turn s.world s.book attempt s.configuration.wait s.audit s.last_job is) }
+      record { book = IsBook-after s.book xs is; names = refl; jobs = all-named xs (scan-in-turn s.world s.book attempt s.configuration.wait s.audit s.last_job is short) }
 
   -- ---- any command
 
@@ -144,7 +155,7 @@ module _ (s : State) (is : IsBook s.book) (jobs : All (IsReady (length s.book.na
     given none some here each None within = here
     given none some here each (Some i) within = each i (ltb-true i.0 count within)
 
-    Keeps-route : (r : Route) → Keeps s (outcome_by s.world s.book s.audit (numbers_of s) t r)
+    Keeps-route : (r : Route) → Keeps s (outcome_by s.world s.book s.audit s.configuration (numbers_of s) t r)
     Keeps-route Discovers =
         given (question s.book s.audit s.reads t) (λ i. discovered s.book s.reads (reading s i) (reading s i).seen) asks
         (λ i h. Keeps-discovered i (reads i h) (reading s i).seen) t.command.i i_within
@@ -159,9 +170,9 @@ module _ (s : State) (is : IsBook s.book) (jobs : All (IsReady (length s.book.na
         Keeps-begun (refusal_by s.world s.book (record { 0 = s.moment }) t.command p) (leases_by s.world s.book t.command p) (job_by s.world s.book t.command p (s.last_job + 1) s.configuration.wait)
         (job-ready s.world s.book t.command is i_within d_within p (s.last_job + 1) s.configuration.wait)
     Keeps-route Recovers =
-        given (refusal s.reads UnknownInstance) (recovered s.world s.book s.audit (numbers_of s)) (Keeps-refusal s.reads UnknownInstance) Keeps-recovered t.command.i i_within
+        given (refusal s.reads UnknownInstance) (recovered s.world s.book s.audit s.configuration (numbers_of s)) (Keeps-refusal s.reads UnknownInstance) Keeps-recovered t.command.i i_within
     Keeps-route TakesOver =
-        given (refusal s.reads UnknownInstance) (taken_over s.world s.book s.audit (numbers_of s) t.command.d) (Keeps-refusal s.reads UnknownInstance)
+        given (refusal s.reads UnknownInstance) (taken_over s.world s.book s.audit s.configuration (numbers_of s) t.command.d) (Keeps-refusal s.reads UnknownInstance)
         (Keeps-taken_over t.command.d d_within) t.command.i i_within
 
 pub within-both : (count : ℕ) (c : CommandTurn) → IsCommand count c → (is_within count c.command.i ≡ true) × (is_within count c.command.d ≡ true)
@@ -191,7 +202,7 @@ module _ (count : ℕ) (s : State) (ready : Ready count s) where
   unfolding outcome_of
   command-keeps c command =
       let within = within-book c command in
-      Keeps-route s ready.book named-jobs c within.0 within.1 reads-known (route_of c.command.name)
+      Keeps-route s ready.book ready.periods named-jobs c within.0 within.1 reads-known (route_of c.command.name)
 
   pub scan-keeps : Keeps s (scan_outcome s)
-  scan-keeps = Keeps-scan s ready.book named-jobs
+  scan-keeps = Keeps-scan s ready.book ready.periods named-jobs

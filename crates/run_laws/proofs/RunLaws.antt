@@ -7,7 +7,7 @@ use Rattle.std.proofs.lemmas.List.Elements.{All-head, All-tail, All-take}
 use Rattle.std.proofs.lemmas.Option.{get_or_from_slice_get, same_Some, slice_get_within}
 use Rattle.binlog_coords.specs.declared.Coord.{Coord}
 use Rattle.orch_base.specs.declared.server.ServerNo.{ServerNo}
-use Rattle.instance_keeper.specs.declared.row.Row.{Row}
+use Rattle.kept_rows.specs.declared.row.Row.{Row}
 use Rattle.server_words.specs.declared.answers.ApplyAnswer.TheVariants as answers
 use Rattle.server_words.specs.declared.answers.RotateAnswer.TheVariants as rotating
 use Rattle.server_model.specs.Desk.{rotate, rotate_answer}
@@ -23,17 +23,22 @@ use Rattle.replication_laws.proofs.Applies.{no_skipped}
 use Rattle.replication_laws.proofs.Files.{not_full-files}
 use Rattle.opening_laws.proofs.Rooms.{not_full-opened}
 use Rattle.replication_laws.proofs.Runs as exchanges
+use Rattle.turns.specs.declared.turn.Act.{Act}
+use Rattle.turns.specs.declared.turn.Act.TheVariants as act
+use Rattle.turns.specs.declared.turn.Step.{Step}
+use Rattle.turns.specs.declared.turn.Step.TheVariants as step
 use Rattle.turns.specs.declared.turn.Turn.{Turn}
 use Rattle.turns.specs.declared.turn.Turn.TheVariants as turn
 use Rattle.scenarios.specs.declared.scenario.Scenario.{Scenario}
 use Rattle.scenarios.specs.Scenarios.{IsScenario, flushes_of, room_of}
-use Rattle.scenarios.specs.Turns.{IsTurn, is_rotate, is_write}
+use Rattle.scenarios.specs.Turns.{IsTurn, is_rotate, is_rotate_step, is_write, is_write_step}
 use Rattle.scenarios.proofs.Rooms.{longest-at}
-use Rattle.orch_core.specs.Runs.{engine, run_turns, step, turns_of}
+use Rattle.orch_core.specs.After.{step as turn_step}
+use Rattle.orch_core.specs.Runs.{engine, run_turns, turns_of}
 use Rattle.orch_core.specs.Scenarios.{start, start_world}
 use Rattle.orch_core.specs.States.{State}
-use Rattle.orch_core.specs.Turns.{exchanges_at, exchanges_of}
-use Rattle.orch_core.proofs.States.{Allowed-turn}
+use Rattle.orch_core.specs.Turns.{act_exchanges, exchange_of, exchanges_at}
+use Rattle.orch_core.proofs.States.{Allowed-step}
 use Rattle.orch_base.specs.Memory.{next_count}
 use Rattle.std.specs.Prelude.{◌==◌}
 use Rattle.std.specs.Option.{option_map}
@@ -60,6 +65,7 @@ use Rattle.run_laws.proofs.Passing.{Held-step, Sound-step}
 use Rattle.run_laws.proofs.Openings.{Held-start, Sound-start}
 use Rattle.run_laws.proofs.Plain.{IsPlain, flown-plain, none-counts}
 use Rattle.run_laws.specs.Ready.{Ready}
+use Rattle.run_laws.proofs.Worlds.{world-turn}
 use Rattle.run_laws.proofs.Readiness.{Ready-start, Ready-step}
 
 -- ---- what holds of each state
@@ -70,17 +76,17 @@ pub record Goes (count : ℕ) (s : State) : Type 0 where
   pub held : HeldState s
   pub sound : IsQuiet s.world → SoundState s
 
-pub Goes-step : (count : ℕ) (rows : List Row) (s : State) (t : Turn) → IsTurn count t → Goes count s → Goes count (step rows s t)
+pub Goes-step : (count : ℕ) (rows : List Row) (s : State) (t : Turn) → IsTurn count t → Goes count s → Goes count (turn_step rows s t)
 Goes-step count rows s t is goes = record {
   ready = Ready-step count rows s t goes.ready is;
   held = Held-step count rows s t goes.ready goes.held is;
-  sound = λ q. Sound-step count rows s t goes.ready goes.held (goes.sound (exchanges.quiet-run s.world (exchanges_at s t) q)) is q;
+  sound = λ q. Sound-step count rows s t goes.ready goes.held (goes.sound (exchanges.quiet-run s.world (exchanges_at s t) (subst IsQuiet (world-turn rows s t) q))) is q;
 }
 
 Goes-run : (count : ℕ) (s : State) (xs : List (List Row × Turn)) → All (IsTurn count) (turns_of xs) → Goes count s → Goes count (run_turns engine s xs)
 Goes-run count s [] all goes = goes
 Goes-run count s (x ∷ xs) all goes =
-    Goes-run count (step x.0 s x.1) xs (All-tail (IsTurn count) x.1 (turns_of xs) all) (Goes-step count x.0 s x.1 (All-head (IsTurn count) x.1 (turns_of xs) all) goes)
+    Goes-run count (turn_step x.0 s x.1) xs (All-tail (IsTurn count) x.1 (turns_of xs) all) (Goes-step count x.0 s x.1 (All-head (IsTurn count) x.1 (turns_of xs) all) goes)
 
 pub Goes-start : (s : Scenario) (wait : ℕ) (rows : List Row) → IsScenario s → Goes (length s.opening.servers) (start s wait rows)
 Goes-start s wait rows is = record { ready = Ready-start s wait rows is; held = Held-start s wait rows is; sound = λ q. Sound-start s wait rows is }
@@ -106,12 +112,12 @@ not_skipped s xs now n to comes q = no_skipped now.world n to ((Holds-comes s xs
 -- a state that is quiet came from quiet ones
 quiet-back : (s : State) (xs : List (List Row × Turn)) → IsQuiet (run_turns engine s xs).world → IsQuiet s.world
 quiet-back s [] q = q
-quiet-back s (x ∷ xs) q = exchanges.quiet-run s.world (exchanges_at s x.1) (quiet-back (step x.0 s x.1) xs q)
+quiet-back s (x ∷ xs) q = exchanges.quiet-run s.world (exchanges_at s x.1) (subst IsQuiet (world-turn x.0 s x.1) (quiet-back (turn_step x.0 s x.1) xs q))
 
 pub quiet_before : (s : State) (xs : List (List Row × Turn)) (k : ℕ) → IsQuiet (run_turns engine s xs).world → IsQuiet (run_turns engine s (take k xs)).world
 quiet_before s xs zero q = quiet-back s xs q
 quiet_before s [] (suc k) q = q
-quiet_before s (x ∷ xs) (suc k) q = quiet_before (step x.0 s x.1) xs k q
+quiet_before s (x ∷ xs) (suc k) q = quiet_before (turn_step x.0 s x.1) xs k q
 
 pub own_comes : (s : Scenario) (wait : ℕ) (rows : List Row) (xs : List (List Row × Turn)) (k : ℕ) → IsScenario s → turns_of xs ≡ take k s.turns → ComesBy s xs k (run_turns engine (start s wait rows) xs)
 own_comes s wait rows xs k is own = record {
@@ -129,7 +135,7 @@ own_comes s wait rows xs k is own = record {
 
 along : State → List (List Row × Turn) → List Exchange
 along s [] = []
-along s (x ∷ xs) = exchanges_at s x.1 ++ along (step x.0 s x.1) xs
+along s (x ∷ xs) = exchanges_at s x.1 ++ along (turn_step x.0 s x.1) xs
 
 run-append : (w : World) (es fs : List Exchange) → run w (es ++ fs) ≡ run (run w es) fs
 run-append w [] fs = refl
@@ -138,7 +144,9 @@ run-append w (e ∷ es) fs = run-append (after w e) es fs
 world-along : (s : State) (xs : List (List Row × Turn)) → (run_turns engine s xs).world ≡ run s.world (along s xs)
 unfolding along
 world-along s [] = refl
-world-along s (x ∷ xs) = world-along (step x.0 s x.1) xs ∙ sym (run-append s.world (exchanges_at s x.1) (along (step x.0 s x.1) xs))
+world-along s (x ∷ xs) =
+    world-along (turn_step x.0 s x.1) xs ∙ ap (λ (w : World). run w (along (turn_step x.0 s x.1) xs)) (world-turn x.0 s x.1)
+    ∙ sym (run-append s.world (exchanges_at s x.1) (along (turn_step x.0 s x.1) xs))
 
 -- what some exchanges need, and those after them
 record Fit (w : World) (es : List Exchange) : Type 0 where
@@ -171,33 +179,33 @@ Fit-job s id held sound (Some (unended.Recovery r entry)) at =
       join = (taken-sound s.world s.book (next_count s.reads) (moment_at s) r sound.flight.safe held.flight.placed (record { spans = held.flight.rings; own = held.own }) sound.flight.rings here.0 good).joins;
     }
 
-Fit-plain : (count : ℕ) (s : State) (t : Turn) → IsTurn count t → Fit s.world (exchanges_of t)
-Fit-plain count s t is = let fit = Allowed-turn count s.world t is in record { allowed = fit.0; join = fit.1 }
+Fit-none : (w : World) → Fit w []
+Fit-none w = record { allowed = tt; join = tt }
+
+Fit-act : (count : ℕ) (s : State) (a : Act) → Goes count s → IsQuiet s.world → Fit s.world (act_exchanges s a)
+Fit-act count s (act.PollRead p n) goes q = Fit-none s.world
+Fit-act count s (act.PollStore p) goes q = Fit-none s.world
+Fit-act count s (act.Command c) goes q = Fit-none s.world
+Fit-act count s (act.Job job) goes q = Fit-job s job goes.held (goes.sound q) (job_at s.jobs job) refl
+Fit-act count s act.Scan goes q = Fit-none s.world
+Fit-act count s act.Restart goes q = Fit-none s.world
 
 Fit-turn : (count : ℕ) (s : State) (t : Turn) → IsTurn count t → Goes count s → IsQuiet s.world → Fit s.world (exchanges_at s t)
-Fit-turn count s (turn.Write n size) is goes q = Fit-plain count s (turn.Write n size) is
-Fit-turn count s (turn.Fetch n) is goes q = Fit-plain count s (turn.Fetch n) is
-Fit-turn count s (turn.Apply n) is goes q = Fit-plain count s (turn.Apply n) is
-Fit-turn count s (turn.Fail n) is goes q = Fit-plain count s (turn.Fail n) is
-Fit-turn count s (turn.Heal n) is goes q = Fit-plain count s (turn.Heal n) is
-Fit-turn count s (turn.Cut n link) is goes q = Fit-plain count s (turn.Cut n link) is
-Fit-turn count s (turn.Join n link) is goes q = Fit-plain count s (turn.Join n link) is
-Fit-turn count s (turn.Rotate n) is goes q = Fit-plain count s (turn.Rotate n) is
-Fit-turn count s (turn.Tick seconds) is goes q = Fit-plain count s (turn.Tick seconds) is
-Fit-turn count s (turn.Job job) is goes q = Fit-job s job goes.held (goes.sound q) (job_at s.jobs job) refl
-Fit-turn count s turn.Scan is goes q = Fit-plain count s turn.Scan is
-Fit-turn count s (turn.PollRead p n) is goes q = Fit-plain count s (turn.PollRead p n) is
-Fit-turn count s (turn.PollStore p) is goes q = Fit-plain count s (turn.PollStore p) is
-Fit-turn count s (turn.Command c) is goes q = Fit-plain count s (turn.Command c) is
-Fit-turn count s turn.Restart is goes q = Fit-plain count s turn.Restart is
+Fit-turn count s (turn.Step x) is goes q = let fit = Allowed-step count s.world x is in record { allowed = fit.0; join = fit.1 }
+Fit-turn count s (turn.Tick seconds) is goes q = Fit-none s.world
+Fit-turn count s (turn.Act a) is goes q = Fit-act count s a goes q
+Fit-turn count s (turn.As node a) is goes q = absurd is
+Fit-turn count s (turn.Claim node) is goes q = absurd is
+Fit-turn count s (turn.Release node) is goes q = absurd is
 
 Fit-along : (count : ℕ) (s : State) (xs : List (List Row × Turn)) → All (IsTurn count) (turns_of xs) → Goes count s → IsQuiet (run_turns engine s xs).world → Fit s.world (along s xs)
 unfolding along
 Fit-along count s [] all goes q = record { allowed = tt; join = tt }
 Fit-along count s (x ∷ xs) all goes q =
     let here = All-head (IsTurn count) x.1 (turns_of xs) all in
-    Fit-append s.world (exchanges_at s x.1) (along (step x.0 s x.1) xs) (Fit-turn count s x.1 here goes (quiet-back s (x ∷ xs) q))
-    (Fit-along count (step x.0 s x.1) xs (All-tail (IsTurn count) x.1 (turns_of xs) all) (Goes-step count x.0 s x.1 here goes) q)
+    Fit-append s.world (exchanges_at s x.1) (along (turn_step x.0 s x.1) xs) (Fit-turn count s x.1 here goes (quiet-back s (x ∷ xs) q))
+    (subst (λ (w : World). Fit w (along (turn_step x.0 s x.1) xs)) (world-turn x.0 s x.1)
+    (Fit-along count (turn_step x.0 s x.1) xs (All-tail (IsTurn count) x.1 (turns_of xs) all) (Goes-step count x.0 s x.1 here goes) q))
 
 -- ---- how many of them add a transaction or a file
 
@@ -216,42 +224,62 @@ job-none test plain s (Some u) = none-counts test plain (turn_of s u).exchanges 
 adds-writes : Tells adds is_write
 adds-writes = record { each = each }
   where
+    by-step : (x : Step) → count_by adds (exchange_of x ∷ []) ≡ tick (is_write_step x)
+    by-step (step.Write n size) = refl
+    by-step (step.Fetch n) = refl
+    by-step (step.Apply n) = refl
+    by-step (step.Fail n) = refl
+    by-step (step.Heal n) = refl
+    by-step (step.Cut n link) = refl
+    by-step (step.Join n link) = refl
+    by-step (step.Rotate n) = refl
+    by-step (step.Purge n file) = refl
+
+    by-act : (s : State) (a : Act) → count_by adds (act_exchanges s a) ≡ 0
+    by-act s (act.PollRead p n) = refl
+    by-act s (act.PollStore p) = refl
+    by-act s (act.Command c) = refl
+    by-act s (act.Job job) = job-none adds (λ e plain. plain.writes_not) s (job_at s.jobs job)
+    by-act s act.Scan = refl
+    by-act s act.Restart = refl
+
     each : (s : State) (t : Turn) → count_by adds (exchanges_at s t) ≡ tick (is_write t)
-    each s (turn.Write n size) = refl
-    each s (turn.Fetch n) = refl
-    each s (turn.Apply n) = refl
-    each s (turn.Fail n) = refl
-    each s (turn.Heal n) = refl
-    each s (turn.Cut n link) = refl
-    each s (turn.Join n link) = refl
-    each s (turn.Rotate n) = refl
+    each s (turn.Step x) = by-step x
     each s (turn.Tick seconds) = refl
-    each s (turn.Job job) = job-none adds (λ e plain. plain.writes_not) s (job_at s.jobs job)
-    each s turn.Scan = refl
-    each s (turn.PollRead p n) = refl
-    each s (turn.PollStore p) = refl
-    each s (turn.Command c) = refl
-    each s turn.Restart = refl
+    each s (turn.Act a) = by-act s a
+    each s (turn.As node a) = by-act s a
+    each s (turn.Claim node) = refl
+    each s (turn.Release node) = refl
 
 opens-rotates : Tells opens_file is_rotate
 opens-rotates = record { each = each }
   where
+    by-step : (x : Step) → count_by opens_file (exchange_of x ∷ []) ≡ tick (is_rotate_step x)
+    by-step (step.Write n size) = refl
+    by-step (step.Fetch n) = refl
+    by-step (step.Apply n) = refl
+    by-step (step.Fail n) = refl
+    by-step (step.Heal n) = refl
+    by-step (step.Cut n link) = refl
+    by-step (step.Join n link) = refl
+    by-step (step.Rotate n) = refl
+    by-step (step.Purge n file) = refl
+
+    by-act : (s : State) (a : Act) → count_by opens_file (act_exchanges s a) ≡ 0
+    by-act s (act.PollRead p n) = refl
+    by-act s (act.PollStore p) = refl
+    by-act s (act.Command c) = refl
+    by-act s (act.Job job) = job-none opens_file (λ e plain. plain.rotates_not) s (job_at s.jobs job)
+    by-act s act.Scan = refl
+    by-act s act.Restart = refl
+
     each : (s : State) (t : Turn) → count_by opens_file (exchanges_at s t) ≡ tick (is_rotate t)
-    each s (turn.Write n size) = refl
-    each s (turn.Fetch n) = refl
-    each s (turn.Apply n) = refl
-    each s (turn.Fail n) = refl
-    each s (turn.Heal n) = refl
-    each s (turn.Cut n link) = refl
-    each s (turn.Join n link) = refl
-    each s (turn.Rotate n) = refl
+    each s (turn.Step x) = by-step x
     each s (turn.Tick seconds) = refl
-    each s (turn.Job job) = job-none opens_file (λ e plain. plain.rotates_not) s (job_at s.jobs job)
-    each s turn.Scan = refl
-    each s (turn.PollRead p n) = refl
-    each s (turn.PollStore p) = refl
-    each s (turn.Command c) = refl
-    each s turn.Restart = refl
+    each s (turn.Act a) = by-act s a
+    each s (turn.As node a) = by-act s a
+    each s (turn.Claim node) = refl
+    each s (turn.Release node) = refl
 
 -- the scenario's first turns and the next one are no more than all of a kind
 module _ (is : Turn → Bool) where
@@ -274,9 +302,9 @@ module _ (test : Exchange → Bool) (is : Turn → Bool) (tells : Tells test is)
   count-along s [] = refl
   count-along s (x ∷ xs) =
       let here : count_by test (exchanges_at s x.1) ≡ tick (is x.1) = tells.each s x.1 in
-      let rest : count_by test (along (step x.0 s x.1) xs) ≡ count_by is (turns_of xs) = count-along (step x.0 s x.1) xs in
-      sum_by-append (λ e. tick (test e)) (exchanges_at s x.1) (along (step x.0 s x.1) xs)
-      ∙ (ap (λ (n : ℕ). n + count_by test (along (step x.0 s x.1) xs)) here ∙ ap (λ (n : ℕ). tick (is x.1) + n) rest)
+      let rest : count_by test (along (turn_step x.0 s x.1) xs) ≡ count_by is (turns_of xs) = count-along (turn_step x.0 s x.1) xs in
+      sum_by-append (λ e. tick (test e)) (exchanges_at s x.1) (along (turn_step x.0 s x.1) xs)
+      ∙ (ap (λ (n : ℕ). n + count_by test (along (turn_step x.0 s x.1) xs)) here ∙ ap (λ (n : ℕ). tick (is x.1) + n) rest)
       ∙ sym (sum_by-cons (λ t. tick (is t)) x.1 (turns_of xs))
 
   -- the exchanges of the turns and of the next one
@@ -342,13 +370,13 @@ not_full s xs t now j e by makes q =
     (get-append es (exchanges_at now t) j ∙ makes)
     (subst IsQuiet (sym (run-made is_write s xs t now by j)) q))
 
-pub files_left : (s : Scenario) (xs : List (List Row × Turn)) (now : State) (n : ServerNo) → ComesWithin is_rotate s xs (turn.Rotate n) now → (rotate now.world n.0).0 ≡ rotating.Full → ⊥
+pub files_left : (s : Scenario) (xs : List (List Row × Turn)) (now : State) (n : ServerNo) → ComesWithin is_rotate s xs (turn.Step (step.Rotate n)) now → (rotate now.world n.0).0 ≡ rotating.Full → ⊥
 files_left s xs now n by full =
-    let t = turn.Rotate n in
-    let es = along (first is_rotate s xs (turn.Rotate n) now by) xs in
-    not_full-files (made is_rotate s xs (turn.Rotate n) now by) (length es + 0) n.0 (start_world s) (HasFiles-start is_rotate s xs (turn.Rotate n) now by opens-rotates refl)
-    (get-append es (exchanges_of (turn.Rotate n)) 0)
-    (ap (λ (w : World). rotate_answer (server_at w n.0)) (run-made is_rotate s xs (turn.Rotate n) now by 0) ∙ full)
+    let t = turn.Step (step.Rotate n) in
+    let es = along (first is_rotate s xs (turn.Step (step.Rotate n)) now by) xs in
+    not_full-files (made is_rotate s xs (turn.Step (step.Rotate n)) now by) (length es + 0) n.0 (start_world s) (HasFiles-start is_rotate s xs (turn.Step (step.Rotate n)) now by opens-rotates refl)
+    (get-append es (exchanges_at now (turn.Step (step.Rotate n))) 0)
+    (ap (λ (w : World). rotate_answer (server_at w n.0)) (run-made is_rotate s xs (turn.Step (step.Rotate n)) now by 0) ∙ full)
 
 -- the scenario's own turns are such a run
 pub own_within : (is : Turn → Bool) (s : Scenario) (xs : List (List Row × Turn)) (k : ℕ) (t : Turn) (now : State) → ComesBy s xs k now → slice_get s.turns k ≡ Some t → ComesWithin is s xs t now

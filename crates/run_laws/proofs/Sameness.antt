@@ -1,20 +1,26 @@
--- Audits that the same rows follow, and whose recoveries count, are the same.
+-- The audit that is loaded of rows which follow one is that one, where its recoveries count.
 use Rattle.std.proofs.Common.{◌≡◌, ◌∙◌, ℕ, ◌-◌, ◌<◌, ◌≤◌, ◌^◌, Bool, true, false, cond, List, [], ◌∷◌, refl, sym, ap, subst, inl, inr, Option, Some, None, arith}
-use Rattle.std.specs.Prelude.{All, AllPairs, IfSome, ◌==◌, ◌⊎◌, find}
+use Rattle.std.specs.Prelude.{All, AllPairs, IfSome, ◌==◌, ◌⊎◌, find, option_map, if◌then◌else◌}
 use Rattle.std.proofs.lemmas.Bool.{cases_lt, eq-eqb, eqb-true, false≢true, ne_eqb}
 use Rattle.std.proofs.lemmas.List.Elements.{All-weaker}
 use Rattle.audit_log.proofs.Changes.{none-at}
 use Rattle.audit_log.proofs.Finding.{All-found}
-use Rattle.audit_log.specs.Audits.{AuditState, IsAudit}
-use Rattle.instance_keeper.proofs.Lists.{pairs_head, pairs_tail}
-use Rattle.instance_keeper.specs.Rows.{row_at}
-use Rattle.instance_keeper.specs.declared.recovery.Recovery.{Recovery}
-use Rattle.instance_keeper.specs.declared.row.Key.TheVariants as key
-use Rattle.instance_keeper.specs.declared.row.Row.{Row}
-use Rattle.instance_keeper.specs.declared.row.Row.TheVariants as row
-use Rattle.instance_keeper.specs.declared.row.Table.TheVariants as table
-use Rattle.opening_book.specs.Counting.{counts}
+use Rattle.audit_log.specs.Audits.{AuditState, IsAudit, longest_block}
+use Rattle.audit_log.specs.Loading.{loaded_by, recoveries_in}
+use Rattle.kept_rows.proofs.Lists.{pairs_head, pairs_tail}
+use Rattle.kept_rows.specs.Recoveries.{as_row}
+use Rattle.kept_rows.specs.Rows.{IsRising, row_at}
+use Rattle.kept_rows.specs.declared.recovery.Recovery.{Recovery}
+use Rattle.kept_rows.specs.declared.row.Key.TheVariants as key
+use Rattle.kept_rows.specs.declared.row.Row.{Row}
+use Rattle.kept_rows.specs.declared.row.Row.TheVariants as row
+use Rattle.kept_rows.specs.declared.row.Table.TheVariants as table
+use Rattle.opening_book.proofs.Following.{passing}
+use Rattle.opening_book.proofs.Recoveries.{loaded-at, row-of}
+use Rattle.opening_book.specs.Audits.{audit_of}
+use Rattle.opening_book.specs.Counting.{counted, counts}
 use Rattle.opening_book.specs.Following.{FollowAudit, IsAudited}
+use Rattle.run_laws.proofs.Loads.{audit-of}
 
 -- ---- lists of rising ids with the same recovery at each
 
@@ -81,26 +87,22 @@ same-lists (x ∷ xs) (y ∷ ys) rise rise' same =
         sym (ap (λ (b : Bool). cond b (Some x) (found xs id)) here) ∙ same id
         ∙ ap (λ (b : Bool). cond b (Some y) (found ys id)) (ap (λ (n : ℕ). n == id) (sym ids) ∙ here)
 
--- ---- audits that the same rows follow
+-- ---- an audit that rows follow, and the one that is loaded of them
 
-module _ (count next : ℕ) where
+module _ (count next : ℕ) (period : List ℕ → ℕ) (short : (cluster : List ℕ) → period cluster ≤ longest_block) where
   abbrev Counted : Recovery → Type 0
-  Counted r = counts count (next - 1) (row.Recovery r) ≡ true
+  Counted r = counts count (next - 1) (row.Recovery (as_row r)) ≡ true
 
-  counted-not : {A : Type 0} (r : Recovery) (kept : Option Row) → kept ≡ Some (row.Recovery r) → IfSome kept (λ x. counts count (next - 1) x ≡ false) → Counted r → A
-  counted-not r kept is off on =
-      let none : counts count (next - 1) (row.Recovery r) ≡ false = subst (λ (k : Option Row). IfSome k (λ x. counts count (next - 1) x ≡ false)) is off in
-      absurd (false≢true (sym none ∙ on))
+  -- what is loaded under an id, by the row that is kept there
+  abbrev loaded_of : Option Row → Option Recovery
+  loaded_of kept = option_map (loaded_by period) (row-of (passing (counts count (next - 1)) kept))
 
-  -- of one kept row there is one recovery
-  agree : (x y : Option Recovery) (kept : Option Row) → IsAudited count next kept x → IsAudited count next kept y → IfSome x Counted → IfSome y Counted → x ≡ y
-  agree None None kept is is' on on' = refl
-  agree (Some r) (Some t) kept is is' on on' =
-      let one : Some (row.Recovery r) ≡ Some (row.Recovery t) = sym is ∙ is' in
-      let same : r ≡ t = cc in
-      ap (λ (z : Recovery). Some z) same
-  agree (Some r) None kept is off on on' = counted-not r kept is off on
-  agree None (Some t) kept off is on on' = counted-not t kept is off on'
+  -- of a kept row that counts the recovery of the audit
+  agree : (o : Option Recovery) (kept : Option Row) → IsAudited count next kept o → IfSome o Counted → loaded_of kept ≡ o
+  agree (Some r) kept is on =
+      ap loaded_of is ∙ ap (λ (b : Bool). option_map (loaded_by period) (row-of (if b then Some (row.Recovery (as_row r)) else None))) on
+  agree None None is on = refl
+  agree None (Some x) off on = ap (λ (b : Bool). option_map (loaded_by period) (row-of (if b then Some x else None))) off
 
   all-counted : (xs : List Recovery) → All Counted xs → (id : ℕ) → IfSome (found xs id) Counted
   all-counted xs all id = go (found xs id) refl
@@ -114,13 +116,23 @@ module _ (count next : ℕ) where
   past a is id more =
       none-at id a.recoveries (All-weaker (λ (r : Recovery). r.id < a.next) (λ r. (r.id == id) ≡ false) (λ r less. ne_eqb r.id id (λ e. absurd (omega (arith, less, e, more)))) a.recoveries is.below)
 
-  pub same-audits : (rows : List Row) (xs ys : List Recovery) → FollowAudit count rows (record { recoveries = xs; next = next }) → FollowAudit count rows (record { recoveries = ys; next = next })
-      → All Counted xs → All Counted ys → xs ≡ ys
-  same-audits rows xs ys a b all all' = same-lists xs ys a.audit.rising b.audit.rising (λ id. at id (cases_lt id (2 ^ 64)))
+  pub same-loaded : (rows : List Row) (xs : List Recovery) → count ≤ 2 ^ 32 → IsRising rows → FollowAudit count rows (record { recoveries = xs; next = next }) → All Counted xs
+      → recoveries_in period (counted count (next - 1) rows) ≡ xs
+  same-loaded rows xs few rising follow all = same-lists (recoveries_in period (counted count (next - 1) rows)) xs is.rising follow.audit.rising (λ id. at id (cases_lt id (2 ^ 64)))
     where
-      at : (id : ℕ) → (id < 2 ^ 64) ⊎ (2 ^ 64 ≤ id) → found xs id ≡ found ys id
+      first : 1 ≤ next
+      first = follow.audit.first
+
+      before : next - 1 < next
+      before = omega (arith, first)
+
+      is : IsAudit (audit_of period next (counted count (next - 1) rows))
+      is = audit-of count (next - 1) period short next rows first before
+
+      at : (id : ℕ) → (id < 2 ^ 64) ⊎ (2 ^ 64 ≤ id) → found (recoveries_in period (counted count (next - 1) rows)) id ≡ found xs id
       at id (inl small) =
-          agree (found xs id) (found ys id) (row_at rows table.Recovery (key.Id id)) (a.each id small) (b.each id small) (all-counted xs all id) (all-counted ys all' id)
+          loaded-at period short count next (next - 1) rows few first follow.small before rising id small
+          ∙ agree (found xs id) (row_at rows table.Recovery (key.Id id)) (follow.each id small) (all-counted xs all id)
       at id (inr more) =
-          let most = a.small in
-          past (record { recoveries = xs; next = next }) a.audit id (omega (arith, more, most)) ∙ sym (past (record { recoveries = ys; next = next }) b.audit id (omega (arith, more, most)))
+          let most = follow.small in
+          past (audit_of period next (counted count (next - 1) rows)) is id (omega (arith, more, most)) ∙ sym (past (record { recoveries = xs; next = next }) follow.audit id (omega (arith, more, most)))

@@ -5,16 +5,18 @@ use Rattle.commands.specs.declared.line.Line.{Line}
 use Rattle.commands.specs.declared.refusal.Refusal.{Refusal}
 use Rattle.commands.specs.declared.turn.CommandTurn.{CommandTurn}
 use Rattle.instance_keeper.specs.Leases.{taken}
-use Rattle.instance_keeper.specs.declared.row.Row.{Row}
-use Rattle.orch_core.specs.Commands.{entries_put, recovery_job}
+use Rattle.kept_rows.specs.declared.row.Row.{Row}
+use Rattle.orch_core.specs.Knowing.{recovery_job}
+use Rattle.orch_core.specs.Commands.{entries_put}
 use Rattle.orch_core.specs.Permission.{IsAnswer, refusal_at}
 use Rattle.orch_core.specs.Polls.{changes_of}
 use Rattle.orch_core.specs.Replies.{reply_of}
-use Rattle.orch_core.specs.Runs.{step}
+use Rattle.orch_core.specs.After.{step}
 use Rattle.orch_core.specs.States.{State}
 use Rattle.recovery_core.specs.Begun.{leases_after}
 use Rattle.recovery_core.specs.Scans.{actionable_in}
-use Rattle.turns.specs.declared.turn.Reply.TheVariants as answered
+use Rattle.turns.specs.declared.reply.Reply.TheVariants as answered
+use Rattle.turns.specs.declared.turn.Act.TheVariants as act
 use Rattle.turns.specs.declared.turn.Turn.TheVariants as turn
 use Rattle.unended_jobs.specs.Unended.{number_of}
 use Rattle.run_laws.specs.BegunJobs.{BegunJob, begun_of, entry_kept, with_entry}
@@ -26,12 +28,12 @@ use Rattle.run_laws.specs.Runs.{IsBegun}
 
 -- it is refused exactly with the refusal of the permission table, and otherwise begins its job or is done
 abbrev pub CommandsAnswerByTable : Type 0
-CommandsAnswerByTable = (s : State) (c : CommandTurn) → IsAnswer (route_of c.command.name) (refusal_at s c.command) (reply_of s (turn.Command c))
+CommandsAnswerByTable = (s : State) (c : CommandTurn) → IsAnswer (route_of c.command.name) (refusal_at s c.command) (reply_of s (turn.Act (act.Command c)))
 
 -- a refused one changes no kept row, and nothing of the state
 abbrev pub RefusedChangeNothing : Type 0
-RefusedChangeNothing = (rows : List Row) (s : State) (c : CommandTurn) (r : Refusal) → reply_of s (turn.Command c) ≡ answered.Refused r
-    → (changes_of rows s (turn.Command c) ≡ []) × (step rows s (turn.Command c) ≡ s)
+RefusedChangeNothing = (rows : List Row) (s : State) (c : CommandTurn) (r : Refusal) → reply_of s (turn.Act (act.Command c)) ≡ answered.Refused r
+    → (changes_of rows s (turn.Act (act.Command c)) ≡ []) × (step rows s (turn.Act (act.Command c)) ≡ s)
 
 -- a job that is begun has the next number
 abbrev pub BegunHaveNextNumber : Type 0
@@ -53,40 +55,40 @@ HasNextNumber s c x = number_of x.job ≡ s.last_job + 1
 
 -- it joins the unended ones
 abbrev pub JoinsJobs : State → CommandTurn → BegunJob → Type 0
-JoinsJobs s c x = (rows : List Row) → (step rows s (turn.Command c)).jobs ≡ s.jobs ++ x.job ∷ []
+JoinsJobs s c x = (rows : List Row) → (step rows s (turn.Act (act.Command c))).jobs ≡ s.jobs ++ x.job ∷ []
 
 abbrev pub IsLastJob : State → CommandTurn → BegunJob → Type 0
-IsLastJob s c x = (rows : List Row) → (step rows s (turn.Command c)).last_job ≡ s.last_job + 1
+IsLastJob s c x = (rows : List Row) → (step rows s (turn.Act (act.Command c))).last_job ≡ s.last_job + 1
 
 -- it takes the leases of its command's list
 abbrev pub TakesLeases : State → CommandTurn → BegunJob → Type 0
-TakesLeases s c x = (rows : List Row) → (step rows s (turn.Command c)).book.leases ≡ taken s.book.leases x.list (s.last_job + 1)
+TakesLeases s c x = (rows : List Row) → (step rows s (turn.Act (act.Command c))).book.leases ≡ taken s.book.leases x.list (s.last_job + 1)
 
 -- a recovery and a takeover begin with their entry in the audit
 abbrev pub EntersAudit : State → CommandTurn → BegunJob → Type 0
-EntersAudit s c x = (rows : List Row) → (step rows s (turn.Command c)).audit ≡ with_entry s.audit x.entry
+EntersAudit s c x = (rows : List Row) → (step rows s (turn.Act (act.Command c))).audit ≡ with_entry s.audit x.entry
 
 -- which is kept
 abbrev pub KeepsEntry : State → CommandTurn → BegunJob → Type 0
-KeepsEntry s c x = (rows : List Row) → changes_of rows s (turn.Command c) ≡ entry_kept x.entry
+KeepsEntry s c x = (rows : List Row) → changes_of rows s (turn.Act (act.Command c)) ≡ entry_kept x.entry
 
 -- ---- a scan
 
 -- it tells a line for each instance whose analysis asks for a recovery, in name order
 abbrev pub ScansTellEachTry : Type 0
-ScansTellEachTry = (s : State) → (lines : List Line) × (reply_of s turn.Scan ≡ answered.Told lines) × AreLinesOf s.last_job (actionable_in s.book) (recoveries_scanned s) lines
+ScansTellEachTry = (s : State) → (lines : List Line) × (reply_of s (turn.Act act.Scan) ≡ answered.Told lines) × AreLinesOf s.last_job (actionable_in s.book) (recoveries_scanned s) lines
 
 -- what begins joins the unended jobs
 abbrev pub ScannedJoinJobs : Type 0
-ScannedJoinJobs = (rows : List Row) (s : State) → (step rows s turn.Scan).jobs ≡ s.jobs ++ map recovery_job (recoveries_scanned s)
+ScannedJoinJobs = (rows : List Row) (s : State) → (step rows s (turn.Act act.Scan)).jobs ≡ s.jobs ++ map recovery_job (recoveries_scanned s)
 
 abbrev pub ScannedAreLastJobs : Type 0
-ScannedAreLastJobs = (rows : List Row) (s : State) → (step rows s turn.Scan).last_job ≡ s.last_job + length (recoveries_scanned s)
+ScannedAreLastJobs = (rows : List Row) (s : State) → (step rows s (turn.Act act.Scan)).last_job ≡ s.last_job + length (recoveries_scanned s)
 
 -- it takes its leases
 abbrev pub ScannedTakeLeases : Type 0
-ScannedTakeLeases = (rows : List Row) (s : State) → (step rows s turn.Scan).book.leases ≡ leases_after s.book.leases (recoveries_scanned s)
+ScannedTakeLeases = (rows : List Row) (s : State) → (step rows s (turn.Act act.Scan)).book.leases ≡ leases_after s.book.leases (recoveries_scanned s)
 
 -- and its entries are kept
 abbrev pub ScannedKeepEntries : Type 0
-ScannedKeepEntries = (rows : List Row) (s : State) → changes_of rows s turn.Scan ≡ entries_put (recoveries_scanned s)
+ScannedKeepEntries = (rows : List Row) (s : State) → changes_of rows s (turn.Act act.Scan) ≡ entries_put (recoveries_scanned s)

@@ -1,13 +1,15 @@
 -- The audit through runs.
 use Rattle.std.specs.Prelude.{◌≡◌, ◌≤◌, All, List, false, length, true}
-use Rattle.instance_keeper.specs.declared.row.Row.{Row}
-use Rattle.instance_keeper.specs.declared.row.Row.TheVariants as row
+use Rattle.kept_rows.specs.Recoveries.{as_row}
+use Rattle.kept_rows.specs.declared.row.Row.{Row}
+use Rattle.kept_rows.specs.declared.row.Row.TheVariants as row
 use Rattle.opening_book.specs.Counting.{counts}
 use Rattle.orch_core.specs.Keeping.{asks}
 use Rattle.orch_core.specs.Restarts.{last_given}
-use Rattle.orch_core.specs.Runs.{step}
+use Rattle.orch_core.specs.After.{step}
 use Rattle.orch_core.specs.States.{State}
 use Rattle.scenarios.specs.declared.scenario.Scenario.{Scenario}
+use Rattle.scenarios.specs.Scenarios.{period_of}
 use Rattle.turns.specs.declared.turn.Turn.{Turn}
 use Rattle.run_laws.specs.Begins.{BeginApartInTurn}
 use Rattle.run_laws.specs.Entries.{HasMore, entries_begun}
@@ -18,11 +20,15 @@ NextNeverSinks = (rows : List Row) (s : State) (t : Turn) → s.audit.next ≤ (
 
 -- each recovery counts at a restart: its servers are there, and its numbers are in their ranges
 abbrev pub EachRecoveryCounts : Scenario → State → Type 0
-EachRecoveryCounts s now = All (λ r. counts (length s.opening.servers) (last_given now) (row.Recovery r) ≡ true) now.audit.recoveries
+EachRecoveryCounts s now = All (λ r. counts (length s.opening.servers) (last_given now) (row.Recovery (as_row r)) ≡ true) now.audit.recoveries
 
--- what a turn would begin is apart, by the scenario's block period
-abbrev pub AnyTurnBeginsApart : Scenario → State → Type 0
-AnyTurnBeginsApart s now = (t : Turn) → BeginApartInTurn s.block (record { 0 = now.moment }) now.audit (entries_begun now t)
+-- what a turn would begin has its cluster's block period
+abbrev pub AnyTurnGivesPeriods : Scenario → State → Type 0
+AnyTurnGivesPeriods s now = (t : Turn) → All (λ r. r.block ≡ period_of s r.cluster) (entries_begun now t)
+
+-- what a turn would begin is apart
+abbrev pub AnyTurnBeginsApart : State → Type 0
+AnyTurnBeginsApart s = (t : Turn) → BeginApartInTurn (record { 0 = s.moment }) s.audit (entries_begun s t)
 
 -- but for a restart, which loads the kept rows, a turn adds just what it begins, and drops none
 abbrev pub TurnsAddWhatBegins : Type 0

@@ -1,4 +1,4 @@
--- That what begins names no replica twice, and begins apart by the block period.
+-- That what begins names no replica twice, and begins apart by the block periods of those before it.
 use Rattle.std.specs.Prelude.{◌≡◌, ◌<◌, ℕ, All, Ok, length}
 use Rattle.orch_base.specs.declared.server.Moment.{Moment}
 use Rattle.orch_base.specs.declared.server.ServerNo.{ServerNo}
@@ -27,15 +27,15 @@ ScansNameOnce = (w : World) (b : BookState) (audit : AuditState) (by : ServerNo 
 abbrev pub RegroupsNameOnce : Type 0
 RegroupsNameOnce = (b : BookState) (f : ServerNo) → AreReplicas purpose.Regroup f (replicas_of b f)
 
--- ---- the block period
+-- ---- the block periods
 
 abbrev pub RecoveriesBeginApart : Type 0
-RecoveriesBeginApart = (w : World) (b : BookState) (audit : AuditState) (a : Attempt) (wait job : ℕ) (f : ServerNo) (x : Begins) → recovery_try w b audit a wait job f ≡ Ok x → BeginsApart a.block a.now audit x.entry
+RecoveriesBeginApart = (w : World) (b : BookState) (audit : AuditState) (a : Attempt) (wait job : ℕ) (f : ServerNo) (x : Begins) → recovery_try w b audit a wait job f ≡ Ok x → BeginsApart a.now audit x.entry
 
 abbrev pub TakeoversBeginApart : Type 0
-TakeoversBeginApart = (w : World) (b : BookState) (audit : AuditState) (a : Attempt) (wait job : ℕ) (i d : ServerNo) (x : Begins) → takeover_try w b audit a wait job i d ≡ Ok x → BeginsApart a.block a.now audit x.entry
+TakeoversBeginApart = (w : World) (b : BookState) (audit : AuditState) (a : Attempt) (wait job : ℕ) (i d : ServerNo) (x : Begins) → takeover_try w b audit a wait job i d ≡ Ok x → BeginsApart a.now audit x.entry
 
 -- of a scan each begins so, beside the audit with those before it
 abbrev pub ScansBeginApart : Type 0
-ScansBeginApart = (w : World) (b : BookState) (audit : AuditState) (by : ServerNo → Attempt) (wait last block : ℕ) (now : Moment) → ((n : ServerNo) → (by n).block ≡ block) → ((n : ServerNo) → (by n).now ≡ now)
-    → BeginApartInTurn block now audit (entries_of (scanned w b audit by wait last).begun)
+ScansBeginApart = (w : World) (b : BookState) (audit : AuditState) (by : ServerNo → Attempt) (wait last : ℕ) (now : Moment) → ((n : ServerNo) → (by n).now ≡ now)
+    → BeginApartInTurn now audit (entries_of (scanned w b audit by wait last).begun)

@@ -2,7 +2,7 @@
 use Rattle.std.specs.Prelude.{◌≡◌, ℕ, List, [], ◌∷◌, map, All}
 use Rattle.orch_base.specs.declared.server.Moment.{Moment}
 use Rattle.instance_keeper.specs.Book.{BookState}
-use Rattle.instance_keeper.specs.declared.recovery.Recovery.{Recovery as KeptRecovery}
+use Rattle.kept_rows.specs.declared.recovery.Recovery.{Recovery as KeptRecovery}
 use Rattle.book_views.specs.Sources.{replicas_of}
 use Rattle.audit_log.specs.Apart.{IsClear}
 use Rattle.audit_log.specs.Audits.{AuditState, begun}
@@ -15,16 +15,16 @@ pub record NamesReplicasOnce (b : BookState) (x : Begins) : Type 0 where
   pub once : AreReplicas x.job.purpose x.job.failed x.job.replicas
 
 -- A recovery begins beside an audit, as its next one, at a moment. None of its cluster holds it back there: each is
--- ended, and is acknowledged or as old as the block period.
-pub record BeginsApart (block : ℕ) (now : Moment) (a : AuditState) (r : KeptRecovery) : Type 0 where
+-- ended, and is acknowledged or began at least its own block period ago.
+pub record BeginsApart (now : Moment) (a : AuditState) (r : KeptRecovery) : Type 0 where
   pub number : r.id ≡ a.next
   pub moment : r.begun ≡ now
-  pub clear : All (IsClear r.cluster now.0 block) a.recoveries
+  pub clear : All (IsClear r.cluster now.0) a.recoveries
 
 -- each beside what those before it left
-abbrev pub BeginApartInTurn : ℕ → Moment → AuditState → List KeptRecovery → Type 0
-BeginApartInTurn block now a [] = Unit {0}
-BeginApartInTurn block now a (r ∷ rs) = BeginsApart block now a r × BeginApartInTurn block now (begun a r) rs
+abbrev pub BeginApartInTurn : Moment → AuditState → List KeptRecovery → Type 0
+BeginApartInTurn now a [] = Unit {0}
+BeginApartInTurn now a (r ∷ rs) = BeginsApart now a r × BeginApartInTurn now (begun a r) rs
 
 -- the entries with which they begin
 abbrev pub entries_of : List Begins → List KeptRecovery

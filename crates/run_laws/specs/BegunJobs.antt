@@ -8,14 +8,14 @@ use Rattle.command_routes.specs.declared.route.Route.TheVariants.{Discovers, For
 use Rattle.command_routes.specs.Routes.{route_of}
 use Rattle.commands.specs.declared.refusal.Refusal.{Refusal}
 use Rattle.commands.specs.declared.turn.Command.{Command}
-use Rattle.instance_keeper.specs.declared.recovery.Recovery.{Recovery}
-use Rattle.instance_keeper.specs.declared.row.Change.{Change}
-use Rattle.instance_keeper.specs.declared.row.Change.TheVariants as change
-use Rattle.instance_keeper.specs.declared.row.Row.TheVariants as row
+use Rattle.kept_rows.specs.Recoveries.{put_recovery}
+use Rattle.kept_rows.specs.declared.recovery.Recovery.{Recovery}
+use Rattle.kept_rows.specs.declared.row.Change.{Change}
 use Rattle.orch_base.specs.declared.server.ServerNo.{ServerNo}
 use Rattle.recovery_core.specs.Tries.{Begins as RecoveryBegins, recovery_try, takeover_try}
 use Rattle.unended_jobs.specs.declared.unended.Unended.{Unended}
-use Rattle.orch_core.specs.Commands.{by_hand, recovery_job}
+use Rattle.orch_core.specs.Knowing.{recovery_job}
+use Rattle.orch_core.specs.Commands.{by_hand}
 use Rattle.orch_core.specs.Polls.{numbers_of}
 use Rattle.orch_core.specs.States.{State}
 
@@ -43,12 +43,12 @@ planned s c p =
 -- of the instance that is given
 abbrev pub recovering : State → Option ServerNo → Option BegunJob
 recovering s None = None
-recovering s (Some i) = of_try (recovery_try s.world s.book s.audit (by_hand (numbers_of s)) s.configuration.wait (s.last_job + 1) i)
+recovering s (Some i) = of_try (recovery_try s.world s.book s.audit (by_hand s.book s.configuration (numbers_of s) i) s.configuration.wait (s.last_job + 1) i)
 
 -- by the designated server that is given
 abbrev pub taking_by : State → ServerNo → Option ServerNo → Option BegunJob
 taking_by s i None = None
-taking_by s i (Some d) = of_try (takeover_try s.world s.book s.audit (by_hand (numbers_of s)) s.configuration.wait (s.last_job + 1) i d)
+taking_by s i (Some d) = of_try (takeover_try s.world s.book s.audit (by_hand s.book s.configuration (numbers_of s) i) s.configuration.wait (s.last_job + 1) i d)
 
 abbrev pub taking_over : State → Option ServerNo → Option ServerNo → Option BegunJob
 taking_over s None d = None
@@ -77,4 +77,4 @@ with_entry a (Some r) = begun a r
 -- how it is kept
 abbrev pub entry_kept : Option Recovery → List Change
 entry_kept None = []
-entry_kept (Some r) = change.Put (row.Recovery r) ∷ []
+entry_kept (Some r) = put_recovery r ∷ []

@@ -6,16 +6,19 @@ use Rattle.command_routes.specs.declared.route.Route.TheVariants.{Discovers, For
 use Rattle.command_routes.specs.Routes.{route_of}
 use Rattle.commands.specs.declared.refusal.Refusal.{Refusal}
 use Rattle.commands.specs.declared.turn.Command.{Command}
-use Rattle.instance_keeper.specs.declared.recovery.Recovery.{Recovery}
+use Rattle.kept_rows.specs.declared.recovery.Recovery.{Recovery}
 use Rattle.orch_base.specs.declared.recovery.Ending.TheVariants as ending
 use Rattle.orch_base.specs.declared.server.ServerNo.{ServerNo}
 use Rattle.recovery_core.specs.Scans.{attempt_of, scanned}
 use Rattle.recovery_core.specs.Tries.{Begins as RecoveryBegins, recovery_try, takeover_try}
 use Rattle.recovery_permits.specs.declared.attempt.Attempt.{Attempt}
+use Rattle.turns.specs.declared.turn.Act.{Act}
+use Rattle.turns.specs.declared.turn.Act.TheVariants as act
 use Rattle.turns.specs.declared.turn.Turn.{Turn}
 use Rattle.turns.specs.declared.turn.Turn.TheVariants as turn
 use Rattle.run_laws.specs.Begins.{entries_of}
 use Rattle.orch_core.specs.Commands.{by_hand, terms_of}
+use Rattle.orch_core.specs.Periods.{period_by}
 use Rattle.orch_core.specs.Polls.{numbers_of}
 use Rattle.orch_core.specs.States.{State}
 
@@ -29,12 +32,12 @@ tried (Err why) = []
 -- of the instance that is given
 abbrev pub recoveries_of : State → Option ServerNo → List RecoveryBegins
 recoveries_of s None = []
-recoveries_of s (Some i) = tried (recovery_try s.world s.book s.audit (by_hand (numbers_of s)) s.configuration.wait (s.last_job + 1) i)
+recoveries_of s (Some i) = tried (recovery_try s.world s.book s.audit (by_hand s.book s.configuration (numbers_of s) i) s.configuration.wait (s.last_job + 1) i)
 
 -- by the designated server that is given
 abbrev pub takeovers_by : State → ServerNo → Option ServerNo → List RecoveryBegins
 takeovers_by s i None = []
-takeovers_by s i (Some d) = tried (takeover_try s.world s.book s.audit (by_hand (numbers_of s)) s.configuration.wait (s.last_job + 1) i d)
+takeovers_by s i (Some d) = tried (takeover_try s.world s.book s.audit (by_hand s.book s.configuration (numbers_of s) i) s.configuration.wait (s.last_job + 1) i d)
 
 abbrev pub takeovers_of : State → Option ServerNo → Option ServerNo → List RecoveryBegins
 takeovers_of s None d = []
@@ -54,7 +57,7 @@ recoveries_by s c TakesOver = takeovers_of s c.i c.d
 
 -- how it tries each instance
 abbrev pub attempt_in : State → ServerNo → Attempt
-attempt_in s = attempt_of s.configuration.master s.configuration.intermediate (terms_of s.book (numbers_of s))
+attempt_in s = attempt_of s.configuration.master s.configuration.intermediate (period_by s.configuration) s.book (terms_of s.book (numbers_of s))
 
 -- one after another
 abbrev pub recoveries_scanned : State → List RecoveryBegins
@@ -62,23 +65,22 @@ recoveries_scanned s = (scanned s.world s.book s.audit (attempt_in s) s.configur
 
 -- ---- by a turn
 
--- no turn but a command and a scan begins one
+-- of what orchestrator does only a command and a scan begin one
+abbrev pub recoveries_in_act : State → Act → List RecoveryBegins
+recoveries_in_act s (act.PollRead p n) = []
+recoveries_in_act s (act.PollStore p) = []
+recoveries_in_act s (act.Command c) = recoveries_by s c.command (route_of c.command.name)
+recoveries_in_act s (act.Job job) = []
+recoveries_in_act s act.Scan = recoveries_scanned s
+recoveries_in_act s act.Restart = []
+
 abbrev pub recoveries_begun : State → Turn → List RecoveryBegins
-recoveries_begun s (turn.Command c) = recoveries_by s c.command (route_of c.command.name)
-recoveries_begun s turn.Scan = recoveries_scanned s
-recoveries_begun s (turn.Job job) = []
-recoveries_begun s turn.Restart = []
-recoveries_begun s (turn.PollRead p n) = []
-recoveries_begun s (turn.PollStore p) = []
-recoveries_begun s (turn.Write n size) = []
-recoveries_begun s (turn.Fetch n) = []
-recoveries_begun s (turn.Apply n) = []
-recoveries_begun s (turn.Fail n) = []
-recoveries_begun s (turn.Heal n) = []
-recoveries_begun s (turn.Cut n link) = []
-recoveries_begun s (turn.Join n link) = []
-recoveries_begun s (turn.Rotate n) = []
+recoveries_begun s (turn.Step x) = []
 recoveries_begun s (turn.Tick seconds) = []
+recoveries_begun s (turn.Act a) = recoveries_in_act s a
+recoveries_begun s (turn.As node a) = recoveries_in_act s a
+recoveries_begun s (turn.Claim node) = []
+recoveries_begun s (turn.Release node) = []
 
 -- their entries, in order
 abbrev pub entries_begun : State → Turn → List Recovery

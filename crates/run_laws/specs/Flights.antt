@@ -3,8 +3,8 @@ use Rattle.std.specs.Prelude.{ℕ, ◌+◌, ◌&&◌, nat_lt, Bool, true, false,
 use Rattle.orch_base.specs.Memory.{next_count}
 use Rattle.orch_base.specs.declared.server.Moment.{Moment}
 use Rattle.orch_base.specs.declared.server.ServerNo.{ServerNo}
-use Rattle.instance_keeper.specs.declared.observation.Instance.{Instance}
-use Rattle.instance_keeper.specs.declared.observation.Observation.{Observation}
+use Rattle.kept_rows.specs.declared.observation.Instance.{Instance}
+use Rattle.kept_rows.specs.declared.observation.Observation.{Observation}
 use Rattle.instance_keeper.specs.Book.{BookState, instance_at}
 use Rattle.commands.specs.declared.refusal.Refusal.{Refusal}
 use Rattle.command_routes.specs.declared.route.Planner.{Planner}
@@ -14,8 +14,8 @@ use Rattle.command_routes.specs.Routes.{route_of}
 use Rattle.command_jobs.specs.Jobs.{job_by, leases_by, refusal_by}
 use Rattle.commands.specs.declared.turn.Command.{Command}
 use Rattle.asking_commands.specs.Answers.{allowed}
-use Rattle.server_words.specs.declared.changes.Event.TheVariants as event
-use Rattle.server_model.specs.Run.{Write, Fetch, Apply, Befall, Rotate}
+use Rattle.turns.specs.declared.turn.Act.{Act}
+use Rattle.turns.specs.declared.turn.Act.TheVariants as act
 use Rattle.turns.specs.declared.turn.Turn.{Turn}
 use Rattle.turns.specs.declared.turn.Turn.TheVariants as turn
 use Rattle.recovery_core.specs.Tries.{Begins as RecoveryBegins, recovery_try, takeover_try}
@@ -26,10 +26,12 @@ use Rattle.job_laws.specs.Flights.{Flight}
 use Rattle.job_laws.specs.Leases.{leases_of}
 use Rattle.job_laws.specs.Passages.{Passage}
 use Rattle.job_laws.specs.Passages as pass
-use Rattle.orch_core.specs.Commands.{by_hand, recovery_job, removal_refusal}
+use Rattle.orch_core.specs.Knowing.{recovery_job}
+use Rattle.orch_core.specs.Commands.{by_hand, removal_refusal}
 use Rattle.jobs_in_flight.specs.Jobs.{job_at}
 use Rattle.orch_core.specs.Polls.{numbers_of, reading, slot_at}
 use Rattle.orch_core.specs.States.{State}
+use Rattle.orch_core.specs.Turns.{exchange_of}
 use Rattle.run_laws.specs.Entries.{recoveries_scanned}
 
 -- what is kept beside the instances: the servers, the bridges, the slots, of each job the operations that are left, of
@@ -91,12 +93,12 @@ by_try (Ok x) = by_recoveries (x ∷ [])
 by_try (Err r) = []
 
 abbrev pub by_recovery : State → ServerNo → List Passage
-by_recovery s f = by_try (recovery_try s.world s.book s.audit (by_hand (numbers_of s)) s.configuration.wait (s.last_job + 1) f)
+by_recovery s f = by_try (recovery_try s.world s.book s.audit (by_hand s.book s.configuration (numbers_of s) f) s.configuration.wait (s.last_job + 1) f)
 
 -- a replica takes a master's place, where one is given
 abbrev pub by_takeover : State → Option ServerNo → ServerNo → List Passage
 by_takeover s None i = []
-by_takeover s (Some d) i = by_try (takeover_try s.world s.book s.audit (by_hand (numbers_of s)) s.configuration.wait (s.last_job + 1) i d)
+by_takeover s (Some d) i = by_try (takeover_try s.world s.book s.audit (by_hand s.book s.configuration (numbers_of s) i) s.configuration.wait (s.last_job + 1) i d)
 
 -- a job's turn, by the operations of its plan or as its recovery decides it
 abbrev pub by_job : State → ℕ → Option Unended → List Passage
@@ -115,19 +117,19 @@ by_route s c TakesOver = by_instance (by_takeover s c.d) c.i
 abbrev pub by_command : State → Command → List Passage
 by_command s c = by_route s c (route_of c.name)
 
+abbrev pub act_passages : State → Act → List Passage
+act_passages s (act.PollRead p n) = by_poll s p n
+act_passages s (act.PollStore p) = pass.Storing p (takes s.book (slot_at s p)) ∷ []
+act_passages s (act.Command c) = by_command s c.command
+act_passages s (act.Job job) = by_job s job (job_at s.jobs job)
+act_passages s act.Scan = by_recoveries (recoveries_scanned s)
+act_passages s act.Restart = pass.Restarting ∷ []
+
+-- what befalls a server is one exchange, which is no job's
 abbrev pub passages_of : State → Turn → List Passage
-passages_of s (turn.Write n size) = pass.Exchanging (Write n.0 size) ∷ []
-passages_of s (turn.Fetch n) = pass.Exchanging (Fetch n.0) ∷ []
-passages_of s (turn.Apply n) = pass.Exchanging (Apply n.0) ∷ []
-passages_of s (turn.Fail n) = pass.Exchanging (Befall n.0 event.Fail) ∷ []
-passages_of s (turn.Heal n) = pass.Exchanging (Befall n.0 event.Heal) ∷ []
-passages_of s (turn.Cut n link) = pass.Exchanging (Befall n.0 (event.Cut link)) ∷ []
-passages_of s (turn.Join n link) = pass.Exchanging (Befall n.0 (event.Join link)) ∷ []
-passages_of s (turn.Rotate n) = pass.Exchanging (Rotate n.0) ∷ []
+passages_of s (turn.Step x) = pass.Exchanging (exchange_of x) ∷ []
 passages_of s (turn.Tick seconds) = []
-passages_of s (turn.Job job) = by_job s job (job_at s.jobs job)
-passages_of s turn.Scan = by_recoveries (recoveries_scanned s)
-passages_of s (turn.PollRead p n) = by_poll s p n
-passages_of s (turn.PollStore p) = pass.Storing p (takes s.book (slot_at s p)) ∷ []
-passages_of s (turn.Command c) = by_command s c.command
-passages_of s turn.Restart = pass.Restarting ∷ []
+passages_of s (turn.Act a) = act_passages s a
+passages_of s (turn.As node a) = act_passages s a
+passages_of s (turn.Claim node) = []
+passages_of s (turn.Release node) = []

@@ -1,11 +1,12 @@
 -- Jobs in the states of runs: they keep to their leases, and leave fewer turns.
 use Rattle.std.specs.Prelude.{◌≡◌, ◌<◌, ℕ, List, All, Some, map, true}
-use Rattle.instance_keeper.specs.declared.row.Row.{Row}
+use Rattle.kept_rows.specs.declared.row.Row.{Row}
 use Rattle.job_laws.specs.Leases.{HasLeases, IsLeased, leases_of}
 use Rattle.jobs_in_flight.specs.Jobs.{is_open, job_at, most_turns}
-use Rattle.orch_core.specs.Runs.{step}
+use Rattle.orch_core.specs.After.{step}
 use Rattle.orch_core.specs.States.{State}
 use Rattle.server_model.specs.Worlds.{server_at}
+use Rattle.turns.specs.declared.turn.Act.TheVariants as act
 use Rattle.turns.specs.declared.turn.Turn.TheVariants as turn
 use Rattle.unended_jobs.specs.declared.unended.Unended.{Unended}
 use Rattle.unended_jobs.specs.Unended.{core_of}
@@ -20,8 +21,8 @@ JobsHaveLeases s = All (HasLeases (leases_of s.book.leases)) (map core_of s.jobs
 
 -- and its turn leaves every server as it is that isn't leased to it
 abbrev pub JobsLeaveOthers : State → Type 0
-JobsLeaveOthers s = (rows : List Row) (id n : ℕ) → (IsLeased (leases_of s.book.leases) id n → ⊥) → server_at (step rows s (turn.Job id)).world n ≡ server_at s.world n
+JobsLeaveOthers s = (rows : List Row) (id n : ℕ) → (IsLeased (leases_of s.book.leases) id n → ⊥) → server_at (step rows s (turn.Act (act.Job id))).world n ≡ server_at s.world n
 
 -- a job that goes on after its turn has fewer turns left
 abbrev pub JobsLeaveFewerTurns : State → Type 0
-JobsLeaveFewerTurns s = (rows : List Row) (id : ℕ) → is_open (step rows s (turn.Job id)).jobs id ≡ true → most_turns (step rows s (turn.Job id)).jobs id < most_turns s.jobs id
+JobsLeaveFewerTurns s = (rows : List Row) (id : ℕ) → is_open (step rows s (turn.Act (act.Job id))).jobs id ≡ true → most_turns (step rows s (turn.Act (act.Job id))).jobs id < most_turns s.jobs id

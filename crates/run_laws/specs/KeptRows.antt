@@ -1,11 +1,12 @@
 -- The kept rows follow the book and the audit, where nobody else changes them.
 use Rattle.std.specs.Prelude.{◌≡◌, ◌≤◌, ◌^◌, ℕ, All, List, length}
-use Rattle.instance_keeper.specs.Rows.{changed, IsRising}
-use Rattle.instance_keeper.specs.declared.row.Row.{Row}
+use Rattle.kept_rows.specs.Rows.{changed, IsRising}
+use Rattle.kept_rows.specs.declared.row.Row.{Row}
 use Rattle.opening_book.specs.Following.{Follow, FollowAudit}
 use Rattle.orch_core.specs.Polls.{changes_of}
 use Rattle.orch_core.specs.Restarts.{reloaded_audit}
-use Rattle.orch_core.specs.Runs.{Held, engine, held_run, step}
+use Rattle.orch_core.specs.After.{step}
+use Rattle.orch_core.specs.Runs.{Held, engine, held_run}
 use Rattle.orch_core.specs.Scenarios.{start, start_changes}
 use Rattle.orch_core.specs.States.{State, IsState}
 use Rattle.scenarios.specs.declared.scenario.Scenario.{Scenario}

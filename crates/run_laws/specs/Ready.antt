@@ -1,9 +1,17 @@
--- What holds of each state of a run, whatever rows a keeper hands back: that all that is kept speaks of its servers.
-use Rattle.std.specs.Prelude.{◌≡◌, ℕ, All, length}
+-- What holds of each state of a run, whatever rows a keeper hands back: that all that is kept speaks of its servers,
+-- and that block periods aren't too long.
+use Rattle.std.specs.Prelude.{◌≡◌, ◌≤◌, ℕ, All, length}
+use Rattle.audit_log.specs.Audits.{longest_block}
 use Rattle.instance_keeper.specs.Book.{IsBook}
 use Rattle.unended_jobs.specs.Unended.{IsReady}
+use Rattle.orch_core.specs.declared.configuration.Configuration.{Configuration}
 use Rattle.orch_core.specs.States.{HasKnownSource, IsSlot, State}
 use Rattle.scenarios.specs.Turns.{pollers}
+
+-- that of all clusters, and those of single ones
+pub record AreShort (c : Configuration) : Type 0 where
+  pub block : c.block ≤ longest_block
+  pub blocks : All (λ b. b.seconds ≤ longest_block) c.blocks
 
 -- so many servers: the book has a place for each, and each reading, each source and each job is of them
 pub record Ready (count : ℕ) (s : State) : Type 0 where
@@ -14,3 +22,4 @@ pub record Ready (count : ℕ) (s : State) : Type 0 where
   pub observed : All (IsSlot count) s.slots
   pub sources : All (HasKnownSource (length s.world.servers)) s.world.servers
   pub jobs : All (IsReady count) s.jobs
+  pub periods : AreShort s.configuration

@@ -1,7 +1,7 @@
 -- What no exchange of a run finds: a transaction that was executed before, a history that is full, a log without room.
 use Rattle.std.specs.Prelude.{◌≡◌, ◌≢◌, ℕ, List, Some, slice_get, take}
 use Rattle.binlog_coords.specs.declared.Coord.{Coord}
-use Rattle.instance_keeper.specs.declared.row.Row.{Row}
+use Rattle.kept_rows.specs.declared.row.Row.{Row}
 use Rattle.orch_base.specs.declared.server.ServerNo.{ServerNo}
 use Rattle.orch_core.specs.States.{State}
 use Rattle.orch_core.specs.Turns.{exchanges_at}
@@ -15,6 +15,7 @@ use Rattle.server_model.specs.Safe.{IsQuiet}
 use Rattle.server_words.specs.declared.answers.ApplyAnswer.TheVariants as applied
 use Rattle.server_words.specs.declared.answers.RotateAnswer.TheVariants as rotated
 use Rattle.turns.specs.declared.turn.Turn.{Turn}
+use Rattle.turns.specs.declared.turn.Step.TheVariants as step
 use Rattle.turns.specs.declared.turn.Turn.TheVariants as turn
 use Rattle.run_laws.specs.Runs.{ComesWithin}
 
@@ -29,4 +30,4 @@ NoHistoryIsFull = (s : Scenario) (xs : List (List Row × Turn)) (t : Turn) (now 
 
 -- with no more rotate turns than it has no rotate turn finds a log without room for a new file
 abbrev pub NoLogIsFull : Type 0
-NoLogIsFull = (s : Scenario) (xs : List (List Row × Turn)) (now : State) (n : ServerNo) → ComesWithin is_rotate s xs (turn.Rotate n) now → (rotate now.world n.0).0 ≢ rotated.Full
+NoLogIsFull = (s : Scenario) (xs : List (List Row × Turn)) (now : State) (n : ServerNo) → ComesWithin is_rotate s xs (turn.Step (step.Rotate n)) now → (rotate now.world n.0).0 ≢ rotated.Full

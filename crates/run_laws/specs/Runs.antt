@@ -1,10 +1,11 @@
 -- Runs from a scenario's opening state, whatever rows the keeper hands back at the opening and at each turn.
 use Rattle.std.specs.Prelude.{◌≡◌, ◌≤◌, ℕ, Bool, List, [], ◌∷◌, ◌++◌, All, count_by, length, slice_get, take, Some}
-use Rattle.instance_keeper.specs.declared.row.Row.{Row}
+use Rattle.kept_rows.specs.declared.row.Row.{Row}
 use Rattle.server_model.specs.Safe.{IsQuiet}
 use Rattle.commands.specs.declared.turn.CommandTurn.{CommandTurn}
-use Rattle.turns.specs.declared.turn.Reply.TheVariants as answered
+use Rattle.turns.specs.declared.reply.Reply.TheVariants as answered
 use Rattle.turns.specs.declared.turn.Turn.{Turn}
+use Rattle.turns.specs.declared.turn.Act.TheVariants as act
 use Rattle.turns.specs.declared.turn.Turn.TheVariants as turn
 use Rattle.scenarios.specs.declared.scenario.Scenario.{Scenario}
 use Rattle.scenarios.specs.Scenarios.{IsScenario}
@@ -40,7 +41,7 @@ pub record ComesBefore (s : Scenario) (xs : List (List Row × Turn)) (now : Stat
 
 -- a command begins the job of a number
 abbrev pub IsBegun : State → CommandTurn → ℕ → Type 0
-IsBegun s c id = reply_of s (turn.Command c) ≡ answered.Begun id
+IsBegun s c id = reply_of s (turn.Act (act.Command c)) ≡ answered.Begun id
 
 -- ---- everywhere in runs
 

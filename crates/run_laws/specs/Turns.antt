@@ -1,8 +1,8 @@
 -- What single turns and openings leave, whatever rows the keeper hands back.
 use Rattle.std.specs.Prelude.{◌≡◌, ℕ, List}
-use Rattle.instance_keeper.specs.declared.row.Row.{Row}
+use Rattle.kept_rows.specs.declared.row.Row.{Row}
 use Rattle.job_laws.specs.Passages.{AllMayPass, AllPassWell, passing}
-use Rattle.orch_core.specs.Runs.{step}
+use Rattle.orch_core.specs.After.{step}
 use Rattle.orch_core.specs.Scenarios.{start}
 use Rattle.orch_core.specs.States.{State}
 use Rattle.scenarios.specs.declared.scenario.Scenario.{Scenario}

@@ -1,7 +1,7 @@
 //! Laws of the audit through runs.
 
 ghost use Rattle.audit_log.specs.Apart.{IsApart};
-ghost use Rattle.run_laws.specs.Audits.{AnyTurnBeginsApart, EachRecoveryCounts, NextNeverSinks, TurnsAddWhatBegins};
+ghost use Rattle.run_laws.specs.Audits.{AnyTurnBeginsApart, AnyTurnGivesPeriods, EachRecoveryCounts, NextNeverSinks, TurnsAddWhatBegins};
 ghost use Rattle.run_laws.specs.Runs.{InEveryState, InEveryStateOf};
 
 /// In each state of each run the audit is apart, whatever rows the keeper hands back: each cluster has at most one
@@ -13,11 +13,12 @@ pub fn every_audit_is_apart()
     ensures counted { InEveryStateOf EachRecoveryCounts }
 {}
 
-/// Recoveries begin apart by the scenario's block period, in every state of every run and at each turn: each has the
-/// next id and the turn's moment, and every recovery of its cluster that the audit has by then, with those that the
-/// turn began before it, is ended, and is acknowledged or as old as the block period. But for a restart, which loads
-/// the kept rows, a turn adds no other recovery, and drops none.
+/// Recoveries begin apart by their block periods, in every state of every run and at each turn: each has the next id
+/// and the turn's moment, and every recovery of its cluster that the audit has by then, with those that the turn began
+/// before it, is ended, and is acknowledged or began at least its own block period ago. Each has its cluster's period
+/// by the scenario. But for a restart, which loads the kept rows, a turn adds no other recovery, and drops none.
 pub fn recoveries_begin_apart()
-    ensures apart { InEveryStateOf AnyTurnBeginsApart }
+    ensures apart { InEveryState AnyTurnBeginsApart }
+    ensures periods { InEveryStateOf AnyTurnGivesPeriods }
     ensures all { TurnsAddWhatBegins }
 {}

@@ -45,6 +45,7 @@ fn settings(alloc: Global, no: u32, name: &str, logs: bool) -> Result<Settings, 
         cluster: OwnedText::new(String::from_str(alloc, "m:3306")?),
         logs,
         limit: 1_073_741_824,
+        dc: OwnedText::new(String::new(alloc)),
     })
 }
 
@@ -67,6 +68,7 @@ fn init(alloc: Global, settings: Settings) -> ServerInit {
         detached: false,
         until: None,
         flushes: Counts::new(Vec::new(alloc)),
+        purged: 1,
     }
 }
 
@@ -87,6 +89,8 @@ fn row(alloc: Global, no: u32, source: SourceState, auto: bool) -> Row {
             sql: true,
             read_only: true,
             set: GtidSet::empty(alloc),
+            first: 1,
+            purged: GtidSet::empty(alloc),
         },
     })
 }
@@ -106,14 +110,15 @@ pub(crate) fn book(rt: &impl Abort, alloc: Global) -> Result<Book, Fail> {
 // Asserts that the servers have no transaction and no flush point.
 fn assert_empty(rt: &impl Abort, servers: &[ServerInit])
     ensures histories { All (λ i. transactions (parts_of i) ≤ 0) servers.now }
-    ensures flush_points { All (λ i. length i.flushes ≤ 0) servers.now }
+    ensures flush_points { All (λ i. length i.flushes ≤ 2) servers.now }
 {
     for server in servers {
         assert!(rt; parts_of(server).is_empty() && server.flushes.as_slice().is_empty());
     }
 }
 
-/// The world of the servers, none of which has a source or a transaction there.
+/// The world of the servers, none of which has a source or a transaction there. It has room for two new files of each
+/// log.
 pub(crate) fn world(rt: &impl Abort, alloc: Global, gtid: bool) -> Result<World, Fail> {
     let mut inits = Vec::new(alloc);
     for (no, name, _, logs, _) in &SERVERS {
@@ -122,5 +127,5 @@ pub(crate) fn world(rt: &impl Abort, alloc: Global, gtid: bool) -> Result<World,
     assert!(rt; are_listed(&inits, gtid));
     let opening = Opening::check(alloc, inits, gtid)?;
     assert_empty(rt, opening.servers());
-    Ok(World::make(alloc, &opening, 0, 0)?)
+    Ok(World::make(alloc, &opening, 0, 2)?)
 }

@@ -41,6 +41,7 @@ keys_of value.History = codes "history" ∷ []
 keys_of (value.Origin k) = codes "history" ∷ decimal k ∷ codes "0" ∷ []
 keys_of value.Flushes = codes "flushes" ∷ []
 keys_of (value.Flush k) = codes "flushes" ∷ decimal k ∷ []
+keys_of value.Purged = codes "purged" ∷ []
 
 -- the fault that a server's flaw is, at the value to blame
 abbrev pub flaw_fails : Found → Result Opened Fault

@@ -43,6 +43,7 @@ fn fails_in(alloc: Global, code: FaultCode, value: FlawedValue) -> Result<Openin
         }
         FlawedValue::Flushes => under(alloc, b"flushes", read),
         FlawedValue::Flush(k) => under(alloc, b"flushes", under_item(alloc, k, read)),
+        FlawedValue::Purged => under(alloc, b"purged", read),
     }
 }
 

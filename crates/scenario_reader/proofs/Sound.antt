@@ -6,12 +6,14 @@ use Rattle.std.proofs.lemmas.List.{length-map}
 use Rattle.serde_json.specs.Data.{Data, Items, no_items, item}
 use Rattle.orch_base.specs.declared.source.TheConstants.{MAX_SCENARIO_LEN}
 use Rattle.orch_base.specs.Names.{HostPort, printed}
+use Rattle.hook_texts.specs.Hooks.{no_hooks, AreHooks, IsHook}
 use Rattle.openings.specs.declared.init.ServerInit.{ServerInit}
 use Rattle.openings.specs.declared.opening.Flaw.{Flaw}
 use Rattle.openings.specs.Flaws.{flaw_in}
 use Rattle.openings.specs.Opening.{Opened, opening, IsListed, IsChecked}
 use Rattle.opening_checks.specs.Checked.{found_of, opening_or}
 use Rattle.opening_checks.specs.Values.{value_at}
+use Rattle.scenarios.specs.declared.blocks.Block.{Block}
 use Rattle.scenarios.specs.declared.scenario.Scenario.{Scenario}
 use Rattle.turns.specs.declared.turn.Turn.{Turn}
 use Rattle.scenarios.specs.Scenarios.{IsScenario}
@@ -121,13 +123,20 @@ opening-has servers gtid o given e =
   where
     go : IsListed (opening servers gtid) → (f : Option (Flaw × ℕ)) → flaw_in servers ≡ f → opening_or_fails (opening_or (opening servers gtid) (found_of servers f)) ≡ Ok o → IsOpened servers o
     go listed None none e = subst (IsOpened servers) (same_Ok (opening servers gtid) o e) (record { checked = record { listed = listed; sound = none }; same = refl })
-    go listed (Some f) some e = absurd (never (code_of f.0) (codes "servers" ∷ decimal f.1 ∷ keys_of (value_at servers f.0 (slice_get servers f.1))) o e)
+    go listed (Some f) some e = absurd (never (code_of f.0) (codes "servers" ∷ decimal f.1 ∷ keys_of (value_at servers f.0 f.1)) o e)
 
 -- ---- the keys before the servers
 
+none_of : {A : Type 0} (P : A → Type 0) → All P []
+none_of P = λ k d less. absurd (omega arith)
+
 record AreSmall (h : Head) : Type 0 where
   moment : h.moment ≤ 1000000000000000
+  pseudo : h.pseudo ≤ 1000000
+  nodes : h.nodes ≡ 1
   block : h.block ≤ 1000000000
+  blocks : All (λ b. b.seconds ≤ 1000000000) h.blocks
+  hooks : AreHooks h.hooks
 
 head-has : (d : Data) (h : Head) → head_in d ≡ Ok h → AreSmall h
 unfolding head_in
@@ -138,9 +147,24 @@ head-has d h e =
     let block = bind-ok (optional (codes "block") (number_in 0 1000000000) 3600 d) _ h gtid.2 in
     let aliases = bind-ok (optional (codes "aliases") aliases_in [] d) _ h block.2 in
     let filters = bind-ok (optional (codes "filters") filters_in no_filters d) _ h aliases.2 in
-    subst AreSmall (same_Ok (record { moment = moment.0; gtid = gtid.0; block = block.0; aliases = aliases.0; filters = filters.0 }) h filters.2) (record {
+    let made : Head = record {
+      moment = moment.0;
+      gtid = gtid.0;
+      pseudo = 0;
+      nodes = 1;
+      block = block.0;
+      blocks = [];
+      aliases = aliases.0;
+      filters = filters.0;
+      hooks = no_hooks;
+    } in
+    subst AreSmall (same_Ok made h filters.2) (record {
       moment = by 1000000000000000 0 moment.0 (omega arith) (optional-ok (codes "now") (number_in 0 1000000000000000) 0 d moment.0 moment.1);
+      pseudo = omega arith;
+      nodes = refl;
       block = by 1000000000 3600 block.0 (omega arith) (optional-ok (codes "block") (number_in 0 1000000000) 3600 d block.0 block.1);
+      blocks = none_of (λ (b : Block). b.seconds ≤ 1000000000);
+      hooks = record { pre_failover = none_of IsHook; post_failover = none_of IsHook; post_unsuccessful = none_of IsHook };
     })
   where
     by : (most default n : ℕ) → default ≤ most → (n ≡ default) ⊎ ((v : Data) × (number_in 0 most v ≡ Ok n)) → n ≤ most
@@ -163,9 +187,13 @@ scenario_with-sound head given items s early are names e =
     let made : Scenario = record {
       opening = o.0;
       moment = record { 0 = head.moment };
+      pseudo = head.pseudo;
+      nodes = head.nodes;
       block = head.block;
+      blocks = head.blocks;
       aliases = head.aliases;
       filters = answered head.filters head.aliases o.0.servers;
+      hooks = head.hooks;
       known = known_of given.1;
       rules = rules_of given.1;
       turns = ts.0;
@@ -173,7 +201,10 @@ scenario_with-sound head given items s early are names e =
     subst IsScenario (same_Ok made s ts.2) (record {
       checked = opened.checked;
       moment = early.moment;
+      pseudo = early.pseudo;
+      nodes = early.nodes;
       block = early.block;
+      blocks = early.blocks;
       turns = turns.turns;
       few = turns.few;
       room = turns.room;
@@ -181,6 +212,7 @@ scenario_with-sound head given items s early are names e =
       rules = rules;
       master = length-map _ _;
       intermediate = length-map _ _;
+      hooks = early.hooks;
     })
 
 scenario_from-sound : (d : Data) (s : Scenario) → scenario_from d ≡ Ok s → IsScenario s

@@ -7,6 +7,7 @@ use Rattle.serde_json.specs.Read.{read}
 use Rattle.orch_base.specs.declared.source.TheConstants.{MAX_SCENARIO_LEN}
 use Rattle.orch_base.specs.Gives.{◌>>=◌}
 use Rattle.orch_base.specs.Names.{HostPort}
+use Rattle.hook_texts.specs.Hooks.{no_hooks}
 use Rattle.openings.specs.declared.init.ServerInit.{ServerInit}
 use Rattle.scenarios.specs.declared.scenario.Scenario.{Scenario}
 use Rattle.scenarios.specs.Turns.{is_write}
@@ -67,7 +68,17 @@ head_in d = do
   block ← optional (codes "block") (number_in 0 1000000000) 3600 d
   aliases ← optional (codes "aliases") aliases_in [] d
   filters ← optional (codes "filters") filters_in no_filters d
-  Ok (record { moment = moment; gtid = gtid; block = block; aliases = aliases; filters = filters })
+  Ok (record {
+    moment = moment;
+    gtid = gtid;
+    pseudo = 0;
+    nodes = 1;
+    block = block;
+    blocks = [];
+    aliases = aliases;
+    filters = filters;
+    hooks = no_hooks;
+  })
 
 -- turns that aren't too many over these servers
 unfoldable pub bounded : List ServerInit → List Turn → Result (List Turn) Fault
@@ -90,9 +101,13 @@ scenario_with head given listed = do
   Ok (record {
     opening = opening;
     moment = record { 0 = head.moment };
+    pseudo = head.pseudo;
+    nodes = head.nodes;
     block = head.block;
+    blocks = head.blocks;
     aliases = head.aliases;
     filters = answered head.filters head.aliases opening.servers;
+    hooks = head.hooks;
     known = known_of given.1;
     rules = rules_of given.1;
     turns = turns;

@@ -12,21 +12,28 @@ use scenario_filters::{FilterTexts, aliases_in, filters_in, no_filters};
 use scenario_values::{
     FaultCode, ReadFault, bool_at, fails, holds, members_in, number_at, only_keys, under,
 };
-use scenarios::Aliases;
+use scenarios::{Aliases, Blocks, Hooks};
 use serde_json::Value;
 use std::alloc::Global;
 
-/// What stands before the servers: when the scenario begins, whether it uses GTIDs, the block period, and the clusters'
-/// aliases and filters.
+/// What stands before the servers: when the scenario begins, whether it uses GTIDs, which transactions are marks, how
+/// many orchestrators there are, the block periods, the clusters' aliases and filters, and the hooks.
 #[derive(Drop)]
 pub struct Head {
     /// At most 1,000,000,000,000,000 seconds.
     pub moment: u64,
     pub gtid: bool,
+    /// Each transaction whose number is divisible by this is a mark; 0 for no marks.
+    pub pseudo: u64,
+    /// How many orchestrators share what is kept.
+    pub nodes: u32,
     /// The block period: at most 1,000,000,000 seconds.
     pub block: u64,
+    /// Clusters with block periods of their own.
+    pub blocks: Blocks,
     pub aliases: Aliases,
     pub filters: FilterTexts,
+    pub hooks: Hooks,
 }
 
 fn is_there(key: &str, object: &Value) -> bool
@@ -111,8 +118,12 @@ pub(crate) fn head_in(alloc: Global, object: &Value) -> Result<Head, ReadFault>
     Ok(Head {
         moment,
         gtid,
+        pseudo: 0,
+        nodes: 1,
         block,
+        blocks: Blocks::new(Vec::new(alloc)),
         aliases,
         filters,
+        hooks: Hooks::none(alloc),
     })
 }

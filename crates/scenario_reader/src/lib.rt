@@ -2,11 +2,9 @@
 #![tactic(auto)]
 
 mod head;
-mod laws;
 mod walk;
 
 pub use head::Head;
-pub use laws::built_is_what_is_read;
 pub use scenario_turns::{ListedTurn, Word};
 pub use scenario_values::{Fault, FaultCode, Path, ReadFault};
 pub use walk::{read, read_is_sound, too_long};

@@ -26,7 +26,7 @@ use scenario_openings::{listed_count, opening_in};
 use scenario_servers::{Listed, Names, inits_of, known_of, rules_of, servers_in};
 use scenario_turns::{ListedTurn, Patterns, are_few, each_turn, expanded, in_order, printed_of};
 use scenario_values::{FaultCode, ReadFault, fails, holds, items_in, under};
-use scenarios::{Answers, Rules, Scenario, Turn, Turns};
+use scenarios::{Answers, Rules, Scenario, Step, Turn, Turns};
 use serde_json::Value;
 use std::alloc::Global;
 
@@ -35,7 +35,7 @@ const MOST: u64 = 4_000_000;
 fn is_write(turn: &Turn) -> bool
     ensures { result ≡ is_write turn.now }
 {
-    matches!(turn, Turn::Write(_, _))
+    matches!(turn, Turn::Step(Step::Write(_, _)))
 }
 
 fn writes(turns: &[Turn]) -> usize
@@ -131,9 +131,13 @@ fn scenario_with(
     Ok(Scenario {
         opening,
         moment: Moment(head.moment),
+        pseudo: head.pseudo,
+        nodes: head.nodes,
         block: head.block,
+        blocks: head.blocks,
         aliases: head.aliases,
         filters,
+        hooks: head.hooks,
         known: Answers::new(known),
         rules: Rules::new(rules),
         turns,

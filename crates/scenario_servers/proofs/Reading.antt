@@ -64,6 +64,7 @@ reads-server gtid names uuids n d g label reads = record {
   limit_high = reads.limit.high;
   parts = parts (maybe-ok (codes "history") (history_in names) d g.history reads.history);
   flushes = flushes (optional-ok (codes "flushes") flushes_in [] d g.flushes reads.flushes);
+  purged = reads.purged;
   source = λ m is. source m is (maybe-ok (codes "source") (server_named names) d g.source reads.source);
   alone = reads-alone gtid names uuids n d g label reads;
   auto = auto (optional-ok (codes "auto") (auto_in gtid) false d g.replication.auto reads.replication.auto);

@@ -163,6 +163,7 @@ pub record ReadsServer (gtid : Bool) (names : List (Option HostPort)) (uuids : L
   pub source : maybe (codes "source") (server_named names) d ≡ Ok g.source
   pub replication : ReadsReplication gtid d g.replication
   pub flushes : optional (codes "flushes") flushes_in [] d ≡ Ok g.flushes
+  pub purged : 1 ≤ g.purged
 
 pub server-ok : (gtid : Bool) (names : List (Option HostPort)) (uuids : List (Option ℕ)) (n : ℕ) (d : Data) (g : Given) → server_in gtid names uuids n d ≡ Ok g → ReadsServer gtid names uuids n d g
 unfolding server_in server_from
@@ -187,4 +188,5 @@ server-ok gtid names uuids n d g e =
       source = source.1;
       replication = replication-ok gtid d replication.0 replication.1;
       flushes = flushes.1;
+      purged = omega arith;
     })

@@ -40,6 +40,7 @@ settings_of label g = record {
   cluster = label;
   logs = g.setup.logs;
   limit = g.setup.limit;
+  dc = g.dc;
 }
 
 -- A server of the cluster of this label. The threads of a server that isn't detached are on, where the text says
@@ -62,6 +63,7 @@ init_under label g = record {
   detached = g.replication.detached;
   until = g.replication.until;
   flushes = g.flushes;
+  purged = g.purged;
 }
 
 -- server n

@@ -115,7 +115,18 @@ server_from gtid names uuids n d = do
   source ← maybe (codes "source") (server_named names) d
   replication ← replication_in gtid d
   flushes ← optional (codes "flushes") flushes_in [] d
-  Ok (record { identity = identity; setup = setup; known = known; rule = rule; history = history; source = source; replication = replication; flushes = flushes })
+  Ok (record {
+    identity = identity;
+    setup = setup;
+    known = known;
+    rule = rule;
+    history = history;
+    source = source;
+    replication = replication;
+    flushes = flushes;
+    purged = 1;
+    dc = [];
+  })
 
 -- Server n. Its unknown keys come first.
 unfoldable pub server_in : Bool → List (Option HostPort) → List (Option ℕ) → ℕ → Data → Result Given Fault

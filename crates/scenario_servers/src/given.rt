@@ -61,6 +61,10 @@ pub struct Given {
     pub source: Option<ServerNo>,
     pub replication: Replication,
     pub flushes: Counts,
+    /// The first file that its binary log keeps.
+    pub purged: u32,
+    /// The server's data centre: empty where it has none.
+    pub dc: OwnedText,
 }
 
 /// For each server whether the book knows it at the opening.

@@ -22,6 +22,8 @@ fn init_under(cluster: OwnedText, given: Given) -> ServerInit
         source,
         replication,
         flushes,
+        purged,
+        dc,
     } = given;
     let is_on = !replication.detached;
     ServerInit {
@@ -33,6 +35,7 @@ fn init_under(cluster: OwnedText, given: Given) -> ServerInit
             cluster,
             logs: setup.logs,
             limit: setup.limit,
+            dc,
         },
         read_only: setup.read_only,
         up: setup.up,
@@ -49,6 +52,7 @@ fn init_under(cluster: OwnedText, given: Given) -> ServerInit
         detached: replication.detached,
         until: replication.until,
         flushes,
+        purged,
     }
 }
 

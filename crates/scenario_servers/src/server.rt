@@ -14,7 +14,7 @@ use crate::names::{Names, server_named};
 use crate::rule::maybe_rule;
 use crate::uuids::Uuids;
 use openings::{Counts, Parts};
-use orch_base::ServerNo;
+use orch_base::{OwnedText, ServerNo};
 use scenario_values::{
     FaultCode, ReadFault, bool_at, bool_in, fails, maybe_bool, maybe_coord, members_in, number_at,
     only_keys, under, whole_at,
@@ -199,6 +199,8 @@ fn server_from(
         source,
         replication,
         flushes,
+        purged: 1,
+        dc: OwnedText::new(String::new(alloc)),
     })
 }
 

@@ -7,7 +7,9 @@ use Rattle.std.proofs.lemmas.List.Folds.{length-flat_map-take}
 use Rattle.std.proofs.lemmas.List.Elements.{All-nil, All-cons, All-head, All-tail}
 use Rattle.orch_base.specs.declared.server.ServerNo.{ServerNo}
 use Rattle.turns.specs.declared.turn.Turn.{Turn}
-use Rattle.turns.specs.declared.turn.Turn.TheVariants.{Fetch, Apply, PollRead, PollStore}
+use Rattle.turns.specs.declared.turn.Turn.TheVariants.{Act, Step}
+use Rattle.turns.specs.declared.turn.Step.TheVariants.{Apply, Fetch}
+use Rattle.turns.specs.declared.turn.Act.TheVariants.{PollRead, PollStore}
 use Rattle.scenarios.specs.Turns.{IsTurn}
 use Rattle.scenario_turns.specs.declared.expansion.ListedTurn.{ListedTurn}
 use Rattle.scenario_turns.specs.declared.expansion.ListedTurn.TheVariants.{One, Polls, Round}
@@ -20,10 +22,10 @@ twice f g [] = refl
 twice f g (n ∷ ns) = let more = twice f g ns in omega arith
 
 pub polls_length : (ns : List ServerNo) → length (polls_of ns) ≡ 2 * length ns
-polls_length ns = twice (λ n. PollRead 0 n) (λ n. PollStore 0) ns
+polls_length ns = twice (λ n. Act (PollRead 0 n)) (λ n. Act (PollStore 0)) ns
 
 pub round_length : (ns : List ServerNo) → length (steps_of ns ++ polls_of ns) ≡ 4 * length ns
-round_length ns = omega (arith, length-append (steps_of ns) (polls_of ns), twice (λ n. Fetch n) (λ n. Apply n) ns, polls_length ns)
+round_length ns = omega (arith, length-append (steps_of ns) (polls_of ns), twice (λ n. Step (Fetch n)) (λ n. Step (Apply n)) ns, polls_length ns)
 
 -- the turns up to one that is listed, and its own, are more than there may be: those of all are too
 pub too_many : (ns : List ServerNo) (listed : List ListedTurn) (i count own : ℕ) (d : ListedTurn) → i < length listed → count ≡ length (expanded ns (take i listed)) → own ≡ length (expansion_of ns (get_or listed i d))
@@ -48,10 +50,10 @@ All-two P x y one two = All-cons P x (y ∷ []) one (All-cons P y [] two (All-ni
 
 module _ (count : ℕ) (ns : List ServerNo) (within : All (λ n. n.0 < count) ns) where
   polls-are : All (IsTurn count) (polls_of ns)
-  polls-are = All-flat_map (IsTurn count) (λ n. n.0 < count) (λ n. PollRead 0 n ∷ PollStore 0 ∷ []) (λ n is. All-two (IsTurn count) (PollRead 0 n) (PollStore 0) (omega arith, is) (omega arith)) ns within
+  polls-are = All-flat_map (IsTurn count) (λ n. n.0 < count) (λ n. Act (PollRead 0 n) ∷ Act (PollStore 0) ∷ []) (λ n is. All-two (IsTurn count) (Act (PollRead 0 n)) (Act (PollStore 0)) (omega arith, is) (omega arith)) ns within
 
   steps-are : All (IsTurn count) (steps_of ns)
-  steps-are = All-flat_map (IsTurn count) (λ n. n.0 < count) (λ n. Fetch n ∷ Apply n ∷ []) (λ n is. All-two (IsTurn count) (Fetch n) (Apply n) is is) ns within
+  steps-are = All-flat_map (IsTurn count) (λ n. n.0 < count) (λ n. Step (Fetch n) ∷ Step (Apply n) ∷ []) (λ n is. All-two (IsTurn count) (Step (Fetch n)) (Step (Apply n)) is is) ns within
 
   expansion-is : (listed : ListedTurn) → IsListedTurn count listed → All (IsTurn count) (expansion_of ns listed)
   expansion-is (One turn) is = All-cons (IsTurn count) turn [] is (All-nil (IsTurn count))

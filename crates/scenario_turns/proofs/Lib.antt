@@ -1,6 +1,5 @@
 pub mod Sound
 pub mod KnownPatterns
-pub mod Listed
 pub mod Expansions
 pub mod Order
 pub mod ReadTurns

@@ -5,7 +5,9 @@ use Rattle.orch_base.specs.declared.server.ServerNo.{ServerNo}
 use Rattle.orch_base.specs.Names.{HostPort}
 use Rattle.server_words.specs.declared.changes.Link.{Link}
 use Rattle.turns.specs.declared.turn.Turn.{Turn}
-use Rattle.turns.specs.declared.turn.Turn.TheVariants.{Write, Fetch, Apply, Fail, Heal, Cut, Join, Rotate, Tick, PollRead, PollStore, Command, Job, Scan, Restart}
+use Rattle.turns.specs.declared.turn.Turn.TheVariants.{Act, Step, Tick}
+use Rattle.turns.specs.declared.turn.Step.TheVariants.{Write, Fetch, Apply, Fail, Heal, Cut, Join, Rotate}
+use Rattle.turns.specs.declared.turn.Act.TheVariants.{PollRead, PollStore, Command, Job, Scan, Restart}
 use Rattle.scenarios.specs.Turns.{IsCommand, IsTurn}
 use Rattle.scenario_values.specs.declared.fault.Fault.{Fault}
 use Rattle.scenario_values.specs.Faults.{under_item}
@@ -93,25 +95,25 @@ alone-has count turn (item a rest) t is e = cc
 turn_of-has : (names : List (Option HostPort)) (printed : List (List ℕ)) (w : Word) (rest : Items) (t : ListedTurn) → length printed ≡ length names → turn_of names printed w rest ≡ Ok t
     → IsListedTurn (length names) t
 turn_of-has names printed word.Write rest t counts e =
-    made-has (length names) (IsSized (length names)) (λ p. Write p.0 p.1) (size_of names rest) t (λ p is. (is.within, is.some, is.few)) (size-has names rest) e
-turn_of-has names printed word.Fetch rest t counts e = made-has (length names) (λ n. n.0 < length names) Fetch (server_of names rest) t (λ n is. is) (server-has names rest) e
-turn_of-has names printed word.Apply rest t counts e = made-has (length names) (λ n. n.0 < length names) Apply (server_of names rest) t (λ n is. is) (server-has names rest) e
-turn_of-has names printed word.Fail rest t counts e = made-has (length names) (λ n. n.0 < length names) Fail (server_of names rest) t (λ n is. is) (server-has names rest) e
-turn_of-has names printed word.Heal rest t counts e = made-has (length names) (λ n. n.0 < length names) Heal (server_of names rest) t (λ n is. is) (server-has names rest) e
-turn_of-has names printed word.Rotate rest t counts e = made-has (length names) (λ n. n.0 < length names) Rotate (server_of names rest) t (λ n is. is) (server-has names rest) e
-turn_of-has names printed word.Cut rest t counts e = made-has (length names) (λ p. p.0.0 < length names) (λ p. Cut p.0 p.1) (link_of names rest) t (λ p is. is) (link-has names rest) e
-turn_of-has names printed word.Join rest t counts e = made-has (length names) (λ p. p.0.0 < length names) (λ p. Join p.0 p.1) (link_of names rest) t (λ p is. is) (link-has names rest) e
+    made-has (length names) (IsSized (length names)) (λ p. Step (Write p.0 p.1)) (size_of names rest) t (λ p is. (is.within, is.some, is.few)) (size-has names rest) e
+turn_of-has names printed word.Fetch rest t counts e = made-has (length names) (λ n. n.0 < length names) (λ n. Step (Fetch n)) (server_of names rest) t (λ n is. is) (server-has names rest) e
+turn_of-has names printed word.Apply rest t counts e = made-has (length names) (λ n. n.0 < length names) (λ n. Step (Apply n)) (server_of names rest) t (λ n is. is) (server-has names rest) e
+turn_of-has names printed word.Fail rest t counts e = made-has (length names) (λ n. n.0 < length names) (λ n. Step (Fail n)) (server_of names rest) t (λ n is. is) (server-has names rest) e
+turn_of-has names printed word.Heal rest t counts e = made-has (length names) (λ n. n.0 < length names) (λ n. Step (Heal n)) (server_of names rest) t (λ n is. is) (server-has names rest) e
+turn_of-has names printed word.Rotate rest t counts e = made-has (length names) (λ n. n.0 < length names) (λ n. Step (Rotate n)) (server_of names rest) t (λ n is. is) (server-has names rest) e
+turn_of-has names printed word.Cut rest t counts e = made-has (length names) (λ p. p.0.0 < length names) (λ p. Step (Cut p.0 p.1)) (link_of names rest) t (λ p is. is) (link-has names rest) e
+turn_of-has names printed word.Join rest t counts e = made-has (length names) (λ p. p.0.0 < length names) (λ p. Step (Join p.0 p.1)) (link_of names rest) t (λ p is. is) (link-has names rest) e
 turn_of-has names printed word.Tick rest t counts e = made-has (length names) (λ n. n ≤ 1000000000) Tick (seconds_of rest) t (λ n is. is) (seconds-have rest) e
 turn_of-has names printed word.PollRead rest t counts e =
-    made-has (length names) (IsPoll (length names)) (λ p. PollRead p.0 p.1) (poll_of names rest) t (λ p is. (is.poller, is.within)) (poll-has names rest) e
-turn_of-has names printed word.PollStore rest t counts e = made-has (length names) (λ p. p < 64) PollStore (poller_of rest) t (λ p is. is) (poller-has rest) e
+    made-has (length names) (IsPoll (length names)) (λ p. Act (PollRead p.0 p.1)) (poll_of names rest) t (λ p is. (is.poller, is.within)) (poll-has names rest) e
+turn_of-has names printed word.PollStore rest t counts e = made-has (length names) (λ p. p < 64) (λ p. Act (PollStore p)) (poller_of rest) t (λ p is. is) (poller-has rest) e
 turn_of-has names printed word.Polls rest t counts e = alone-has (length names) Polls rest t tt e
 turn_of-has names printed word.Round rest t counts e = alone-has (length names) Round rest t tt e
 turn_of-has names printed word.Command rest t counts e =
-    made-has (length names) (IsCommand (length names)) Command (command_in names printed rest) t (λ c is. is) (λ c f. command-has names printed rest c counts f) e
-turn_of-has names printed word.Job rest t counts e = made-has (length names) (λ n. Unit {0}) Job (job_of rest) t (λ n is. is) (λ n read. tt) e
-turn_of-has names printed word.Scan rest t counts e = alone-has (length names) (One Scan) rest t tt e
-turn_of-has names printed word.Restart rest t counts e = alone-has (length names) (One Restart) rest t tt e
+    made-has (length names) (IsCommand (length names)) (λ c. Act (Command c)) (command_in names printed rest) t (λ c is. is) (λ c f. command-has names printed rest c counts f) e
+turn_of-has names printed word.Job rest t counts e = made-has (length names) (λ n. Unit {0}) (λ n. Act (Job n)) (job_of rest) t (λ n is. is) (λ n read. tt) e
+turn_of-has names printed word.Scan rest t counts e = alone-has (length names) (One (Act Scan)) rest t tt e
+turn_of-has names printed word.Restart rest t counts e = alone-has (length names) (One (Act Restart)) rest t tt e
 
 pub turn-has : (names : List (Option HostPort)) (printed : List (List ℕ)) (d : Data) (t : ListedTurn) → length printed ≡ length names → turn_in names printed d ≡ Ok t → IsListedTurn (length names) t
 unfolding turn_in turn_with

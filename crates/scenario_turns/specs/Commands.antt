@@ -1,6 +1,7 @@
 -- The command turns: the word is followed by a command's name and by what it is given.
 use Rattle.std.specs.Prelude.{ℕ, ◌∷◌, List, [], codes, Option, Result, Ok}
 use Rattle.serde_json.specs.Data.{Data, Items, no_items, item}
+use Rattle.command_routes.specs.Routes.{is_built_name}
 use Rattle.commands.specs.Names.{name_of, needs_of}
 use Rattle.commands.specs.Turns.{is_there}
 use Rattle.commands.specs.declared.name.CommandName.{CommandName}
@@ -19,11 +20,13 @@ use Rattle.scenario_values.specs.declared.fault.FaultCode.TheVariants.{BadComman
 use Rattle.scenario_values.specs.Faults.{fails, or_fails, holds, under_item, maybe, only_keys}
 use Rattle.scenario_values.specs.Values.{members_in, text_in, text_within}
 
--- a command
+-- a command that is built
 unfoldable pub name_in : Data → Result CommandName Fault
 name_in d = do
   text ← text_in d
-  or_fails BadCommand (name_of text)
+  name ← or_fails BadCommand (name_of text)
+  built ← holds BadCommand (is_built_name name)
+  Ok name
 
 -- ---- the keys
 

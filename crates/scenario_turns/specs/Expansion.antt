@@ -5,7 +5,9 @@ use Rattle.orch_base.specs.declared.server.ServerNo.{ServerNo}
 use Rattle.orch_base.specs.Names.{HostPort, printed}
 use Rattle.openings.specs.declared.init.ServerInit.{ServerInit}
 use Rattle.turns.specs.declared.turn.Turn.{Turn}
-use Rattle.turns.specs.declared.turn.Turn.TheVariants.{Fetch, Apply, PollRead, PollStore}
+use Rattle.turns.specs.declared.turn.Turn.TheVariants.{Act, Step}
+use Rattle.turns.specs.declared.turn.Step.TheVariants.{Apply, Fetch}
+use Rattle.turns.specs.declared.turn.Act.TheVariants.{PollRead, PollStore}
 use Rattle.scenarios.specs.Turns.{IsTurn}
 use Rattle.name_order.specs.NameOrder.{by_name}
 use Rattle.scenario_turns.specs.declared.expansion.ListedTurn.{ListedTurn}
@@ -24,11 +26,11 @@ in_order servers = by_name (server_names servers)
 
 -- poller 0 reads each of these servers and stores what it read
 abbrev pub polls_of : List ServerNo → List Turn
-polls_of ns = flat_map (λ n. PollRead 0 n ∷ PollStore 0 ∷ []) ns
+polls_of ns = flat_map (λ n. Act (PollRead 0 n) ∷ Act (PollStore 0) ∷ []) ns
 
 -- a receiver's step and an applier's step at each of these servers
 abbrev pub steps_of : List ServerNo → List Turn
-steps_of ns = flat_map (λ n. Fetch n ∷ Apply n ∷ []) ns
+steps_of ns = flat_map (λ n. Step (Fetch n) ∷ Step (Apply n) ∷ []) ns
 
 -- what one listed turn stands for over these servers
 abbrev pub expansion_of : List ServerNo → ListedTurn → List Turn

@@ -7,7 +7,9 @@ use Rattle.orch_base.specs.Names.{HostPort}
 use Rattle.server_words.specs.declared.changes.Link.{Link}
 use Rattle.server_words.specs.declared.changes.Link.TheVariants.{Desk, Feed}
 use Rattle.turns.specs.declared.turn.Turn.{Turn}
-use Rattle.turns.specs.declared.turn.Turn.TheVariants.{Write, Fetch, Apply, Fail, Heal, Cut, Join, Rotate, Tick, PollRead, PollStore, Command, Job, Scan, Restart}
+use Rattle.turns.specs.declared.turn.Turn.TheVariants.{Act, Step, Tick}
+use Rattle.turns.specs.declared.turn.Step.TheVariants.{Write, Fetch, Apply, Fail, Heal, Cut, Join, Rotate}
+use Rattle.turns.specs.declared.turn.Act.TheVariants.{PollRead, PollStore, Command, Job, Scan, Restart}
 use Rattle.scenario_values.specs.declared.fault.Fault.{Fault}
 use Rattle.scenario_values.specs.declared.fault.FaultCode.TheVariants.{BadTurn, BadNumber}
 use Rattle.scenario_values.specs.Faults.{fails, under_item}
@@ -100,23 +102,23 @@ alone turn no_items = Ok turn
 alone turn _ = fails BadTurn
 
 abbrev pub turn_of : List (Option HostPort) → List (List ℕ) → Word → Items → Result ListedTurn Fault
-turn_of names printed word.Write rest = turn_by (λ p. Write p.0 p.1) (size_of names rest)
-turn_of names printed word.Fetch rest = turn_by Fetch (server_of names rest)
-turn_of names printed word.Apply rest = turn_by Apply (server_of names rest)
-turn_of names printed word.Fail rest = turn_by Fail (server_of names rest)
-turn_of names printed word.Heal rest = turn_by Heal (server_of names rest)
-turn_of names printed word.Rotate rest = turn_by Rotate (server_of names rest)
-turn_of names printed word.Cut rest = turn_by (λ p. Cut p.0 p.1) (link_of names rest)
-turn_of names printed word.Join rest = turn_by (λ p. Join p.0 p.1) (link_of names rest)
+turn_of names printed word.Write rest = turn_by (λ p. Step (Write p.0 p.1)) (size_of names rest)
+turn_of names printed word.Fetch rest = turn_by (λ n. Step (Fetch n)) (server_of names rest)
+turn_of names printed word.Apply rest = turn_by (λ n. Step (Apply n)) (server_of names rest)
+turn_of names printed word.Fail rest = turn_by (λ n. Step (Fail n)) (server_of names rest)
+turn_of names printed word.Heal rest = turn_by (λ n. Step (Heal n)) (server_of names rest)
+turn_of names printed word.Rotate rest = turn_by (λ n. Step (Rotate n)) (server_of names rest)
+turn_of names printed word.Cut rest = turn_by (λ p. Step (Cut p.0 p.1)) (link_of names rest)
+turn_of names printed word.Join rest = turn_by (λ p. Step (Join p.0 p.1)) (link_of names rest)
 turn_of names printed word.Tick rest = turn_by Tick (seconds_of rest)
-turn_of names printed word.PollRead rest = turn_by (λ p. PollRead p.0 p.1) (poll_of names rest)
-turn_of names printed word.PollStore rest = turn_by PollStore (poller_of rest)
+turn_of names printed word.PollRead rest = turn_by (λ p. Act (PollRead p.0 p.1)) (poll_of names rest)
+turn_of names printed word.PollStore rest = turn_by (λ p. Act (PollStore p)) (poller_of rest)
 turn_of names printed word.Polls rest = alone Polls rest
 turn_of names printed word.Round rest = alone Round rest
-turn_of names printed word.Command rest = turn_by Command (command_in names printed rest)
-turn_of names printed word.Job rest = turn_by Job (job_of rest)
-turn_of names printed word.Scan rest = alone (One Scan) rest
-turn_of names printed word.Restart rest = alone (One Restart) rest
+turn_of names printed word.Command rest = turn_by (λ c. Act (Command c)) (command_in names printed rest)
+turn_of names printed word.Job rest = turn_by (λ n. Act (Job n)) (job_of rest)
+turn_of names printed word.Scan rest = alone (One (Act Scan)) rest
+turn_of names printed word.Restart rest = alone (One (Act Restart)) rest
 
 unfoldable pub turn_with : List (Option HostPort) → List (List ℕ) → Data → Items → Result ListedTurn Fault
 turn_with names printed first rest = do

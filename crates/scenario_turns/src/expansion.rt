@@ -7,7 +7,7 @@ use crate::pattern::printed_names;
 use name_order::in_name_order;
 use openings::ServerInit;
 use orch_base::{Memory, Name, OwnedText, ServerNo};
-use scenarios::Turn;
+use scenarios::{Act, Step, Turn};
 use std::alloc::Global;
 
 /// A turn as a scenario lists it.
@@ -83,8 +83,8 @@ fn push_polls(ordered: &[ServerNo], turns: &mut Vec<Turn>) -> Result<(), Memory>
     ensures { OnOk result (turns.new.items ≡ turns.old.items ++ polls_of ordered.now) }
 {
     for no in ordered {
-        turns.push(Turn::PollRead(0, *no))?;
-        turns.push(Turn::PollStore(0))?;
+        turns.push(Turn::Act(Act::PollRead(0, *no)))?;
+        turns.push(Turn::Act(Act::PollStore(0)))?;
     }
     Ok(())
 }
@@ -93,8 +93,8 @@ fn push_steps(ordered: &[ServerNo], turns: &mut Vec<Turn>) -> Result<(), Memory>
     ensures { OnOk result (turns.new.items ≡ turns.old.items ++ steps_of ordered.now) }
 {
     for no in ordered {
-        turns.push(Turn::Fetch(*no))?;
-        turns.push(Turn::Apply(*no))?;
+        turns.push(Turn::Step(Step::Fetch(*no)))?;
+        turns.push(Turn::Step(Step::Apply(*no)))?;
     }
     Ok(())
 }

@@ -12,9 +12,7 @@ mod word;
 
 pub use command::command_in;
 pub use expansion::{ListedTurn, are_few, expanded, in_order, printed_of};
-pub use laws::{
-    built_turns_are_read, built_words_are_listed, read_commands_are_sound, read_turns_are_sound,
-};
+pub use laws::{read_commands_are_sound, read_turns_are_sound};
 pub use pattern::{found, printed_names};
 pub use patterns::Patterns;
 pub use turn_forms::each_turn;

@@ -6,8 +6,11 @@ ghost use Rattle.serde_json.specs.View.{view, items_view};
 ghost use Rattle.scenario_values.specs.Faults.{fault_of, under_item, each};
 ghost use Rattle.scenario_values.specs.Values.{text_in, number_in};
 ghost use Rattle.scenario_servers.specs.Names.{server_named};
-ghost use Rattle.turns.specs.declared.turn.Turn.TheVariants.{Write, Cut, Join, PollRead, Command};
+ghost use Rattle.turns.specs.declared.turn.Act.TheVariants.{Command, PollRead};
+ghost use Rattle.turns.specs.declared.turn.Step.TheVariants.{Cut, Join, Write};
+ghost use Rattle.turns.specs.declared.turn.Turn.TheVariants.{Act as Acts, Step as Steps};
 ghost use Rattle.scenario_turns.specs.Commands.{command_in};
+ghost use Rattle.scenario_turns.specs.declared.expansion.ListedTurn.TheVariants.{One};
 ghost use Rattle.scenario_turns.specs.Turns.{link_in, poller_in, one_of, two_of, server_of, size_of, link_of, seconds_of, poll_of, poller_of, job_of, turn_by, alone, turn_of, turn_with, turn_from, turn_in};
 
 use crate::command::command_in;
@@ -17,7 +20,7 @@ use crate::word::{Word, is_word, word_at};
 use orch_base::ServerNo;
 use scenario_servers::{Names, server_named};
 use scenario_values::{FaultCode, ReadFault, fails, items_in, number_in, text_in, under_item};
-use scenarios::{BoxedCommand, Turn};
+use scenarios::{Act, BoxedCommand, Step, Turn};
 use serde_json::Value;
 use server_words::Link;
 use std::alloc::Global;
@@ -169,32 +172,44 @@ fn job_of(alloc: Global, rest: &[Value]) -> Result<u64, ReadFault>
     number_at(alloc, 1, 0, u64::MAX, number)
 }
 
+fn step_turn(step: Step) -> ListedTurn
+    ensures { result ≡ One (Steps step) }
+{
+    ListedTurn::One(Turn::Step(step))
+}
+
+fn act_turn(act: Act) -> ListedTurn
+    ensures { result ≡ One (Acts act) }
+{
+    ListedTurn::One(Turn::Act(act))
+}
+
 fn write_of(alloc: Global, names: &Names, rest: &[Value]) -> Result<ListedTurn, ReadFault>
-    ensures { Gives (λ t. t) fault_of result (turn_by (λ p. Write p.0 p.1) (size_of names.now (items_view rest.now))) }
+    ensures { Gives (λ t. t) fault_of result (turn_by (λ p. Steps (Write p.0 p.1)) (size_of names.now (items_view rest.now))) }
 {
     let (server, size) = size_of(alloc, names, rest)?;
-    Ok(ListedTurn::One(Turn::Write(server, size)))
+    Ok(step_turn(Step::Write(server, size)))
 }
 
 fn cut_of(alloc: Global, names: &Names, rest: &[Value]) -> Result<ListedTurn, ReadFault>
-    ensures { Gives (λ t. t) fault_of result (turn_by (λ p. Cut p.0 p.1) (link_of names.now (items_view rest.now))) }
+    ensures { Gives (λ t. t) fault_of result (turn_by (λ p. Steps (Cut p.0 p.1)) (link_of names.now (items_view rest.now))) }
 {
     let (server, link) = link_of(alloc, names, rest)?;
-    Ok(ListedTurn::One(Turn::Cut(server, link)))
+    Ok(step_turn(Step::Cut(server, link)))
 }
 
 fn join_of(alloc: Global, names: &Names, rest: &[Value]) -> Result<ListedTurn, ReadFault>
-    ensures { Gives (λ t. t) fault_of result (turn_by (λ p. Join p.0 p.1) (link_of names.now (items_view rest.now))) }
+    ensures { Gives (λ t. t) fault_of result (turn_by (λ p. Steps (Join p.0 p.1)) (link_of names.now (items_view rest.now))) }
 {
     let (server, link) = link_of(alloc, names, rest)?;
-    Ok(ListedTurn::One(Turn::Join(server, link)))
+    Ok(step_turn(Step::Join(server, link)))
 }
 
 fn poll_read_of(alloc: Global, names: &Names, rest: &[Value]) -> Result<ListedTurn, ReadFault>
-    ensures { Gives (λ t. t) fault_of result (turn_by (λ p. PollRead p.0 p.1) (poll_of names.now (items_view rest.now))) }
+    ensures { Gives (λ t. t) fault_of result (turn_by (λ p. Acts (PollRead p.0 p.1)) (poll_of names.now (items_view rest.now))) }
 {
     let (poller, server) = poll_of(alloc, names, rest)?;
-    Ok(ListedTurn::One(Turn::PollRead(poller, server)))
+    Ok(act_turn(Act::PollRead(poller, server)))
 }
 
 // A word that nothing follows.
@@ -214,10 +229,10 @@ fn command_of(
     patterns: &Patterns,
     rest: &[Value],
 ) -> Result<ListedTurn, ReadFault>
-    ensures { Gives (λ t. t) fault_of result (turn_by Command (command_in names.now patterns.now (items_view rest.now))) }
+    ensures { Gives (λ t. t) fault_of result (turn_by (λ c. Acts (Command c)) (command_in names.now patterns.now (items_view rest.now))) }
 {
     let command = command_in(alloc, names, patterns, rest)?;
-    Ok(ListedTurn::One(Turn::Command(BoxedCommand::new(alloc, command)?)))
+    Ok(act_turn(Act::Command(BoxedCommand::new(alloc, command)?)))
 }
 
 #[rattlefmt::skip]
@@ -226,22 +241,22 @@ fn turn_of(alloc: Global, names: &Names, patterns: &Patterns, word: Word, rest: 
 {
     match word {
         Word::Write => write_of(alloc, names, rest),
-        Word::Fetch => Ok(ListedTurn::One(Turn::Fetch(server_of(alloc, names, rest)?))),
-        Word::Apply => Ok(ListedTurn::One(Turn::Apply(server_of(alloc, names, rest)?))),
-        Word::Fail => Ok(ListedTurn::One(Turn::Fail(server_of(alloc, names, rest)?))),
-        Word::Heal => Ok(ListedTurn::One(Turn::Heal(server_of(alloc, names, rest)?))),
-        Word::Rotate => Ok(ListedTurn::One(Turn::Rotate(server_of(alloc, names, rest)?))),
+        Word::Fetch => Ok(step_turn(Step::Fetch(server_of(alloc, names, rest)?))),
+        Word::Apply => Ok(step_turn(Step::Apply(server_of(alloc, names, rest)?))),
+        Word::Fail => Ok(step_turn(Step::Fail(server_of(alloc, names, rest)?))),
+        Word::Heal => Ok(step_turn(Step::Heal(server_of(alloc, names, rest)?))),
+        Word::Rotate => Ok(step_turn(Step::Rotate(server_of(alloc, names, rest)?))),
         Word::Cut => cut_of(alloc, names, rest),
         Word::Join => join_of(alloc, names, rest),
         Word::Tick => Ok(ListedTurn::One(Turn::Tick(seconds_of(alloc, rest)?))),
         Word::PollRead => poll_read_of(alloc, names, rest),
-        Word::PollStore => Ok(ListedTurn::One(Turn::PollStore(poller_of(alloc, rest)?))),
+        Word::PollStore => Ok(act_turn(Act::PollStore(poller_of(alloc, rest)?))),
         Word::Polls => alone(alloc, ListedTurn::Polls, rest),
         Word::Round => alone(alloc, ListedTurn::Round, rest),
         Word::Command => command_of(alloc, names, patterns, rest),
-        Word::Job => Ok(ListedTurn::One(Turn::Job(job_of(alloc, rest)?))),
-        Word::Scan => alone(alloc, ListedTurn::One(Turn::Scan), rest),
-        Word::Restart => alone(alloc, ListedTurn::One(Turn::Restart), rest),
+        Word::Job => Ok(act_turn(Act::Job(job_of(alloc, rest)?))),
+        Word::Scan => alone(alloc, act_turn(Act::Scan), rest),
+        Word::Restart => alone(alloc, act_turn(Act::Restart), rest),
     }
 }
 

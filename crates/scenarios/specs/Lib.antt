@@ -1,3 +1,3 @@
-pub mod Built
+pub mod Blocks
 pub mod Turns
 pub mod Scenarios

@@ -6,7 +6,9 @@ use Rattle.openings.specs.declared.init.ServerInit.{ServerInit}
 use Rattle.openings.specs.Listed.{transactions}
 use Rattle.openings.specs.Opening.{IsChecked}
 use Rattle.openings.specs.Servers.{parts_of}
+use Rattle.hook_texts.specs.Hooks.{AreHooks}
 use Rattle.scenarios.specs.declared.scenario.Scenario.{Scenario}
+use Rattle.scenarios.specs.Blocks.{period_in}
 use Rattle.scenarios.specs.Turns.{IsTurn, is_rotate, is_write}
 
 -- the transactions that histories list
@@ -34,13 +36,20 @@ settings_of s = map (λ i. i.settings) s.opening.servers
 abbrev pub names_of : Scenario → List HostPort
 names_of s = map (λ i. i.settings.name) s.opening.servers
 
+-- the block period of a cluster
+abbrev pub period_of : Scenario → List ℕ → ℕ
+period_of s cluster = period_in s.blocks s.block cluster
+
 -- The opening is checked, each turn is one of its servers', there are at most 1,000,000 turns, the servers together
--- take room for at most 4,000,000 transactions, the block period is at most 1,000,000,000 seconds, each server is known
--- or not and has a rule or none, and each filter list has an answer for each server.
+-- take room for at most 4,000,000 transactions, each number is in its range, each server is known or not and has a rule
+-- or none, each filter list has an answer for each server, and each hook has a text.
 pub record IsScenario (s : Scenario) : Type 0 where
   pub checked : IsChecked s.opening
   pub moment : s.moment.0 ≤ 1000000000000000
+  pub pseudo : s.pseudo ≤ 1000000
+  pub nodes : s.nodes ≡ 1
   pub block : s.block ≤ 1000000000
+  pub blocks : All (λ b. b.seconds ≤ 1000000000) s.blocks
   pub turns : All (IsTurn (length s.opening.servers)) s.turns
   pub few : length s.turns ≤ 1000000
   pub room : length s.opening.servers * room_of s ≤ 4000000
@@ -48,3 +57,4 @@ pub record IsScenario (s : Scenario) : Type 0 where
   pub rules : length s.rules ≡ length s.opening.servers
   pub master : length s.filters.master.passes ≡ length s.opening.servers
   pub intermediate : length s.filters.intermediate.passes ≡ length s.opening.servers
+  pub hooks : AreHooks s.hooks

@@ -2,6 +2,11 @@
 use Rattle.std.specs.Prelude.{◌≡◌, ℕ, ◌<◌, ◌≤◌, Bool, false, true, length, IfSome}
 use Rattle.commands.specs.declared.turn.CommandTurn.{CommandTurn}
 use Rattle.commands.specs.Turns.{fits}
+use Rattle.command_routes.specs.Routes.{is_built_name}
+use Rattle.turns.specs.declared.turn.Step.{Step}
+use Rattle.turns.specs.declared.turn.Step.TheVariants as step
+use Rattle.turns.specs.declared.turn.Act.{Act}
+use Rattle.turns.specs.declared.turn.Act.TheVariants as act
 use Rattle.turns.specs.declared.turn.Turn.{Turn}
 use Rattle.turns.specs.declared.turn.Turn.TheVariants as turn
 
@@ -9,65 +14,83 @@ use Rattle.turns.specs.declared.turn.Turn.TheVariants as turn
 abbrev pub pollers : ℕ
 pollers = 64
 
--- A command over so many servers: what it needs is there, each number and text is in its range, and a pattern has
--- an answer for each server.
+-- A command over so many servers: it is built, what it needs is there, each number and text is in its range, and a
+-- pattern has an answer for each server.
 pub record IsCommand (count : ℕ) (t : CommandTurn) : Type 0 where
+  pub built : is_built_name t.command.name ≡ true
   pub fits : fits count t ≡ true
   pub duration : IfSome t.keys.duration (λ n. (1 ≤ n) × (n ≤ 31536000))
   pub reason : IfSome t.keys.reason (λ text. length text ≤ 255)
   pub owner : IfSome t.keys.owner (λ text. length text ≤ 255)
   pub answers : IfSome t.keys.pattern (λ f. length f.answers ≡ count)
 
--- the turn is of one of so many servers, and its numbers are in their ranges
+-- the step is of one of so many servers, and its numbers are in their ranges
+abbrev pub IsStep : ℕ → Step → Type 0
+IsStep count (step.Write n size) = (n.0 < count) × (0 < size) × (size ≤ 1000000)
+IsStep count (step.Fetch n) = n.0 < count
+IsStep count (step.Apply n) = n.0 < count
+IsStep count (step.Fail n) = n.0 < count
+IsStep count (step.Heal n) = n.0 < count
+IsStep count (step.Cut n link) = n.0 < count
+IsStep count (step.Join n link) = n.0 < count
+IsStep count (step.Rotate n) = n.0 < count
+IsStep count (step.Purge n file) = (n.0 < count) × (1 ≤ file) × (file ≤ 4294967295)
+
+-- the pollers and servers are there, and a command is one over the servers
+abbrev pub IsAct : ℕ → Act → Type 0
+IsAct count (act.PollRead p n) = (p < pollers) × (n.0 < count)
+IsAct count (act.PollStore p) = p < pollers
+IsAct count (act.Command c) = IsCommand count c
+IsAct count (act.Job job) = Unit {0}
+IsAct count act.Scan = Unit {0}
+IsAct count act.Restart = Unit {0}
+
+-- The turn is of these servers, and its numbers are in their ranges. Where there is one orchestrator, none acts by its
+-- number, and none claims to be the active one.
 abbrev pub IsTurn : ℕ → Turn → Type 0
-IsTurn count (turn.Write n size) = (n.0 < count) × (0 < size) × (size ≤ 1000000)
-IsTurn count (turn.Fetch n) = n.0 < count
-IsTurn count (turn.Apply n) = n.0 < count
-IsTurn count (turn.Fail n) = n.0 < count
-IsTurn count (turn.Heal n) = n.0 < count
-IsTurn count (turn.Cut n link) = n.0 < count
-IsTurn count (turn.Join n link) = n.0 < count
-IsTurn count (turn.Rotate n) = n.0 < count
+IsTurn count (turn.Step s) = IsStep count s
 IsTurn count (turn.Tick seconds) = seconds ≤ 1000000000
-IsTurn count (turn.Job job) = Unit {0}
-IsTurn count turn.Scan = Unit {0}
-IsTurn count (turn.PollRead p n) = (p < pollers) × (n.0 < count)
-IsTurn count (turn.PollStore p) = p < pollers
-IsTurn count (turn.Command c) = IsCommand count c
-IsTurn count turn.Restart = Unit {0}
+IsTurn count (turn.Act a) = IsAct count a
+IsTurn count (turn.As node a) = ⊥
+IsTurn count (turn.Claim node) = ⊥
+IsTurn count (turn.Release node) = ⊥
 
 -- an ordinary client's transaction
+abbrev pub is_write_step : Step → Bool
+is_write_step (step.Write n size) = true
+is_write_step (step.Fetch n) = false
+is_write_step (step.Apply n) = false
+is_write_step (step.Fail n) = false
+is_write_step (step.Heal n) = false
+is_write_step (step.Cut n link) = false
+is_write_step (step.Join n link) = false
+is_write_step (step.Rotate n) = false
+is_write_step (step.Purge n file) = false
+
 abbrev pub is_write : Turn → Bool
-is_write (turn.Write n size) = true
-is_write (turn.Fetch n) = false
-is_write (turn.Apply n) = false
-is_write (turn.Fail n) = false
-is_write (turn.Heal n) = false
-is_write (turn.Cut n link) = false
-is_write (turn.Join n link) = false
-is_write (turn.Rotate n) = false
+is_write (turn.Step s) = is_write_step s
 is_write (turn.Tick seconds) = false
-is_write (turn.Job job) = false
-is_write turn.Scan = false
-is_write (turn.PollRead p n) = false
-is_write (turn.PollStore p) = false
-is_write (turn.Command c) = false
-is_write turn.Restart = false
+is_write (turn.Act a) = false
+is_write (turn.As node a) = false
+is_write (turn.Claim node) = false
+is_write (turn.Release node) = false
 
 -- a new file of a binary log
+abbrev pub is_rotate_step : Step → Bool
+is_rotate_step (step.Rotate n) = true
+is_rotate_step (step.Write n size) = false
+is_rotate_step (step.Fetch n) = false
+is_rotate_step (step.Apply n) = false
+is_rotate_step (step.Fail n) = false
+is_rotate_step (step.Heal n) = false
+is_rotate_step (step.Cut n link) = false
+is_rotate_step (step.Join n link) = false
+is_rotate_step (step.Purge n file) = false
+
 abbrev pub is_rotate : Turn → Bool
-is_rotate (turn.Rotate n) = true
-is_rotate (turn.Write n size) = false
-is_rotate (turn.Fetch n) = false
-is_rotate (turn.Apply n) = false
-is_rotate (turn.Fail n) = false
-is_rotate (turn.Heal n) = false
-is_rotate (turn.Cut n link) = false
-is_rotate (turn.Join n link) = false
+is_rotate (turn.Step s) = is_rotate_step s
 is_rotate (turn.Tick seconds) = false
-is_rotate (turn.Job job) = false
-is_rotate turn.Scan = false
-is_rotate (turn.PollRead p n) = false
-is_rotate (turn.PollStore p) = false
-is_rotate (turn.Command c) = false
-is_rotate turn.Restart = false
+is_rotate (turn.Act a) = false
+is_rotate (turn.As node a) = false
+is_rotate (turn.Claim node) = false
+is_rotate (turn.Release node) = false

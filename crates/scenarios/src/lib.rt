@@ -2,19 +2,20 @@
 //! takes.
 #![tactic(auto)]
 
+mod blocks;
 mod filters;
-mod format;
 mod room;
 mod rules;
 mod same;
 mod scenario;
 mod threads;
 
+pub use blocks::{Block, Blocks};
 pub use commands::Answers;
 pub use filters::{Alias, Aliases, ClusterFilters, FilterList, Texts};
-pub use format::built;
+pub use hook_texts::{Hook, HookList, Hooks};
 /// Want of memory.
 pub use orch_base::Memory;
 pub use rules::Rules;
 pub use scenario::{Scenario, Turns};
-pub use turns::{BoxedCommand, Turn};
+pub use turns::{Act, BoxedCommand, Step, Turn};

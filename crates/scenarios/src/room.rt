@@ -6,7 +6,7 @@ ghost use Rattle.openings.specs.Servers.{parts_of};
 ghost use Rattle.scenarios.specs.Scenarios.{flushes_of, listed_in, longest_flushes, room_of, IsScenario};
 ghost use Rattle.scenarios.specs.Turns.{is_rotate, is_write};
 
-use crate::{Scenario, Turn};
+use crate::{Scenario, Step, Turn};
 use openings::{ServerInit, transactions};
 
 impl Scenario {
@@ -67,7 +67,7 @@ fn writes(turns: &[Turn]) -> u64
 fn is_write(t: &Turn) -> bool
     ensures { result ≡ is_write t.now }
 {
-    matches!(t, Turn::Write(_, _))
+    matches!(t, Turn::Step(Step::Write(_, _)))
 }
 
 fn rotations(turns: &[Turn]) -> u64
@@ -86,5 +86,5 @@ fn rotations(turns: &[Turn]) -> u64
 fn is_rotate(t: &Turn) -> bool
     ensures { result ≡ is_rotate t.now }
 {
-    matches!(t, Turn::Rotate(_))
+    matches!(t, Turn::Step(Step::Rotate(_)))
 }

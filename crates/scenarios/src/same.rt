@@ -142,7 +142,9 @@ impl Scenario {
         ensures { IsTrue result ↔ (self.now ≡ other.now) }
     {
         (self.opening.same(&other.opening) && self.moment == other.moment)
-            && self.block == other.block
+            && (self.pseudo == other.pseudo && self.nodes == other.nodes)
+            && (self.block == other.block && self.blocks.is_same(&other.blocks))
+            && self.hooks.is_same(&other.hooks)
             && (self.aliases.is_same(&other.aliases) && self.filters.is_same(&other.filters))
             && (self.known.is_same(&other.known) && self.rules.is_same(&other.rules))
             && self.turns.is_same(&other.turns)

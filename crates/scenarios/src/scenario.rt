@@ -2,7 +2,7 @@
 
 ghost use Rattle.std.specs.Prelude.{◌≡◌, IfOk};
 
-use crate::{Aliases, Answers, ClusterFilters, Rules, Turn};
+use crate::{Aliases, Answers, Blocks, ClusterFilters, Hooks, Rules, Turn};
 use openings::Opening;
 use orch_base::{Memory, Moment};
 use std::alloc::Global;
@@ -64,17 +64,26 @@ fn copy_turns(alloc: Global, turns: &[Turn]) -> Result<Vec<Turn>, Memory>
     Ok(copy)
 }
 
-/// The servers as they begin, the moment, the block period, the clusters' aliases, whose recoveries may begin by
-/// themselves, what is known at the opening and how it is promoted, and the turns that follow.
+/// The servers as they begin, the moment, which transactions are marks, how many orchestrators there are, the block
+/// periods, the clusters' aliases, whose recoveries may begin by themselves and what they tell, what is known at the
+/// opening and how it is promoted, and the turns that follow.
 #[derive(Drop)]
 pub struct Scenario {
     pub opening: Opening,
     /// When it begins: at most 1,000,000,000,000,000.
     pub moment: Moment,
+    /// Each transaction whose number is divisible by this is a mark by which logs can be matched; 0 for no marks. At
+    /// most 1,000,000.
+    pub pseudo: u64,
+    /// How many orchestrators share what is kept: 1 to 16.
+    pub nodes: u32,
     /// The block period in seconds (RecoveryPeriodBlockSeconds): at most 1,000,000,000.
     pub block: u64,
+    /// Clusters with block periods of their own.
+    pub blocks: Blocks,
     pub aliases: Aliases,
     pub filters: ClusterFilters,
+    pub hooks: Hooks,
     /// For each server whether the book knows it at the opening.
     pub known: Answers,
     /// For each server the rule with which it is registered at the opening, if any.
@@ -90,9 +99,13 @@ impl Scenario {
         Ok(Scenario {
             opening: self.opening.copy(alloc)?,
             moment: self.moment,
+            pseudo: self.pseudo,
+            nodes: self.nodes,
             block: self.block,
+            blocks: self.blocks.copy(alloc)?,
             aliases: self.aliases.copy(alloc)?,
             filters: self.filters.copy(alloc)?,
+            hooks: self.hooks.copy(alloc)?,
             known: self.known.copy(alloc)?,
             rules: self.rules.copy(alloc)?,
             turns: self.turns.copy(alloc)?,

@@ -214,7 +214,7 @@ module _ (servers : List Server) (ledgers : List Ledger) (gtid : Bool) (errant n
         source = λ m h. h;
         places = λ c k h. h;
         relays = λ c d xs h. h;
-        fit = record { high = fit.high; room = fit.room; within = fit.within; entries = fit.entries; sizes = fit.sizes; grown = fit.grown; files = fit.files };
+        fit = record { high = fit.high; room = fit.room; within = fit.within; entries = fit.entries; sizes = fit.sizes; grown = fit.grown; files = fit.files; kept = fit.kept };
         own = own ∙ kept.own n r l here beside;
         room = refl;
         relay_room = room;
@@ -261,7 +261,7 @@ IsKept-forget servers ledgers errant n r kept here =
       source = λ m h. h;
       places = λ c k h. h;
       relays = λ c d xs h. h;
-      fit = record { high = fit.high; room = fit.room; within = fit.within; entries = fit.entries; sizes = fit.sizes; grown = fit.grown; files = fit.files };
+      fit = record { high = fit.high; room = fit.room; within = fit.within; entries = fit.entries; sizes = fit.sizes; grown = fit.grown; files = fit.files; kept = fit.kept };
       own = kept.own n r l.0 here l.1;
       room = refl;
       relay_room = refl;
@@ -317,8 +317,8 @@ executed-at gtid r s t to (next.Entry i e) h = (i, by (slice_get s.history.txns 
 executed-at gtid r s t to (next.Rotate e) h = cc
 executed-at gtid r s t to next.End h = cc
 
-pub step-numbered : (servers : List Server) (executed : List Reserved) (gtid : Bool) (r : Server) (t : Txn) (to : Coord) → AreGtids servers executed gtid → IsStep servers gtid r (applying.Execute t to)
+pub step-numbered : (servers : List Server) (executed purged : List Reserved) (gtid : Bool) (r : Server) (t : Txn) (to : Coord) → AreGtids servers executed purged gtid → IsStep servers gtid r (applying.Execute t to)
     → IsNumbered (length servers) t
-step-numbered servers executed gtid r t to are on =
+step-numbered servers executed purged gtid r t to are on =
     let at = executed-at gtid r on.source t to (next_after on.source.log.log r.exec) on.is in
     numbered-at (length servers) on.source.history.txns at.0 t (are.numbered on.number on.source on.at) at.1

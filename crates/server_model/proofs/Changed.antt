@@ -1,28 +1,31 @@
 -- A change of one server that leaves its history and log keeps what is kept; so does a new file of its log.
-use Rattle.std.proofs.Common.{◌≡◌, ℕ, ◌<◌, Bool, true, false, not, cond, List, [], length, refl, sym, ◌∙◌, ap, subst, Option, Some, None, Result, Ok, Err, arith, ◌&&◌, ◌||◌, zero, suc}
-use Rattle.std.specs.Prelude.{slice_get, slice_set, ◌==◌, All, count_by}
-use Rattle.std.proofs.lemmas.Bool.{eq-eqb}
+use Rattle.std.proofs.Common.{◌≡◌, ℕ, ◌<◌, ◌≤◌, Bool, true, false, not, cond, List, [], length, take, refl, sym, ◌∙◌, ap, subst, Option, Some, None, Result, Ok, Err, arith, ◌&&◌, ◌||◌, zero, suc}
+use Rattle.std.specs.Prelude.{slice_get, slice_set, ◌==◌, All, count_by, nat_lt, unwrap_or}
+use Rattle.std.proofs.lemmas.Bool.{eq-eqb, false≢true}
 use Rattle.std.proofs.lemmas.Option.{same_Some}
 use Rattle.binlog_coords.specs.declared.Coord.{Coord}
 use Rattle.binlog_coords.specs.Grown as grown
-use Rattle.binlog_coords.specs.Log.{Log, place, has_place, ends_by, flush, end_of}
+use Rattle.binlog_coords.specs.Log.{Log, place, has_place, ends_by, file_start, flush, end_of}
 use Rattle.binlog_coords.specs.Relay.{IsRelay, Empty}
 use Rattle.binlog_coords.proofs.Places.{stable_flush, place-from}
 use Rattle.binlog_coords.proofs.Relays.{IsRelay-flush}
 use Rattle.orch_base.specs.declared.server.ServerNo.{ServerNo}
 use Rattle.orch_base.specs.declared.server.SourceState.{SourceState}
 use Rattle.orch_base.specs.declared.server.SourceState.TheVariants.{Without, Attached, Detached}
-use Rattle.server_model.specs.Attach.{spot_below, live_spot, same_spot, chain_meets, attach_decision, attach_answer, attached_to, after_attach, IsTarget}
+use Rattle.server_model.specs.Attach.{spot_below, live_spot, same_spot, chain_meets, first_kept, purged_answer, attach_decision, attach_answer, attached_to, after_attach, IsTarget}
 use Rattle.server_words.specs.declared.attach.Spot.{Spot}
 use Rattle.server_words.specs.declared.attach.AttachFault.{AttachFault}
 use Rattle.server_words.specs.declared.attach.AttachFault.TheVariants as attaching
 use Rattle.server_model.specs.Desk.{stopped, started, detached, reattached, without_source, asked, detached_source, attached_source, empties, with_link, healed, befallen, rotated, desk_answer, after_desk, befall, rotate_answer, after_rotate, is_detached}
 use Rattle.server_model.specs.Exchanges.{is_attached}
 use Rattle.orch_base.specs.Histories.{count_own}
+use Rattle.server_model.specs.Gtids.{purged_len, purged_txns}
 use Rattle.server_model.specs.Kept.{Kept}
 use Rattle.binlog_coords.specs.Index.{Index}
 use Rattle.server_model.specs.Links.{HasSize, IsFit, IsLinked, IsKept}
 use Rattle.server_model.specs.Worlds.{World, server_at, source_no, sources}
+use Rattle.server_model.specs.Purging.{after_purge}
+use Rattle.server_words.specs.declared.answers.PurgeAnswer.TheVariants as purging
 use Rattle.server_words.specs.declared.answers.RotateAnswer.TheVariants as rotating
 use Rattle.server_words.specs.declared.changes.Ask.{Ask}
 use Rattle.server_words.specs.declared.changes.Ask.TheVariants as asking
@@ -46,6 +49,7 @@ pub record IsMoved (s s' : Server) (all : Bool) : Type 0 where
   pub settings : s'.settings ≡ s.settings
   pub history : s'.history ≡ s.history
   pub log : s'.log ≡ s.log
+  pub first : s'.first ≡ s.first
   pub source : (m : ℕ) → source_no s'.source ≡ Some m → source_no s.source ≡ Some m
   pub link : (m : ℕ) → source_no s'.source ≡ Some m → (t : Server) (l : Ledger) → IsLinked s t l → IsLinked s' t (emptied all l)
 
@@ -70,46 +74,47 @@ module _ (s : Server) where
     read_place = (old.exec_place.0, ap (place t.log.log) read ∙ old.exec_place.1);
   }
 
-  still : (s' : Server) → s'.settings ≡ s.settings → s'.history ≡ s.history → s'.log ≡ s.log → source_no s'.source ≡ source_no s.source → s'.exec ≡ s.exec → s'.read ≡ s.read → IsMoved s s' false
-  still s' settings history log source exec read = record { settings = settings; history = history; log = log; source = λ m h. sym source ∙ h; link = λ m h t l old. stays s' exec read t l old }
+  still : (s' : Server) → s'.settings ≡ s.settings → s'.history ≡ s.history → s'.log ≡ s.log → s'.first ≡ s.first → source_no s'.source ≡ source_no s.source → s'.exec ≡ s.exec → s'.read ≡ s.read → IsMoved s s' false
+  still s' settings history log first source exec read = record { settings = settings; history = history; log = log; first = first; source = λ m h. sym source ∙ h; link = λ m h t l old. stays s' exec read t l old }
 
   moved-stopped : (which : Threads) → IsMoved s (stopped which s) false
-  moved-stopped threads.Both = still (stopped threads.Both s) refl refl refl refl refl refl
-  moved-stopped threads.Receiver = still (stopped threads.Receiver s) refl refl refl refl refl refl
-  moved-stopped threads.Applier = still (stopped threads.Applier s) refl refl refl refl refl refl
+  moved-stopped threads.Both = still (stopped threads.Both s) refl refl refl refl refl refl refl
+  moved-stopped threads.Receiver = still (stopped threads.Receiver s) refl refl refl refl refl refl refl
+  moved-stopped threads.Applier = still (stopped threads.Applier s) refl refl refl refl refl refl refl
 
   moved-started : (until : Option Coord) → IsMoved s (started until s) false
   moved-started until = go (is_attached s.source)
     where
       go : (b : Bool) → IsMoved s (cond b (record s { receiver = true; applier = true; until = until }) s) false
-      go true = still (record s { receiver = true; applier = true; until = until }) refl refl refl refl refl refl
-      go false = still s refl refl refl refl refl refl
+      go true = still (record s { receiver = true; applier = true; until = until }) refl refl refl refl refl refl refl
+      go false = still s refl refl refl refl refl refl refl
 
   moved-detached : IsMoved s (detached s) (is_attached s.source)
   moved-detached = go s.source refl
     where
       go : (source : SourceState) → s.source ≡ source
           → IsMoved s (cond (is_attached source) (record s { source = detached_source source; receiver = false; applier = false; read = s.exec; until = None }) s) (is_attached source)
-      go Without is = still s refl refl refl refl refl refl
+      go Without is = still s refl refl refl refl refl refl refl
       go (Attached m) is = record {
         settings = refl;
         history = refl;
         log = refl;
+        first = refl;
         source = λ k h. ap source_no is ∙ h;
         link = λ k h t l old. drops (record s { source = Detached m; receiver = false; applier = false; read = s.exec; until = None }) refl refl t l old;
       }
-      go (Detached m) is = still s refl refl refl refl refl refl
+      go (Detached m) is = still s refl refl refl refl refl refl refl
 
   moved-reattached : IsMoved s (reattached s) false
   moved-reattached = go s.source refl
     where
       go : (source : SourceState) → s.source ≡ source → IsMoved s (cond (is_detached source) (record s { source = attached_source source; receiver = false; applier = false }) s) false
-      go Without is = still s refl refl refl refl refl refl
-      go (Attached m) is = still s refl refl refl refl refl refl
-      go (Detached m) is = still (record s { source = Attached m; receiver = false; applier = false }) refl refl refl (sym (ap source_no is)) refl refl
+      go Without is = still s refl refl refl refl refl refl refl
+      go (Attached m) is = still s refl refl refl refl refl refl refl
+      go (Detached m) is = still (record s { source = Attached m; receiver = false; applier = false }) refl refl refl refl (sym (ap source_no is)) refl refl
 
   moved-reset : IsMoved s (without_source s) true
-  moved-reset = record { settings = refl; history = refl; log = refl; source = λ m h. cc; link = λ m h t l old. cc }
+  moved-reset = record { settings = refl; history = refl; log = refl; first = refl; source = λ m h. cc; link = λ m h t l old. cc }
 
   pub moved-asked : (a : Ask) → IsMoved s (asked a s) (empties a s)
   moved-asked (asking.Stop which) = moved-stopped which
@@ -118,28 +123,35 @@ module _ (s : Server) where
   moved-asked asking.Detach = moved-detached
   moved-asked asking.Reattach = moved-reattached
   moved-asked asking.Reset = moved-reset
-  moved-asked (asking.SetReadOnly on) = still (record s { read_only = on }) refl refl refl refl refl refl
+  moved-asked (asking.SetReadOnly on) = still (record s { read_only = on }) refl refl refl refl refl refl refl
 
   moved-link : (l : Link) (on : Bool) → IsMoved s (with_link l on s) false
-  moved-link link.Desk on = still (record s { desk = on }) refl refl refl refl refl refl
-  moved-link link.Feed on = still (record s { feed = on }) refl refl refl refl refl refl
+  moved-link link.Desk on = still (record s { desk = on }) refl refl refl refl refl refl refl
+  moved-link link.Feed on = still (record s { feed = on }) refl refl refl refl refl refl refl
 
   moved-healed : IsMoved s (healed s) false
   moved-healed = go s.up
     where
       go : (b : Bool) → IsMoved s (cond b s (healed (record s { up = false }))) false
-      go true = still s refl refl refl refl refl refl
-      go false = still (healed (record s { up = false })) refl refl refl refl refl refl
+      go true = still s refl refl refl refl refl refl refl
+      go false = still (healed (record s { up = false })) refl refl refl refl refl refl refl
 
   pub moved-befallen : (e : Event) → IsMoved s (befallen e s) false
-  moved-befallen event.Fail = still (record s { up = false }) refl refl refl refl refl refl
+  moved-befallen event.Fail = still (record s { up = false }) refl refl refl refl refl refl refl
   moved-befallen event.Heal = moved-healed
   moved-befallen (event.Cut l) = moved-link l false
   moved-befallen (event.Join l) = moved-link l true
 
+-- it leaves what is purged
+pub purged-moved : (s s' : Server) (all : Bool) → IsMoved s s' all → purged_txns s' ≡ purged_txns s
+purged-moved s s' all moved =
+    ap (λ (h : Kept). take (purged_len s') h.txns) moved.history
+    ∙ ap (λ k. take k s.history.txns)
+    (ap (λ (i : Index). unwrap_or (place i.log (file_start s'.first)) 0) moved.log ∙ ap (λ file. unwrap_or (place s.log.log (file_start file)) 0) moved.first)
+
 module _ (servers : List Server) (ledgers : List Ledger) (errant n : ℕ) (s : Server) (kept : IsKept servers ledgers errant) (here : slice_get servers n ≡ Some s) where
-  fit-moved : (s' : Server) → s'.history ≡ s.history → s'.log ≡ s.log → IsFit s'
-  fit-moved s' history log =
+  fit-moved : (s' : Server) → s'.settings ≡ s.settings → s'.history ≡ s.history → s'.log ≡ s.log → s'.first ≡ s.first → IsFit s'
+  fit-moved s' settings history log first =
       let f = kept.fit n s here in
       record {
         high = rw history f.high;
@@ -149,6 +161,7 @@ module _ (servers : List Server) (ledgers : List Ledger) (errant n : ℕ) (s : S
         sizes = subst (λ (h : Kept). All HasSize h.txns) (sym history) f.sizes;
         grown = rw log f.grown;
         files = rw log f.files;
+        kept = rw (settings, log, first) f.kept;
       }
 
   pub IsKept-moved : (s' : Server) (all : Bool) (l : Ledger) → slice_get ledgers n ≡ Some l → IsMoved s s' all → IsKept (slice_set servers n s') (slice_set ledgers n (emptied all l)) errant
@@ -158,7 +171,7 @@ module _ (servers : List Server) (ledgers : List Ledger) (errant n : ℕ) (s : S
         source = moved.source;
         places = λ c k h. ap (λ (i : Index). place i.log c) moved.log ∙ h;
         relays = λ c d xs h. subst (λ (i : Index). IsRelay i.log c xs d) (sym moved.log) h;
-        fit = fit-moved s' moved.history moved.log;
+        fit = fit-moved s' moved.settings moved.history moved.log moved.first;
         own = kept.own n s l here beside ∙ ap (λ (h : Kept). count_own n h.txns) (sym moved.history);
         room = ap (λ (i : Index). i.room) moved.log;
         relay_room = same_room all;
@@ -186,7 +199,35 @@ module _ (servers : List Server) (ledgers : List Ledger) (errant n : ℕ) (s : S
         source = λ m h. h;
         places = λ c k h. stable_flush s.log.log c k h;
         relays = λ c d xs h. IsRelay-flush s.log.log c d xs h;
-        fit = record { high = f.high; room = f.room; within = f.within; entries = f.entries; sizes = f.sizes; grown = grown.Flushed s.log.log f.grown; files = let e = f.files in omega arith };
+        fit = record { high = f.high; room = f.room; within = f.within; entries = f.entries; sizes = f.sizes; grown = grown.Flushed s.log.log f.grown; files = let e = f.files in omega arith; kept = record { low = f.kept.low; high = let e = f.kept.high in omega arith; unlogged = f.kept.unlogged } };
+        own = kept.own n s l.0 here l.1;
+        room = refl;
+        relay_room = refl;
+        link = λ m t from at old. record { steps = old.steps; relay = old.relay; entries = old.entries; exec_place = old.exec_place; read_place = old.read_place };
+        errant = omega arith;
+      }))
+
+  -- files of the log of a server that logs are purged
+  pub IsKept-purged : (first : ℕ) → s.first ≤ first → first ≤ s.log.log.files → s.settings.logs ≡ true → IsKept (slice_set servers n (record s { first = first })) ledgers errant
+  IsKept-purged first low high logs =
+      let l = beside_of servers ledgers errant n s kept here in
+      let f = kept.fit n s here in
+      subst (λ (ks : List Ledger). IsKept (slice_set servers n (record s { first = first })) ks errant) (set_self ledgers n l.0 l.1)
+      (IsKept-with servers ledgers errant errant n s (record s { first = first }) l.0 l.0 kept here l.1
+      (record {
+        source = λ m h. h;
+        places = λ c k h. h;
+        relays = λ c d xs h. h;
+        fit = record {
+          high = f.high;
+          room = f.room;
+          within = f.within;
+          entries = f.entries;
+          sizes = f.sizes;
+          grown = f.grown;
+          files = f.files;
+          kept = record { low = let e = f.kept.low in omega arith; high = high; unlogged = λ off. absurd (false≢true (sym off ∙ logs)) };
+        };
         own = kept.own n s l.0 here l.1;
         room = refl;
         relay_room = refl;
@@ -195,6 +236,12 @@ module _ (servers : List Server) (ledgers : List Ledger) (errant n : ℕ) (s : S
       }))
 
 -- what is answered, and what is left of the world
+
+pub purged-left : (w : World) (servers : List Server) (gtid : Bool) (errant n first : ℕ) (s : Server) → record { servers = servers; gtid = gtid; errant = errant } ≡ w
+    → slice_get servers n ≡ Some s
+    → record { servers = slice_set servers n (record s { first = first }); gtid = gtid; errant = errant } ≡ after_purge w n (server_at w n) (purging.Done first)
+purged-left w servers gtid errant n first s view here =
+    subst (λ (v : World). record { servers = slice_set servers n (record s { first = first }); gtid = gtid; errant = errant } ≡ after_purge v n (server_at v n) (purging.Done first)) view (rw here)
 
 pub desk-reached : (w : World) (n : ℕ) (s : Server) → server_at w n ≡ Some s → (s.up && s.desk) ≡ true → desk_answer (server_at w n) ≡ Ok tt
 desk-reached w n s at on = ap desk_answer at ∙ ap (λ b. cond b (Ok tt) (Err (record {}))) on
@@ -241,7 +288,7 @@ IsKept-attached auto servers ledgers errant n s l to at target kept here beside 
     (record {
       places = λ c k h. h;
       relays = λ c d xs h. h;
-      fit = record { high = f.high; room = f.room; within = f.within; entries = f.entries; sizes = f.sizes; grown = f.grown; files = f.files };
+      fit = record { high = f.high; room = f.room; within = f.within; entries = f.entries; sizes = f.sizes; grown = f.grown; files = f.files; kept = f.kept };
       own = kept.own n s l here beside;
       room = refl;
       relay_room = refl;
@@ -265,17 +312,17 @@ chain-apart up (suc k) from n h e =
     let all : chain_meets up (suc k) from n ≡ true = rw met refl in
     cc
 
--- the decision by its four tests
-abbrev decided : Server → Spot → Bool → Bool → Bool → Bool → Result (Unit {0}) AttachFault
-decided s expect reached running same loops =
+-- the decision by its tests, before what follows
+abbrev decided : Server → Spot → Result (Unit {0}) AttachFault → Bool → Bool → Bool → Bool → Result (Unit {0}) AttachFault
+decided s expect later reached running same loops =
     cond (not reached) (Err attaching.Unreachable)
-    (cond running (Err (attaching.Running (spot_below s s.source))) (cond (not same) (Err (attaching.Interfered expect (live_spot s expect))) (cond loops (Err attaching.Loop) (Ok tt))))
+    (cond running (Err (attaching.Running (spot_below s s.source))) (cond (not same) (Err (attaching.Interfered expect (live_spot s expect))) (cond loops (Err attaching.Loop) later)))
 
 -- an attachment that is allowed closes no loop
-pub joined-loops : (s : Server) (expect : Spot) (loops : Bool) → attach_decision s expect loops ≡ Ok tt → loops ≡ false
-joined-loops s expect loops h = go (s.up && s.desk) (s.receiver || s.applier) (same_spot expect (live_spot s expect)) loops h
+pub joined-loops : (s : Server) (expect : Spot) (loops : Bool) (first : ℕ) (at : Coord) → attach_decision s expect loops first at ≡ Ok tt → loops ≡ false
+joined-loops s expect loops first at h = go (s.up && s.desk) (s.receiver || s.applier) (same_spot expect (live_spot s expect)) loops h
   where
-    go : (a b c d : Bool) → decided s expect a b c d ≡ Ok tt → d ≡ false
+    go : (a b c d : Bool) → decided s expect (purged_answer (nat_lt at.file first) first) a b c d ≡ Ok tt → d ≡ false
     go false b c d h = cc
     go true true c d h = cc
     go true false false d h = cc
@@ -289,12 +336,12 @@ attached-left w servers gtid errant n to at s s' view here is =
     subst (λ (v : World). record { servers = slice_set servers n s'; gtid = gtid; errant = errant } ≡ after_attach v n to at (server_at v n) (Ok tt)) view (rw (here, is))
 
 -- an attachment that is allowed is not to the server itself
-pub joined-apart : (w : World) (servers : List Server) (gtid : Bool) (errant n : ℕ) (expect : Spot) (to : ℕ) (s : Server) → record { servers = servers; gtid = gtid; errant = errant } ≡ w
-    → slice_get servers n ≡ Some s → Ok tt ≡ attach_answer w n expect to (server_at w n) → to ≡ n → ⊥
-joined-apart w servers gtid errant n expect to s view here joined =
-    let at : server_at w n ≡ Some s = subst (λ (v : World). server_at v n ≡ Some s) view here in
-    let decision : attach_decision s expect (chain_meets (sources w) (length w.servers) to n) ≡ Ok tt = sym (joined ∙ ap (attach_answer w n expect to) at) in
-    chain-apart (sources w) (length w.servers) to n (joined-loops s expect (chain_meets (sources w) (length w.servers) to n) decision)
+pub joined-apart : (w : World) (servers : List Server) (gtid : Bool) (errant n : ℕ) (expect : Spot) (to : ℕ) (at : Coord) (s : Server) → record { servers = servers; gtid = gtid; errant = errant } ≡ w
+    → slice_get servers n ≡ Some s → Ok tt ≡ attach_answer w n expect to at (server_at w n) → to ≡ n → ⊥
+joined-apart w servers gtid errant n expect to at s view here joined =
+    let there : server_at w n ≡ Some s = subst (λ (v : World). server_at v n ≡ Some s) view here in
+    let decision : attach_decision s expect (chain_meets (sources w) (length w.servers) to n) (first_kept (server_at w to)) at ≡ Ok tt = sym (joined ∙ ap (attach_answer w n expect to at) there) in
+    chain-apart (sources w) (length w.servers) to n (joined-loops s expect (chain_meets (sources w) (length w.servers) to n) (first_kept (server_at w to)) at decision)
 
 -- the target of an attachment
 pub target-in : (w : World) (servers : List Server) (gtid : Bool) (errant to : ℕ) (at : Coord) → record { servers = servers; gtid = gtid; errant = errant } ≡ w → IsTarget w to at

@@ -1,10 +1,10 @@
 -- Executed sets: what they hold, and that they are kept as one server changes.
-use Rattle.std.proofs.Common.{◌≡◌, ℕ, ◌+◌, ◌<◌, ◌≤◌, Bool, true, false, cond, List, [], ◌∷◌, ◌++◌, length, refl, sym, ◌∙◌, ap, subst, inl, inr, Some, arith, zero, suc, length-append}
+use Rattle.std.proofs.Common.{◌≡◌, ℕ, ◌+◌, ◌-◌, ◌<◌, ◌≤◌, Bool, true, false, cond, List, [], ◌∷◌, ◌++◌, length, drop, refl, sym, ◌∙◌, ap, subst, inl, inr, Some, arith, zero, suc, length-append}
 use Rattle.std.specs.Prelude.{slice_get, slice_set, ◌==◌, ◌&&◌, ◌||◌, All}
 use Rattle.std.specs.List.{fold, list_any}
 use Rattle.std.proofs.lemmas.Bool.{cases_eq, eq-eqb, ne_eqb}
 use Rattle.std.proofs.lemmas.Bool.Decides.{nat_tests}
-use Rattle.std.proofs.lemmas.List.{length-set}
+use Rattle.std.proofs.lemmas.List.{length-set, length-take, length-drop}
 use Rattle.std.proofs.lemmas.List.Elements.{All-head, All-tail, All-nil, All-push}
 use Rattle.std.proofs.lemmas.List.Sums.{fold-append}
 use Rattle.std.proofs.lemmas.Option.{slice_get_within, get_or_from_slice_get}
@@ -19,11 +19,13 @@ use Rattle.orch_base.specs.declared.server.Settings.{Settings}
 use Rattle.orch_base.specs.declared.server.Txn.{Txn}
 use Rattle.orch_base.specs.Histories.{same_txn, holds as txns_hold}
 use Rattle.server_model.specs.Exchanges.{took}
-use Rattle.server_model.specs.Gtids.{uuid_of, uuids_in, has_gtid, with_gtid, set_of, TellsExecuted, IsSetOf, IsNumbered, AreGtids}
+use Rattle.server_model.specs.Gtids.{uuid_of, uuids_in, has_gtid, with_gtid, with_gtids, set_of, purged_len, purged_txns, TellsExecuted, IsSetOf, IsNumbered, AreGtids}
 use Rattle.server_model.specs.Kept.{Kept}
+use Rattle.server_model.specs.Links.{IsFit}
 use Rattle.server_model.specs.declared.server.Server.{Server}
 use Rattle.server_model.proofs.Lists.{set_cases, set_same, set_other, set_self}
 use Rattle.server_model.proofs.LogSizes.{length-push}
+use Rattle.server_model.proofs.PurgedFiles.{from_file, newly_purged, purged_len-later, purged_txns-took, take-range}
 
 -- whether a GTID is a transaction's
 abbrev pub is_gtid : (ℕ → ℕ) → ℕ → ℕ → Txn → Bool
@@ -55,7 +57,7 @@ holds-fold uuid (t ∷ ts) set u n r =
 pub holds-set_of : (uuid : ℕ → ℕ) (txns : List Txn) (u n : ℕ) → holds (set_of uuid txns) u n ≡ list_any (is_gtid uuid u n) txns
 holds-set_of uuid txns u n = holds-fold uuid txns [] u n (All-nil Rises)
 
-length-fold : (uuid : ℕ → ℕ) (txns : List Txn) (set : List Interval) → length (fold (with_gtid uuid) set txns) ≤ length set + length txns
+pub length-fold : (uuid : ℕ → ℕ) (txns : List Txn) (set : List Interval) → length (fold (with_gtid uuid) set txns) ≤ length set + length txns
 length-fold uuid [] set = omega arith
 length-fold uuid (t ∷ ts) set =
     let more = length-fold uuid ts (with_gtid uuid set t) in
@@ -126,9 +128,9 @@ told-set_of servers apart (x ∷ xs) t all h =
 pub numbered-at : (count : ℕ) (txns : List Txn) (k : ℕ) (t : Txn) → All (IsNumbered count) txns → slice_get txns k ≡ Some t → IsNumbered count t
 numbered-at count txns k t all at = subst (IsNumbered count) (get_or_from_slice_get txns k t t at) (all k t (slice_get_within txns k t at))
 
-pub tells : (servers : List Server) (executed : List Reserved) (gtid : Bool) (m n : ℕ) (r s : Server) (e : Reserved) → AreGtids servers executed gtid
+pub tells : (servers : List Server) (executed purged : List Reserved) (gtid : Bool) (m n : ℕ) (r s : Server) (e : Reserved) → AreGtids servers executed purged gtid
     → slice_get servers n ≡ Some r → slice_get servers m ≡ Some s → slice_get executed n ≡ Some e → TellsExecuted gtid (uuids_in servers) e.intervals r s
-tells servers executed gtid m n r s e are at_n at_m by = record {
+tells servers executed purged gtid m n r s e are at_n at_m by = record {
   told = λ on k t at.
       let kept = are.kept n r e at_n by in
       let set : e.intervals ≡ set_of (uuids_in servers) r.history.txns = kept.set ∙ ap (λ b. cond b (set_of (uuids_in servers) r.history.txns) []) on in
@@ -140,7 +142,7 @@ tells servers executed gtid m n r s e are at_n at_m by = record {
 
 -- one server changes
 
-uuids_in-set : (servers : List Server) (n : ℕ) (s s' : Server) → slice_get servers n ≡ Some s → s'.settings ≡ s.settings → (k : ℕ) → uuids_in (slice_set servers n s') k ≡ uuids_in servers k
+pub uuids_in-set : (servers : List Server) (n : ℕ) (s s' : Server) → slice_get servers n ≡ Some s → s'.settings ≡ s.settings → (k : ℕ) → uuids_in (slice_set servers n s') k ≡ uuids_in servers k
 uuids_in-set servers n s s' here same k = elim (cases_eq k n) [
   | inl is ↦
       ap (λ j. uuid_of (slice_get (slice_set servers n s') j)) is ∙ ap uuid_of (set_same servers n s s' here)
@@ -148,8 +150,9 @@ uuids_in-set servers n s s' here same k = elim (cases_eq k n) [
   | inr other ↦ ap uuid_of (set_other servers n s s' here k other)
 ]
 
-module _ (servers : List Server) (executed : List Reserved) (gtid : Bool) (n : ℕ) (s s' : Server) (e e' : Reserved)
-    (are : AreGtids servers executed gtid) (here : slice_get servers n ≡ Some s) (beside : slice_get executed n ≡ Some e) (settings : s'.settings ≡ s.settings) where
+module _ (servers : List Server) (executed purged : List Reserved) (gtid : Bool) (n : ℕ) (s s' : Server) (e e' p p' : Reserved)
+    (are : AreGtids servers executed purged gtid) (here : slice_get servers n ≡ Some s) (beside : slice_get executed n ≡ Some e) (beside_purged : slice_get purged n ≡ Some p)
+    (settings : s'.settings ≡ s.settings) where
   old_of : (m : ℕ) (t : Server) → slice_get (slice_set servers n s') m ≡ Some t → (u : Server) × (slice_get servers m ≡ Some u) × (t.settings ≡ u.settings)
   old_of m t at = elim (set_cases servers n s s' here m t at) [
     | inl new ↦ (s, ap (slice_get servers) new.0 ∙ here, ap (λ (x : Server). x.settings) new.1 ∙ settings)
@@ -159,16 +162,37 @@ module _ (servers : List Server) (executed : List Reserved) (gtid : Bool) (n : �
   same_uuids : (k : ℕ) → uuids_in servers k ≡ uuids_in (slice_set servers n s') k
   same_uuids k = sym (uuids_in-set servers n s s' here settings k)
 
-  IsSetOf-same : (t : Server) (x : Reserved) → IsSetOf gtid (uuids_in servers) t x → IsSetOf gtid (uuids_in (slice_set servers n s')) t x
-  IsSetOf-same t x is = record {
-    set = is.set ∙ ap (λ xs. cond gtid xs []) (set_of-same (uuids_in servers) (uuids_in (slice_set servers n s')) same_uuids t.history.txns);
+  IsSetOf-same : (t : Server) (txns : List Txn) (x : Reserved) → IsSetOf gtid (uuids_in servers) t txns x → IsSetOf gtid (uuids_in (slice_set servers n s')) t txns x
+  IsSetOf-same t txns x is = record {
+    set = is.set ∙ ap (λ xs. cond gtid xs []) (set_of-same (uuids_in servers) (uuids_in (slice_set servers n s')) same_uuids txns);
     room = is.room;
   }
 
-  pub AreGtids-with : All (IsNumbered (length servers)) s'.history.txns → (s'.settings.logs ≡ true → length s'.log.log.entries ≡ length s'.history.txns) → IsSetOf gtid (uuids_in servers) s' e'
-      → AreGtids (slice_set servers n s') (slice_set executed n e') gtid
-  AreGtids-with numbered logged kept = record {
+  -- sets of some of each server's transactions
+  sets_with : (some : Server → List Txn) (sets : List Reserved) (x x' : Reserved) → slice_get sets n ≡ Some x
+      → ((m : ℕ) (t : Server) (y : Reserved) → slice_get servers m ≡ Some t → slice_get sets m ≡ Some y → IsSetOf gtid (uuids_in servers) t (some t) y)
+      → IsSetOf gtid (uuids_in servers) s' (some s') x'
+      → (m : ℕ) (t : Server) (y : Reserved) → slice_get (slice_set servers n s') m ≡ Some t → slice_get (slice_set sets n x') m ≡ Some y
+      → IsSetOf gtid (uuids_in (slice_set servers n s')) t (some t) y
+  sets_with some sets x x' at_n each kept m t y at by = elim (set_cases servers n s s' here m t at) [
+    | inl new ↦ elim (set_cases sets n x x' at_n m y by) [
+      | inl new' ↦
+          subst (λ (z : Server). IsSetOf gtid (uuids_in (slice_set servers n s')) z (some z) y) (sym new.1)
+          (subst (λ (z : Reserved). IsSetOf gtid (uuids_in (slice_set servers n s')) s' (some s') z) (sym new'.1) (IsSetOf-same s' (some s') x' kept))
+      | inr old' ↦ absurd (old'.0 new.0)
+    ]
+    | inr old ↦ elim (set_cases sets n x x' at_n m y by) [
+      | inl new' ↦ absurd (old.0 new'.0)
+      | inr old' ↦ IsSetOf-same t (some t) y (each m t y old.1 old'.1)
+    ]
+  ]
+
+  pub AreGtids-with : All (IsNumbered (length servers)) s'.history.txns → (s'.settings.logs ≡ true → length s'.log.log.entries ≡ length s'.history.txns)
+      → IsSetOf gtid (uuids_in servers) s' s'.history.txns e' → IsSetOf gtid (uuids_in servers) s' (purged_txns s') p'
+      → AreGtids (slice_set servers n s') (slice_set executed n e') (slice_set purged n p') gtid
+  AreGtids-with numbered logged kept purges = record {
     paired = length-set executed n e' ∙ are.paired ∙ sym (length-set servers n s');
+    purged_paired = length-set purged n p' ∙ are.purged_paired ∙ sym (length-set servers n s');
     apart = λ i j t u at_i at_j same.
         let x = old_of i t at_i in
         let y = old_of j u at_j in
@@ -181,47 +205,53 @@ module _ (servers : List Server) (executed : List Reserved) (gtid : Bool) (n : �
       | inl new ↦ subst (λ (x : Server). x.settings.logs ≡ true → length x.log.log.entries ≡ length x.history.txns) (sym new.1) logged
       | inr old ↦ are.logged m t old.1
     ];
-    kept = λ m t x at by. elim (set_cases servers n s s' here m t at) [
-      | inl new ↦ elim (set_cases executed n e e' beside m x by) [
-        | inl new' ↦ subst (λ (y : Server). IsSetOf gtid (uuids_in (slice_set servers n s')) y x) (sym new.1) (subst (λ (y : Reserved). IsSetOf gtid (uuids_in (slice_set servers n s')) s' y) (sym new'.1) (IsSetOf-same s' e' kept))
-        | inr old' ↦ absurd (old'.0 new.0)
-      ]
-      | inr old ↦ elim (set_cases executed n e e' beside m x by) [
-        | inl new' ↦ absurd (old.0 new'.0)
-        | inr old' ↦ IsSetOf-same t x (are.kept m t x old.1 old'.1)
-      ]
-    ];
+    kept = sets_with (λ t. t.history.txns) executed e e' beside are.kept kept;
+    purges = sets_with purged_txns purged p p' beside_purged are.purges purges;
   }
 
--- a set is kept beside each server
-pub set_beside : (servers : List Server) (executed : List Reserved) (gtid : Bool) (n : ℕ) (s : Server) → AreGtids servers executed gtid → slice_get servers n ≡ Some s
+-- two sets are kept beside each server
+pub set_beside : (servers : List Server) (executed purged : List Reserved) (gtid : Bool) (n : ℕ) (s : Server) → AreGtids servers executed purged gtid → slice_get servers n ≡ Some s
     → (e : Reserved) × (slice_get executed n ≡ Some e)
-set_beside servers executed gtid n s are here =
+set_beside servers executed purged gtid n s are here =
     let within = slice_get_within servers n s here in
     let paired = are.paired in
     there-set executed n (omega arith)
 
--- a change that leaves the history and how many transactions the log has
-pub AreGtids-still : (servers : List Server) (executed : List Reserved) (gtid : Bool) (n : ℕ) (s s' : Server) → AreGtids servers executed gtid → slice_get servers n ≡ Some s
-    → s'.settings ≡ s.settings → s'.history ≡ s.history → length s'.log.log.entries ≡ length s.log.log.entries → AreGtids (slice_set servers n s') executed gtid
-AreGtids-still servers executed gtid n s s' are here settings history entries =
-    let e = set_beside servers executed gtid n s are here in
-    let kept = are.kept n s e.0 here e.1 in
-    subst (λ (es : List Reserved). AreGtids (slice_set servers n s') es gtid) (set_self executed n e.0 e.1)
-    (AreGtids-with servers executed gtid n s s' e.0 e.0 are here e.1 settings
+pub purged_beside : (servers : List Server) (executed purged : List Reserved) (gtid : Bool) (n : ℕ) (s : Server) → AreGtids servers executed purged gtid → slice_get servers n ≡ Some s
+    → (p : Reserved) × (slice_get purged n ≡ Some p)
+purged_beside servers executed purged gtid n s are here =
+    let within = slice_get_within servers n s here in
+    let paired = are.purged_paired in
+    there-set purged n (omega arith)
+
+-- the set of other transactions, or of a server with the same room, that are the same
+IsSetOf-moved : (gtid : Bool) (uuid : ℕ → ℕ) (s s' : Server) (txns txns' : List Txn) (e : Reserved) → s'.history ≡ s.history → txns' ≡ txns → IsSetOf gtid uuid s txns e → IsSetOf gtid uuid s' txns' e
+IsSetOf-moved gtid uuid s s' txns txns' e history same is = record {
+  set = is.set ∙ ap (λ (ts : List Txn). cond gtid (set_of uuid ts) []) (sym same);
+  room = λ on. subst (λ (h : Kept). h.room ≤ e.room) (sym history) (is.room on);
+}
+
+-- a change that leaves the history, how many transactions the log has, and which of them are purged
+pub AreGtids-still : (servers : List Server) (executed purged : List Reserved) (gtid : Bool) (n : ℕ) (s s' : Server) → AreGtids servers executed purged gtid → slice_get servers n ≡ Some s
+    → s'.settings ≡ s.settings → s'.history ≡ s.history → length s'.log.log.entries ≡ length s.log.log.entries → purged_txns s' ≡ purged_txns s
+    → AreGtids (slice_set servers n s') executed purged gtid
+AreGtids-still servers executed purged gtid n s s' are here settings history entries purge =
+    let e = set_beside servers executed purged gtid n s are here in
+    let p = purged_beside servers executed purged gtid n s are here in
+    subst (λ (es : List Reserved). AreGtids (slice_set servers n s') es purged gtid) (set_self executed n e.0 e.1)
+    (subst (λ (ps : List Reserved). AreGtids (slice_set servers n s') (slice_set executed n e.0) ps gtid) (set_self purged n p.0 p.1)
+    (AreGtids-with servers executed purged gtid n s s' e.0 e.0 p.0 p.0 are here e.1 p.1 settings
     (subst (λ (h : Kept). All (IsNumbered (length servers)) h.txns) (sym history) (are.numbered n s here))
     (λ on. entries ∙ are.logged n s here (ap (λ (x : Settings). x.logs) (sym settings) ∙ on) ∙ ap (λ (h : Kept). length h.txns) (sym history))
-    (record {
-      set = kept.set ∙ ap (λ (h : Kept). cond gtid (set_of (uuids_in servers) h.txns) []) (sym history);
-      room = λ on. subst (λ (h : Kept). h.room ≤ e.0.room) (sym history) (kept.room on);
-    }))
+    (IsSetOf-moved gtid (uuids_in servers) s s' s.history.txns s'.history.txns e.0 history (ap (λ (h : Kept). h.txns) history) (are.kept n s e.0 here e.1))
+    (IsSetOf-moved gtid (uuids_in servers) s s' (purged_txns s) (purged_txns s') p.0 history purge (are.purges n s p.0 here p.1))))
 
 -- what is kept beside a server that executes one more transaction
 abbrev pub kept_with : Bool → ℕ → ℕ → Reserved → Reserved
 kept_with gtid u n e = cond gtid (record e { intervals = with_pair u n e.intervals }) e
 
 -- a set that is kept has room for one more
-pub set-room : (gtid : Bool) (uuid : ℕ → ℕ) (s : Server) (e : Reserved) → IsSetOf gtid uuid s e → length s.history.txns < s.history.room → gtid ≡ true → length e.intervals < e.room
+pub set-room : (gtid : Bool) (uuid : ℕ → ℕ) (s : Server) (e : Reserved) → IsSetOf gtid uuid s s.history.txns e → length s.history.txns < s.history.room → gtid ≡ true → length e.intervals < e.room
 set-room gtid uuid s e kept room on =
     let set : e.intervals ≡ set_of uuid s.history.txns = kept.set ∙ ap (λ b. cond b (set_of uuid s.history.txns) []) on in
     let few = length-set_of uuid s.history.txns in
@@ -229,21 +259,70 @@ set-room gtid uuid s e kept room on =
     rw set (omega (arith, few, enough, room))
 
 -- one more transaction is executed
-pub AreGtids-took : (servers : List Server) (executed : List Reserved) (gtid : Bool) (n : ℕ) (s : Server) (e : Reserved) (t : Txn) (to : Coord) (u : ℕ) → AreGtids servers executed gtid
-    → slice_get servers n ≡ Some s → slice_get executed n ≡ Some e → IsNumbered (length servers) t → u ≡ uuids_in servers t.origin.0
-    → AreGtids (slice_set servers n (record (took s t) { exec = to })) (slice_set executed n (kept_with gtid u t.seq e)) gtid
-AreGtids-took servers executed gtid n s e t to u are here beside numbered is =
+pub AreGtids-took : (servers : List Server) (executed purged : List Reserved) (gtid : Bool) (n : ℕ) (s : Server) (e : Reserved) (t : Txn) (to : Coord) (u : ℕ) → AreGtids servers executed purged gtid
+    → slice_get servers n ≡ Some s → slice_get executed n ≡ Some e → IsNumbered (length servers) t → u ≡ uuids_in servers t.origin.0 → IsFit s → 0 < t.size
+    → AreGtids (slice_set servers n (record (took s t) { exec = to })) (slice_set executed n (kept_with gtid u t.seq e)) purged gtid
+AreGtids-took servers executed purged gtid n s e t to u are here beside numbered is fit some =
     let kept = are.kept n s e here beside in
-    AreGtids-with servers executed gtid n s (record (took s t) { exec = to }) e (kept_with gtid u t.seq e) are here beside refl
+    let p = purged_beside servers executed purged gtid n s are here in
+    subst (λ (ps : List Reserved). AreGtids (slice_set servers n (record (took s t) { exec = to })) (slice_set executed n (kept_with gtid u t.seq e)) ps gtid) (set_self purged n p.0 p.1)
+    (AreGtids-with servers executed purged gtid n s (record (took s t) { exec = to }) e (kept_with gtid u t.seq e) p.0 p.0 are here beside p.1 refl
     (All-push (IsNumbered (length servers)) s.history.txns t (are.numbered n s here) numbered)
     (λ on.
     ap (λ b. length (cond b (record s.log { log = push s.log.log t.size }) s.log).log.entries) on
     ∙ length-push s.log.log t.size ∙ ap (λ k. k + 1) (are.logged n s here on) ∙ sym (length-append s.history.txns (t ∷ [])))
     (with_set gtid kept)
+    (still p.0 (are.purges n s p.0 here p.1)))
   where
-    with_set : (g : Bool) → IsSetOf g (uuids_in servers) s e → IsSetOf g (uuids_in servers) (record (took s t) { exec = to }) (kept_with g u t.seq e)
+    still : (x : Reserved) → IsSetOf gtid (uuids_in servers) s (purged_txns s) x → IsSetOf gtid (uuids_in servers) (record (took s t) { exec = to }) (purged_txns (record (took s t) { exec = to })) x
+    still x purges = record {
+      set = purges.set ∙ ap (λ (ts : List Txn). cond gtid (set_of (uuids_in servers) ts) []) (sym (purged_txns-took s t to fit some));
+      room = purges.room;
+    }
+
+    with_set : (g : Bool) → IsSetOf g (uuids_in servers) s s.history.txns e → IsSetOf g (uuids_in servers) (record (took s t) { exec = to }) (s.history.txns ++ t ∷ []) (kept_with g u t.seq e)
     with_set true kept = record {
       set = ap (λ v. with_pair v t.seq e.intervals) is ∙ ap (λ xs. with_gtid (uuids_in servers) xs t) kept.set ∙ sym (set_of-push (uuids_in servers) s.history.txns t);
+      room = kept.room;
+    }
+    with_set false kept = record { set = kept.set; room = kept.room }
+
+-- what is kept beside a server whose log is kept from a later file on
+abbrev pub purged_with : Bool → (ℕ → ℕ) → List Txn → Reserved → Reserved
+purged_with gtid uuid txns p = cond gtid (record p { intervals = with_gtids uuid p.intervals txns }) p
+
+-- the set has room for what is purged then
+pub purge-room : (gtid : Bool) (uuid : ℕ → ℕ) (s : Server) (p : Reserved) (first : ℕ) → IsFit s → IsSetOf gtid uuid s (purged_txns s) p → s.first ≤ first → first ≤ s.log.log.files
+    → purged_len s ≤ purged_len (from_file first s) → gtid ≡ true → length p.intervals + length (newly_purged first s) ≤ p.room
+purge-room gtid uuid s p first fit kept low high more on =
+    let set : p.intervals ≡ set_of uuid (purged_txns s) = kept.set ∙ ap (λ b. cond b (set_of uuid (purged_txns s)) []) on in
+    let few = length-set_of uuid (purged_txns s) in
+    let before = length-take (purged_len s) s.history.txns in
+    let newly = length-take (purged_len (from_file first s) - purged_len s) (drop (purged_len s) s.history.txns) in
+    let within = purged_len-later s first fit low high in
+    let room = fit.within in
+    let enough = kept.room on in
+    rw set (omega (arith, few, before, newly, length-drop (purged_len s) s.history.txns, within, room, enough, more))
+
+-- files are purged
+pub AreGtids-purged : (servers : List Server) (executed purged : List Reserved) (gtid : Bool) (n : ℕ) (s : Server) (p : Reserved) (first : ℕ) (uuid : ℕ → ℕ) → AreGtids servers executed purged gtid
+    → slice_get servers n ≡ Some s → slice_get purged n ≡ Some p → ((k : ℕ) → uuid k ≡ uuids_in servers k) → purged_len s ≤ purged_len (from_file first s)
+    → AreGtids (slice_set servers n (from_file first s)) executed (slice_set purged n (purged_with gtid uuid (newly_purged first s) p)) gtid
+AreGtids-purged servers executed purged gtid n s p first uuid are here by same more =
+    let e = set_beside servers executed purged gtid n s are here in
+    let kept = are.kept n s e.0 here e.1 in
+    let p' = purged_with gtid uuid (newly_purged first s) p in
+    subst (λ (es : List Reserved). AreGtids (slice_set servers n (from_file first s)) es (slice_set purged n (purged_with gtid uuid (newly_purged first s) p)) gtid) (set_self executed n e.0 e.1)
+    (AreGtids-with servers executed purged gtid n s (from_file first s) e.0 e.0 p p' are here e.1 by refl (are.numbered n s here) (are.logged n s here)
+    (record { set = kept.set; room = kept.room }) (with_set gtid (are.purges n s p here by)))
+  where
+    with_set : (g : Bool) → IsSetOf g (uuids_in servers) s (purged_txns s) p → IsSetOf g (uuids_in servers) (from_file first s) (purged_txns (from_file first s)) (purged_with g uuid (newly_purged first s) p)
+    with_set true kept = record {
+      set =
+          fold-same uuid (uuids_in servers) same (newly_purged first s) p.intervals
+          ∙ ap (λ xs. with_gtids (uuids_in servers) xs (newly_purged first s)) kept.set
+          ∙ sym (fold-append (with_gtid (uuids_in servers)) [] (purged_txns s) (newly_purged first s))
+          ∙ ap (set_of (uuids_in servers)) (sym (take-range s.history.txns (purged_len s) (purged_len (from_file first s)) more));
       room = kept.room;
     }
     with_set false kept = record { set = kept.set; room = kept.room }

@@ -1,6 +1,6 @@
 -- What a fetch reads, and that it keeps what is kept.
 use Rattle.std.proofs.Common.{◌≡◌, ℕ, ◌+◌, ◌<◌, Bool, true, false, cond, List, [], ◌∷◌, ◌++◌, length, length-append, refl, sym, ◌∙◌, ap, subst, Option, Some, None, arith, ◌&&◌}
-use Rattle.std.specs.Prelude.{slice_get, slice_set}
+use Rattle.std.specs.Prelude.{slice_get, slice_set, nat_lt}
 use Rattle.std.proofs.lemmas.Option.{same_Some}
 use Rattle.binlog_coords.specs.declared.Coord.{Coord}
 use Rattle.binlog_coords.specs.declared.Next.{Next}
@@ -11,7 +11,7 @@ use Rattle.binlog_coords.proofs.Relays.{IsRelay-entry, IsRelay-rotate}
 use Rattle.orch_base.specs.declared.server.SourceState.{SourceState}
 use Rattle.orch_base.specs.declared.server.SourceState.TheVariants.{Without, Attached, Detached}
 use Rattle.server_model.specs.Worlds.{World, server_at, source_no}
-use Rattle.server_model.specs.Exchanges.{fetch_step, fetch_from, attached_at, is_attached, is_receiving, after_fetch}
+use Rattle.server_model.specs.Exchanges.{fetch_step, fetch_from, fetch_kept, attached_at, is_attached, is_receiving, after_fetch}
 use Rattle.server_model.specs.Links.{entries_of, IsFit, IsLinked, IsKept}
 use Rattle.server_model.specs.declared.decisions.FetchStep.TheVariants as receiving
 use Rattle.server_model.specs.declared.server.Server.{Server}
@@ -31,8 +31,13 @@ pub record IsTake (servers : List Server) (r : Server) (x : Next) : Type 0 where
 pub take_from : (w : World) (r : Server) (x : Next) → fetch_step w (Some r) ≡ receiving.Take x → IsTake w.servers r x
 take_from w r x h = go (r.up && (is_attached r.source && r.receiver)) h
   where
-    linked : (m : ℕ) (s : Server) → source_no r.source ≡ Some m → server_at w m ≡ Some s → (b : Bool) → cond b (receiving.Take (next_after s.log.log r.read)) receiving.Unlinked ≡ receiving.Take x → IsTake w.servers r x
-    linked m s from at true e = record { number = m; source = s; from = from; at = at; is = cc }
+    kept : (m : ℕ) (s : Server) → source_no r.source ≡ Some m → server_at w m ≡ Some s → (b : Bool) → cond b (receiving.Refuse s.first) (receiving.Take (next_after s.log.log r.read)) ≡ receiving.Take x
+        → IsTake w.servers r x
+    kept m s from at true e = cc
+    kept m s from at false e = record { number = m; source = s; from = from; at = at; is = cc }
+
+    linked : (m : ℕ) (s : Server) → source_no r.source ≡ Some m → server_at w m ≡ Some s → (b : Bool) → cond b (fetch_kept r s) receiving.Unlinked ≡ receiving.Take x → IsTake w.servers r x
+    linked m s from at true e = kept m s from at (nat_lt r.read.file s.first) e
     linked m s from at false e = cc
 
     under : (m : ℕ) → source_no r.source ≡ Some m → (o : Option Server) → server_at w m ≡ o → fetch_from r o ≡ receiving.Take x → IsTake w.servers r x
@@ -89,7 +94,7 @@ module _ (servers : List Server) (ledgers : List Ledger) (errant n : ℕ) (r : S
         source = λ m h. h;
         places = λ c k h. h;
         relays = λ c d xs h. h;
-        fit = record { high = fit.high; room = fit.room; within = fit.within; entries = fit.entries; sizes = fit.sizes; grown = fit.grown; files = fit.files };
+        fit = record { high = fit.high; room = fit.room; within = fit.within; entries = fit.entries; sizes = fit.sizes; grown = fit.grown; files = fit.files; kept = fit.kept };
         own = own ∙ kept.own n r l here beside;
         room = refl;
         relay_room = room;
@@ -136,6 +141,12 @@ pub turn-left : (w : World) (servers : List Server) (gtid : Bool) (errant n : �
     → record { servers = slice_set servers n (record r { read = to }); gtid = gtid; errant = errant } ≡ after_fetch w n (server_at w n) (receiving.Take (next.Rotate to))
 turn-left w servers gtid errant n r to view here =
     subst (λ (v : World). record { servers = slice_set servers n (record r { read = to }); gtid = gtid; errant = errant } ≡ after_fetch v n (server_at v n) (receiving.Take (next.Rotate to))) view (rw here)
+
+pub refuse-left : (w : World) (servers : List Server) (gtid : Bool) (errant n : ℕ) (r : Server) (first : ℕ) → record { servers = servers; gtid = gtid; errant = errant } ≡ w
+    → slice_get servers n ≡ Some r
+    → record { servers = slice_set servers n (record r { receiver = false }); gtid = gtid; errant = errant } ≡ after_fetch w n (server_at w n) (receiving.Refuse first)
+refuse-left w servers gtid errant n r first view here =
+    subst (λ (v : World). record { servers = slice_set servers n (record r { receiver = false }); gtid = gtid; errant = errant } ≡ after_fetch v n (server_at v n) (receiving.Refuse first)) view (rw here)
 
 -- the receiver of a replica reads where its source's log has a place
 pub has_place-read : (servers : List Server) (ledgers : List Ledger) (errant n m : ℕ) (r s : Server) → IsKept servers ledgers errant

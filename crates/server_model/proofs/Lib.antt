@@ -2,6 +2,8 @@ pub mod Lists
 pub mod LogSizes
 pub mod RelayBetween
 pub mod RelaySteps
+pub mod PurgedFiles
+pub mod Purges
 pub mod ExecutedSets
 pub mod Errants
 pub mod Keeps
@@ -14,3 +16,5 @@ pub mod Seen
 pub mod AutoAttached
 pub mod Chains
 pub mod Standing
+pub mod Counts
+pub mod Sources

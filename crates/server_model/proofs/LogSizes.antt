@@ -10,6 +10,13 @@ length-push log size = go (nat_le log.limit (log.pos + size)) (length-append log
     go true e = e
     go false e = e
 
+pub files-rise : (log : Log) (size : ℕ) → log.files ≤ (push log size).files
+files-rise log size = go (nat_le log.limit (log.pos + size))
+  where
+    go : (b : Bool) → log.files ≤ (cond b (flush (appended log size)) (appended log size)).files
+    go true = omega arith
+    go false = omega arith
+
 pub files-push : (log : Log) (size : ℕ) → (push log size).files ≤ log.files + 1
 files-push log size = go (nat_le log.limit (log.pos + size))
   where

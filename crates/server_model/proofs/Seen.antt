@@ -6,7 +6,7 @@ use Rattle.std.proofs.lemmas.Option.{same_Some}
 use Rattle.gtid_sets.specs.Reserved.{Reserved}
 use Rattle.gtid_sets.specs.declared.interval.Interval.{Interval}
 use Rattle.server_model.specs.Desk.{can_reach}
-use Rattle.server_model.specs.Gtids.{uuids_in, seen_set, source_at, shown, shown_of, status, status_of, status_in, IsSetOf}
+use Rattle.server_model.specs.Gtids.{uuids_in, purged_txns, seen_set, seen_purged, source_at, shown, shown_of, status, status_of, status_in, IsSetOf}
 use Rattle.server_model.specs.Worlds.{World, server_at}
 use Rattle.server_model.specs.declared.server.Server.{Server}
 use Rattle.server_words.specs.declared.status.Status.{Status}
@@ -26,13 +26,18 @@ status-reached w n x on shows = go (server_at w n) on shows
     go None h e = absurd (false≢true h)
     go (Some s) h e = ap (λ b. cond b (Ok (shown_of w s)) (Err seeing.Unreachable)) h ∙ ap Ok (same_Some (shown_of w s) x e)
 
-pub shown-is : (w : World) (n : ℕ) (s : Server) (o : Option Server) (set : List Interval) (x : Status) → server_at w n ≡ Some s
-    → o ≡ source_at w s → set ≡ seen_set w s → x ≡ status_of s o set → shown w n ≡ Some x
-shown-is w n s o set x at source seen is =
+pub shown-is : (w : World) (n : ℕ) (s : Server) (o : Option Server) (set purged : List Interval) (x : Status) → server_at w n ≡ Some s
+    → o ≡ source_at w s → set ≡ seen_set w s → purged ≡ seen_purged w s → x ≡ status_of s o set purged → shown w n ≡ Some x
+shown-is w n s o set purged x at source seen gone is =
     ap (option_map (shown_of w)) at
-    ∙ ap (λ y. Some (status_of s y (seen_set w s))) (sym source) ∙ ap (λ y. Some (status_of s o y)) (sym seen) ∙ ap Some (sym is)
+    ∙ ap (λ y. Some (status_of s y (seen_set w s) (seen_purged w s))) (sym source) ∙ ap (λ y. Some (status_of s o y (seen_purged w s))) (sym seen)
+    ∙ ap (λ y. Some (status_of s o set y)) (sym gone) ∙ ap Some (sym is)
 
--- the set that is kept is the one that is seen
+-- the sets that are kept are those that are seen
+pub purged-kept : (w : World) (servers : List Server) (gtid : Bool) (errant : ℕ) (s : Server) (p : Reserved) → record { servers = servers; gtid = gtid; errant = errant } ≡ w
+    → IsSetOf gtid (uuids_in servers) s (purged_txns s) p → p.intervals ≡ seen_purged w s
+purged-kept w servers gtid errant s p view kept = subst (λ (v : World). p.intervals ≡ seen_purged v s) view kept.set
+
 pub seen-kept : (w : World) (servers : List Server) (gtid : Bool) (errant : ℕ) (s : Server) (e : Reserved) → record { servers = servers; gtid = gtid; errant = errant } ≡ w
-    → IsSetOf gtid (uuids_in servers) s e → e.intervals ≡ seen_set w s
+    → IsSetOf gtid (uuids_in servers) s s.history.txns e → e.intervals ≡ seen_set w s
 seen-kept w servers gtid errant s e view kept = subst (λ (v : World). e.intervals ≡ seen_set v s) view kept.set

@@ -6,7 +6,8 @@ use Rattle.std.proofs.lemmas.Option.{same_Some, slice_get_within, get_or_from_sl
 use Rattle.binlog_coords.specs.Log.{place}
 use Rattle.binlog_coords.proofs.Places.{place-monotone}
 use Rattle.gtid_sets.specs.Reserved.{Reserved}
-use Rattle.server_model.specs.Gtids.{uuids_in, set_of, reserved_set, IsSetOf, AreGtids}
+use Rattle.orch_base.specs.declared.server.Txn.{Txn}
+use Rattle.server_model.specs.Gtids.{uuids_in, set_of, purged_txns, reserved_set, IsSetOf, AreGtids}
 use Rattle.server_model.specs.Ledgers.{above_in, entries_between, entries_from, relayed_in, relayed_under, ledger_of, AreBeside}
 use Rattle.server_model.specs.Links.{IsLinked, IsRoomy, IsKept}
 use Rattle.server_model.specs.Safe.{StandsIn}
@@ -131,21 +132,18 @@ module _ (servers : List Server) (stand : CanStand servers) where
       linked = λ n m r s l at from above by. linked-standing n m room r s l at from above (ledger-at n r l at by);
     }
 
-  pub AreGtids-standing : (gtid : Bool) → AreGtids servers (map (λ s. reserved_set gtid (uuids_in servers) s.history.room s.history.txns) servers) gtid
-  AreGtids-standing gtid =
-      let made : Server → Reserved = λ s. reserved_set gtid (uuids_in servers) s.history.room s.history.txns in
-      record {
-        paired = length-made made servers;
-        apart = stand.uuids;
-        numbered = λ n s at. (stand.each n s at).numbered;
-        logged = λ n s at. (stand.each n s at).logged;
-        kept = λ n s e at by.
-            let is : e ≡ made s = same_Some e (made s) (sym by ∙ made-at made servers n s at) in
-            subst (λ (x : Reserved). IsSetOf gtid (uuids_in servers) s x) (sym is) (record {
-              set = set_in gtid (uuids_in servers) s;
-              room = λ on. subst (λ b. s.history.room ≤ (reserved_set b (uuids_in servers) s.history.room s.history.txns).room) (sym on) (omega arith);
-            });
-      }
+  pub AreGtids-standing : (gtid : Bool)
+      → AreGtids servers (map (λ s. reserved_set gtid (uuids_in servers) s.history.room s.history.txns) servers)
+      (map (λ s. reserved_set gtid (uuids_in servers) s.history.room (purged_txns s)) servers) gtid
+  AreGtids-standing gtid = record {
+    paired = length-made (λ s. reserved_set gtid (uuids_in servers) s.history.room s.history.txns) servers;
+    purged_paired = length-made (λ s. reserved_set gtid (uuids_in servers) s.history.room (purged_txns s)) servers;
+    apart = stand.uuids;
+    numbered = λ n s at. (stand.each n s at).numbered;
+    logged = λ n s at. (stand.each n s at).logged;
+    kept = λ n s e at by. set_at (λ s. s.history.txns) n s e at by;
+    purges = λ n s e at by. set_at purged_txns n s e at by;
+  }
     where
       length-made : (f : Server → Reserved) (ss : List Server) → length (map f ss) ≡ length ss
       length-made f [] = refl
@@ -156,6 +154,16 @@ module _ (servers : List Server) (stand : CanStand servers) where
       made-at f (x ∷ ss) zero s h = ap (λ (y : Server). Some (f y)) (same_Some x s h)
       made-at f (x ∷ ss) (suc n) s h = made-at f ss n s h
 
-      set_in : (b : Bool) (uuid : ℕ → ℕ) (s : Server) → (reserved_set b uuid s.history.room s.history.txns).intervals ≡ cond b (set_of uuid s.history.txns) []
-      set_in true uuid s = refl
-      set_in false uuid s = refl
+      set_in : (b : Bool) (uuid : ℕ → ℕ) (room : ℕ) (txns : List Txn) → (reserved_set b uuid room txns).intervals ≡ cond b (set_of uuid txns) []
+      set_in true uuid room txns = refl
+      set_in false uuid room txns = refl
+
+      set_at : (some : Server → List Txn) (n : ℕ) (s : Server) (e : Reserved) → slice_get servers n ≡ Some s
+          → slice_get (map (λ x. reserved_set gtid (uuids_in servers) x.history.room (some x)) servers) n ≡ Some e → IsSetOf gtid (uuids_in servers) s (some s) e
+      set_at some n s e at by =
+          let is : e ≡ reserved_set gtid (uuids_in servers) s.history.room (some s) =
+          same_Some e (reserved_set gtid (uuids_in servers) s.history.room (some s)) (sym by ∙ made-at (λ x. reserved_set gtid (uuids_in servers) x.history.room (some x)) servers n s at) in
+          subst (λ (x : Reserved). IsSetOf gtid (uuids_in servers) s (some s) x) (sym is) (record {
+            set = set_in gtid (uuids_in servers) s.history.room (some s);
+            room = λ on. subst (λ b. s.history.room ≤ (reserved_set b (uuids_in servers) s.history.room (some s)).room) (sym on) (omega arith);
+          })

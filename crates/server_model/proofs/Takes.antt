@@ -26,6 +26,7 @@ use Rattle.server_model.specs.declared.server.Server.{Server}
 use Rattle.server_model.specs.declared.ledger.Ledger.{Ledger}
 use Rattle.server_model.proofs.Keeps.{IsChange, IsKept-with}
 use Rattle.server_model.proofs.LogSizes.{length-push, files-push}
+use Rattle.server_model.proofs.PurgedFiles.{KeepsFrom-took}
 
 module _ (s : Server) (t : Txn) (to : Coord) (fit : IsFit s) (some : 0 < t.size) (size : t.size ≤ 1000000) (room : length s.history.txns < s.history.room) where
   -- of a log that took the transaction, and of one that didn't since the server doesn't log
@@ -52,6 +53,7 @@ module _ (s : Server) (t : Txn) (to : Coord) (fit : IsFit s) (some : 0 < t.size)
     files = by_logs (λ i. i.log.files + i.flushes ≤ 4000001 + length i.log.entries)
         (let e = length-push s.log.log t.size in let f = files-push s.log.log t.size in let g = fit.files in omega arith)
         fit.files;
+    kept = KeepsFrom-took s t fit.kept;
   }
 
   -- the change that the transaction makes, given what becomes of the relay log

@@ -131,8 +131,11 @@ abbrev pub rotated : Server → Server
 rotated s = record s { log = record s.log { log = flush s.log.log; flushes = s.log.flushes - 1 } }
 
 abbrev pub after_rotate : World → ℕ → Option Server → RotateAnswer → World
+after_rotate w n None answer = w
+after_rotate w n (Some s) rotating.Down = w
+after_rotate w n (Some s) rotating.NotLogging = w
+after_rotate w n (Some s) rotating.Full = w
 after_rotate w n (Some s) (rotating.Done at) = with_server w n (rotated s)
-after_rotate w n _ _ = w
 
 abbrev pub rotate : World → ℕ → RotateAnswer × World
 rotate w n = let answer = rotate_answer (server_at w n) in (answer, after_rotate w n (server_at w n) answer)

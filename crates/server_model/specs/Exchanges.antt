@@ -1,6 +1,6 @@
 -- The exchanges with a server: each is a function from a world to an answer and a world
 -- (MySQL 8.0 Reference Manual, "Replication Implementation").
-use Rattle.std.specs.Prelude.{◌<◌, ◌≤◌, ℕ, ◌+◌, Bool, true, false, ◌&&◌, not, if◌then◌else◌, [], ◌∷◌, ◌++◌, length, Option, Some, None, slice_get, nat_le}
+use Rattle.std.specs.Prelude.{◌<◌, ◌≤◌, ℕ, ◌+◌, Bool, true, false, ◌&&◌, not, if◌then◌else◌, [], ◌∷◌, ◌++◌, length, Option, Some, None, slice_get, nat_le, nat_lt}
 use Rattle.binlog_coords.specs.declared.Coord.{Coord}
 use Rattle.binlog_coords.specs.declared.Next.{Next}
 use Rattle.binlog_coords.specs.declared.Next.TheVariants as next
@@ -44,9 +44,12 @@ abbrev pub own_txn : ℕ → ℕ → ℕ → Txn
 own_txn n seq size = record { origin = record { 0 = n }; seq = seq; size = size }
 
 abbrev pub after_write : World → ℕ → ℕ → Option Server → WriteAnswer → World
+after_write w n size None answer = w
+after_write w n size (Some s) wrote.Down = w
+after_write w n size (Some s) wrote.ReadOnly = w
+after_write w n size (Some s) wrote.Full = w
 after_write w n size (Some s) (wrote.Done seq) =
     record (with_server w n (took s (own_txn n seq size))) { errant = if has_source s.source then w.errant + 1 else w.errant }
-after_write w n size _ _ = w
 
 abbrev pub write : World → ℕ → ℕ → WriteAnswer × World
 write w n size = let answer = write_answer n (server_at w n) in (answer, after_write w n size (server_at w n) answer)
@@ -64,9 +67,13 @@ attached_at w Without = None
 attached_at w (Attached m) = server_at w m.0
 attached_at w (Detached m) = None
 
+-- what follows in the source's log, where the file that is to be read is kept
+abbrev pub fetch_kept : Server → Server → FetchStep
+fetch_kept r s = if nat_lt r.read.file s.first then receiving.Refuse s.first else receiving.Take (next_after s.log.log r.read)
+
 abbrev pub fetch_from : Server → Option Server → FetchStep
 fetch_from r None = receiving.Unlinked
-fetch_from r (Some s) = if s.up && r.feed then receiving.Take (next_after s.log.log r.read) else receiving.Unlinked
+fetch_from r (Some s) = if s.up && r.feed then fetch_kept r s else receiving.Unlinked
 
 -- the receiver of a replica is on
 abbrev pub is_receiving : Server → Bool
@@ -80,14 +87,20 @@ fetch_step w (Some r) = if is_receiving r then fetch_from r (attached_at w r.sou
 abbrev pub fetch_answer : FetchStep → FetchAnswer
 fetch_answer receiving.Halt = fetching.Stopped
 fetch_answer receiving.Unlinked = fetching.NoLink
+fetch_answer (receiving.Refuse first) = fetching.Purged first
 fetch_answer (receiving.Take (next.Entry index to)) = fetching.Got to
 fetch_answer (receiving.Take (next.Rotate to)) = fetching.Rotated to
 fetch_answer (receiving.Take next.End) = fetching.Nothing
 
+-- a receiver that is to read a purged file goes off
 abbrev pub after_fetch : World → ℕ → Option Server → FetchStep → World
+after_fetch w n None step = w
+after_fetch w n (Some r) receiving.Halt = w
+after_fetch w n (Some r) receiving.Unlinked = w
+after_fetch w n (Some r) (receiving.Refuse first) = with_server w n (record r { receiver = false })
 after_fetch w n (Some r) (receiving.Take (next.Entry index to)) = with_server w n (record r { read = to })
 after_fetch w n (Some r) (receiving.Take (next.Rotate to)) = with_server w n (record r { read = to })
-after_fetch w n _ _ = w
+after_fetch w n (Some r) (receiving.Take next.End) = w
 
 abbrev pub fetch : World → ℕ → FetchAnswer × World
 fetch w n = let step = fetch_step w (server_at w n) in (fetch_answer step, after_fetch w n (server_at w n) step)
@@ -127,11 +140,14 @@ apply_step w (Some r) =
     else apply_from w.gtid r (attached_at w r.source)
 
 abbrev pub after_apply : World → ℕ → Option Server → ApplyStep → World
+after_apply w n None step = w
+after_apply w n (Some r) applying.Halt = w
+after_apply w n (Some r) applying.Idle = w
+after_apply w n (Some r) applying.NoRoom = w
 after_apply w n (Some r) applying.ForgetUntil = with_server w n (record r { applier = false; until = None })
 after_apply w n (Some r) (applying.Pass to) = with_server w n (record r { exec = to })
 after_apply w n (Some r) (applying.Skip to) = with_server w n (record r { exec = to })
 after_apply w n (Some r) (applying.Execute t to) = with_server w n (record (took r t) { exec = to })
-after_apply w n _ _ = w
 
 -- what is answered of a step
 abbrev pub apply_answer : ApplyStep → ApplyAnswer
@@ -148,5 +164,11 @@ apply w n = let step = apply_step w (server_at w n) in (apply_answer step, after
 
 -- a transaction that is to be executed has room and a size
 abbrev pub IsReady : Option Server → ApplyStep → Type 0
+IsReady None step = Unit {0}
+IsReady (Some r) applying.Halt = Unit {0}
+IsReady (Some r) applying.ForgetUntil = Unit {0}
+IsReady (Some r) applying.Idle = Unit {0}
+IsReady (Some r) (applying.Pass to) = Unit {0}
+IsReady (Some r) (applying.Skip to) = Unit {0}
+IsReady (Some r) applying.NoRoom = Unit {0}
 IsReady (Some r) (applying.Execute t to) = (length r.history.txns < r.history.room) × (0 < t.size) × (t.size ≤ 1000000)
-IsReady _ _ = Unit {0}

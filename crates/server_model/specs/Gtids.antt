@@ -1,9 +1,9 @@
 -- What servers tell by GTIDs (MySQL 8.0 Reference Manual, "GTID Format and Storage", "GTID Auto-Positioning"): the set
 -- of what a server has executed, what orchestrator sees of a server in one exchange, and a change of source by a set.
-use Rattle.std.specs.Prelude.{◌≡◌, ℕ, ◌<◌, ◌≤◌, Bool, true, false, ◌&&◌, ◌||◌, not, if◌then◌else◌, List, [], ◌∷◌, length, Option, Some, None, Result, Ok, Err, option_and_then, option_map, slice_get}
+use Rattle.std.specs.Prelude.{◌≡◌, ℕ, ◌<◌, ◌≤◌, Bool, true, false, ◌&&◌, ◌||◌, not, if◌then◌else◌, List, [], ◌∷◌, length, Option, Some, None, Result, Ok, Err, nat_lt, option_and_then, option_map, slice_get, take, unwrap_or}
 use Rattle.std.specs.List.{filter, fold, prefix_len, All}
 use Rattle.binlog_coords.specs.declared.Coord.{Coord}
-use Rattle.binlog_coords.specs.Log.{coord_after, end_of, file_start}
+use Rattle.binlog_coords.specs.Log.{coord_after, end_of, file_start, place}
 use Rattle.gtid_sets.specs.declared.interval.Interval.{Interval}
 use Rattle.gtid_sets.specs.Adding.{with_pair}
 use Rattle.gtid_sets.specs.Sets.{holds}
@@ -19,7 +19,7 @@ use Rattle.server_model.specs.declared.server.Server.{Server}
 use Rattle.server_words.specs.declared.status.Status.{Status}
 use Rattle.server_words.specs.declared.status.StatusFault.{StatusFault}
 use Rattle.server_words.specs.declared.status.StatusFault.TheVariants as seeing
-use Rattle.server_model.specs.Attach.{attached_to, chain_meets, spot_below}
+use Rattle.server_model.specs.Attach.{attached_to, chain_meets, purged_answer, spot_below}
 use Rattle.server_model.specs.Worlds.{World, server_at, sources, source_no, with_server}
 
 -- the UUID of each server, which is the first half of its own transactions' GTIDs
@@ -41,13 +41,29 @@ has_gtid uuid set t = holds set (uuid t.origin.0) t.seq
 abbrev pub with_gtid : (ℕ → ℕ) → List Interval → Txn → List Interval
 with_gtid uuid set t = with_pair (uuid t.origin.0) t.seq set
 
+-- a set with the GTIDs of these transactions
+abbrev pub with_gtids : (ℕ → ℕ) → List Interval → List Txn → List Interval
+with_gtids uuid set txns = fold (with_gtid uuid) set txns
+
 -- the set of a history's GTIDs
 abbrev pub set_of : (ℕ → ℕ) → List Txn → List Interval
-set_of uuid txns = fold (with_gtid uuid) [] txns
+set_of uuid txns = with_gtids uuid [] txns
 
 -- the set of what a server has executed
 abbrev pub executed_set : World → Server → List Interval
 executed_set w s = set_of (uuids w) s.history.txns
+
+-- how many transactions stand in the purged files of a server's log
+abbrev pub purged_len : Server → ℕ
+purged_len s = unwrap_or (place s.log.log (file_start s.first)) 0
+
+-- these
+abbrev pub purged_txns : Server → List Txn
+purged_txns s = take (purged_len s) s.history.txns
+
+-- the set of these
+abbrev pub purged_of : (ℕ → ℕ) → Server → List Interval
+purged_of uuid s = set_of uuid (purged_txns s)
 
 -- status
 
@@ -63,9 +79,9 @@ io_of r source = if not r.receiver then io.No else if is_up source && r.feed the
 abbrev pub own_end_of : Server → Option Coord
 own_end_of s = if s.settings.logs then Some (end_of s.log.log) else None
 
--- what is seen of a server, under its source and with this set
-abbrev pub status_of : Server → Option Server → List Interval → Status
-status_of s source set = record {
+-- what is seen of a server, under its source and with these sets of what it has executed and purged
+abbrev pub status_of : Server → Option Server → List Interval → List Interval → Status
+status_of s source set purged = record {
   own_end = own_end_of s;
   source = s.source;
   exec = s.exec;
@@ -75,6 +91,8 @@ status_of s source set = record {
   sql = s.applier;
   read_only = s.read_only;
   set = set;
+  first = s.first;
+  purged = purged;
 }
 
 -- the source of a server, attached or detached
@@ -84,9 +102,12 @@ source_at w s = option_and_then (λ m. server_at w m) (source_no s.source)
 abbrev pub seen_set : World → Server → List Interval
 seen_set w s = if w.gtid then executed_set w s else []
 
+abbrev pub seen_purged : World → Server → List Interval
+seen_purged w s = if w.gtid then purged_of (uuids w) s else []
+
 -- what a status would show of a server, reached or not
 abbrev pub shown_of : World → Server → Status
-shown_of w s = status_of s (source_at w s) (seen_set w s)
+shown_of w s = status_of s (source_at w s) (seen_set w s) (seen_purged w s)
 
 abbrev pub shown : World → ℕ → Option Status
 shown w n = option_map (shown_of w) (server_at w n)
@@ -110,10 +131,10 @@ status_fault seeing.Memory = None
 abbrev pub errant_set : (ℕ → ℕ) → List Interval → List Txn → List Interval
 errant_set uuid observed txns = set_of uuid (filter (λ t. not (has_gtid uuid observed t)) txns)
 
--- what is answered where all but the sets is well
-abbrev pub errant_answer : List Interval → Result (Unit {0}) AttachFault
-errant_answer [] = Ok tt
-errant_answer (s ∷ xs) = Err (attaching.Errant (s ∷ xs))
+-- what is answered where all but the sets is well: errant transactions, else what follows
+abbrev pub errant_answer : List Interval → Result (Unit {0}) AttachFault → Result (Unit {0}) AttachFault
+errant_answer [] later = later
+errant_answer (s ∷ xs) later = Err (attaching.Errant (s ∷ xs))
 
 -- what is answered before the sets are asked
 abbrev pub auto_readiness : Server → Bool → Result (Unit {0}) AttachFault
@@ -123,34 +144,49 @@ auto_readiness s loops =
     else if loops then Err attaching.Loop
     else Ok tt
 
-abbrev pub answer_by_sets : Result (Unit {0}) AttachFault → List Interval → Result (Unit {0}) AttachFault
-answer_by_sets (Err fault) errant = Err fault
-answer_by_sets (Ok t) errant = errant_answer errant
-
-abbrev pub auto_decision : Server → Bool → List Interval → Result (Unit {0}) AttachFault
-auto_decision s loops errant = answer_by_sets (auto_readiness s loops) errant
-
-abbrev pub attach_auto_answer : World → ℕ → List Interval → ℕ → Option Server → Result (Unit {0}) AttachFault
-attach_auto_answer w n observed to None = Err attaching.Unreachable
-attach_auto_answer w n observed to (Some s) =
-    auto_decision s (chain_meets (sources w) (length w.servers) to n) (errant_set (uuids w) observed s.history.txns)
-
 -- how many transactions the longest prefix of a source's history has that a set holds
 abbrev pub held_len : (ℕ → ℕ) → List Interval → List Txn → ℕ
 held_len uuid set txns = prefix_len (λ t. has_gtid uuid set t) txns
 
+-- that a server's set holds
+abbrev pub held_of : (ℕ → ℕ) → Server → Server → ℕ
+held_of uuid r s = held_len uuid (set_of uuid r.history.txns) s.history.txns
+
+-- the source has purged more than the longest prefix of its log that the server's set holds
+abbrev pub auto_purged : (ℕ → ℕ) → Server → Option Server → Result (Unit {0}) AttachFault
+auto_purged uuid r None = Ok tt
+auto_purged uuid r (Some s) = purged_answer (nat_lt (held_of uuid r s) (purged_len s)) s.first
+
+-- by the sets: the errant transactions, else whether what follows the server's is kept
+abbrev pub answer_by_sets : Result (Unit {0}) AttachFault → List Interval → Result (Unit {0}) AttachFault → Result (Unit {0}) AttachFault
+answer_by_sets (Err fault) errant later = Err fault
+answer_by_sets (Ok t) errant later = errant_answer errant later
+
+abbrev pub auto_decision : Server → Bool → List Interval → Result (Unit {0}) AttachFault → Result (Unit {0}) AttachFault
+auto_decision s loops errant later = answer_by_sets (auto_readiness s loops) errant later
+
+abbrev pub attach_auto_answer : World → ℕ → List Interval → ℕ → Option Server → Result (Unit {0}) AttachFault
+attach_auto_answer w n observed to None = Err attaching.Unreachable
+attach_auto_answer w n observed to (Some s) =
+    auto_decision s (chain_meets (sources w) (length w.servers) to n) (errant_set (uuids w) observed s.history.txns) (auto_purged (uuids w) s (server_at w to))
+
+-- a coordinate, or the beginning of the first kept file where it lies in a purged one
+abbrev pub kept_coord : Server → Coord → Coord
+kept_coord s c = if nat_lt c.file s.first then file_start s.first else c
+
 -- where a server goes on under a source that logs: the end of the longest prefix of the source's log that the server's
--- set holds
+-- set holds, or the beginning of the first kept file where that end lies in a purged one
 abbrev pub auto_coord : (ℕ → ℕ) → Server → Option Server → Coord
 auto_coord uuid r None = file_start 1
-auto_coord uuid r (Some s) = coord_after s.log.log (held_len uuid (set_of uuid r.history.txns) s.history.txns)
+auto_coord uuid r (Some s) = kept_coord s (coord_after s.log.log (held_of uuid r s))
 
 abbrev pub attached_auto : ServerNo → Coord → Server → Server
 attached_auto to at s = record (attached_to to at s) { auto = true }
 
 abbrev pub after_attach_auto : World → ℕ → ServerNo → Option Server → Result (Unit {0}) AttachFault → World
+after_attach_auto w n to None answer = w
+after_attach_auto w n to (Some s) (Err fault) = w
 after_attach_auto w n to (Some s) (Ok t) = with_server w n (attached_auto to (auto_coord (uuids w) s (server_at w to.0)) s)
-after_attach_auto w n to _ _ = w
 
 -- an attachment by the set that was observed of the new source
 abbrev pub attach_auto : World → ℕ → List Interval → ServerNo → Result (Unit {0}) AttachFault × World
@@ -170,15 +206,17 @@ attach_fault (attaching.Running at) = Some (attaching.Running at)
 attach_fault (attaching.Interfered expected found) = Some (attaching.Interfered expected found)
 attach_fault attaching.Loop = Some attaching.Loop
 attach_fault (attaching.Errant set) = Some (attaching.Errant set)
+attach_fault (attaching.Purged first) = Some (attaching.Purged first)
 attach_fault attaching.Memory = None
 
 -- the set tells of each transaction of the source whether the replica has executed it
 pub record TellsExecuted (gtid : Bool) (uuid : ℕ → ℕ) (set : List Interval) (r s : Server) : Type 0 where
   pub told : gtid ≡ true → (k : ℕ) (t : Txn) → slice_get s.history.txns k ≡ Some t → has_gtid uuid set t ≡ txns_hold t r.history.txns
 
--- what is kept beside a server: the set of what it has executed, where GTIDs are used, with room for its history
-pub record IsSetOf (gtid : Bool) (uuid : ℕ → ℕ) (s : Server) (e : Reserved) : Type 0 where
-  pub set : e.intervals ≡ (if gtid then set_of uuid s.history.txns else [])
+-- what is kept beside a server: the set of transactions that it has executed, where GTIDs are used, with room for its
+-- history
+pub record IsSetOf (gtid : Bool) (uuid : ℕ → ℕ) (s : Server) (txns : List Txn) (e : Reserved) : Type 0 where
+  pub set : e.intervals ≡ (if gtid then set_of uuid txns else [])
   pub room : gtid ≡ true → s.history.room ≤ e.room
 
 -- a transaction with a GTID, of one of so many servers
@@ -188,13 +226,15 @@ pub record IsNumbered (servers : ℕ) (t : Txn) : Type 0 where
   pub few : t.seq ≤ 4000000
 
 -- the servers' UUIDs differ, their transactions have GTIDs, the log of a server that logs has its history, and each
--- server's executed set is kept
-pub record AreGtids (servers : List Server) (executed : List Reserved) (gtid : Bool) : Type 0 where
+-- server's executed set and purged set are kept
+pub record AreGtids (servers : List Server) (executed purged : List Reserved) (gtid : Bool) : Type 0 where
   pub paired : length executed ≡ length servers
+  pub purged_paired : length purged ≡ length servers
   pub apart : (m n : ℕ) (s t : Server) → slice_get servers m ≡ Some s → slice_get servers n ≡ Some t → s.settings.uuid ≡ t.settings.uuid → m ≡ n
   pub numbered : (n : ℕ) (s : Server) → slice_get servers n ≡ Some s → All (IsNumbered (length servers)) s.history.txns
   pub logged : (n : ℕ) (s : Server) → slice_get servers n ≡ Some s → s.settings.logs ≡ true → length s.log.log.entries ≡ length s.history.txns
-  pub kept : (n : ℕ) (s : Server) (e : Reserved) → slice_get servers n ≡ Some s → slice_get executed n ≡ Some e → IsSetOf gtid (uuids_in servers) s e
+  pub kept : (n : ℕ) (s : Server) (e : Reserved) → slice_get servers n ≡ Some s → slice_get executed n ≡ Some e → IsSetOf gtid (uuids_in servers) s s.history.txns e
+  pub purges : (n : ℕ) (s : Server) (e : Reserved) → slice_get servers n ≡ Some s → slice_get purged n ≡ Some e → IsSetOf gtid (uuids_in servers) s (purged_txns s) e
 
 -- the set of a history, where GTIDs are used, in room for so many transactions
 abbrev pub reserved_set : Bool → (ℕ → ℕ) → ℕ → List Txn → Reserved

@@ -6,6 +6,7 @@ pub mod Exchanges
 pub mod Desk
 pub mod Attach
 pub mod Gtids
+pub mod Purging
 pub mod Safe
 pub mod Run
 pub mod Plains

@@ -9,7 +9,7 @@ use Rattle.binlog_coords.specs.Relay.{IsRelay}
 use Rattle.orch_base.specs.declared.server.Txn.{Txn}
 use Rattle.orch_base.specs.Histories.{count_own}
 use Rattle.server_model.specs.Exchanges.{applied}
-use Rattle.server_model.specs.Worlds.{source_no}
+use Rattle.server_model.specs.Worlds.{source_no, KeepsFrom}
 use Rattle.server_model.specs.declared.decisions.ApplyStep.{ApplyStep}
 use Rattle.server_model.specs.declared.decisions.ApplyStep.TheVariants as applying
 use Rattle.server_model.specs.declared.server.Server.{Server}
@@ -50,6 +50,7 @@ pub record IsFit (s : Server) : Type 0 where
   pub sizes : All HasSize s.history.txns
   pub grown : Grown s.log.log
   pub files : s.log.log.files + s.log.flushes ≤ 4000001 + length s.log.log.entries
+  pub kept : KeepsFrom s.settings.logs s.log.log s.first
 
 -- the relay log has room for all transactions that a server's log can come to hold
 pub record IsRoomy (l : Ledger) (s : Server) : Type 0 where

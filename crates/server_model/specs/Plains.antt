@@ -1,5 +1,9 @@
 -- What is told of a server for the tables.
-use Rattle.std.specs.Prelude.{Option, Some, None, if◌then◌else◌}
+use Rattle.std.specs.Prelude.{ℕ, Option, Some, None, Result, Ok, Err, ◌&&◌, not, nat_lt, slice_get, if◌then◌else◌}
+use Rattle.orch_base.specs.declared.server.Txn.{Txn}
+use Rattle.server_words.specs.declared.answers.Unreachable.{Unreachable}
+use Rattle.server_model.specs.Gtids.{purged_len}
+use Rattle.server_model.specs.Worlds.{World, server_at}
 use Rattle.binlog_coords.specs.Index.{Index}
 use Rattle.server_words.specs.declared.plain.Plain.{Plain}
 use Rattle.server_model.specs.declared.server.Server.{Server}
@@ -17,7 +21,23 @@ plain_of s = record {
   receiver = s.receiver;
   applier = s.applier;
   until = s.until;
+  first = s.first;
 }
+
+-- the transaction of this index, from 0, in the kept files of a server's log
+abbrev pub logged_by : Server → ℕ → Option Txn
+logged_by s k =
+    if not s.settings.logs then None
+    else if nat_lt k (purged_len s) then None
+    else slice_get s.history.txns k
+
+abbrev pub logged_in : Option Server → ℕ → Result (Option Txn) Unreachable
+logged_in None k = Err (record {})
+logged_in (Some s) k = if s.up && s.desk then Ok (logged_by s k) else Err (record {})
+
+-- what orchestrator reads of a server's log
+abbrev pub logged : World → ℕ → ℕ → Result (Option Txn) Unreachable
+logged w n k = logged_in (server_at w n) k
 
 -- the log of a server that logs
 abbrev pub log_of : Server → Option Index

@@ -11,12 +11,14 @@ use Rattle.server_words.specs.declared.changes.Event.{Event}
 use Rattle.server_model.specs.declared.server.Server.{Server}
 use Rattle.server_model.specs.Attach.{attach_at, same_spot, live_spot, IsTarget}
 use Rattle.server_model.specs.Desk.{ask, befall, rotate}
+use Rattle.server_model.specs.Purging.{purge}
 use Rattle.server_model.specs.Exchanges.{write, fetch, apply}
 use Rattle.server_model.specs.Gtids.{attach_auto, executed_set, IsAutoTarget}
 use Rattle.server_model.specs.Worlds.{World, server_at}
 
 -- one exchange: a client's write, a step of a replica's receiver or applier, what orchestrator asks of a server, what
--- befalls a server, a new file of its log, an attachment by a coordinate, or one by a set that was observed
+-- befalls a server, a new file of its log, a purge of files of its log, an attachment by a coordinate, or one by a set
+-- that was observed
 pub data Exchange : Type 0 where
   Write : (n size : ℕ) → Exchange
   Fetch : (n : ℕ) → Exchange
@@ -24,6 +26,7 @@ pub data Exchange : Type 0 where
   Request : (n : ℕ) (a : Ask) → Exchange
   Befall : (n : ℕ) (e : Event) → Exchange
   Rotate : (n : ℕ) → Exchange
+  Purge : (n file : ℕ) → Exchange
   Attach : (n : ℕ) (expect : Spot) (to : ServerNo) (at : Coord) → Exchange
   AttachAuto : (n : ℕ) (observed : List Interval) (to : ServerNo) → Exchange
 
@@ -35,6 +38,7 @@ is_write (Apply n) = false
 is_write (Request n a) = false
 is_write (Befall n e) = false
 is_write (Rotate n) = false
+is_write (Purge n file) = false
 is_write (Attach n expect to at) = false
 is_write (AttachAuto n observed to) = false
 
@@ -46,6 +50,7 @@ is_rotate (Fetch n) = false
 is_rotate (Apply n) = false
 is_rotate (Request n a) = false
 is_rotate (Befall n e) = false
+is_rotate (Purge n file) = false
 is_rotate (Attach n expect to at) = false
 is_rotate (AttachAuto n observed to) = false
 
@@ -56,6 +61,7 @@ after w (Apply n) = (apply w n).1
 after w (Request n a) = (ask w n a).1
 after w (Befall n e) = befall w n e
 after w (Rotate n) = (rotate w n).1
+after w (Purge n file) = (purge w n file).1
 after w (Attach n expect to at) = (attach_at w n expect to at).1
 after w (AttachAuto n observed to) = (attach_auto w n observed to).1
 
@@ -68,6 +74,7 @@ Allowed w (Apply n) = Unit {0}
 Allowed w (Request n a) = Unit {0}
 Allowed w (Befall n e) = Unit {0}
 Allowed w (Rotate n) = Unit {0}
+Allowed w (Purge n file) = Unit {0}
 Allowed w (Attach n expect to at) = IsTarget w to.0 at
 Allowed w (AttachAuto n observed to) = IsAutoTarget w to.0
 
@@ -92,6 +99,7 @@ JoinsWell w (Apply n) = Unit {0}
 JoinsWell w (Request n a) = Unit {0}
 JoinsWell w (Befall n e) = Unit {0}
 JoinsWell w (Rotate n) = Unit {0}
+JoinsWell w (Purge n file) = Unit {0}
 
 -- the world after a list of exchanges
 abbrev pub run : World → List Exchange → World

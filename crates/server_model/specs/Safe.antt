@@ -5,7 +5,7 @@ use Rattle.binlog_coords.specs.Log.{place, is_at_or_before}
 use Rattle.orch_base.specs.declared.server.Txn.{Txn}
 use Rattle.orch_base.specs.Histories.{same_txn, count_own}
 use Rattle.server_model.specs.Layout.{LaysOut}
-use Rattle.server_model.specs.Worlds.{World, server_at, histories, sources, source_no}
+use Rattle.server_model.specs.Worlds.{World, server_at, histories, sources, source_no, KeepsFrom}
 use Rattle.server_model.specs.declared.server.Server.{Server}
 pub use Rattle.orch_base.specs.Chains.{Grounded, Root, Under}
 
@@ -34,10 +34,15 @@ IsSource w m = (s : Server) × (server_at w m ≡ Some s) × (s.settings.logs �
 abbrev pub HaveOwnUuids : World → Type 0
 HaveOwnUuids w = (m n : ℕ) (s t : Server) → server_at w m ≡ Some s → server_at w n ≡ Some t → s.settings.uuid ≡ t.settings.uuid → m ≡ n
 
+-- the first kept file of each server is one of its log's; where it doesn't log that is 1, and the log is empty
+abbrev pub KeepFiles : World → Type 0
+KeepFiles w = (n : ℕ) (s : Server) → server_at w n ≡ Some s → KeepsFrom s.settings.logs s.log.log s.first
+
 -- Every server with a source stands well under it, all histories are kin, no server is below itself, every source
--- logs, every log lays out its server's history, and the servers' UUIDs differ.
+-- logs, every log lays out its server's history and keeps one of its files, and the servers' UUIDs differ.
 pub record Safe (w : World) : Type 0 where
   pub laid : (n : ℕ) (s : Server) → server_at w n ≡ Some s → s.settings.logs ≡ true → LaysOut s.history.txns s.log.log
+  pub kept : KeepFiles w
   pub well : (n m : ℕ) (r s : Server) → server_at w n ≡ Some r → source_no r.source ≡ Some m → server_at w m ≡ Some s → AttachedWell r s
   pub logging : (n m : ℕ) (r : Server) → server_at w n ≡ Some r → source_no r.source ≡ Some m → IsSource w m
   pub kin : IsKin (histories w)
@@ -52,10 +57,11 @@ pub record StandsIn (r s : Server) : Type 0 where
   pub order : is_at_or_before r.exec r.read ≡ true
 
 -- What holds in every world of a run, quiet or not: every server with a source stands in the log of its source, every
--- source is there and logs, no server is below itself, every log lays out its server's history, and the servers' UUIDs
--- differ.
+-- source is there and logs, no server is below itself, every log lays out its server's history and keeps one of its
+-- files, and the servers' UUIDs differ.
 pub record Placed (w : World) : Type 0 where
   pub laid : (n : ℕ) (s : Server) → server_at w n ≡ Some s → s.settings.logs ≡ true → LaysOut s.history.txns s.log.log
+  pub kept : KeepFiles w
   pub stands : (n m : ℕ) (r s : Server) → server_at w n ≡ Some r → source_no r.source ≡ Some m → server_at w m ≡ Some s → StandsIn r s
   pub logging : (n m : ℕ) (r : Server) → server_at w n ≡ Some r → source_no r.source ≡ Some m → IsSource w m
   pub grounded : (n : ℕ) → Grounded (sources w) n

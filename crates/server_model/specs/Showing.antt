@@ -1,20 +1,26 @@
 -- What a status shows of a server, in every world of a run.
-use Rattle.std.specs.Prelude.{◌≡◌, ℕ, true, Some}
+use Rattle.std.specs.Prelude.{◌≡◌, ℕ, true, List, Option, Some}
 use Rattle.binlog_coords.specs.declared.Coord.{Coord}
 use Rattle.binlog_coords.specs.Log.{is_at_or_before}
+use Rattle.gtid_sets.specs.declared.interval.Interval.{Interval}
+use Rattle.orch_base.specs.declared.server.SourceState.{SourceState}
 use Rattle.server_words.specs.declared.status.Status.{Status}
 use Rattle.server_model.specs.declared.server.Server.{Server}
 use Rattle.server_model.specs.Attach.{IsTarget}
 use Rattle.server_model.specs.Worlds.{World, server_at, source_no}
 use Rattle.server_model.specs.Observed.{HasExecuted}
 
--- Its own end has a place in its own log, and it shows one where it logs. Under a source, attached or detached, its
--- executed and its read coordinate have places in the source's log, the executed one not after the read one. It has
--- executed its set.
+-- Where a server stands: its own end has a place in its own log, and there is one where it logs. Under a source, attached
+-- or detached, its executed coordinate has a place in the source's log. It has executed the set.
+pub record IsPosition (w : World) (n : ℕ) (own_end : Option Coord) (source : SourceState) (exec : Coord) (executed : List Interval) : Type 0 where
+  pub own : (c : Coord) → own_end ≡ Some c → IsTarget w n c
+  pub logs : (s : Server) → server_at w n ≡ Some s → s.settings.logs ≡ true → (c : Coord) × (own_end ≡ Some c)
+  pub under : (m : ℕ) → source_no source ≡ Some m → IsTarget w m exec
+  pub set : HasExecuted w n executed
+
+-- A status shows where its server stands; under a source its read coordinate has a place in the source's log too, not
+-- before the executed one.
 pub record Shows (w : World) (n : ℕ) (seen : Status) : Type 0 where
-  pub own : (c : Coord) → seen.own_end ≡ Some c → IsTarget w n c
-  pub logs : (s : Server) → server_at w n ≡ Some s → s.settings.logs ≡ true → (c : Coord) × (seen.own_end ≡ Some c)
-  pub under : (m : ℕ) → source_no seen.source ≡ Some m → IsTarget w m seen.exec
+  pub at : IsPosition w n seen.own_end seen.source seen.exec seen.set
   pub read : (m : ℕ) → source_no seen.source ≡ Some m → IsTarget w m seen.read
   pub order : (m : ℕ) → source_no seen.source ≡ Some m → is_at_or_before seen.exec seen.read ≡ true
-  pub set : HasExecuted w n seen.set

@@ -1,5 +1,6 @@
 -- Servers and the world of them.
-use Rattle.std.specs.Prelude.{ℕ, Bool, true, false, List, [], Option, Some, None, slice_get, slice_set}
+use Rattle.std.specs.Prelude.{◌≡◌, ◌≤◌, ℕ, Bool, true, false, List, [], Option, Some, None, slice_get, slice_set}
+use Rattle.binlog_coords.specs.Log.{Log}
 use Rattle.orch_base.specs.declared.server.Txn.{Txn}
 use Rattle.orch_base.specs.declared.server.SourceState.{SourceState}
 use Rattle.orch_base.specs.declared.server.SourceState.TheVariants.{Without, Attached, Detached}
@@ -27,6 +28,12 @@ history_of (Some s) = s.history.txns
 abbrev pub source_of : Option Server → Option ℕ
 source_of None = None
 source_of (Some s) = source_no s.source
+
+-- the first kept file of a log is one of its files; where the server doesn't log it is 1, and the log is empty
+pub record KeepsFrom (logs : Bool) (log : Log) (first : ℕ) : Type 0 where
+  pub low : 1 ≤ first
+  pub high : first ≤ log.files
+  pub unlogged : logs ≡ false → (first ≡ 1) × (log.entries ≡ [])
 
 -- the history of each server, and the server above it
 abbrev pub histories : World → ℕ → List Txn

@@ -8,4 +8,4 @@ world_of a = record { servers = a.servers.items; gtid = a.gtid; errant = a.erran
 
 pub record IsKeptInside (a : Inside) : Type 0 where
   pub kept : IsKept a.servers.items a.ledgers.items a.errant
-  pub gtids : AreGtids a.servers.items a.executed.items a.gtid
+  pub gtids : AreGtids a.servers.items a.executed.items a.purged.items a.gtid

@@ -1,13 +1,13 @@
 //! A change of source by a coordinate.
 
-ghost use Rattle.std.specs.Prelude.{◌≡◌, length};
-ghost use Rattle.server_model.specs.Attach.{attach_decision, chain_meets, live_spot, same_spot, spot_below};
+ghost use Rattle.std.specs.Prelude.{◌≡◌, length, slice_get};
+ghost use Rattle.server_model.specs.Attach.{attach_decision, chain_meets, first_kept, live_spot, purged_answer, same_spot, spot_below};
 ghost use Rattle.server_model.specs.Worlds.{sources_in};
 ghost use Rattle.binlog_coords.specs.Log.{same_coord};
 
 use crate::Server;
 use binlog_coords::Coord;
-use orch_base::SourceState;
+use orch_base::{ServerNo, SourceState};
 use server_words::{AttachFault, Spot};
 
 fn same_coord(c: Coord, d: Coord) -> bool
@@ -51,9 +51,36 @@ fn live_spot(s: &Server, expect: Spot) -> Spot
     }
 }
 
-/// What an attachment of the server answers, by whether it would close a loop.
-pub(crate) fn attach_decision(s: &Server, expect: Spot, loops: bool) -> Result<(), AttachFault>
-    ensures { result ≡ attach_decision s.now expect loops }
+/// The first file that the log of a server keeps, if it is there.
+pub(crate) fn first_kept(servers: &[Server], no: ServerNo) -> u32
+    ensures { result ≡ first_kept (slice_get servers.now no.0) }
+{
+    match servers.get(no.0 as usize) {
+        Some(s) => s.first,
+        None => 1,
+    }
+}
+
+/// Purged, where the new source, which keeps its log from this file on, has purged what is needed of it.
+pub(crate) fn purged_answer(is_purged: bool, first: u32) -> Result<(), AttachFault>
+    ensures { result ≡ purged_answer is_purged first }
+{
+    if is_purged {
+        return Err(AttachFault::Purged(first));
+    }
+    Ok(())
+}
+
+/// What an attachment of the server at a coordinate answers, by whether it would close a loop, and by the first file
+/// that the new source keeps.
+pub(crate) fn attach_decision(
+    s: &Server,
+    expect: Spot,
+    loops: bool,
+    first: u32,
+    at: Coord,
+) -> Result<(), AttachFault>
+    ensures { result ≡ attach_decision s.now expect loops first at }
 {
     if !(s.up && s.desk) {
         return Err(AttachFault::Unreachable);
@@ -68,7 +95,7 @@ pub(crate) fn attach_decision(s: &Server, expect: Spot, loops: bool) -> Result<(
     if loops {
         return Err(AttachFault::Loop);
     }
-    Ok(())
+    purged_answer(at.file < first, first)
 }
 
 /// The server above a server, if there are both.

@@ -8,6 +8,8 @@ use orch_base::Txn;
 pub enum FetchStep {
     Halt,
     Unlinked,
+    /// To stop: the source has purged the file that is to be read, and keeps its log from this file on.
+    Refuse(u32),
     /// To take what follows in the source's log.
     Take(Next),
 }

@@ -1,12 +1,13 @@
 //! Servers by the GTIDs of what they have executed.
 
-ghost use Rattle.std.specs.Prelude.{◌≡◌, ◌<◌, ◌≤◌, All, IfOk, length, map, true, if◌then◌else◌};
+ghost use Rattle.std.specs.Prelude.{◌≡◌, ◌+◌, ◌<◌, ◌≤◌, All, IfOk, length, map, true, if◌then◌else◌};
 ghost use Rattle.gtid_sets.specs.Adding.{with_pair};
-ghost use Rattle.server_model.specs.Gtids.{auto_readiness, errant_answer, held_len, reserved_set, uuids_in, IsNumbered};
+ghost use Rattle.server_model.specs.Gtids.{auto_readiness, held_len, kept_coord, purged_len, purged_txns, reserved_set, uuids_in, with_gtids, IsNumbered};
 
 use crate::attach::spot_below;
 use crate::{AttachFault, Server};
-use gtid_sets::{GtidSet, ReservedSet};
+use binlog_coords::Coord;
+use gtid_sets::ReservedSet;
 use orch_base::{Memory, ServerNo, Txn};
 use std::alloc::Global;
 
@@ -29,6 +30,19 @@ pub(crate) fn keep_gtid(executed: &mut ReservedSet, gtid: bool, uuid: u128, n: u
 {
     if gtid {
         executed.add(uuid, n);
+    }
+}
+
+/// Adds the GTIDs of these transactions to the set, where GTIDs are used. It takes no memory.
+pub(crate) fn keep_gtids(kept: &mut ReservedSet, gtid: bool, servers: &[Server], txns: &[Txn])
+    requires numbered { All (IsNumbered (length servers.now)) txns.now }
+    requires room { gtid ≡ true → length kept.old.intervals + length txns.now ≤ kept.old.room }
+    ensures { kept.new ≡ (if gtid then record kept.old { intervals = with_gtids (uuids_in servers.now) kept.old.intervals txns.now } else kept.old) }
+{
+    if gtid {
+        for t in txns {
+            kept.add(uuid_of(servers, t.origin), t.seq);
+        }
     }
 }
 
@@ -61,14 +75,29 @@ pub(crate) fn auto_readiness(s: &Server, loops: bool) -> Result<(), AttachFault>
     Ok(())
 }
 
-/// Errant with these GTIDs, where there are some.
-pub(crate) fn errant_answer(errant: GtidSet) -> Result<(), AttachFault>
-    ensures { result ≡ errant_answer errant }
+/// How many transactions stand in the purged files of a server's log.
+pub(crate) fn purged_len(s: &Server) -> u64
+    ensures { result ≡ purged_len s.now }
 {
-    if errant.is_empty() {
-        return Ok(());
+    let kept = Coord {
+        file: s.first,
+        pos: 4,
+    };
+    s.log.place(kept).unwrap_or(0)
+}
+
+/// The coordinate, or the beginning of the first kept file of the server's log where it lies in a purged one.
+pub(crate) fn kept_coord(s: &Server, at: Coord) -> Coord
+    ensures { result ≡ kept_coord s.now at }
+{
+    if at.file < s.first {
+        Coord {
+            file: s.first,
+            pos: 4,
+        }
+    } else {
+        at
     }
-    Err(AttachFault::Errant(errant))
 }
 
 // The set of what a server has executed, where GTIDs are used, in room for so many transactions.
@@ -91,6 +120,27 @@ fn executed_set(
         executed.add(uuid_of(servers, t.origin), t.seq);
     }
     Ok(executed)
+}
+
+/// The set of what stands in the purged files of each server's log, where GTIDs are used, in the room that its history
+/// has.
+pub(crate) fn purged_sets(
+    alloc: Global,
+    servers: &[Server],
+    gtid: bool,
+) -> Result<Vec<ReservedSet>, Memory>
+    requires numbered { All (λ s. All (IsNumbered (length servers.now)) s.history.txns) servers.now }
+    requires fits { All (λ s. length s.history.txns ≤ s.history.room) servers.now }
+    requires within { All (λ s. purged_len s ≤ length s.history.txns) servers.now }
+    ensures { IfOk result (λ v. v.items ≡ map (λ s. reserved_set gtid (uuids_in servers.now) s.history.room (purged_txns s)) servers.now) }
+{
+    let mut sets = Vec::new(alloc);
+    for s in servers {
+        let room = s.history.room();
+        let txns = &s.history.as_slice()[..purged_len(s) as usize];
+        sets.push(executed_set(alloc, servers, gtid, room, txns)?)?;
+    }
+    Ok(sets)
 }
 
 /// The set of what each server has executed, where GTIDs are used, in the room that its history has.

@@ -1,6 +1,6 @@
 //! The transactions that a server has executed.
 
-ghost use Rattle.std.specs.Prelude.{◌≡◌, ◌+◌, ◌<◌, ◌≤◌, [], ◌∷◌, ◌++◌, length, vec_capacity, slice_get};
+ghost use Rattle.std.specs.Prelude.{◌≡◌, ◌+◌, ◌<◌, ◌≤◌, [], ◌∷◌, ◌++◌, length, vec_capacity, slice_get, slice_range};
 
 use orch_base::Txn;
 use std::marker::Model;
@@ -65,6 +65,15 @@ impl History {
         ensures { result ≡ slice_get self.now.txns k }
     {
         self.txns.get(k as usize).copied()
+    }
+
+    /// The transactions from this index on and before that one.
+    pub(crate) fn between(&self, from: u64, to: u64) -> &[Txn]
+        requires order { from ≤ to }
+        requires within { to ≤ length self.now.txns }
+        ensures { result.now ≡ slice_range self.now.txns from to }
+    {
+        &self.txns[from as usize..to as usize]
     }
 
     /// The transactions in order.

@@ -7,6 +7,7 @@ mod gtids;
 mod history;
 mod ledger;
 mod ledgers;
+mod purging;
 mod relay;
 mod server;
 mod status;
@@ -20,7 +21,7 @@ pub(crate) use ledger::Ledger;
 pub(crate) use relay::Relay;
 pub use server::Server;
 pub use server_words::{
-    ApplyAnswer, Ask, AttachFault, Event, FetchAnswer, Link, Plain, RotateAnswer, Spot, Status,
-    StatusFault, Threads, Unreachable, WriteAnswer,
+    ApplyAnswer, Ask, AttachFault, Event, FetchAnswer, Link, Plain, PurgeAnswer, RotateAnswer,
+    Spot, Status, StatusFault, Threads, Unreachable, WriteAnswer,
 };
 pub use world::World;

@@ -13,6 +13,8 @@ pub struct Server {
     pub history: History,
     /// Its own binary log. That of a server that doesn't log stays empty.
     pub log: LogIndex,
+    /// The first file that its log keeps: those before it are purged. 1 before any purge.
+    pub first: u32,
     pub source: SourceState,
     /// How far its applier has executed its source's log.
     pub exec: Coord,

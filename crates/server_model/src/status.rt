@@ -21,9 +21,14 @@ fn io_of(r: &Server, source: Option<&Server>) -> IoState
     }
 }
 
-/// What is seen of a server under its source, with its executed set.
-pub(crate) fn status_of(s: &Server, source: Option<&Server>, set: GtidSet) -> Status
-    ensures { result ≡ status_of s.now (option_copied source.entry) set }
+/// What is seen of a server under its source, with the sets of what it has executed and purged.
+pub(crate) fn status_of(
+    s: &Server,
+    source: Option<&Server>,
+    set: GtidSet,
+    purged: GtidSet,
+) -> Status
+    ensures { result ≡ status_of s.now (option_copied source.entry) set purged }
 {
     Status {
         own_end: if s.settings.logs {
@@ -39,5 +44,7 @@ pub(crate) fn status_of(s: &Server, source: Option<&Server>, set: GtidSet) -> St
         sql: s.applier,
         read_only: s.read_only,
         set,
+        first: s.first,
+        purged,
     }
 }

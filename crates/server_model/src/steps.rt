@@ -78,11 +78,13 @@ pub(crate) fn receiver_step(r: &Server, s: &Server) -> FetchStep
     requires { has_place s.now.log.log r.now.read ≡ true }
     ensures { result ≡ fetch_from r.now (Some s.now) }
 {
-    if s.up && r.feed {
-        FetchStep::Take(s.log.next_after(r.read))
-    } else {
-        FetchStep::Unlinked
+    if !(s.up && r.feed) {
+        return FetchStep::Unlinked;
     }
+    if r.read.file < s.first {
+        return FetchStep::Refuse(s.first);
+    }
+    FetchStep::Take(s.log.next_after(r.read))
 }
 
 pub(crate) fn fetch_answer(step: FetchStep) -> FetchAnswer
@@ -91,6 +93,7 @@ pub(crate) fn fetch_answer(step: FetchStep) -> FetchAnswer
     match step {
         FetchStep::Halt => FetchAnswer::Stopped,
         FetchStep::Unlinked => FetchAnswer::NoLink,
+        FetchStep::Refuse(first) => FetchAnswer::Purged(first),
         FetchStep::Take(Next::Entry(_, to)) => FetchAnswer::Got(to),
         FetchStep::Take(Next::Rotate(to)) => FetchAnswer::Rotated(to),
         FetchStep::Take(Next::End) => FetchAnswer::Nothing,

@@ -1,6 +1,6 @@
 //! The world of servers.
 
-ghost use Rattle.std.specs.Prelude.{◌≡◌, ◌+◌, ◌<◌, ◌≤◌, length, Some, IfOk, IsSomeAnd, option_and_then, option_map, slice_get};
+ghost use Rattle.std.specs.Prelude.{◌≡◌, ◌+◌, ◌<◌, ◌≤◌, true, length, Some, IfOk, IsSomeAnd, option_and_then, option_map, slice_get};
 ghost use Rattle.std.specs.Option.{option_copied};
 ghost use Rattle.orch_base.specs.Gives.{Gives};
 ghost use Rattle.server_model.specs.Worlds.{server_at};
@@ -8,12 +8,17 @@ ghost use Rattle.server_model.specs.Gtids.{attach_auto_answer, after_attach_auto
 ghost use Rattle.server_model.specs.Exchanges.{write_answer, after_write, fetch_step, fetch_answer, after_fetch, attached_at, apply_step, apply_answer, after_apply, IsReady};
 ghost use Rattle.server_model.specs.Attach.{attach_answer, after_attach, IsTarget};
 ghost use Rattle.server_model.specs.Desk.{ask as ask_of, befall, can_reach, desk_answer, rotate_answer, after_rotate};
-ghost use Rattle.server_model.specs.Plains.{plain_of, log_of};
+ghost use Rattle.server_model.specs.Plains.{plain_of, log_of, logged};
+ghost use Rattle.server_model.specs.Purging.{after_purge, purge_answer};
 ghost use Rattle.server_model.specs.Standing.{world_with, CanStand};
 
-use crate::attach::{attach_decision, chain_meets};
-use crate::gtids::{auto_readiness, errant_answer, executed_sets, held_len, keep_gtid, uuid_of};
+use crate::attach::{attach_decision, chain_meets, first_kept, purged_answer};
+use crate::gtids::{
+    auto_readiness, executed_sets, held_len, keep_gtid, keep_gtids, kept_coord, purged_len,
+    purged_sets, uuid_of,
+};
 use crate::ledgers::{above, ledgers_of, most_room};
+use crate::purging::kept_from;
 use crate::status::status_of;
 use crate::steps::{
     apply_answer, empties, errant_writes, fetch_answer, is_applying, is_reachable, is_reached,
@@ -21,7 +26,8 @@ use crate::steps::{
 };
 use crate::{
     ApplyAnswer, ApplyStep, Ask, AttachFault, Event, FetchAnswer, FetchStep, Ledger, Link, Plain,
-    RotateAnswer, Server, Spot, Status, StatusFault, Threads, Unreachable, WriteAnswer,
+    PurgeAnswer, RotateAnswer, Server, Spot, Status, StatusFault, Threads, Unreachable,
+    WriteAnswer,
 };
 use binlog_coords::{Coord, LogIndex, Next};
 use gtid_sets::{GtidSet, ReservedSet};
@@ -36,6 +42,8 @@ pub struct World {
     ledgers: Vec<Ledger>,
     // The GTIDs of what each server has executed, where they are used.
     executed: Vec<ReservedSet>,
+    // The GTIDs of what stands in the purged files of each server's log, where they are used.
+    purged: Vec<ReservedSet>,
     gtid: bool,
     errant: u64,
 }
@@ -62,10 +70,12 @@ impl World {
         let room = most_room(&servers);
         let ledgers = ledgers_of(alloc, &servers, room)?;
         let executed = executed_sets(alloc, &servers, gtid)?;
+        let purged = purged_sets(alloc, &servers, gtid)?;
         Ok(World {
             servers,
             ledgers,
             executed,
+            purged,
             gtid,
             errant: 0,
         })
@@ -135,6 +145,7 @@ impl World {
             receiver: s.receiver,
             applier: s.applier,
             until: s.until,
+            first: s.first,
         }
     }
 
@@ -190,6 +201,7 @@ impl World {
         match step {
             FetchStep::Take(Next::Entry(index, to)) => self.receive(no, index, to),
             FetchStep::Take(Next::Rotate(to)) => self.turn_to(no, to),
+            FetchStep::Refuse(first) => self.refuse(no, first),
             FetchStep::Halt | FetchStep::Unlinked | FetchStep::Take(Next::End) => {}
         }
         fetch_answer(step)
@@ -220,6 +232,17 @@ impl World {
         r.read = to;
         let l = &mut self.ledgers[n];
         l.relay.push(index, to);
+    }
+
+    // The receiver goes off, since what it is to read is purged.
+    fn refuse(&mut self, no: ServerNo, first: u32)
+        requires server { no.0 < length self.old.servers }
+        requires step { fetch_step self.old (server_at self.old no.0) ≡ FetchStep.Refuse first }
+        ensures { self.new ≡ after_fetch self.old no.0 (server_at self.old no.0) (FetchStep.Refuse first) }
+    {
+        let _ = first;
+        let r = &mut self.servers[no.0 as usize];
+        r.receiver = false;
     }
 
     // The read coordinate moves to the source's next file.
@@ -476,8 +499,49 @@ impl World {
         RotateAnswer::Done(end)
     }
 
+    /// Purges the files of a server's binary log before this one, from 1 on (PURGE BINARY LOGS), but none that an
+    /// active replica of it is reading, nor a later one. A file that is purged already changes nothing. The time is
+    /// that of the servers and of the transactions that are purged. It takes no memory.
+    pub fn purge(&mut self, no: ServerNo, file: u32) -> PurgeAnswer
+        requires { no.0 < length self.old.servers }
+        ensures answer { result ≡ purge_answer self.old no.0 file (server_at self.old no.0) }
+        ensures world { self.new ≡ after_purge self.old no.0 (server_at self.old no.0) result }
+    {
+        let s = &self.servers[no.0 as usize];
+        if !s.up {
+            return PurgeAnswer::Down;
+        }
+        if !s.settings.logs {
+            return PurgeAnswer::NotLogging;
+        }
+        if s.log.files() < file {
+            return PurgeAnswer::NoFile;
+        }
+        let first = kept_from(&self.servers, no, file, s);
+        self.keep_from(no, first);
+        PurgeAnswer::Done(first)
+    }
+
+    // The log of a server that logs is kept from this file on, which it has.
+    fn keep_from(&mut self, no: ServerNo, first: u32)
+        requires server { no.0 < length self.old.servers }
+        requires logs { IsSomeAnd (server_at self.old no.0) (λ s. s.settings.logs ≡ true) }
+        requires file { IsSomeAnd (server_at self.old no.0) (λ s. (s.first ≤ first) × (first ≤ s.log.log.files)) }
+        ensures { self.new ≡ after_purge self.old no.0 (server_at self.old no.0) (PurgeAnswer.Done first) }
+    {
+        let n = no.0 as usize;
+        let from = purged_len(&self.servers[n]);
+        let s = &mut self.servers[n];
+        s.first = first;
+        let to = purged_len(&self.servers[n]);
+        let txns = self.servers[n].history.between(from, to);
+        let purged = &mut self.purged[n];
+        keep_gtids(purged, self.gtid, &self.servers, txns);
+    }
+
     /// Attaches a server that stands at the expected spot to `to`, a server that logs, at `at`, which has a place in
-    /// its log. Its threads are off then, and its relay log is empty. Nothing changes where it answers a fault.
+    /// its log, and whose file isn't purged. Its threads are off then, and its relay log is empty. Nothing changes where
+    /// it answers a fault.
     pub fn attach_at(
         &mut self,
         no: ServerNo,
@@ -487,7 +551,7 @@ impl World {
     ) -> Result<(), AttachFault>
         requires server { no.0 < length self.old.servers }
         requires target { IsTarget self.old to.0 at }
-        ensures answer { result ≡ attach_answer self.old no.0 expect to.0 (server_at self.old no.0) }
+        ensures answer { result ≡ attach_answer self.old no.0 expect to.0 at (server_at self.old no.0) }
         ensures world { self.new ≡ after_attach self.old no.0 to at (server_at self.old no.0) result }
     {
         match self.test_attach_at(no, expect, to, at) {
@@ -512,11 +576,11 @@ impl World {
     ) -> Result<(), AttachFault>
         requires server { no.0 < length self.now.servers }
         requires target { IsTarget self.now to.0 at }
-        ensures { result ≡ attach_answer self.now no.0 expect to.0 (server_at self.now no.0) }
+        ensures { result ≡ attach_answer self.now no.0 expect to.0 at (server_at self.now no.0) }
     {
-        let _ = at;
         let loops = chain_meets(&self.servers, to.0, no.0);
-        attach_decision(&self.servers[no.0 as usize], expect, loops)
+        let first = first_kept(&self.servers, to);
+        attach_decision(&self.servers[no.0 as usize], expect, loops, first, at)
     }
 
     /// Whether orchestrator reaches a server: it is up, and its desk link is joined.
@@ -535,7 +599,8 @@ impl World {
         let n = no.0 as usize;
         let s = &self.servers[n];
         let set = self.executed[n].copy(alloc)?;
-        Ok(status_of(s, above(&self.servers, s.source), set))
+        let purged = self.purged[n].copy(alloc)?;
+        Ok(status_of(s, above(&self.servers, s.source), set, purged))
     }
 
     /// What orchestrator sees of a server in one exchange: Unreachable exactly where the server is down or its desk
@@ -565,11 +630,7 @@ impl World {
         ensures answer { Gives (λ t. t) attach_fault result (attach_auto_answer self.old no.0 observed.now to.0 (server_at self.old no.0)) }
         ensures world { self.new ≡ after_attach_auto self.old no.0 to (server_at self.old no.0) result }
     {
-        match self.test_attach_auto(alloc, no, observed, to) {
-            Err(fault) => return Err(fault),
-            Ok(()) => {}
-        }
-        let at = self.auto_coord(no, to);
+        let at = self.auto_place(alloc, no, observed, to)?;
         let n = no.0 as usize;
         let s = &mut self.servers[n];
         s.attach_auto(to, at);
@@ -590,25 +651,49 @@ impl World {
         requires target { IsAutoTarget self.now to.0 }
         ensures { Gives (λ t. t) attach_fault result (attach_auto_answer self.now no.0 observed.now to.0 (server_at self.now no.0)) }
     {
-        let n = no.0 as usize;
-        let loops = chain_meets(&self.servers, to.0, no.0);
-        match auto_readiness(&self.servers[n], loops) {
-            Err(fault) => return Err(fault),
-            Ok(()) => {}
-        }
-        let errant = self.executed[n].minus(alloc, observed)?;
-        errant_answer(errant)
+        self.auto_place(alloc, no, observed, to)?;
+        Ok(())
     }
 
-    // Where a server goes on under the source.
-    fn auto_coord(&self, no: ServerNo, to: ServerNo) -> Coord
+    // Where a server goes on under the source, or why it can't be attached by the set.
+    fn auto_place(
+        &self,
+        alloc: Global,
+        no: ServerNo,
+        observed: &GtidSet,
+        to: ServerNo,
+    ) -> Result<Coord, AttachFault>
         requires server { no.0 < length self.now.servers }
         requires target { IsAutoTarget self.now to.0 }
-        ensures { option_map (λ r. auto_coord (uuids self.now) r (server_at self.now to.0)) (server_at self.now no.0) ≡ Some result }
+        ensures answer { Gives (λ c. tt) attach_fault result (attach_auto_answer self.now no.0 observed.now to.0 (server_at self.now no.0)) }
+        ensures place { IfOk result (λ c. option_map (λ r. auto_coord (uuids self.now) r (server_at self.now to.0)) (server_at self.now no.0) ≡ Some c) }
     {
         let n = no.0 as usize;
+        let loops = chain_meets(&self.servers, to.0, no.0);
+        auto_readiness(&self.servers[n], loops)?;
+        let errant = self.executed[n].minus(alloc, observed)?;
+        if !errant.is_empty() {
+            return Err(AttachFault::Errant(errant));
+        }
         let source = &self.servers[to.0 as usize];
         let held = held_len(&self.servers, &self.executed[n], source.history.as_slice());
-        source.log.coord_after(held)
+        purged_answer(held < purged_len(source), source.first)?;
+        Ok(kept_coord(source, source.log.coord_after(held)))
+    }
+
+    /// The transaction of this index, from 0, in the kept files of a server's binary log: None exactly where the server
+    /// doesn't log, its history ends before it, or its file is purged. Unreachable as `status` does. It takes no memory.
+    pub fn logged(&self, no: ServerNo, k: u64) -> Result<Option<Txn>, Unreachable>
+        requires { no.0 < length self.now.servers }
+        ensures { result ≡ logged self.now no.0 k }
+    {
+        let s = &self.servers[no.0 as usize];
+        if !is_reachable(s) {
+            return Err(Unreachable);
+        }
+        if !s.settings.logs || k < purged_len(s) {
+            return Ok(None);
+        }
+        Ok(s.history.get(k))
     }
 }

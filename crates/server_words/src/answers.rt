@@ -23,6 +23,8 @@ pub enum FetchAnswer {
     Stopped,
     /// The source is down, or the link to it is cut.
     NoLink,
+    /// The source has purged the file that was to be read, and keeps its log from this file on. The receiver is off then.
+    Purged(u32),
     /// The source's log has nothing more.
     Nothing,
     /// The receiver went on to the next file.
@@ -61,6 +63,19 @@ pub enum RotateAnswer {
     Full,
     /// The file begins here.
     Done(Coord),
+}
+
+/// The answer where files of the binary log were to be purged.
+#[derive(Clone, Copy, Debug, PartialEq, Eq)]
+pub enum PurgeAnswer {
+    /// The server is down.
+    Down,
+    /// The server has no log.
+    NotLogging,
+    /// The log has no file of this number yet.
+    NoFile,
+    /// The log is kept from this file on.
+    Done(u32),
 }
 
 /// Orchestrator doesn't reach the server: it is down, or its link to the desk is cut.

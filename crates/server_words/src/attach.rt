@@ -32,6 +32,8 @@ pub enum AttachFault {
     Loop,
     /// The server has executed these, which weren't observed of the new source. Only an attachment by a set answers it.
     Errant(GtidSet),
+    /// The new source has purged the file in which the server was to go on, and keeps its log from this file on.
+    Purged(u32),
     /// Want of memory. Only an attachment by a set answers it.
     Memory,
 }
@@ -57,6 +59,7 @@ impl fmt::Display for AttachFault {
                     "the server has executed what wasn't seen of its new source"
                 )
             }
+            AttachFault::Purged(_) => write!(f, "the new source has purged the file to go on in"),
             AttachFault::Memory => write!(f, "out of memory"),
         }
     }

@@ -8,7 +8,7 @@ mod plain;
 mod status;
 mod threads;
 
-pub use answers::{ApplyAnswer, FetchAnswer, RotateAnswer, Unreachable, WriteAnswer};
+pub use answers::{ApplyAnswer, FetchAnswer, PurgeAnswer, RotateAnswer, Unreachable, WriteAnswer};
 pub use attach::{AttachFault, Spot};
 pub use changes::{Ask, Event, Link, Threads};
 pub use plain::Plain;

@@ -21,4 +21,6 @@ pub struct Plain {
     pub receiver: bool,
     pub applier: bool,
     pub until: Option<Coord>,
+    /// The first file that its own binary log keeps; 1 before any purge, and for a server that doesn't log.
+    pub first: u32,
 }

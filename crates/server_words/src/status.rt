@@ -28,6 +28,11 @@ pub struct Status {
     pub read_only: bool,
     /// The GTIDs of what it has executed (`gtid_executed`); empty where the servers don't use GTIDs.
     pub set: GtidSet,
+    /// The first file that its own binary log keeps; 1 before any purge, and for a server that doesn't log.
+    pub first: u32,
+    /// The GTIDs of what stands in the purged files of its log (`gtid_purged`); empty where the servers don't use GTIDs,
+    /// and for a server that doesn't log.
+    pub purged: GtidSet,
 }
 
 impl Status {
@@ -47,6 +52,8 @@ impl Status {
             sql: self.sql,
             read_only: self.read_only,
             set: self.set.copy()?,
+            first: self.first,
+            purged: self.purged.copy()?,
         })
     }
 
@@ -65,12 +72,19 @@ impl Status {
         self.io == other.io && self.sql == other.sql && self.read_only == other.read_only
     }
 
+    // Whether its own log is the same.
+    fn has_same_log(&self, other: &Status) -> bool
+        ensures { IsTrue result ↔ ((self.now.own_end ≡ other.now.own_end) × (self.now.first ≡ other.now.first)) }
+    {
+        self.own_end == other.own_end && self.first == other.first
+    }
+
     /// Whether the same was seen.
     pub fn is_same(&self, other: &Status) -> bool
         ensures { IsTrue result ↔ (self.now ≡ other.now) }
     {
-        (self.own_end == other.own_end && self.set.is_same(&other.set))
-            && self.has_same_source(other)
+        (self.set.is_same(&other.set) && self.purged.is_same(&other.purged))
+            && (self.has_same_log(other) && self.has_same_source(other))
             && self.has_same_threads(other)
     }
 }

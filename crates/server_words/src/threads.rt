@@ -1,8 +1,8 @@
 //! The types of this crate can be moved between threads, and shared by them.
 
 use crate::{
-    ApplyAnswer, Ask, AttachFault, Event, FetchAnswer, Plain, RotateAnswer, Status, StatusFault,
-    WriteAnswer,
+    ApplyAnswer, Ask, AttachFault, Event, FetchAnswer, Plain, PurgeAnswer, RotateAnswer, Status,
+    StatusFault, WriteAnswer,
 };
 
 fn crosses_threads<T: Send + Sync>() {}
@@ -12,6 +12,7 @@ fn all_cross_threads() {
     crosses_threads::<FetchAnswer>();
     crosses_threads::<ApplyAnswer>();
     crosses_threads::<RotateAnswer>();
+    crosses_threads::<PurgeAnswer>();
     crosses_threads::<AttachFault>();
     crosses_threads::<Ask>();
     crosses_threads::<Event>();

@@ -27,18 +27,18 @@ use Rattle.server_model.specs.Run.{Exchange, Request, Attach, AttachAuto, after,
 use Rattle.server_model.specs.Worlds.{World, server_at, with_server, has_source}
 use Rattle.replication_laws.proofs.Worlds.{at_with_same, at_with_other}
 use Rattle.instance_keeper.specs.declared.bridge.Bridge.{Bridge}
-use Rattle.instance_keeper.specs.declared.observation.Observation.{Observation}
-use Rattle.instance_keeper.specs.Bridges.{bridge_in}
-use Rattle.instance_keeper.specs.Seeing.{seen_in}
+use Rattle.kept_rows.specs.declared.observation.Observation.{Observation}
+use Rattle.kept_rows.specs.Seeing.{seen_in}
 use Rattle.commands.specs.declared.cause.Cause.TheVariants as cause
 use Rattle.operations.specs.declared.op.Crossing.TheVariants as cross
 use Rattle.operations.specs.declared.op.Op.{Op}
 use Rattle.operations.specs.declared.op.Op.TheVariants as op
+use Rattle.operations.specs.declared.sight.Position.{Position}
 use Rattle.operations.specs.Deeds as deed
 use Rattle.operations.specs.Deeds.{Deed, deed_of}
-use Rattle.operations.specs.Jobs.{Job, seen_of}
+use Rattle.operations.specs.Jobs.{Job, position_of, seen_of}
 use Rattle.operations.specs.Turns as attempt
-use Rattle.operations.specs.Turns.{Attempt, next, saw, observed, is_moved, after_status, after_look, after_ask, aim_of, is_reached, until_by, after_until, after_wait_by, after_wait, holds_seen, settles, crossed, crossing_of, by_set, attach_answer_of, after_answer, by_deed}
+use Rattle.operations.specs.Turns.{bridge_at, Attempt, next, saw, observed, is_moved, after_status, after_look, after_ask, aim_of, is_reached, until_by, after_until, after_wait_by, after_wait, holds_seen, settles, crossed, crossing_of, by_set, attach_answer_of, after_answer, by_deed}
 use Rattle.job_laws.specs.Footing.{footing, finds, is_under, logs_at, source_shown}
 use Rattle.job_laws.specs.Held.{AllShow}
 use Rattle.job_laws.proofs.Spanning.{bridge-parts}
@@ -143,7 +143,7 @@ module _ (w : World) (j : Job) (rest : List Op) where
   -- a server goes below another by a coordinate
   attach-moves : (n : ServerNo) (expect : Spot) (to : ServerNo) (c : Coord)
       → After w (after_answer j rest n (Attach n.0 expect to c) (attach_answer_of w (Attach n.0 expect to c))) (λ w'. IsMoved w w' n.0 to.0)
-  attach-moves n expect to c = go (attach_answer w n.0 expect to.0 (server_at w n.0)) refl
+  attach-moves n expect to c = go (attach_answer w n.0 expect to.0 c (server_at w n.0)) refl
     where
       moved-to : Changes w (after w (Attach n.0 expect to c)) n.0 (attached_to to c) → IsMoved w (after w (Attach n.0 expect to c)) n.0 to.0
       moved-to x = record {
@@ -151,12 +151,12 @@ module _ (w : World) (j : Job) (rest : List Op) where
         others = others-stay w _ n.0 (attached_to to c) x;
       }
 
-      go : (r : Result (Unit {0}) AttachFault) → attach_answer w n.0 expect to.0 (server_at w n.0) ≡ r → After w (after_answer j rest n (Attach n.0 expect to c) r) (λ w'. IsMoved w w' n.0 to.0)
+      go : (r : Result (Unit {0}) AttachFault) → attach_answer w n.0 expect to.0 c (server_at w n.0) ≡ r → After w (after_answer j rest n (Attach n.0 expect to c) r) (λ w'. IsMoved w w' n.0 to.0)
       go (Err f) e = tt
       go (Ok t) e = moved-to (at (server_at w n.0) refl)
         where
           at : (o : Option Server) → server_at w n.0 ≡ o → Changes w (after w (Attach n.0 expect to c)) n.0 (attached_to to c)
-          at None there = let bad : attach_answer w n.0 expect to.0 None ≡ Ok t = sym (ap (attach_answer w n.0 expect to.0) there) ∙ e in cc
+          at None there = let bad : attach_answer w n.0 expect to.0 c None ≡ Ok t = sym (ap (attach_answer w n.0 expect to.0 c) there) ∙ e in cc
           at (Some s) there = record {
             was = s;
             there = there;
@@ -213,9 +213,9 @@ module _ (w : World) (read : ℕ) (now : Moment) (j : Job) (rest : List Op) (sho
   down-moves : (n p : ServerNo) → finds (footing w j.seen) (deed.Cross cross.Down n p) ≡ true → Moves n p (by (op.Cross cross.Down n p))
   down-moves n p found =
       let t = cross-tried w j rest read now cross.Down n p shown found in
-      subst (λ (a : Attempt). Moves n p a) (sym t.attempt) (go (bridge_in p (seen_of j.seen p.0)) refl t.exchange t.found)
+      subst (λ (a : Attempt). Moves n p a) (sym t.attempt) (go (bridge_at p (seen_of j.seen p.0)) refl t.exchange t.found)
     where
-      go : (o : Option Bridge) → bridge_in p (seen_of j.seen p.0) ≡ o → (e : Exchange) → crossed cross.Down n o ≡ Some e → Moves n p (after_answer j rest n e (attach_answer_of w e))
+      go : (o : Option Bridge) → bridge_at p (seen_of j.seen p.0) ≡ o → (e : Exchange) → crossed cross.Down n o ≡ Some e → Moves n p (after_answer j rest n e (attach_answer_of w e))
       go None is e h = cc
       go (Some b) is e h =
           let parts = bridge-parts p (seen_of j.seen p.0) b is in
@@ -226,9 +226,9 @@ module _ (w : World) (read : ℕ) (now : Moment) (j : Job) (rest : List Op) (sho
   up-moves : (n p : ServerNo) (m : ServerNo) → source_shown (seen_of j.seen p.0) ≡ Some m.0 → finds (footing w j.seen) (deed.Cross cross.Up n p) ≡ true → Moves n m (by (op.Cross cross.Up n p))
   up-moves n p m shows found =
       let t = cross-tried w j rest read now cross.Up n p shown found in
-      subst (λ (a : Attempt). Moves n m a) (sym t.attempt) (go (bridge_in p (seen_of j.seen p.0)) refl t.exchange t.found)
+      subst (λ (a : Attempt). Moves n m a) (sym t.attempt) (go (bridge_at p (seen_of j.seen p.0)) refl t.exchange t.found)
     where
-      go : (o : Option Bridge) → bridge_in p (seen_of j.seen p.0) ≡ o → (e : Exchange) → crossed cross.Up n o ≡ Some e → Moves n m (after_answer j rest n e (attach_answer_of w e))
+      go : (o : Option Bridge) → bridge_at p (seen_of j.seen p.0) ≡ o → (e : Exchange) → crossed cross.Up n o ≡ Some e → Moves n m (after_answer j rest n e (attach_answer_of w e))
       go None is e h = cc
       go (Some b) is e h =
           let parts = bridge-parts p (seen_of j.seen p.0) b is in
@@ -240,9 +240,9 @@ module _ (w : World) (read : ℕ) (now : Moment) (j : Job) (rest : List Op) (sho
   pub about-moves : (p q : ServerNo) → finds (footing w j.seen) (deed.Cross cross.About p q) ≡ true → Moves p q (by (op.Cross cross.About p q))
   about-moves p q found =
       let t = cross-tried w j rest read now cross.About p q shown found in
-      subst (λ (a : Attempt). Moves p q a) (sym t.attempt) (go (bridge_in q (seen_of j.seen q.0)) refl t.exchange t.found)
+      subst (λ (a : Attempt). Moves p q a) (sym t.attempt) (go (bridge_at q (seen_of j.seen q.0)) refl t.exchange t.found)
     where
-      go : (o : Option Bridge) → bridge_in q (seen_of j.seen q.0) ≡ o → (e : Exchange) → crossed cross.About p o ≡ Some e → Moves p q (after_answer j rest p e (attach_answer_of w e))
+      go : (o : Option Bridge) → bridge_at q (seen_of j.seen q.0) ≡ o → (e : Exchange) → crossed cross.About p o ≡ Some e → Moves p q (after_answer j rest p e (attach_answer_of w e))
       go None is e h = cc
       go (Some b) is e h =
           let parts = bridge-parts q (seen_of j.seen q.0) b is in
@@ -253,13 +253,13 @@ module _ (w : World) (read : ℕ) (now : Moment) (j : Job) (rest : List Op) (sho
   pub back-moves : (q p : ServerNo) → finds (footing w j.seen) (deed.Cross cross.Back q p) ≡ true → Moves q p (by (op.Cross cross.Back q p))
   back-moves q p found =
       let t = cross-tried w j rest read now cross.Back q p shown found in
-      subst (λ (a : Attempt). Moves q p a) (sym t.attempt) (go (bridge_in q (seen_of j.seen q.0)) refl t.exchange t.found)
+      subst (λ (a : Attempt). Moves q p a) (sym t.attempt) (go (bridge_at q (seen_of j.seen q.0)) refl t.exchange t.found)
     where
       named : (o : Option ℕ) (m k : ℕ) → is_under o m ≡ true → o ≡ Some k → k ≡ m
       named None m k h e = absurd (false≢true h)
       named (Some x) m k h e = sym (same_Some x k e) ∙ eqb-true x m h
 
-      go : (o : Option Bridge) → bridge_in q (seen_of j.seen q.0) ≡ o → (e : Exchange) → crossed cross.Back q o ≡ Some e → Moves q p (after_answer j rest q e (attach_answer_of w e))
+      go : (o : Option Bridge) → bridge_at q (seen_of j.seen q.0) ≡ o → (e : Exchange) → crossed cross.Back q o ≡ Some e → Moves q p (after_answer j rest q e (attach_answer_of w e))
       go None is e h = cc
       go (Some b) is e h =
           let parts = bridge-parts q (seen_of j.seen q.0) b is in
@@ -275,7 +275,7 @@ module _ (w : World) (read : ℕ) (now : Moment) (j : Job) (rest : List Op) (sho
       let t = auto-tried w j rest read now n p found in
       subst (λ (a : Attempt). Moves n p a) (sym t.attempt) (go (seen_of j.seen p.0) t.exchange t.found)
     where
-      go : (o : Option Status) (e : Exchange) → by_set n p o ≡ Some e → Moves n p (after_answer j rest n e (attach_answer_of w e))
+      go : (o : Option Position) (e : Exchange) → by_set n p o ≡ Some e → Moves n p (after_answer j rest n e (attach_answer_of w e))
       go None e h = cc
       go (Some s) e h =
           subst (λ (x : Exchange). Moves n p (after_answer j rest n x (attach_answer_of w x))) (same_Some (AttachAuto n.0 s.set p) e h) (auto-attaches w j rest n p s.set)
@@ -390,6 +390,7 @@ module _ (w : World) (read : ℕ) (now : Moment) (j : Job) (rest : List Op) (sho
       go (Some s) e = (
         refl,
         λ x seen has.
-            let same : Some s ≡ Some x = sym (seen-at j.seen n s n.0 ∙ ap (λ b. cond b (Some s) (seen_of j.seen n.0)) (eq-eqb n.0 n.0 refl)) ∙ seen in
-            seen-sourced n.0 s e (ap (λ (y : Status). has_source y.source) (same_Some s x same) ∙ has),
+            let at = position_of s in
+            let same : Some at ≡ Some x = sym (seen-at j.seen n at n.0 ∙ ap (λ b. cond b (Some at) (seen_of j.seen n.0)) (eq-eqb n.0 n.0 refl)) ∙ seen in
+            seen-sourced n.0 s e (ap (λ (y : Position). has_source y.source) (same_Some at x same) ∙ has),
       )

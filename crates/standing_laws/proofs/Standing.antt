@@ -9,6 +9,8 @@ use Rattle.server_model.specs.declared.decisions.ApplyStep.{ApplyStep}
 use Rattle.server_model.specs.declared.decisions.ApplyStep.TheVariants as applying
 use Rattle.server_model.specs.declared.decisions.FetchStep.{FetchStep}
 use Rattle.server_model.specs.declared.decisions.FetchStep.TheVariants as receiving
+use Rattle.server_words.specs.declared.answers.PurgeAnswer.{PurgeAnswer}
+use Rattle.server_words.specs.declared.answers.PurgeAnswer.TheVariants as purging
 use Rattle.server_words.specs.declared.answers.RotateAnswer.{RotateAnswer}
 use Rattle.server_words.specs.declared.answers.RotateAnswer.TheVariants as rotating
 use Rattle.server_words.specs.declared.answers.Unreachable.{Unreachable}
@@ -23,7 +25,8 @@ use Rattle.server_words.specs.declared.changes.Threads.TheVariants as threads
 use Rattle.server_model.specs.declared.server.Server.{Server}
 use Rattle.server_model.specs.Desk.{asked, befallen, rotate_answer, rotated, after_change, after_desk, after_rotate, started, healed, is_detached}
 use Rattle.server_model.specs.Exchanges.{took, own_txn, write_answer, after_write, fetch_step, after_fetch, apply_step, after_apply, is_attached}
-use Rattle.server_model.specs.Run.{Exchange, Write, Fetch, Apply, Request, Befall, Rotate, Attach, AttachAuto, after}
+use Rattle.server_model.specs.Purging.{after_purge, purge_answer}
+use Rattle.server_model.specs.Run.{Exchange, Write, Fetch, Apply, Request, Befall, Rotate, Attach, AttachAuto, Purge, after}
 use Rattle.server_model.specs.Worlds.{World, server_at, with_server, has_source}
 use Rattle.replication_laws.proofs.Worlds.{at_with_same, at_with_other}
 use Rattle.recovery_plans.specs.Stages.{moves_by}
@@ -87,6 +90,7 @@ module _ (w : World) (n m : ℕ) where
   fetch-stays None at a = none
   fetch-stays (Some r) at receiving.Halt = none
   fetch-stays (Some r) at receiving.Unlinked = none
+  fetch-stays (Some r) at (receiving.Refuse first) = keep w n r (record r { receiver = false }) at refl refl m
   fetch-stays (Some r) at (receiving.Take (next.Entry index to)) = keep w n r (record r { read = to }) at refl refl m
   fetch-stays (Some r) at (receiving.Take (next.Rotate to)) = keep w n r (record r { read = to }) at refl refl m
   fetch-stays (Some r) at (receiving.Take next.End) = none
@@ -122,6 +126,13 @@ module _ (w : World) (n m : ℕ) where
   rotate-stays (Some s) at rotating.Full = none
   rotate-stays (Some s) at (rotating.Done to) = keep w n s (rotated s) at refl refl m
 
+  purge-stays : (o : Option Server) → server_at w n ≡ o → (a : PurgeAnswer) → Same (after_purge w n o a)
+  purge-stays None at a = none
+  purge-stays (Some s) at purging.Down = none
+  purge-stays (Some s) at purging.NotLogging = none
+  purge-stays (Some s) at purging.NoFile = none
+  purge-stays (Some s) at (purging.Done first) = keep w n s (record s { first = first }) at refl refl m
+
   started-keeps : (to : Option Coord) (s t : Server) → (b : Bool) → cond b (record s { receiver = true; applier = true; until = to }) s ≡ t → (t.source ≡ s.source) × (t.read_only ≡ s.read_only)
   started-keeps to s t true h = (ap (λ (y : Server). y.source) (sym h), ap (λ (y : Server). y.read_only) (sym h))
   started-keeps to s t false h = (ap (λ (y : Server). y.source) (sym h), ap (λ (y : Server). y.read_only) (sym h))
@@ -153,5 +164,6 @@ outside-stays w (Apply n) h m = apply-stays w n m (server_at w n) refl (apply_st
 outside-stays w (Request n a) h m = absurd (false≢true h)
 outside-stays w (Befall n e) h m = befall-stays w n m e (server_at w n) refl
 outside-stays w (Rotate n) h m = rotate-stays w n m (server_at w n) refl (rotate_answer (server_at w n))
+outside-stays w (Purge n file) h m = purge-stays w n m (server_at w n) refl (purge_answer w n file (server_at w n))
 outside-stays w (Attach n expect to at) h m = absurd (false≢true h)
 outside-stays w (AttachAuto n observed to) h m = absurd (false≢true h)

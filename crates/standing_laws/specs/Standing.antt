@@ -3,11 +3,11 @@ use Rattle.std.specs.Prelude.{◌≡◌, ℕ, Bool, true, false, List, Option, S
 use Rattle.orch_base.specs.declared.server.ServerNo.{ServerNo}
 use Rattle.orch_base.specs.declared.server.SourceState.{SourceState}
 use Rattle.orch_base.specs.declared.server.SourceState.TheVariants.{Without, Attached, Detached}
-use Rattle.server_words.specs.declared.status.Status.{Status}
 use Rattle.server_model.specs.declared.server.Server.{Server}
 use Rattle.server_model.specs.Desk.{is_detached}
-use Rattle.server_model.specs.Run.{Exchange, Write, Fetch, Apply, Request, Befall, Rotate, Attach, AttachAuto}
+use Rattle.server_model.specs.Run.{Exchange, Write, Fetch, Apply, Request, Befall, Rotate, Attach, AttachAuto, Purge}
 use Rattle.server_model.specs.Worlds.{World, has_source, server_at}
+use Rattle.operations.specs.declared.sight.Position.{Position}
 use Rattle.operations.specs.declared.sight.Sight.{Sight}
 use Rattle.operations.specs.Jobs.{seen_of}
 use Rattle.job_laws.specs.Footing.{source_shown}
@@ -65,7 +65,7 @@ pub record Stays (w w' : World) (n : ℕ) : Type 0 where
 
 -- where what was seen of a server shows a source, it has one
 abbrev pub IsSourcedAsSeen : World → List Sight → ServerNo → Type 0
-IsSourcedAsSeen w seen n = (s : Status) → seen_of seen n.0 ≡ Some s → has_source s.source ≡ true → IsSourced w n.0
+IsSourcedAsSeen w seen n = (s : Position) → seen_of seen n.0 ≡ Some s → has_source s.source ≡ true → IsSourced w n.0
 
 -- the reading of a bridge's server shows the bridge's source, where that is the new source
 abbrev pub Reads : List Sight → Way → Type 0
@@ -73,13 +73,14 @@ Reads seen (way.Down b) = Unit {0}
 Reads seen (way.Up b) = source_shown (seen_of seen b.no.0) ≡ Some b.source.0
 Reads seen (way.Auto to exec) = Unit {0}
 
--- what isn't orchestrator's: writes, steps of replication, what befalls a server, a new file of a log
+-- what isn't orchestrator's: writes, steps of replication, what befalls a server, a new file of a log, a purge
 abbrev pub is_outside : Exchange → Bool
 is_outside (Write n size) = true
 is_outside (Fetch n) = true
 is_outside (Apply n) = true
 is_outside (Befall n e) = true
 is_outside (Rotate n) = true
+is_outside (Purge n file) = true
 is_outside (Request n a) = false
 is_outside (Attach n expect to at) = false
 is_outside (AttachAuto n observed to) = false

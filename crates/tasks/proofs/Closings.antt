@@ -8,10 +8,12 @@ use Rattle.std.proofs.lemmas.List.{append-nil}
 use Rattle.std.proofs.lemmas.List.Elements.{All-append, All-cons, All-head, All-nil, All-tail}
 use Rattle.std.proofs.lemmas.List.Sums.{fold-append}
 use Rattle.orch_base.specs.declared.server.ServerNo.{ServerNo}
-use Rattle.instance_keeper.specs.declared.row.Row.{Row}
+use Rattle.kept_rows.specs.declared.row.Row.{Row}
 use Rattle.name_order.specs.NameOrder.{by_name}
-use Rattle.turns.specs.declared.turn.Reply.{Reply}
+use Rattle.turns.specs.declared.reply.Reply.{Reply}
 use Rattle.turns.specs.declared.turn.Turn.{Turn}
+use Rattle.turns.specs.declared.turn.Act.TheVariants as act
+use Rattle.turns.specs.declared.turn.Step.TheVariants as step
 use Rattle.turns.specs.declared.turn.Turn.TheVariants as turn
 use Rattle.jobs_in_flight.specs.Jobs.{is_open, most_turns}
 use Rattle.orch_core.specs.Keeping.{Ran, asks}
@@ -19,7 +21,8 @@ use Rattle.orch_core.specs.Replies.{reply_of}
 use Rattle.orch_core.specs.declared.fault.TurnFault.{TurnFault}
 use Rattle.orch_core.specs.Rounds.{FinishedBy, IsFinish, WasCutShort, after_rounds, after_turns, round_of, times, told_in}
 use Rattle.jobs_in_flight.specs.Rounds.{polls, replicates, round_over}
-use Rattle.orch_core.specs.Runs.{Held, engine, LeadsTo, Recorded, held_run, held_step, record_turn, recorder, run_turns, step, turns_of}
+use Rattle.orch_core.specs.After.{step as turn_step}
+use Rattle.orch_core.specs.Runs.{Held, engine, LeadsTo, Recorded, held_run, held_step, record_turn, recorder, run_turns, turns_of}
 use Rattle.orch_core.specs.States.{State}
 use Rattle.orch_core.proofs.Finishing.{AsksNothing, asks-round, step-any}
 use Rattle.orch_core.proofs.Runs.{Ran-nil}
@@ -36,7 +39,7 @@ module _ (round : List Turn) (job : ℕ) where
   Open s i = is_open (after_turns s (times i round)).jobs job ≡ true
 
   next : (s : State) (i : ℕ) → Open s (suc i) → Open (after_turns s round) i
-  next s i h = ap (λ (u : State). is_open u.jobs job) (sym (fold-append (step []) s round (times i round))) ∙ h
+  next s i h = ap (λ (u : State). is_open u.jobs job) (sym (fold-append (turn_step []) s round (times i round))) ∙ h
 
   -- so many rounds come first
   pub while_begins : (s : State) (n k : ℕ) → ((i : ℕ) → i < k → Open s i) → k ≤ n → (rest : List Turn) × (rounds_while round n s job ≡ times k round ++ rest)
@@ -56,7 +59,7 @@ module _ (round : List Turn) (job : ℕ) where
   while_is s (suc n) zero goes_on ended within = ap (λ b. cond b (round ++ rounds_while round n (after_turns s round) job) []) ended
   while_is s zero (suc k) goes_on ended within = absurd (omega (arith, within))
   while_is s (suc n) (suc k) goes_on ended within =
-      let rest = while_is (after_turns s round) n k (λ i less. next s i (goes_on (suc i) (omega (arith, less)))) (ap (λ (u : State). is_open u.jobs job) (sym (fold-append (step []) s round (times k round))) ∙ ended) (omega (arith, within)) in
+      let rest = while_is (after_turns s round) n k (λ i less. next s i (goes_on (suc i) (omega (arith, less)))) (ap (λ (u : State). is_open u.jobs job) (sym (fold-append (turn_step []) s round (times k round))) ∙ ended) (omega (arith, within)) in
       ap (λ b. cond b (round ++ rounds_while round n (after_turns s round) job) []) (goes_on 0 (omega arith)) ∙ ap (λ (x : List Turn). round ++ x) rest
 
 pub rounds_are : (s : State) (job k : ℕ) → IsFinish s job k → rounds_of s job ≡ times k (round_of s job)
@@ -81,11 +84,11 @@ last-told (x ∷ xs) ys r h = ap (λ (o : Option Reply). or_reply o x) (last-tol
 
 abbrev replies_along : State → List Turn → List (Turn × Reply)
 replies_along s [] = []
-replies_along s (t ∷ ts) = (t, reply_of s t) ∷ replies_along (step [] s t) ts
+replies_along s (t ∷ ts) = (t, reply_of s t) ∷ replies_along (turn_step [] s t) ts
 
 along-append : (s : State) (ts us : List Turn) → replies_along s (ts ++ us) ≡ replies_along s ts ++ replies_along (after_turns s ts) us
 along-append s [] us = refl
-along-append s (t ∷ ts) us = ap (λ (js : List (Turn × Reply)). (t, reply_of s t) ∷ js) (along-append (step [] s t) ts us)
+along-append s (t ∷ ts) us = ap (λ (js : List (Turn × Reply)). (t, reply_of s t) ∷ js) (along-append (turn_step [] s t) ts us)
 
 run_along : (r : Recorded) (xs : List (List Row × Turn)) → AsksNothing (turns_of xs) → (run_turns recorder r xs).journal ≡ r.journal ++ replies_along r.state (turns_of xs)
 run_along r [] none = sym (append-nil r.journal)
@@ -93,7 +96,7 @@ run_along r (x ∷ xs) none =
     let entry : Turn × Reply = (x.1, reply_of r.state x.1) in
     run_along (record_turn x.0 r x.1) xs (All-tail (λ u. asks u ≡ false) x.1 (turns_of xs) none)
     ∙ ap (λ (s : State). (r.journal ++ entry ∷ []) ++ replies_along s (turns_of xs)) (step-any x.0 r.state x.1 (All-head (λ u. asks u ≡ false) x.1 (turns_of xs) none))
-    ∙ append_assoc r.journal (entry ∷ []) (replies_along (step [] r.state x.1) (turns_of xs))
+    ∙ append_assoc r.journal (entry ∷ []) (replies_along (turn_step [] r.state x.1) (turns_of xs))
 
 held_along : (h : Held Recorded) (ts : List Turn) → AsksNothing ts → (held_run recorder h ts).state.journal ≡ h.state.journal ++ replies_along h.state.state ts
 held_along h [] none = sym (append-nil h.state.journal)
@@ -101,7 +104,7 @@ held_along h (t ∷ ts) none =
     let entry : Turn × Reply = (t, reply_of h.state.state t) in
     held_along (held_step recorder h t) ts (All-tail (λ u. asks u ≡ false) t ts none)
     ∙ ap (λ (s : State). (h.state.journal ++ entry ∷ []) ++ replies_along s ts) (step-any h.rows h.state.state t (All-head (λ u. asks u ≡ false) t ts none))
-    ∙ append_assoc h.state.journal (entry ∷ []) (replies_along (step [] h.state.state t) ts)
+    ∙ append_assoc h.state.journal (entry ∷ []) (replies_along (turn_step [] h.state.state t) ts)
 
 journal_along : (kept : Option (List Row)) (mid run : Recorded) (ts : List Turn) → AsksNothing ts → LeadsTo recorder kept mid ts run → run.journal ≡ mid.journal ++ replies_along mid.state ts
 journal_along None mid run ts none leads =
@@ -113,16 +116,16 @@ journal_along (Some rows) mid run ts none leads = ap (λ (r : Recorded). r.journ
 quiet : (s : State) (ts : List Turn) → All (λ t. is_commands t ≡ false) ts → last_reply (replies_along s ts) ≡ None
 quiet s [] all = refl
 quiet s (t ∷ ts) all =
-    ap (λ (o : Option Reply). or_reply o (t, reply_of s t)) (quiet (step [] s t) ts (All-tail (λ u. is_commands u ≡ false) t ts all))
+    ap (λ (o : Option Reply). or_reply o (t, reply_of s t)) (quiet (turn_step [] s t) ts (All-tail (λ u. is_commands u ≡ false) t ts all))
     ∙ ap (λ b. cond b (Some (reply_of s t)) None) (All-head (λ t. is_commands t ≡ false) t ts all)
 
 quiet-replicates : (servers : List ServerNo) → All (λ t. is_commands t ≡ false) (flat_map replicates servers)
 quiet-replicates [] = All-nil (λ t. is_commands t ≡ false)
-quiet-replicates (n ∷ ns) = All-cons (λ t. is_commands t ≡ false) (turn.Fetch n) (turn.Apply n ∷ flat_map replicates ns) refl (All-cons (λ t. is_commands t ≡ false) (turn.Apply n) (flat_map replicates ns) refl (quiet-replicates ns))
+quiet-replicates (n ∷ ns) = All-cons (λ t. is_commands t ≡ false) (turn.Step (step.Fetch n)) (turn.Step (step.Apply n) ∷ flat_map replicates ns) refl (All-cons (λ t. is_commands t ≡ false) (turn.Step (step.Apply n)) (flat_map replicates ns) refl (quiet-replicates ns))
 
 quiet-polls : (servers : List ServerNo) → All (λ t. is_commands t ≡ false) (flat_map polls servers)
 quiet-polls [] = All-nil (λ t. is_commands t ≡ false)
-quiet-polls (n ∷ ns) = All-cons (λ t. is_commands t ≡ false) (turn.PollRead 0 n) (turn.PollStore 0 ∷ flat_map polls ns) refl (All-cons (λ t. is_commands t ≡ false) (turn.PollStore 0) (flat_map polls ns) refl (quiet-polls ns))
+quiet-polls (n ∷ ns) = All-cons (λ t. is_commands t ≡ false) (turn.Act (act.PollRead 0 n)) (turn.Act (act.PollStore 0) ∷ flat_map polls ns) refl (All-cons (λ t. is_commands t ≡ false) (turn.Act (act.PollStore 0)) (flat_map polls ns) refl (quiet-polls ns))
 
 module _ (servers : List ServerNo) (job : ℕ) where
   abbrev round : List Turn
@@ -131,18 +134,18 @@ module _ (servers : List ServerNo) (job : ℕ) where
   abbrev others : List Turn
   others = flat_map replicates servers ++ flat_map polls servers
 
-  round-told : (s : State) → last_reply (replies_along s round) ≡ Some (reply_of s (turn.Job job))
+  round-told : (s : State) → last_reply (replies_along s round) ≡ Some (reply_of s (turn.Act (act.Job job)))
   round-told s =
-      ap (λ (o : Option Reply). or_reply o (turn.Job job, reply_of s (turn.Job job)))
-      (quiet (step [] s (turn.Job job)) others (All-append (λ t. is_commands t ≡ false) (flat_map replicates servers) (flat_map polls servers) (quiet-replicates servers) (quiet-polls servers)))
+      ap (λ (o : Option Reply). or_reply o (turn.Act (act.Job job), reply_of s (turn.Act (act.Job job))))
+      (quiet (turn_step [] s (turn.Act (act.Job job))) others (All-append (λ t. is_commands t ≡ false) (flat_map replicates servers) (flat_map polls servers) (quiet-replicates servers) (quiet-polls servers)))
 
   -- what the job answers in the last of some rounds
-  rounds-told : (k : ℕ) (s : State) → last_reply (replies_along s (times (suc k) round)) ≡ Some (reply_of (after_turns s (times k round)) (turn.Job job))
+  rounds-told : (k : ℕ) (s : State) → last_reply (replies_along s (times (suc k) round)) ≡ Some (reply_of (after_turns s (times k round)) (turn.Act (act.Job job)))
   rounds-told zero s = ap (λ us. last_reply (replies_along s us)) (append-nil round) ∙ round-told s
   rounds-told (suc k) s =
       ap last_reply (along-append s round (times (suc k) round))
       ∙ last-told (replies_along s round) (replies_along (after_turns s round) (times (suc k) round)) _ (rounds-told k (after_turns s round))
-      ∙ ap (λ (u : State). Some (reply_of u (turn.Job job))) (sym (fold-append (step []) s round (times k round)))
+      ∙ ap (λ (u : State). Some (reply_of u (turn.Act (act.Job job)))) (sym (fold-append (turn_step []) s round (times k round)))
 
 asks-times : (k : ℕ) (ts : List Turn) → AsksNothing ts → AsksNothing (times k ts)
 asks-times zero ts none = All-nil (λ t. asks t ≡ false)
@@ -174,7 +177,7 @@ module _ (from : Point) (reply : Reply) (job : ℕ) (begun : begun_by reply ≡ 
       at_end zero = ap last_reply (append-nil mid.journal) ∙ last
       at_end (suc j) =
           last-told mid.journal (replies_along mid.state (times (suc j) (round_of from.state job))) _ (rounds-told (by_name from.state.book.names) job j mid.state)
-          ∙ ap (λ (s : State). Some (reply_of (after_turns s (times j (round_of from.state job))) (turn.Job job))) at
+          ∙ ap (λ (s : State). Some (reply_of (after_turns s (times j (round_of from.state job))) (turn.Act (act.Job job)))) at
 
   -- the rounds of the job led to its end
   pub rounds_left : (to : Point) (told : Option Reply) → FinishedBy from.kept from.state job to.kept to.state told → ClosesEach from reply to (unwrap_or told reply)

@@ -7,11 +7,12 @@ use Rattle.std.proofs.Math.ListN.{get_or-append}
 use Rattle.std.proofs.Math.Seq.{get_or-append_seam, take-length}
 use Rattle.std.proofs.lemmas.Option.{get_or_from_slice_get, slice_get-get_or}
 use Rattle.orch_base.specs.Names.{HostPort}
-use Rattle.instance_keeper.specs.declared.row.Row.{Row}
+use Rattle.kept_rows.specs.declared.row.Row.{Row}
 use Rattle.commands.specs.declared.turn.CommandTurn.{CommandTurn}
 use Rattle.turns.specs.declared.turn.Turn.{Turn}
+use Rattle.turns.specs.declared.turn.Act.TheVariants as act
 use Rattle.turns.specs.declared.turn.Turn.TheVariants as turn
-use Rattle.turns.specs.declared.turn.Reply.{Reply}
+use Rattle.turns.specs.declared.reply.Reply.{Reply}
 use Rattle.orch_core.specs.declared.fault.TurnFault.{TurnFault}
 use Rattle.orch_core.specs.declared.fault.TurnFault.TheVariants as fault
 use Rattle.orch_core.specs.Keeping.{Calls, Ran, StepsTo, WasCutOff, kept_by}
@@ -56,7 +57,7 @@ refused_joins run state t r = list_any-append (λ e. is_refused e.1) run.journal
     last false = refl
 
 -- the last reply of a command is that of its turn, where it comes last
-pub last_is : (journal : List (Turn × Reply)) (c : CommandTurn) (r : Reply) → last_reply (journal ++ (turn.Command c, r) ∷ []) ≡ Some r
+pub last_is : (journal : List (Turn × Reply)) (c : CommandTurn) (r : Reply) → last_reply (journal ++ (turn.Act (act.Command c), r) ∷ []) ≡ Some r
 last_is [] c r = refl
 last_is (e ∷ es) c r = ap (λ (o : Option Reply). or_reply o e) (last_is es c r)
 
@@ -244,13 +245,13 @@ last_gave_up from mid kept ts t why ran same calls = at why calls
     at fault.Memory calls = record { k = length ts; within = omega (arith, within); run = run.run; ran = leads }
 
 -- the command's own turn was taken
-pub own_replies : (from mid to : Point) (ts : List Turn) (c : CommandTurn) (r : Reply) → Ran engine from.kept from.state ts mid.kept mid.state → StepsTo engine mid.kept mid.state (turn.Command c) to.state
-    → to.kept ≡ kept_by engine true mid.kept mid.state (turn.Command c) → r ≡ reply_of mid.state (turn.Command c) → Replies from (ts ++ turn.Command c ∷ []) to r
+pub own_replies : (from mid to : Point) (ts : List Turn) (c : CommandTurn) (r : Reply) → Ran engine from.kept from.state ts mid.kept mid.state → StepsTo engine mid.kept mid.state (turn.Act (act.Command c)) to.state
+    → to.kept ≡ kept_by engine true mid.kept mid.state (turn.Act (act.Command c)) → r ≡ reply_of mid.state (turn.Act (act.Command c)) → Replies from (ts ++ turn.Act (act.Command c) ∷ []) to r
 own_replies from mid to ts c r ran steps keeps replied =
     let run = recorded from.kept mid.kept from.state mid.state ts ran in
     record {
-      run = record { state = to.state; journal = run.run.journal ++ (turn.Command c, r) ∷ [] };
-      ran = next_leads from mid to ts run.run (turn.Command c) r run.ran run.state steps keeps replied;
+      run = record { state = to.state; journal = run.run.journal ++ (turn.Act (act.Command c), r) ∷ [] };
+      ran = next_leads from mid to ts run.run (turn.Act (act.Command c)) r run.ran run.state steps keeps replied;
       state = refl;
       last = last_is run.run.journal c r;
     }

@@ -4,12 +4,12 @@ use Rattle.std.proofs.lemmas.List.{append-nil, take-append-drop, take-append-le}
 use Rattle.std.proofs.Math.Seq.{take-append-add}
 use Rattle.std.proofs.lemmas.List.Sums.{fold-append}
 use Rattle.orch_base.specs.Names.{HostPort}
-use Rattle.instance_keeper.specs.declared.row.Row.{Row}
-use Rattle.instance_keeper.specs.Rows.{changed}
+use Rattle.kept_rows.specs.declared.row.Row.{Row}
+use Rattle.kept_rows.specs.Rows.{changed}
 use Rattle.scenarios.specs.declared.scenario.Scenario.{Scenario}
 use Rattle.scenarios.specs.Scenarios.{names_of}
 use Rattle.turns.specs.declared.turn.Turn.{Turn}
-use Rattle.turns.specs.declared.turn.Reply.{Reply}
+use Rattle.turns.specs.declared.reply.Reply.{Reply}
 use Rattle.orch_core.specs.Keeping.{Ran}
 use Rattle.orch_core.specs.Replies.{reply_of}
 use Rattle.orch_core.specs.Runs.{Held, Recorded, held_run, held_step, recorder}

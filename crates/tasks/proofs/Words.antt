@@ -14,6 +14,7 @@ use Rattle.commands.specs.Names.{name_of, needs_of, nothing, uses_of}
 use Rattle.commands.specs.Turns.{is_there, is_within}
 use Rattle.commands.proofs.Needed.{needed-used}
 use Rattle.cluster_filters.specs.Patterns.{is_found, is_pattern}
+use Rattle.command_routes.specs.Routes.{is_built_found, is_built_name}
 use Rattle.command_line.specs.Commands.{needs_at}
 use Rattle.command_line.specs.Taken.{AreTaken, are_there}
 use Rattle.command_line.specs.declared.parts.Places.{Places}
@@ -148,11 +149,12 @@ covers-each c =
       pattern = or_not (uses_of c).pattern (needs_of c).pattern last.1;
     }
 
-module _ (p : Places) (names : List HostPort) (c : CommandName) (words : AreTaken p) (has : GivesNeeded p c) where
+module _ (p : Places) (names : List HostPort) (c : CommandName) (words : AreTaken p) (built : is_built_name c ≡ true) (has : GivesNeeded p c) where
   is_turn : (i d : Option ServerNo) → server_given names (used (uses_of c).i p.i) ≡ Some i → server_given names (used (uses_of c).d p.d) ≡ Some d → IsCommand (length names) (turn_for p names c i d)
   is_turn i d at_i at_d =
       let covered = covers-each c in
       record {
+        built = built;
         fits = all_true _ _ _ _ _ _
             (there (needs_of c).i i (λ needed. given-there names (used (uses_of c).i p.i) i (used-there (uses_of c).i p.i (covered.i needed) (has.i needed)) at_i))
             (there (needs_of c).d d (λ needed. given-there names (used (uses_of c).d p.d) d (used-there (uses_of c).d p.d (covered.d needed) (has.d needed)) at_d))
@@ -171,15 +173,15 @@ module _ (p : Places) (names : List HostPort) (c : CommandName) (words : AreTake
   is_asked_about (Some i) None at_i at_d = tt
   is_asked_about (Some i) (Some d) at_i at_d = is_turn i d at_i at_d
 
-is_asked_named : (p : Places) (names : List HostPort) (o : Option CommandName) → AreTaken p → is_some o ≡ true → are_there (option_map_or needs_of o nothing) p ≡ true → IsAsked (length names) (asked_named p names o)
+is_asked_named : (p : Places) (names : List HostPort) (o : Option CommandName) → AreTaken p → is_built_found o ≡ true → are_there (option_map_or needs_of o nothing) p ≡ true → IsAsked (length names) (asked_named p names o)
 is_asked_named p names None words built there = cc
-is_asked_named p names (Some c) words built there = is_asked_about p names c words (needed_given p c there) _ _ refl refl
+is_asked_named p names (Some c) words built there = is_asked_about p names c words built (needed_given p c there) _ _ refl refl
 
 asked_at : (p : Places) (names : List HostPort) → AreTaken p → IsAsked (length names) (asked_of p names)
 unfolding asked_of needs_at
 asked_at p names words = go (bytes_eq p.command (codes "run")) words.built
   where
-    go : (run : Bool) → (run || is_some (name_of p.command)) ≡ true → IsAsked (length names) (cond run asked.Run (asked_named p names (name_of p.command)))
+    go : (run : Bool) → (run || is_built_found (name_of p.command)) ≡ true → IsAsked (length names) (cond run asked.Run (asked_named p names (name_of p.command)))
     go true built = tt
     go false built = is_asked_named p names (name_of p.command) words built words.needs
 

@@ -11,6 +11,7 @@ use Rattle.command_line.specs.declared.parts.Places.{Places}
 use Rattle.command_line.specs.Places.{places_of}
 use Rattle.scenarios.specs.Turns.{IsCommand}
 use Rattle.turns.specs.declared.turn.Turn.{Turn}
+use Rattle.turns.specs.declared.turn.Act.TheVariants as act
 use Rattle.turns.specs.declared.turn.Turn.TheVariants as turn
 use Rattle.scenario_turns.specs.Found.{found_of}
 use Rattle.tasks.specs.declared.asked.Asked.{Asked}
@@ -68,7 +69,7 @@ asked_of p names = if bytes_eq p.command (codes "run") then asked.Run else asked
 -- the turns that are taken for it behind the scenario's
 abbrev pub own_turns : Asked → List Turn
 own_turns asked.Run = []
-own_turns (asked.Turn t) = turn.Command t ∷ []
+own_turns (asked.Turn t) = turn.Act (act.Command t) ∷ []
 own_turns asked.Unknown = []
 own_turns asked.Nothing = []
 

@@ -1,8 +1,8 @@
 -- What is taken behind a single command's own turn: the rounds of the job that it began.
 use Rattle.std.specs.Prelude.{ℕ, zero, suc, List, [], ◌++◌, if◌then◌else◌, Option, Some, None}
 use Rattle.std.specs.Option.{option_and_then}
-use Rattle.turns.specs.declared.turn.Reply.{Reply}
-use Rattle.turns.specs.declared.turn.Reply.TheVariants as answered
+use Rattle.turns.specs.declared.reply.Reply.{Reply}
+use Rattle.turns.specs.declared.reply.Reply.TheVariants as answered
 use Rattle.turns.specs.declared.turn.Turn.{Turn}
 use Rattle.jobs_in_flight.specs.Jobs.{is_open, most_turns}
 use Rattle.orch_core.specs.Rounds.{after_turns, round_of}
@@ -29,6 +29,7 @@ begun_by (answered.Fetch a) = None
 begun_by (answered.Apply a) = None
 begun_by answered.Done = None
 begun_by (answered.Rotate a) = None
+begun_by (answered.Purge a) = None
 begun_by (answered.Now t) = None
 begun_by (answered.Read n) = None
 begun_by (answered.ReadUnreachable n) = None
@@ -41,6 +42,11 @@ begun_by (answered.Refused r) = None
 begun_by answered.Going = None
 begun_by (answered.Failed cause) = None
 begun_by answered.NoJob = None
+begun_by (answered.Held until) = None
+begun_by (answered.Taken node until) = None
+begun_by answered.Released = None
+begun_by answered.NotHeld = None
+begun_by answered.Lapsed = None
 
 -- the job that the command's own turn began, which comes last in this run
 abbrev pub own_job : Asked → Recorded → Option ℕ

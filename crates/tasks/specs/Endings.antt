@@ -1,6 +1,6 @@
 -- How a task ends, and what has been written and kept then.
 use Rattle.std.specs.Prelude.{◌≡◌, ℕ, ◌≤◌, ◌⊎◌, Bool, List, [], length, take, Option}
-use Rattle.instance_keeper.specs.declared.row.Row.{Row}
+use Rattle.kept_rows.specs.declared.row.Row.{Row}
 use Rattle.orch_base.specs.Causes.{Rose}
 use Rattle.orch_base.specs.Names.{HostPort}
 use Rattle.scenarios.specs.Scenarios.{names_of}

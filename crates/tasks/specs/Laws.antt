@@ -1,6 +1,6 @@
 -- Laws of tasks.
 use Rattle.std.specs.Prelude.{◌≡◌, ℕ, List, Option, Some, length}
-use Rattle.instance_keeper.specs.declared.row.Row.{Row}
+use Rattle.kept_rows.specs.declared.row.Row.{Row}
 use Rattle.orch_base.specs.Names.{HostPort}
 use Rattle.orch_core.specs.Runs.{Recorded}
 use Rattle.command_line.specs.declared.parts.Places.{Places}

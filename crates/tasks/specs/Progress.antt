@@ -1,8 +1,8 @@
 -- A run's report on its way, turn by turn.
 use Rattle.std.specs.Prelude.{◌≡◌, ℕ, ◌<◌, ◌≤◌, ◌||◌, ◌⊎◌, List, [], false, length, take, slice_get, Option, Some}
 use Rattle.orch_base.specs.Names.{HostPort}
-use Rattle.instance_keeper.specs.declared.row.Row.{Row}
-use Rattle.turns.specs.declared.turn.Reply.{Reply}
+use Rattle.kept_rows.specs.declared.row.Row.{Row}
+use Rattle.turns.specs.declared.reply.Reply.{Reply}
 use Rattle.turns.specs.declared.turn.Turn.{Turn}
 use Rattle.orch_core.specs.declared.fault.TurnFault.{TurnFault}
 use Rattle.orch_core.specs.declared.fault.TurnFault.TheVariants as fault

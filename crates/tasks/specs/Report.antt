@@ -4,9 +4,11 @@ use Rattle.std.specs.List.{list_any}
 use Rattle.orch_base.specs.Names.{HostPort}
 use Rattle.audit_lines.specs.Lines.{recovery_lines}
 use Rattle.commands.specs.declared.refusal.Refusal.TheVariants.{UnknownInstance}
-use Rattle.turns.specs.declared.turn.Reply.{Reply}
-use Rattle.turns.specs.declared.turn.Reply.TheVariants as answered
+use Rattle.turns.specs.declared.reply.Reply.{Reply}
+use Rattle.turns.specs.declared.reply.Reply.TheVariants as answered
 use Rattle.turns.specs.declared.turn.Turn.{Turn}
+use Rattle.turns.specs.declared.turn.Act.{Act}
+use Rattle.turns.specs.declared.turn.Act.TheVariants as act
 use Rattle.turns.specs.declared.turn.Turn.TheVariants as turn
 use Rattle.orch_core.specs.Runs.{Recorded}
 use Rattle.orch_core.specs.States.{State}
@@ -44,6 +46,7 @@ is_refused (answered.Fetch a) = false
 is_refused (answered.Apply a) = false
 is_refused answered.Done = false
 is_refused (answered.Rotate a) = false
+is_refused (answered.Purge a) = false
 is_refused (answered.Now t) = false
 is_refused (answered.Read n) = false
 is_refused (answered.ReadUnreachable n) = false
@@ -55,6 +58,11 @@ is_refused (answered.Told lines) = false
 is_refused (answered.Begun job) = false
 is_refused answered.Going = false
 is_refused answered.NoJob = false
+is_refused (answered.Held until) = false
+is_refused (answered.Taken node until) = false
+is_refused answered.Released = false
+is_refused answered.NotHeld = false
+is_refused answered.Lapsed = false
 
 unfoldable pub any_refused : Recorded → Bool
 any_refused run = list_any (λ e. is_refused e.1) run.journal
@@ -73,22 +81,21 @@ told_answer tables names s r = record {
 
 -- ---- a command's own reply: that of the last turn that is a command or a job's
 
+abbrev pub is_commands_act : Act → Bool
+is_commands_act (act.PollRead p n) = false
+is_commands_act (act.PollStore p) = false
+is_commands_act (act.Command c) = true
+is_commands_act (act.Job job) = true
+is_commands_act act.Scan = false
+is_commands_act act.Restart = false
+
 abbrev pub is_commands : Turn → Bool
-is_commands (turn.Command c) = true
-is_commands (turn.Job job) = true
-is_commands (turn.Write n size) = false
-is_commands (turn.Fetch n) = false
-is_commands (turn.Apply n) = false
-is_commands (turn.Fail n) = false
-is_commands (turn.Heal n) = false
-is_commands (turn.Cut n link) = false
-is_commands (turn.Join n link) = false
-is_commands (turn.Rotate n) = false
+is_commands (turn.Step x) = false
 is_commands (turn.Tick seconds) = false
-is_commands turn.Scan = false
-is_commands (turn.PollRead p n) = false
-is_commands (turn.PollStore p) = false
-is_commands turn.Restart = false
+is_commands (turn.Act a) = is_commands_act a
+is_commands (turn.As node a) = is_commands_act a
+is_commands (turn.Claim node) = false
+is_commands (turn.Release node) = false
 
 -- the reply of this turn, unless a later one has one
 abbrev pub or_reply : Option Reply → Turn × Reply → Option Reply

@@ -1,11 +1,12 @@
 -- What the turns of a task are over, and what its report comes to by what is asked.
 use Rattle.std.specs.Prelude.{◌≡◌, ◌∷◌, ◌++◌, Bool, List, [], All, Option, length}
 use Rattle.commands.specs.declared.turn.CommandTurn.{CommandTurn}
-use Rattle.instance_keeper.specs.declared.row.Row.{Row}
+use Rattle.kept_rows.specs.declared.row.Row.{Row}
 use Rattle.orch_base.specs.Names.{HostPort}
 use Rattle.orch_core.specs.States.{State}
 use Rattle.scenarios.specs.Turns.{IsCommand, IsTurn}
 use Rattle.turns.specs.declared.turn.Turn.{Turn}
+use Rattle.turns.specs.declared.turn.Act.TheVariants as act
 use Rattle.turns.specs.declared.turn.Turn.TheVariants as turn
 use Rattle.tasks.specs.declared.asked.Asked.TheVariants as asked
 use Rattle.tasks.specs.declared.asked.Task.{Task}
@@ -23,7 +24,7 @@ IsCommandIn s c = IsCommand (length s.world.servers) c
 
 -- a command's own turn behind a scenario's
 abbrev pub with_own : List Turn → CommandTurn → List Turn
-with_own ts own = ts ++ turn.Command own ∷ []
+with_own ts own = ts ++ turn.Act (act.Command own) ∷ []
 
 -- ---- reports from a point on
 

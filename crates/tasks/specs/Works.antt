@@ -1,6 +1,6 @@
 -- Runs of tasks over scenarios, by what the keeper hands back.
 use Rattle.std.specs.Prelude.{◌≡◌, ℕ, ◌<◌, true, List, length, take, slice_get, Option, Some}
-use Rattle.instance_keeper.specs.declared.row.Row.{Row}
+use Rattle.kept_rows.specs.declared.row.Row.{Row}
 use Rattle.scenarios.specs.declared.scenario.Scenario.{Scenario}
 use Rattle.turns.specs.declared.turn.Turn.{Turn}
 use Rattle.orch_core.specs.Keeping.{Calls, Ran}

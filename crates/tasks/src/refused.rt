@@ -16,6 +16,7 @@ pub(crate) fn is_refused(reply: &Reply) -> bool
         | Reply::Apply(_)
         | Reply::Done
         | Reply::Rotate(_)
+        | Reply::Purge(_)
         | Reply::Now(_)
         | Reply::Read(_)
         | Reply::ReadUnreachable(_)
@@ -26,6 +27,11 @@ pub(crate) fn is_refused(reply: &Reply) -> bool
         | Reply::Told(_)
         | Reply::Begun(_)
         | Reply::Going
-        | Reply::NoJob => false,
+        | Reply::NoJob
+        | Reply::Held(_)
+        | Reply::Taken { .. }
+        | Reply::Released
+        | Reply::NotHeld
+        | Reply::Lapsed => false,
     }
 }

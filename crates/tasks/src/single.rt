@@ -19,7 +19,7 @@ use orch_base::{Memory, Name, Sink, write_all};
 use orch_core::{Engine, TurnFault};
 use report_text::plain_text;
 use std::alloc::Global;
-use turns::{BoxedCommand, Reply, Turn};
+use turns::{Act, BoxedCommand, Reply, Turn};
 
 // What out and err are to take, and whether the reply is refused or failed.
 #[derive(Drop)]
@@ -121,7 +121,7 @@ fn own_reply<K: Keeper>(
     ensures cause { HasTurnCause (K.faults keeper.old) (K.faults keeper.new) result }
 {
     engine.run(alloc, keeper, turns)?;
-    let own = Turn::Command(own.copy(alloc)?);
+    let own = Turn::Act(Act::Command(own.copy(alloc)?));
     let reply = engine.turn(alloc, keeper, &own)?;
     Ok(reply)
 }
@@ -137,6 +137,7 @@ fn begun_by(reply: &Reply) -> Option<u64>
         | Reply::Apply(_)
         | Reply::Done
         | Reply::Rotate(_)
+        | Reply::Purge(_)
         | Reply::Now(_)
         | Reply::Read(_)
         | Reply::ReadUnreachable(_)
@@ -148,7 +149,12 @@ fn begun_by(reply: &Reply) -> Option<u64>
         | Reply::Refused(_)
         | Reply::Going
         | Reply::Failed(_)
-        | Reply::NoJob => None,
+        | Reply::NoJob
+        | Reply::Held(_)
+        | Reply::Taken { .. }
+        | Reply::Released
+        | Reply::NotHeld
+        | Reply::Lapsed => None,
     }
 }
 

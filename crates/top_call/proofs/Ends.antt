@@ -4,7 +4,7 @@ use Rattle.std.specs.Prelude.{IfSome, codes, Result, ⊤}
 use Rattle.orch_base.specs.Causes.{Rose}
 use Rattle.orch_base.specs.Gives.{Gives}
 use Rattle.orch_base.specs.Names.{HostPort}
-use Rattle.instance_keeper.specs.declared.row.Row.{Row}
+use Rattle.kept_rows.specs.declared.row.Row.{Row}
 use Rattle.scenarios.specs.declared.scenario.Scenario.{Scenario}
 use Rattle.scenarios.specs.Scenarios.{names_of}
 use Rattle.scenario_values.specs.declared.fault.Fault.{Fault}

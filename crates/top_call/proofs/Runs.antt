@@ -5,7 +5,7 @@ use Rattle.std.specs.Prelude.{IfSome, All}
 use Rattle.std.proofs.Math.Seq.{take-length}
 use Rattle.std.proofs.lemmas.List.{length-map}
 use Rattle.std.proofs.lemmas.List.Elements.{All-append, All-cons, All-nil, All-take}
-use Rattle.instance_keeper.specs.declared.row.Row.{Row}
+use Rattle.kept_rows.specs.declared.row.Row.{Row}
 use Rattle.commands.specs.declared.line.Line.{Line}
 use Rattle.command_line.specs.declared.parts.Places.{Places}
 use Rattle.command_line.specs.Places.{places_of}
@@ -14,16 +14,17 @@ use Rattle.orch_base.specs.declared.server.ServerNo.{ServerNo}
 use Rattle.name_order.specs.NameOrder.{by_name}
 use Rattle.name_order.proofs.Arranged.{by_name-within}
 use Rattle.scenarios.specs.declared.scenario.Scenario.{Scenario}
-use Rattle.scenarios.specs.Scenarios.{IsScenario, names_of}
+use Rattle.scenarios.specs.Scenarios.{IsScenario, names_of, period_of}
 use Rattle.scenarios.specs.Turns.{IsTurn}
 use Rattle.turns.specs.declared.turn.Turn.{Turn}
+use Rattle.turns.specs.declared.turn.Act.TheVariants as act
 use Rattle.turns.specs.declared.turn.Turn.TheVariants as turn
 use Rattle.jobs_in_flight.specs.Jobs.{is_open, job_at, most_turns}
 use Rattle.orch_core.specs.Keeping.{Ran}
 use Rattle.orch_core.specs.Rounds.{after_turns, round_of}
 use Rattle.orch_core.proofs.Finishing.{Ran-append, turns-round}
 use Rattle.orch_core.specs.Runs.{Held, LeadsTo, Recorded, engine, held_run, held_step, recorder, record_turn, run_turns, turns_of}
-use Rattle.instance_keeper.specs.Rows.{changed}
+use Rattle.kept_rows.specs.Rows.{changed}
 use Rattle.orch_core.specs.Scenarios.{StartsBy, kept_at_start, start, start_changes, without_turns}
 use Rattle.orch_core.specs.States.{State}
 use Rattle.run_laws.specs.Ready.{Ready}
@@ -32,7 +33,7 @@ use Rattle.run_laws.specs.BegunJobs.{BegunJob, begun_of}
 use Rattle.run_laws.specs.Runs.{ComesTo}
 use Rattle.run_laws.proofs.Counting.{apart-comes}
 use Rattle.run_laws.proofs.Entries.{more-after}
-use Rattle.run_laws.proofs.Parts.{apart-by-scenario}
+use Rattle.run_laws.proofs.Parts.{apart-in-turn, periods-in-turn}
 use Rattle.run_laws.proofs.Permissions.{answers_by_table, begun_joins, begun_kept, begun_leased, begun_logged, begun_number, begun_there, refused_changes_nothing}
 use Rattle.recovery_plans.specs.Recoveries.{Recovery}
 use Rattle.recovery_runs.proofs.Tending.{began-comes, finish-comes, lost-next}
@@ -56,7 +57,7 @@ use Rattle.top_call.specs.Runs.{BeginApart, BeginsApart, Finishes, FinishWell, I
 own_taken : (count : ℕ) (a : Asked) → IsAsked count a → All (IsTurn count) (own_turns a)
 own_taken count asked.Run is = All-nil (IsTurn count)
 own_taken count asked.Unknown is = All-nil (IsTurn count)
-own_taken count (asked.Turn t) is = All-cons (IsTurn count) (turn.Command t) [] is (All-nil (IsTurn count))
+own_taken count (asked.Turn t) is = All-cons (IsTurn count) (turn.Act (act.Command t)) [] is (All-nil (IsTurn count))
 own_taken count asked.Nothing is = absurd is
 
 -- the task of words that are taken has a turn over the servers
@@ -126,8 +127,8 @@ module _ (w : Work) (ts : List Turn) (kept : Option (List Row)) (run : Recorded)
   ready : Ready (length w.scenario.opening.servers) run.state
   ready = goes.ready
 
-  begins : (rows : List Row) (t : Turn) → BeginsApart w.scenario.block rows run.state t
-  begins rows t = record { apart = apart-by-scenario w.scenario found.xs run.state t comes_to; all = more-after rows run.state t }
+  begins : (rows : List Row) (t : Turn) → BeginsApart (period_of w.scenario) rows run.state t
+  begins rows t = record { apart = apart-in-turn w.scenario found.xs run.state t comes_to; periods = periods-in-turn w.scenario found.xs run.state t comes_to; all = more-after rows run.state t }
 
   finishes : (rows : List Row) (id : ℕ) (r : Recovery) (entry : Option ℕ) (lines : List Line) → IsFinish run.state id r entry lines → Finishes w ts rows run.state id r entry lines
   unfolding comes_to
@@ -202,7 +203,7 @@ safe_run words (Some bytes) = λ w run is on. on_each words bytes w run is (IsSa
 pub begin_apart : (words : List (List ℕ)) (left : Option (List ℕ)) → IfSome left (λ bytes. BeginApart words bytes)
 begin_apart words None = tt
 begin_apart words (Some bytes) = λ w run rows t is on.
-    on_each words bytes w run is (BeginsApart w.scenario.block rows run.state t) (λ ts kept scenario all comes. begins w ts kept run scenario all comes rows t) on
+    on_each words bytes w run is (BeginsApart (period_of w.scenario) rows run.state t) (λ ts kept scenario all comes. begins w ts kept run scenario all comes rows t) on
 
 pub finish_well : (words : List (List ℕ)) (left : Option (List ℕ)) → IfSome left (λ bytes. FinishWell words bytes)
 finish_well words None = tt

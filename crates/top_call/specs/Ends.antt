@@ -1,6 +1,6 @@
 -- How a call ends.
 use Rattle.std.specs.Prelude.{◌≡◌, ℕ, ◌≤◌, ◌⊎◌, ⊤, Bool, List, [], codes, if◌then◌else◌, IfSome, Option, Result, Ok, Err}
-use Rattle.instance_keeper.specs.declared.row.Row.{Row}
+use Rattle.kept_rows.specs.declared.row.Row.{Row}
 use Rattle.orch_base.specs.Causes.{Rose}
 use Rattle.scenarios.specs.declared.scenario.Scenario.{Scenario}
 use Rattle.scenarios.specs.Scenarios.{names_of}

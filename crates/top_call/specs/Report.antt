@@ -1,7 +1,7 @@
 -- The report of a call where the keeper tells its rows: a function of the words, the bytes of the scenario and the kept
 -- rows.
 use Rattle.std.specs.Prelude.{◌≡◌, ℕ, ◌⊎◌, ◌++◌, ◌≤◌, Bool, List, [], codes, if◌then◌else◌, length, take, IfSome, Option, Some, Result, Ok, Err}
-use Rattle.instance_keeper.specs.declared.row.Row.{Row}
+use Rattle.kept_rows.specs.declared.row.Row.{Row}
 use Rattle.scenarios.specs.declared.scenario.Scenario.{Scenario}
 use Rattle.scenarios.specs.Scenarios.{names_of}
 use Rattle.scenario_values.specs.declared.fault.Fault.{Fault}

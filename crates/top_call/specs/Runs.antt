@@ -1,7 +1,7 @@
 -- What holds of each run of the turns that words take over the scenario that bytes are, whatever rows the keeper hands
 -- back: of the run of a call's report, too.
-use Rattle.std.specs.Prelude.{◌≡◌, ℕ, ◌+◌, Bool, false, List, [], ◌∷◌, ◌++◌, length, slice_get, take, ◌⊎◌, Option, Some}
-use Rattle.instance_keeper.specs.declared.row.Row.{Row}
+use Rattle.std.specs.Prelude.{All, ◌≡◌, ℕ, ◌+◌, Bool, false, List, [], ◌∷◌, ◌++◌, length, slice_get, take, ◌⊎◌, Option, Some}
+use Rattle.kept_rows.specs.declared.row.Row.{Row}
 use Rattle.server_model.specs.Safe.{Safe, Placed, IsQuiet}
 use Rattle.audit_log.specs.Apart.{IsApart}
 use Rattle.run_laws.specs.Begins.{BeginApartInTurn}
@@ -11,8 +11,10 @@ use Rattle.commands.specs.declared.line.Lost.{Lost}
 use Rattle.commands.specs.declared.refusal.Refusal.{Refusal}
 use Rattle.commands.specs.declared.turn.CommandTurn.{CommandTurn}
 use Rattle.scenarios.specs.declared.scenario.Scenario.{Scenario}
-use Rattle.turns.specs.declared.turn.Reply.TheVariants as answered
+use Rattle.scenarios.specs.Scenarios.{period_of}
+use Rattle.turns.specs.declared.reply.Reply.TheVariants as answered
 use Rattle.turns.specs.declared.turn.Turn.{Turn}
+use Rattle.turns.specs.declared.turn.Act.TheVariants as act
 use Rattle.turns.specs.declared.turn.Turn.TheVariants as turn
 use Rattle.recovery_runs.specs.Finishes.{IsFinish, recovery_after}
 use Rattle.recovery_runs.specs.Losses.{ExplainsTurn}
@@ -26,7 +28,8 @@ use Rattle.orch_core.specs.Keeping.{asks}
 use Rattle.orch_core.specs.Permission.{IsAnswer, refusal_at}
 use Rattle.orch_core.specs.Polls.{changes_of}
 use Rattle.orch_core.specs.Replies.{reply_of}
-use Rattle.orch_core.specs.Runs.{Recorded, engine, run_turns, step, turns_of}
+use Rattle.orch_core.specs.After.{step}
+use Rattle.orch_core.specs.Runs.{Recorded, engine, run_turns, turns_of}
 use Rattle.orch_core.specs.Scenarios.{start}
 use Rattle.orch_core.specs.States.{State}
 use Rattle.orch_base.specs.declared.server.ServerNo.{ServerNo}
@@ -64,36 +67,37 @@ pub record Begins (rows : List Row) (s : State) (c : CommandTurn) (job : ℕ) : 
   pub begun : BegunJob
   pub is_begun : begun_of s c.command ≡ Some begun
   pub number : job ≡ s.last_job + 1
-  pub joins : (step rows s (turn.Command c)).jobs ≡ s.jobs ++ begun.job ∷ []
-  pub leases : (step rows s (turn.Command c)).book.leases ≡ taken s.book.leases begun.list (s.last_job + 1)
-  pub audit : (step rows s (turn.Command c)).audit ≡ with_entry s.audit begun.entry
-  pub kept : changes_of rows s (turn.Command c) ≡ entry_kept begun.entry
+  pub joins : (step rows s (turn.Act (act.Command c))).jobs ≡ s.jobs ++ begun.job ∷ []
+  pub leases : (step rows s (turn.Act (act.Command c))).book.leases ≡ taken s.book.leases begun.list (s.last_job + 1)
+  pub audit : (step rows s (turn.Act (act.Command c))).audit ≡ with_entry s.audit begun.entry
+  pub kept : changes_of rows s (turn.Act (act.Command c)) ≡ entry_kept begun.entry
 
 -- a command turn is refused exactly with the refusal of the permission table, else it begins its job or is done; a
 -- refused one changes nothing, and no kept row
 pub record Obeys (rows : List Row) (s : State) (c : CommandTurn) : Type 0 where
-  pub answer : IsAnswer (route_of c.command.name) (refusal_at s c.command) (reply_of s (turn.Command c))
-  pub refused : (r : Refusal) → reply_of s (turn.Command c) ≡ answered.Refused r
-      → (changes_of rows s (turn.Command c) ≡ []) × (step rows s (turn.Command c) ≡ s)
-  pub begun : (job : ℕ) → reply_of s (turn.Command c) ≡ answered.Begun job → Begins rows s c job
+  pub answer : IsAnswer (route_of c.command.name) (refusal_at s c.command) (reply_of s (turn.Act (act.Command c)))
+  pub refused : (r : Refusal) → reply_of s (turn.Act (act.Command c)) ≡ answered.Refused r
+      → (changes_of rows s (turn.Act (act.Command c)) ≡ []) × (step rows s (turn.Act (act.Command c)) ≡ s)
+  pub begun : (job : ℕ) → reply_of s (turn.Act (act.Command c)) ≡ answered.Begun job → Begins rows s c job
 
 -- so each command turn does, in the state before it; rounds have none
 abbrev pub ObeysTable : List (List ℕ) → List ℕ → Type 0
 ObeysTable words bytes = (w : Work) (k : ℕ) (kept : Option (List Row)) (run : Recorded) (rows : List Row) (c : CommandTurn) → IsTask words bytes w → Comes w (take k (turns_in w)) kept run
-    → slice_get (turns_in w) k ≡ Some (turn.Command c) → Obeys rows run.state c
+    → slice_get (turns_in w) k ≡ Some (turn.Act (act.Command c)) → Obeys rows run.state c
 
 -- ---- recoveries that begin
 
--- Each recovery that a turn begins, by a command or by a scan, is apart by the block period: of its cluster, with those
--- that the turn began before it, each is ended, and is acknowledged or as old as the period. But for a restart, which
--- loads the kept rows, a turn adds no other recovery, and drops none.
-pub record BeginsApart (block : ℕ) (rows : List Row) (s : State) (t : Turn) : Type 0 where
-  pub apart : BeginApartInTurn block (moment_at s) s.audit (entries_begun s t)
+-- Each recovery that a turn begins, by a command or by a scan, is apart: of its cluster, with those that the turn began
+-- before it, each is ended, and is acknowledged or began at least its own block period ago. It has its cluster's
+-- period. But for a restart, which loads the kept rows, a turn adds no other recovery, and drops none.
+pub record BeginsApart (period : List ℕ → ℕ) (rows : List Row) (s : State) (t : Turn) : Type 0 where
+  pub apart : BeginApartInTurn (moment_at s) s.audit (entries_begun s t)
+  pub periods : All (λ r. r.block ≡ period r.cluster) (entries_begun s t)
   pub all : asks t ≡ false → HasMore s.audit (entries_begun s t) (step rows s t).audit
 
--- so any turn would in every state of the run, by the scenario's block period
+-- so any turn would in every state of the run, by the scenario's block periods
 abbrev pub BeginApart : List (List ℕ) → List ℕ → Type 0
-BeginApart words bytes = (w : Work) (run : Recorded) (rows : List Row) (t : Turn) → IsTask words bytes w → IsOn (course_of w) run → BeginsApart w.scenario.block rows run.state t
+BeginApart words bytes = (w : Work) (run : Recorded) (rows : List Row) (t : Turn) → IsTask words bytes w → IsOn (course_of w) run → BeginsApart (period_of w.scenario) rows run.state t
 
 -- ---- recoveries that are done
 
@@ -136,7 +140,7 @@ FinishWell words bytes = (w : Work) (run : Recorded) (ts : List Turn) (rows : Li
 pub record LosesTruly (w : Work) (ts : List Turn) (s : State) (id : ℕ) (r : Recovery) (entry : Option ℕ) : Type 0 where
   pub through : Through w.scenario w.task.waits ts s
   pub began : Began (start w.scenario w.task.waits through.rows) through.xs r entry
-  pub lost : (P : ServerNo → Lost → Bool) → ExplainsAlong P id (start w.scenario w.task.waits through.rows) through.xs → ExplainsTurn P id s (turn.Job id) → AllLost P (recovery_after s r).outcome.lost
+  pub lost : (P : ServerNo → Lost → Bool) → ExplainsAlong P id (start w.scenario w.task.waits through.rows) through.xs → ExplainsTurn P id s (turn.Act (act.Job id)) → AllLost P (recovery_after s r).outcome.lost
 
 -- so each does, in the scenario's turns and in the rounds
 abbrev pub LoseTruly : List (List ℕ) → List ℕ → Type 0

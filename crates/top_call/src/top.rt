@@ -238,8 +238,8 @@ pub fn orch<S: Source, O: Sink, E: Sink, K: Keeper>(
     ensures commands { IfSome (S.left scenario.old)
         (λ bytes. ObeysTable (map (λ w. w.items) words.now) bytes) }
 
-    // In every such state recoveries begin apart by the scenario's block period, and one that is done, by whatever
-    // turns it came so far, leaves each replica that the book had attached to the failed server when it began promoted,
+    // In every such state recoveries begin apart by their block periods, and one that is done, by whatever turns it
+    // came so far, leaves each replica that the book had attached to the failed server when it began promoted,
     // following or lost for a true reason.
     ensures begins { IfSome (S.left scenario.old)
         (λ bytes. BeginApart (map (λ w. w.items) words.now) bytes) }

@@ -2,7 +2,7 @@
 
 use binlog_coords::Coord;
 use gtid_sets::GtidSet;
-use instance_keeper::{Candidate, Downtime, Instance, Keeper, MemKeeper, Recovery, Row, Seen};
+use instance_keeper::{Candidate, Downtime, Instance, Keeper, MemKeeper, RecoveryRow, Row, Seen};
 use orch_base::{
     Ending, IoState, Kind, MemSink, MemSource, Moment, OwnedText, Rule, ServerNo, SourceState,
 };
@@ -85,12 +85,14 @@ fn instance(alloc: Global, no: u32, read: u64, moment: u64) -> Row {
             sql: false,
             read_only: false,
             set: GtidSet::empty(alloc),
+            first: 1,
+            purged: GtidSet::empty(alloc),
         },
     })
 }
 
 fn recovery(cluster: String, id: u64, begun: u64, ended: Option<u64>) -> Row {
-    Row::Recovery(Recovery {
+    Row::Recovery(RecoveryRow {
         id,
         cluster: OwnedText::new(cluster),
         kind: Kind::Master,
@@ -102,6 +104,7 @@ fn recovery(cluster: String, id: u64, begun: u64, ended: Option<u64>) -> Row {
             None => Ending::Unended,
         },
         acked: false,
+        block: Some(3600),
     })
 }
 

@@ -1,10 +1,10 @@
-//! What happens in a run, turn by turn, and what each turn answers: plain types.
+//! Turns, and what they answer.
 #![tactic(auto)]
 
+mod reply;
 mod same;
 mod threads;
 mod turn;
 
-/// Want of memory.
-pub use orch_base::Memory;
-pub use turn::{BoxedCause, BoxedCommand, Reply, Turn};
+pub use reply::{BoxedFailure, Failure, Reply};
+pub use turn::{Act, BoxedCommand, Step, Turn};

@@ -2,7 +2,7 @@
 
 ghost use Rattle.std.specs.Prelude.{◌≡◌, ◌↔◌, IsTrue};
 
-use crate::{BoxedCommand, Turn};
+use crate::{Act, BoxedCommand, Step, Turn};
 
 impl BoxedCommand {
     /// Whether the turns are equal. It takes no memory.
@@ -13,28 +13,41 @@ impl BoxedCommand {
     }
 }
 
+fn is_same_step(step: Step, other: Step) -> bool
+    ensures { IsTrue result ↔ (step ≡ other) }
+{
+    step == other
+}
+
+impl Act {
+    /// Whether what orchestrator does is equal. It takes no memory.
+    pub fn is_same(&self, other: &Act) -> bool
+        ensures { IsTrue result ↔ (self.now ≡ other.now) }
+    {
+        match self {
+            Act::PollRead(poller, no) =>
+                matches!(other, Act::PollRead(p, n) if p == poller && n == no),
+            Act::PollStore(poller) => matches!(other, Act::PollStore(p) if p == poller),
+            Act::Command(command) => matches!(other, Act::Command(c) if command.is_same(c)),
+            Act::Job(job) => matches!(other, Act::Job(j) if j == job),
+            Act::Scan => matches!(other, Act::Scan),
+            Act::Restart => matches!(other, Act::Restart),
+        }
+    }
+}
+
 impl Turn {
     /// Whether the turns are equal. It takes no memory.
     pub fn is_same(&self, other: &Turn) -> bool
         ensures { IsTrue result ↔ (self.now ≡ other.now) }
     {
         match self {
-            Turn::Write(no, size) => matches!(other, Turn::Write(n, s) if n == no && s == size),
-            Turn::Fetch(no) => matches!(other, Turn::Fetch(n) if n == no),
-            Turn::Apply(no) => matches!(other, Turn::Apply(n) if n == no),
-            Turn::Fail(no) => matches!(other, Turn::Fail(n) if n == no),
-            Turn::Heal(no) => matches!(other, Turn::Heal(n) if n == no),
-            Turn::Cut(no, link) => matches!(other, Turn::Cut(n, l) if n == no && l == link),
-            Turn::Join(no, link) => matches!(other, Turn::Join(n, l) if n == no && l == link),
-            Turn::Rotate(no) => matches!(other, Turn::Rotate(n) if n == no),
+            Turn::Step(step) => matches!(other, Turn::Step(s) if is_same_step(*step, *s)),
             Turn::Tick(seconds) => matches!(other, Turn::Tick(s) if s == seconds),
-            Turn::PollRead(poller, no) =>
-                matches!(other, Turn::PollRead(p, n) if p == poller && n == no),
-            Turn::PollStore(poller) => matches!(other, Turn::PollStore(p) if p == poller),
-            Turn::Command(command) => matches!(other, Turn::Command(c) if command.is_same(c)),
-            Turn::Job(job) => matches!(other, Turn::Job(j) if j == job),
-            Turn::Scan => matches!(other, Turn::Scan),
-            Turn::Restart => matches!(other, Turn::Restart),
+            Turn::Act(act) => matches!(other, Turn::Act(a) if act.is_same(a)),
+            Turn::As(node, act) => matches!(other, Turn::As(n, a) if n == node && act.is_same(a)),
+            Turn::Claim(node) => matches!(other, Turn::Claim(n) if n == node),
+            Turn::Release(node) => matches!(other, Turn::Release(n) if n == node),
         }
     }
 }

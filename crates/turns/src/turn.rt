@@ -1,11 +1,10 @@
-//! Turns, and what they answer.
+//! Turns, by floors: what befalls servers, what orchestrator does, and what several orchestrators take turns in.
 
-ghost use Rattle.std.specs.Prelude.{◌≡◌, IfOk, true};
-ghost use Rattle.turns.specs.Plain.{is_plain};
+ghost use Rattle.std.specs.Prelude.{◌≡◌, IfOk};
 
-use commands::{Cause, CommandTurn, Lines, Refusal};
-use orch_base::{Memory, Moment, ServerNo};
-use server_words::{ApplyAnswer, FetchAnswer, Link, RotateAnswer, WriteAnswer};
+use commands::CommandTurn;
+use orch_base::{Memory, ServerNo};
+use server_words::Link;
 use std::alloc::Global;
 use std::marker::Model;
 use std::mem::size_of;
@@ -50,49 +49,9 @@ impl BoxedCommand {
     }
 }
 
-/// The cause of a failed job on the heap, which contracts see as that cause.
-#[derive(Drop)]
-pub struct BoxedCause {
-    cause: Box<Cause>,
-}
-
-impl Model for BoxedCause {
-    ghost use Rattle.std.specs.Prelude.{box_value};
-    ghost use Rattle.commands.specs.declared.cause.Cause.{Cause as ACause};
-
-    ghost Value = { ACause };
-
-    ghost view = { λ c. box_value c.cause };
-}
-
-impl BoxedCause {
-    /// This cause.
-    pub fn new(alloc: Global, cause: Cause) -> Result<BoxedCause, Memory>
-        ensures { IfOk result (λ c. c ≡ cause) }
-    {
-        Ok(BoxedCause {
-            cause: Box::new(alloc, cause)?,
-        })
-    }
-
-    /// The cause.
-    pub fn as_cause(&self) -> &Cause
-        ensures { result.now ≡ self.now }
-    {
-        &self.cause
-    }
-
-    /// The same cause once more.
-    pub fn copy(&self, alloc: Global) -> Result<BoxedCause, Memory>
-        ensures { IfOk result (λ c. c ≡ self.now) }
-    {
-        BoxedCause::new(alloc, self.cause.copy(alloc)?)
-    }
-}
-
-/// What happens next.
-#[derive(Drop)]
-pub enum Turn {
+/// What befalls servers, without orchestrator.
+#[derive(Clone, Copy, Debug, PartialEq, Eq)]
+pub enum Step {
     /// An ordinary client's transaction of this size, 1 to 1,000,000 bytes.
     Write(ServerNo, u32),
     /// The receiver of a replica reads one step of its source's binary log.
@@ -109,8 +68,13 @@ pub enum Turn {
     Join(ServerNo, Link),
     /// The next file of the server's binary log begins (FLUSH BINARY LOGS).
     Rotate(ServerNo),
-    /// So many seconds pass: 0 to 1,000,000,000.
-    Tick(u64),
+    /// The files of the server's binary log before this one are purged (PURGE BINARY LOGS): 1 to 4,294,967,295.
+    Purge(ServerNo, u32),
+}
+
+/// What orchestrator does.
+#[derive(Drop)]
+pub enum Act {
     /// This poller, 0 to 63, reads a server into its slot.
     PollRead(u32, ServerNo),
     /// What this poller, 0 to 63, has in its slot is stored.
@@ -125,119 +89,54 @@ pub enum Turn {
     Restart,
 }
 
+/// What happens next.
+#[derive(Drop)]
+pub enum Turn {
+    /// Something befalls a server.
+    Step(Step),
+    /// So many seconds pass: 0 to 1,000,000,000.
+    Tick(u64),
+    /// Orchestrator does something.
+    Act(Act),
+    /// This one of several orchestrators, 1 to 16, does something.
+    As(u32, Act),
+    /// This one of several orchestrators asks to be the active one.
+    Claim(u32),
+    /// This one of several orchestrators gives up to be the active one.
+    Release(u32),
+}
+
+// A scenario of a million turns has as many.
+const _: () = prove!(size_of::<Turn>() == 24);
+
+impl Act {
+    /// The same once more.
+    pub fn copy(&self, alloc: Global) -> Result<Act, Memory>
+        ensures { IfOk result (λ a. a ≡ self.now) }
+    {
+        Ok(match self {
+            Act::PollRead(poller, no) => Act::PollRead(*poller, *no),
+            Act::PollStore(poller) => Act::PollStore(*poller),
+            Act::Command(command) => Act::Command(command.copy(alloc)?),
+            Act::Job(job) => Act::Job(*job),
+            Act::Scan => Act::Scan,
+            Act::Restart => Act::Restart,
+        })
+    }
+}
+
 impl Turn {
     /// The same turn once more.
     pub fn copy(&self, alloc: Global) -> Result<Turn, Memory>
         ensures { IfOk result (λ t. t ≡ self.now) }
     {
         Ok(match self {
-            Turn::Write(no, size) => Turn::Write(*no, *size),
-            Turn::Fetch(no) => Turn::Fetch(*no),
-            Turn::Apply(no) => Turn::Apply(*no),
-            Turn::Fail(no) => Turn::Fail(*no),
-            Turn::Heal(no) => Turn::Heal(*no),
-            Turn::Cut(no, link) => Turn::Cut(*no, *link),
-            Turn::Join(no, link) => Turn::Join(*no, *link),
-            Turn::Rotate(no) => Turn::Rotate(*no),
+            Turn::Step(step) => Turn::Step(*step),
             Turn::Tick(seconds) => Turn::Tick(*seconds),
-            Turn::PollRead(poller, no) => Turn::PollRead(*poller, *no),
-            Turn::PollStore(poller) => Turn::PollStore(*poller),
-            Turn::Command(command) => Turn::Command(command.copy(alloc)?),
-            Turn::Job(job) => Turn::Job(*job),
-            Turn::Scan => Turn::Scan,
-            Turn::Restart => Turn::Restart,
+            Turn::Act(act) => Turn::Act(act.copy(alloc)?),
+            Turn::As(node, act) => Turn::As(*node, act.copy(alloc)?),
+            Turn::Claim(node) => Turn::Claim(*node),
+            Turn::Release(node) => Turn::Release(*node),
         })
-    }
-}
-
-/// What a turn answers.
-#[derive(Drop)]
-pub enum Reply {
-    Write(WriteAnswer),
-    Fetch(FetchAnswer),
-    Apply(ApplyAnswer),
-    /// It is done; there is no more to say.
-    Done,
-    Rotate(RotateAnswer),
-    /// The moment that it is now.
-    Now(Moment),
-    /// The number of a reading that reached its server.
-    Read(u64),
-    /// The number of a reading that didn't reach its server.
-    ReadUnreachable(u64),
-    /// The book has no such instance.
-    Unknown,
-    /// The reading is stored.
-    Stored,
-    /// The instance was read later, by this number.
-    Old(u64),
-    /// The slot is empty.
-    Nothing,
-    /// The command, the job or the scan is done, with these lines.
-    Told(Lines),
-    /// The command is refused, and changed nothing.
-    Refused(Refusal),
-    /// The command began the job of this number.
-    Begun(u64),
-    /// The job isn't done.
-    Going,
-    /// The job failed.
-    Failed(BoxedCause),
-    /// There is no such job that hasn't ended.
-    NoJob,
-}
-
-// A journal of a million turns has a pair for each.
-const _: () = prove!(size_of::<(Turn, Reply)>() == 48);
-
-impl Reply {
-    /// The same reply once more, of one that holds nothing on the heap. It takes no memory.
-    pub fn again(&self) -> Reply
-        requires { is_plain self.now ≡ true }
-        ensures { result ≡ self.now }
-    {
-        match self {
-            Reply::Write(answer) => Reply::Write(*answer),
-            Reply::Fetch(answer) => Reply::Fetch(*answer),
-            Reply::Apply(answer) => Reply::Apply(*answer),
-            Reply::Rotate(answer) => Reply::Rotate(*answer),
-            Reply::Now(now) => Reply::Now(*now),
-            Reply::Read(read) => Reply::Read(*read),
-            Reply::ReadUnreachable(read) => Reply::ReadUnreachable(*read),
-            Reply::Unknown => Reply::Unknown,
-            Reply::Stored => Reply::Stored,
-            Reply::Old(read) => Reply::Old(*read),
-            Reply::Nothing => Reply::Nothing,
-            Reply::Begun(job) => Reply::Begun(*job),
-            Reply::Going => Reply::Going,
-            Reply::NoJob => Reply::NoJob,
-            Reply::Done | Reply::Told(_) | Reply::Refused(_) | Reply::Failed(_) => Reply::Done,
-        }
-    }
-
-    /// The same reply once more.
-    pub fn copy(&self, alloc: Global) -> Result<Reply, Memory>
-        ensures { IfOk result (λ r. r ≡ self.now) }
-    {
-        match self {
-            Reply::Told(lines) => Ok(Reply::Told(lines.copy(alloc)?)),
-            Reply::Refused(refusal) => Ok(Reply::Refused(refusal.copy(alloc)?)),
-            Reply::Failed(cause) => Ok(Reply::Failed(cause.copy(alloc)?)),
-            Reply::Write(_)
-            | Reply::Fetch(_)
-            | Reply::Apply(_)
-            | Reply::Done
-            | Reply::Rotate(_)
-            | Reply::Now(_)
-            | Reply::Read(_)
-            | Reply::ReadUnreachable(_)
-            | Reply::Unknown
-            | Reply::Stored
-            | Reply::Old(_)
-            | Reply::Nothing
-            | Reply::Begun(_)
-            | Reply::Going
-            | Reply::NoJob => Ok(self.again()),
-        }
     }
 }

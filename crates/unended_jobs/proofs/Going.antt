@@ -1,7 +1,7 @@
 -- Turns of unended jobs.
 use Rattle.std.proofs.Common.{◌≡◌, ℕ, ◌<◌, ◌^◌, true, length, sym, subst, Some, IfSome}
 use Rattle.orch_base.specs.declared.server.Moment.{Moment}
-use Rattle.instance_keeper.specs.declared.observation.Observation.{Observation}
+use Rattle.kept_rows.specs.declared.observation.Observation.{Observation}
 use Rattle.instance_keeper.specs.Book.{BookState}
 use Rattle.server_model.specs.Run.{AllAllowed}
 use Rattle.server_model.specs.Worlds.{World}

@@ -5,15 +5,15 @@ use Rattle.std.proofs.lemmas.List.Elements.{All-head, All-tail}
 use Rattle.binlog_coords.specs.Log.{same_coord}
 use Rattle.orch_base.specs.declared.server.Moment.{Moment}
 use Rattle.orch_base.specs.declared.server.ServerNo.{ServerNo}
-use Rattle.server_words.specs.declared.status.Status.{Status}
 use Rattle.server_model.specs.Run.{Exchange}
 use Rattle.server_model.specs.Worlds.{World}
 use Rattle.commands.specs.declared.cause.Cause.{Cause}
 use Rattle.commands.specs.declared.line.Lost.TheVariants as lost
 use Rattle.instance_keeper.specs.declared.bridge.Bridge.{Bridge}
-use Rattle.instance_keeper.specs.declared.observation.Observation.{Observation}
+use Rattle.kept_rows.specs.declared.observation.Observation.{Observation}
 use Rattle.instance_keeper.specs.Book.{BookState}
 use Rattle.operations.specs.declared.op.Op.{Op}
+use Rattle.operations.specs.declared.sight.Position.{Position}
 use Rattle.operations.specs.Deeds.{deed_of}
 use Rattle.operations.specs.Jobs.{Job, seen_of}
 use Rattle.operations.specs.Turns as attempt
@@ -69,7 +69,7 @@ module _ (w : World) (b : BookState) (now : Moment) where
 
       swapped : (o : Option ServerNo) → Same r (swap w b now (record r { swaps = false }) o)
       swapped None = refl
-      swapped (Some p) = swapping p (better_of w b now p (map (λ x. x.no) r.outcome.followers))
+      swapped (Some p) = swapping p (better_of w b now r.failed p (map (λ x. x.no) r.outcome.followers))
 
       crowned : (o : Option ServerNo) → Same r (crown r o)
       crowned None = refl
@@ -97,12 +97,12 @@ module _ (P : ℕ → Type 0) where
   as-before r r' same h = subst (λ (o : Option ServerNo). IfSome o (λ n. P n.0)) (sym same) h
 
   module _ (w : World) (b : BookState) (now : Moment) where
-    choose-leads : (r : Recovery) → All (λ d. P d.no.0) r.drained → (o : Option Stopped) → chosen_of w b now r.drained ≡ o → Leads (choose w b now r o)
+    choose-leads : (r : Recovery) → All (λ d. P d.no.0) r.drained → (o : Option Stopped) → chosen_of w b now r.failed r.drained ≡ o → Leads (choose w b now r o)
     choose-leads r all None e = tt
-    choose-leads r all (Some p) e = All-chosen w b now (λ (d : Stopped). P d.no.0) r.drained p all e
+    choose-leads r all (Some p) e = All-chosen w b now r.failed (λ (d : Stopped). P d.no.0) r.drained p all e
 
     task-leads : (r : Recovery) (t : Task) → All (λ d. P d.no.0) r.drained → Leads r → Leads (by_task w b now r t)
-    task-leads r task.Choosing all h = choose-leads r all (chosen_of w b now r.drained) refl
+    task-leads r task.Choosing all h = choose-leads r all (chosen_of w b now r.failed r.drained) refl
     task-leads r task.Handing all h = as-before r (by_task w b now r task.Handing) (over-same w b now r r.chosen) h
     task-leads r (task.Trailing n) all h = as-before r (by_task w b now r (task.Trailing n)) (look-same w b now r n r.lead) h
     task-leads r task.Yielding all h = as-before r (by_task w b now r task.Yielding) (yield-same w b now r r.lead) h
@@ -137,7 +137,7 @@ module _ (P : ℕ → Type 0) where
 
   -- ---- a stage that is done
 
-  judged-same : (r : Recovery) (n : ServerNo) (o : Option Status) → Same r (judged r n o)
+  judged-same : (r : Recovery) (n : ServerNo) (o : Option Position) → Same r (judged r n o)
   judged-same r n None = refl
   judged-same r n (Some s) = go (is_below s r.failed)
     where
@@ -145,7 +145,7 @@ module _ (P : ℕ → Type 0) where
       go true = refl
       go false = refl
 
-  looked-same : (r : Recovery) (n : ServerNo) (x : Bridge) (o : Option Status) → Same r (looked r n x o)
+  looked-same : (r : Recovery) (n : ServerNo) (x : Bridge) (o : Option Position) → Same r (looked r n x o)
   looked-same r n x None = refl
   looked-same r n x (Some s) = go (is_below s r.failed)
     where
@@ -153,7 +153,7 @@ module _ (P : ℕ → Type 0) where
       go true = refl
       go false = refl
 
-  halted-same : (r : Recovery) (n : ServerNo) (x : Bridge) (o : Option Status) → Same r (halted r n x o)
+  halted-same : (r : Recovery) (n : ServerNo) (x : Bridge) (o : Option Position) → Same r (halted r n x o)
   halted-same r n x None = refl
   halted-same r n x (Some s) = go (same_coord s.exec x.exec)
     where

@@ -6,10 +6,9 @@ use Rattle.std.proofs.lemmas.List.Elements.{All-head}
 use Rattle.binlog_coords.specs.declared.Coord.{Coord}
 use Rattle.orch_base.specs.declared.server.Moment.{Moment}
 use Rattle.orch_base.specs.declared.server.ServerNo.{ServerNo}
-use Rattle.instance_keeper.specs.declared.observation.Observation.{Observation}
+use Rattle.kept_rows.specs.declared.observation.Observation.{Observation}
 use Rattle.instance_keeper.specs.Book.{BookState}
-use Rattle.instance_keeper.specs.Bridges.{bridge_in}
-use Rattle.instance_keeper.specs.Seeing.{seen_in}
+use Rattle.kept_rows.specs.Seeing.{seen_in}
 use Rattle.server_words.specs.declared.answers.Unreachable.{Unreachable}
 use Rattle.server_words.specs.declared.attach.AttachFault.{AttachFault}
 use Rattle.server_words.specs.declared.changes.Ask.{Ask}
@@ -26,7 +25,7 @@ use Rattle.operations.specs.Deeds.{Deed, deed_of}
 use Rattle.operations.specs.Jobs.{Job, seen_of}
 use Rattle.operations.specs.Named.{are_named, is_named}
 use Rattle.operations.specs.Targets.{can_attach}
-use Rattle.operations.specs.Turns.{Attempt, Goes, Stops, after_answer, after_ask, after_attach, after_look, after_status, after_until, after_wait, after_wait_by, aim_of, attach_answer_of, by_deed, by_ops, by_set, crossed, holds_seen, is_moved, is_reached, next, observed, read_by, same_again, saw, settled, settles, turned, until_by}
+use Rattle.operations.specs.Turns.{bridge_at, Attempt, Goes, Stops, after_answer, after_ask, after_attach, after_look, after_status, after_until, after_wait, after_wait_by, aim_of, attach_answer_of, by_deed, by_ops, by_set, crossed, holds_seen, is_moved, is_reached, next, observed, read_by, same_again, saw, settled, settles, turned, until_by}
 use Rattle.recovery_plans.specs.Deciding.{decided}
 use Rattle.recovery_plans.specs.Named.{IsNamedRecovery, IsOpOf, spoken_to}
 use Rattle.recovery_plans.specs.Recoveries.{Recovery}
@@ -89,7 +88,7 @@ module _ (w : World) (read : ℕ) (now : Moment) (j : Job) (rest : List Op) wher
   deed-sees (deed.Await n to) within = wait-sees n (λ s. is_reached (aim_of j.seen to) s.exec) (seen_in (status w n.0))
   deed-sees (deed.AwaitSet n m) within = wait-sees n (holds_seen (seen_of j.seen m.0)) (seen_in (status w n.0))
   deed-sees (deed.Settle n) within = wait-sees n (settles j) (seen_in (status w n.0))
-  deed-sees (deed.Cross c a b) within = attach-sees a (crossed c a (bridge_in (read_by c a b) (seen_of j.seen (read_by c a b).0)))
+  deed-sees (deed.Cross c a b) within = attach-sees a (crossed c a (bridge_at (read_by c a b) (seen_of j.seen (read_by c a b).0)))
   deed-sees (deed.Same n) within = attach-sees n (same_again n (seen_of j.seen n.0))
   deed-sees (deed.Auto n m) within = attach-sees n (by_set n m (seen_of j.seen m.0))
   deed-sees (deed.Finish lines) within = tt

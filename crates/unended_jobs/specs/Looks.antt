@@ -2,7 +2,7 @@
 use Rattle.std.specs.Prelude.{[], Option}
 use Rattle.server_model.specs.Worlds.{World}
 use Rattle.operations.specs.declared.step.JobStep.{JobStep}
-use Rattle.instance_keeper.specs.declared.observation.Observation.{Observation}
+use Rattle.kept_rows.specs.declared.observation.Observation.{Observation}
 use Rattle.job_plans.specs.Acts.{CanTurn, foretold as plan_foretold}
 use Rattle.recovery_turns.specs.Looks.{CanTake, foretold as recovery_foretold}
 use Rattle.unended_jobs.specs.declared.unended.Unended.{Unended}

@@ -3,7 +3,7 @@
 ghost use Rattle.std.specs.Prelude.{◌≡◌, ◌<◌, ℕ, IfSome, Some, length, true};
 ghost use Rattle.orch_base.specs.declared.server.Moment.{Moment as AMoment};
 ghost use Rattle.orch_base.specs.declared.server.ServerNo.{ServerNo as Number};
-ghost use Rattle.instance_keeper.specs.declared.observation.Observation.{Observation as Reading};
+ghost use Rattle.kept_rows.specs.declared.observation.Observation.{Observation as Reading};
 ghost use Rattle.instance_keeper.specs.Book.{BookState};
 ghost use Rattle.server_model.specs.Run.{AllAllowed};
 ghost use Rattle.server_model.specs.Worlds.{World};

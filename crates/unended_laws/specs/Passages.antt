@@ -3,7 +3,7 @@ use Rattle.std.specs.Prelude.{◌≡◌, ℕ, ◌==◌, Bool, true, List, [], �
 use Rattle.std.specs.List.{list_any}
 use Rattle.orch_base.specs.declared.server.Moment.{Moment}
 use Rattle.orch_base.specs.declared.server.ServerNo.{ServerNo}
-use Rattle.instance_keeper.specs.declared.observation.Observation.{Observation}
+use Rattle.kept_rows.specs.declared.observation.Observation.{Observation}
 use Rattle.instance_keeper.specs.Book.{BookState}
 use Rattle.server_model.specs.Worlds.{World}
 use Rattle.job_laws.specs.Passages.{Passage, Exchanging, Polling, Storing, Discovering, Forgetting, Restarting, Beginning, Turning, Taking}

@@ -3,7 +3,7 @@
 ghost use Rattle.std.specs.Prelude.{◌≡◌, ℕ, Bool, List, Option};
 ghost use Rattle.std.specs.Option.{option_map};
 ghost use Rattle.orch_base.specs.declared.server.Moment.{Moment as AMoment};
-ghost use Rattle.instance_keeper.specs.declared.observation.Observation.{Observation as Reading};
+ghost use Rattle.kept_rows.specs.declared.observation.Observation.{Observation as Reading};
 ghost use Rattle.instance_keeper.specs.Book.{BookState};
 ghost use Rattle.server_model.specs.Safe.{IsQuiet};
 ghost use Rattle.job_laws.specs.Flights.{Flight};

@@ -1,17 +1,18 @@
 -- The servers of an opening can stand in a world.
-use Rattle.std.proofs.Common.{◌≡◌, ℕ, ◌+◌, ◌≤◌, true, false, Bool, List, length, take, refl, sym, ◌∙◌, ap, subst, Option, Some, None, arith, get_or}
+use Rattle.std.proofs.Common.{◌≡◌, ℕ, ◌+◌, ◌≤◌, true, false, Bool, cond, List, length, take, refl, sym, ◌∙◌, ap, subst, Option, Some, None, arith, get_or}
 use Rattle.std.specs.Prelude.{slice_get, All, unwrap_or, ◌==◌}
 use Rattle.std.proofs.lemmas.Option.{same_Some, slice_get_within, get_or_from_slice_get, slice_get-get_or}
 use Rattle.std.proofs.lemmas.List.{length-take}
 use Rattle.std.proofs.lemmas.List.Sums.{count_by-le-length}
 use Rattle.binlog_coords.specs.declared.Coord.{Coord}
-use Rattle.binlog_coords.specs.Log.{Log, place, is_at_or_before, file_start}
+use Rattle.binlog_coords.specs.Log.{Log, opened, place, is_at_or_before, file_start}
 use Rattle.binlog_coords.proofs.Places.{place-monotone}
 use Rattle.orch_base.specs.declared.server.ServerNo.{ServerNo}
 use Rattle.orch_base.specs.declared.server.Txn.{Txn}
 use Rattle.orch_base.specs.Histories.{count_own}
 use Rattle.openings.specs.declared.init.ServerInit.{ServerInit}
 use Rattle.openings.specs.Listed.{transactions, listed_history}
+use Rattle.openings.specs.Logs.{laid}
 use Rattle.openings.specs.Opening.{Opened, IsListed, IsChecked, IsAlone}
 use Rattle.openings.specs.Servers.{sources, source_of, number_of, parts_of, parts_at, count_at, root_of, history_at, log_by, log_at, log_in, exec_of, read_of}
 use Rattle.openings.specs.Sound.{IsSound, IsUnder}
@@ -21,7 +22,7 @@ use Rattle.openings.proofs.Soundness.{sound_checked}
 use Rattle.server_model.specs.Gtids.{IsNumbered}
 use Rattle.server_model.specs.Links.{HasSize, IsFit}
 use Rattle.server_model.specs.Standing.{IsServer, IsSourceOf, CanStand}
-use Rattle.server_model.specs.Worlds.{source_no}
+use Rattle.server_model.specs.Worlds.{source_no, KeepsFrom}
 use Rattle.server_model.specs.declared.server.Server.{Server}
 use Rattle.server_model.proofs.Chains.{not_self}
 use Rattle.world_openings.specs.Makings.{exec_in, read_in, IsPlacedIn}
@@ -80,6 +81,21 @@ read_of-root servers i none alone = ap (λ r. unwrap_or r (exec_of servers i)) a
 pub log_at-is : (servers : List ServerInit) (n : ℕ) (i : ServerInit) → slice_get servers n ≡ Some i → log_at servers n ≡ log_by i (history_at servers n)
 log_at-is servers n i at = ap (log_in servers n) at
 
+-- a server keeps its log from its first kept file on
+pub keeps-opened : (servers : List ServerInit) → IsSound servers → (n : ℕ) (i : ServerInit) → slice_get servers n ≡ Some i → KeepsFrom i.settings.logs (log_by i (history_at servers n)) i.purged
+keeps-opened servers sound n i at =
+    let kept = sound.kept n i at in
+    let history = history_at servers n in
+    let files : (log_at servers n).files ≡ (log_by i history).files = ap (λ (l : Log). l.files) (log_at-is servers n i at) in
+    record {
+      low = kept.0;
+      high = omega (arith, kept.1);
+      unlogged = λ silent.
+          let empty : log_by i history ≡ opened i.settings.limit = ap (λ b. cond b (laid i.settings.limit i.flushes history) (opened i.settings.limit)) silent in
+          let one : (log_by i history).files ≡ 1 = ap (λ (l : Log). l.files) empty in
+          (omega (arith, kept.0, kept.1), ap (λ (l : Log). l.entries) empty);
+    }
+
 pub placed-under : (servers : List ServerInit) (i : ServerInit) (m : ServerNo) → i.source ≡ Some m → IsUnder servers m.0 i → IsPlacedIn (log_at servers m.0) i
 placed-under servers i m under u = record {
   exec = ap (place (log_at servers m.0)) (sym (exec_of-under servers i m under)) ∙ u.exec_place;
@@ -92,13 +108,13 @@ module _ (o : Opened) (room flushes : ℕ) (checked : IsChecked o) (fits : Fits 
   sound : IsSound o.servers
   sound = sound_checked o checked
 
-  laid : (n : ℕ) (i : ServerInit) → IsLaid (log_by i (history_at o.servers n)) (history_at o.servers n) (length i.flushes)
-  laid n i = IsLaid-log_by i (history_at o.servers n) (sized o checked.listed n)
+  laid-out : (n : ℕ) (i : ServerInit) → IsLaid (log_by i (history_at o.servers n)) (history_at o.servers n) (length i.flushes)
+  laid-out n i = IsLaid-log_by i (history_at o.servers n) (sized o checked.listed n)
 
   fit : (n : ℕ) (s : Server) → slice_get (opened_from o.servers room flushes 0 o.servers) n ≡ Some s → IsFit s
   fit n s at =
       let g = given-opened o room flushes n s at in
-      let l = laid n g.init in
+      let l = laid-out n g.init in
       let points = (Fits-at o room flushes n g.init fits g.place).1 in
       let files = l.files in
       subst (λ (x : Server). IsFit x) (sym g.is_opened) (record {
@@ -109,6 +125,7 @@ module _ (o : Opened) (room flushes : ℕ) (checked : IsChecked o) (fits : Fits 
         sizes = sized o checked.listed n;
         grown = l.grown;
         files = omega arith;
+        kept = keeps-opened o.servers sound n g.init g.place;
       })
 
   -- each transaction has a GTID of one of the servers

@@ -20,6 +20,7 @@ opened_server servers room flushes n i = record {
   settings = i.settings;
   history = record { txns = history_at servers n; room = room };
   log = record { log = log_by i (history_at servers n); room = room; flushes = flushes - length i.flushes };
+  first = i.purged;
   source = source_state i.detached i.source;
   exec = exec_of servers i;
   read = read_of servers i;

@@ -45,6 +45,7 @@ fn bare_server(
         settings,
         history: History::new(txns, room),
         log,
+        first: init.purged,
         source: source_state(init.detached, init.source),
         exec: start,
         read: start,

@@ -3,4 +3,4 @@ use Rattle.audit_log.specs.Loading.{recoveries_in}
 use Rattle.audit_log.proofs.loading.recoveries_in.Given as goal
 
 abbrev pub invariant-loop-row : goal.invariant-loop-row
-invariant-loop-row l = l.recoveries.items ≡ recoveries_in (take l.row-index l.rows)
+invariant-loop-row g l = l.recoveries.items ≡ recoveries_in (g.P.Periods.period_of l.periods) (take l.row-index l.rows)

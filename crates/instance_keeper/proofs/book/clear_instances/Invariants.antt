@@ -1,6 +1,6 @@
 use Rattle.std.proofs.Common.{◌≡◌, None, length}
 use Rattle.indexmap.specs.IndexMap.{values}
-use Rattle.instance_keeper.specs.SortKeys.{CountsUp}
+use Rattle.instance_keeper.specs.Counts.{CountsUp}
 use Rattle.instance_keeper.proofs.Cleared.{cleared}
 use Rattle.instance_keeper.proofs.book.clear_instances.Given as goal
 

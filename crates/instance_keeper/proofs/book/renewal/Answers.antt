@@ -1,10 +1,10 @@
 use Rattle.std.proofs.Common.{ap, sym, ◌∙◌, Some}
 use Rattle.std.proofs.lemmas.Bool.{false≢true}
-use Rattle.instance_keeper.specs.declared.observation.Instance.{Instance}
-use Rattle.instance_keeper.specs.declared.row.Row.TheVariants as row
-use Rattle.instance_keeper.specs.declared.row.Change.TheVariants as change
+use Rattle.kept_rows.specs.declared.observation.Instance.{Instance}
+use Rattle.kept_rows.specs.declared.row.Row.TheVariants as row
+use Rattle.kept_rows.specs.declared.row.Change.TheVariants as change
 use Rattle.instance_keeper.specs.Book.{renewed}
-use Rattle.instance_keeper.proofs.Same.{renewal_none, renewal_some}
+use Rattle.instance_keeper.proofs.Renewal.{renewal_none, renewal_some}
 use Rattle.instance_keeper.proofs.book.renewal.Goals as goal
 
 pub returns-then-is_same : goal.returns-then-is_same

@@ -1,7 +1,7 @@
 use Rattle.std.proofs.Common.{◌≡◌, ℕ, Bool, Option, Some, None, sym, ◌∙◌, ap}
 use Rattle.std.specs.Prelude.{IfSome, option_map}
 use Rattle.std.proofs.lemmas.Option.{same_Some}
-use Rattle.instance_keeper.specs.declared.observation.Instance.{Instance}
+use Rattle.kept_rows.specs.declared.observation.Instance.{Instance}
 use Rattle.orch_base.specs.declared.server.Moment.{Moment}
 use Rattle.server_model.specs.Desk.{can_reach}
 use Rattle.server_model.specs.Gtids.{shown_of}

@@ -1,11 +1,19 @@
 use Rattle.std.proofs.Common.{◌≡◌, ◌∙◌, subst, Some, arith}
+use Rattle.std.proofs.lemmas.Bool.{or_parts}
 use Rattle.std.proofs.lemmas.Grind.{common_steps}
 use Rattle.std.proofs.lemmas.Option.{gets}
 use Rattle.std.specs.Prelude.{IfSome, slice_get}
+use Rattle.openings.specs.Flaws.{bad_flushes, bad_purged}
 use Rattle.opening_checks.specs.declared.fault.FlawedValue.{FlawedValue}
 use Rattle.opening_checks.proofs.HeldLogs.{AreLogs-put}
 use Rattle.opening_checks.proofs.Standings.{coords-under, value-under}
 use Rattle.opening_checks.proofs.places.bad_coord.Goals as goal
+
+pub take_log-requires-clause-points : goal.take_log-requires-clause-points
+take_log-requires-clause-points c =
+    let there : slice_get c.args.servers.now c.in-Some.m.0 ≡ Some c.in-Some-get.source.now = grind (arith, common_steps, gets, c.in-Some-get.ensures.lookup) in
+    let source = c.in-Some-get.source.now in
+    (or_parts (bad_flushes source) (bad_purged c.args.servers.now c.in-Some.m.0 source) (c.requires.files.each c.in-Some.m.0 source there)).0
 
 pub returns-clause-met : goal.returns-clause-met
 returns-clause-met c =

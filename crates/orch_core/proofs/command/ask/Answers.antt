@@ -1,6 +1,6 @@
 use Rattle.std.proofs.Common.{◌∙◌, List, ap}
 use Rattle.asking_commands.specs.Answers.{answer_of, lines_of, permitted}
-use Rattle.instance_keeper.specs.declared.recovery.Recovery.{Recovery}
+use Rattle.kept_rows.specs.declared.recovery.Recovery.{Recovery}
 use Rattle.orch_core.specs.Commands.{asked}
 use Rattle.orch_core.proofs.Outcomes.{asked_refused}
 use Rattle.orch_core.proofs.command.ask.Goals as goal

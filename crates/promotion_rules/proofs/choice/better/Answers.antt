@@ -10,7 +10,7 @@ loop-drained-preserved c =
     let names = c.args.names.now in
     let list = c.args.followers.now in
     let within = c.loop-drained-test.true in
-    let step = first_step (nearer_order names) (nearer_total names) (is_better c.args.of) list c.loop-drained.drained-index in
+    let step = first_step (nearer_order names) (nearer_total names) (is_better c.args.of.now) list c.loop-drained.drained-index in
     elim c.if-replaces.branch [
       | then-replaces w ↦ record {
         first = w.first-is ∙ step _ c.loop-drained.first true within c.loop-drained.invariant.first (sym w.if-replaces.true ∙ c.replaces.ensures);

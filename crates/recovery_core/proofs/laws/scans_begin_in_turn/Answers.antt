@@ -1,4 +1,4 @@
-use Rattle.recovery_core.proofs.InTurn.{scan-audit, scan-in-turn, scan-last, scan-leases, scan-moments}
+use Rattle.recovery_core.proofs.InTurn.{scan-audit, scan-blocks, scan-in-turn, scan-last, scan-leases, scan-moments}
 use Rattle.recovery_core.proofs.laws.scans_begin_in_turn.Goals as goal
 
 pub returns-clause-begun : goal.returns-clause-begun
@@ -15,3 +15,6 @@ returns-clause-last c w b audit by wait last = scan-last w b by wait audit last
 
 pub returns-clause-moments : goal.returns-clause-moments
 returns-clause-moments c w b audit by wait last now = scan-moments w b by wait audit last now
+
+pub returns-clause-blocks : goal.returns-clause-blocks
+returns-clause-blocks c w b audit by wait last period = scan-blocks w b by wait audit last period

@@ -8,7 +8,7 @@ use Rattle.recovery_core.proofs.Steps.{more-ready, step-more}
 use Rattle.recovery_core.proofs.scanning.scan.Goals as goal
 
 pub loop-entry-init : goal.loop-entry-init
-loop-entry-init c = record {
+loop-entry-init g c = record {
   stage = c.in_ok-stage.ensures.stage;
   ready = record {
     leases = c.in_ok-stage.ensures.count;
@@ -18,10 +18,10 @@ loop-entry-init c = record {
 }
 
 pub loop-entry-preserved : goal.loop-entry-preserved
-loop-entry-preserved c =
+loop-entry-preserved g c =
     let attempt = ap (λ (a : Attempt). a.now.0) c.attempt_of-attempt.ensures in
     record {
-      stage = step-more c.args.world.now c.args.book.now (attempt_of c.args.by_master.now c.args.by_intermediate.now c.args.terms) c.args.terms.wait
+      stage = step-more c.args.world.now c.args.book.now (attempt_of c.args.by_master.now c.args.by_intermediate.now (g.P.Periods.period_of c.args.periods.now) c.args.book.now c.args.terms) c.args.terms.wait
           (from_start c.args.book.now c.args.audit.now.audit c.args.last) c.deref-entry-items.result.now c.loop-entry.entry-index _ c.attempt_of-attempt.result c.loop-entry.stage c.try_entry.new.self
           c.loop-entry-test.true c.attempt_of-attempt.ensures c.loop-entry.invariant.stage c.in_ok-try_entry.ensures.tried;
       ready = more-ready c.args.world.now c.args.book.now c.args.terms.wait c.deref-entry-items.result.now c.loop-entry.entry-index _ c.attempt_of-attempt.result c.loop-entry.stage c.try_entry.new.self

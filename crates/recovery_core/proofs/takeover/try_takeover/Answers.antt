@@ -11,5 +11,5 @@ returns-in_err-permit_takeover-clause-begins c =
     let b = c.args.book.now in
     let audit = c.args.audit.now.audit in
     rw (p.1, p.2)
-    (refused-try (takeover_refusal w b audit c.args.attempt c.args.i c.args.d) (takeover_begins b audit c.args.attempt.now c.args.wait c.args.job c.args.i c.args.d)
+    (refused-try (takeover_refusal w b audit c.args.attempt c.args.i c.args.d) (takeover_begins b audit c.args.attempt.now c.args.attempt.block c.args.wait c.args.job c.args.i c.args.d)
     c.in_err-permit_takeover.field-0.0 c.in_err-permit_takeover.ensures)

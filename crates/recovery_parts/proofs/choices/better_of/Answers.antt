@@ -1,7 +1,6 @@
 use Rattle.std.proofs.Common.{◌<◌, List, All, ap, sym, subst, ◌∙◌, length}
 use Rattle.std.proofs.lemmas.Simd.{map-map}
 use Rattle.orch_base.specs.Names.{HostPort}
-use Rattle.orch_base.specs.declared.rule.Rule.{Rule}
 use Rattle.promotion_rules.specs.declared.drained.Drained.{Drained}
 use Rattle.promotion_rules.specs.Choice.{better}
 use Rattle.recovery_plans.specs.Deciding.{follower_of}
@@ -12,14 +11,14 @@ use Rattle.recovery_parts.proofs.choices.better_of.Goals as goal
 pub better-requires : goal.better-requires
 better-requires c =
     subst (λ (names : List HostPort). All (λ (d : Drained). d.no.0 < length names) c.deref.result.now) (sym c.names.ensures)
-    (all-made (λ (d : Drained). d.no.0 < length c.args.by.now.book.now.names) (λ (x : Follower). follower_of c.args.by.now.world.now c.args.by.now.book.now c.args.by.now.moment x.no) c.args.list.now c.deref.result.now
+    (all-made (λ (d : Drained). d.no.0 < length c.args.by.now.book.now.names) (λ (x : Follower). follower_of c.args.by.now.world.now c.args.by.now.book.now c.args.by.now.moment c.args.failed x.no) c.args.list.now c.deref.result.now
     (c.deref.ensures.value ∙ c.in_ok-all.ensures) c.requires.followers)
 
 pub returns : goal.returns
 returns c =
-    let follower = follower_of c.args.by.now.world.now c.args.by.now.book.now c.args.by.now.moment in
+    let follower = follower_of c.args.by.now.world.now c.args.by.now.book.now c.args.by.now.moment c.args.failed in
     c.better.ensures
-    ∙ ap (λ (names : List HostPort). better names c.rule-rule.result c.deref.result.now) c.names.ensures
-    ∙ ap (λ (of : Rule). better c.args.by.now.book.now.names of c.deref.result.now) c.rule-rule.ensures
-    ∙ ap (better c.args.by.now.book.now.names (Rattle.instance_keeper.specs.Book.rule_at c.args.by.now.book.now c.args.promoted c.args.by.now.moment))
+    ∙ ap (λ (names : List HostPort). better names c.follower_of-of.result c.deref.result.now) c.names.ensures
+    ∙ ap (λ (of : Drained). better c.args.by.now.book.now.names of c.deref.result.now) c.follower_of-of.ensures
+    ∙ ap (better c.args.by.now.book.now.names (follower c.args.promoted))
     (c.deref.ensures.value ∙ c.in_ok-all.ensures ∙ sym (map-map follower (λ (x : Follower). x.no) c.args.list.now))

@@ -4,4 +4,4 @@ use Rattle.recovery_plans.specs.declared.outcome.Follower.{Follower}
 use Rattle.recovery_parts.proofs.choices.followers_all.Given as goal
 
 abbrev pub invariant-loop-follower : goal.invariant-loop-follower
-invariant-loop-follower l = l.all.items ≡ map (λ (x : Follower). follower_of l.by.world.now l.by.book.now l.by.moment x.no) (take l.follower-index l.list)
+invariant-loop-follower l = l.all.items ≡ map (λ (x : Follower). follower_of l.by.world.now l.by.book.now l.by.moment l.failed x.no) (take l.follower-index l.list)

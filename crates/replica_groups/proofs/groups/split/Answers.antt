@@ -8,7 +8,7 @@ use Rattle.replica_groups.proofs.Lists.{filter_map-more}
 use Rattle.replica_groups.proofs.groups.split.Goals as goal
 
 abbrev none : Drained
-none = record { no = record { 0 = 0 }; exec = record { file = 0; pos = 0 }; own_end = None; rule = Prefer; logs = false }
+none = record { no = record { 0 = 0 }; exec = record { file = 0; pos = 0 }; own_end = None; rule = Prefer; logs = false; near = false }
 
 pub loop-replica-preserved : goal.loop-replica-preserved
 loop-replica-preserved c =

@@ -11,10 +11,10 @@ pub returns-clause-missed : goal.returns-clause-missed
 returns-clause-missed c = λ w n to r. walk-met (sources w) to n (length w.servers) r
 
 pub returns-clause-answered : goal.returns-clause-answered
-returns-clause-answered c = λ w n expect to at ready r. loop-answered w n expect to.0 ready r
+returns-clause-answered c = λ w n expect to at ready r. loop-answered w n expect to.0 at ready r
 
 pub returns-clause-only : goal.returns-clause-only
-returns-clause-only c = λ w n expect to at placed h. loop-only w n expect to.0 placed h
+returns-clause-only c = λ w n expect to at placed h. loop-only w n expect to.0 at placed h
 
 pub returns-clause-auto_answered : goal.returns-clause-auto_answered
 returns-clause-auto_answered c = λ w n observed to ready r. loop_auto-answered w n observed to.0 ready r

@@ -8,4 +8,4 @@ pub returns-clause-takeover : goal.returns-clause-takeover
 returns-clause-takeover c = takeover-apart
 
 pub returns-clause-scan : goal.returns-clause-scan
-returns-clause-scan c w b audit by wait last block now blocks moments = scan-apart w b by wait block now blocks moments audit last
+returns-clause-scan c w b audit by wait last now moments = scan-apart w b by wait now moments audit last

@@ -1,9 +1,12 @@
 use Rattle.run_laws.proofs.Entries.{more-after}
-use Rattle.run_laws.proofs.Parts.{apart-by-scenario}
+use Rattle.run_laws.proofs.Parts.{apart-in-turn, periods-in-turn}
 use Rattle.run_laws.proofs.logging.recoveries_begin_apart.Goals as goal
 
 pub returns-clause-apart : goal.returns-clause-apart
-returns-clause-apart c = λ s xs now comes t. apart-by-scenario s xs now t comes
+returns-clause-apart c = λ s xs now comes t. apart-in-turn s xs now t comes
+
+pub returns-clause-periods : goal.returns-clause-periods
+returns-clause-periods c = λ s xs now comes t. periods-in-turn s xs now t comes
 
 pub returns-clause-all : goal.returns-clause-all
 returns-clause-all c = more-after

@@ -7,5 +7,5 @@ use Rattle.run_tests.proofs.made.assert_empty.Given as goal
 abbrev pub invariant-loop-server : goal.invariant-loop-server
 invariant-loop-server g l = record {
   histories : (k : ℕ) (d : ServerInit) → k < l.server-index → transactions (parts_of (get_or l.servers k d)) ≤ 0;
-  flush_points : (k : ℕ) (d : ServerInit) → k < l.server-index → length (get_or l.servers k d).flushes ≤ 0;
+  flush_points : (k : ℕ) (d : ServerInit) → k < l.server-index → length (get_or l.servers k d).flushes ≤ 2;
 }

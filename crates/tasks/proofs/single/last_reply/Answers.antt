@@ -1,8 +1,8 @@
 use Rattle.std.proofs.Common.{List, Option, Result, Ok, Err, inr}
 use Rattle.std.specs.Prelude.{IfOk, IfErr}
-use Rattle.instance_keeper.specs.declared.row.Row.{Row}
+use Rattle.kept_rows.specs.declared.row.Row.{Row}
 use Rattle.orch_core.specs.declared.fault.TurnFault.{TurnFault}
-use Rattle.turns.specs.declared.turn.Reply.{Reply}
+use Rattle.turns.specs.declared.reply.Reply.{Reply}
 use Rattle.turns.specs.declared.turn.Turn.{Turn}
 use Rattle.tasks.specs.Progress.{Answers, ClosesEach, GivesUpEach, Point, Replies, Stops, point}
 use Rattle.tasks.proofs.single.last_reply.Goals as goal

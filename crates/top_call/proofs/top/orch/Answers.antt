@@ -1,5 +1,5 @@
 use Rattle.std.proofs.Common.{◌≡◌, ◌∙◌, ℕ, List, ap, inl, inr, map, subst, sym, ◌⊎◌}
-use Rattle.instance_keeper.specs.declared.row.Row.{Row}
+use Rattle.kept_rows.specs.declared.row.Row.{Row}
 use Rattle.command_line.specs.Places.{places_of}
 use Rattle.tasks.specs.Sinks.{End, between, taken}
 use Rattle.top_call.specs.declared.way.Way.TheVariants as way

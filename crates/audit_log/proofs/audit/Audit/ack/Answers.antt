@@ -1,9 +1,9 @@
 use Rattle.std.proofs.Common.{◌≡◌, List, length, map, sym, ◌∙◌, ap, subst}
 use Rattle.std.proofs.lemmas.List.{length-map}
-use Rattle.instance_keeper.specs.declared.recovery.Recovery.{Recovery}
+use Rattle.kept_rows.specs.declared.recovery.Recovery.{Recovery}
 use Rattle.audit_log.specs.Audits.{acknowledged_for, IsAudit}
 use Rattle.audit_log.proofs.Changes.{IsAudit-map, lent}
-use Rattle.audit_log.proofs.Kept.{acknowledged-id}
+use Rattle.audit_log.proofs.Kept.{acknowledged-block, acknowledged-id}
 use Rattle.audit_log.proofs.audit.Audit.ack.Goals as goal
 
 pub invariant_of-self : goal.invariant_of-self
@@ -14,4 +14,4 @@ invariant_of-self c =
     let long : length c.acknowledge_all.new.recoveries ≡ length v.items = ap length is ∙ length-map v.items f in
     let all = lent c.acknowledge_all.new.recoveries v.items v.len long v.ok.0 ∙ is in
     subst (λ (xs : List Recovery). IsAudit (record { recoveries = xs; next = c.self.inside.next })) (sym all)
-    (IsAudit-map f (acknowledged-id c.args.cluster.now) (record { recoveries = v.items; next = c.self.inside.next }) c.self.invariant)
+    (IsAudit-map f (acknowledged-id c.args.cluster.now) (acknowledged-block c.args.cluster.now) (record { recoveries = v.items; next = c.self.inside.next }) c.self.invariant)

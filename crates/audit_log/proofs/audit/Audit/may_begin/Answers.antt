@@ -1,7 +1,7 @@
-use Rattle.std.proofs.Common.{◌≤◌, ◌^◌, sym, arith}
-use Rattle.std.specs.Prelude.{◌&&◌, reverse}
-use Rattle.instance_keeper.specs.declared.recovery.Recovery.{Recovery}
-use Rattle.audit_log.specs.Audits.{is_blocking, is_of}
+use Rattle.std.proofs.Common.{◌≤◌, ◌^◌, sym, ap, subst, arith}
+use Rattle.std.specs.Prelude.{◌&&◌, All, reverse}
+use Rattle.kept_rows.specs.declared.recovery.Recovery.{Recovery}
+use Rattle.audit_log.specs.Audits.{AuditRoom, is_blocking, is_of, longest_block, IsAudit}
 use Rattle.audit_log.proofs.Finding.{All-found, All-reverse}
 use Rattle.audit_log.proofs.audit.Audit.may_begin.Goals as goal
 
@@ -9,8 +9,9 @@ pub overflow_add-result : goal.overflow_add-result
 overflow_add-result c =
     let list = c.args.self.now.audit.recoveries in
     let last = c.in-Some-last_blocking.last.now in
-    let early : last.begun.0 ≤ 2 ^ 63 =
-    All-found (λ r. is_of c.args.cluster.now r && is_blocking c.args.now.0 c.args.block r) (λ (r : Recovery). r.begun.0 ≤ 2 ^ 63) (reverse list) last
-    (All-reverse (λ (r : Recovery). r.begun.0 ≤ 2 ^ 63) list c.requires.begun) (sym c.in-Some-last_blocking.ensures) in
-    let block = c.requires.block in
-    omega (arith, early, block)
+    let is : IsAudit c.args.self.now.audit = subst IsAudit (ap (λ (s : AuditRoom). s.audit) c.self.view_is) c.self.invariant in
+    let found = sym c.in-Some-last_blocking.ensures in
+    let blocks = λ (r : Recovery). is_of c.args.cluster.now r && is_blocking c.args.now.0 r in
+    let early : last.begun.0 ≤ 2 ^ 63 = All-found blocks (λ (r : Recovery). r.begun.0 ≤ 2 ^ 63) (reverse list) last (All-reverse (λ (r : Recovery). r.begun.0 ≤ 2 ^ 63) list c.requires) found in
+    let short : last.block ≤ longest_block = All-found blocks (λ (r : Recovery). r.block ≤ longest_block) (reverse list) last (All-reverse (λ (r : Recovery). r.block ≤ longest_block) list is.short) found in
+    omega (arith, early, short)

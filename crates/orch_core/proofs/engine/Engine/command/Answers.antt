@@ -31,10 +31,6 @@ pub outcome_of-requires-clause-moment : goal.outcome_of-requires-clause-moment
 outcome_of-requires-clause-moment g c =
     subst (λ (n : Numbers). n.moment.0 ≤ 2 ^ 63) (sym (c.numbers-numbers.ensures ∙ ap numbers_of (sym c.self.view_is))) c.self.invariant.moment
 
-pub outcome_of-requires-clause-block : goal.outcome_of-requires-clause-block
-outcome_of-requires-clause-block g c =
-    subst (λ (n : Numbers). n.block ≤ 1000000000) (sym (c.numbers-numbers.ensures ∙ ap numbers_of (sym c.self.view_is))) c.self.invariant.block
-
 pub outcome_of-requires-clause-duration : goal.outcome_of-requires-clause-duration
 outcome_of-requires-clause-duration g c =
     let before = state_of c.self.inside in
@@ -48,8 +44,8 @@ settle-requires-clause-outcome g c =
     let numbers : c.numbers-numbers.result ≡ numbers_of before = c.numbers-numbers.ensures ∙ ap numbers_of (sym c.self.view_is) in
     let same : outcome c.in_ok-outcome.outcome ≡ command_outcome before c.args.t.now =
     c.in_ok-outcome.ensures.outcome
-    ∙ ap (λ (t : CommandTurn). outcome_of before.world before.book before.audit c.numbers-numbers.result t) c.as_turn.ensures
-    ∙ ap (λ (n : Numbers). outcome_of before.world before.book before.audit n c.args.t.now) numbers in
+    ∙ ap (λ (t : CommandTurn). outcome_of before.world before.book before.audit before.configuration c.numbers-numbers.result t) c.as_turn.ensures
+    ∙ ap (λ (n : Numbers). outcome_of before.world before.book before.audit before.configuration n c.args.t.now) numbers in
     let wait : before.configuration.wait < 2 ^ 32 = subst (λ (n : Numbers). n.wait < 2 ^ 32) numbers c.is_bound.ensures in
     subst (λ (s : State). CanSettle s (outcome c.in_ok-outcome.outcome)) c.self.view_is
     (subst (CanSettle before) (sym same) (command-settles before c.args.t.now c.self.invariant c.servers.ensures.holds wait command))

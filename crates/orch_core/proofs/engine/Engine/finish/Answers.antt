@@ -6,6 +6,7 @@ use Rattle.orch_base.specs.declared.server.ServerNo.{ServerNo}
 use Rattle.name_order.specs.NameOrder.{by_name}
 use Rattle.scenarios.specs.Turns.{IsTurn}
 use Rattle.turns.specs.declared.turn.Turn.{Turn}
+use Rattle.turns.specs.declared.turn.Act.TheVariants as act
 use Rattle.turns.specs.declared.turn.Turn.TheVariants as turn
 use Rattle.orch_core.specs.Keeping.{Ran, WasCutOff}
 use Rattle.orch_core.specs.Rounds.{round_of}
@@ -17,8 +18,8 @@ use Rattle.orch_core.proofs.engine.Engine.finish.Goals as goal
 
 pub rounds-preserved : goal.rounds-preserved
 rounds-preserved g c =
-    let turns : turn.Job c.args.job ∷ c.deref.result.now ≡ round_of c.args.self.now c.args.job =
-    ap (λ (ts : List Turn). turn.Job c.args.job ∷ ts) (c.deref.ensures.value ∙ c.in-Ok.ensures ∙ ap (λ (ns : List ServerNo). flat_map replicates ns ++ flat_map polls ns) c.order.ensures.order)
+    let turns : turn.Act (act.Job c.args.job) ∷ c.deref.result.now ≡ round_of c.args.self.now c.args.job =
+    ap (λ (ts : List Turn). turn.Act (act.Job c.args.job) ∷ ts) (c.deref.ensures.value ∙ c.in-Ok.ensures ∙ ap (λ (ns : List ServerNo). flat_map replicates ns ++ flat_map polls ns) c.order.ensures.order)
     ∙ ap (λ (s : State). round_of s c.args.job) c.self.view_is in
     let opened = sym c.is_open-in-rounds.ensures ∙ c.rounds-test.true in
     let ran = subst (λ (ts : List Turn). Ran engine (g.K.Keeper.kept c.rounds.keeper) c.rounds.self ts (g.K.Keeper.kept c.round.new.keeper) c.round.new.self) turns c.in-Ok-round.ensures.ok in
@@ -35,8 +36,8 @@ rounds-preserved g c =
 
 pub rounds-smaller : goal.rounds-smaller
 rounds-smaller g c =
-    let turns : turn.Job c.args.job ∷ c.deref.result.now ≡ round_of c.args.self.now c.args.job =
-    ap (λ (ts : List Turn). turn.Job c.args.job ∷ ts) (c.deref.ensures.value ∙ c.in-Ok.ensures ∙ ap (λ (ns : List ServerNo). flat_map replicates ns ++ flat_map polls ns) c.order.ensures.order)
+    let turns : turn.Act (act.Job c.args.job) ∷ c.deref.result.now ≡ round_of c.args.self.now c.args.job =
+    ap (λ (ts : List Turn). turn.Act (act.Job c.args.job) ∷ ts) (c.deref.ensures.value ∙ c.in-Ok.ensures ∙ ap (λ (ns : List ServerNo). flat_map replicates ns ++ flat_map polls ns) c.order.ensures.order)
     ∙ ap (λ (s : State). round_of s c.args.job) c.self.view_is in
     let opened = sym c.is_open-in-rounds.ensures ∙ c.rounds-test.true in
     let ran = subst (λ (ts : List Turn). Ran engine (g.K.Keeper.kept c.rounds.keeper) c.rounds.self ts (g.K.Keeper.kept c.round.new.keeper) c.round.new.self) turns c.in-Ok-round.ensures.ok in
@@ -44,21 +45,21 @@ rounds-smaller g c =
 
 pub round-requires : goal.round-requires
 round-requires g c =
-    let turns : turn.Job c.args.job ∷ c.deref.result.now ≡ round_of c.args.self.now c.args.job =
-    ap (λ (ts : List Turn). turn.Job c.args.job ∷ ts) (c.deref.ensures.value ∙ c.in-Ok.ensures ∙ ap (λ (ns : List ServerNo). flat_map replicates ns ++ flat_map polls ns) c.order.ensures.order)
+    let turns : turn.Act (act.Job c.args.job) ∷ c.deref.result.now ≡ round_of c.args.self.now c.args.job =
+    ap (λ (ts : List Turn). turn.Act (act.Job c.args.job) ∷ ts) (c.deref.ensures.value ∙ c.in-Ok.ensures ∙ ap (λ (ns : List ServerNo). flat_map replicates ns ++ flat_map polls ns) c.order.ensures.order)
     ∙ ap (λ (s : State). round_of s c.args.job) c.self.view_is in
     let names = c.shows_state.ensures.names in
     let servers : length c.args.self.now.book.names ≡ length c.rounds.self.world.servers = names ∙ sym c.rounds.invariant.servers in
-    let order = subst (λ (s : State). All (λ (n : ServerNo). n.0 < length s.book.names) (by_name s.book.names)) c.self.view_is (subst (λ (ns : List ServerNo). All (λ (n : ServerNo). n.0 < length c.self.inside.book.names) ns) c.order.ensures.order c.order.ensures.within) in
+    let order = subst (λ (s : State). All (λ (n : ServerNo). n.0 < length s.book.names) (by_name s.book.names)) c.self.view_is (subst (λ (ns : List ServerNo). All (λ (n : ServerNo). n.0 < length c.self.inside.knowledge.book.names) ns) c.order.ensures.order c.order.ensures.within) in
     let all = turns-round (length c.args.self.now.book.names) (by_name c.args.self.now.book.names) c.args.job order in
-    let each : All (IsTurn (length c.rounds.self.world.servers)) (turn.Job c.args.job ∷ c.deref.result.now) =
+    let each : All (IsTurn (length c.rounds.self.world.servers)) (turn.Act (act.Job c.args.job) ∷ c.deref.result.now) =
     subst (λ (ts : List Turn). All (IsTurn (length c.rounds.self.world.servers)) ts) (sym turns) (subst (λ n. All (IsTurn n) (round_of c.args.self.now c.args.job)) servers all) in
-    All-tail (IsTurn (length c.rounds.self.world.servers)) (turn.Job c.args.job) c.deref.result.now each
+    All-tail (IsTurn (length c.rounds.self.world.servers)) (turn.Act (act.Job c.args.job)) c.deref.result.now each
 
 pub returns-in-Err-clause-err : goal.returns-in-Err-clause-err
 returns-in-Err-clause-err g c =
-    let turns : turn.Job c.args.job ∷ c.deref.result.now ≡ round_of c.args.self.now c.args.job =
-    ap (λ (ts : List Turn). turn.Job c.args.job ∷ ts) (c.deref.ensures.value ∙ c.in-Ok.ensures ∙ ap (λ (ns : List ServerNo). flat_map replicates ns ++ flat_map polls ns) c.order.ensures.order)
+    let turns : turn.Act (act.Job c.args.job) ∷ c.deref.result.now ≡ round_of c.args.self.now c.args.job =
+    ap (λ (ts : List Turn). turn.Act (act.Job c.args.job) ∷ ts) (c.deref.ensures.value ∙ c.in-Ok.ensures ∙ ap (λ (ns : List ServerNo). flat_map replicates ns ++ flat_map polls ns) c.order.ensures.order)
     ∙ ap (λ (s : State). round_of s c.args.job) c.self.view_is in
     let opened = sym c.is_open-in-rounds.ensures ∙ c.rounds-test.true in
     let before = c.rounds.invariant.rounds in

@@ -1,17 +1,18 @@
 use Rattle.std.proofs.Common.{◌≡◌, ◌∙◌, ◌<◌, ◌++◌, [], rules, sym, ap, subst, length, Bool, true, false, Option, Some, None}
 use Rattle.std.specs.Prelude.{IfSome, is_ok, slice_get, if◌then◌else◌}
-use Rattle.instance_keeper.specs.declared.observation.Observation.{Observation}
+use Rattle.kept_rows.specs.declared.observation.Observation.{Observation}
 use Rattle.unended_jobs.specs.declared.unended.Unended.{Unended}
 use Rattle.unended_jobs.specs.Looks.{CanGo, observation_of}
 use Rattle.unended_jobs.proofs.Going.{ready-of}
-use Rattle.turns.specs.declared.turn.Reply.{Reply}
+use Rattle.turns.specs.declared.reply.Reply.{Reply}
+use Rattle.turns.specs.declared.turn.Act.TheVariants as act
 use Rattle.turns.specs.declared.turn.Turn.TheVariants as turn
 use Rattle.jobs_in_flight.specs.Jobs.{job_at, step_reply}
 use Rattle.orch_core.specs.Closings.{closed_by, closing_changes}
 use Rattle.orch_core.specs.Keeping.{kept_if}
 use Rattle.orch_core.specs.Polls.{changes_by, changes_of}
 use Rattle.orch_core.specs.Replies.{AreReply, reply_of}
-use Rattle.orch_core.specs.Runs.{step}
+use Rattle.orch_core.specs.After.{step}
 use Rattle.orch_core.specs.States.{IsOpenAt, State}
 use Rattle.orch_core.specs.EngineBy.{state_of}
 use Rattle.orch_core.specs.declared.closing.Closing.{Closing}
@@ -54,7 +55,7 @@ returns-in_err-keep_some-clause-idle g c =
     c.deref.ensures.value ∙ c.in_ok-changes.ensures
     ∙ ap (λ (o : Option Observation). changes_by before.book o ++ closing_changes before.audit now c.closing_of-closing.result) c.observation.ensures
     ∙ ap (λ (k : Option Closing). changes_by before.book (observation_of look) ++ closing_changes before.audit now k) closes in
-    (λ none. c.keep_some.ensures.idle (items ∙ changes-here before id at j look c.self.invariant looked ∙ subst (λ (s : State). changes_of [] s (turn.Job id) ≡ []) (sym c.self.view_is) none))
+    (λ none. c.keep_some.ensures.idle (items ∙ changes-here before id at j look c.self.invariant looked ∙ subst (λ (s : State). changes_of [] s (turn.Act (act.Job id)) ≡ []) (sym c.self.view_is) none))
 
 pub returns-in_err-keep_some-clause-calls : goal.returns-in_err-keep_some-clause-calls
 returns-in_err-keep_some-clause-calls g c =
@@ -71,7 +72,7 @@ returns-in_err-keep_some-clause-calls g c =
     c.deref.ensures.value ∙ c.in_ok-changes.ensures
     ∙ ap (λ (o : Option Observation). changes_by before.book o ++ closing_changes before.audit now c.closing_of-closing.result) c.observation.ensures
     ∙ ap (λ (k : Option Closing). changes_by before.book (observation_of look) ++ closing_changes before.audit now k) closes in
-    (λ failed none. c.keep_some.ensures.calls (search rules) (items ∙ changes-here before id at j look c.self.invariant looked ∙ subst (λ (s : State). changes_of [] s (turn.Job id) ≡ []) (sym c.self.view_is) none))
+    (λ failed none. c.keep_some.ensures.calls (search rules) (items ∙ changes-here before id at j look c.self.invariant looked ∙ subst (λ (s : State). changes_of [] s (turn.Act (act.Job id)) ≡ []) (sym c.self.view_is) none))
 
 pub take_turn-requires-clause-can : goal.take_turn-requires-clause-can
 take_turn-requires-clause-can g c =
@@ -113,7 +114,7 @@ returns-in_err-take_turn-clause-kept g c =
     let empty = items ∙ none-kept before id at j look c.self.invariant looked c.in_err-take_turn.ensures.memory c.in_err-take_turn.ensures.going in
     let fails : is_ok c.from_residual-in_err-take_turn.result ≡ false = search rules in
     ap g.K.Keeper.kept (c.keep_some.ensures.idle empty)
-    ∙ ap (λ (made : Bool). kept_if made (g.K.Keeper.kept c.args.keeper.now) (changes_of [] c.args.self.now (turn.Job id))) (sym fails)
+    ∙ ap (λ (made : Bool). kept_if made (g.K.Keeper.kept c.args.keeper.now) (changes_of [] c.args.self.now (turn.Act (act.Job id)))) (sym fails)
 
 pub returns-in_err-take_turn-clause-idle : goal.returns-in_err-take_turn-clause-idle
 returns-in_err-take_turn-clause-idle g c =
@@ -167,8 +168,8 @@ returns-clause-reply g c =
     let look = c.in_ok-look.look in
     let looked : Looked before id at j look =
     looked-as before c.args.self.now c.self.view_is id at j look c.saturating_add-read.result c.requires.at c.requires.id c.index-job.ensures c.saturating_add-read.ensures c.in_ok-look.ensures.turn in
-    let said : c.in_ok-told.told ≡ reply_of before (turn.Job id) = c.in_ok-told.ensures ∙ ap step_reply c.step.ensures ∙ sym (reply-is before id at j look c.self.invariant looked) in
-    subst (λ (s : State). AreReply c.args.written (reply_of s (turn.Job id)) (record { told = c.in_ok-told.told; written = c.in_ok-written.written })) c.self.view_is
+    let said : c.in_ok-told.told ≡ reply_of before (turn.Act (act.Job id)) = c.in_ok-told.ensures ∙ ap step_reply c.step.ensures ∙ sym (reply-is before id at j look c.self.invariant looked) in
+    subst (λ (s : State). AreReply c.args.written (reply_of s (turn.Act (act.Job id))) (record { told = c.in_ok-told.told; written = c.in_ok-written.written })) c.self.view_is
     (record { told = said; written_too = c.in_ok-written.ensures ∙ ap (λ (r : Reply). if c.args.written then Some r else None) said })
 
 pub returns-clause-ok : goal.returns-clause-ok
@@ -184,7 +185,7 @@ returns-clause-ok g c =
     c.close_entry.ensures ∙ ap (closed_by before.audit c.self.inside.moment) c.closing_of-closing.ensures in
     step-here before id at j look c.self.invariant looked c.take_turn.new.world c.take_turn.new.book c.close_entry.new.audit.audit c.take_turn.new.jobs.items c.take_turn.new.reads
     c.in_ok-take_turn.ensures.world c.in_ok-take_turn.ensures.book closed c.in_ok-take_turn.ensures.jobs c.in_ok-take_turn.ensures.reads
-    ∙ ap (λ (s : State). step [] s (turn.Job id)) c.self.view_is
+    ∙ ap (λ (s : State). step [] s (turn.Act (act.Job id))) c.self.view_is
 
 pub returns-clause-kept : goal.returns-clause-kept
 returns-clause-kept g c =
@@ -202,7 +203,7 @@ returns-clause-kept g c =
     ∙ ap (λ (o : Option Observation). changes_by before.book o ++ closing_changes before.audit now c.closing_of-closing.result) c.observation.ensures
     ∙ ap (λ (k : Option Closing). changes_by before.book (observation_of look) ++ closing_changes before.audit now k) closes in
     c.in_ok-keep_some.ensures.kept ∙ ap (kept_if true (g.K.Keeper.kept c.args.keeper.now)) (items ∙ changes-here before id at j look c.self.invariant looked)
-    ∙ ap (λ (s : State). kept_if true (g.K.Keeper.kept c.args.keeper.now) (changes_of [] s (turn.Job id))) c.self.view_is
+    ∙ ap (λ (s : State). kept_if true (g.K.Keeper.kept c.args.keeper.now) (changes_of [] s (turn.Act (act.Job id)))) c.self.view_is
 
 pub returns-clause-idle : goal.returns-clause-idle
 returns-clause-idle g c =
@@ -219,7 +220,7 @@ returns-clause-idle g c =
     c.deref.ensures.value ∙ c.in_ok-changes.ensures
     ∙ ap (λ (o : Option Observation). changes_by before.book o ++ closing_changes before.audit now c.closing_of-closing.result) c.observation.ensures
     ∙ ap (λ (k : Option Closing). changes_by before.book (observation_of look) ++ closing_changes before.audit now k) closes in
-    (λ none. c.keep_some.ensures.idle (items ∙ changes-here before id at j look c.self.invariant looked ∙ subst (λ (s : State). changes_of [] s (turn.Job id) ≡ []) (sym c.self.view_is) none))
+    (λ none. c.keep_some.ensures.idle (items ∙ changes-here before id at j look c.self.invariant looked ∙ subst (λ (s : State). changes_of [] s (turn.Act (act.Job id)) ≡ []) (sym c.self.view_is) none))
 
 pub returns-clause-servers : goal.returns-clause-servers
 returns-clause-servers g c =

@@ -1,14 +1,20 @@
-use Rattle.std.proofs.Common.{◌≡◌, ◌∙◌, ◌+◌, ℕ, Bool, false, List, length, ap, subst, sym, arith, rules}
+use Rattle.std.proofs.Common.{◌≡◌, ◌∙◌, ◌+◌, ℕ, Bool, false, List, length, ap, refl, subst, sym, arith, rules}
 use Rattle.std.proofs.lemmas.List.{length-map}
-use Rattle.std.specs.Prelude.{is_ok, map}
+use Rattle.std.proofs.lemmas.Result.{err_from_is_err_and}
+use Rattle.std.specs.Prelude.{All, IsTrue, is_ok, map}
 use Rattle.opening_book.proofs.Recoveries.{last_id-within}
 use Rattle.opening_book.specs.Audits.{audit_of, last_id}
 use Rattle.opening_book.specs.Counting.{counted, greatest_id}
+use Rattle.kept_rows.specs.declared.row.Change.{Change}
+use Rattle.kept_rows.specs.declared.row.Row.{Row}
+use Rattle.opening_book.specs.Opening.{is_opening_change, loading, opening_changes}
+use Rattle.orch_core.specs.Keeping.{kept_if}
+use Rattle.orch_core.specs.Periods.{period_by}
 use Rattle.orch_core.specs.Scenarios.{kept_at_start}
 use Rattle.openings.specs.declared.init.ServerInit.{ServerInit}
 use Rattle.server_model.specs.Worlds.{World}
 use Rattle.orch_core.proofs.Sources.{KnowsSources}
-use Rattle.orch_core.proofs.Starts.{Fits-start, IsOpening, IsState-made, StartsBy-made, book-names, kept_made, moment-within, opened-by, sources-start, world_made}
+use Rattle.orch_core.proofs.Starts.{Fits-start, IsOpening, all-loading, IsState-made, StartsBy-made, book-names, kept_made, moment-within, opened-by, sources-start, world_made}
 use Rattle.orch_core.proofs.engine.Engine.make.Goals as goal
 
 pub make-requires-clause-fits : goal.make-requires-clause-fits
@@ -41,7 +47,7 @@ loaded_audit-requires g c =
     let counting : c.in_ok-rows.rows.items ≡ counted (length c.args.s.now.opening.servers) greatest_id given = c.in_ok-rows.ensures ∙ ap (λ (n : ℕ). counted n greatest_id given) count in
     let last : c.last_id-next.result ≡ last_id given = search rules in
     let items : c.deref-7.result.now ≡ counted (length c.args.s.now.opening.servers) greatest_id given = c.deref-7.ensures.value ∙ counting in
-    opened-by c.args.s.now given c.deref-7.result.now c.last_id-next.result c.requires items last
+    opened-by c.args.s.now given c.deref-7.result.now c.last_id-next.result c.args.wait c.in_ok-configuration.configuration c.requires items last c.in_ok-configuration.ensures
 
 pub returns-in_err-audit-clause-kept : goal.returns-in_err-audit-clause-kept
 returns-in_err-audit-clause-kept g c =
@@ -68,13 +74,14 @@ invariant_of-result g c =
     let count : c.len.result ≡ length c.args.s.now.opening.servers = len ∙ ap length settings ∙ length-map c.args.s.now.opening.servers (λ i. i.settings) in
     let counting : c.in_ok-rows.rows.items ≡ counted (length c.args.s.now.opening.servers) greatest_id given = c.in_ok-rows.ensures ∙ ap (λ (n : ℕ). counted n greatest_id given) count in
     let last : c.last_id-next.result ≡ last_id given = search rules in
-    let opening : IsOpening c.args.s.now given c.in_ok-world.world c.in_ok-settings.settings.items c.in_ok-rows.rows.items c.latest_moment-moment.result c.in_ok-book.book c.in_ok-book-2.book c.in_ok-audit.audit.audit c.close.new.self.audit c.in_ok-slots.slots.items c.last_read.result c.new.result.items c.args.wait c.in_ok-configuration.configuration = record {
+    let opening : IsOpening c.args.s.now given c.in_ok-world.world c.in_ok-settings.settings.items c.in_ok-rows.rows.items c.latest_moment-moment.result c.in_ok-book.book c.in_ok-book-2.book c.in_ok-audit.audit.audit c.close.new.self.audit c.in_ok-recoveries.recoveries.items c.in_ok-slots.slots.items c.last_read.result c.new.result.items c.args.wait c.in_ok-configuration.configuration = record {
       world = world;
       settings_made = settings;
       counting = counting;
       moment_made = search rules;
       loads = search rules;
-      audits = c.in_ok-audit.ensures ∙ ap (λ (n : ℕ). audit_of (n + 1) c.deref-7.result.now) last ∙ ap (audit_of (last_id given + 1)) c.deref-7.ensures.value;
+      audits = c.in_ok-audit.ensures ∙ ap (λ (n : ℕ). audit_of (period_by c.in_ok-configuration.configuration) (n + 1) c.deref-7.result.now) last ∙ ap (audit_of (period_by c.in_ok-configuration.configuration) (last_id given + 1)) c.deref-7.ensures.value;
+      keeps = c.in_ok-recoveries.ensures ∙ ap (λ (xs : List Row). loading (period_by c.in_ok-configuration.configuration) xs c.in_ok-audit.audit.audit c.latest_moment-moment.result) c.deref-8.ensures.value;
       completes = search rules;
       closes = search rules;
       empty = c.in_ok-slots.ensures;
@@ -82,7 +89,7 @@ invariant_of-result g c =
       idle = c.new.ensures.items;
       configured = c.in_ok-configuration.ensures;
     } in
-    IsState-made _ _ _ _ _ _ _ _ _ _ _ _ _ _ _ opening c.requires
+    IsState-made _ _ _ _ _ _ _ _ _ _ _ _ _ _ _ _ opening c.requires
 
 pub returns-clause-ok : goal.returns-clause-ok
 returns-clause-ok g c =
@@ -93,13 +100,14 @@ returns-clause-ok g c =
     let count : c.len.result ≡ length c.args.s.now.opening.servers = len ∙ ap length settings ∙ length-map c.args.s.now.opening.servers (λ i. i.settings) in
     let counting : c.in_ok-rows.rows.items ≡ counted (length c.args.s.now.opening.servers) greatest_id given = c.in_ok-rows.ensures ∙ ap (λ (n : ℕ). counted n greatest_id given) count in
     let last : c.last_id-next.result ≡ last_id given = search rules in
-    let opening : IsOpening c.args.s.now given c.in_ok-world.world c.in_ok-settings.settings.items c.in_ok-rows.rows.items c.latest_moment-moment.result c.in_ok-book.book c.in_ok-book-2.book c.in_ok-audit.audit.audit c.close.new.self.audit c.in_ok-slots.slots.items c.last_read.result c.new.result.items c.args.wait c.in_ok-configuration.configuration = record {
+    let opening : IsOpening c.args.s.now given c.in_ok-world.world c.in_ok-settings.settings.items c.in_ok-rows.rows.items c.latest_moment-moment.result c.in_ok-book.book c.in_ok-book-2.book c.in_ok-audit.audit.audit c.close.new.self.audit c.in_ok-recoveries.recoveries.items c.in_ok-slots.slots.items c.last_read.result c.new.result.items c.args.wait c.in_ok-configuration.configuration = record {
       world = world;
       settings_made = settings;
       counting = counting;
       moment_made = search rules;
       loads = search rules;
-      audits = c.in_ok-audit.ensures ∙ ap (λ (n : ℕ). audit_of (n + 1) c.deref-7.result.now) last ∙ ap (audit_of (last_id given + 1)) c.deref-7.ensures.value;
+      audits = c.in_ok-audit.ensures ∙ ap (λ (n : ℕ). audit_of (period_by c.in_ok-configuration.configuration) (n + 1) c.deref-7.result.now) last ∙ ap (audit_of (period_by c.in_ok-configuration.configuration) (last_id given + 1)) c.deref-7.ensures.value;
+      keeps = c.in_ok-recoveries.ensures ∙ ap (λ (xs : List Row). loading (period_by c.in_ok-configuration.configuration) xs c.in_ok-audit.audit.audit c.latest_moment-moment.result) c.deref-8.ensures.value;
       completes = search rules;
       closes = search rules;
       empty = c.in_ok-slots.ensures;
@@ -107,7 +115,7 @@ returns-clause-ok g c =
       idle = c.new.ensures.items;
       configured = c.in_ok-configuration.ensures;
     } in
-    StartsBy-made _ _ _ _ _ _ _ _ _ _ _ _ _ _ _ opening (g.K.Keeper.kept c.args.keeper.now) c.in_ok-given.ensures.told
+    StartsBy-made _ _ _ _ _ _ _ _ _ _ _ _ _ _ _ _ opening (g.K.Keeper.kept c.args.keeper.now) c.in_ok-given.ensures.told
 
 pub returns-clause-kept : goal.returns-clause-kept
 returns-clause-kept g c =
@@ -118,13 +126,14 @@ returns-clause-kept g c =
     let count : c.len.result ≡ length c.args.s.now.opening.servers = len ∙ ap length settings ∙ length-map c.args.s.now.opening.servers (λ i. i.settings) in
     let counting : c.in_ok-rows.rows.items ≡ counted (length c.args.s.now.opening.servers) greatest_id given = c.in_ok-rows.ensures ∙ ap (λ (n : ℕ). counted n greatest_id given) count in
     let last : c.last_id-next.result ≡ last_id given = search rules in
-    let opening : IsOpening c.args.s.now given c.in_ok-world.world c.in_ok-settings.settings.items c.in_ok-rows.rows.items c.latest_moment-moment.result c.in_ok-book.book c.in_ok-book-2.book c.in_ok-audit.audit.audit c.close.new.self.audit c.in_ok-slots.slots.items c.last_read.result c.new.result.items c.args.wait c.in_ok-configuration.configuration = record {
+    let opening : IsOpening c.args.s.now given c.in_ok-world.world c.in_ok-settings.settings.items c.in_ok-rows.rows.items c.latest_moment-moment.result c.in_ok-book.book c.in_ok-book-2.book c.in_ok-audit.audit.audit c.close.new.self.audit c.in_ok-recoveries.recoveries.items c.in_ok-slots.slots.items c.last_read.result c.new.result.items c.args.wait c.in_ok-configuration.configuration = record {
       world = world;
       settings_made = settings;
       counting = counting;
       moment_made = search rules;
       loads = search rules;
-      audits = c.in_ok-audit.ensures ∙ ap (λ (n : ℕ). audit_of (n + 1) c.deref-7.result.now) last ∙ ap (audit_of (last_id given + 1)) c.deref-7.ensures.value;
+      audits = c.in_ok-audit.ensures ∙ ap (λ (n : ℕ). audit_of (period_by c.in_ok-configuration.configuration) (n + 1) c.deref-7.result.now) last ∙ ap (audit_of (period_by c.in_ok-configuration.configuration) (last_id given + 1)) c.deref-7.ensures.value;
+      keeps = c.in_ok-recoveries.ensures ∙ ap (λ (xs : List Row). loading (period_by c.in_ok-configuration.configuration) xs c.in_ok-audit.audit.audit c.latest_moment-moment.result) c.deref-8.ensures.value;
       completes = search rules;
       closes = search rules;
       empty = c.in_ok-slots.ensures;
@@ -132,4 +141,24 @@ returns-clause-kept g c =
       idle = c.new.ensures.items;
       configured = c.in_ok-configuration.ensures;
     } in
-    search rules ∙ kept_made _ _ _ _ _ _ _ _ _ _ _ _ _ _ _ opening (g.K.Keeper.kept c.args.keeper.now) c.in_ok-given.ensures.told
+    search rules ∙ kept_made _ _ _ _ _ _ _ _ _ _ _ _ _ _ _ _ opening (g.K.Keeper.kept c.args.keeper.now) c.in_ok-given.ensures.told
+
+pub complete-requires-clause-recoveries : goal.complete-requires-clause-recoveries
+complete-requires-clause-recoveries g c =
+    let fits : Change → Type 0 = λ x. IsTrue (is_opening_change (length c.in_ok-book.book.names) x) in
+    subst (All fits) (sym c.in_ok-recoveries.ensures)
+    (all-loading fits (period_by c.in_ok-configuration.configuration) c.deref-8.result.now c.in_ok-audit.audit.audit c.latest_moment-moment.result (λ r. refl))
+
+pub returns-in_err-recoveries-clause-kept : goal.returns-in_err-recoveries-clause-kept
+returns-in_err-recoveries-clause-kept g c =
+    let gives = err_from_is_err_and c.from_residual-in_err-recoveries.result c.from_residual-in_err-recoveries.ensures.1 in
+    let fails : is_ok c.from_residual-in_err-recoveries.result ≡ false = ap is_ok gives.1 in
+    c.in_ok-given.ensures.kept ∙ ap (λ (made : Bool). kept_at_start made (g.K.Keeper.kept c.args.keeper.now) c.args.s.now) (sym fails)
+
+pub returns-in_err-book-2-clause-kept : goal.returns-in_err-book-2-clause-kept
+returns-in_err-book-2-clause-kept g c =
+    let gives = err_from_is_err_and c.from_residual-in_err-book-2.result c.from_residual-in_err-book-2.ensures.1 in
+    let fails : is_ok c.from_residual-in_err-book-2.result ≡ false = ap is_ok gives.1 in
+    let failed : is_ok c.complete.result ≡ false = ap is_ok c.in_err-book-2.was in
+    c.complete.ensures.kept ∙ ap (λ (made : Bool). kept_if made (g.K.Keeper.kept c.given_rows.new.keeper) (opening_changes c.in_ok-world.world c.latest_moment-moment.result c.in_ok-book.book c.args.s.now.known c.args.s.now.rules c.in_ok-recoveries.recoveries.items)) failed ∙ c.in_ok-given.ensures.kept
+    ∙ ap (λ (made : Bool). kept_at_start made (g.K.Keeper.kept c.args.keeper.now) c.args.s.now) (sym fails)

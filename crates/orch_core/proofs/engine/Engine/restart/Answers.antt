@@ -1,15 +1,17 @@
 use Rattle.std.proofs.Common.{◌≡◌, ◌∙◌, ◌-◌, ◌≤◌, ◌^◌, ℕ, true, List, Option, length, ap, arith, rules, subst, sym}
 use Rattle.audit_log.specs.Audits.{AuditState, IsAudit, closed}
 use Rattle.instance_keeper.specs.Book.{book_made}
-use Rattle.instance_keeper.specs.declared.row.Change.{Change}
-use Rattle.instance_keeper.specs.declared.row.Row.{Row}
+use Rattle.kept_rows.specs.declared.row.Change.{Change}
+use Rattle.kept_rows.specs.declared.row.Row.{Row}
 use Rattle.opening_book.specs.Audits.{audit_of, latest_recovery}
 use Rattle.opening_book.specs.Counting.{counted}
-use Rattle.opening_book.specs.Opening.{interrupting}
+use Rattle.opening_book.specs.Opening.{loading}
+use Rattle.orch_core.specs.Periods.{period_by}
 use Rattle.orch_base.specs.declared.server.Moment.{Moment}
+use Rattle.turns.specs.declared.turn.Act.TheVariants as act
 use Rattle.turns.specs.declared.turn.Turn.TheVariants as turn
 use Rattle.orch_core.specs.Keeping.{StepsTo, kept_by, kept_if}
-use Rattle.orch_core.specs.Restarts.{interrupted_at, last_given, reloaded_audit, reloaded_moment, restart_changes}
+use Rattle.orch_core.specs.Restarts.{interrupted_at, last_given, reloaded_audit, reloaded_moment, reloaded_rows, restart_changes}
 use Rattle.orch_core.specs.Runs.{engine}
 use Rattle.orch_core.specs.States.{State}
 use Rattle.orch_core.specs.EngineBy.{state_of}
@@ -27,8 +29,8 @@ loaded_audit-requires g c =
     let names = c.self.invariant.names in
     let settings = c.self.invariant.settings in
     let few : length before.book.settings ≤ 2 ^ 32 = omega (arith, small, names, settings) in
-    let same : audit_of c.next-next.result c.deref.result.now ≡ reloaded_audit given before =
-    ap (λ (n : ℕ). audit_of n c.deref.result.now) c.next-next.ensures ∙ ap (audit_of before.audit.next) (c.deref.ensures.value ∙ items) in
+    let same : audit_of (period_by before.configuration) c.next-next.result c.deref.result.now ≡ reloaded_audit given before =
+    ap (λ (n : ℕ). audit_of (period_by before.configuration) n c.deref.result.now) c.next-next.ensures ∙ ap (audit_of (period_by before.configuration) before.audit.next) (c.deref.ensures.value ∙ items) in
     subst IsAudit (sym same) (reloaded-is given before c.self.invariant few)
 
 pub invariant_of-self : goal.invariant_of-self
@@ -43,7 +45,7 @@ invariant_of-self g c =
     let settings = c.self.invariant.settings in
     let few : length before.book.settings ≤ 2 ^ 32 = omega (arith, small, names, settings) in
     let audited : c.in_ok-audit.audit.audit ≡ reloaded_audit given before =
-    c.in_ok-audit.ensures ∙ ap (λ (n : ℕ). audit_of n c.deref.result.now) c.next-next.ensures ∙ ap (audit_of before.audit.next) (c.deref.ensures.value ∙ items) in
+    c.in_ok-audit.ensures ∙ ap (λ (n : ℕ). audit_of (period_by before.configuration) n c.deref.result.now) c.next-next.ensures ∙ ap (audit_of (period_by before.configuration) before.audit.next) (c.deref.ensures.value ∙ items) in
     let moment = c.latest_recovery-moment.result in
     let closes : c.close.new.self.audit ≡ closed c.in_ok-audit.audit.audit moment = search rules in
     let latest : moment.0 ≡ reloaded_moment given before =
@@ -70,7 +72,7 @@ returns-clause-ok g c =
     let settings = c.self.invariant.settings in
     let few : length before.book.settings ≤ 2 ^ 32 = omega (arith, small, names, settings) in
     let audited : c.in_ok-audit.audit.audit ≡ reloaded_audit given before =
-    c.in_ok-audit.ensures ∙ ap (λ (n : ℕ). audit_of n c.deref.result.now) c.next-next.ensures ∙ ap (audit_of before.audit.next) (c.deref.ensures.value ∙ items) in
+    c.in_ok-audit.ensures ∙ ap (λ (n : ℕ). audit_of (period_by before.configuration) n c.deref.result.now) c.next-next.ensures ∙ ap (audit_of (period_by before.configuration) before.audit.next) (c.deref.ensures.value ∙ items) in
     let moment = c.latest_recovery-moment.result in
     let closes : c.close.new.self.audit ≡ closed c.in_ok-audit.audit.audit moment = search rules in
     let latest : moment.0 ≡ reloaded_moment given before =
@@ -85,8 +87,8 @@ returns-clause-ok g c =
     } in
     let kept = g.K.Keeper.kept c.args.keeper.now in
     let after : State = record before { moment = moment.0; book = c.reload.new.self; audit = c.close.new.self.audit; slots = c.empty_slots.new.slots.items; jobs = c.clear.new.self.items } in
-    subst (λ (s : State). StepsTo engine kept s turn.Restart after) c.self.view_is
-    (StepsTo-given kept given before after turn.Restart c.in_ok-given.ensures.told
+    subst (λ (s : State). StepsTo engine kept s (turn.Act act.Restart) after) c.self.view_is
+    (StepsTo-given kept given before after (turn.Act act.Restart) c.in_ok-given.ensures.told
     (step-restart given before c.reload.new.self c.close.new.self.audit moment c.empty_slots.new.slots.items c.clear.new.self.items re))
 
 pub returns-clause-kept : goal.returns-clause-kept
@@ -101,15 +103,18 @@ returns-clause-kept g c =
     let settings = c.self.invariant.settings in
     let few : length before.book.settings ≤ 2 ^ 32 = omega (arith, small, names, settings) in
     let audited : c.in_ok-audit.audit.audit ≡ reloaded_audit given before =
-    c.in_ok-audit.ensures ∙ ap (λ (n : ℕ). audit_of n c.deref.result.now) c.next-next.ensures ∙ ap (audit_of before.audit.next) (c.deref.ensures.value ∙ items) in
+    c.in_ok-audit.ensures ∙ ap (λ (n : ℕ). audit_of (period_by before.configuration) n c.deref.result.now) c.next-next.ensures ∙ ap (audit_of (period_by before.configuration) before.audit.next) (c.deref.ensures.value ∙ items) in
     let moment = c.latest_recovery-moment.result in
     let closes : c.close.new.self.audit ≡ closed c.in_ok-audit.audit.audit moment = search rules in
     let latest : moment.0 ≡ reloaded_moment given before =
     c.latest_recovery-moment.ensures ∙ ap (latest_recovery before.moment) (c.recoveries.ensures.list ∙ ap (λ (a : AuditState). a.recoveries) audited) in
     let when : moment ≡ interrupted_at given before = ap (λ (n : ℕ). record { 0 = n }) latest in
     let kept = g.K.Keeper.kept c.args.keeper.now in
-    let changes : c.deref-2.result.now ≡ restart_changes given before =
-    c.deref-2.ensures.value ∙ c.in_ok-changes.ensures ∙ ap (λ (a : AuditState). interrupting a moment) audited ∙ ap (λ (m : Moment). interrupting (reloaded_audit given before) m) when in
-    c.in_ok-keep_some.ensures.kept ∙ ap (λ (k : Option (List Row)). kept_if true k c.deref-2.result.now) c.in_ok-given.ensures.kept
-    ∙ ap (λ (cs : List Change). kept_if true kept cs) changes ∙ kept_given kept given before turn.Restart c.in_ok-given.ensures.told
-    ∙ ap (λ (s : State). kept_by engine true kept s turn.Restart) c.self.view_is
+    let period = period_by before.configuration in
+    let changes : c.deref-3.result.now ≡ restart_changes given before =
+    c.deref-3.ensures.value ∙ c.in_ok-changes.ensures ∙ ap (λ (xs : List Row). loading period xs c.in_ok-audit.audit.audit moment) (c.deref-2.ensures.value ∙ items)
+    ∙ ap (λ (a : AuditState). loading period (reloaded_rows given before) a moment) audited
+    ∙ ap (λ (m : Moment). loading period (reloaded_rows given before) (reloaded_audit given before) m) when in
+    c.in_ok-keep_some.ensures.kept ∙ ap (λ (k : Option (List Row)). kept_if true k c.deref-3.result.now) c.in_ok-given.ensures.kept
+    ∙ ap (λ (cs : List Change). kept_if true kept cs) changes ∙ kept_given kept given before (turn.Act act.Restart) c.in_ok-given.ensures.told
+    ∙ ap (λ (s : State). kept_by engine true kept s (turn.Act act.Restart)) c.self.view_is

@@ -1,5 +1,6 @@
 use Rattle.std.proofs.Common.{[], ◌∷◌, Err, ap, arith}
 use Rattle.std.proofs.lemmas.Result.{err_from_is_err_and}
+use Rattle.turns.specs.declared.turn.Act.TheVariants as act
 use Rattle.turns.specs.declared.turn.Turn.TheVariants as turn
 use Rattle.orch_core.specs.Runs.{engine}
 use Rattle.orch_core.proofs.Finishing.{Ran-append, cut-behind}
@@ -10,15 +11,15 @@ pub returns-in_err-reply-clause-err : goal.returns-in_err-reply-clause-err
 returns-in_err-reply-clause-err g c =
     let p = err_from_is_err_and c.from_residual.result c.from_residual.ensures.1 in
     rw (p.1, p.2)
-    (cut-at engine _ _ _ _ _ _ (turn.Job c.args.job ∷ c.args.others.now) 0 (turn.Job c.args.job) c.in_err-reply.field-0.0 (omega arith) (Ran-nil engine _ _) c.in_err-reply.ensures.err c.in_err-reply.ensures.kept
+    (cut-at engine _ _ _ _ _ _ (turn.Act (act.Job c.args.job) ∷ c.args.others.now) 0 (turn.Act (act.Job c.args.job)) c.in_err-reply.field-0.0 (omega arith) (Ran-nil engine _ _) c.in_err-reply.ensures.err c.in_err-reply.ensures.kept
     (λ e. c.in_err-reply.ensures.calls (ap Err e)))
 
 pub returns-in_err-run-clause-err : goal.returns-in_err-run-clause-err
 returns-in_err-run-clause-err g c =
     let p = err_from_is_err_and c.from_residual-in_err-run.result c.from_residual-in_err-run.ensures.1 in
     rw (p.1, p.2)
-    (cut-behind engine _ _ _ _ _ _ (turn.Job c.args.job ∷ []) c.args.others.now _ (Ran-more engine _ _ _ _ _ _ [] (turn.Job c.args.job) (Ran-nil engine _ _) c.in_ok-reply.ensures.ok c.in_ok-reply.ensures.kept) c.in_err-run.ensures.err)
+    (cut-behind engine _ _ _ _ _ _ (turn.Act (act.Job c.args.job) ∷ []) c.args.others.now _ (Ran-more engine _ _ _ _ _ _ [] (turn.Act (act.Job c.args.job)) (Ran-nil engine _ _) c.in_ok-reply.ensures.ok c.in_ok-reply.ensures.kept) c.in_err-run.ensures.err)
 
 pub returns-clause-ok : goal.returns-clause-ok
 returns-clause-ok g c =
-    Ran-append engine _ _ _ _ _ _ (turn.Job c.args.job ∷ []) c.args.others.now (Ran-more engine _ _ _ _ _ _ [] (turn.Job c.args.job) (Ran-nil engine _ _) c.in_ok-reply.ensures.ok c.in_ok-reply.ensures.kept) c.in_ok-run.ensures.ok
+    Ran-append engine _ _ _ _ _ _ (turn.Act (act.Job c.args.job) ∷ []) c.args.others.now (Ran-more engine _ _ _ _ _ _ [] (turn.Act (act.Job c.args.job)) (Ran-nil engine _ _) c.in_ok-reply.ensures.ok c.in_ok-reply.ensures.kept) c.in_ok-run.ensures.ok

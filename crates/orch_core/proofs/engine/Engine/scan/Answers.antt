@@ -1,23 +1,25 @@
-use Rattle.std.proofs.Common.{◌≡◌, ◌∙◌, ◌≤◌, ◌^◌, sym, ap, subst}
-use Rattle.std.specs.Prelude.{is_ok}
+use Rattle.std.proofs.Common.{◌≡◌, ◌≢◌, ◌∙◌, ◌≤◌, ◌^◌, [], Err, sym, ap, subst}
+use Rattle.std.specs.Prelude.{IfOk, OnOk, is_ok}
 use Rattle.orch_core.specs.Commands.{Outcome, scan_by}
 use Rattle.orch_core.specs.CommandsBy.{outcome}
 use Rattle.orch_core.specs.declared.command.Numbers.{Numbers}
 use Rattle.orch_core.specs.Keeping.{kept_if}
 use Rattle.orch_core.specs.Polls.{numbers_of, scan_outcome}
-use Rattle.orch_core.specs.Settling.{CanSettle}
+use Rattle.orch_core.specs.Replies.{AreReply}
+use Rattle.orch_core.specs.Settling.{CanSettle, settled}
+use Rattle.orch_core.specs.declared.fault.TurnFault.TheVariants as fault
 use Rattle.orch_core.specs.States.{State}
 use Rattle.orch_core.specs.EngineBy.{state_of}
 use Rattle.orch_core.proofs.Outcomes.{scan-settles}
+use Rattle.orch_core.proofs.Periods.{period-short}
 use Rattle.orch_core.proofs.engine.Engine.scan.Goals as goal
 
 pub scan_by-requires-clause-moment : goal.scan_by-requires-clause-moment
 scan_by-requires-clause-moment g c =
     subst (λ (n : Numbers). n.moment.0 ≤ 2 ^ 63) (sym (c.numbers-numbers.ensures ∙ ap numbers_of (sym c.self.view_is))) c.self.invariant.moment
 
-pub scan_by-requires-clause-block : goal.scan_by-requires-clause-block
-scan_by-requires-clause-block g c =
-    subst (λ (n : Numbers). n.block ≤ 1000000000) (sym (c.numbers-numbers.ensures ∙ ap numbers_of (sym c.self.view_is))) c.self.invariant.block
+pub scan_by-requires-clause-periods : goal.scan_by-requires-clause-periods
+scan_by-requires-clause-periods g c = λ cluster. period-short (state_of c.self.inside) c.self.invariant cluster
 
 pub settle-requires-clause-outcome : goal.settle-requires-clause-outcome
 settle-requires-clause-outcome g c =
@@ -35,3 +37,35 @@ returns-clause-kept g c =
     let same : outcome c.in_ok-outcome.outcome ≡ scan_outcome c.args.self.now =
     c.in_ok-outcome.ensures.outcome ∙ ap (scan_by before.world before.book before.audit before.configuration) numbers ∙ ap scan_outcome c.self.view_is in
     c.settle.ensures.kept ∙ ap (λ (o : Outcome). kept_if (is_ok c.settle.result) (g.K.Keeper.kept c.args.keeper.now) o.rows) same
+
+pub returns-clause-reply : goal.returns-clause-reply
+returns-clause-reply g c =
+    let before = state_of c.self.inside in
+    let numbers : c.numbers-numbers.result ≡ numbers_of before = c.numbers-numbers.ensures ∙ ap numbers_of (sym c.self.view_is) in
+    let same : outcome c.in_ok-outcome.outcome ≡ scan_outcome c.args.self.now =
+    c.in_ok-outcome.ensures.outcome ∙ ap (scan_by before.world before.book before.audit before.configuration) numbers ∙ ap scan_outcome c.self.view_is in
+    subst (λ (o : Outcome). IfOk c.settle.result (λ r. AreReply c.args.written o.reply r)) same c.settle.ensures.reply
+
+pub returns-clause-ok : goal.returns-clause-ok
+returns-clause-ok g c =
+    let before = state_of c.self.inside in
+    let numbers : c.numbers-numbers.result ≡ numbers_of before = c.numbers-numbers.ensures ∙ ap numbers_of (sym c.self.view_is) in
+    let same : outcome c.in_ok-outcome.outcome ≡ scan_outcome c.args.self.now =
+    c.in_ok-outcome.ensures.outcome ∙ ap (scan_by before.world before.book before.audit before.configuration) numbers ∙ ap scan_outcome c.self.view_is in
+    subst (λ (o : Outcome). OnOk c.settle.result (c.settle.new.self ≡ settled c.args.self.now o)) same c.settle.ensures.ok
+
+pub returns-clause-idle : goal.returns-clause-idle
+returns-clause-idle g c =
+    let before = state_of c.self.inside in
+    let numbers : c.numbers-numbers.result ≡ numbers_of before = c.numbers-numbers.ensures ∙ ap numbers_of (sym c.self.view_is) in
+    let same : outcome c.in_ok-outcome.outcome ≡ scan_outcome c.args.self.now =
+    c.in_ok-outcome.ensures.outcome ∙ ap (scan_by before.world before.book before.audit before.configuration) numbers ∙ ap scan_outcome c.self.view_is in
+    subst (λ (o : Outcome). o.rows ≡ [] → c.settle.new.keeper ≡ c.args.keeper.now) same c.settle.ensures.idle
+
+pub returns-clause-calls : goal.returns-clause-calls
+returns-clause-calls g c =
+    let before = state_of c.self.inside in
+    let numbers : c.numbers-numbers.result ≡ numbers_of before = c.numbers-numbers.ensures ∙ ap numbers_of (sym c.self.view_is) in
+    let same : outcome c.in_ok-outcome.outcome ≡ scan_outcome c.args.self.now =
+    c.in_ok-outcome.ensures.outcome ∙ ap (scan_by before.world before.book before.audit before.configuration) numbers ∙ ap scan_outcome c.self.view_is in
+    subst (λ (o : Outcome). c.settle.result ≡ Err fault.Keeper → o.rows ≢ []) same c.settle.ensures.calls

@@ -21,9 +21,9 @@ add-requires-clause-may c =
     let none : staged_refusal c.args.world.now c.args.book.now c.args.attempt c.args.self.now c.args.entry.no ≡ None =
     sym c.refusal.ensures ∙ none-there c.refusal.result c.in_default.not-Some in
     entry-may b audit c.args.attempt (recovery_kind b c.args.entry.no) c.args.entry.no c.in_ok-begun.begun.entry
-    (recovery-may b audit c.args.attempt c.args.entry.no c.args.world.now none)
+    (recovery-may b audit c.args.attempt c.args.entry.no c.args.world.now none) c.requires.block
     (ap (λ (x : Begins). x.entry) c.in_ok-begun.ensures.begins
-    ∙ ap (λ (s : Staged). entry_of b s.audit c.args.attempt.now (recovery_kind b c.args.entry.no) c.args.entry.no) c.self.view_is)
+    ∙ ap (λ (s : Staged). entry_of b s.audit c.args.attempt.now c.args.attempt.block (recovery_kind b c.args.entry.no) c.args.entry.no) c.self.view_is)
 
 pub returns-clause-room : goal.returns-clause-room
 returns-clause-room c =

@@ -32,7 +32,7 @@ relay_step-requires-clause-told c =
     let source = attached_from c.args.self.now c.index-r.result.now.source c.in-Some.s.now (sym c.source_of.ensures ∙ ap option_copied c.in-Some.is) in
     let at : slice_get c.self.inside.servers.items source.number ≡ Some c.in-Some.s.now = subst (λ (w : World). server_at w source.number ≡ Some c.in-Some.s.now) (sym c.self.view_is) source.at in
     subst (λ (xs : List Server). TellsExecuted c.self.inside.gtid (uuids_in xs) c.index-in-Some.result.now.intervals c.index-r.result.now c.in-Some.s.now) (sym c.deref.ensures.value)
-    (tells c.self.inside.servers.items c.self.inside.executed.items c.self.inside.gtid source.number c.args.no.0 c.index-r.result.now c.in-Some.s.now c.index-in-Some.result.now c.self.invariant.gtids here at beside)
+    (tells c.self.inside.servers.items c.self.inside.executed.items c.self.inside.purged.items c.self.inside.gtid source.number c.args.no.0 c.index-r.result.now c.in-Some.s.now c.index-in-Some.result.now c.self.invariant.gtids here at beside)
 
 pub returns-in-Some-clause-step : goal.returns-in-Some-clause-step
 returns-in-Some-clause-step c =

@@ -1,7 +1,7 @@
 use Rattle.std.proofs.Common.{◌≡◌, ◌<◌, length, Some, arith, subst, sym, ◌∙◌}
 use Rattle.server_model.specs.Worlds.{World, server_at}
 use Rattle.server_model.proofs.Lists.{slice_get-index}
-use Rattle.server_model.proofs.Changed.{moved-asked, IsKept-moved, desk-reached, desk-unreached, asked-left, unasked-left}
+use Rattle.server_model.proofs.Changed.{moved-asked, purged-moved, IsKept-moved, desk-reached, desk-unreached, asked-left, unasked-left}
 use Rattle.std.proofs.Common.{ap}
 use Rattle.binlog_coords.specs.Index.{Index}
 use Rattle.server_model.specs.Desk.{asked}
@@ -27,7 +27,8 @@ invariant_of-self-2 c =
       kept = rw (c.ask.ensures, c.clear_if.ensures, c.empties-all.ensures)
           (IsKept-moved c.self.inside.servers.items c.self.inside.ledgers.items c.self.inside.errant c.args.no.0 c.index_mut-s.result.now c.self.invariant.kept here
           _ _ c.index_mut-l.result.now beside moved);
-      gtids = rw c.ask.ensures (AreGtids-still c.self.inside.servers.items c.self.inside.executed.items c.self.inside.gtid c.args.no.0 c.index_mut-s.result.now (asked c.args.ask c.index_mut-s.result.now) c.self.invariant.gtids here moved.settings moved.history (ap (λ (i : Index). length i.log.entries) moved.log));
+      gtids = rw c.ask.ensures (AreGtids-still c.self.inside.servers.items c.self.inside.executed.items c.self.inside.purged.items c.self.inside.gtid c.args.no.0 c.index_mut-s.result.now (asked c.args.ask c.index_mut-s.result.now) c.self.invariant.gtids here moved.settings moved.history (ap (λ (i : Index). length i.log.entries) moved.log)
+          (purged-moved c.index_mut-s.result.now _ _ moved));
     }
 
 pub returns-clause-answer : goal.returns-clause-answer

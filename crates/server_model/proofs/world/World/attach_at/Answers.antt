@@ -14,13 +14,13 @@ invariant_of-self c =
     let here = slice_get-index c.self.inside.servers.items c.args.no.0 c.index_mut-s.result.now within c.index_mut-s.ensures.value in
     let beside = slice_get-index c.self.inside.ledgers.items c.args.no.0 c.index_mut-l.result.now beyond c.index_mut-l.ensures.value in
     let target = target-in c.args.self.now c.self.inside.servers.items c.self.inside.gtid c.self.inside.errant c.args.to.0 c.args.at c.self.view_is c.requires.target in
-    let apart = joined-apart c.args.self.now c.self.inside.servers.items c.self.inside.gtid c.self.inside.errant c.args.no.0 c.args.expect c.args.to.0 c.index_mut-s.result.now c.self.view_is here
+    let apart = joined-apart c.args.self.now c.self.inside.servers.items c.self.inside.gtid c.self.inside.errant c.args.no.0 c.args.expect c.args.to.0 c.args.at c.index_mut-s.result.now c.self.view_is here
     (sym c.in-Ok.is ∙ c.test_attach_at.ensures) in
     record {
       kept = rw (c.attach.ensures, c.clear_if.ensures)
           (IsKept-attached false c.self.inside.servers.items c.self.inside.ledgers.items c.self.inside.errant c.args.no.0 c.index_mut-s.result.now c.index_mut-l.result.now c.args.to c.args.at target.0
           c.self.invariant.kept here beside target.1 target.2 apart);
-      gtids = rw c.attach.ensures (AreGtids-still c.self.inside.servers.items c.self.inside.executed.items c.self.inside.gtid c.args.no.0 c.index_mut-s.result.now (attached_to c.args.to c.args.at c.index_mut-s.result.now) c.self.invariant.gtids here refl refl refl);
+      gtids = rw c.attach.ensures (AreGtids-still c.self.inside.servers.items c.self.inside.executed.items c.self.inside.purged.items c.self.inside.gtid c.args.no.0 c.index_mut-s.result.now (attached_to c.args.to c.args.at c.index_mut-s.result.now) c.self.invariant.gtids here refl refl refl refl);
     }
 
 pub returns-clause-world : goal.returns-clause-world

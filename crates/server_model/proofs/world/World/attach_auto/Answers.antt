@@ -17,24 +17,24 @@ invariant_of-self c =
     let beside = slice_get-index c.self.inside.ledgers.items c.args.no.0 c.index_mut-l.result.now beyond c.index_mut-l.ensures.value in
     let target = c.requires.target.target in
     let there : slice_get c.self.inside.servers.items c.args.to.0 ≡ Some target = subst (λ (w : World). server_at w c.args.to.0 ≡ Some target) (sym c.self.view_is) c.requires.target.there in
-    let at = auto-coord-at c.args.self.now c.args.no.0 c.args.to.0 c.auto_coord-at.result c.index_mut-s.result.now target
-    (subst (λ (w : World). server_at w c.args.no.0 ≡ Some c.index_mut-s.result.now) c.self.view_is here) c.requires.target.there c.auto_coord-at.ensures in
-    let placed : has_place target.log.log c.auto_coord-at.result ≡ true =
+    let at = auto-coord-at c.args.self.now c.args.no.0 c.args.to.0 c.in_ok-at.at c.index_mut-s.result.now target
+    (subst (λ (w : World). server_at w c.args.no.0 ≡ Some c.index_mut-s.result.now) c.self.view_is here) c.requires.target.there c.in_ok-at.ensures.place in
+    let placed : has_place target.log.log c.in_ok-at.at ≡ true =
     ap (has_place target.log.log) at
     ∙ auto-placed (uuids c.args.self.now) c.index_mut-s.result.now target (c.self.invariant.kept.fit c.args.to.0 target there) (c.self.invariant.gtids.logged c.args.to.0 target there c.requires.target.logs) in
     let apart = auto-apart c.args.self.now c.self.inside.servers.items c.self.inside.gtid c.self.inside.errant c.args.no.0 c.args.observed.now c.args.to.0 c.index_mut-s.result.now c.self.view_is here
-    c.in-Ok.ensures in
+    c.in_ok-at.ensures.answer in
     record {
       kept = rw (c.attach_auto.ensures, c.clear_if.ensures)
-          (IsKept-attached true c.self.inside.servers.items c.self.inside.ledgers.items c.self.inside.errant c.args.no.0 c.index_mut-s.result.now c.index_mut-l.result.now c.args.to c.auto_coord-at.result target
+          (IsKept-attached true c.self.inside.servers.items c.self.inside.ledgers.items c.self.inside.errant c.args.no.0 c.index_mut-s.result.now c.index_mut-l.result.now c.args.to c.in_ok-at.at target
           c.self.invariant.kept here beside there placed apart);
       gtids = rw c.attach_auto.ensures
-          (AreGtids-still c.self.inside.servers.items c.self.inside.executed.items c.self.inside.gtid c.args.no.0 c.index_mut-s.result.now (attached_auto c.args.to c.auto_coord-at.result c.index_mut-s.result.now)
-          c.self.invariant.gtids here refl refl refl);
+          (AreGtids-still c.self.inside.servers.items c.self.inside.executed.items c.self.inside.purged.items c.self.inside.gtid c.args.no.0 c.index_mut-s.result.now
+          (attached_auto c.args.to c.in_ok-at.at c.index_mut-s.result.now) c.self.invariant.gtids here refl refl refl refl);
     }
 
 pub returns-clause-world : goal.returns-clause-world
 returns-clause-world c =
     let within : c.args.no.0 < length c.self.inside.servers.items = subst (λ (w : World). c.args.no.0 < length w.servers) (sym c.self.view_is) c.requires.server in
-    auto-left c.args.self.now c.self.inside.servers.items c.self.inside.gtid c.self.inside.errant c.args.no.0 c.args.to c.auto_coord-at.result c.index_mut-s.result.now c.attach_auto.new.self c.self.view_is
-    (slice_get-index c.self.inside.servers.items c.args.no.0 c.index_mut-s.result.now within c.index_mut-s.ensures.value) c.auto_coord-at.ensures c.attach_auto.ensures
+    auto-left c.args.self.now c.self.inside.servers.items c.self.inside.gtid c.self.inside.errant c.args.no.0 c.args.to c.in_ok-at.at c.index_mut-s.result.now c.attach_auto.new.self c.self.view_is
+    (slice_get-index c.self.inside.servers.items c.args.no.0 c.index_mut-s.result.now within c.index_mut-s.ensures.value) c.in_ok-at.ensures.place c.attach_auto.ensures

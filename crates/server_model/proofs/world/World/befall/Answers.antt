@@ -1,7 +1,7 @@
 use Rattle.std.proofs.Common.{◌<◌, length, subst, sym}
 use Rattle.server_model.specs.Worlds.{World}
 use Rattle.server_model.proofs.Lists.{slice_get-index}
-use Rattle.server_model.proofs.Changed.{moved-befallen, IsKept-still, befallen-left}
+use Rattle.server_model.proofs.Changed.{moved-befallen, purged-moved, IsKept-still, befallen-left}
 use Rattle.std.proofs.Common.{ap}
 use Rattle.binlog_coords.specs.Index.{Index}
 use Rattle.server_model.specs.Desk.{befallen}
@@ -17,7 +17,8 @@ invariant_of-self c =
       kept = rw c.befall.ensures
           (IsKept-still c.self.inside.servers.items c.self.inside.ledgers.items c.self.inside.errant c.args.no.0 c.index_mut-s.result.now c.self.invariant.kept here
           _ moved);
-      gtids = rw c.befall.ensures (AreGtids-still c.self.inside.servers.items c.self.inside.executed.items c.self.inside.gtid c.args.no.0 c.index_mut-s.result.now (befallen c.args.event c.index_mut-s.result.now) c.self.invariant.gtids here moved.settings moved.history (ap (λ (i : Index). length i.log.entries) moved.log));
+      gtids = rw c.befall.ensures (AreGtids-still c.self.inside.servers.items c.self.inside.executed.items c.self.inside.purged.items c.self.inside.gtid c.args.no.0 c.index_mut-s.result.now (befallen c.args.event c.index_mut-s.result.now) c.self.invariant.gtids here moved.settings moved.history (ap (λ (i : Index). length i.log.entries) moved.log)
+          (purged-moved c.index_mut-s.result.now _ _ moved));
     }
 
 pub returns : goal.returns

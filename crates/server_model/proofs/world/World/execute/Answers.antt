@@ -23,14 +23,14 @@ keep_gtid-requires-clause-some c =
     let within : c.args.no.0 < length c.self.inside.servers.items = subst (λ (w : World). c.args.no.0 < length w.servers) (sym c.self.view_is) c.requires.server in
     let here = slice_get-index c.self.inside.servers.items c.args.no.0 c.index_mut-r.result.now within c.index_mut-r.ensures.value in
     let step = step_in c.args.self.now c.self.inside.servers.items c.self.inside.gtid c.self.inside.errant c.args.no.0 c.index_mut-r.result.now (applying.Execute c.args.t c.args.to) (Execute c.args.t c.args.to) c.self.view_is here c.requires.step in
-    (step-numbered c.self.inside.servers.items c.self.inside.executed.items c.self.inside.gtid c.index_mut-r.result.now c.args.t c.args.to c.self.invariant.gtids step).some
+    (step-numbered c.self.inside.servers.items c.self.inside.executed.items c.self.inside.purged.items c.self.inside.gtid c.index_mut-r.result.now c.args.t c.args.to c.self.invariant.gtids step).some
 
 pub keep_gtid-requires-clause-few : goal.keep_gtid-requires-clause-few
 keep_gtid-requires-clause-few c =
     let within : c.args.no.0 < length c.self.inside.servers.items = subst (λ (w : World). c.args.no.0 < length w.servers) (sym c.self.view_is) c.requires.server in
     let here = slice_get-index c.self.inside.servers.items c.args.no.0 c.index_mut-r.result.now within c.index_mut-r.ensures.value in
     let step = step_in c.args.self.now c.self.inside.servers.items c.self.inside.gtid c.self.inside.errant c.args.no.0 c.index_mut-r.result.now (applying.Execute c.args.t c.args.to) (Execute c.args.t c.args.to) c.self.view_is here c.requires.step in
-    let few = (step-numbered c.self.inside.servers.items c.self.inside.executed.items c.self.inside.gtid c.index_mut-r.result.now c.args.t c.args.to c.self.invariant.gtids step).few in
+    let few = (step-numbered c.self.inside.servers.items c.self.inside.executed.items c.self.inside.purged.items c.self.inside.gtid c.index_mut-r.result.now c.args.t c.args.to c.self.invariant.gtids step).few in
     omega (arith, few)
 
 pub keep_gtid-requires-clause-room : goal.keep_gtid-requires-clause-room
@@ -58,9 +58,10 @@ invariant_of-self c =
           (IsKept-execute c.self.inside.servers.items c.self.inside.ledgers.items c.self.inside.gtid c.self.inside.errant c.args.no.0 c.index_mut-r.result.now c.index_mut-l.result.now c.args.to
           c.self.invariant.kept here beside c.args.t step ready.0 ready.1 ready.2);
       gtids = rw (c.take.ensures, c.keep_gtid.ensures)
-          (AreGtids-took c.self.inside.servers.items c.self.inside.executed.items c.self.inside.gtid c.args.no.0 c.index_mut-r.result.now c.index_mut-executed.result.now c.args.t c.args.to c.uuid_of-uuid.result
-          c.self.invariant.gtids here set_beside (step-numbered c.self.inside.servers.items c.self.inside.executed.items c.self.inside.gtid c.index_mut-r.result.now c.args.t c.args.to c.self.invariant.gtids step)
-          (c.uuid_of-uuid.ensures ∙ ap (λ (xs : List Server). uuids_in xs c.args.t.origin.0) c.deref.ensures.value));
+          (AreGtids-took c.self.inside.servers.items c.self.inside.executed.items c.self.inside.purged.items c.self.inside.gtid c.args.no.0 c.index_mut-r.result.now c.index_mut-executed.result.now c.args.t c.args.to c.uuid_of-uuid.result
+          c.self.invariant.gtids here set_beside (step-numbered c.self.inside.servers.items c.self.inside.executed.items c.self.inside.purged.items c.self.inside.gtid c.index_mut-r.result.now c.args.t c.args.to c.self.invariant.gtids step)
+          (c.uuid_of-uuid.ensures ∙ ap (λ (xs : List Server). uuids_in xs c.args.t.origin.0) c.deref.ensures.value)
+          (c.self.invariant.kept.fit c.args.no.0 c.index_mut-r.result.now here) ready.1);
     }
 
 pub returns : goal.returns

@@ -13,7 +13,7 @@ invariant_of-self c =
     let here = slice_get-index c.self.inside.servers.items c.args.no.0 c.index_mut-r.result.now within c.index_mut-r.ensures.value in
     record {
       kept = IsKept-forget c.self.inside.servers.items c.self.inside.ledgers.items c.self.inside.errant c.args.no.0 c.index_mut-r.result.now c.self.invariant.kept here;
-      gtids = (AreGtids-still c.self.inside.servers.items c.self.inside.executed.items c.self.inside.gtid c.args.no.0 c.index_mut-r.result.now (record c.index_mut-r.result.now { applier = false; until = None }) c.self.invariant.gtids here refl refl refl);
+      gtids = (AreGtids-still c.self.inside.servers.items c.self.inside.executed.items c.self.inside.purged.items c.self.inside.gtid c.args.no.0 c.index_mut-r.result.now (record c.index_mut-r.result.now { applier = false; until = None }) c.self.invariant.gtids here refl refl refl refl);
     }
 
 pub returns : goal.returns

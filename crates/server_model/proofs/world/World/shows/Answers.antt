@@ -4,19 +4,23 @@ use Rattle.server_model.specs.Ledgers.{above_in}
 use Rattle.server_model.specs.Worlds.{World, server_at}
 use Rattle.server_model.specs.declared.server.Server.{Server}
 use Rattle.server_model.proofs.Lists.{slice_get-index}
-use Rattle.server_model.proofs.Seen.{shown-is, seen-kept}
+use Rattle.server_model.proofs.Seen.{shown-is, seen-kept, purged-kept}
 use Rattle.server_model.proofs.world.World.shows.Goals as goal
 
 pub returns : goal.returns
 returns c =
     let within : c.args.no.0 < length c.self.inside.servers.items = subst (λ (w : World). c.args.no.0 < length w.servers) (sym c.self.view_is) c.requires in
     let beyond : c.args.no.0 < length c.self.inside.executed.items = let e = c.self.invariant.gtids.paired in omega arith in
+    let past : c.args.no.0 < length c.self.inside.purged.items = let e = c.self.invariant.gtids.purged_paired in omega arith in
     let here = slice_get-index c.self.inside.servers.items c.args.no.0 c.index-s.result.now within c.index-s.ensures in
     let beside = slice_get-index c.self.inside.executed.items c.args.no.0 c.index.result.now beyond c.index.ensures in
-    shown-is c.args.self.now c.args.no.0 c.index-s.result.now (option_copied c.above.result) c.in_ok-set.set c.status_of.result
+    let besides = slice_get-index c.self.inside.purged.items c.args.no.0 c.index-2.result.now past c.index-2.ensures in
+    shown-is c.args.self.now c.args.no.0 c.index-s.result.now (option_copied c.above.result) c.in_ok-set.set c.in_ok-purged.purged c.status_of.result
     (subst (λ (w : World). server_at w c.args.no.0 ≡ Some c.index-s.result.now) c.self.view_is here)
     (c.above.ensures ∙ ap (λ (ss : List Server). above_in ss c.index-s.result.now.source) c.deref.ensures.value
     ∙ ap (λ (w : World). above_in w.servers c.index-s.result.now.source) c.self.view_is)
     (c.in_ok-set.ensures ∙ seen-kept c.args.self.now c.self.inside.servers.items c.self.inside.gtid c.self.inside.errant c.index-s.result.now c.index.result.now c.self.view_is
     (c.self.invariant.gtids.kept c.args.no.0 c.index-s.result.now c.index.result.now here beside))
+    (c.in_ok-purged.ensures ∙ purged-kept c.args.self.now c.self.inside.servers.items c.self.inside.gtid c.self.inside.errant c.index-s.result.now c.index-2.result.now c.self.view_is
+    (c.self.invariant.gtids.purges c.args.no.0 c.index-s.result.now c.index-2.result.now here besides))
     c.status_of.ensures

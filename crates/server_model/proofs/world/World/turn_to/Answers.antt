@@ -16,7 +16,7 @@ invariant_of-self c =
     record {
       kept = IsKept-turn c.self.inside.servers.items c.self.inside.ledgers.items c.self.inside.errant c.args.no.0 c.index_mut-r.result.now beside.0 c.args.to c.self.invariant.kept here beside.1
           (take_in c.args.self.now c.self.inside.servers.items c.self.inside.gtid c.self.inside.errant c.args.no.0 c.index_mut-r.result.now (next.Rotate c.args.to) c.self.view_is here c.requires.step);
-      gtids = (AreGtids-still c.self.inside.servers.items c.self.inside.executed.items c.self.inside.gtid c.args.no.0 c.index_mut-r.result.now (record c.index_mut-r.result.now { read = c.args.to }) c.self.invariant.gtids here refl refl refl);
+      gtids = (AreGtids-still c.self.inside.servers.items c.self.inside.executed.items c.self.inside.purged.items c.self.inside.gtid c.args.no.0 c.index_mut-r.result.now (record c.index_mut-r.result.now { read = c.args.to }) c.self.invariant.gtids here refl refl refl refl);
     }
 
 pub returns : goal.returns

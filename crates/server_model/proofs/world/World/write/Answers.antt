@@ -66,11 +66,11 @@ invariant_of-self-2 c =
           (slice_get-index c.self.inside.ledgers.items c.args.no.0 c.index_mut-l.result.now beyond c.index_mut-l.ensures.value)
           (omega (arith, c.len.ensures.value, c.room.ensures.value, c.if-room-len.false)) c.requires.some c.requires.size (omega (arith, c.errant_writes.ensures.within)));
       gtids = rw (c.take.ensures, c.keep_gtid.ensures)
-          (AreGtids-took c.self.inside.servers.items c.self.inside.executed.items c.self.inside.gtid c.args.no.0 c.index_mut-s.result.now c.index_mut-executed.result.now
+          (AreGtids-took c.self.inside.servers.items c.self.inside.executed.items c.self.inside.purged.items c.self.inside.gtid c.args.no.0 c.index_mut-s.result.now c.index_mut-executed.result.now
           (own_txn c.args.no.0 (c.index_mut-l.result.now.own + 1) c.args.size) c.index_mut-s.result.now.exec c.index_mut-s.result.now.settings.uuid c.self.invariant.gtids here set_beside
           (own-numbered c.self.inside.servers.items c.self.inside.ledgers.items c.self.inside.errant c.args.no.0 c.args.size c.index_mut-s.result.now c.index_mut-l.result.now c.self.invariant.kept here beside
           (omega (arith, c.len.ensures.value, c.room.ensures.value, c.if-room-len.false)))
-          (sym (uuids_in-at c.self.inside.servers.items c.args.no.0 c.index_mut-s.result.now here)));
+          (sym (uuids_in-at c.self.inside.servers.items c.args.no.0 c.index_mut-s.result.now here)) (c.self.invariant.kept.fit c.args.no.0 c.index_mut-s.result.now here) c.requires.some);
     }
 
 pub returns-clause-answer : goal.returns-clause-answer

@@ -1,0 +1,19 @@
+-- The change that keeps the book's row as it becomes.
+use Rattle.std.proofs.Common.{◌≡◌, Bool, true, false, None, Some, refl}
+use Rattle.std.specs.Prelude.{if◌then◌else◌}
+use Rattle.kept_rows.specs.declared.observation.Instance.{Instance}
+use Rattle.kept_rows.specs.declared.row.Row.TheVariants as row
+use Rattle.kept_rows.specs.declared.row.Change.TheVariants as change
+use Rattle.kept_rows.specs.Same.{same_instance}
+use Rattle.kept_rows.proofs.Same.{instance_is, instance_refl}
+use Rattle.instance_keeper.specs.Book.{renewal}
+
+pub renewal_none : (kept now : Instance) → kept ≡ now → renewal kept now ≡ None
+renewal_none kept now h = rw (instance_refl kept now h) refl
+
+pub renewal_some : (kept now : Instance) → (kept ≡ now → ⊥) → renewal kept now ≡ Some (change.Put (row.Instance now))
+renewal_some kept now h = go (same_instance kept now) refl
+  where
+    go : (b : Bool) → same_instance kept now ≡ b → (if b then None else Some (change.Put (row.Instance now))) ≡ Some (change.Put (row.Instance now))
+    go true e = absurd (h (instance_is kept now e))
+    go false e = refl

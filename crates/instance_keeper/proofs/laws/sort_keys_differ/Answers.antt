@@ -1,5 +1,0 @@
-use Rattle.instance_keeper.proofs.SameRows.{same_sort_key}
-use Rattle.instance_keeper.proofs.laws.sort_keys_differ.Goals as goal
-
-pub returns : goal.returns
-returns c = same_sort_key

@@ -1,0 +1,117 @@
+-- A job is stopped by a purged file exactly where its attachment is answered so.
+use Rattle.std.proofs.Common.{◌≡◌, ℕ, ◌+◌, Bool, true, false, cond, List, [], refl, ◌∙◌, ap, Option, Some, None, Ok, Err, Result}
+use Rattle.std.specs.Prelude.{nat_lt}
+use Rattle.std.proofs.lemmas.Option.{same_Some}
+use Rattle.binlog_coords.specs.declared.Coord.{Coord}
+use Rattle.orch_base.specs.declared.server.Moment.{Moment}
+use Rattle.orch_base.specs.declared.server.ServerNo.{ServerNo}
+use Rattle.kept_rows.specs.declared.observation.Observation.{Observation}
+use Rattle.server_words.specs.declared.status.Status.{Status}
+use Rattle.kept_rows.specs.Seeing.{seen_in}
+use Rattle.server_words.specs.declared.answers.Unreachable.{Unreachable}
+use Rattle.server_words.specs.declared.attach.AttachFault.{AttachFault}
+use Rattle.server_words.specs.declared.attach.AttachFault.TheVariants as attaching
+use Rattle.server_words.specs.declared.changes.Ask.{Ask}
+use Rattle.server_words.specs.declared.changes.Ask.TheVariants as asking
+use Rattle.server_model.specs.Desk.{desk_answer}
+use Rattle.server_model.specs.Gtids.{status}
+use Rattle.server_model.specs.Run.{Exchange}
+use Rattle.server_model.specs.Worlds.{World, server_at}
+use Rattle.commands.specs.declared.cause.Cause.TheVariants as cause
+use Rattle.operations.specs.declared.op.Op.{Op}
+use Rattle.operations.specs.Changes.{change_of}
+use Rattle.operations.specs.Deeds as deed
+use Rattle.operations.specs.Deeds.{Deed}
+use Rattle.operations.specs.Jobs.{Job, seen_of}
+use Rattle.operations.specs.Targets.{can_attach}
+use Rattle.operations.specs.Turns.{Attempt, Goes, Stops, next, saw, observed, is_moved, after_status, after_look, after_ask, aim_of, is_reached, until_by, after_until, after_wait_by, after_wait, holds_seen, settles, crossing_of, same_again, by_set, attach_answer_of, cause_by, after_answer, after_attach, by_deed}
+use Rattle.job_laws.specs.Held.{attachment_of, IsPurged}
+
+module _ (w : World) (j : Job) (rest : List Op) (n : ServerNo) (first : ℕ) (o : Option Observation) where
+  abbrev IsStopped : Attempt → Type 0
+  IsStopped a = a ≡ Stops (cause.Purged n first) o
+
+  not-looked : (m : ServerNo) (from : Option ServerNo) (seen : Observation) (r : Option Status) → IsStopped (after_look j rest m from seen r) → ⊥
+  not-looked m from seen None e = cc
+  not-looked m from seen (Some s) e = go (is_moved from s.source) e
+    where
+      go : (b : Bool) → IsStopped (after_status j rest m from seen s b) → ⊥
+      go true f = cc
+      go false f = cc
+
+  not-asked : (m : ServerNo) (a : Ask) (r : Result (Unit {0}) Unreachable) → IsStopped (after_ask j rest m a r) → ⊥
+  not-asked m a (Ok t) e = cc
+  not-asked m a (Err f) e = cc
+
+  not-until : (m : ServerNo) (to : Option Coord) → IsStopped (after_until w j rest m to) → ⊥
+  not-until m None e = cc
+  not-until m (Some to) e = not-asked m (asking.StartUntil to) (desk_answer (server_at w m.0)) e
+
+  not-waited : (m : ServerNo) (reached : Status → Bool) (r : Option Status) → IsStopped (after_wait j rest m reached r) → ⊥
+  not-waited m reached None e = cc
+  not-waited m reached (Some s) e = go (reached s) e
+    where
+      more : (b : Bool) → IsStopped (cond b (Goes None [] (record (saw j m s) { waited = j.waited + 1 })) (Stops (cause.WaitSpent m) None)) → ⊥
+      more true f = cc
+      more false f = cc
+
+      go : (b : Bool) → IsStopped (after_wait_by j rest m s b) → ⊥
+      go true f = cc
+      go false f = more (nat_lt (j.waited + 1) j.wait) f
+
+  by_cause : (m : ServerNo) (f : AttachFault) → IsStopped (Stops (cause_by m f) None) → (Some m ≡ Some n) × (f ≡ attaching.Purged first)
+  by_cause m attaching.Unreachable e = cc
+  by_cause m (attaching.Running at) e = cc
+  by_cause m (attaching.Interfered expected found) e = cc
+  by_cause m attaching.Loop e = cc
+  by_cause m (attaching.Errant set) e = cc
+  by_cause m (attaching.Purged k) e = (cc, cc)
+  by_cause m attaching.Memory e = cc
+
+  attached : (m : ServerNo) (x : Option Exchange) → IsStopped (after_attach w j rest m x) → (Some m ≡ Some n) × IsPurged w first x
+  attached m None e = cc
+  attached m (Some x) e = by (can_attach w x) refl e
+    where
+      go : (r : Result (Unit {0}) AttachFault) → attach_answer_of w x ≡ r → can_attach w x ≡ true → IsStopped (after_answer j rest m x r) → (Some m ≡ Some n) × IsPurged w first (Some x)
+      go (Ok t) is can f = cc
+      go (Err fault) is can f =
+          let both = by_cause m fault f in
+          (both.0, record { exchange = x; found = refl; can = can; answer = is ∙ ap Err both.1 })
+
+      by : (b : Bool) → can_attach w x ≡ b → IsStopped (cond b (after_answer j rest m x (attach_answer_of w x)) (Goes None [] (next j rest))) → (Some m ≡ Some n) × IsPurged w first (Some x)
+      by true can f = go (attach_answer_of w x) refl can f
+      by false can f = cc
+
+pub purged-only : (w : World) (read : ℕ) (now : Moment) (j : Job) (rest : List Op) (d : Deed) (n : ServerNo) (first : ℕ) (o : Option Observation)
+    → by_deed w read now j rest d ≡ Stops (cause.Purged n first) o → (change_of d ≡ Some n) × IsPurged w first (attachment_of j.seen d)
+purged-only w read now j rest (deed.Look m from) n first o e = absurd (not-looked w j rest n first o m from (observed w read now m) (seen_in (status w m.0)) e)
+purged-only w read now j rest (deed.Request m a) n first o e = absurd (not-asked w j rest n first o m a (desk_answer (server_at w m.0)) e)
+purged-only w read now j rest (deed.Until m to) n first o e = absurd (not-until w j rest n first o m (until_by (seen_of j.seen m.0) (aim_of j.seen to)) e)
+purged-only w read now j rest (deed.Await m to) n first o e = absurd (not-waited w j rest n first o m (λ s. is_reached (aim_of j.seen to) s.exec) (seen_in (status w m.0)) e)
+purged-only w read now j rest (deed.AwaitSet m k) n first o e = absurd (not-waited w j rest n first o m (holds_seen (seen_of j.seen k.0)) (seen_in (status w m.0)) e)
+purged-only w read now j rest (deed.Settle m) n first o e = absurd (not-waited w j rest n first o m (settles j) (seen_in (status w m.0)) e)
+purged-only w read now j rest (deed.Cross c a b) n first o e = attached w j rest n first o a (crossing_of j.seen c a b) e
+purged-only w read now j rest (deed.Same m) n first o e = attached w j rest n first o m (same_again m (seen_of j.seen m.0)) e
+purged-only w read now j rest (deed.Auto m k) n first o e = attached w j rest n first o m (by_set m k (seen_of j.seen k.0)) e
+purged-only w read now j rest (deed.Finish lines) n first o e = cc
+
+purged-attach : (w : World) (j : Job) (rest : List Op) (m n : ServerNo) (first : ℕ) (x : Option Exchange) → Some m ≡ Some n → IsPurged w first x
+    → after_attach w j rest m x ≡ Stops (cause.Purged n first) None
+purged-attach w j rest m n first x same p =
+    ap (after_attach w j rest m) p.found
+    ∙ ap (λ b. cond b (after_answer j rest m p.exchange (attach_answer_of w p.exchange)) (Goes None [] (next j rest))) p.can
+    ∙ ap (after_answer j rest m p.exchange) p.answer
+    ∙ ap (λ (k : ServerNo). Stops (cause.Purged k first) None) (same_Some m n same)
+
+pub purged-stops : (w : World) (read : ℕ) (now : Moment) (j : Job) (rest : List Op) (d : Deed) (n : ServerNo) (first : ℕ)
+    → change_of d ≡ Some n → IsPurged w first (attachment_of j.seen d) → by_deed w read now j rest d ≡ Stops (cause.Purged n first) None
+purged-stops w read now j rest (deed.Look m from) n first h p = let none = p.found in cc
+purged-stops w read now j rest (deed.Request m a) n first h p = let none = p.found in cc
+purged-stops w read now j rest (deed.Until m to) n first h p = let none = p.found in cc
+purged-stops w read now j rest (deed.Await m to) n first h p = let none = p.found in cc
+purged-stops w read now j rest (deed.AwaitSet m k) n first h p = let none = p.found in cc
+purged-stops w read now j rest (deed.Settle m) n first h p = let none = p.found in cc
+purged-stops w read now j rest (deed.Cross c a b) n first h p = purged-attach w j rest a n first (crossing_of j.seen c a b) h p
+purged-stops w read now j rest (deed.Same m) n first h p = purged-attach w j rest m n first (same_again m (seen_of j.seen m.0)) h p
+purged-stops w read now j rest (deed.Auto m k) n first h p = purged-attach w j rest m n first (by_set m k (seen_of j.seen k.0)) h p
+purged-stops w read now j rest (deed.Finish lines) n first h p = let none = p.found in cc

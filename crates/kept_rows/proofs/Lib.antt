@@ -1,0 +1,7 @@
+pub mod Lists
+pub mod SortKeys
+pub mod Known
+pub mod Same
+pub mod LookUps
+pub mod SameRows
+pub mod Recoveries

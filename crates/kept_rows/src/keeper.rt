@@ -1,0 +1,62 @@
+//! Keepers of rows.
+
+ghost use Rattle.std.specs.Prelude.{◌≡◌, ℕ, List, Option, IfSome, IfOk};
+ghost use Rattle.kept_rows.specs.declared.row.Row.{Row};
+ghost use Rattle.kept_rows.specs.Keeping.{KeepsAll, HasKeeperCause};
+ghost use Rattle.kept_rows.specs.Rows.{IsRising};
+
+use crate::Memory;
+use crate::row::{Change, Row};
+use orch_base::Name;
+use std::alloc::Global;
+use std::fmt;
+
+/// Why a keeper gave up.
+#[derive(Clone, Copy, Debug, PartialEq, Eq)]
+pub enum KeeperFault {
+    /// The keeper failed, and counted it.
+    Failed,
+    /// Want of memory.
+    Memory,
+}
+
+impl From<Memory> for KeeperFault {
+    ghost use Rattle.std.specs.Prelude.{◌≡◌};
+    ghost use Rattle.kept_rows.specs.declared.keeper.KeeperFault.TheVariants.{Memory};
+
+    ghost from_gives = { λ _ e. e ≡ Memory };
+
+    fn from(_e: Memory) -> KeeperFault {
+        KeeperFault::Memory
+    }
+}
+
+impl fmt::Display for KeeperFault {
+    fn fmt<W: fmt::Write>(&self, f: &mut fmt::Formatter<W>) -> fmt::Result {
+        match self {
+            KeeperFault::Failed => write!(f, "the keeper failed"),
+            KeeperFault::Memory => write!(f, "out of memory"),
+        }
+    }
+}
+
+/// A keeper of rows, by the rows that it keeps in rising order, where they are known, and its count of faults.
+pub trait Keeper {
+    ghost kept: { Self → Option (List Row) };
+
+    ghost faults: { Self → ℕ };
+
+    /// Makes all the changes, one after another, or, at a fault, none. The names are those of the servers by number.
+    /// `Failed` comes only where the count of faults rose.
+    fn keep(&mut self, alloc: Global, names: &[Name], changes: &[Change]) -> Result<(), KeeperFault>
+        ensures kept { KeepsAll (kept self.old) (kept self.new) changes.now result }
+        ensures cause { HasKeeperCause (faults self.old) (faults self.new) result };
+
+    /// Gives all rows, in rising order by table, then key, one of each, and changes none. The names are those of the
+    /// servers by number. `Failed` comes only where the count of faults rose.
+    fn rows(&mut self, alloc: Global, names: &[Name]) -> Result<Vec<Row>, KeeperFault>
+        ensures told { IfSome (kept self.old) (λ rows. IfOk result (λ given. given.items ≡ rows)) }
+        ensures rising { IfOk result (λ given. IsRising given.items) }
+        ensures same { kept self.new ≡ kept self.old }
+        ensures cause { HasKeeperCause (faults self.old) (faults self.new) result };
+}

@@ -1,0 +1,280 @@
+//! A keeper in memory, which fails at the calls that are listed.
+
+ghost use Rattle.std.specs.Prelude.{◌≡◌, ◌<◌, ◌≤◌, ◌+◌, ◌↔◌, Some, IfSome, fold, true, IfOk, OnOk, OnErr, Err, length, vec_len, vec_capacity};
+ghost use Rattle.std.specs.Bool.{OnTrue, OnFalse};
+ghost use Rattle.std.specs.List.{HoldsAt};
+ghost use Rattle.orch_base.specs.Memory.{fails_next};
+ghost use Rattle.kept_rows.specs.Keeping.{KeepsAll, HasKeeperCause, after_call};
+ghost use Rattle.kept_rows.specs.SortKeys.{at, IsFirstFrom};
+ghost use Rattle.kept_rows.specs.Rows.{changed, changed_by, map_of, sort_key_of, put, remove, IsRising};
+
+use crate::Memory;
+use crate::keeper::{Keeper, KeeperFault};
+use crate::row::{Change, Row, SortKey};
+use orch_base::Name;
+use std::alloc::Global;
+use std::marker::Model;
+
+/// A keeper in memory.
+#[derive(Drop)]
+pub struct MemKeeper {
+    rows: Vec<Row>,
+    fail_at: Vec<u64>,
+    calls: u64,
+    faults: u64,
+}
+
+impl Model for MemKeeper {
+    ghost use Rattle.kept_rows.specs.Keeping.{Kept};
+    ghost use Rattle.kept_rows.specs.Rows.{IsRising};
+
+    ghost Value = { Kept };
+
+    ghost view = { λ k. record { rows = k.rows.items; calls = k.calls; fail_at = k.fail_at.items; faults = k.faults } };
+
+    ghost invariant = { λ k. IsRising k.rows.items };
+}
+
+// Which of these rows to look at next: an instance's row mostly stands at its server's number.
+fn next_look(from: usize, to: usize, guess: usize) -> usize
+    requires { from < to }
+    ensures from { from ≤ result }
+    ensures to { result < to }
+{
+    if from <= guess && guess < to {
+        return guess;
+    }
+    if to == guess {
+        return to - 1;
+    }
+    from + (to - from) / 2
+}
+
+// The first row that doesn't stand before this sort key.
+fn first_from(rows: &[Row], sort_key: SortKey) -> usize
+    requires { IsRising rows.now }
+    ensures { IsFirstFrom rows.now (at sort_key) result }
+{
+    let guess = sort_key.key.guess();
+    let mut from = 0;
+    let mut to = rows.len();
+    'halves: while from < to {
+        let middle = next_look(from, to, guess);
+        if rows[middle].sort_key().is_before(sort_key) {
+            from = middle + 1;
+        } else {
+            to = middle;
+        }
+    }
+    from
+}
+
+// Whether there is a row of this index that doesn't stand behind this sort key.
+fn is_there(rows: &[Row], index: usize, sort_key: SortKey) -> bool
+    ensures there { OnTrue result (index < length rows.now) }
+    ensures yes { OnTrue result (HoldsAt (λ r. sort_key_of r ≤ at sort_key) rows.now index) }
+    ensures no { OnFalse result (index < length rows.now → HoldsAt (λ r. at sort_key < sort_key_of r) rows.now index) }
+{
+    match rows.get(index) {
+        Some(row) => !sort_key.is_before(row.sort_key()),
+        None => false,
+    }
+}
+
+// Puts a row in place of one with its table and key. It takes no memory.
+fn put_row(rows: &mut Vec<Row>, row: Row)
+    requires rising { IsRising rows.old.items }
+    requires room { vec_len rows.old < vec_capacity rows.old }
+    ensures items { rows.new.items ≡ put rows.old.items row }
+    ensures rising { IsRising rows.new.items }
+    ensures len { vec_len rows.new ≤ vec_len rows.old + 1 }
+    ensures capacity { vec_capacity rows.old ≤ vec_capacity rows.new }
+{
+    let sort_key = row.sort_key();
+    let index = first_from(rows, sort_key);
+    if is_there(rows, index, sort_key) {
+        rows[index] = row;
+    } else {
+        rows.insert(index, row).unwrap();
+    }
+}
+
+// Removes the row of this sort key, where there is one.
+fn remove_row(rows: &mut Vec<Row>, sort_key: SortKey)
+    requires rising { IsRising rows.old.items }
+    ensures items { rows.new.items ≡ remove rows.old.items sort_key.table sort_key.key }
+    ensures rising { IsRising rows.new.items }
+    ensures len { vec_len rows.new ≤ vec_len rows.old }
+    ensures capacity { vec_capacity rows.old ≤ vec_capacity rows.new }
+{
+    let index = first_from(rows, sort_key);
+    if is_there(rows, index, sort_key) {
+        rows.remove(index);
+    }
+}
+
+// Makes a change. It takes no memory.
+fn change_row(rows: &mut Vec<Row>, change: Change)
+    requires rising { IsRising rows.old.items }
+    requires room { vec_len rows.old < vec_capacity rows.old }
+    ensures items { rows.new.items ≡ changed_by rows.old.items change }
+    ensures rising { IsRising rows.new.items }
+    ensures len { vec_len rows.new ≤ vec_len rows.old + 1 }
+    ensures capacity { vec_capacity rows.old ≤ vec_capacity rows.new }
+{
+    match change {
+        Change::Put(row) => put_row(rows, row),
+        Change::Remove(table, key) => remove_row(rows, SortKey { table, key }),
+    }
+}
+
+// Makes all the changes, one after another. It takes no memory.
+fn change_all(rows: &mut Vec<Row>, changes: Vec<Change>)
+    requires rising { IsRising rows.old.items }
+    requires room { vec_len rows.old + vec_len changes ≤ vec_capacity rows.old }
+    ensures items { rows.new.items ≡ changed rows.old.items changes.items }
+    ensures rising { IsRising rows.new.items }
+{
+    'changes: for change in changes {
+        change_row(rows, change);
+    }
+}
+
+// Puts all the rows, one after another. It takes no memory.
+fn put_all(rows: &mut Vec<Row>, more: Vec<Row>)
+    requires rising { IsRising rows.old.items }
+    requires room { vec_len rows.old + vec_len more ≤ vec_capacity rows.old }
+    ensures items { rows.new.items ≡ fold put rows.old.items more.items }
+    ensures rising { IsRising rows.new.items }
+{
+    'rows: for row in more {
+        put_row(rows, row);
+    }
+}
+
+fn copy_changes(alloc: Global, changes: &[Change]) -> Result<Vec<Change>, Memory>
+    ensures { IfOk result (λ copies. copies.items ≡ changes.now) }
+{
+    let mut copies = Vec::with_capacity(alloc, changes.len())?;
+    for change in changes {
+        copies.push(change.copy(alloc)?)?;
+    }
+    Ok(copies)
+}
+
+// Makes a change, which is copied. It changes nothing at want of memory.
+fn change_one(alloc: Global, rows: &mut Vec<Row>, change: &Change) -> Result<(), Memory>
+    requires rising { IsRising rows.old.items }
+    ensures ok { OnOk result (rows.new.items ≡ changed_by rows.old.items change.now) }
+    ensures err { OnErr result (rows.new.items ≡ rows.old.items) }
+    ensures rising { IsRising rows.new.items }
+{
+    let change = change.copy(alloc)?;
+    rows.reserve(1)?;
+    change_row(rows, change);
+    Ok(())
+}
+
+fn copy_rows(alloc: Global, rows: &[Row]) -> Result<Vec<Row>, Memory>
+    ensures { IfOk result (λ copies. copies.items ≡ rows.now) }
+{
+    let mut copies = Vec::with_capacity(alloc, rows.len())?;
+    for row in rows {
+        copies.push(row.copy(alloc)?)?;
+    }
+    Ok(copies)
+}
+
+/// The map of any list of rows, in rising order: of two with one table and key the last stands.
+pub fn row_map(alloc: Global, rows: Vec<Row>) -> Result<Vec<Row>, Memory>
+    ensures { IfOk result (λ map. map.items ≡ map_of rows.items) }
+{
+    let mut map = Vec::with_capacity(alloc, rows.len())?;
+    put_all(&mut map, rows);
+    Ok(map)
+}
+
+impl MemKeeper {
+    /// A keeper of these rows: of two with one table and key the last is kept. The calls of `keep` and `rows` whose
+    /// numbers, from 1, are listed fail, and no other.
+    pub fn new(alloc: Global, rows: Vec<Row>, fail_at: Vec<u64>) -> Result<MemKeeper, Memory>
+        ensures { IfOk result (λ k. k ≡ record { rows = map_of rows.items; calls = 0; fail_at = fail_at.items; faults = 0 }) }
+    {
+        let mut kept = Vec::with_capacity(alloc, rows.len())?;
+        put_all(&mut kept, rows);
+        Ok(MemKeeper {
+            rows: kept,
+            fail_at,
+            calls: 0,
+            faults: 0,
+        })
+    }
+
+    /// How many calls failed.
+    pub fn faults(&self) -> u64
+        ensures { result ≡ self.now.faults }
+    {
+        self.faults
+    }
+
+    // Counts a call, and whether it fails by its number.
+    fn fails(&mut self) -> bool
+        ensures fails { result ≡ fails_next self.old.fail_at self.old.calls }
+        ensures after { self.new ≡ after_call self.old }
+        ensures later { self.old.faults ≤ self.new.faults }
+    {
+        self.calls = self.calls.saturating_add(1);
+        if self.fail_at.contains(&self.calls) {
+            self.faults = self.faults.saturating_add(1);
+            return true;
+        }
+        false
+    }
+}
+
+impl Keeper for MemKeeper {
+    ghost kept = { λ k. Some k.rows };
+
+    ghost faults = { λ k. k.faults };
+
+    /// Makes all the changes, or none where it fails by its number or there is want of memory.
+    fn keep(
+        &mut self,
+        alloc: Global,
+        _names: &[Name],
+        changes: &[Change],
+    ) -> Result<(), KeeperFault>
+        ensures kept { KeepsAll (Some self.old.rows) (Some self.new.rows) changes.now result }
+        ensures cause { HasKeeperCause self.old.faults self.new.faults result }
+        ensures failed { (result ≡ Err KeeperFault.Failed) ↔ (fails_next self.old.fail_at self.old.calls ≡ true) }
+        ensures ok { OnOk result (self.new ≡ record (after_call self.old) { rows = changed self.old.rows changes.now }) }
+        ensures err { OnErr result (self.new ≡ after_call self.old) }
+    {
+        if self.fails() {
+            return Err(KeeperFault::Failed);
+        }
+        if let [change] = changes {
+            change_one(alloc, &mut self.rows, change)?;
+            return Ok(());
+        }
+        let changes = copy_changes(alloc, changes)?;
+        self.rows.reserve(changes.len())?;
+        change_all(&mut self.rows, changes);
+        Ok(())
+    }
+
+    /// Gives copies of all rows, by table, then key.
+    fn rows(&mut self, alloc: Global, _names: &[Name]) -> Result<Vec<Row>, KeeperFault>
+        ensures told { IfSome (Some self.old.rows) (λ rows. IfOk result (λ given. given.items ≡ rows)) }
+        ensures rising { IfOk result (λ given. IsRising given.items) }
+        ensures same { Some self.new.rows ≡ Some self.old.rows }
+        ensures cause { HasKeeperCause self.old.faults self.new.faults result }
+        ensures failed { (result ≡ Err KeeperFault.Failed) ↔ (fails_next self.old.fail_at self.old.calls ≡ true) }
+        ensures after { self.new ≡ after_call self.old }
+    {
+        if self.fails() {
+            return Err(KeeperFault::Failed);
+        }
+        Ok(copy_rows(alloc, &self.rows)?)
+    }
+}

@@ -1,0 +1,29 @@
+-- Block periods are at most 1,000,000,000 seconds.
+use Rattle.std.proofs.Common.{ℕ, ◌≤◌, Bool, true, false, List, [], ◌∷◌}
+use Rattle.std.specs.Prelude.{All, nat_eq, if◌then◌else◌}
+use Rattle.std.specs.Cmp.Lexicographic.{pointwise}
+use Rattle.std.proofs.lemmas.List.Elements.{All-head, All-tail}
+use Rattle.asking_commands.specs.Asking.{label_at}
+use Rattle.audit_log.specs.Audits.{longest_block}
+use Rattle.orch_base.specs.declared.server.ServerNo.{ServerNo}
+use Rattle.scenarios.specs.Blocks.{period_in}
+use Rattle.scenarios.specs.declared.blocks.Block.{Block}
+use Rattle.orch_core.specs.Commands.{by_hand}
+use Rattle.orch_core.specs.Periods.{period_by}
+use Rattle.orch_core.specs.Polls.{numbers_of}
+use Rattle.orch_core.specs.States.{IsState, State}
+
+pub short-in : (bs : List Block) (block : ℕ) (cluster : List ℕ) → All (λ b. b.seconds ≤ 1000000000) bs → block ≤ 1000000000 → period_in bs block cluster ≤ 1000000000
+short-in [] block cluster all short = short
+short-in (b ∷ bs) block cluster all short = go (pointwise nat_eq b.cluster cluster) (short-in bs block cluster (All-tail (λ (x : Block). x.seconds ≤ 1000000000) b bs all) short)
+  where
+    go : (c : Bool) → period_in bs block cluster ≤ 1000000000 → (if c then b.seconds else period_in bs block cluster) ≤ 1000000000
+    go true rest = All-head (λ (x : Block). x.seconds ≤ 1000000000) b bs all
+    go false rest = rest
+
+pub period-short : (s : State) → IsState s → (cluster : List ℕ) → period_by s.configuration cluster ≤ longest_block
+period-short s is cluster = short-in s.configuration.blocks s.configuration.block cluster is.blocks is.block
+
+-- that of a server's recovery for which an operator asks
+pub hand-short : (s : State) → IsState s → (i : ServerNo) → (by_hand s.book s.configuration (numbers_of s) i).block ≤ longest_block
+hand-short s is i = period-short s is (label_at s.book i)

@@ -1,0 +1,80 @@
+-- The state after each turn.
+use Rattle.std.specs.Prelude.{ℕ, List, [], ◌∷◌, slice_set, Some, None, is_some, if◌then◌else◌}
+use Rattle.orch_base.specs.declared.server.ServerNo.{ServerNo}
+use Rattle.orch_base.specs.Memory.{next_count}
+use Rattle.kept_rows.specs.declared.row.Row.{Row}
+use Rattle.instance_keeper.specs.Book.{instance_at}
+use Rattle.audit_log.specs.Audits.{closed}
+use Rattle.server_model.specs.Run.{run}
+use Rattle.jobs_in_flight.specs.Jobs.{book_turned, job_exchanges, job_observation, jobs_turned, reads_with, stored}
+use Rattle.turns.specs.declared.turn.Act.{Act}
+use Rattle.turns.specs.declared.turn.Act.TheVariants as act
+use Rattle.turns.specs.declared.turn.Step.{Step}
+use Rattle.turns.specs.declared.turn.Turn.{Turn}
+use Rattle.turns.specs.declared.turn.Turn.TheVariants as turn
+use Rattle.orch_core.specs.Closings.{closed_by, closing_of}
+use Rattle.orch_core.specs.Jobs.{turned_at}
+use Rattle.orch_core.specs.Polls.{command_outcome, empty_slots, reading, scan_outcome, slot_at}
+use Rattle.orch_core.specs.Restarts.{interrupted_at, reloaded_audit, reloaded_book, reloaded_moment}
+use Rattle.orch_core.specs.Settling.{settled}
+use Rattle.orch_core.specs.States.{State}
+use Rattle.orch_core.specs.Turns.{exchange_of, later}
+
+-- the exchange is made
+abbrev pub after_step : State → Step → State
+after_step s x = record s { world = run s.world (exchange_of x ∷ []) }
+
+-- only a tick lets time pass
+abbrev pub after_tick : State → ℕ → State
+after_tick s seconds = record s { moment = later s.moment seconds }
+
+-- a server that the book knows is read into the slot, with the next read number
+abbrev pub after_read : State → ℕ → ServerNo → State
+after_read s p n = record s {
+  slots = if is_some (instance_at s.book n) then slice_set s.slots p (Some (reading s n)) else s.slots;
+  reads = if is_some (instance_at s.book n) then next_count s.reads else s.reads;
+}
+
+-- the slot's reading is stored, and leaves its slot
+abbrev pub after_store : State → ℕ → State
+after_store s p = record s { book = stored s.book (slot_at s p); slots = slice_set s.slots p None }
+
+-- the exchanges of the job's turn are made, what it observed is stored, and where it is ended it is dropped, its leases
+-- are free and its entry ends
+abbrev pub after_job : State → ℕ → State
+after_job s job = record s {
+  world = run s.world (job_exchanges (turned_at s job));
+  book = book_turned s.book job (turned_at s job);
+  audit = closed_by s.audit (record { 0 = s.moment }) (closing_of (turned_at s job));
+  reads = reads_with s.reads (job_observation (turned_at s job));
+  jobs = jobs_turned s.jobs job (turned_at s job);
+}
+
+-- the rows that count are loaded, without bridges and leases, the unended recoveries are ended as interrupted, all slots
+-- are empty and all jobs dropped; the moment is raised to those of the recoveries that the keeper's rows bring
+abbrev pub after_restart : List Row → State → State
+after_restart rows s = record s {
+  moment = reloaded_moment rows s;
+  book = reloaded_book rows s;
+  audit = closed (reloaded_audit rows s) (interrupted_at rows s);
+  slots = empty_slots;
+  jobs = [];
+}
+
+-- after what orchestrator does; a restart has these rows from the keeper
+abbrev pub after_act : List Row → State → Act → State
+after_act rows s (act.PollRead p n) = after_read s p n
+after_act rows s (act.PollStore p) = after_store s p
+after_act rows s (act.Command c) = settled s (command_outcome s c)
+after_act rows s (act.Job job) = after_job s job
+after_act rows s act.Scan = settled s (scan_outcome s)
+after_act rows s act.Restart = after_restart rows s
+
+-- after a turn; an orchestrator that remembers no claim does nothing as one of several
+abbrev pub step : List Row → State → Turn → State
+step rows s (turn.Step x) = after_step s x
+step rows s (turn.Tick seconds) = after_tick s seconds
+step rows s (turn.Act a) = after_act rows s a
+step rows s (turn.As node a) = after_act rows s a
+step rows s (turn.Claim node) = s
+step rows s (turn.Release node) = s

@@ -1,0 +1,50 @@
+-- Block periods of clusters through runs.
+use Rattle.std.proofs.Common.{◌≡◌, ◌∙◌, ℕ, ◌≤◌, List, [], ◌∷◌, refl, ap, subst}
+use Rattle.std.specs.Prelude.{All}
+use Rattle.std.proofs.lemmas.List.Elements.{All-map, All-weaker}
+use Rattle.audit_log.specs.Audits.{longest_block}
+use Rattle.kept_rows.specs.declared.recovery.Recovery.{Recovery}
+use Rattle.kept_rows.specs.declared.row.Row.{Row}
+use Rattle.scenarios.specs.declared.scenario.Scenario.{Scenario}
+use Rattle.turns.specs.declared.turn.Act.{Act}
+use Rattle.turns.specs.declared.turn.Act.TheVariants as act
+use Rattle.turns.specs.declared.turn.Turn.{Turn}
+use Rattle.turns.specs.declared.turn.Turn.TheVariants as turn
+use Rattle.orch_core.specs.After.{after_act, step}
+use Rattle.orch_core.specs.declared.configuration.Configuration.{Configuration}
+use Rattle.orch_core.specs.Periods.{period_by}
+use Rattle.orch_core.specs.Runs.{engine, run_turns}
+use Rattle.orch_core.specs.Scenarios.{configuration_of, start}
+use Rattle.orch_core.specs.States.{State}
+use Rattle.orch_core.proofs.Periods.{short-in}
+use Rattle.run_laws.specs.Ready.{AreShort}
+use Rattle.run_laws.specs.Runs.{ComesTo}
+
+-- each is short
+pub short-by : (c : Configuration) → AreShort c → (cluster : List ℕ) → period_by c cluster ≤ longest_block
+short-by c short cluster = short-in c.blocks c.block cluster short.blocks short.block
+
+-- ---- a run leaves what holds throughout it
+
+act-configured : (rows : List Row) (s : State) (a : Act) → (after_act rows s a).configuration ≡ s.configuration
+act-configured rows s (act.PollRead p n) = refl
+act-configured rows s (act.PollStore p) = refl
+act-configured rows s (act.Command c) = refl
+act-configured rows s (act.Job job) = refl
+act-configured rows s act.Scan = refl
+act-configured rows s act.Restart = refl
+
+pub turn-configured : (rows : List Row) (s : State) (t : Turn) → (step rows s t).configuration ≡ s.configuration
+turn-configured rows s (turn.Step x) = refl
+turn-configured rows s (turn.Tick seconds) = refl
+turn-configured rows s (turn.Act a) = act-configured rows s a
+turn-configured rows s (turn.As node a) = act-configured rows s a
+turn-configured rows s (turn.Claim node) = refl
+turn-configured rows s (turn.Release node) = refl
+
+configured : (s : State) (xs : List (List Row × Turn)) → (run_turns engine s xs).configuration ≡ s.configuration
+configured s [] = refl
+configured s (x ∷ xs) = configured (step x.0 s x.1) xs ∙ turn-configured x.0 s x.1
+
+pub configured-comes : (s : Scenario) (xs : List (List Row × Turn)) (now : State) (comes : ComesTo s xs now) → now.configuration ≡ configuration_of comes.wait s
+configured-comes s xs now comes = ap (λ (x : State). x.configuration) comes.state ∙ configured (start s comes.wait comes.rows) xs

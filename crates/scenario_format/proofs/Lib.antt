@@ -1,0 +1,2 @@
+pub mod BuiltKeys
+pub mod BuiltTurns

@@ -1,0 +1,27 @@
+//! What is built of the scenario's format.
+
+ghost use Rattle.std.specs.Prelude.{◌≡◌};
+ghost use Rattle.scenario_format.specs.Built.{built_names, is_built, is_listed};
+
+use command_routes::is_built_command;
+
+#[rattlefmt::skip]
+fn is_listed(what: &str) -> bool
+    ensures { result ≡ is_listed built_names what.now }
+{
+    [
+        "version", "now", "gtid", "block", "aliases", "filters", "servers", "turns", "name", "uuid", "server_id", "version", "cluster",
+        "logs", "read_only", "limit", "up", "desk", "feed", "known", "rule", "history", "source", "executed", "at", "read", "io", "sql",
+        "auto", "detached", "until", "flushes", "write", "fetch", "apply", "fail", "heal", "cut", "join", "rotate", "tick",
+        "poll-read", "poll-store", "polls", "round", "command", "job", "scan", "restart",
+    ]
+    .contains(&what)
+}
+
+/// Whether the key, turn or command of this name is built: of the keys and turns those that are listed here, and of the
+/// commands `run` and all others. It takes no memory.
+pub fn built(what: &str) -> bool
+    ensures { result ≡ is_built what.now }
+{
+    is_listed(what) || is_built_command(what)
+}

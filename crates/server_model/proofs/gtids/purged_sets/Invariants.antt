@@ -1,0 +1,7 @@
+use Rattle.std.proofs.Common.{◌≡◌, take}
+use Rattle.std.specs.Prelude.{map}
+use Rattle.server_model.specs.Gtids.{purged_txns, reserved_set, uuids_in}
+use Rattle.server_model.proofs.gtids.purged_sets.Given as goal
+
+abbrev pub invariant-loop-s : goal.invariant-loop-s
+invariant-loop-s l = l.sets.items ≡ map (λ s. reserved_set l.gtid (uuids_in l.servers) s.history.room (purged_txns s)) (take l.s-index l.servers)
