@@ -32,8 +32,8 @@ fn reads_all(rt: HostRuntime) {
     }
 }
 
-// What `abc` and then `def` answer, whether this is what a sink took of them, and its faults. It has so much room, and its
-// call of this number fails.
+// What `abc` and then `def` answer, whether this is what a sink took of them, and its faults. It has so much room, and
+// its call of this number fails.
 fn write_two(
     alloc: Global,
     room: usize,

@@ -342,8 +342,8 @@ const PURGES: Story = Story {
     ],
 };
 
-/// By a set a replica goes on at the beginning of the first kept file where it has executed all that is purged; one that
-/// has not is attached neither by the set nor at a purged coordinate.
+/// By a set a replica goes on at the beginning of the first kept file where it has executed all that is purged; one
+/// that has not is attached neither by the set nor at a purged coordinate.
 const PURGED_SETS: Story = Story {
     servers: &[
         Given {
