@@ -1,13 +1,12 @@
 -- What a book tells of its instances.
-use Rattle.std.specs.Prelude.{ℕ, Bool, false, true, ◌&&◌, List, [], ◌∷◌, map, filter, slice_get, slice_index_or, nat_eq, Option, Some, None, unwrap_or, if◌then◌else◌}
+use Rattle.std.specs.Prelude.{ℕ, Bool, false, true, ◌&&◌, List, [], ◌∷◌, map, filter, slice_index_or, nat_eq, Option, Some, None, unwrap_or, if◌then◌else◌}
 use Rattle.std.specs.Cmp.Lexicographic.{pointwise}
 use Rattle.orch_base.specs.declared.server.ServerNo.{ServerNo}
-use Rattle.orch_base.specs.declared.server.Settings.{Settings}
 use Rattle.orch_base.specs.declared.server.SourceState.{SourceState}
 use Rattle.orch_base.specs.declared.server.SourceState.TheVariants.{Without, Attached, Detached}
 use Rattle.instance_keeper.specs.Book.{BookState, instance_at}
 use Rattle.name_order.specs.NameOrder.{by_name}
-use Rattle.book_views.specs.Sources.{is_instance, replicas_of, seen_source}
+use Rattle.book_views.specs.Sources.{is_instance, label_at, replicas_of, seen_source}
 use Rattle.commands.specs.declared.line.Line.{Line}
 use Rattle.commands.specs.declared.line.Line.TheVariants as line
 
@@ -38,13 +37,6 @@ abbrev pub replica_lines : BookState → ServerNo → List Line
 replica_lines b i = map line.Server (replicas_of b i)
 
 -- ---- clusters
-
-abbrev pub label_of : Option Settings → List ℕ
-label_of None = []
-label_of (Some s) = s.cluster
-
-abbrev pub label_at : BookState → ServerNo → List ℕ
-label_at b server = label_of (slice_get b.settings server.0)
 
 -- an instance whose cluster has this label
 abbrev pub is_of_cluster : BookState → List ℕ → ServerNo → Bool

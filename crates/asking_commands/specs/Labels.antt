@@ -7,8 +7,7 @@ use Rattle.name_order.specs.NameOrder.{by_name}
 use Rattle.name_order.specs.Sorts.{sort_by}
 use Rattle.commands.specs.declared.line.Line.{Line}
 use Rattle.commands.specs.declared.line.Line.TheVariants as line
-use Rattle.book_views.specs.Sources.{is_instance}
-use Rattle.asking_commands.specs.Asking.{label_at}
+use Rattle.book_views.specs.Sources.{is_instance, label_at}
 
 -- it is the same as the first behind it
 abbrev pub is_again : List ℕ → List (List ℕ) → Bool

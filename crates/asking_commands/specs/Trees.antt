@@ -16,7 +16,8 @@ use Rattle.commands.specs.declared.line.Line.{Line}
 use Rattle.commands.specs.declared.line.Line.TheVariants as line
 use Rattle.commands.specs.declared.line.StateWord.{StateWord}
 use Rattle.commands.specs.declared.line.StateWord.TheVariants as state
-use Rattle.asking_commands.specs.Asking.{is_of_cluster, label_at}
+use Rattle.asking_commands.specs.Asking.{is_of_cluster}
+use Rattle.book_views.specs.Sources.{label_at}
 
 -- attached, with both threads on and the receiver connected
 abbrev pub replicates : IoState → Bool → Bool

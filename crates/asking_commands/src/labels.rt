@@ -7,7 +7,6 @@ ghost use Rattle.name_order.specs.Sorts.{sort_by};
 ghost use Rattle.asking_commands.specs.Labels.{clusters_of, is_again, labels_of};
 
 use crate::Memory;
-use crate::listing::label_at;
 use book_views::is_instance;
 use commands::{Line, Lines};
 use instance_keeper::Book;

@@ -1,23 +1,15 @@
 //! Lists of a book's instances.
 
 ghost use Rattle.std.specs.Prelude.{◌≡◌, ◌<◌, ◌&&◌, IfOk, length, slice_index_or, false};
-ghost use Rattle.book_views.specs.Sources.{is_instance};
-ghost use Rattle.asking_commands.specs.Asking.{all_instances, cluster_instances, cluster_of, found, is_of_cluster, label_at, master_of, replica_lines, source_line, switch_line, switch_of};
+ghost use Rattle.book_views.specs.Sources.{is_instance, label_at};
+ghost use Rattle.asking_commands.specs.Asking.{all_instances, cluster_instances, cluster_of, found, is_of_cluster, master_of, replica_lines, source_line, switch_line, switch_of};
 
 use crate::Memory;
-use book_views::{is_instance, replicas, seen_source};
+use book_views::{is_instance, label_at, replicas, seen_source};
 use commands::{Line, Lines};
 use instance_keeper::Book;
 use orch_base::{OwnedText, ServerNo, SourceState};
 use std::alloc::Global;
-
-/// The label of a server's cluster.
-pub(crate) fn label_at(book: &Book, no: ServerNo) -> &OwnedText
-    requires { no.0 < length book.now.names }
-    ensures { result.now ≡ label_at book.now no }
-{
-    &book.settings(no).cluster
-}
 
 /// The instances of the book, in name order.
 pub fn all_instances(alloc: Global, book: &Book) -> Result<Lines, Memory>

@@ -5,7 +5,8 @@ use Rattle.audit_log.specs.declared.held.Held.{Held}
 use Rattle.audit_log.specs.declared.held.Held.TheVariants as held
 use Rattle.audit_log.specs.Audits.{AuditState, is_of, is_unended, longest_block, may_begin, IsAudit}
 
--- a recovery of the cluster holds none back: it is ended, and is acknowledged or began at least its own block period ago
+-- a recovery of the cluster holds none back: it is ended, and is acknowledged or began at least its own block period
+-- ago
 abbrev pub IsClear : List ℕ → ℕ → Recovery → Type 0
 IsClear cluster now r = r.cluster ≡ cluster → (is_unended r ≡ false) × ((r.acked ≡ true) ⊎ (r.block ≤ now - r.begun.0))
 

@@ -228,8 +228,8 @@ impl Audit {
         Ok(())
     }
 
-    /// Begins a recovery for which there is room. `may_begin` gave its id, which is below 2^64 - 1, and its block period
-    /// is at most 1,000,000,000 seconds. It takes no memory.
+    /// Begins a recovery for which there is room. `may_begin` gave its id, which is below 2^64 - 1, and its block
+    /// period is at most 1,000,000,000 seconds. It takes no memory.
     pub fn begin(&mut self, r: Recovery)
         requires spare { 1 ≤ self.old.spare }
         requires may { MayBegin self.old.audit r }

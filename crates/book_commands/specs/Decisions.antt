@@ -19,7 +19,8 @@ use Rattle.commands.specs.declared.line.Line.TheVariants as line
 use Rattle.commands.specs.declared.turn.Keys.{Keys}
 use Rattle.command_routes.specs.declared.route.Decision.{Decision}
 use Rattle.command_routes.specs.declared.route.Decision.TheVariants as decision
-use Rattle.asking_commands.specs.Asking.{label_at, switch_line}
+use Rattle.asking_commands.specs.Asking.{switch_line}
+use Rattle.book_views.specs.Sources.{label_at}
 use Rattle.book_commands.specs.declared.decided.Decided.{Decided}
 use Rattle.book_commands.specs.declared.decided.Effect.{Effect}
 use Rattle.book_commands.specs.declared.decided.Effect.TheVariants as effect

@@ -2,13 +2,14 @@
 
 ghost use Rattle.std.specs.Prelude.{◌≡◌, ◌<◌, ◌≤◌, ◌^◌, ◌∷◌, [], IfOk, IfSome, length, map, unwrap_or};
 ghost use Rattle.audit_log.specs.Audits.{acking, count_new, is_new};
-ghost use Rattle.asking_commands.specs.Asking.{label_at};
+ghost use Rattle.book_views.specs.Sources.{label_at};
 ghost use Rattle.kept_rows.specs.Recoveries.{put_recovery};
 ghost use Rattle.book_commands.specs.Decisions.{acked, after, candidate_of, decided_of, decided_with, downtime_begun, downtime_ended, downtime_of, downtime_removal, effect_by, registered, rows_of, switched, undecided};
 
 use crate::{Decided, Effect, Memory};
 use asking_commands::switch_line;
 use audit_log::Audit;
+use book_views::label_at;
 use command_routes::Decision;
 use commands::{Keys, Line, Lines};
 use instance_keeper::{Book, Candidate, Change, Downtime, Key, Recovery, Row, Table};
@@ -155,7 +156,7 @@ fn ack(alloc: Global, book: &Book, audit: &Audit, no: ServerNo) -> Result<Decide
     requires { no.0 < length book.now.names }
     ensures { IfOk result (λ d. d ≡ acked book.now audit.now.audit no) }
 {
-    let cluster = &book.settings(no).cluster;
+    let cluster = label_at(book, no);
     let count = count_new(audit, cluster.as_str());
     decided_with(
         alloc,

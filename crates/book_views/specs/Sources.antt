@@ -1,6 +1,7 @@
--- What a book tells of its instances and their sources.
-use Rattle.std.specs.Prelude.{Bool, false, ◌==◌, List, filter, Option, Some, None, is_some}
+-- What a book tells of its servers, instances and their sources.
+use Rattle.std.specs.Prelude.{ℕ, Bool, false, ◌==◌, List, [], filter, slice_get, Option, Some, None, is_some}
 use Rattle.orch_base.specs.declared.server.ServerNo.{ServerNo}
+use Rattle.orch_base.specs.declared.server.Settings.{Settings}
 use Rattle.orch_base.specs.declared.server.SourceState.{SourceState}
 use Rattle.orch_base.specs.declared.server.SourceState.TheVariants.{Without, Attached, Detached}
 use Rattle.instance_keeper.specs.Book.{BookState, instance_at}
@@ -34,3 +35,11 @@ is_replica_of b i server = is_attached_to i (seen_source (instance_at b server))
 -- the instances that are attached to it, in name order
 abbrev pub replicas_of : BookState → ServerNo → List ServerNo
 replicas_of b i = filter (is_replica_of b i) (by_name b.names)
+
+abbrev pub label_of : Option Settings → List ℕ
+label_of None = []
+label_of (Some s) = s.cluster
+
+-- the label of a server's cluster
+abbrev pub label_at : BookState → ServerNo → List ℕ
+label_at b server = label_of (slice_get b.settings server.0)

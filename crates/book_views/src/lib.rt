@@ -7,4 +7,4 @@ mod sources;
 pub use forest::{book_forest, is_below, parent, server_at};
 /// Want of memory.
 pub use orch_base::Memory;
-pub use sources::{is_instance, replicas, seen_source};
+pub use sources::{is_instance, label_at, replicas, seen_source};

@@ -3,12 +3,20 @@
 ghost use Rattle.std.specs.Prelude.{◌≡◌, ◌<◌, IfOk, length, true};
 ghost use Rattle.kept_rows.specs.Servers.{are_known, source_servers};
 ghost use Rattle.instance_keeper.specs.Book.{instance_at};
-ghost use Rattle.book_views.specs.Sources.{is_attached_to, is_instance, replicas_of, seen_source};
+ghost use Rattle.book_views.specs.Sources.{is_attached_to, is_instance, label_at, replicas_of, seen_source};
 
 use crate::Memory;
 use instance_keeper::Book;
-use orch_base::{ServerNo, SourceState};
+use orch_base::{OwnedText, ServerNo, SourceState};
 use std::alloc::Global;
+
+/// The label of a server's cluster.
+pub fn label_at(book: &Book, no: ServerNo) -> &OwnedText
+    requires { no.0 < length book.now.names }
+    ensures { result.now ≡ label_at book.now no }
+{
+    &book.settings(no).cluster
+}
 
 /// Whether a server is an instance of the book.
 pub fn is_instance(book: &Book, no: ServerNo) -> bool

@@ -67,13 +67,3 @@ job_by w b c (Paths kind) id wait = unended.Plan (job_with id wait (path_plans.p
 job_by w b c (Regroups ByBridges) id wait = regroup_about b id wait c.i
 job_by w b c (Regroups ByMatches) id wait = unended.Plan (job_with id wait [])
 job_by w b c (Matches kind) id wait = unended.Plan (job_with id wait [])
-
--- the servers of which any command takes the leases: none of one that begins no job
-abbrev pub leases_with : World → BookState → Command → Option Planner → List ServerNo
-leases_with w b c None = []
-leases_with w b c (Some p) = leases_by w b c p
-
--- any command's job: nothing is done by one of a command that begins none
-abbrev pub job_for : World → BookState → Command → Option Planner → ℕ → ℕ → Unended
-job_for w b c None id wait = unended.Plan (job_with id wait [])
-job_for w b c (Some p) id wait = job_by w b c p id wait

@@ -1,5 +1,5 @@
-//! What orchestrator knows of its servers: the book of what was last seen, with bridges and leases, beside the rows that
-//! are kept of it and their keeper (orchestrator's documentation).
+//! What orchestrator knows of its servers: the book of what was last seen, with bridges and leases, beside the rows
+//! that are kept of it and their keeper (orchestrator's documentation).
 #![tactic(auto)]
 
 mod book;

@@ -76,8 +76,8 @@ pub fn held_attachments_are_tried()
         (by_deed w read now j rest (Auto n m)) }
 {}
 
-/// A job is stopped by Purged, with the server that was to go on in a purged file and the first file that its new source
-/// keeps, exactly where this turn's attachment of that server is answered so.
+/// A job is stopped by Purged, with the server that was to go on in a purged file and the first file that its new
+/// source keeps, exactly where this turn's attachment of that server is answered so.
 pub fn purged_files_stop_jobs()
     ensures stops { (w : World) (read : ℕ) (now : AMoment) (j : Job) (rest : List AnOp) (d : Deed)
         (n : Number) (first : ℕ) →

@@ -39,7 +39,8 @@ IsIdInRange (change.Put (row.Switch enabled)) = ⊤
 IsIdInRange (change.Put (row.Active node until)) = ⊤
 IsIdInRange (change.Remove t k) = ⊤
 
--- the audit's recovery is kept, with its block period; where the audit has none, a row that is kept doesn't count by the next id
+-- the audit's recovery is kept, with its block period; where the audit has none, a row that is kept doesn't count by
+-- the next id
 abbrev pub IsAudited : ℕ → ℕ → Option Row → Option Recovery → Type 0
 IsAudited servers next kept (Some r) = kept ≡ Some (row.Recovery (as_row r))
 IsAudited servers next kept None = IfSome kept (λ r. counts servers (next - 1) r ≡ false)

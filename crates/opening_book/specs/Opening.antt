@@ -1,6 +1,6 @@
 -- What is kept at an opening beyond the rows that count: an instance of each known server that has none, the
--- registrations that the scenario gives, the block periods of recoveries whose rows have none, and the recoveries that it
--- interrupts.
+-- registrations that the scenario gives, the block periods of recoveries whose rows have none, and the recoveries that
+-- it interrupts.
 use Rattle.std.specs.Prelude.{ℕ, ◌+◌, ◌&&◌, Bool, true, false, if◌then◌else◌, List, [], ◌∷◌, ◌++◌, filter_map, fold, map, Option, None, Some, is_none, slice_index_or}
 use Rattle.std.specs.List.{cons_option}
 use Rattle.orch_base.specs.declared.rule.Rule.{Rule}

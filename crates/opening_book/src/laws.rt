@@ -26,10 +26,10 @@ pub fn kept_rows_follow_the_book()
     ensures opening { (rows : List Row) (b : BookState) (c : Change) → Follow rows b → is_opening_change (length b.names) c ≡ true → IsInRange c → IsIdInRange c → Follow (changed_by rows c) (after_opening b c) }
 {}
 
-/// Kept rows follow the audit that is loaded of them, at an opening and at a restart, once each recovery whose row has no
-/// block period is kept with its cluster's; and they go on to do so after each change of the book that is kept, after
-/// each restart that ends the unended recoveries, and after each acknowledgement: under each id of which the audit has a
-/// recovery that recovery is kept, and under any other id only what doesn't count.
+/// Kept rows follow the audit that is loaded of them, at an opening and at a restart, once each recovery whose row has
+/// no block period is kept with its cluster's; and they go on to do so after each change of the book that is kept,
+/// after each restart that ends the unended recoveries, and after each acknowledgement: under each id of which the
+/// audit has a recovery that recovery is kept, and under any other id only what doesn't count.
 pub fn kept_rows_follow_the_audit()
     ensures opened { (period : List ℕ → ℕ) (servers : ℕ) (rows : List Row) → ((cluster : List ℕ) → period cluster ≤ longest_block) →
         servers ≤ 2 ^ 32 → IsRising rows →

@@ -151,8 +151,8 @@ fn give_blocks<P: Periods>(alloc: Global, periods: &P, rows: &[Row]) -> Result<V
     Ok(changes)
 }
 
-/// What a load of these rows keeps of recoveries, at this moment: first each one whose row has no block period, with its
-/// cluster's, then each unended one of their audit, as interrupted.
+/// What a load of these rows keeps of recoveries, at this moment: first each one whose row has no block period, with
+/// its cluster's, then each unended one of their audit, as interrupted.
 pub fn loading<P: Periods>(
     alloc: Global,
     periods: &P,

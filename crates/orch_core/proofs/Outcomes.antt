@@ -46,7 +46,7 @@ use Rattle.orch_core.specs.Settling.{BeginInTime, CanSettle, IsNext, known_of, w
 use Rattle.orch_core.proofs.Entries.{entries-acknowledged, entries-push}
 use Rattle.orch_core.proofs.Joining.{joined-audit, joined-begun, joined-entries, joined-next, joined-range, joined-rising}
 use Rattle.commands.specs.declared.refusal.Refusal.TheVariants.{UnknownInstance}
-use Rattle.asking_commands.specs.Asking.{label_at}
+use Rattle.book_views.specs.Sources.{label_at}
 use Rattle.orch_core.specs.Commands.{by_hand, recovered, recovery_begun, taken_over, terms_of, Outcome, about as given_or, asked, begun, decided, discovered, first_of, forgotten, next_reading, outcome_by, outcome_of, question, refusal, removal_refusal, told}
 use Rattle.orch_core.specs.Knowing.{IsEffect, IsUpdate, Knowledge, LeavesIds, MayTake, recovery_job, updated}
 use Rattle.orch_core.specs.Periods.{period_by}

@@ -3,7 +3,7 @@ use Rattle.std.proofs.Common.{ℕ, ◌≤◌, Bool, true, false, List, [], ◌�
 use Rattle.std.specs.Prelude.{All, nat_eq, if◌then◌else◌}
 use Rattle.std.specs.Cmp.Lexicographic.{pointwise}
 use Rattle.std.proofs.lemmas.List.Elements.{All-head, All-tail}
-use Rattle.asking_commands.specs.Asking.{label_at}
+use Rattle.book_views.specs.Sources.{label_at}
 use Rattle.audit_log.specs.Audits.{longest_block}
 use Rattle.orch_base.specs.declared.server.ServerNo.{ServerNo}
 use Rattle.scenarios.specs.Blocks.{period_in}
@@ -13,12 +13,12 @@ use Rattle.orch_core.specs.Periods.{period_by}
 use Rattle.orch_core.specs.Polls.{numbers_of}
 use Rattle.orch_core.specs.States.{IsState, State}
 
-pub short-in : (bs : List Block) (block : ℕ) (cluster : List ℕ) → All (λ b. b.seconds ≤ 1000000000) bs → block ≤ 1000000000 → period_in bs block cluster ≤ 1000000000
+pub short-in : (bs : List Block) (block : ℕ) (cluster : List ℕ) → All (λ b. b.seconds ≤ longest_block) bs → block ≤ longest_block → period_in bs block cluster ≤ longest_block
 short-in [] block cluster all short = short
-short-in (b ∷ bs) block cluster all short = go (pointwise nat_eq b.cluster cluster) (short-in bs block cluster (All-tail (λ (x : Block). x.seconds ≤ 1000000000) b bs all) short)
+short-in (b ∷ bs) block cluster all short = go (pointwise nat_eq b.cluster cluster) (short-in bs block cluster (All-tail (λ (x : Block). x.seconds ≤ longest_block) b bs all) short)
   where
-    go : (c : Bool) → period_in bs block cluster ≤ 1000000000 → (if c then b.seconds else period_in bs block cluster) ≤ 1000000000
-    go true rest = All-head (λ (x : Block). x.seconds ≤ 1000000000) b bs all
+    go : (c : Bool) → period_in bs block cluster ≤ longest_block → (if c then b.seconds else period_in bs block cluster) ≤ longest_block
+    go true rest = All-head (λ (x : Block). x.seconds ≤ longest_block) b bs all
     go false rest = rest
 
 pub period-short : (s : State) → IsState s → (cluster : List ℕ) → period_by s.configuration cluster ≤ longest_block

@@ -8,7 +8,7 @@ use Rattle.std.proofs.lemmas.List.Elements.{All-append, All-cons, All-map, All-n
 use Rattle.std.proofs.lemmas.Option.{slice_get-get_or, slice_get_within}
 use Rattle.orch_base.specs.declared.rule.Rule.{Rule}
 use Rattle.orch_base.specs.declared.server.Moment.{Moment}
-use Rattle.audit_log.specs.Audits.{AuditState, IsAudit, closed, closing}
+use Rattle.audit_log.specs.Audits.{AuditState, IsAudit, closed, closing, longest_block}
 use Rattle.opening_book.proofs.Recoveries.{audit-opened, last_id-within}
 use Rattle.instance_keeper.specs.Had.{has_row}
 use Rattle.kept_rows.specs.declared.observation.Instance.{Instance}
@@ -299,8 +299,8 @@ module _ (s : Scenario) (given : List Row) (w : World) (settings : List Settings
     entries = subst (HaveEntries a' 0) (sym is.idle) tt;
     begun = made-begun;
     moment = moment-most scenario;
-    block = subst (λ (c : Configuration). c.block ≤ 1000000000) (sym is.configured) scenario.block;
-    blocks = subst (λ (c : Configuration). All (λ b. b.seconds ≤ 1000000000) c.blocks) (sym is.configured) scenario.blocks;
+    block = subst (λ (c : Configuration). c.block ≤ longest_block) (sym is.configured) scenario.block;
+    blocks = subst (λ (c : Configuration). All (λ b. b.seconds ≤ longest_block) c.blocks) (sym is.configured) scenario.blocks;
   }
 
   moment_is : moment ≡ start_moment s given

@@ -50,8 +50,8 @@ after_job s job = record s {
   jobs = jobs_turned s.jobs job (turned_at s job);
 }
 
--- the rows that count are loaded, without bridges and leases, the unended recoveries are ended as interrupted, all slots
--- are empty and all jobs dropped; the moment is raised to those of the recoveries that the keeper's rows bring
+-- the rows that count are loaded, without bridges and leases, the unended recoveries are ended as interrupted, all
+-- slots are empty and all jobs dropped; the moment is raised to those of the recoveries that the keeper's rows bring
 abbrev pub after_restart : List Row → State → State
 after_restart rows s = record s {
   moment = reloaded_moment rows s;

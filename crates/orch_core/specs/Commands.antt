@@ -23,7 +23,7 @@ use Rattle.commands.specs.declared.refusal.Refusal.{Refusal}
 use Rattle.commands.specs.declared.refusal.Refusal.TheVariants.{UnknownInstance, Unreachable}
 use Rattle.commands.specs.declared.turn.Command.{Command}
 use Rattle.commands.specs.declared.turn.CommandTurn.{CommandTurn}
-use Rattle.asking_commands.specs.Asking.{label_at}
+use Rattle.book_views.specs.Sources.{label_at}
 use Rattle.asking_commands.specs.Answers.{allowed, lines_of, permitted, unknown_in}
 use Rattle.audit_log.specs.Audits.{AuditState}
 use Rattle.book_commands.specs.declared.decided.Decided.{Decided}

@@ -1,6 +1,6 @@
 -- What a run is at a moment.
 use Rattle.std.specs.Prelude.{◌≡◌, ◌<◌, ◌≤◌, ◌^◌, ℕ, ⊤, true, length, List, [], ◌∷◌, Option, Some, None, IfSome, IsSomeAnd, All, unwrap_or}
-use Rattle.audit_log.specs.Audits.{AuditState, IsAudit, is_unended, recovery_at}
+use Rattle.audit_log.specs.Audits.{AuditState, IsAudit, is_unended, longest_block, recovery_at}
 use Rattle.kept_rows.specs.declared.observation.Observation.{Observation}
 use Rattle.kept_rows.specs.Servers.{are_known, observed_servers, source_servers}
 use Rattle.instance_keeper.specs.Book.{BookState}
@@ -70,5 +70,5 @@ pub record IsState (s : State) : Type 0 where
   pub next : s.audit.next < 2 ^ 64
   pub begun : All (λ r. r.begun.0 ≤ 2 ^ 63) s.audit.recoveries
   pub moment : s.moment ≤ 2 ^ 63
-  pub block : s.configuration.block ≤ 1000000000
-  pub blocks : All (λ b. b.seconds ≤ 1000000000) s.configuration.blocks
+  pub block : s.configuration.block ≤ longest_block
+  pub blocks : All (λ b. b.seconds ≤ longest_block) s.configuration.blocks

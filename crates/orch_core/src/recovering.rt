@@ -5,6 +5,7 @@ ghost use Rattle.commands.specs.Turns.{is_within};
 ghost use Rattle.commands.specs.declared.refusal.Refusal.{Refusal as Why};
 ghost use Rattle.orch_base.specs.Gives.{Gives};
 ghost use Rattle.permission.specs.Checks.{permit_fault};
+ghost use Rattle.audit_log.specs.Audits.{longest_block};
 ghost use Rattle.recovery_core.specs.Tries.{Begins};
 ghost use Rattle.orch_core.specs.Commands.{by_hand, entries_put, recovered, recovery_begun, scan_by, taken_over, terms_of};
 ghost use Rattle.orch_core.specs.CommandsBy.{outcome};
@@ -14,7 +15,7 @@ ghost use Rattle.orch_core.specs.Periods.{period_by};
 use crate::command::{Numbers, Outcome, Recoveries, Update, refused};
 use crate::{Configuration, Reply};
 use audit_log::{Audit, Periods};
-use book_views::book_forest;
+use book_views::{book_forest, label_at};
 use commands::Refusal;
 use instance_keeper::{Book, Change, Row};
 use orch_base::{Memory, ServerNo};
@@ -38,7 +39,7 @@ fn by_hand(
         by_intermediate: true,
         enabled: true,
         by_hand: true,
-        block: configuration.period(book.settings(failed).cluster.as_str()),
+        block: configuration.period(label_at(book, failed).as_str()),
         now: numbers.moment,
     }
 }
@@ -179,7 +180,7 @@ pub(crate) fn scan_by(
 ) -> Result<Outcome, Memory>
     requires begun { All (λ r. r.begun.0 ≤ 2 ^ 63) audit.now.audit.recoveries }
     requires moment { numbers.moment.0 ≤ 2 ^ 63 }
-    requires periods { (cluster : List ℕ) → period_by configuration.now cluster ≤ 1000000000 }
+    requires periods { (cluster : List ℕ) → period_by configuration.now cluster ≤ longest_block }
     ensures outcome { IfOk result (λ out. outcome out
         ≡ scan_by world.now book.now audit.now.audit configuration.now numbers) }
     ensures ids { IfOk result (λ out. LeavesIds out.book) }

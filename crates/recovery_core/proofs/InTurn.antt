@@ -7,7 +7,7 @@ use Rattle.orch_base.specs.declared.server.Moment.{Moment}
 use Rattle.orch_base.specs.declared.server.ServerNo.{ServerNo}
 use Rattle.commands.specs.declared.refusal.Refusal.{Refusal}
 use Rattle.instance_keeper.specs.Book.{BookState, IsBook}
-use Rattle.asking_commands.specs.Asking.{label_at}
+use Rattle.book_views.specs.Sources.{label_at}
 use Rattle.audit_log.specs.Apart.{IsApart}
 use Rattle.audit_log.specs.Audits.{AuditState, begun, longest_block}
 use Rattle.audit_log.proofs.Parting.{begun-apart}

@@ -10,7 +10,7 @@ use Rattle.orch_base.specs.declared.server.ServerNo.{ServerNo}
 use Rattle.kept_rows.specs.declared.recovery.Recovery.{Recovery as KeptRecovery}
 use Rattle.commands.specs.declared.refusal.Refusal.{Refusal}
 use Rattle.instance_keeper.specs.Book.{BookState}
-use Rattle.asking_commands.specs.Asking.{label_at}
+use Rattle.book_views.specs.Sources.{label_at, replicas_of}
 use Rattle.audit_log.specs.Apart.{MayBegin}
 use Rattle.audit_log.specs.Audits.{AuditState, longest_block, may_begin}
 use Rattle.audit_log.specs.declared.held.Held.{Held}
@@ -25,7 +25,6 @@ use Rattle.permission.specs.declared.row.PermitFault.{PermitFault}
 use Rattle.permission.specs.declared.row.PermitFault.TheVariants as fault
 use Rattle.permission.proofs.Free.{neither}
 use Rattle.permission.proofs.Within.{cons-within, replicas-within}
-use Rattle.book_views.specs.Sources.{replicas_of}
 use Rattle.recovery_permits.specs.declared.attempt.Attempt.{Attempt}
 use Rattle.recovery_permits.specs.Checks.{code_at, held_back, held_by}
 use Rattle.recovery_permits.specs.Recoveries.{held_off, recovery_list, recovery_refusal, refusal_by, refusal_for, unasked}

@@ -5,7 +5,7 @@ use Rattle.commands.specs.declared.line.Line.{Line}
 use Rattle.commands.specs.declared.line.Line.TheVariants as line
 use Rattle.commands.specs.declared.refusal.Refusal.{Refusal}
 use Rattle.instance_keeper.specs.Book.{BookState}
-use Rattle.asking_commands.specs.Asking.{label_at}
+use Rattle.book_views.specs.Sources.{label_at}
 use Rattle.instance_keeper.specs.Leases.{taken}
 use Rattle.failure_analysis.specs.Analysis.{analysis}
 use Rattle.failure_analysis.specs.Table.{action_of}

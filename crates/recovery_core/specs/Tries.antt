@@ -8,8 +8,7 @@ use Rattle.orch_base.specs.declared.server.ServerNo.{ServerNo}
 use Rattle.commands.specs.declared.refusal.Refusal.{Refusal}
 use Rattle.instance_keeper.specs.Book.{BookState}
 use Rattle.kept_rows.specs.declared.recovery.Recovery.{Recovery as KeptRecovery}
-use Rattle.book_views.specs.Sources.{replicas_of}
-use Rattle.asking_commands.specs.Asking.{label_at}
+use Rattle.book_views.specs.Sources.{label_at, replicas_of}
 use Rattle.audit_log.specs.Audits.{AuditState}
 use Rattle.permission.specs.Views.{source_of}
 use Rattle.recovery_plans.specs.Beginning.{begun_recovery}

@@ -7,7 +7,7 @@ ghost use Rattle.orch_base.specs.declared.server.ServerNo.{ServerNo as Number};
 ghost use Rattle.commands.specs.declared.line.Line.TheVariants as line;
 ghost use Rattle.commands.specs.declared.refusal.Refusal.{Refusal as ARefusal};
 ghost use Rattle.instance_keeper.specs.Book.{BookState, IsBook};
-ghost use Rattle.asking_commands.specs.Asking.{label_at};
+ghost use Rattle.book_views.specs.Sources.{label_at};
 ghost use Rattle.audit_log.specs.Apart.{IsApart};
 ghost use Rattle.audit_log.specs.Audits.{AuditState, begun, ended, is_open, longest_block};
 ghost use Rattle.failure_analysis.specs.Analysis.{analysis};

@@ -1,6 +1,7 @@
 //! A scan for failed servers.
 
 ghost use Rattle.std.specs.Prelude.{◌≡◌, ◌<◌, ◌≤◌, ◌^◌, ℕ, All, IfOk, List, length, slice_index_or, false};
+ghost use Rattle.audit_log.specs.Audits.{longest_block};
 ghost use Rattle.recovery_core.specs.Scans.{attempt_of, scanned, HasRoom};
 
 use crate::codes::actionable_entries;
@@ -8,6 +9,7 @@ use crate::groups::groups;
 use crate::stage::Stage;
 use crate::{Memory, Scan};
 use audit_log::{Audit, Periods};
+use book_views::label_at;
 use commands::Lines;
 use instance_keeper::Book;
 use orch_base::{Moment, ServerNo};
@@ -52,7 +54,7 @@ fn attempt_of<P: Periods>(
         by_intermediate: answer_at(by_intermediate, no),
         enabled: terms.enabled,
         by_hand: false,
-        block: periods.period(book.settings(no).cluster.as_str()),
+        block: periods.period(label_at(book, no).as_str()),
         now: terms.now,
     }
 }
@@ -75,7 +77,7 @@ pub fn scan<P: Periods>(
 ) -> Result<Scan, Memory>
     requires begun { All (λ r. r.begun.0 ≤ 2 ^ 63) audit.now.audit.recoveries }
     requires now { terms.now.0 ≤ 2 ^ 63 }
-    requires blocks { (cluster : List ℕ) → P.period_of periods.now cluster ≤ 1000000000 }
+    requires blocks { (cluster : List ℕ) → P.period_of periods.now cluster ≤ longest_block }
     ensures lines { IfOk result (λ s. s.lines ≡ (scanned world.now book.now audit.now.audit
         (attempt_of by_master.now by_intermediate.now (P.period_of periods.now) book.now terms)
         terms.wait last).lines) }

@@ -4,6 +4,7 @@ ghost use Rattle.std.specs.Prelude.{◌≡◌, ◌<◌, ◌≤◌, ◌-◌, ◌^
 ghost use Rattle.instance_keeper.specs.Leases.{taken};
 ghost use Rattle.book_views.specs.Sources.{replicas_of};
 ghost use Rattle.audit_log.specs.Apart.{MayBegin};
+ghost use Rattle.audit_log.specs.Audits.{longest_block};
 ghost use Rattle.permission.specs.Checks.{busy_by};
 ghost use Rattle.permission.specs.Lists.{first_about};
 ghost use Rattle.recovery_permits.specs.Recoveries.{recovery_list};
@@ -189,7 +190,7 @@ impl Stage {
         requires entry { IsEntryIn book.now entry }
         requires replicas { replicas.now ≡ replicas_of book.now entry.no }
         requires ready { IsReady book.now self.old }
-        requires block { attempt.block ≤ 1000000000 }
+        requires block { attempt.block ≤ longest_block }
         ensures tried { OnOk result (self.new ≡ after_try self.old entry
             (staged_try world.now book.now attempt wait self.old entry.no)) }
         ensures room { OnOk result (HasRoom self.old.begun → HasRoom self.new.begun) }

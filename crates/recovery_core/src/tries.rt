@@ -11,7 +11,7 @@ ghost use Rattle.recovery_core.specs.Tries.{entry_of, recovery_begins, recovery_
 use crate::codes::code_at;
 use crate::{Begun, Memory, PermitFault};
 use audit_log::Audit;
-use book_views::replicas;
+use book_views::{label_at, replicas};
 use instance_keeper::{Book, Recovery};
 use orch_base::{Ending, Kind, Moment, ServerNo};
 use permission::source;
@@ -41,7 +41,7 @@ pub(crate) fn entry_of(
     }
     Ok(Recovery {
         id,
-        cluster: book.settings(failed).cluster.copy(alloc)?,
+        cluster: label_at(book, failed).copy(alloc)?,
         kind,
         failed,
         begun: now,

@@ -83,18 +83,6 @@ total n r s =
 
 -- ---- the order of what is to do
 
-abbrev pub is_draining : Task → Bool
-is_draining (task.Draining n) = true
-is_draining (task.Reading n) = false
-is_draining task.Choosing = false
-is_draining task.Handing = false
-is_draining (task.Moving n by) = false
-is_draining task.Sorting = false
-is_draining (task.Expelling n) = false
-is_draining (task.Releasing n) = false
-is_draining (task.Trailing n) = false
-is_draining task.Yielding = false
-
 abbrev pub is_choosing : Task → Bool
 is_choosing task.Choosing = true
 is_choosing (task.Reading n) = false

@@ -5,8 +5,7 @@ use Rattle.orch_base.specs.declared.server.ServerNo.{ServerNo}
 use Rattle.commands.specs.declared.refusal.Refusal.{Refusal}
 use Rattle.commands.specs.declared.refusal.Refusal.TheVariants as refusal
 use Rattle.instance_keeper.specs.Book.{BookState, downtime_at}
-use Rattle.book_views.specs.Sources.{is_replica_of}
-use Rattle.asking_commands.specs.Asking.{label_at}
+use Rattle.book_views.specs.Sources.{is_replica_of, label_at}
 use Rattle.audit_log.specs.Audits.{AuditState, may_begin}
 use Rattle.audit_log.specs.declared.held.Held.{Held}
 use Rattle.audit_log.specs.declared.held.Held.TheVariants as held

@@ -6,6 +6,7 @@ ghost use Rattle.recovery_permits.specs.Checks.{can_succeed, disabled, downtimed
 
 use crate::Attempt;
 use audit_log::{Audit, Held};
+use book_views::label_at;
 use commands::Refusal;
 use instance_keeper::Book;
 use orch_base::ServerNo;
@@ -59,7 +60,7 @@ pub(crate) fn held_back(
     requires begun { All (λ r. r.begun.0 ≤ 2 ^ 63) audit.now.audit.recoveries }
     ensures { result ≡ held_back book.now audit.now.audit attempt failed }
 {
-    let cluster = book.settings(failed).cluster.as_str();
+    let cluster = label_at(book, failed).as_str();
     match audit.may_begin(cluster, attempt.now) {
         Ok(_) => None,
         Err(held) => Some(refused_as(held)),

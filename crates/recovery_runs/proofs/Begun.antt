@@ -22,7 +22,7 @@ use Rattle.command_routes.specs.declared.route.Route.TheVariants.{Discovers, For
 use Rattle.command_routes.specs.Routes.{route_of}
 use Rattle.command_jobs.specs.Jobs.{job_by, leases_by, refusal_by, regroup_about}
 use Rattle.asking_commands.specs.Answers.{allowed, lines_of, permitted}
-use Rattle.asking_commands.specs.Asking.{label_at}
+use Rattle.book_views.specs.Sources.{label_at}
 use Rattle.audit_log.specs.Audits.{AuditState}
 use Rattle.audit_log.specs.Audits.{begun as begun_audit}
 use Rattle.book_commands.specs.declared.decided.Decided.{Decided}

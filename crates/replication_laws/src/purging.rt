@@ -144,8 +144,8 @@ pub fn logs_are_read_where_kept()
 {}
 
 /// A status shows the first kept file. In a placed world the purged set that it shows of a server that logs has, where
-/// GTIDs are used, the GTIDs of the transactions in purged files and no others. It is empty without GTIDs. Without a log
-/// it is empty too, and the first kept file is 1.
+/// GTIDs are used, the GTIDs of the transactions in purged files and no others. It is empty without GTIDs. Without a
+/// log it is empty too, and the first kept file is 1.
 pub fn purged_sets_are_shown()
     ensures first { (w : World) (n : ℕ) (seen : Seen) (s : AServer) → shown w n ≡ Some seen →
         server_at w n ≡ Some s → seen.first ≡ s.first }

@@ -4,7 +4,7 @@ use Rattle.orch_base.specs.declared.server.Moment.{Moment}
 use Rattle.orch_base.specs.declared.server.ServerNo.{ServerNo}
 use Rattle.commands.specs.declared.refusal.Refusal.{Refusal}
 use Rattle.instance_keeper.specs.Book.{BookState}
-use Rattle.asking_commands.specs.Asking.{label_at}
+use Rattle.book_views.specs.Sources.{label_at}
 use Rattle.audit_log.specs.Audits.{AuditState, begun}
 use Rattle.audit_log.proofs.Parting.{apart-begins}
 use Rattle.failure_analysis.specs.declared.entry.Entry.{Entry}

@@ -14,7 +14,7 @@ use Rattle.commands.specs.Turns.{is_within}
 use Rattle.kept_rows.specs.declared.recovery.Recovery.{Recovery as KeptRecovery}
 use Rattle.orch_base.specs.declared.server.Moment.{Moment}
 use Rattle.orch_base.specs.declared.server.ServerNo.{ServerNo}
-use Rattle.asking_commands.specs.Asking.{label_at}
+use Rattle.book_views.specs.Sources.{label_at}
 use Rattle.recovery_core.proofs.Beginning.{recovery-begins, takeover-begins, unrefused}
 use Rattle.recovery_core.proofs.InTurn.{scan-blocks, scan-in-turn}
 use Rattle.recovery_permits.specs.declared.attempt.Attempt.{Attempt}

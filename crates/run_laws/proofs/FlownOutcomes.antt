@@ -27,7 +27,7 @@ use Rattle.commands.specs.declared.turn.Command.{Command}
 use Rattle.commands.specs.declared.turn.CommandTurn.{CommandTurn}
 use Rattle.commands.specs.Turns.{is_within}
 use Rattle.asking_commands.specs.Answers.{allowed, lines_of, permitted}
-use Rattle.asking_commands.specs.Asking.{label_at}
+use Rattle.book_views.specs.Sources.{label_at, replicas_of}
 use Rattle.audit_log.specs.Audits.{AuditState, longest_block}
 use Rattle.book_commands.specs.declared.decided.Decided.{Decided}
 use Rattle.book_commands.specs.declared.decided.Effect.{Effect}
@@ -54,7 +54,6 @@ use Rattle.recovery_plans.specs.declared.purpose.Purpose.TheVariants as purpose
 use Rattle.regroup.specs.Permits.{leased_about, leased_in}
 use Rattle.regroup.specs.declared.command.RegroupCommand.{RegroupCommand}
 use Rattle.regroup.specs.declared.command.RegroupCommand.TheVariants as command
-use Rattle.book_views.specs.Sources.{replicas_of}
 use Rattle.std.specs.List.{list_any}
 use Rattle.server_model.specs.Safe.{IsQuiet}
 use Rattle.server_model.specs.Worlds.{World}

@@ -45,7 +45,7 @@ use Rattle.orch_core.specs.After.{step}
 use Rattle.orch_core.specs.States.{State}
 use Rattle.orch_core.specs.Settling.{known_of, with_known}
 use Rattle.orch_core.specs.Periods.{period_by}
-use Rattle.asking_commands.specs.Asking.{label_at}
+use Rattle.book_views.specs.Sources.{label_at}
 
 -- refused exactly with the refusal that applies, else so
 abbrev AnswersBy : (Reply → Type 0) → Option Refusal → Reply → Type 0

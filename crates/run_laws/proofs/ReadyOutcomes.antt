@@ -25,7 +25,7 @@ use Rattle.command_jobs.proofs.Begun.{job-ready}
 use Rattle.commands.specs.declared.turn.CommandTurn.{CommandTurn}
 use Rattle.commands.specs.Turns.{has_needed, is_within}
 use Rattle.asking_commands.specs.Answers.{allowed, lines_of, permitted}
-use Rattle.asking_commands.specs.Asking.{label_at}
+use Rattle.book_views.specs.Sources.{label_at}
 use Rattle.audit_log.specs.Audits.{AuditState, longest_block}
 use Rattle.book_commands.specs.declared.decided.Decided.{Decided}
 use Rattle.book_commands.specs.declared.decided.Effect.{Effect}

@@ -23,7 +23,8 @@ pub enum FetchAnswer {
     Stopped,
     /// The source is down, or the link to it is cut.
     NoLink,
-    /// The source has purged the file that was to be read, and keeps its log from this file on. The receiver is off then.
+    /// The source has purged the file that was to be read, and keeps its log from this file on. The receiver is off
+    /// then.
     Purged(u32),
     /// The source's log has nothing more.
     Nothing,

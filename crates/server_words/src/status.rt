@@ -30,8 +30,8 @@ pub struct Status {
     pub set: GtidSet,
     /// The first file that its own binary log keeps; 1 before any purge, and for a server that doesn't log.
     pub first: u32,
-    /// The GTIDs of what stands in the purged files of its log (`gtid_purged`); empty where the servers don't use GTIDs,
-    /// and for a server that doesn't log.
+    /// The GTIDs of what stands in the purged files of its log (`gtid_purged`); empty where the servers don't use
+    /// GTIDs, and for a server that doesn't log.
     pub purged: GtidSet,
 }
 

@@ -1,7 +1,6 @@
 use Rattle.std.proofs.Common.{◌≡◌, ℕ, List, Bor, map, take}
 use Rattle.std.specs.Prelude.{filter}
-use Rattle.book_views.specs.Sources.{is_instance}
-use Rattle.asking_commands.specs.Asking.{label_at}
+use Rattle.book_views.specs.Sources.{is_instance, label_at}
 use Rattle.asking_commands.proofs.labels.labels_of.Given as goal
 
 abbrev pub invariant-loop-no : goal.invariant-loop-no
