@@ -1,5 +1,6 @@
 pub mod Lists
 pub mod SortKeys
+pub mod Rising
 pub mod Known
 pub mod Same
 pub mod LookUps

@@ -81,6 +81,13 @@ module _ (front middle back : List Row) (p : ℕ) (below : All (λ x. sort_key_o
       let f : rows_behind (front ++ (middle ++ back)) (sort_key t k) ≡ back = ap (rows_behind (front ++ (middle ++ back))) here ∙ behind_middle front middle back p below at above in
       ap (λ l. l ++ rows_behind (front ++ (middle ++ back)) (sort_key t k)) e ∙ ap (λ l. front ++ l) f
 
+-- a row that stands behind all others
+pub put_last : (rows : List Row) (r : Row) → All (λ x. sort_key_of x < sort_key_of r) rows → put rows r ≡ rows ++ r ∷ []
+unfolding put
+put_last rows r below =
+    ap (λ l. l ++ r ∷ rows_behind rows (sort_key_of r)) (before_all rows (sort_key_of r) below)
+    ∙ ap (λ l. rows ++ r ∷ l) (behind_none rows (sort_key_of r) (weak_below rows (sort_key_of r) below))
+
 -- what a search by halves learns at a row
 pub rises_below : (rows : List Row) (p i : ℕ) → IsRising rows → i < length rows → HoldsAt (λ x. sort_key_of x < p) rows i → AllWithin (λ x. sort_key_of x < p) rows 0 (i + 1)
 rises_below rows p i rising within here = λ k d low h.

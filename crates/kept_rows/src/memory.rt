@@ -162,16 +162,27 @@ fn copy_changes(alloc: Global, changes: &[Change]) -> Result<Vec<Change>, Memory
     Ok(copies)
 }
 
-// Makes a change, which is copied. It changes nothing at want of memory.
+// Makes a change, whose row is copied. It changes nothing at want of memory.
 fn change_one(alloc: Global, rows: &mut Vec<Row>, change: &Change) -> Result<(), Memory>
     requires rising { IsRising rows.old.items }
     ensures ok { OnOk result (rows.new.items ≡ changed_by rows.old.items change.now) }
     ensures err { OnErr result (rows.new.items ≡ rows.old.items) }
     ensures rising { IsRising rows.new.items }
 {
-    let change = change.copy(alloc)?;
-    rows.reserve(1)?;
-    change_row(rows, change);
+    match change {
+        Change::Put(row) => {
+            let row = row.copy(alloc)?;
+            rows.reserve(1)?;
+            put_row(rows, row);
+        }
+        Change::Remove(table, key) => remove_row(
+            rows,
+            SortKey {
+                table: *table,
+                key: *key,
+            },
+        ),
+    }
     Ok(())
 }
 
@@ -185,10 +196,20 @@ fn copy_rows(alloc: Global, rows: &[Row]) -> Result<Vec<Row>, Memory>
     Ok(copies)
 }
 
+// Whether each row stands before the next.
+fn is_rising(rows: &[Row]) -> bool
+    ensures { OnTrue result (IsRising rows.now) }
+{
+    rows.is_sorted_by(|row, next| row.sort_key().is_before(next.sort_key()))
+}
+
 /// The map of any list of rows, in rising order: of two with one table and key the last stands.
 pub fn row_map(alloc: Global, rows: Vec<Row>) -> Result<Vec<Row>, Memory>
     ensures { IfOk result (λ map. map.items ≡ map_of rows.items) }
 {
+    if is_rising(&rows) {
+        return Ok(rows);
+    }
     let mut map = Vec::with_capacity(alloc, rows.len())?;
     put_all(&mut map, rows);
     Ok(map)

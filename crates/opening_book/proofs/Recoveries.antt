@@ -5,6 +5,7 @@ use Rattle.std.specs.List.{cons_option}
 use Rattle.std.proofs.lemmas.Bool.{eq-eqb, false≢true, le-leb, leb-true, ne_eqb}
 use Rattle.std.proofs.lemmas.List.Elements.{All-nil, All-cons, All-append, All-filter, All-head, All-map, All-tail, All-weaker, filter_passes}
 use Rattle.std.proofs.lemmas.List.Kept.{AllPairs-filter}
+use Rattle.std.proofs.lemmas.List.Sums.{fold-append}
 use Rattle.orch_base.specs.declared.server.Moment.{Moment}
 use Rattle.kept_rows.specs.Recoveries.{as_row, put_recovery}
 use Rattle.kept_rows.specs.declared.recovery.Recovery.{Recovery}
@@ -34,7 +35,7 @@ use Rattle.audit_log.proofs.Loaded.{kept-audit}
 use Rattle.opening_book.specs.Audits.{audit_of, id_in, last_id, later_id}
 use Rattle.opening_book.specs.Counting.{counted, counts, greatest, greatest_id, is_block_in_range, is_end_in_range, is_in_range}
 use Rattle.opening_book.specs.Following.{Follow, FollowAudit, IsAudited}
-use Rattle.opening_book.specs.Opening.{blocks_given, interrupting}
+use Rattle.opening_book.specs.Opening.{blocks_given, interrupting, loading}
 use Rattle.opening_book.proofs.Following.{is_eq, map_of-rising, passing, rest_rising, Follow-puts, PutsRecovery}
 use Rattle.orch_base.specs.declared.recovery.Ending.TheVariants as ending
 
@@ -556,6 +557,15 @@ ended-stays moment r is = ap (λ b. if b then ended_so moment ending.Interrupted
 -- each unended recovery is kept as interrupted
 pub FollowAudit-closed : (count : ℕ) (rows : List Row) (a : AuditState) (moment : Moment) → FollowAudit count rows a → FollowAudit count (changed rows (interrupting a moment)) (closed a moment)
 FollowAudit-closed count rows a moment follow = FollowAudit-mapped (interrupted moment) (interrupted-id moment) (interrupted-block moment) is_unended (ended-stays moment) count rows a follow
+
+-- what a load keeps of recoveries, first their blocks and then their ends
+pub FollowAudit-loading : (period : List ℕ → ℕ) (count : ℕ) (rows counting : List Row) (a : AuditState) (moment : Moment)
+    → FollowAudit count (changed rows (blocks_given period counting)) a
+    → FollowAudit count (changed rows (loading period counting a moment)) (closed a moment)
+FollowAudit-loading period count rows counting a moment follow =
+    subst (λ (xs : List Row). FollowAudit count xs (closed a moment))
+    (sym (fold-append changed_by rows (blocks_given period counting) (interrupting a moment)))
+    (FollowAudit-closed count (changed rows (blocks_given period counting)) a moment follow)
 
 acked-stays : (cluster : List ℕ) (r : Recovery) → is_new cluster r ≡ false → acknowledged_for cluster r ≡ r
 acked-stays cluster r = go (is_of cluster r) r.acked refl

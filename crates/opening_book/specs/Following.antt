@@ -1,18 +1,21 @@
 -- Kept rows that follow a book and an audit.
 use Rattle.std.specs.Prelude.{◌≡◌, ℕ, ◌-◌, ◌<◌, ◌≤◌, ◌^◌, ◌&&◌, Bool, false, length, List, Option, None, Some, IfSome, ⊤}
+use Rattle.orch_base.specs.declared.server.Moment.{Moment}
 use Rattle.kept_rows.specs.Recoveries.{as_row}
 use Rattle.kept_rows.specs.declared.recovery.Recovery.{Recovery}
 use Rattle.kept_rows.specs.declared.row.Row.{Row}
 use Rattle.kept_rows.specs.Servers.{is_of_book}
 use Rattle.instance_keeper.specs.Book.{BookState, book_rows, IsBook}
-use Rattle.kept_rows.specs.Rows.{table_of, row_at, row_in, IsRising}
+use Rattle.kept_rows.specs.Rows.{changed, table_of, row_at, row_in, IsRising}
 use Rattle.kept_rows.specs.declared.row.Row.TheVariants as row
 use Rattle.kept_rows.specs.declared.row.Change.{Change}
 use Rattle.kept_rows.specs.declared.row.Change.TheVariants as change
 use Rattle.kept_rows.specs.declared.row.Table.TheVariants as table
 use Rattle.kept_rows.specs.declared.row.Key.TheVariants as key
-use Rattle.audit_log.specs.Audits.{AuditState, recovery_at, IsAudit}
-use Rattle.opening_book.specs.Counting.{counts, greatest_id}
+use Rattle.audit_log.specs.Audits.{AuditState, closed, longest_block, recovery_at, IsAudit}
+use Rattle.opening_book.specs.Audits.{audit_of}
+use Rattle.opening_book.specs.Counting.{counted, counts, greatest_id}
+use Rattle.opening_book.specs.Opening.{loading}
 
 -- whether a row would be one of the book of so many servers
 abbrev pub is_for_book : ℕ → Row → Bool
@@ -45,8 +48,20 @@ abbrev pub IsAudited : ℕ → ℕ → Option Row → Option Recovery → Type 0
 IsAudited servers next kept (Some r) = kept ≡ Some (row.Recovery (as_row r))
 IsAudited servers next kept None = IfSome kept (λ r. counts servers (next - 1) r ≡ false)
 
+-- the block periods of all clusters are in their range
+abbrev pub AreShort : (List ℕ → ℕ) → Type 0
+AreShort period = (cluster : List ℕ) → period cluster ≤ longest_block
+
 -- so it is at each id
 pub record FollowAudit (servers : ℕ) (rows : List Row) (a : AuditState) : Type 0 where
   pub audit : IsAudit a
   pub small : a.next ≤ 2 ^ 64
   pub each : (id : ℕ) → id < 2 ^ 64 → IsAudited servers a.next (row_at rows table.Recovery (key.Id id)) (recovery_at a id)
+
+-- once what a load keeps is kept, the rows follow the audit of those that count up to this last id, whose unended
+-- recoveries are ended as interrupted
+abbrev pub FollowOnceLoaded : (List ℕ → ℕ) → ℕ → ℕ → ℕ → List Row → Moment → Type 0
+FollowOnceLoaded period servers next last rows at =
+    let counting = counted servers last rows in
+    let audit = audit_of period next counting in
+    FollowAudit servers (changed rows (loading period counting audit at)) (closed audit at)

@@ -75,13 +75,8 @@ fn counts(row: &Row, servers: u32, last: u64) -> bool
 pub fn counted(alloc: Global, servers: u32, last: u64, rows: Vec<Row>) -> Result<Vec<Row>, Memory>
     ensures { IfOk result (λ counting. counting.items ≡ counted servers last rows.items) }
 {
-    let map = row_map(alloc, rows)?;
-    let mut counting = Vec::new(alloc);
-    'rows: for row in map {
-        if counts(&row, servers, last) {
-            counting.push(row)?;
-        }
-    }
+    let mut counting = row_map(alloc, rows)?;
+    counting.retain(|row| counts(row, servers, last));
     Ok(counting)
 }
 

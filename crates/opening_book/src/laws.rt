@@ -13,7 +13,7 @@ ghost use Rattle.kept_rows.specs.declared.recovery.Recovery.{Recovery};
 ghost use Rattle.audit_log.specs.Audits.{acking, acknowledged, closed, longest_block, AuditState};
 ghost use Rattle.opening_book.specs.Audits.{audit_of, last_id};
 ghost use Rattle.opening_book.specs.Counting.{counted, greatest_id, loaded};
-ghost use Rattle.opening_book.specs.Following.{Follow, FollowAudit, IsIdInRange};
+ghost use Rattle.opening_book.specs.Following.{AreShort, Follow, FollowAudit, FollowOnceLoaded, IsIdInRange};
 ghost use Rattle.kept_rows.specs.Recoveries.{put_recovery};
 ghost use Rattle.opening_book.specs.Opening.{after_opening, blocks_given, interrupting, is_opening_change};
 
@@ -26,24 +26,26 @@ pub fn kept_rows_follow_the_book()
     ensures opening { (rows : List Row) (b : BookState) (c : Change) → Follow rows b → is_opening_change (length b.names) c ≡ true → IsInRange c → IsIdInRange c → Follow (changed_by rows c) (after_opening b c) }
 {}
 
-/// Kept rows follow the audit that is loaded of them, at an opening and at a restart, once each recovery whose row has
-/// no block period is kept with its cluster's; and they go on to do so after each change of the book that is kept,
-/// after each restart that ends the unended recoveries, and after each acknowledgement: under each id of which the
-/// audit has a recovery that recovery is kept, and under any other id only what doesn't count.
+/// Kept rows follow the audit that is loaded of them, at an opening and at a restart, once what the load keeps is kept:
+/// each recovery whose row has no block period with its cluster's, and each unended one as interrupted. They go on to do
+/// so after each change of the book that is kept, after each end of the unended recoveries, and after each
+/// acknowledgement: under each id of which the audit has a recovery that recovery is kept, and under any other id only
+/// what doesn't count.
 pub fn kept_rows_follow_the_audit()
-    ensures opened { (period : List ℕ → ℕ) (servers : ℕ) (rows : List Row) → ((cluster : List ℕ) → period cluster ≤ longest_block) →
-        servers ≤ 2 ^ 32 → IsRising rows →
-        FollowAudit servers (changed rows (blocks_given period (counted servers greatest_id rows)))
-        (audit_of period (last_id rows + 1) (counted servers greatest_id rows)) }
-    ensures loaded { (period : List ℕ → ℕ) (servers next : ℕ) (rows : List Row) → ((cluster : List ℕ) → period cluster ≤ longest_block) →
-        servers ≤ 2 ^ 32 → 1 ≤ next → next ≤ 2 ^ 64 → IsRising rows →
-        FollowAudit servers (changed rows (blocks_given period (counted servers (next - 1) rows)))
-        (audit_of period next (counted servers (next - 1) rows)) }
-    ensures book { (servers : ℕ) (rows : List Row) (a : AuditState) (c : Change) → servers ≤ 2 ^ 32 → FollowAudit servers rows a →
-        fits servers c ≡ true → IsInRange c → FollowAudit servers (changed_by rows c) a }
-    ensures closed { (servers : ℕ) (rows : List Row) (a : AuditState) (at : AMoment) → FollowAudit servers rows a →
+    ensures opened { (period : List ℕ → ℕ) (servers : ℕ) (rows : List Row) (at : AMoment) →
+        AreShort period → servers ≤ 2 ^ 32 → IsRising rows →
+        FollowOnceLoaded period servers (last_id rows + 1) greatest_id rows at }
+    ensures loaded { (period : List ℕ → ℕ) (servers next : ℕ) (rows : List Row) (at : AMoment) →
+        AreShort period → servers ≤ 2 ^ 32 → 1 ≤ next → next ≤ 2 ^ 64 → IsRising rows →
+        FollowOnceLoaded period servers next (next - 1) rows at }
+    ensures book { (servers : ℕ) (rows : List Row) (a : AuditState) (c : Change) →
+        servers ≤ 2 ^ 32 → FollowAudit servers rows a → fits servers c ≡ true → IsInRange c →
+        FollowAudit servers (changed_by rows c) a }
+    ensures closed { (servers : ℕ) (rows : List Row) (a : AuditState) (at : AMoment) →
+        FollowAudit servers rows a →
         FollowAudit servers (changed rows (interrupting a at)) (closed a at) }
-    ensures acknowledged { (servers : ℕ) (rows : List Row) (a : AuditState) (cluster : List ℕ) → FollowAudit servers rows a →
+    ensures acknowledged { (servers : ℕ) (rows : List Row) (a : AuditState) (cluster : List ℕ) →
+        FollowAudit servers rows a →
         FollowAudit servers (changed rows (map put_recovery (acking a cluster))) (acknowledged a cluster) }
 {}
 

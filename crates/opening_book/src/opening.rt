@@ -122,22 +122,29 @@ fn push_registrations(
     Ok(())
 }
 
-// The change by which a recovery whose row has no block period is kept with its cluster's.
-fn give_block<P: Periods>(alloc: Global, periods: &P, row: &Row) -> Result<Option<Change>, Memory>
-    ensures { IfOk result (λ c. c ≡ block_given (P.period_of periods.now) row.now) }
+// Appends the change by which a recovery whose row has no block period is kept with its cluster's.
+fn give_block<P: Periods>(
+    changes: &mut Vec<Change>,
+    alloc: Global,
+    periods: &P,
+    row: &Row,
+) -> Result<(), Memory>
+    ensures { OnOk result (changes.new.items ≡
+        changes.old.items ++ option_to_list (block_given (P.period_of periods.now) row.now)) }
 {
     match row {
         Row::Recovery(kept) if kept.block.is_none() => {
             let recovery = loaded_by(alloc, periods, kept)?;
-            Ok(Some(Change::Put(Row::Recovery(recovery.into_row()))))
+            changes.push(Change::Put(Row::Recovery(recovery.into_row())))?;
         }
         Row::Recovery(_)
         | Row::Instance(_)
         | Row::Downtime(_)
         | Row::Candidate(_)
         | Row::Switch(_)
-        | Row::Active { .. } => Ok(None),
+        | Row::Active { .. } => {}
     }
+    Ok(())
 }
 
 fn give_blocks<P: Periods>(alloc: Global, periods: &P, rows: &[Row]) -> Result<Vec<Change>, Memory>
@@ -145,8 +152,7 @@ fn give_blocks<P: Periods>(alloc: Global, periods: &P, rows: &[Row]) -> Result<V
 {
     let mut changes = Vec::new(alloc);
     for row in rows {
-        let change = give_block(alloc, periods, row)?;
-        push_some(&mut changes, change)?;
+        give_block(&mut changes, alloc, periods, row)?;
     }
     Ok(changes)
 }

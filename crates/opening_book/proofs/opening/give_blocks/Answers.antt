@@ -1,6 +1,7 @@
 use Rattle.std.proofs.Common.{◌++◌, ◌∙◌, ap, sym, take, List, Option}
 use Rattle.std.specs.Option.{option_to_list}
 use Rattle.kept_rows.specs.declared.row.Change.{Change}
+use Rattle.kept_rows.specs.declared.row.Row.{Row}
 use Rattle.opening_book.specs.Opening.{block_given, blocks_given}
 use Rattle.opening_book.proofs.Missing.{map-more}
 use Rattle.opening_book.proofs.opening.give_blocks.Goals as goal
@@ -10,7 +11,7 @@ loop-row-preserved g c =
     let period = g.P.Periods.period_of c.args.periods.now in
     let rows = c.args.rows.now in
     let at = c.loop-row.row-index in
-    c.in_ok-push_some.ensures
-    ∙ ap (λ (xs : List Change). xs ++ option_to_list c.in_ok-change.change) c.loop-row.invariant
-    ∙ ap (λ (o : Option Change). blocks_given period (take at rows) ++ option_to_list o) (c.in_ok-change.ensures ∙ ap (block_given period) c.row-item.is)
+    c.in_ok-give_block.ensures
+    ∙ ap (λ (xs : List Change). xs ++ option_to_list (block_given period c.row-item.result)) c.loop-row.invariant
+    ∙ ap (λ (r : Row). blocks_given period (take at rows) ++ option_to_list (block_given period r)) c.row-item.is
     ∙ sym (map-more (block_given period) rows at c.row-item.result c.loop-row-test.true)
