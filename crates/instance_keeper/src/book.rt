@@ -21,7 +21,6 @@ use kept_rows::{Candidate, Change, Downtime, Instance, Key, Observation, Row, Ta
 use orch_base::{Moment, Name, ServerNo, Settings};
 use std::alloc::Global;
 use std::marker::Model;
-use std::mem::replace;
 
 /// What became of an observation.
 #[derive(Clone, Copy, Debug, PartialEq, Eq)]
@@ -61,15 +60,14 @@ fn clear_instances(instances: &mut Instances, count: u32)
     }
 }
 
-// Sets a server's place and gives what stood there. It takes no memory.
-fn put_at(instances: &mut Instances, no: u32, instance: Option<Instance>) -> Option<Instance>
+// Sets a server's place. It takes no memory.
+fn put_at(instances: &mut Instances, no: u32, instance: Option<Instance>)
     requires keys { CountsUp 0 instances.old.entries }
     requires within { no < length (values instances.old) }
     ensures keys { CountsUp 0 instances.new.entries }
     ensures values { values instances.new ≡ slice_set (values instances.old) no instance }
-    ensures old { result ≡ slice_index_or (values instances.old) no None }
 {
-    replace(&mut instances[no as usize], instance)
+    instances[no as usize] = instance;
 }
 
 fn instance_in(instances: &Instances, no: u32) -> Option<&Instance>
