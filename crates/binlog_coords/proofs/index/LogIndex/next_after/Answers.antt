@@ -10,8 +10,8 @@ returns-in-Some c =
 
 pub returns-in_default : goal.returns-in_default
 returns-in_default c = elim c.in_default.branch [
-    | in_default-via-in-Some+else-is_same w ↦
-        next_after-elsewhere _ _ c.args.c _ _ _ w.in-Some.entry.now _ _ (ap (λ (x : Index). x.log) c.self.view_is) c.self.invariant.in_order c.count_ended-k.ensures c.deref.ensures.value w.in-Some.ensures.lookup.3 w.start_coord.ensures w.is_same.ensures w.if-is_same.false c.next_file.ensures
-    | in_default-via-in_default w ↦
-        next_after-past _ _ c.args.c _ _ _ (ap (λ (x : Index). x.log) c.self.view_is) c.self.invariant.in_order c.count_ended-k.ensures c.deref.ensures.value w.in_default.ensures.lookup.3 c.next_file.ensures
-  ]
+  | in_default-via-in-Some+else-is_same w ↦
+      next_after-elsewhere _ _ c.args.c _ _ _ w.in-Some.entry.now _ _ (ap (λ (x : Index). x.log) c.self.view_is) c.self.invariant.in_order c.count_ended-k.ensures c.deref.ensures.value w.in-Some.ensures.lookup.3 w.start_coord.ensures w.is_same.ensures w.if-is_same.false c.next_file.ensures
+  | in_default-via-in_default w ↦
+      next_after-past _ _ c.args.c _ _ _ (ap (λ (x : Index). x.log) c.self.view_is) c.self.invariant.in_order c.count_ended-k.ensures c.deref.ensures.value w.in_default.ensures.lookup.3 c.next_file.ensures
+]
