@@ -1,17 +1,19 @@
--- What a search by halves needs of a log's transactions and of its table.
-use Rattle.std.proofs.Common.{◌≡◌, ℕ, ◌+◌, ◌<◌, ◌≤◌, Bool, true, false, cond, List, [], ◌∷◌, ◌++◌, length, refl, sym, ◌∙◌, ap, inl, inr, Option, Some, None, arith, zero, suc, ◌||◌}
+-- What a search by halves needs of a log's transactions.
+use Rattle.std.proofs.Common.{◌≡◌, ℕ, ◌+◌, ◌-◌, ◌<◌, ◌≤◌, Bool, true, false, cond, List, [], ◌∷◌, ◌++◌, length, refl, sym, ◌∙◌, ap, subst, inl, inr, Option, Some, None, arith, zero, suc, ◌||◌, get_or}
 use Rattle.std.specs.Prelude.{count_by, slice_get}
+use Rattle.std.specs.Int.{from_bool}
 use Rattle.std.specs.List.{list_any, prefix_len}
-use Rattle.std.specs.List.Sorted.{IsPartitionPoint}
+use Rattle.std.specs.List.Sorted.{IsPartitionedBy, IsPartitionPoint}
 use Rattle.std.proofs.lemmas.List.Sums.{prefix_len_is}
 use Rattle.std.proofs.lemmas.Bool.{cases_Bool}
+use Rattle.std.proofs.lemmas.Option.{slice_get-get_or, slice_get_past}
 use Rattle.std.proofs.lemmas.Bool.Decides.{nat_tests}
 use Rattle.binlog_coords.specs.declared.Coord.{Coord}
 use Rattle.binlog_coords.specs.declared.Entry.{Entry}
 use Rattle.binlog_coords.specs.declared.Next.{Next}
 use Rattle.binlog_coords.specs.declared.Next.TheVariants as next
 use Rattle.binlog_coords.specs.Log.{Log, is_before, is_at_or_before, same_coord, file_start, end_of, start_coord, end_coord, ends_by, touches, is_file_start, has_place, coord_after, end_or_first, entry_from, next_file, next_after}
-use Rattle.binlog_coords.specs.Table.{LieBetween, starts_at, next_at}
+use Rattle.binlog_coords.specs.Entries.{LieBetween, starts_at}
 use Rattle.binlog_coords.proofs.Places.{is_at_or_before-trans, count_by-cons}
 
 -- one more transaction at the end
@@ -82,7 +84,7 @@ none-begins c from to k (x ∷ es) none h l =
     rw (not_here, rest) refl
 
 -- those that end by a coordinate stand in front
-pub count-is-prefix : (c from to : Coord) (es : List Entry) → LieBetween from to es → count_by (ends_by c) es ≡ prefix_len (ends_by c) es
+count-is-prefix : (c from to : Coord) (es : List Entry) → LieBetween from to es → count_by (ends_by c) es ≡ prefix_len (ends_by c) es
 count-is-prefix c from to [] h = refl
 count-is-prefix c from to (x ∷ es) h =
     elim (cases_Bool (ends_by c x)) [
@@ -95,10 +97,64 @@ count-is-prefix c from to (x ∷ es) h =
           rw (count_by-cons (ends_by c) x es, later, rest) refl
     ]
 
--- the boundary that a search by halves finds is the count of those in front that pass
-pub boundary-is-prefix : (p : Entry → Bool) (xs : List Entry) (i : ℕ) → i ≤ length xs → IsPartitionPoint (λ y. p y ≡ true) (λ y. p y ≡ false) xs i → i ≡ prefix_len p xs
-boundary-is-prefix p xs i within point =
-    sym (prefix_len_is p xs i (record { file = 0; start = 0; end = 0 }) within (λ k below. point.0 k _ (omega arith) below) (λ below. point.1 i _ (omega arith) below))
+-- each begins behind where the list does, and takes bytes
+lies-behind : (from to : Coord) (es : List Entry) → LieBetween from to es → (j : ℕ) (d : Entry) → j < length es
+    → (is_at_or_before from (start_coord (get_or es j d)) ≡ true) × ((get_or es j d).start < (get_or es j d).end)
+lies-behind from to [] h j d below = absurd (omega arith)
+lies-behind from to (x ∷ es) h zero d below = (h.0, h.1)
+lies-behind from to (x ∷ es) h (suc j) d below =
+    let first = h.0 in
+    let some = h.1 in
+    let here : is_at_or_before from (end_coord x) ≡ true = grind (arith, nat_tests) in
+    let rest = lies-behind (end_coord x) to es h.2 j d (omega arith) in
+    (is_at_or_before-trans from (end_coord x) (start_coord (get_or es j d)) here rest.0, rest.1)
+
+ended-with : (c from : Coord) (e : Entry) → is_at_or_before from (start_coord e) ≡ true → e.start < e.end → ends_by c e ≡ true → is_at_or_before from c ≡ true
+ended-with c from e behind some by = grind (arith, nat_tests)
+
+-- those that have ended stand before those that have not
+pub ended-before : (c from to : Coord) (es : List Entry) → LieBetween from to es → IsPartitionedBy (ends_by c) es
+ended-before c from to [] h i j d order below by = absurd (omega arith)
+ended-before c from to (x ∷ es) h zero zero d order below by = by
+ended-before c from to (x ∷ es) h zero (suc j) d order below by =
+    let rest = lies-behind (end_coord x) to es h.2 j d (omega arith) in ended-with c (end_coord x) (get_or es j d) rest.0 rest.1 by
+ended-before c from to (x ∷ es) h (suc i) zero d order below by = absurd (omega arith)
+ended-before c from to (x ∷ es) h (suc i) (suc j) d order below by = ended-before c (end_coord x) to es h.2 i j d (omega arith) (omega arith) by
+
+-- the boundary that a search by halves finds is their number; equal lists stand for what is searched
+pub boundary-by : (c to : Coord) (items seen es : List Entry) (i : ℕ) → items ≡ seen → LieBetween (file_start 1) to items → es ≡ items → i ≤ length es
+    → IsPartitionPoint (λ e. ends_by c e ≡ true) (λ e. ends_by c e ≡ false) es i → i ≡ count_by (ends_by c) seen
+boundary-by c to items seen es i view h same within point =
+    let found : prefix_len (ends_by c) es ≡ i =
+    prefix_len_is (ends_by c) es i (record { file = 0; start = 0; end = 0 }) within (λ k below. point.0 k _ (omega arith) below) (λ below. point.1 i _ (omega arith) below) in
+    sym found ∙ ap (prefix_len (ends_by c)) same ∙ sym (count-is-prefix c (file_start 1) to items h) ∙ ap (count_by (ends_by c)) view
+
+-- where the last has begun, all before it have ended
+ended-at_last : (c from to : Coord) (es : List Entry) → LieBetween from to es → (i : ℕ) (last : Entry) → length es ≡ suc i → ((d : Entry) → last ≡ get_or es i d)
+    → is_at_or_before (start_coord last) c ≡ true → count_by (ends_by c) es ≡ i + cond (ends_by c last) 1 0
+ended-at_last c from to [] h i last count is begun = absurd (omega arith)
+ended-at_last c from to (x ∷ []) h zero last count is begun = rw (count_by-cons (ends_by c) x [], is x) (omega arith)
+ended-at_last c from to (x ∷ y ∷ es) h zero last count is begun = absurd (omega arith)
+ended-at_last c from to (x ∷ es) h (suc i) last count is begun =
+    let behind = lies-behind (end_coord x) to es h.2 i x (omega arith) in
+    let before : is_at_or_before (end_coord x) (start_coord last) ≡ true = rw (is x) behind.0 in
+    let ended : ends_by c x ≡ true = is_at_or_before-trans (end_coord x) (start_coord last) c before begun in
+    let rest = ended-at_last c (end_coord x) to es h.2 i last (omega arith) is begun in
+    rw (count_by-cons (ends_by c) x es, ended, rest) (omega arith)
+
+as_number : (b : Bool) → from_bool b ≡ cond b 1 0
+as_number true = refl
+as_number false = refl
+
+-- the same where equal values stand for the parts
+pub count-at_last : (c to start : Coord) (items seen es : List Entry) (last : Entry) (n : ℕ) (begun ended : Bool) → items ≡ seen → LieBetween (file_start 1) to items → es ≡ items
+    → (0 < length es) × ((d : Entry) → last ≡ get_or es (length es - 1) d) → length es ≡ n → start ≡ start_coord last → begun ≡ is_at_or_before start c → begun ≡ true → ended ≡ ends_by c last
+    → n - 1 + from_bool ended ≡ count_by (ends_by c) seen
+count-at_last c to start items seen es last n begun ended view h same at count start_is begun_is is_begun ended_is =
+    let here : is_at_or_before (start_coord last) c ≡ true = subst (λ (x : Coord). is_at_or_before x c ≡ true) start_is (sym begun_is ∙ is_begun) in
+    let number : length es ≡ suc (n - 1) = let some = at.0 in omega arith in
+    let place : length es - 1 ≡ n - 1 = omega arith in
+    rw (ended_is, as_number (ends_by c last), ← view, ← same) (sym (ended-at_last c (file_start 1) to es (rw same h) (n - 1) last number (λ d. at.1 d ∙ ap (λ i. get_or es i d) place) here))
 
 -- a transaction, if there is one, ends at c
 abbrev end_stands : Coord → Option Entry → Bool
@@ -178,6 +234,11 @@ has_place-at log c h k e = go k (is_file_start log c) refl (any-touches c (file_
     go k true is any = refl
     go k false other any = any ∙ ap (λ b. b || starts_at c (slice_get log.entries k)) (ended k other)
 
+-- what follows where this transaction, numbered k, may begin; else what is given
+abbrev next_at : Coord → ℕ → Option Entry → Next → Next
+next_at c k None none = none
+next_at c k (Some e) none = cond (same_coord (start_coord e) c) (next.Entry k (end_coord e)) none
+
 -- the first that begins at a coordinate is the one behind those that have ended
 pub entry_from-at : (c from to : Coord) (i : ℕ) (es : List Entry) (none : Next) → LieBetween from to es → (k n : ℕ) → k ≡ count_by (ends_by c) es → n ≡ i + k
     → entry_from c i es none ≡ next_at c n (slice_get es k) none
@@ -214,9 +275,34 @@ has_place-by log seen c d k es heads ends begins view h count at_head at at_end 
     rw (at_head, at_end, at, at_start, same, ← view)
     (has_place-at log c h k (count ∙ ap (λ (x : Log). count_by (ends_by c) x.entries) (sym view)))
 
-pub next_after-by : (log seen : Log) (c : Coord) (k : ℕ) (es : List Entry) (none : Next) → log ≡ seen → LieBetween (file_start 1) (end_of log) log.entries
-    → k ≡ count_by (ends_by c) seen.entries → none ≡ next_file log c → es ≡ log.entries
-    → next_at c k (slice_get es k) none ≡ next_after seen c
-next_after-by log seen c k es none view h count other same =
-    rw (other, same, ← view)
+-- what follows, by what stands behind those that have ended
+next_after-at : (log seen : Log) (c : Coord) (k : ℕ) (es : List Entry) (o : Option Entry) (none : Next) → log ≡ seen → LieBetween (file_start 1) (end_of log) log.entries
+    → k ≡ count_by (ends_by c) seen.entries → es ≡ log.entries → slice_get es k ≡ o → none ≡ next_file log c
+    → next_at c k o none ≡ next_after seen c
+next_after-at log seen c k es o none view h count same at other =
+    rw (← at, other, same, ← view)
     (sym (entry_from-at c (file_start 1) (end_of log) 0 log.entries (next_file log c) h k k (count ∙ ap (λ (x : Log). count_by (ends_by c) x.entries) (sym view)) (omega arith)))
+
+-- a transaction that begins here, one that begins elsewhere, or none
+pub next_after-begun : (log seen : Log) (c start to : Coord) (k : ℕ) (es : List Entry) (t : Entry) (begins : Bool) → log ≡ seen → LieBetween (file_start 1) (end_of log) log.entries
+    → k ≡ count_by (ends_by c) seen.entries → es ≡ log.entries → (k < length es) × ((d : Entry) → t ≡ get_or es k d) → start ≡ start_coord t → begins ≡ same_coord start c → begins ≡ true
+    → to ≡ end_coord t → next.Entry k to ≡ next_after seen c
+next_after-begun log seen c start to k es t begins view h count same at from begins_is here ends =
+    let begun : same_coord (start_coord t) c ≡ true = subst (λ (x : Coord). same_coord x c ≡ true) from (sym begins_is ∙ here) in
+    let found : slice_get es k ≡ Some t = slice_get-get_or es k t at.0 ∙ ap Some (sym (at.1 t)) in
+    ap (next.Entry k) ends ∙ sym (ap (λ b. cond b (next.Entry k (end_coord t)) (next_file log c)) begun)
+    ∙ next_after-at log seen c k es (Some t) (next_file log c) view h count same found refl
+
+pub next_after-elsewhere : (log seen : Log) (c start : Coord) (k : ℕ) (es : List Entry) (t : Entry) (begins : Bool) (none : Next) → log ≡ seen → LieBetween (file_start 1) (end_of log) log.entries
+    → k ≡ count_by (ends_by c) seen.entries → es ≡ log.entries → (k < length es) × ((d : Entry) → t ≡ get_or es k d) → start ≡ start_coord t → begins ≡ same_coord start c → begins ≡ false
+    → none ≡ next_file log c → none ≡ next_after seen c
+next_after-elsewhere log seen c start k es t begins none view h count same at from begins_is elsewhere other =
+    let begun : same_coord (start_coord t) c ≡ false = subst (λ (x : Coord). same_coord x c ≡ false) from (sym begins_is ∙ elsewhere) in
+    let found : slice_get es k ≡ Some t = slice_get-get_or es k t at.0 ∙ ap Some (sym (at.1 t)) in
+    sym (ap (λ b. cond b (next.Entry k (end_coord t)) none) begun)
+    ∙ next_after-at log seen c k es (Some t) none view h count same found other
+
+pub next_after-past : (log seen : Log) (c : Coord) (k : ℕ) (es : List Entry) (none : Next) → log ≡ seen → LieBetween (file_start 1) (end_of log) log.entries
+    → k ≡ count_by (ends_by c) seen.entries → es ≡ log.entries → length es ≤ k → none ≡ next_file log c → none ≡ next_after seen c
+next_after-past log seen c k es none view h count same past other =
+    next_after-at log seen c k es None none view h count same (slice_get_past es k past) other

@@ -1,27 +1,16 @@
-use Rattle.std.proofs.Common.{◌∙◌, refl}
-use Rattle.binlog_coords.proofs.Tables.{table-rises, ended-before_part, found-by}
+use Rattle.std.proofs.Common.{◌∙◌, rules, sym, ap}
+use Rattle.std.proofs.lemmas.List.Sorted.{IsPartitionPoint-from_clause}
+use Rattle.binlog_coords.specs.Index.{Index}
+use Rattle.binlog_coords.specs.Log.{ends_by}
+use Rattle.binlog_coords.proofs.Halves.{ended-before, boundary-by, count-at_last}
 use Rattle.binlog_coords.proofs.index.LogIndex.count_ended.Goals as goal
 
-pub first_from-first-requires : goal.first_from-first-requires
-first_from-first-requires c = table-rises _ _ _ c.self.invariant.in_order (c.as_slice-table.ensures.value ∙ c.self.invariant.table)
+pub returns-in-Some : goal.returns-in-Some
+returns-in-Some c =
+    let count = count-at_last c.args.c _ _ _ _ _ c.in-Some.last.now _ _ _ (ap (λ (x : Index). x.log.entries) c.self.view_is) c.self.invariant.in_order c.deref.ensures.value c.in-Some.ensures.item.3 (c.deref.ensures.len ∙ sym c.len.ensures) c.start_coord.ensures c.is_at_or_before.ensures c.if-is_at_or_before.true c.ends_by.ensures in
+    rw c.from.ensures count
 
-pub first_from-past-requires : goal.first_from-past-requires
-first_from-past-requires c = table-rises _ _ _ c.self.invariant.in_order (c.as_slice-table.ensures.value ∙ c.self.invariant.table)
-
-pub count_within-requires-clause-order : goal.count_within-requires-clause-order
-count_within-requires-clause-order c =
-    (found-by c.args.c _ _ _ _ _ _ _ _ c.self.invariant.in_order c.self.invariant.table c.as_slice-entries.ensures.value c.as_slice-table.ensures.value c.from-file.ensures c.first_from-first.ensures c.first_from-past.ensures).order
-
-pub count_within-requires-clause-within : goal.count_within-requires-clause-within
-count_within-requires-clause-within c =
-    (found-by c.args.c _ _ _ _ _ _ _ _ c.self.invariant.in_order c.self.invariant.table c.as_slice-entries.ensures.value c.as_slice-table.ensures.value c.from-file.ensures c.first_from-first.ensures c.first_from-past.ensures).within
-
-pub count_within-requires-clause-parted : goal.count_within-requires-clause-parted
-count_within-requires-clause-parted c =
-    rw c.as_slice-entries.ensures.value (ended-before_part c.args.c _ c.self.inside.entries.items _ _ c.self.invariant.in_order)
-
-pub returns : goal.returns
-returns c =
-    c.count_within.ensures
-    ∙ (found-by c.args.c _ _ _ _ _ _ _ _ c.self.invariant.in_order c.self.invariant.table c.as_slice-entries.ensures.value c.as_slice-table.ensures.value c.from-file.ensures c.first_from-first.ensures c.first_from-past.ensures).count
-    ∙ rw (c.as_slice-entries.ensures.value, ← c.self.view_is) refl
+pub returns-in_default : goal.returns-in_default
+returns-in_default c =
+    let point = IsPartitionPoint-from_clause (ends_by c.args.c) _ _ c.partition_point.ensures.partitioned (rw c.deref-in_default.ensures.value (ended-before c.args.c _ _ _ c.self.invariant.in_order)) (λ a r q k. search rules) in
+    boundary-by c.args.c _ _ _ _ _ (ap (λ (x : Index). x.log.entries) c.self.view_is) c.self.invariant.in_order c.deref-in_default.ensures.value c.partition_point.ensures.bound point

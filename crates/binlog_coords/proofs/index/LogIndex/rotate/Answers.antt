@@ -6,7 +6,5 @@ pub invariant_of-self : goal.invariant_of-self
 invariant_of-self c = record {
   in_range = search rules;
   reserved = c.self.invariant.reserved;
-  rows_reserved = c.self.invariant.rows_reserved;
   in_order = LieBetween-later _ _ _ _ c.self.invariant.in_order (before-next c.self.inside.files c.self.inside.pos);
-  table = c.self.invariant.table;
 }
