@@ -109,6 +109,17 @@ rises_above rows p i rising within here = λ k d low h.
     above_or_at : (k i a b p : ℕ) → (i < k → b < a) → (k ≡ i → a ≡ b) → p ≤ b → i ≤ k → p ≤ a
     above_or_at k i a b p behind same at h = elim (le_cases i k h) [ inl less ↦ omega (arith, behind less) | inr e ↦ omega (arith, same (sym e)) ]
 
+-- the row at a sort key is the first that doesn't stand before it
+pub first_at : (rows : List Row) (p i : ℕ) → IsRising rows → i < length rows → HoldsAt (λ x. sort_key_of x ≡ p) rows i → IsFirstFrom rows p i
+first_at rows p i rising within here = record {
+  within = omega (arith, within);
+  below = λ k d low h.
+    let at = here d in
+    let less = rising.apart k i d h within in
+    let goal : sort_key_of (get_or rows k d) < p = omega (arith, at, less) in goal;
+  above = rises_above rows p i rising within (λ d. let at = here d in let goal : p ≤ sort_key_of (get_or rows i d) = omega (arith, at) in goal);
+}
+
 -- behind a row at or behind a sort key all rows are behind it
 pub past_first : (rows : List Row) (p i : ℕ) → IsRising rows → i < length rows → HoldsAt (λ x. p ≤ sort_key_of x) rows i → All (λ x. p < sort_key_of x) (drop (suc i) rows)
 past_first rows p i rising within here = All_drop (λ x. p < sort_key_of x) rows (suc i) (λ k d low h.

@@ -50,12 +50,26 @@ fn next_look(from: usize, to: usize, guess: usize) -> usize
     from + (to - from) / 2
 }
 
+// Whether the row of this index is there, and stands at this sort key.
+fn stands_at(rows: &[Row], index: usize, sort_key: SortKey) -> bool
+    ensures there { OnTrue result (index < length rows.now) }
+    ensures at { OnTrue result (HoldsAt (λ r. sort_key_of r ≡ at sort_key) rows.now index) }
+{
+    match rows.get(index) {
+        Some(row) => row.table() == sort_key.table && row.key() == sort_key.key,
+        None => false,
+    }
+}
+
 // The first row that doesn't stand before this sort key.
 fn first_from(rows: &[Row], sort_key: SortKey) -> usize
     requires { IsRising rows.now }
     ensures { IsFirstFrom rows.now (at sort_key) result }
 {
     let guess = sort_key.key.guess();
+    if stands_at(rows, guess, sort_key) {
+        return guess;
+    }
     let mut from = 0;
     let mut to = rows.len();
     'halves: while from < to {

@@ -3,7 +3,7 @@ use Rattle.std.proofs.lemmas.Bool.{ltb-true, ltb-false}
 use Rattle.std.proofs.lemmas.List.Elements.{at_read}
 use Rattle.kept_rows.specs.Rows.{sort_key_of}
 use Rattle.kept_rows.specs.SortKeys.{at}
-use Rattle.kept_rows.proofs.SortKeys.{rises_below, rises_above}
+use Rattle.kept_rows.proofs.SortKeys.{first_at, rises_below, rises_above}
 use Rattle.kept_rows.proofs.memory.first_from.Goals as goal
 
 pub halves-preserved-then-is_before : goal.halves-preserved-then-is_before
@@ -31,3 +31,7 @@ halves-preserved c =
       below = c.halves.invariant.below;
       above = rises_above c.args.rows.now (at c.args.sort_key) middle c.requires (omega arith) (at_read c.args.rows.now (λ x. at c.args.sort_key ≤ sort_key_of x) middle row (omega arith) c.index-rows-middle.is own);
     }
+
+pub returns-then-stands_at : goal.returns-then-stands_at
+returns-then-stands_at c =
+    first_at c.args.rows.now (at c.args.sort_key) c.guess-guess.result c.requires c.if-stands_at.ensures.there c.if-stands_at.ensures.at
