@@ -7,7 +7,7 @@ ghost use Rattle.name_order.specs.Sorts.{sort_by};
 ghost use Rattle.asking_commands.specs.Labels.{clusters_of, is_again, labels_of};
 
 use crate::Memory;
-use book_views::is_instance;
+use book_views::{is_instance, label_at};
 use commands::{Line, Lines};
 use instance_keeper::Book;
 use orch_base::OwnedText;

@@ -7,8 +7,8 @@ ghost use Rattle.book_views.specs.Forests.{server_at};
 ghost use Rattle.asking_commands.specs.Trees.{instance_line, is_root_of, node_line, replicates, state_of, topology_of};
 
 use crate::Memory;
-use crate::listing::{is_of_cluster, label_at};
-use book_views::{book_forest, server_at};
+use crate::listing::is_of_cluster;
+use book_views::{book_forest, label_at, server_at};
 use commands::{Line, Lines, StateWord};
 use instance_keeper::{Book, Instance};
 use orch_base::{IoState, OwnedText, ServerNo, SourceState};

@@ -8,6 +8,7 @@ use crate::TurnFault;
 use instance_keeper::{Book, Change, Keeper, Observation, Row};
 use orch_base::Name;
 use std::alloc::Global;
+use std::slice::from_ref;
 
 /// Keeps the changes that storing the slot's reading makes, where it makes any.
 pub(crate) fn keep_store<K: Keeper>(
@@ -26,8 +27,8 @@ pub(crate) fn keep_store<K: Keeper>(
     let Some(o) = slot else {
         return Ok(());
     };
-    match book.change_by(o)? {
-        Some(change) => keep(alloc, keeper, book.names(), &[change]),
+    match &book.change_by(o)? {
+        Some(change) => keep(alloc, keeper, book.names(), from_ref(change)),
         None => Ok(()),
     }
 }
