@@ -1,44 +1,17 @@
--- No exchange leaves a server under a source that isn't one of the servers.
-use Rattle.std.proofs.Common.{◌≡◌, ℕ, ◌<◌, Bool, true, List, [], ◌∷◌, length, refl, sym, subst, Option, Some, None, arith}
-use Rattle.std.specs.Prelude.{All, Result, Ok, Err, ◌||◌, false, slice_get, slice_set, nat_lt, if◌then◌else◌}
-use Rattle.std.proofs.lemmas.List.{length-set}
-use Rattle.std.proofs.lemmas.List.Elements.{All-set}
+-- Each server's source is one of the servers, in the book's words.
+use Rattle.std.proofs.Common.{◌≡◌, ℕ, ◌<◌, true, List, length, refl, subst, Some, arith}
+use Rattle.std.specs.Prelude.{All, IfSome, slice_get, nat_lt}
+use Rattle.std.proofs.lemmas.Bool.Decides.{nat_tests}
 use Rattle.std.proofs.lemmas.Option.{get_or_from_slice_get, slice_get_within}
-use Rattle.binlog_coords.specs.declared.Coord.{Coord}
-use Rattle.binlog_coords.specs.declared.Next.TheVariants as next
-use Rattle.orch_base.specs.declared.server.ServerNo.{ServerNo}
 use Rattle.orch_base.specs.declared.server.SourceState.{SourceState}
 use Rattle.orch_base.specs.declared.server.SourceState.TheVariants as source
 use Rattle.kept_rows.specs.Servers.{are_known, source_servers}
-use Rattle.server_model.specs.declared.decisions.ApplyStep.{ApplyStep}
-use Rattle.server_model.specs.declared.decisions.ApplyStep.TheVariants as applying
-use Rattle.server_model.specs.declared.decisions.FetchStep.{FetchStep}
-use Rattle.server_model.specs.declared.decisions.FetchStep.TheVariants as receiving
-use Rattle.server_words.specs.declared.answers.PurgeAnswer.{PurgeAnswer}
-use Rattle.server_words.specs.declared.answers.PurgeAnswer.TheVariants as purging
-use Rattle.server_words.specs.declared.answers.RotateAnswer.{RotateAnswer}
-use Rattle.server_words.specs.declared.answers.RotateAnswer.TheVariants as rotating
-use Rattle.server_words.specs.declared.answers.Unreachable.{Unreachable}
-use Rattle.server_words.specs.declared.answers.WriteAnswer.{WriteAnswer}
-use Rattle.server_words.specs.declared.answers.WriteAnswer.TheVariants as wrote
-use Rattle.server_words.specs.declared.attach.AttachFault.{AttachFault}
-use Rattle.server_words.specs.declared.changes.Ask.{Ask}
-use Rattle.server_words.specs.declared.changes.Ask.TheVariants as asking
-use Rattle.server_words.specs.declared.changes.Event.{Event}
-use Rattle.server_words.specs.declared.changes.Event.TheVariants as event
-use Rattle.server_words.specs.declared.changes.Link.TheVariants as link
-use Rattle.server_words.specs.declared.changes.Threads.TheVariants as threads
+use Rattle.server_model.specs.Run.{Exchange, AllAllowed, run}
+use Rattle.server_model.specs.Worlds.{World, source_no}
 use Rattle.server_model.specs.declared.server.Server.{Server}
-use Rattle.server_model.specs.Exchanges.{is_attached, took, own_txn, write_answer, after_write, fetch_step, after_fetch, apply_step, after_apply}
-use Rattle.server_model.specs.Attach.{attach_answer, attached_to, after_attach}
-use Rattle.server_model.specs.Desk.{asked, attached_source, befallen, desk_answer, detached, detached_source, healed, is_detached, reattached, rotate_answer, rotated, started, after_change, after_desk, after_rotate}
-use Rattle.server_model.specs.Gtids.{attach_auto_answer, after_attach_auto, attached_auto, auto_coord, uuids}
-use Rattle.server_model.specs.Purging.{purge_answer, after_purge}
-use Rattle.server_model.specs.Run.{Exchange, Write, Fetch, Apply, Request, Befall, Rotate, Purge, Attach, AttachAuto, after, Allowed, AllAllowed, run}
-use Rattle.server_model.specs.Worlds.{World, server_at}
+use Rattle.server_model.proofs.Sources as model
 use Rattle.orch_core.specs.States.{HasKnownSource}
 
--- each server's source is one of the servers
 abbrev pub KnowsSources : List Server → Type 0
 KnowsSources servers = All (HasKnownSource (length servers)) servers
 
@@ -46,157 +19,18 @@ pub source-at : (servers : List Server) (n : ℕ) (s : Server) → KnowsSources 
 source-at servers n s all at =
     subst (HasKnownSource (length servers)) (get_or_from_slice_get servers n s s at) (all n s (slice_get_within servers n s at))
 
--- another server whose source is known
-pub sources-set : (servers : List Server) (n : ℕ) (s : Server) → KnowsSources servers → HasKnownSource (length servers) s → KnowsSources (slice_set servers n s)
-sources-set servers n s all has =
-    subst (λ (count : ℕ). All (HasKnownSource count) (slice_set servers n s)) (sym (length-set servers n s))
-    (All-set (HasKnownSource (length servers)) servers n s has all)
-
--- a server that is changed, and keeps its source
-kept : (w : World) (n : ℕ) (s s' : Server) → server_at w n ≡ Some s → s'.source ≡ s.source → KnowsSources w.servers → KnowsSources (slice_set w.servers n s')
-kept w n s s' at same all =
-    sources-set w.servers n s' all
-    (subst (λ (from : SourceState). are_known (length w.servers) (source_servers from) ≡ true) (sym same) (source-at w.servers n s all at))
-
-sources-write : (w : World) (n size : ℕ) (o : Option Server) (a : WriteAnswer) → server_at w n ≡ o → KnowsSources w.servers → KnowsSources (after_write w n size o a).servers
-sources-write w n size None a at all = all
-sources-write w n size (Some s) wrote.Down at all = all
-sources-write w n size (Some s) wrote.ReadOnly at all = all
-sources-write w n size (Some s) wrote.Full at all = all
-sources-write w n size (Some s) (wrote.Done seq) at all = kept w n s (took s (own_txn n seq size)) at refl all
-
-sources-fetch : (w : World) (n : ℕ) (o : Option Server) (a : FetchStep) → server_at w n ≡ o → KnowsSources w.servers → KnowsSources (after_fetch w n o a).servers
-sources-fetch w n None a at all = all
-sources-fetch w n (Some r) receiving.Halt at all = all
-sources-fetch w n (Some r) receiving.Unlinked at all = all
-sources-fetch w n (Some r) (receiving.Refuse first) at all = kept w n r (record r { receiver = false }) at refl all
-sources-fetch w n (Some r) (receiving.Take (next.Entry index to)) at all = kept w n r (record r { read = to }) at refl all
-sources-fetch w n (Some r) (receiving.Take (next.Rotate to)) at all = kept w n r (record r { read = to }) at refl all
-sources-fetch w n (Some r) (receiving.Take next.End) at all = all
-
-sources-apply : (w : World) (n : ℕ) (o : Option Server) (a : ApplyStep) → server_at w n ≡ o → KnowsSources w.servers → KnowsSources (after_apply w n o a).servers
-sources-apply w n None a at all = all
-sources-apply w n (Some r) applying.Halt at all = all
-sources-apply w n (Some r) applying.ForgetUntil at all = kept w n r (record r { applier = false; until = None }) at refl all
-sources-apply w n (Some r) applying.Idle at all = all
-sources-apply w n (Some r) applying.NoRoom at all = all
-sources-apply w n (Some r) (applying.Pass to) at all = kept w n r (record r { exec = to }) at refl all
-sources-apply w n (Some r) (applying.Skip to) at all = kept w n r (record r { exec = to }) at refl all
-sources-apply w n (Some r) (applying.Execute t to) at all = kept w n r (record (took r t) { exec = to }) at refl all
-
--- a change of one server that keeps its source one of the servers
-sources-change : (w : World) (n : ℕ) (f : Server → Server) (o : Option Server) → ((s : Server) → HasKnownSource (length w.servers) s → HasKnownSource (length w.servers) (f s)) → server_at w n ≡ o → KnowsSources w.servers
-    → KnowsSources (after_change w n f o).servers
-sources-change w n f None keeps at all = all
-sources-change w n f (Some s) keeps at all = sources-set w.servers n (f s) all (keeps s (source-at w.servers n s all at))
-
 module _ (count : ℕ) where
-  started-known : (until : Option Coord) (s : Server) → HasKnownSource count s → HasKnownSource count (started until s)
-  started-known until s known = go (is_attached s.source)
-    where
-      go : (attached : Bool) → HasKnownSource count (if attached then record s { receiver = true; applier = true; until = until } else s)
-      go true = known
-      go false = known
+  below : (from : SourceState) → are_known count (source_servers from) ≡ true → IfSome (source_no from) (λ m. m < count)
+  below source.Without known = tt
+  below (source.Attached m) known = grind (arith, nat_tests)
+  below (source.Detached m) known = grind (arith, nat_tests)
 
-  detached_source-known : (from : SourceState) → are_known count (source_servers from) ≡ true → are_known count (source_servers (detached_source from)) ≡ true
-  detached_source-known source.Without known = known
-  detached_source-known (source.Attached m) known = known
-  detached_source-known (source.Detached m) known = known
-
-  attached_source-known : (from : SourceState) → are_known count (source_servers from) ≡ true → are_known count (source_servers (attached_source from)) ≡ true
-  attached_source-known source.Without known = known
-  attached_source-known (source.Attached m) known = known
-  attached_source-known (source.Detached m) known = known
-
-  detached-known : (s : Server) → HasKnownSource count s → HasKnownSource count (detached s)
-  detached-known s known = go (is_attached s.source)
-    where
-      go : (attached : Bool) → HasKnownSource count (if attached then record s { source = detached_source s.source; receiver = false; applier = false; read = s.exec; until = None } else s)
-      go true = detached_source-known s.source known
-      go false = known
-
-  reattached-known : (s : Server) → HasKnownSource count s → HasKnownSource count (reattached s)
-  reattached-known s known = go (is_detached s.source)
-    where
-      go : (is : Bool) → HasKnownSource count (if is then record s { source = attached_source s.source; receiver = false; applier = false } else s)
-      go true = attached_source-known s.source known
-      go false = known
-
-  asked-known : (a : Ask) (s : Server) → HasKnownSource count s → HasKnownSource count (asked a s)
-  asked-known (asking.Stop threads.Both) s known = known
-  asked-known (asking.Stop threads.Receiver) s known = known
-  asked-known (asking.Stop threads.Applier) s known = known
-  asked-known asking.Start s known = started-known None s known
-  asked-known (asking.StartUntil to) s known = started-known (Some to) s known
-  asked-known asking.Detach s known = detached-known s known
-  asked-known asking.Reattach s known = reattached-known s known
-  asked-known asking.Reset s known = refl
-  asked-known (asking.SetReadOnly on) s known = known
-
-  healed-known : (s : Server) → HasKnownSource count s → HasKnownSource count (healed s)
-  healed-known s known = go s.up
-    where
-      go : (up : Bool) → HasKnownSource count (if up then s else record s { up = true; until = None; receiver = is_attached s.source || s.receiver; applier = is_attached s.source || s.applier })
-      go true = known
-      go false = known
-
-  befallen-known : (e : Event) (s : Server) → HasKnownSource count s → HasKnownSource count (befallen e s)
-  befallen-known event.Fail s known = known
-  befallen-known event.Heal s known = healed-known s known
-  befallen-known (event.Cut link.Desk) s known = known
-  befallen-known (event.Cut link.Feed) s known = known
-  befallen-known (event.Join link.Desk) s known = known
-  befallen-known (event.Join link.Feed) s known = known
-
-sources-ask : (w : World) (n : ℕ) (a : Ask) (answer : Result (Unit {0}) Unreachable) → KnowsSources w.servers → KnowsSources (after_desk w n a answer).servers
-sources-ask w n a (Ok t) all = sources-change w n (asked a) (server_at w n) (asked-known (length w.servers) a) refl all
-sources-ask w n a (Err e) all = all
-
-sources-rotate : (w : World) (n : ℕ) (o : Option Server) (answer : RotateAnswer) → server_at w n ≡ o → KnowsSources w.servers → KnowsSources (after_rotate w n o answer).servers
-sources-rotate w n None answer at all = all
-sources-rotate w n (Some s) rotating.Down at all = all
-sources-rotate w n (Some s) rotating.NotLogging at all = all
-sources-rotate w n (Some s) rotating.Full at all = all
-sources-rotate w n (Some s) (rotating.Done c) at all = kept w n s (rotated s) at refl all
-
-sources-purge : (w : World) (n : ℕ) (o : Option Server) (answer : PurgeAnswer) → server_at w n ≡ o → KnowsSources w.servers → KnowsSources (after_purge w n o answer).servers
-sources-purge w n None answer at all = all
-sources-purge w n (Some s) purging.Down at all = all
-sources-purge w n (Some s) purging.NotLogging at all = all
-sources-purge w n (Some s) purging.NoFile at all = all
-sources-purge w n (Some s) (purging.Done first) at all = kept w n s (record s { first = first }) at refl all
-
--- a server that is there is one of the servers
-below : (m n : ℕ) → m < n → nat_lt m n ≡ true
-below m n h = grind arith
-
-pub there-known : (w : World) (n : ℕ) (s : Server) → server_at w n ≡ Some s → are_known (length w.servers) (n ∷ []) ≡ true
-there-known w n s at = rw (below n (length w.servers) (slice_get_within w.servers n s at)) refl
-
-sources-attach : (w : World) (n : ℕ) (to : ServerNo) (c : Coord) (o : Option Server) (answer : Result (Unit {0}) AttachFault) → are_known (length w.servers) (to.0 ∷ []) ≡ true → KnowsSources w.servers
-    → KnowsSources (after_attach w n to c o answer).servers
-sources-attach w n to c None answer known all = all
-sources-attach w n to c (Some s) (Ok t) known all = sources-set w.servers n (attached_to to c s) all known
-sources-attach w n to c (Some s) (Err e) known all = all
-
-sources-attach_auto : (w : World) (n : ℕ) (to : ServerNo) (o : Option Server) (answer : Result (Unit {0}) AttachFault) → are_known (length w.servers) (to.0 ∷ []) ≡ true → KnowsSources w.servers
-    → KnowsSources (after_attach_auto w n to o answer).servers
-sources-attach_auto w n to None answer known all = all
-sources-attach_auto w n to (Some s) (Ok t) known all = sources-set w.servers n (attached_auto to (auto_coord (uuids w) s (server_at w to.0)) s) all known
-sources-attach_auto w n to (Some s) (Err e) known all = all
-
-pub sources-after : (w : World) (e : Exchange) → Allowed w e → KnowsSources w.servers → KnowsSources (after w e).servers
-sources-after w (Write n size) allowed all = sources-write w n size (server_at w n) (write_answer n (server_at w n)) refl all
-sources-after w (Fetch n) allowed all = sources-fetch w n (server_at w n) (fetch_step w (server_at w n)) refl all
-sources-after w (Apply n) allowed all = sources-apply w n (server_at w n) (apply_step w (server_at w n)) refl all
-sources-after w (Request n a) allowed all = sources-ask w n a (desk_answer (server_at w n)) all
-sources-after w (Befall n e) allowed all = sources-change w n (befallen e) (server_at w n) (befallen-known (length w.servers) e) refl all
-sources-after w (Rotate n) allowed all = sources-rotate w n (server_at w n) (rotate_answer (server_at w n)) refl all
-sources-after w (Purge n file) allowed all = sources-purge w n (server_at w n) (purge_answer w n file (server_at w n)) refl all
-sources-after w (Attach n expect to at) allowed all = sources-attach w n to at (server_at w n) (attach_answer w n expect to.0 at (server_at w n)) (there-known w to.0 allowed.target allowed.there) all
-sources-after w (AttachAuto n observed to) allowed all = sources-attach_auto w n to (server_at w n) (attach_auto_answer w n observed to.0 (server_at w n)) (there-known w to.0 allowed.target allowed.there) all
+  known : (from : SourceState) → IfSome (source_no from) (λ m. m < count) → are_known count (source_servers from) ≡ true
+  known source.Without h = refl
+  known (source.Attached m) h = let is : nat_lt m.0 count ≡ true = grind (arith, nat_tests) in rw is
+  known (source.Detached m) h = let is : nat_lt m.0 count ≡ true = grind (arith, nat_tests) in rw is
 
 -- over some exchanges
 pub sources-run : (w : World) (es : List Exchange) → AllAllowed w es → KnowsSources w.servers → KnowsSources (run w es).servers
-sources-run w [] allowed all = all
-sources-run w (e ∷ es) allowed all = sources-run (after w e) es allowed.1 (sources-after w e allowed.0 all)
+sources-run w es allowed all k d h =
+    known (length (run w es).servers) _ (model.sources-run w es allowed (λ i x j. below (length w.servers) _ (all i x j)) k d h)

@@ -33,7 +33,7 @@ use Rattle.orch_core.specs.States.{HaveEntries, IsOpenAt, IsSlot, IsState, State
 use Rattle.jobs_in_flight.proofs.Numbers.{found-number, Rise-with, Rise-without}
 use Rattle.orch_core.proofs.Closed.{closed_by-begun, closed_by-is, closed_by-next, closing-going, closing-open, entries-turned, flown-entry}
 use Rattle.orch_core.proofs.Recoveries.{HasBegun}
-use Rattle.orch_core.proofs.Servers.{servers-run}
+use Rattle.server_model.proofs.Counts.{servers-run}
 use Rattle.orch_core.proofs.Sources.{KnowsSources, sources-run}
 use Rattle.orch_core.proofs.States.{names-stored, reading_known, settings-stored}
 use Rattle.jobs_in_flight.proofs.Turning.{found-here}

@@ -40,7 +40,8 @@ use Rattle.orch_core.specs.After.{after_act, after_tick, step}
 use Rattle.orch_core.specs.Scenarios.{loaded_audit, loaded_book, start, start_changes, start_moment, start_rows, start_world}
 use Rattle.orch_core.specs.States.{State, IsSlot}
 use Rattle.orch_core.specs.Turns.{exchange_of}
-use Rattle.orch_core.proofs.Servers.{servers-run, servers-start}
+use Rattle.server_model.proofs.Counts.{servers-run}
+use Rattle.orch_core.proofs.Servers.{servers-start}
 use Rattle.orch_core.proofs.Sources.{sources-run}
 use Rattle.orch_core.proofs.Starts.{all-loading, fits-opening, sources-start}
 use Rattle.orch_core.proofs.States.{Allowed-step, names-loaded, names-stored, reading_known}

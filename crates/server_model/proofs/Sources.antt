@@ -41,33 +41,33 @@ abbrev pub HasSourceOf : ℕ → Server → Type 0
 HasSourceOf count s = IfSome (source_no s.source) (λ m. m < count)
 
 -- each server's source is one of the servers
-abbrev pub KnowsSources : List Server → Type 0
-KnowsSources servers = All (HasSourceOf (length servers)) servers
+abbrev pub HaveSources : List Server → Type 0
+HaveSources servers = All (HasSourceOf (length servers)) servers
 
-pub source-at : (servers : List Server) (n : ℕ) (s : Server) → KnowsSources servers → slice_get servers n ≡ Some s → HasSourceOf (length servers) s
+pub source-at : (servers : List Server) (n : ℕ) (s : Server) → HaveSources servers → slice_get servers n ≡ Some s → HasSourceOf (length servers) s
 source-at servers n s all at =
     subst (HasSourceOf (length servers)) (get_or_from_slice_get servers n s s at) (all n s (slice_get_within servers n s at))
 
 -- another server whose source is known
-pub sources-set : (servers : List Server) (n : ℕ) (s : Server) → KnowsSources servers → HasSourceOf (length servers) s → KnowsSources (slice_set servers n s)
+pub sources-set : (servers : List Server) (n : ℕ) (s : Server) → HaveSources servers → HasSourceOf (length servers) s → HaveSources (slice_set servers n s)
 sources-set servers n s all has =
     subst (λ (count : ℕ). All (HasSourceOf count) (slice_set servers n s)) (sym (length-set servers n s))
     (All-set (HasSourceOf (length servers)) servers n s has all)
 
 -- a server that is changed, and keeps its source
-kept : (w : World) (n : ℕ) (s s' : Server) → server_at w n ≡ Some s → s'.source ≡ s.source → KnowsSources w.servers → KnowsSources (slice_set w.servers n s')
+kept : (w : World) (n : ℕ) (s s' : Server) → server_at w n ≡ Some s → s'.source ≡ s.source → HaveSources w.servers → HaveSources (slice_set w.servers n s')
 kept w n s s' at same all =
     sources-set w.servers n s' all
     (subst (λ (from : SourceState). IfSome (source_no from) (λ m. m < length w.servers)) (sym same) (source-at w.servers n s all at))
 
-sources-write : (w : World) (n size : ℕ) (o : Option Server) (a : WriteAnswer) → server_at w n ≡ o → KnowsSources w.servers → KnowsSources (after_write w n size o a).servers
+sources-write : (w : World) (n size : ℕ) (o : Option Server) (a : WriteAnswer) → server_at w n ≡ o → HaveSources w.servers → HaveSources (after_write w n size o a).servers
 sources-write w n size None a at all = all
 sources-write w n size (Some s) wrote.Down at all = all
 sources-write w n size (Some s) wrote.ReadOnly at all = all
 sources-write w n size (Some s) wrote.Full at all = all
 sources-write w n size (Some s) (wrote.Done seq) at all = kept w n s (took s (own_txn n seq size)) at refl all
 
-sources-fetch : (w : World) (n : ℕ) (o : Option Server) (a : FetchStep) → server_at w n ≡ o → KnowsSources w.servers → KnowsSources (after_fetch w n o a).servers
+sources-fetch : (w : World) (n : ℕ) (o : Option Server) (a : FetchStep) → server_at w n ≡ o → HaveSources w.servers → HaveSources (after_fetch w n o a).servers
 sources-fetch w n None a at all = all
 sources-fetch w n (Some r) receiving.Halt at all = all
 sources-fetch w n (Some r) receiving.Unlinked at all = all
@@ -76,7 +76,7 @@ sources-fetch w n (Some r) (receiving.Take (next.Entry index to)) at all = kept 
 sources-fetch w n (Some r) (receiving.Take (next.Rotate to)) at all = kept w n r (record r { read = to }) at refl all
 sources-fetch w n (Some r) (receiving.Take next.End) at all = all
 
-sources-apply : (w : World) (n : ℕ) (o : Option Server) (a : ApplyStep) → server_at w n ≡ o → KnowsSources w.servers → KnowsSources (after_apply w n o a).servers
+sources-apply : (w : World) (n : ℕ) (o : Option Server) (a : ApplyStep) → server_at w n ≡ o → HaveSources w.servers → HaveSources (after_apply w n o a).servers
 sources-apply w n None a at all = all
 sources-apply w n (Some r) applying.Halt at all = all
 sources-apply w n (Some r) applying.ForgetUntil at all = kept w n r (record r { applier = false; until = None }) at refl all
@@ -87,8 +87,8 @@ sources-apply w n (Some r) (applying.Skip to) at all = kept w n r (record r { ex
 sources-apply w n (Some r) (applying.Execute t to) at all = kept w n r (record (took r t) { exec = to }) at refl all
 
 -- a change of one server that keeps its source one of the servers
-sources-change : (w : World) (n : ℕ) (f : Server → Server) (o : Option Server) → ((s : Server) → HasSourceOf (length w.servers) s → HasSourceOf (length w.servers) (f s)) → server_at w n ≡ o → KnowsSources w.servers
-    → KnowsSources (after_change w n f o).servers
+sources-change : (w : World) (n : ℕ) (f : Server → Server) (o : Option Server) → ((s : Server) → HasSourceOf (length w.servers) s → HasSourceOf (length w.servers) (f s)) → server_at w n ≡ o → HaveSources w.servers
+    → HaveSources (after_change w n f o).servers
 sources-change w n f None keeps at all = all
 sources-change w n f (Some s) keeps at all = sources-set w.servers n (f s) all (keeps s (source-at w.servers n s all at))
 
@@ -150,37 +150,37 @@ module _ (count : ℕ) where
   befallen-known (event.Join link.Desk) s known = known
   befallen-known (event.Join link.Feed) s known = known
 
-sources-ask : (w : World) (n : ℕ) (a : Ask) (answer : Result (Unit {0}) Unreachable) → KnowsSources w.servers → KnowsSources (after_desk w n a answer).servers
+sources-ask : (w : World) (n : ℕ) (a : Ask) (answer : Result (Unit {0}) Unreachable) → HaveSources w.servers → HaveSources (after_desk w n a answer).servers
 sources-ask w n a (Ok t) all = sources-change w n (asked a) (server_at w n) (asked-known (length w.servers) a) refl all
 sources-ask w n a (Err e) all = all
 
-sources-rotate : (w : World) (n : ℕ) (o : Option Server) (answer : RotateAnswer) → server_at w n ≡ o → KnowsSources w.servers → KnowsSources (after_rotate w n o answer).servers
+sources-rotate : (w : World) (n : ℕ) (o : Option Server) (answer : RotateAnswer) → server_at w n ≡ o → HaveSources w.servers → HaveSources (after_rotate w n o answer).servers
 sources-rotate w n None answer at all = all
 sources-rotate w n (Some s) rotating.Down at all = all
 sources-rotate w n (Some s) rotating.NotLogging at all = all
 sources-rotate w n (Some s) rotating.Full at all = all
 sources-rotate w n (Some s) (rotating.Done c) at all = kept w n s (rotated s) at refl all
 
-sources-purge : (w : World) (n : ℕ) (o : Option Server) (answer : PurgeAnswer) → server_at w n ≡ o → KnowsSources w.servers → KnowsSources (after_purge w n o answer).servers
+sources-purge : (w : World) (n : ℕ) (o : Option Server) (answer : PurgeAnswer) → server_at w n ≡ o → HaveSources w.servers → HaveSources (after_purge w n o answer).servers
 sources-purge w n None answer at all = all
 sources-purge w n (Some s) purging.Down at all = all
 sources-purge w n (Some s) purging.NotLogging at all = all
 sources-purge w n (Some s) purging.NoFile at all = all
 sources-purge w n (Some s) (purging.Done first) at all = kept w n s (record s { first = first }) at refl all
 
-sources-attach : (w : World) (n : ℕ) (to : ServerNo) (c : Coord) (o : Option Server) (answer : Result (Unit {0}) AttachFault) → to.0 < length w.servers → KnowsSources w.servers
-    → KnowsSources (after_attach w n to c o answer).servers
+sources-attach : (w : World) (n : ℕ) (to : ServerNo) (c : Coord) (o : Option Server) (answer : Result (Unit {0}) AttachFault) → to.0 < length w.servers → HaveSources w.servers
+    → HaveSources (after_attach w n to c o answer).servers
 sources-attach w n to c None answer known all = all
 sources-attach w n to c (Some s) (Ok t) known all = sources-set w.servers n (attached_to to c s) all known
 sources-attach w n to c (Some s) (Err e) known all = all
 
-sources-attach_auto : (w : World) (n : ℕ) (to : ServerNo) (o : Option Server) (answer : Result (Unit {0}) AttachFault) → to.0 < length w.servers → KnowsSources w.servers
-    → KnowsSources (after_attach_auto w n to o answer).servers
+sources-attach_auto : (w : World) (n : ℕ) (to : ServerNo) (o : Option Server) (answer : Result (Unit {0}) AttachFault) → to.0 < length w.servers → HaveSources w.servers
+    → HaveSources (after_attach_auto w n to o answer).servers
 sources-attach_auto w n to None answer known all = all
 sources-attach_auto w n to (Some s) (Ok t) known all = sources-set w.servers n (attached_auto to (auto_coord (uuids w) s (server_at w to.0)) s) all known
 sources-attach_auto w n to (Some s) (Err e) known all = all
 
-pub sources-after : (w : World) (e : Exchange) → Allowed w e → KnowsSources w.servers → KnowsSources (after w e).servers
+pub sources-after : (w : World) (e : Exchange) → Allowed w e → HaveSources w.servers → HaveSources (after w e).servers
 sources-after w (Write n size) allowed all = sources-write w n size (server_at w n) (write_answer n (server_at w n)) refl all
 sources-after w (Fetch n) allowed all = sources-fetch w n (server_at w n) (fetch_step w (server_at w n)) refl all
 sources-after w (Apply n) allowed all = sources-apply w n (server_at w n) (apply_step w (server_at w n)) refl all
@@ -192,6 +192,6 @@ sources-after w (Attach n expect to at) allowed all = sources-attach w n to at (
 sources-after w (AttachAuto n observed to) allowed all = sources-attach_auto w n to (server_at w n) (attach_auto_answer w n observed to.0 (server_at w n)) (slice_get_within w.servers to.0 allowed.target allowed.there) all
 
 -- over some exchanges
-pub sources-run : (w : World) (es : List Exchange) → AllAllowed w es → KnowsSources w.servers → KnowsSources (run w es).servers
+pub sources-run : (w : World) (es : List Exchange) → AllAllowed w es → HaveSources w.servers → HaveSources (run w es).servers
 sources-run w [] allowed all = all
 sources-run w (e ∷ es) allowed all = sources-run (after w e) es allowed.1 (sources-after w e allowed.0 all)

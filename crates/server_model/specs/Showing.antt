@@ -10,8 +10,8 @@ use Rattle.server_model.specs.Attach.{IsTarget}
 use Rattle.server_model.specs.Worlds.{World, server_at, source_no}
 use Rattle.server_model.specs.Observed.{HasExecuted}
 
--- Where a server stands: its own end has a place in its own log, and there is one where it logs. Under a source, attached
--- or detached, its executed coordinate has a place in the source's log. It has executed the set.
+-- Where a server stands: its own end has a place in its own log, and there is one where it logs. Under a source,
+-- attached or detached, its executed coordinate has a place in the source's log. It has executed the set.
 pub record IsPosition (w : World) (n : ℕ) (own_end : Option Coord) (source : SourceState) (exec : Coord) (executed : List Interval) : Type 0 where
   pub own : (c : Coord) → own_end ≡ Some c → IsTarget w n c
   pub logs : (s : Server) → server_at w n ≡ Some s → s.settings.logs ≡ true → (c : Coord) × (own_end ≡ Some c)

@@ -26,7 +26,9 @@ pub(crate) fn keep_gtid(executed: &mut ReservedSet, gtid: bool, uuid: u128, n: u
     requires some { 1 ≤ n }
     requires few { n ≤ 4000001 }
     requires room { gtid ≡ true → length executed.old.intervals < executed.old.room }
-    ensures { executed.new ≡ (if gtid then record executed.old { intervals = with_pair uuid n executed.old.intervals } else executed.old) }
+    ensures { executed.new ≡ (if gtid
+        then record executed.old { intervals = with_pair uuid n executed.old.intervals }
+        else executed.old) }
 {
     if gtid {
         executed.add(uuid, n);
@@ -37,7 +39,11 @@ pub(crate) fn keep_gtid(executed: &mut ReservedSet, gtid: bool, uuid: u128, n: u
 pub(crate) fn keep_gtids(kept: &mut ReservedSet, gtid: bool, servers: &[Server], txns: &[Txn])
     requires numbered { All (IsNumbered (length servers.now)) txns.now }
     requires room { gtid ≡ true → length kept.old.intervals + length txns.now ≤ kept.old.room }
-    ensures { kept.new ≡ (if gtid then record kept.old { intervals = with_gtids (uuids_in servers.now) kept.old.intervals txns.now } else kept.old) }
+    ensures { kept.new ≡ (if gtid
+        then record kept.old {
+          intervals = with_gtids (uuids_in servers.now) kept.old.intervals txns.now;
+        }
+        else kept.old) }
 {
     if gtid {
         for t in txns {
@@ -132,7 +138,9 @@ pub(crate) fn purged_sets(
     requires numbered { All (λ s. All (IsNumbered (length servers.now)) s.history.txns) servers.now }
     requires fits { All (λ s. length s.history.txns ≤ s.history.room) servers.now }
     requires within { All (λ s. purged_len s ≤ length s.history.txns) servers.now }
-    ensures { IfOk result (λ v. v.items ≡ map (λ s. reserved_set gtid (uuids_in servers.now) s.history.room (purged_txns s)) servers.now) }
+    ensures { IfOk result (λ v. v.items ≡
+        map (λ s. reserved_set gtid (uuids_in servers.now) s.history.room (purged_txns s))
+        servers.now) }
 {
     let mut sets = Vec::new(alloc);
     for s in servers {
@@ -151,7 +159,9 @@ pub(crate) fn executed_sets(
 ) -> Result<Vec<ReservedSet>, Memory>
     requires numbered { All (λ s. All (IsNumbered (length servers.now)) s.history.txns) servers.now }
     requires fits { All (λ s. length s.history.txns ≤ s.history.room) servers.now }
-    ensures { IfOk result (λ v. v.items ≡ map (λ s. reserved_set gtid (uuids_in servers.now) s.history.room s.history.txns) servers.now) }
+    ensures { IfOk result (λ v. v.items ≡
+        map (λ s. reserved_set gtid (uuids_in servers.now) s.history.room s.history.txns)
+        servers.now) }
 {
     let mut sets = Vec::new(alloc);
     for s in servers {

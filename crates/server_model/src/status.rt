@@ -12,7 +12,8 @@ use server_words::Status;
 
 /// The server that one with this source is attached to or detached from.
 pub(crate) fn above(servers: &[Server], source: SourceState) -> Option<&Server>
-    ensures { option_copied result ≡ option_and_then (λ m. slice_get servers.now m) (source_no source) }
+    ensures { option_copied result ≡
+        option_and_then (λ m. slice_get servers.now m) (source_no source) }
 {
     match source {
         SourceState::Attached(m) | SourceState::Detached(m) => servers.get(m.0 as usize),

@@ -122,7 +122,8 @@ impl World {
     pub fn transaction(&self, no: ServerNo, k: u64) -> Txn
         requires server { no.0 < length self.now.servers }
         requires within { IsSomeAnd (server_at self.now no.0) (λ s. k < length s.history.txns) }
-        ensures { option_and_then (λ s. slice_get s.history.txns k) (server_at self.now no.0) ≡ Some result }
+        ensures { option_and_then (λ s. slice_get s.history.txns k) (server_at self.now no.0)
+            ≡ Some result }
     {
         self.servers[no.0 as usize].history.as_slice()[k as usize]
     }
@@ -194,7 +195,9 @@ impl World {
     pub fn fetch(&mut self, no: ServerNo) -> FetchAnswer
         requires { no.0 < length self.old.servers }
         ensures answer { result ≡ fetch_answer (fetch_step self.old (server_at self.old no.0)) }
-        ensures world { self.new ≡ after_fetch self.old no.0 (server_at self.old no.0) (fetch_step self.old (server_at self.old no.0)) }
+        ensures world { self.new ≡
+            after_fetch self.old no.0 (server_at self.old no.0)
+            (fetch_step self.old (server_at self.old no.0)) }
     {
         let step = self.fetch_step(no);
         let r = &mut self.servers[no.0 as usize];
@@ -220,7 +223,9 @@ impl World {
     pub fn apply(&mut self, no: ServerNo) -> ApplyAnswer
         requires { no.0 < length self.old.servers }
         ensures answer { result ≡ apply_answer (apply_step self.old (server_at self.old no.0)) }
-        ensures world { self.new ≡ after_apply self.old no.0 (server_at self.old no.0) (apply_step self.old (server_at self.old no.0)) }
+        ensures world { self.new ≡
+            after_apply self.old no.0 (server_at self.old no.0)
+            (apply_step self.old (server_at self.old no.0)) }
     {
         let step = self.apply_step(no);
         let n = no.0 as usize;
@@ -430,8 +435,10 @@ impl World {
     fn keep_from(&mut self, no: ServerNo, first: u32)
         requires server { no.0 < length self.old.servers }
         requires logs { IsSomeAnd (server_at self.old no.0) (λ s. s.settings.logs ≡ true) }
-        requires file { IsSomeAnd (server_at self.old no.0) (λ s. (s.first ≤ first) × (first ≤ s.log.log.files)) }
-        ensures { self.new ≡ after_purge self.old no.0 (server_at self.old no.0) (PurgeAnswer.Done first) }
+        requires file { IsSomeAnd (server_at self.old no.0)
+            (λ s. (s.first ≤ first) × (first ≤ s.log.log.files)) }
+        ensures { self.new ≡
+            after_purge self.old no.0 (server_at self.old no.0) (PurgeAnswer.Done first) }
     {
         let n = no.0 as usize;
         let from = purged_len(&self.servers[n]);
@@ -444,8 +451,8 @@ impl World {
     }
 
     /// Attaches a server that stands at the expected spot to `to`, a server that logs, at `at`, which has a place in
-    /// its log, and whose file isn't purged. Its threads are off then, and its relay log is empty. Nothing changes where
-    /// it answers a fault.
+    /// its log, and whose file isn't purged. Its threads are off then, and its relay log is empty. Nothing changes
+    /// where it answers a fault.
     pub fn attach_at(
         &mut self,
         no: ServerNo,
@@ -455,8 +462,10 @@ impl World {
     ) -> Result<(), AttachFault>
         requires server { no.0 < length self.old.servers }
         requires target { IsTarget self.old to.0 at }
-        ensures answer { result ≡ attach_answer self.old no.0 expect to.0 at (server_at self.old no.0) }
-        ensures world { self.new ≡ after_attach self.old no.0 to at (server_at self.old no.0) result }
+        ensures answer { result ≡
+            attach_answer self.old no.0 expect to.0 at (server_at self.old no.0) }
+        ensures world { self.new ≡
+            after_attach self.old no.0 to at (server_at self.old no.0) result }
     {
         match self.test_attach_at(no, expect, to, at) {
             Err(fault) => return Err(fault),
@@ -528,8 +537,10 @@ impl World {
     ) -> Result<(), AttachFault>
         requires server { no.0 < length self.old.servers }
         requires target { IsAutoTarget self.old to.0 }
-        ensures answer { Gives (λ t. t) attach_fault result (attach_auto_answer self.old no.0 observed.now to.0 (server_at self.old no.0)) }
-        ensures world { self.new ≡ after_attach_auto self.old no.0 to (server_at self.old no.0) result }
+        ensures answer { Gives (λ t. t) attach_fault result
+            (attach_auto_answer self.old no.0 observed.now to.0 (server_at self.old no.0)) }
+        ensures world { self.new ≡
+            after_attach_auto self.old no.0 to (server_at self.old no.0) result }
     {
         let at = self.auto_place(alloc, no, observed, to)?;
         let s = &mut self.servers[no.0 as usize];
@@ -547,7 +558,8 @@ impl World {
     ) -> Result<(), AttachFault>
         requires server { no.0 < length self.now.servers }
         requires target { IsAutoTarget self.now to.0 }
-        ensures { Gives (λ t. t) attach_fault result (attach_auto_answer self.now no.0 observed.now to.0 (server_at self.now no.0)) }
+        ensures { Gives (λ t. t) attach_fault result
+            (attach_auto_answer self.now no.0 observed.now to.0 (server_at self.now no.0)) }
     {
         self.auto_place(alloc, no, observed, to)?;
         Ok(())
@@ -563,8 +575,12 @@ impl World {
     ) -> Result<Coord, AttachFault>
         requires server { no.0 < length self.now.servers }
         requires target { IsAutoTarget self.now to.0 }
-        ensures answer { Gives (λ c. tt) attach_fault result (attach_auto_answer self.now no.0 observed.now to.0 (server_at self.now no.0)) }
-        ensures place { IfOk result (λ c. option_map (λ r. auto_coord (uuids self.now) r (server_at self.now to.0)) (server_at self.now no.0) ≡ Some c) }
+        ensures answer { Gives (λ c. tt) attach_fault result
+            (attach_auto_answer self.now no.0 observed.now to.0 (server_at self.now no.0)) }
+        ensures place { IfOk result (λ c.
+            option_map (λ r. auto_coord (uuids self.now) r (server_at self.now to.0))
+            (server_at self.now no.0)
+            ≡ Some c) }
     {
         let n = no.0 as usize;
         let loops = chain_meets(&self.servers, to.0, no.0);
@@ -580,7 +596,8 @@ impl World {
     }
 
     /// The transaction of this index, from 0, in the kept files of a server's binary log: None exactly where the server
-    /// doesn't log, its history ends before it, or its file is purged. Unreachable as `status` does. It takes no memory.
+    /// doesn't log, its history ends before it, or its file is purged. Unreachable as `status` does. It takes no
+    /// memory.
     pub fn logged(&self, no: ServerNo, k: u64) -> Result<Option<Txn>, Unreachable>
         requires { no.0 < length self.now.servers }
         ensures { result ≡ logged self.now no.0 k }
