@@ -15,7 +15,9 @@ use command_routes::CoordsCommand;
 use commands::Command;
 use instance_keeper::Book;
 use orch_base::{Moment, ServerNo};
-use permission::{Check, Movers, is_auto, siblings, source, source_above, unknown_in};
+use permission::{
+    Check, Movers, answered, is_auto, row_refusal, siblings, source, source_above, unknown_in,
+};
 use server_model::World;
 use std::alloc::Global;
 use topology_tree::Forest;
@@ -204,7 +206,7 @@ pub fn permit(
     };
     let movers = movers_of(alloc, book, kind, i, command.d)?;
     let row = row_of(by_gtids(book, world, i), kind);
-    permission::permit(alloc, book, forest, world, &movers, row)
+    answered(row_refusal(alloc, book, forest, world, &movers, row)?)
 }
 
 /// The servers of which the job of one of these commands takes the leases: servers of the book, where the command's

@@ -14,7 +14,9 @@ use command_routes::GtidCommand;
 use commands::Command;
 use instance_keeper::Book;
 use orch_base::{Moment, ServerNo};
-use permission::{Check, Movers, one_or_none, replicas_but, source, unknown_in};
+use permission::{
+    Check, Movers, answered, one_or_none, replicas_but, row_refusal, source, unknown_in,
+};
 use server_model::World;
 use std::alloc::Global;
 use topology_tree::Forest;
@@ -103,7 +105,7 @@ pub fn permit(
         return Ok(());
     };
     let movers = movers_of(alloc, book, kind, i, command.d)?;
-    permission::permit(alloc, book, forest, world, &movers, row_of(kind))
+    answered(row_refusal(alloc, book, forest, world, &movers, row_of(kind))?)
 }
 
 /// The servers of which the job of one of these commands takes the leases: servers of the book, where the command's

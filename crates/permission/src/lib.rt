@@ -16,4 +16,4 @@ pub use movers::Movers;
 /// Want of memory.
 pub use orch_base::Memory;
 pub use replicas::{replicas_but, siblings};
-pub use row::{PermitFault, answered, first_refusal, permit, unknown_in};
+pub use row::{PermitFault, answered, first_refusal, row_refusal, unknown_in};

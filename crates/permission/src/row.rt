@@ -215,21 +215,20 @@ pub fn unknown_in(book: &Book, command: Command) -> Option<Refusal>
     )
 }
 
-/// Refuses a command about these servers with the refusal of the first check of its row that doesn't pass.
-pub fn permit(
+/// The refusal of the first check of a row that doesn't pass, about these servers. `Err` is want of memory.
+pub fn row_refusal(
     alloc: Global,
     book: &Book,
     forest: &Forest,
     world: &World,
     movers: &Movers,
     row: &[Check],
-) -> Result<(), PermitFault>
+) -> Result<Option<Refusal>, Memory>
     requires { forest.now ≡ book_forest book.now }
-    ensures { Gives (λ _. tt) permit_fault result (permitted (first_refusal world.now book.now movers.now
-        row.now)) }
+    ensures { IfOk result (λ r. r ≡ first_refusal world.now book.now movers.now row.now) }
 {
     let case = movers.case(alloc)?;
-    answered(first_refusal(alloc, book, forest, world, &case, row)?)
+    first_refusal(alloc, book, forest, world, &case, row)
 }
 
 /// The answer of a permit by the refusal that applies.
