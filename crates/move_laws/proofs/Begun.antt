@@ -20,14 +20,15 @@ use Rattle.job_laws.proofs.Planned.{again-held, auto-held, finished-held, swap-h
 use Rattle.permission.specs.Checks.{Case, busy, first_refusal, of_same_id, refusal_by, unknown_in, without_log}
 use Rattle.permission.specs.Lists.{first_about, first_of, moves_to}
 use Rattle.permission.specs.Replicas.{siblings_of}
+use Rattle.permission.specs.Rows.{about as about_given, about_one, in_order, is_first, refused}
 use Rattle.permission.specs.Views.{attached_of, is_auto, source_above, source_of}
 use Rattle.permission.specs.declared.case.Check.{Check}
 use Rattle.permission.specs.declared.case.Check.TheVariants as check
 use Rattle.permission.specs.declared.case.Move.{Move}
 use Rattle.plan_parts.specs.Parts.{following, unders, ups}
 use Rattle.moves_coords.specs.Commands.{coords_command}
-use Rattle.moves_coords.specs.Permits.{by_gtids, case_of, in_order, is_first, leased_about, leased_by, leased_in, list_of, refusal_about, refusal_in, refusal_of, row_of}
-use Rattle.moves_coords.specs.Plans.{master_taken, moved_below, moved_up, ops_of, plan_about, plan_in, plan_of, replicas_moved_up, repointed, repointed_auto, repointed_by, siblings_taken}
+use Rattle.moves_coords.specs.Permits.{by_gtids, case_of, leased_by, list_of, refusal_about, refusal_of, row_of}
+use Rattle.moves_coords.specs.Plans.{master_taken, moved_below, moved_up, ops_of, plan_of, replicas_moved_up, repointed, repointed_auto, repointed_by, siblings_taken}
 use Rattle.command_routes.specs.declared.kinds.CoordsCommand.{CoordsCommand}
 use Rattle.command_routes.specs.declared.kinds.CoordsCommand.TheVariants as command
 use Rattle.move_laws.proofs.Beginning.{above-by, apart-by, begins-with, logging, replicas-apart, same-apart}
@@ -201,12 +202,12 @@ pub permitted-begin : (w : World) (b : BookState) (jobs : List Job) (given : Com
     → Begins w jobs (leases_of b.leases) (leased_by b given) (job_with id wait (plan_of w b given))
 permitted-begin w b jobs given id wait h = go (coords_command given.name) h
   where
-    with_i : (c : CoordsCommand) (o : Option ServerNo) → refusal_about w b c o given.d ≡ None
-        → Begins w jobs (leases_of b.leases) (leased_about b c o given.d) (job_with id wait (plan_about w b c o given.d))
+    with_i : (c : CoordsCommand) (o : Option ServerNo) → about_one None (refusal_about w b c) o given.d ≡ None
+        → Begins w jobs (leases_of b.leases) (about_one [] (list_of b c) o given.d) (job_with id wait (about_one [] (ops_of w b c) o given.d))
     with_i c None h = begins-with w b jobs [] id wait [] refl refl refl
     with_i c (Some i) h = about w b jobs id wait i c given.d h
 
-    go : (c : Option CoordsCommand) → refusal_in w b given c ≡ None
-        → Begins w jobs (leases_of b.leases) (leased_in b given c) (job_with id wait (plan_in w b given c))
+    go : (c : Option CoordsCommand) → refused b (refusal_about w b) c given ≡ None
+        → Begins w jobs (leases_of b.leases) (about_given [] (list_of b) c given) (job_with id wait (about_given [] (ops_of w b) c given))
     go None h = begins-with w b jobs [] id wait [] refl refl refl
-    go (Some c) h = with_i c given.i (neither (unknown_in b given) (refusal_about w b c given.i given.d) h).1
+    go (Some c) h = with_i c given.i (neither (unknown_in b given) (about_one None (refusal_about w b c) given.i given.d) h).1

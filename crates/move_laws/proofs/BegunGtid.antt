@@ -16,11 +16,12 @@ use Rattle.job_laws.proofs.Planned.{again-held, auto-held, finished-held}
 use Rattle.permission.specs.Checks.{busy, first_refusal, refusal_by, unknown_in, without_log}
 use Rattle.permission.specs.Lists.{first_about, only_if}
 use Rattle.permission.specs.Replicas.{replicas_but}
+use Rattle.permission.specs.Rows.{about as about_given, about_one, refused}
 use Rattle.permission.specs.Views.{source_of}
 use Rattle.plan_parts.specs.Parts.{again_auto, autos, following}
 use Rattle.moves_gtid.specs.Commands.{gtid_command}
-use Rattle.moves_gtid.specs.Permits.{case_of, leased_about, leased_by, leased_in, list_of, refusal_about, refusal_in, refusal_of, row_of}
-use Rattle.moves_gtid.specs.Plans.{disabled, enabled, moved, ops_of, plan_about, plan_in, plan_of, replicas_moved}
+use Rattle.moves_gtid.specs.Permits.{case_of, leased_by, list_of, refusal_about, refusal_of, row_of}
+use Rattle.moves_gtid.specs.Plans.{disabled, enabled, moved, ops_of, plan_of, replicas_moved}
 use Rattle.command_routes.specs.declared.kinds.GtidCommand.{GtidCommand}
 use Rattle.command_routes.specs.declared.kinds.GtidCommand.TheVariants as command
 use Rattle.move_laws.proofs.Beginning.{begins-with, logging}
@@ -85,12 +86,12 @@ pub permitted-begin : (w : World) (b : BookState) (jobs : List Job) (given : Com
     → Begins w jobs (leases_of b.leases) (leased_by b given) (job_with id wait (plan_of b given))
 permitted-begin w b jobs given id wait h = go (gtid_command given.name) h
   where
-    with_i : (c : GtidCommand) (o : Option ServerNo) → refusal_about w b c o given.d ≡ None
-        → Begins w jobs (leases_of b.leases) (leased_about b c o given.d) (job_with id wait (plan_about b c o given.d))
+    with_i : (c : GtidCommand) (o : Option ServerNo) → about_one None (refusal_about w b c) o given.d ≡ None
+        → Begins w jobs (leases_of b.leases) (about_one [] (list_of b c) o given.d) (job_with id wait (about_one [] (ops_of b c) o given.d))
     with_i c None h = begins-with w b jobs [] id wait [] refl refl refl
     with_i c (Some i) h = about w b jobs id wait c i given.d h
 
-    go : (c : Option GtidCommand) → refusal_in w b given c ≡ None
-        → Begins w jobs (leases_of b.leases) (leased_in b given c) (job_with id wait (plan_in b given c))
+    go : (c : Option GtidCommand) → refused b (refusal_about w b) c given ≡ None
+        → Begins w jobs (leases_of b.leases) (about_given [] (list_of b) c given) (job_with id wait (about_given [] (ops_of b) c given))
     go None h = begins-with w b jobs [] id wait [] refl refl refl
-    go (Some c) h = with_i c given.i (neither (unknown_in b given) (refusal_about w b c given.i given.d) h).1
+    go (Some c) h = with_i c given.i (neither (unknown_in b given) (about_one None (refusal_about w b c) given.i given.d) h).1

@@ -37,7 +37,7 @@ pub plan-up : (w : World) (b : BookState) (i : ServerNo) → refusal_of w b (giv
     → (x : ServerNo) × (g : ServerNo) × (source_of b i ≡ Some x) × (attached_of b x ≡ Some g)
     × (plan_of w b (given name.MoveUp i None) ≡ finished (up i x g) (Follows i g ∷ []))
 plan-up w b i h =
-    let row = (neither (unknown_in b (given name.MoveUp i None)) (refusal_about w b command.MoveUp (Some i) None) h).1 in
+    let row = (neither (unknown_in b (given name.MoveUp i None)) (refusal_about w b command.MoveUp i None) h).1 in
     let t = each-none (map (refusal_by w b (case_of b command.MoveUp i None)) (row_of (by_gtids w b i) command.MoveUp)) row in
     let x = given-by (source_of b i) refusal.NoSource t.1.1.0 in
     let g = given-by (option_and_then (attached_of b) (source_of b i)) refusal.SourceHasNoSource t.1.1.1.1.0 in
@@ -50,7 +50,7 @@ plan-up w b i h =
 pub plan-under : (w : World) (b : BookState) (i d : ServerNo) → refusal_of w b (given name.MoveBelow i (Some d)) ≡ None
     → (x : ServerNo) × (source_of b i ≡ Some x) × (attached_of b d ≡ Some x) × (plan_of w b (given name.MoveBelow i (Some d)) ≡ finished (under i d x) (Follows i d ∷ []))
 plan-under w b i d h =
-    let row = (neither (unknown_in b (given name.MoveBelow i (Some d))) (refusal_about w b command.MoveBelow (Some i) (Some d)) h).1 in
+    let row = (neither (unknown_in b (given name.MoveBelow i (Some d))) (refusal_about w b command.MoveBelow i (Some d)) h).1 in
     let t = each-none (map (refusal_by w b (case_of b command.MoveBelow i (Some d))) (row_of (by_gtids w b i) command.MoveBelow)) row in
     let x = given-by (source_of b i) refusal.NoSource t.1.1.1.0 in
     let one = not-false (are_one (source_of b i) (attached_of b d)) (test-false (not (are_one (source_of b i) (attached_of b d))) refusal.NotSibling t.1.1.1.1.1.1.1.0) in
@@ -61,7 +61,7 @@ repoint-row : (w : World) (b : BookState) (i d : ServerNo) (way : Bool) → by_g
     → first_refusal w b (case_of b command.Repoint i (Some d)) (row_of way command.Repoint) ≡ None
 repoint-row w b i d way e h =
     ap (λ g. first_refusal w b (case_of b command.Repoint i (Some d)) (row_of g command.Repoint)) (sym e)
-    ∙ (neither (unknown_in b (given name.Repoint i (Some d))) (refusal_about w b command.Repoint (Some i) (Some d)) h).1
+    ∙ (neither (unknown_in b (given name.Repoint i (Some d))) (refusal_about w b command.Repoint i (Some d)) h).1
 
 pub plan-again : (w : World) (b : BookState) (i d : ServerNo) → by_gtids w b i ≡ false → refusal_of w b (given name.Repoint i (Some d)) ≡ None
     → (source_of b i ≡ Some d) × (plan_of w b (given name.Repoint i (Some d)) ≡ finished (again i d) (Follows i d ∷ []))
@@ -83,7 +83,7 @@ plan-auto w b i d e h = ap (λ g. repointed_by g i (Some d) (source_of b i)) e
 pub plan-ups : (w : World) (b : BookState) (i : ServerNo) → refusal_of w b (given name.MoveUpReplicas i None) ≡ None
     → (x : ServerNo) × (source_of b i ≡ Some x) × (plan_of w b (given name.MoveUpReplicas i None) ≡ finished (ups (replicas_of b i) i x) (following (replicas_of b i) x))
 plan-ups w b i h =
-    let row = (neither (unknown_in b (given name.MoveUpReplicas i None)) (refusal_about w b command.MoveUpReplicas (Some i) None) h).1 in
+    let row = (neither (unknown_in b (given name.MoveUpReplicas i None)) (refusal_about w b command.MoveUpReplicas i None) h).1 in
     let t = each-none (map (refusal_by w b (case_of b command.MoveUpReplicas i None)) (row_of (by_gtids w b i) command.MoveUpReplicas)) row in
     let x = given-by (source_of b i) refusal.NoSource t.1.1.0 in
     let plan : replicas_moved_up (replicas_of b i) i (source_of b i) ≡ finished (ups (replicas_of b i) i x.0) (following (replicas_of b i) x.0) =
@@ -94,7 +94,7 @@ plan-ups w b i h =
 pub plan-unders : (w : World) (b : BookState) (i : ServerNo) → refusal_of w b (given name.TakeSiblings i None) ≡ None
     → (x : ServerNo) × (source_of b i ≡ Some x) × (plan_of w b (given name.TakeSiblings i None) ≡ finished (unders (siblings_of b i) i x) (following (siblings_of b i) i))
 plan-unders w b i h =
-    let row = (neither (unknown_in b (given name.TakeSiblings i None)) (refusal_about w b command.TakeSiblings (Some i) None) h).1 in
+    let row = (neither (unknown_in b (given name.TakeSiblings i None)) (refusal_about w b command.TakeSiblings i None) h).1 in
     let t = each-none (map (refusal_by w b (case_of b command.TakeSiblings i None)) (row_of (by_gtids w b i) command.TakeSiblings)) row in
     let x = given-by (source_of b i) refusal.NoSource t.1.1.0 in
     let plan : siblings_taken (siblings_of b i) i (source_of b i) ≡ finished (unders (siblings_of b i) i x.0) (following (siblings_of b i) i) =
@@ -106,7 +106,7 @@ pub plan-swap : (w : World) (b : BookState) (i : ServerNo) → refusal_of w b (g
     → (x : ServerNo) × (g : ServerNo) × (source_of b i ≡ Some x) × (attached_of b x ≡ Some g)
     × (plan_of w b (given name.TakeMaster i None) ≡ finished (swap i x g) (Follows i g ∷ Follows x i ∷ []))
 plan-swap w b i h =
-    let row = (neither (unknown_in b (given name.TakeMaster i None)) (refusal_about w b command.TakeMaster (Some i) None) h).1 in
+    let row = (neither (unknown_in b (given name.TakeMaster i None)) (refusal_about w b command.TakeMaster i None) h).1 in
     let t = each-none (map (refusal_by w b (case_of b command.TakeMaster i None)) (row_of (by_gtids w b i) command.TakeMaster)) row in
     let x = given-by (source_of b i) refusal.NoSource t.1.1.0 in
     let g = given-by (option_and_then (attached_of b) (source_of b i)) refusal.SourceHasNoSource t.1.1.1.1.0 in

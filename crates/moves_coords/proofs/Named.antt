@@ -12,13 +12,14 @@ use Rattle.operations.specs.Named.{are_named}
 use Rattle.operations.specs.Plans.{again, auto, swap, under, up}
 use Rattle.permission.specs.Replicas.{siblings_of}
 use Rattle.permission.specs.Views.{source_above, source_of}
+use Rattle.permission.proofs.Rows.{about-is}
 use Rattle.permission.proofs.Within.{AllWithin, Within, cons-within, given-within, none-within, option-within, or-within, replicas-within, siblings-within, source-within}
 use Rattle.plan_parts.specs.Parts.{following, unders, ups}
 use Rattle.plan_parts.proofs.Named.{again-named, auto-named, below-test, finished-named, swap-named, under-named, unders-named, up-named, ups-named}
 use Rattle.server_model.specs.Worlds.{World}
 use Rattle.moves_coords.specs.Commands.{coords_command}
-use Rattle.moves_coords.specs.Permits.{by_gtids, leased_about, leased_by, leased_in, list_of}
-use Rattle.moves_coords.specs.Plans.{master_taken, moved_below, moved_up, ops_of, plan_about, plan_in, plan_of, replicas_moved_up, repointed, repointed_auto, repointed_by, siblings_taken}
+use Rattle.moves_coords.specs.Permits.{by_gtids, leased_by, list_of}
+use Rattle.moves_coords.specs.Plans.{master_taken, moved_below, moved_up, ops_of, plan_of, replicas_moved_up, repointed, repointed_auto, repointed_by, siblings_taken}
 use Rattle.command_routes.specs.declared.kinds.CoordsCommand.{CoordsCommand}
 use Rattle.command_routes.specs.declared.kinds.CoordsCommand.TheVariants as command
 
@@ -78,17 +79,11 @@ module _ (w : World) (b : BookState) (is : IsBook b) where
   ops-named command.SetReadOnly i d at_i at_d = let hi = below-test i.0 (length b.names) at_i in simp (hi) refl
   ops-named command.SetWriteable i d at_i at_d = let hi = below-test i.0 (length b.names) at_i in simp (hi) refl
 
-  about-named : (c : CoordsCommand) (i d : Option ServerNo) → Within b i → Within b d → are_named (length b.names) (plan_about w b c i d) ≡ true
-  about-named c None d at_i at_d = refl
-  about-named c (Some i) d at_i at_d = ops-named c i d at_i at_d
-
-  in-named : (command : Command) (c : Option CoordsCommand) → Within b command.i → Within b command.d → are_named (length b.names) (plan_in w b command c) ≡ true
-  in-named command None at_i at_d = refl
-  in-named command (Some c) at_i at_d = about-named c command.i command.d at_i at_d
-
 pub plan-named : (w : World) (b : BookState) (command : Command) → IsBook b → IsTrue (is_within (length b.names) command.i) → IsTrue (is_within (length b.names) command.d)
     → are_named (length b.names) (plan_of w b command) ≡ true
-plan-named w b command is at_i at_d = in-named w b is command (coords_command command.name) (given-within b command.i at_i) (given-within b command.d at_d)
+plan-named w b command is at_i at_d =
+    about-is (λ ops. are_named (length b.names) ops ≡ true) [] (ops_of w b) b command refl (given-within b command.i at_i)
+    (λ c i at. ops-named w b is c i command.d at (given-within b command.d at_d)) (coords_command command.name)
 
 -- ---- leases
 
@@ -108,14 +103,8 @@ list-within b is command.RestartReplica i d at_i at_d = cons-within b i [] at_i 
 list-within b is command.SetReadOnly i d at_i at_d = cons-within b i [] at_i (none-within b)
 list-within b is command.SetWriteable i d at_i at_d = cons-within b i [] at_i (none-within b)
 
-about-within : (b : BookState) → IsBook b → (c : CoordsCommand) (i d : Option ServerNo) → Within b i → Within b d → AllWithin b (leased_about b c i d)
-about-within b is c None d at_i at_d = none-within b
-about-within b is c (Some i) d at_i at_d = list-within b is c i d at_i at_d
-
-in-within : (b : BookState) → IsBook b → (command : Command) (c : Option CoordsCommand) → Within b command.i → Within b command.d → AllWithin b (leased_in b command c)
-in-within b is command None at_i at_d = none-within b
-in-within b is command (Some c) at_i at_d = about-within b is c command.i command.d at_i at_d
-
 pub leases-within : (b : BookState) (command : Command) → IsBook b → IsTrue (is_within (length b.names) command.i) → IsTrue (is_within (length b.names) command.d)
     → All (λ n. n.0 < length b.names) (leased_by b command)
-leases-within b command is at_i at_d = in-within b is command (coords_command command.name) (given-within b command.i at_i) (given-within b command.d at_d)
+leases-within b command is at_i at_d =
+    about-is (AllWithin b) [] (list_of b) b command (none-within b) (given-within b command.i at_i)
+    (λ c i at. list-within b is c i command.d at (given-within b command.d at_d)) (coords_command command.name)

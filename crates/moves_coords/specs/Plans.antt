@@ -12,6 +12,7 @@ use Rattle.plan_parts.specs.Parts.{following, unders, ups}
 use Rattle.book_views.specs.Sources.{replicas_of}
 use Rattle.server_model.specs.Worlds.{World}
 use Rattle.permission.specs.Replicas.{siblings_of}
+use Rattle.permission.specs.Rows.{about}
 use Rattle.permission.specs.Views.{source_above, source_of}
 use Rattle.command_routes.specs.declared.kinds.CoordsCommand.{CoordsCommand}
 use Rattle.command_routes.specs.declared.kinds.CoordsCommand.TheVariants as command
@@ -85,14 +86,6 @@ ops_of w b command.RestartReplica i d = asked_started (op.Stop i) i
 ops_of w b command.SetReadOnly i d = asked (op.ReadOnly i true) i
 ops_of w b command.SetWriteable i d = asked (op.ReadOnly i false) i
 
-abbrev pub plan_about : World → BookState → CoordsCommand → Option ServerNo → Option ServerNo → List Op
-plan_about w b c None d = []
-plan_about w b c (Some i) d = ops_of w b c i d
-
-abbrev pub plan_in : World → BookState → Command → Option CoordsCommand → List Op
-plan_in w b given None = []
-plan_in w b given (Some c) = plan_about w b c given.i given.d
-
 -- the operations of one of these commands, where nothing refuses it
 abbrev pub plan_of : World → BookState → Command → List Op
-plan_of w b given = plan_in w b given (coords_command given.name)
+plan_of w b given = about [] (ops_of w b) (coords_command given.name) given

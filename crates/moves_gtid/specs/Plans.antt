@@ -7,6 +7,7 @@ use Rattle.instance_keeper.specs.Book.{BookState}
 use Rattle.operations.specs.declared.op.Op.{Op}
 use Rattle.operations.specs.Plans.{again, auto, finished}
 use Rattle.permission.specs.Replicas.{replicas_but}
+use Rattle.permission.specs.Rows.{about}
 use Rattle.permission.specs.Views.{source_of}
 use Rattle.plan_parts.specs.Parts.{again_auto, autos, following}
 use Rattle.command_routes.specs.declared.kinds.GtidCommand.{GtidCommand}
@@ -40,14 +41,6 @@ ops_of b command.MoveReplicasGtid i d = replicas_moved (replicas_but b i d) d
 ops_of b command.EnableGtid i d = enabled i (source_of b i)
 ops_of b command.DisableGtid i d = disabled i (source_of b i)
 
-abbrev pub plan_about : BookState → GtidCommand → Option ServerNo → Option ServerNo → List Op
-plan_about b c None d = []
-plan_about b c (Some i) d = ops_of b c i d
-
-abbrev pub plan_in : BookState → Command → Option GtidCommand → List Op
-plan_in b given None = []
-plan_in b given (Some c) = plan_about b c given.i given.d
-
 -- the operations of one of these commands, where nothing refuses it
 abbrev pub plan_of : BookState → Command → List Op
-plan_of b given = plan_in b given (gtid_command given.name)
+plan_of b given = about [] (ops_of b) (gtid_command given.name) given

@@ -6,16 +6,16 @@ ghost use Rattle.book_views.specs.Forests.{book_forest};
 ghost use Rattle.commands.specs.Turns.{is_within};
 ghost use Rattle.permission.specs.Checks.{permit_fault, permitted};
 ghost use Rattle.moves_gtid.specs.Commands.{gtid_command};
-ghost use Rattle.moves_gtid.specs.Permits.{case_of, leased_by, list_of, movers_of, partners_of, refusal_of, row_of, target_of};
+ghost use Rattle.moves_gtid.specs.Permits.{case_of, leased_by, refusal_of, row_of};
 
 use crate::command::gtid_command;
 use crate::{Memory, PermitFault};
 use command_routes::GtidCommand;
-use commands::{Command, Refusal};
+use commands::Command;
 use instance_keeper::Book;
 use orch_base::{Moment, ServerNo};
 use permission::{
-    Case, Check, answered, first_refusal, moves_to, one_or_none, replicas_but, source, unknown_in,
+    Check, Movers, answered, one_or_none, replicas_but, row_refusal, source, unknown_in,
 };
 use server_model::World;
 use std::alloc::Global;
@@ -62,109 +62,26 @@ fn row_of(command: GtidCommand) -> &'static [Check]
     }
 }
 
-// The new source.
-fn target_of(
-    book: &Book,
-    command: GtidCommand,
-    i: ServerNo,
-    d: Option<ServerNo>,
-) -> Option<ServerNo>
-    ensures { result ≡ target_of book.now command i d }
-{
-    match command {
-        GtidCommand::MoveGtid | GtidCommand::MoveReplicasGtid => d,
-        GtidCommand::EnableGtid | GtidCommand::DisableGtid => source(book, i),
-    }
-}
-
-// The servers that move, by name.
+// Which servers move to which source, and beside which.
 fn movers_of(
     alloc: Global,
     book: &Book,
     command: GtidCommand,
     i: ServerNo,
     d: Option<ServerNo>,
-) -> Result<Vec<ServerNo>, Memory>
-    ensures { IfOk result (λ list. list.items ≡ movers_of book.now command i d) }
+) -> Result<Movers, Memory>
+    ensures { IfOk result (λ m. m ≡ case_of book.now command i d) }
 {
+    let x = source(book, i);
     match command {
-        GtidCommand::MoveReplicasGtid => replicas_but(alloc, book, i, d),
-        GtidCommand::MoveGtid | GtidCommand::EnableGtid | GtidCommand::DisableGtid => {
-            one_or_none(alloc, Some(i))
+        GtidCommand::MoveGtid => Movers::one(alloc, i, d, d),
+        GtidCommand::MoveReplicasGtid => {
+            let replicas = replicas_but(alloc, book, i, d)?;
+            Ok(Movers::new(i, d, replicas, one_or_none(alloc, d)?))
         }
+        GtidCommand::EnableGtid => Movers::one(alloc, i, x, x),
+        GtidCommand::DisableGtid => Movers::one(alloc, i, x, None),
     }
-}
-
-// The servers beside them of which the job takes the leases.
-fn partners_of(
-    alloc: Global,
-    book: &Book,
-    command: GtidCommand,
-    i: ServerNo,
-    d: Option<ServerNo>,
-) -> Result<Vec<ServerNo>, Memory>
-    ensures { IfOk result (λ list. list.items ≡ partners_of book.now command i d) }
-{
-    match command {
-        GtidCommand::MoveGtid | GtidCommand::MoveReplicasGtid => one_or_none(alloc, d),
-        GtidCommand::EnableGtid => one_or_none(alloc, source(book, i)),
-        GtidCommand::DisableGtid => Ok(Vec::new(alloc)),
-    }
-}
-
-fn list_of(
-    alloc: Global,
-    book: &Book,
-    command: GtidCommand,
-    i: ServerNo,
-    d: Option<ServerNo>,
-) -> Result<Vec<ServerNo>, Memory>
-    ensures { IfOk result (λ list. list.items ≡ list_of book.now command i d) }
-{
-    let mut list = movers_of(alloc, book, command, i, d)?;
-    list.append(&mut partners_of(alloc, book, command, i, d)?)?;
-    Ok(list)
-}
-
-// What the checks are about.
-fn case_of(
-    alloc: Global,
-    book: &Book,
-    command: GtidCommand,
-    i: ServerNo,
-    d: Option<ServerNo>,
-) -> Result<Case, Memory>
-    ensures { IfOk result (λ c. c ≡ case_of book.now command i d) }
-{
-    let to = target_of(book, command, i, d);
-    let leased = list_of(alloc, book, command, i, d)?;
-    let reached = list_of(alloc, book, command, i, d)?;
-    let moves = moves_to(alloc, &movers_of(alloc, book, command, i, d)?, to)?;
-    let sources = one_or_none(alloc, to)?;
-    Ok(Case::new(i, to, leased, reached, moves, sources))
-}
-
-fn refusal_of(
-    alloc: Global,
-    book: &Book,
-    forest: &Forest,
-    world: &World,
-    command: Command,
-) -> Result<Option<Refusal>, Memory>
-    requires { forest.now ≡ book_forest book.now }
-    ensures { IfOk result (λ r. r ≡ refusal_of world.now book.now command) }
-{
-    let Some(kind) = gtid_command(command.name) else {
-        return Ok(None);
-    };
-    if let Some(unknown) = unknown_in(book, command) {
-        return Ok(Some(unknown));
-    }
-    let Some(i) = command.i else {
-        return Ok(None);
-    };
-    let case = case_of(alloc, book, kind, i, command.d)?;
-    first_refusal(alloc, book, forest, world, &case, row_of(kind))
 }
 
 /// Refuses one of these commands with the refusal of the lowest number that applies. It goes by the book, the servers'
@@ -181,16 +98,14 @@ pub fn permit(
     requires here { IsSome (gtid_command command.name) }
     ensures { Gives (λ _. tt) permit_fault result (permitted (refusal_of world.now book.now command)) }
 {
-    answered(refusal_of(alloc, book, forest, world, command)?)
-}
-
-fn leased_by(alloc: Global, book: &Book, command: Command) -> Result<Vec<ServerNo>, Memory>
-    ensures { IfOk result (λ list. list.items ≡ leased_by book.now command) }
-{
-    match (gtid_command(command.name), command.i) {
-        (Some(kind), Some(i)) => list_of(alloc, book, kind, i, command.d),
-        (Some(_), None) | (None, _) => Ok(Vec::new(alloc)),
+    if let Some(unknown) = unknown_in(book, command) {
+        return Err(PermitFault::Refused(unknown));
     }
+    let (Some(kind), Some(i)) = (gtid_command(command.name), command.i) else {
+        return Ok(());
+    };
+    let movers = movers_of(alloc, book, kind, i, command.d)?;
+    answered(row_refusal(alloc, book, forest, world, &movers, row_of(kind))?)
 }
 
 /// The servers of which the job of one of these commands takes the leases: servers of the book, where the command's
@@ -205,4 +120,13 @@ pub fn leases(alloc: Global, book: &Book, command: Command) -> Result<Vec<Server
     // shows the proof that sources are known
     let _ = book.servers();
     leased_by(alloc, book, command)
+}
+
+fn leased_by(alloc: Global, book: &Book, command: Command) -> Result<Vec<ServerNo>, Memory>
+    ensures { IfOk result (λ list. list.items ≡ leased_by book.now command) }
+{
+    match (gtid_command(command.name), command.i) {
+        (Some(kind), Some(i)) => movers_of(alloc, book, kind, i, command.d)?.leases(alloc),
+        (Some(_), None) | (None, _) => Ok(Vec::new(alloc)),
+    }
 }

@@ -16,10 +16,11 @@ use Rattle.job_laws.proofs.Planned.{finished-held}
 use Rattle.permission.specs.Checks.{busy, first_refusal, refusal_by, unknown_in, without_log}
 use Rattle.permission.specs.Lists.{first_about}
 use Rattle.permission.specs.Replicas.{replicas_but}
+use Rattle.permission.specs.Rows.{about as about_given, about_one, refused}
 use Rattle.plan_parts.specs.Parts.{autos, following}
 use Rattle.regroup.specs.Commands.{regroup_command}
-use Rattle.regroup.specs.Permits.{case_of, last_refusal, leased_about, leased_by, leased_in, list_of, moving_list, passed_by, refusal_about, refusal_in, refusal_of, relocate_row, replicas_row, row_of}
-use Rattle.regroup.specs.Plans.{moved_by, ops_of, plan_about, plan_in, plan_of, relocated}
+use Rattle.regroup.specs.Permits.{case_of, last_refusal, leased_by, list_of, moving_list, passed_by, refusal_about, refusal_of, relocate_row, replicas_row, row_of}
+use Rattle.regroup.specs.Plans.{moved_by, ops_of, plan_of, relocated}
 use Rattle.regroup.specs.declared.command.RegroupCommand.{RegroupCommand}
 use Rattle.regroup.specs.declared.command.RegroupCommand.TheVariants as command
 use Rattle.move_laws.proofs.Beginning.{begins-with, logging}
@@ -77,14 +78,14 @@ pub permitted-begin : (w : World) (b : BookState) (now : Moment) (jobs : List Jo
     → Begins w jobs (leases_of b.leases) (leased_by w b given) (job_with id wait (plan_of w b given))
 permitted-begin w b now jobs given id wait h = go (regroup_command given.name) h
   where
-    with_i : (c : RegroupCommand) (o : Option ServerNo) → refusal_about w b now c o given.d ≡ None
-        → Begins w jobs (leases_of b.leases) (leased_about w b c o given.d) (job_with id wait (plan_about w b c o given.d))
+    with_i : (c : RegroupCommand) (o : Option ServerNo) → about_one None (refusal_about w b now c) o given.d ≡ None
+        → Begins w jobs (leases_of b.leases) (about_one [] (list_of w b c) o given.d) (job_with id wait (about_one [] (ops_of w b c) o given.d))
     with_i c None h = begins-with w b jobs [] id wait [] refl refl refl
     with_i c (Some i) h =
         about w b now jobs id wait c i given.d
         (neither (first_refusal w b (case_of w b c i given.d) (row_of w.gtid c)) (last_refusal w b now c i given.d) h).0
 
-    go : (c : Option RegroupCommand) → refusal_in w b now given c ≡ None
-        → Begins w jobs (leases_of b.leases) (leased_in w b given c) (job_with id wait (plan_in w b given c))
+    go : (c : Option RegroupCommand) → refused b (refusal_about w b now) c given ≡ None
+        → Begins w jobs (leases_of b.leases) (about_given [] (list_of w b) c given) (job_with id wait (about_given [] (ops_of w b) c given))
     go None h = begins-with w b jobs [] id wait [] refl refl refl
-    go (Some c) h = with_i c given.i (neither (unknown_in b given) (refusal_about w b now c given.i given.d) h).1
+    go (Some c) h = with_i c given.i (neither (unknown_in b given) (about_one None (refusal_about w b now c) given.i given.d) h).1

@@ -38,7 +38,7 @@ by-coordinates gtid b rs d e h = ap (λ g. astray g b rs d) (sym e) ∙ h
 pub plan-path : (w : World) (b : BookState) (now : Moment) (i d : ServerNo) → w.gtid ≡ false → refusal_of w b now (given name.Relocate i (Some d)) ≡ None
     → (p : Path) × (path_of b i d ≡ Some p) × (plan_of w b (given name.Relocate i (Some d)) ≡ finished (arrived i d p.passed p.under) (Follows i d ∷ []))
 plan-path w b now i d e h =
-    let about = (neither (unknown_in b (given name.Relocate i (Some d))) (refusal_about w b now command.Relocate (Some i) (Some d)) h).1 in
+    let about = (neither (unknown_in b (given name.Relocate i (Some d))) (refusal_about w b now command.Relocate i (Some d)) h).1 in
     let last =
     (neither (first_refusal w b (case_of w b command.Relocate i (Some d)) (row_of w.gtid command.Relocate)) (last_refusal w b now command.Relocate i (Some d)) about).1
     in
@@ -54,7 +54,7 @@ plan-auto w b i d e = ap (λ g. relocated g b (i ∷ []) (Some d)) e
 pub paths-found : (w : World) (b : BookState) (now : Moment) (i d : ServerNo) → w.gtid ≡ false → refusal_of w b now (given name.RelocateReplicas i (Some d)) ≡ None
     → All (λ r. IsSome (path_of b r d)) (replicas_but b i (Some d))
 paths-found w b now i d e h =
-    let about = (neither (unknown_in b (given name.RelocateReplicas i (Some d))) (refusal_about w b now command.RelocateReplicas (Some i) (Some d)) h).1 in
+    let about = (neither (unknown_in b (given name.RelocateReplicas i (Some d))) (refusal_about w b now command.RelocateReplicas i (Some d)) h).1 in
     let last =
     (neither (first_refusal w b (case_of w b command.RelocateReplicas i (Some d)) (row_of w.gtid command.RelocateReplicas)) (last_refusal w b now command.RelocateReplicas i (Some d))
     about).1

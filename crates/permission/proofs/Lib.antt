@@ -2,3 +2,4 @@ pub mod Missing
 pub mod Below
 pub mod Within
 pub mod Free
+pub mod Rows

@@ -3,3 +3,4 @@ pub mod Views
 pub mod Errants
 pub mod Checks
 pub mod Replicas
+pub mod Rows

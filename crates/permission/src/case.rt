@@ -60,12 +60,12 @@ pub struct Move {
 /// it as a `Case` of lists.
 #[derive(Drop)]
 pub struct Case {
-    i: ServerNo,
-    to: Option<ServerNo>,
-    leased: Vec<ServerNo>,
-    reached: Vec<ServerNo>,
-    moves: Vec<Move>,
-    sources: Vec<ServerNo>,
+    pub(crate) i: ServerNo,
+    pub(crate) to: Option<ServerNo>,
+    pub(crate) leased: Vec<ServerNo>,
+    pub(crate) reached: Vec<ServerNo>,
+    pub(crate) moves: Vec<Move>,
+    pub(crate) sources: Vec<ServerNo>,
 }
 
 impl Model for Case {
@@ -132,47 +132,5 @@ impl Case {
             moves,
             sources,
         }
-    }
-
-    /// The instance.
-    pub fn instance(&self) -> ServerNo
-        ensures { result ≡ self.now.i }
-    {
-        self.i
-    }
-
-    /// The new source of the instance.
-    pub fn to(&self) -> Option<ServerNo>
-        ensures { result ≡ self.now.to }
-    {
-        self.to
-    }
-
-    /// The servers of which the job takes the leases.
-    pub fn leased(&self) -> &[ServerNo]
-        ensures { result.now ≡ self.now.leased }
-    {
-        &self.leased
-    }
-
-    /// The servers that must be reached.
-    pub fn reached(&self) -> &[ServerNo]
-        ensures { result.now ≡ self.now.reached }
-    {
-        &self.reached
-    }
-
-    /// Which servers move to which source.
-    pub fn moves(&self) -> &[Move]
-        ensures { result.now ≡ self.now.moves }
-    {
-        &self.moves
-    }
-
-    /// The new sources, which must log.
-    pub fn sources(&self) -> &[ServerNo]
-        ensures { result.now ≡ self.now.sources }
-    {
-        &self.sources
     }
 }

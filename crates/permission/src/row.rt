@@ -15,6 +15,7 @@ use crate::by_book::{
 };
 use crate::by_settings::{lower_version, not_logging, other_cluster, same_id, uuid};
 use crate::case::{Case, Check, Move};
+use crate::movers::Movers;
 use commands::{BoxedSet, Command, Refusal, unknown_instance};
 use gtid_sets::GtidSet;
 use instance_keeper::Book;
@@ -145,17 +146,17 @@ fn refusal_by(
     requires { forest.now ≡ book_forest book.now }
     ensures { IfOk result (λ r. r ≡ refusal_by world.now book.now case.now check) }
 {
-    let (i, to) = (case.instance(), case.to());
+    let (i, to) = (case.i, case.to);
     let above = source(book, i);
     Ok(match check {
         Check::SameInstance => only_if(is_given(i, to), Refusal::SameInstance),
-        Check::Busy => busy(book, case.leased()),
-        Check::Unreachable => unreached(book, case.reached()),
+        Check::Busy => busy(book, &case.leased),
+        Check::Unreachable => unreached(book, &case.reached),
         Check::NoSource => only_if(above.is_none(), Refusal::NoSource),
         Check::NotDetached => only_if(is_attached(book, i), Refusal::NotDetached),
         Check::AlreadyDetached => only_if(is_detached(book, i), Refusal::AlreadyDetached),
-        Check::OtherCluster => other_cluster(world, case.moves()),
-        Check::Below => below(book, forest, case.moves()),
+        Check::OtherCluster => other_cluster(world, &case.moves),
+        Check::Below => below(book, forest, &case.moves),
         Check::SourceHasNoSource => {
             only_if(
                 attached_if(book, above).is_none(),
@@ -166,11 +167,11 @@ fn refusal_by(
             only_if(!are_one(above, attached_if(book, to)), Refusal::NotSibling)
         }
         Check::NotSameLog => only_if(!are_one(above, to), Refusal::NotSameLog),
-        Check::DestNotLogging => not_logging(world, case.sources()),
-        Check::SameServerId => same_id(world, case.moves()),
-        Check::VersionLower => lower_version(world, case.moves()),
+        Check::DestNotLogging => not_logging(world, &case.sources),
+        Check::SameServerId => same_id(world, &case.moves),
+        Check::VersionLower => lower_version(world, &case.moves),
         Check::GtidOff => only_if(!world.gtid(), Refusal::GtidOff),
-        Check::Errant => first_errant(alloc, book, world, case.moves())?,
+        Check::Errant => first_errant(alloc, book, world, &case.moves)?,
     })
 }
 
@@ -212,6 +213,22 @@ pub fn unknown_in(book: &Book, command: Command) -> Option<Refusal>
         is_known(book, command.i),
         is_known(book, command.d),
     )
+}
+
+/// The refusal of the first check of a row that doesn't pass, about these servers. `Err` is want of memory.
+pub fn row_refusal(
+    alloc: Global,
+    book: &Book,
+    forest: &Forest,
+    world: &World,
+    movers: &Movers,
+    row: &[Check],
+) -> Result<Option<Refusal>, Memory>
+    requires { forest.now ≡ book_forest book.now }
+    ensures { IfOk result (λ r. r ≡ first_refusal world.now book.now movers.now row.now) }
+{
+    let case = movers.case(alloc)?;
+    first_refusal(alloc, book, forest, world, &case, row)
 }
 
 /// The answer of a permit by the refusal that applies.

@@ -17,13 +17,14 @@ use Rattle.topology_tree.specs.Forests.{above}
 use Rattle.operations.specs.Named.{are_named}
 use Rattle.operations.specs.Plans.{under, up}
 use Rattle.permission.specs.Replicas.{replicas_but}
+use Rattle.permission.proofs.Rows.{about-is}
 use Rattle.permission.proofs.Within.{AllWithin, Within, but-within, cons-within, given-within, none-within, option-within, replicas-within}
 use Rattle.plan_parts.specs.Parts.{following}
 use Rattle.plan_parts.proofs.Named.{again-named, autos-named, finished-named, joined-named, under-named, up-named}
 use Rattle.server_model.specs.Worlds.{World}
 use Rattle.regroup.specs.Commands.{regroup_command}
-use Rattle.regroup.specs.Permits.{leased_about, leased_by, leased_in, list_of, moving_list, passed_by}
-use Rattle.regroup.specs.Plans.{arrived, ascended, climbed, moved_by, next_of, ops_of, plan_about, plan_in, plan_of, relocated, travelled}
+use Rattle.regroup.specs.Permits.{leased_by, list_of, moving_list, passed_by}
+use Rattle.regroup.specs.Plans.{arrived, ascended, climbed, moved_by, next_of, ops_of, plan_of, relocated, travelled}
 use Rattle.regroup.specs.Ways.{Path, parent_at, passed_in, path_of, path_to, way_in, way_on, way_up}
 use Rattle.regroup.specs.declared.command.RegroupCommand.{RegroupCommand}
 use Rattle.regroup.specs.declared.command.RegroupCommand.TheVariants as command
@@ -130,18 +131,11 @@ module _ (b : BookState) where
   ops-named w command.RelocateReplicas i d at_i at_d = relocated-named w.gtid (replicas_but b i d) d (but-within b i d) at_d
   ops-named w command.RegroupReplicas i d at_i at_d = refl
 
-  about-named : (w : World) (c : RegroupCommand) (i d : Option ServerNo) → Within b i → Within b d → are_named (length b.names) (plan_about w b c i d) ≡ true
-  about-named w c None d at_i at_d = refl
-  about-named w c (Some i) d at_i at_d = ops-named w c i d at_i at_d
-
-  in-named : (w : World) (command : Command) (c : Option RegroupCommand) → Within b command.i → Within b command.d
-      → are_named (length b.names) (plan_in w b command c) ≡ true
-  in-named w command None at_i at_d = refl
-  in-named w command (Some c) at_i at_d = about-named w c command.i command.d at_i at_d
-
 pub plan-named : (w : World) (b : BookState) (command : Command) → IsTrue (is_within (length b.names) command.i) → IsTrue (is_within (length b.names) command.d)
     → are_named (length b.names) (plan_of w b command) ≡ true
-plan-named w b command at_i at_d = in-named b w command (regroup_command command.name) (given-within b command.i at_i) (given-within b command.d at_d)
+plan-named w b command at_i at_d =
+    about-is (λ ops. are_named (length b.names) ops ≡ true) [] (ops_of w b) b command refl (given-within b command.i at_i)
+    (λ c i at. ops-named b w c i command.d at (given-within b command.d at_d)) (regroup_command command.name)
 
 -- ---- leases
 
@@ -159,14 +153,8 @@ list-within w b command.Relocate i d at_i at_d = moving-within w b (i ∷ []) d 
 list-within w b command.RelocateReplicas i d at_i at_d = moving-within w b (replicas_but b i d) d (but-within b i d) at_d
 list-within w b command.RegroupReplicas i d at_i at_d = cons-within b i (replicas_of b i) at_i (replicas-within b i)
 
-about-within : (w : World) (b : BookState) (c : RegroupCommand) (i d : Option ServerNo) → Within b i → Within b d → AllWithin b (leased_about w b c i d)
-about-within w b c None d at_i at_d = none-within b
-about-within w b c (Some i) d at_i at_d = list-within w b c i d at_i at_d
-
-in-within : (w : World) (b : BookState) (command : Command) (c : Option RegroupCommand) → Within b command.i → Within b command.d → AllWithin b (leased_in w b command c)
-in-within w b command None at_i at_d = none-within b
-in-within w b command (Some c) at_i at_d = about-within w b c command.i command.d at_i at_d
-
 pub leases-within : (w : World) (b : BookState) (command : Command) → IsTrue (is_within (length b.names) command.i) → IsTrue (is_within (length b.names) command.d)
     → All (λ n. n.0 < length b.names) (leased_by w b command)
-leases-within w b command at_i at_d = in-within w b command (regroup_command command.name) (given-within b command.i at_i) (given-within b command.d at_d)
+leases-within w b command at_i at_d =
+    about-is (AllWithin b) [] (list_of w b) b command (none-within b) (given-within b command.i at_i)
+    (λ c i at. list-within w b c i command.d at (given-within b command.d at_d)) (regroup_command command.name)

@@ -1,5 +1,5 @@
 -- What refuses these commands: the rows of the permission table, and what their checks are about.
-use Rattle.std.specs.Prelude.{Bool, true, false, not, is_some, List, [], ◌∷◌, ◌++◌, Option, Some, None}
+use Rattle.std.specs.Prelude.{Bool, true, false, not, is_some, List, [], ◌∷◌, ◌++◌, Option, None}
 use Rattle.std.specs.List.{flat_map}
 use Rattle.std.specs.Option.{option_or, option_to_list}
 use Rattle.orch_base.specs.declared.server.Moment.{Moment}
@@ -11,9 +11,10 @@ use Rattle.instance_keeper.specs.Book.{BookState}
 use Rattle.book_views.specs.Sources.{replicas_of}
 use Rattle.promotion_candidates.specs.Candidates.{has_candidate}
 use Rattle.server_model.specs.Worlds.{World}
-use Rattle.permission.specs.Checks.{Case, first_refusal, unknown_in}
-use Rattle.permission.specs.Lists.{first_about, moves_to, only_if}
+use Rattle.permission.specs.Checks.{Case, first_refusal}
+use Rattle.permission.specs.Lists.{first_about, only_if}
 use Rattle.permission.specs.Replicas.{replicas_but}
+use Rattle.permission.specs.Rows.{about, moving, refused}
 use Rattle.permission.specs.declared.case.Check.{Check}
 use Rattle.permission.specs.declared.case.Check.TheVariants.{SameInstance, Busy, Unreachable, NoSource, AlreadyDetached, OtherCluster, Below, DestNotLogging, SameServerId, VersionLower, GtidOff, Errant}
 use Rattle.regroup.specs.declared.command.RegroupCommand.{RegroupCommand}
@@ -36,12 +37,6 @@ row_of gtid command.Relocate = relocate_row gtid
 row_of gtid command.RelocateReplicas = replicas_row gtid
 row_of gtid command.RegroupReplicas = Busy ∷ []
 
--- the new source, by the destination that is given
-abbrev pub target_of : RegroupCommand → Option ServerNo → Option ServerNo
-target_of command.Relocate d = d
-target_of command.RelocateReplicas d = d
-target_of command.RegroupReplicas d = None
-
 -- the servers that move, by name
 abbrev pub movers_of : BookState → RegroupCommand → ServerNo → Option ServerNo → List ServerNo
 movers_of b command.Relocate i d = i ∷ []
@@ -57,22 +52,11 @@ passed_by false b movers d = flat_map (λ n. passed_in (path_to b d n)) movers
 abbrev pub moving_list : World → BookState → List ServerNo → Option ServerNo → List ServerNo
 moving_list w b movers d = movers ++ (option_to_list d ++ passed_by w.gtid b movers d)
 
--- the servers of which the job takes the leases
-abbrev pub list_of : World → BookState → RegroupCommand → ServerNo → Option ServerNo → List ServerNo
-list_of w b command.Relocate i d = moving_list w b (i ∷ []) d
-list_of w b command.RelocateReplicas i d = moving_list w b (replicas_but b i d) d
-list_of w b command.RegroupReplicas i d = i ∷ replicas_of b i
-
--- what the checks are about: servers move to the new source, which is looked at also where none does
+-- which servers move to the destination that is given, and the servers of which the job takes the leases
 abbrev pub case_of : World → BookState → RegroupCommand → ServerNo → Option ServerNo → Case
-case_of w b c i d = record {
-  i = i;
-  to = target_of c d;
-  leased = list_of w b c i d;
-  reached = list_of w b c i d;
-  moves = moves_to (movers_of b c i d) (target_of c d);
-  sources = option_to_list (target_of c d);
-}
+case_of w b command.Relocate i d = moving i (i ∷ []) d (moving_list w b (i ∷ []) d)
+case_of w b command.RelocateReplicas i d = moving i (replicas_but b i d) d (moving_list w b (replicas_but b i d) d)
+case_of w b command.RegroupReplicas i d = moving i [] None (i ∷ replicas_of b i)
 
 -- a server has no path to the destination
 abbrev pub without_path : BookState → Option ServerNo → ServerNo → Option Refusal
@@ -96,27 +80,16 @@ abbrev pub row_refusal : World → BookState → RegroupCommand → ServerNo →
 row_refusal w b c i d = first_refusal w b (case_of w b c i d) (row_of w.gtid c)
 
 -- what refuses a command about an instance
-abbrev pub refusal_about : World → BookState → Moment → RegroupCommand → Option ServerNo → Option ServerNo → Option Refusal
-refusal_about w b now c None d = None
-refusal_about w b now c (Some i) d = option_or (row_refusal w b c i d) (last_refusal w b now c i d)
-
-abbrev pub refusal_in : World → BookState → Moment → Command → Option RegroupCommand → Option Refusal
-refusal_in w b now given None = None
-refusal_in w b now given (Some c) = option_or (unknown_in b given) (refusal_about w b now c given.i given.d)
+abbrev pub refusal_about : World → BookState → Moment → RegroupCommand → ServerNo → Option ServerNo → Option Refusal
+refusal_about w b now c i d = option_or (row_refusal w b c i d) (last_refusal w b now c i d)
 
 -- the refusal with the lowest number that applies to one of these commands at a moment
 abbrev pub refusal_of : World → BookState → Moment → Command → Option Refusal
-refusal_of w b now given = refusal_in w b now given (regroup_command given.name)
+refusal_of w b now given = refused b (refusal_about w b now) (regroup_command given.name) given
 
--- ---- the servers of which a command's job takes the leases
-
-abbrev pub leased_about : World → BookState → RegroupCommand → Option ServerNo → Option ServerNo → List ServerNo
-leased_about w b c None d = []
-leased_about w b c (Some i) d = list_of w b c i d
-
-abbrev pub leased_in : World → BookState → Command → Option RegroupCommand → List ServerNo
-leased_in w b given None = []
-leased_in w b given (Some c) = leased_about w b c given.i given.d
+-- the servers of which the job takes the leases
+abbrev pub list_of : World → BookState → RegroupCommand → ServerNo → Option ServerNo → List ServerNo
+list_of w b c i d = (case_of w b c i d).leased
 
 abbrev pub leased_by : World → BookState → Command → List ServerNo
-leased_by w b given = leased_in w b given (regroup_command given.name)
+leased_by w b given = about [] (list_of w b) (regroup_command given.name) given

@@ -8,6 +8,7 @@ use Rattle.operations.specs.declared.op.Op.{Op}
 use Rattle.operations.specs.Plans.{again, finished, under, up}
 use Rattle.plan_parts.specs.Parts.{autos, following}
 use Rattle.permission.specs.Replicas.{replicas_but}
+use Rattle.permission.specs.Rows.{about}
 use Rattle.server_model.specs.Worlds.{World}
 use Rattle.regroup.specs.declared.command.RegroupCommand.{RegroupCommand}
 use Rattle.regroup.specs.declared.command.RegroupCommand.TheVariants as command
@@ -56,14 +57,6 @@ ops_of w b command.Relocate i d = relocated w.gtid b (i ∷ []) d
 ops_of w b command.RelocateReplicas i d = relocated w.gtid b (replicas_but b i d) d
 ops_of w b command.RegroupReplicas i d = []
 
-abbrev pub plan_about : World → BookState → RegroupCommand → Option ServerNo → Option ServerNo → List Op
-plan_about w b c None d = []
-plan_about w b c (Some i) d = ops_of w b c i d
-
-abbrev pub plan_in : World → BookState → Command → Option RegroupCommand → List Op
-plan_in w b given None = []
-plan_in w b given (Some c) = plan_about w b c given.i given.d
-
 -- the operations of relocate and relocate-replicas, where nothing refuses them
 abbrev pub plan_of : World → BookState → Command → List Op
-plan_of w b given = plan_in w b given (regroup_command given.name)
+plan_of w b given = about [] (ops_of w b) (regroup_command given.name) given

@@ -1,13 +1,14 @@
 //! What refuses the commands.
 
-ghost use Rattle.std.specs.Prelude.{◌≡◌, ◌<◌, All, IfOk, IsSome, IsTrue, Some, length};
+ghost use Rattle.std.specs.Prelude.{◌≡◌, ◌++◌, ◌<◌, All, IfOk, IsSome, IsTrue, length};
+ghost use Rattle.std.specs.Option.{option_to_list};
 ghost use Rattle.orch_base.specs.Gives.{Gives};
 ghost use Rattle.book_views.specs.Forests.{book_forest};
 ghost use Rattle.commands.specs.Turns.{is_within};
 ghost use Rattle.permission.specs.Checks.{permit_fault, permitted};
 ghost use Rattle.permission.specs.Lists.{first_about};
 ghost use Rattle.regroup.specs.Commands.{regroup_command};
-ghost use Rattle.regroup.specs.Permits.{astray, case_of, last_refusal, leased_by, list_of, movers_of, moving_list, passed_by, refusal_about, refusal_of, row_of, row_refusal, target_of, without_candidate, without_path};
+ghost use Rattle.regroup.specs.Permits.{astray, case_of, last_refusal, leased_by, movers_of, passed_by, refusal_about, refusal_of, row_of, without_candidate, without_path};
 
 use crate::command::{RegroupCommand, regroup_command};
 use crate::ways::{path_to, push_passed};
@@ -17,7 +18,7 @@ use commands::{Command, Refusal};
 use instance_keeper::Book;
 use orch_base::{Moment, ServerNo};
 use permission::{
-    Case, Check, answered, first_refusal, moves_to, one_or_none, replicas_but, unknown_in,
+    Check, Movers, answered, one_or_none, replicas_but, row_refusal, unknown_in,
 };
 use promotion_candidates::has_candidate;
 use server_model::World;
@@ -86,16 +87,6 @@ fn row_of(gtid: bool, command: RegroupCommand) -> &'static [Check]
     }
 }
 
-// The new source.
-fn target_of(command: RegroupCommand, d: Option<ServerNo>) -> Option<ServerNo>
-    ensures { result ≡ target_of command d }
-{
-    match command {
-        RegroupCommand::Relocate | RegroupCommand::RelocateReplicas => d,
-        RegroupCommand::RegroupReplicas => None,
-    }
-}
-
 /// The servers that move, by name.
 pub(crate) fn movers_of(
     alloc: Global,
@@ -113,8 +104,8 @@ pub(crate) fn movers_of(
     }
 }
 
-// The sources that servers pass on their paths.
-fn passed_by(
+// The new source of servers that move, and the sources that they pass on their paths.
+fn beside_of(
     alloc: Global,
     book: &Book,
     forest: &Forest,
@@ -123,9 +114,9 @@ fn passed_by(
     d: Option<ServerNo>,
 ) -> Result<Vec<ServerNo>, Memory>
     requires { forest.now ≡ book_forest book.now }
-    ensures { IfOk result (λ list. list.items ≡ passed_by gtid book.now movers.now d) }
+    ensures { IfOk result (λ list. list.items ≡ option_to_list d ++ passed_by gtid book.now movers.now d) }
 {
-    let mut list = Vec::new(alloc);
+    let mut list = one_or_none(alloc, d)?;
     if gtid {
         return Ok(list);
     }
@@ -135,68 +126,7 @@ fn passed_by(
     Ok(list)
 }
 
-// Servers that move, their new source, and the sources that they pass.
-fn moving_list(
-    alloc: Global,
-    book: &Book,
-    forest: &Forest,
-    world: &World,
-    movers: Vec<ServerNo>,
-    d: Option<ServerNo>,
-) -> Result<Vec<ServerNo>, Memory>
-    requires { forest.now ≡ book_forest book.now }
-    ensures { IfOk result (λ list. list.items ≡ moving_list world.now book.now movers.items d) }
-{
-    let mut beside = one_or_none(alloc, d)?;
-    beside.append(&mut passed_by(alloc, book, forest, world.gtid(), &movers, d)?)?;
-    let mut list = movers;
-    list.append(&mut beside)?;
-    Ok(list)
-}
-
-fn list_of(
-    alloc: Global,
-    book: &Book,
-    forest: &Forest,
-    world: &World,
-    command: RegroupCommand,
-    i: ServerNo,
-    d: Option<ServerNo>,
-) -> Result<Vec<ServerNo>, Memory>
-    requires { forest.now ≡ book_forest book.now }
-    ensures { IfOk result (λ list. list.items ≡ list_of world.now book.now command i d) }
-{
-    match command {
-        RegroupCommand::Relocate => {
-            moving_list(alloc, book, forest, world, one_or_none(alloc, Some(i))?, d)
-        }
-        RegroupCommand::RelocateReplicas => {
-            moving_list(
-                alloc,
-                book,
-                forest,
-                world,
-                replicas_but(alloc, book, i, d)?,
-                d,
-            )
-        }
-        RegroupCommand::RegroupReplicas => {
-            let mut list = one_or_none(alloc, Some(i))?;
-            list.append(&mut replicas(alloc, book, i)?)?;
-            Ok(list)
-        }
-    }
-}
-
-fn copy_of(alloc: Global, list: &[ServerNo]) -> Result<Vec<ServerNo>, Memory>
-    ensures { IfOk result (λ copy. copy.items ≡ list.now) }
-{
-    let mut copy = Vec::new(alloc);
-    copy.extend_from_slice(list)?;
-    Ok(copy)
-}
-
-// What the checks are about.
+// Which servers move to which source, and beside which.
 fn case_of(
     alloc: Global,
     book: &Book,
@@ -205,16 +135,20 @@ fn case_of(
     command: RegroupCommand,
     i: ServerNo,
     d: Option<ServerNo>,
-) -> Result<Case, Memory>
+) -> Result<Movers, Memory>
     requires { forest.now ≡ book_forest book.now }
-    ensures { IfOk result (λ c. c ≡ case_of world.now book.now command i d) }
+    ensures { IfOk result (λ m. m ≡ case_of world.now book.now command i d) }
 {
-    let to = target_of(command, d);
-    let leased = list_of(alloc, book, forest, world, command, i, d)?;
-    let reached = copy_of(alloc, &leased)?;
-    let moves = moves_to(alloc, &movers_of(alloc, book, command, i, d)?, to)?;
-    let sources = one_or_none(alloc, to)?;
-    Ok(Case::new(i, to, leased, reached, moves, sources))
+    match command {
+        RegroupCommand::Relocate | RegroupCommand::RelocateReplicas => {
+            let movers = movers_of(alloc, book, command, i, d)?;
+            let beside = beside_of(alloc, book, forest, world.gtid(), &movers, d)?;
+            Ok(Movers::new(i, d, movers, beside))
+        }
+        RegroupCommand::RegroupReplicas => {
+            Ok(Movers::round(alloc, i, None, replicas(alloc, book, i)?))
+        }
+    }
 }
 
 // Whether one of the servers that move has no path.
@@ -280,24 +214,6 @@ fn last_refusal(
     }
 }
 
-// What the row of a command refuses.
-fn row_refusal(
-    alloc: Global,
-    book: &Book,
-    forest: &Forest,
-    world: &World,
-    command: RegroupCommand,
-    i: ServerNo,
-    d: Option<ServerNo>,
-) -> Result<Option<Refusal>, Memory>
-    requires { forest.now ≡ book_forest book.now }
-    ensures { IfOk result (λ r. r ≡ row_refusal world.now book.now command i d) }
-{
-    let case = case_of(alloc, book, forest, world, command, i, d)?;
-    let row = row_of(world.gtid(), command);
-    first_refusal(alloc, book, forest, world, &case, row)
-}
-
 fn refusal_about(
     alloc: Global,
     book: &Book,
@@ -309,35 +225,14 @@ fn refusal_about(
     now: Moment,
 ) -> Result<Option<Refusal>, Memory>
     requires { forest.now ≡ book_forest book.now }
-    ensures { IfOk result (λ r. r ≡ refusal_about world.now book.now now command (Some i) d) }
+    ensures { IfOk result (λ r. r ≡ refusal_about world.now book.now now command i d) }
 {
-    if let Some(refusal) = row_refusal(alloc, book, forest, world, command, i, d)? {
+    let movers = case_of(alloc, book, forest, world, command, i, d)?;
+    let row = row_of(world.gtid(), command);
+    if let Some(refusal) = row_refusal(alloc, book, forest, world, &movers, row)? {
         return Ok(Some(refusal));
     }
     last_refusal(alloc, book, forest, world, command, i, d, now)
-}
-
-fn refusal_of(
-    alloc: Global,
-    book: &Book,
-    forest: &Forest,
-    world: &World,
-    command: Command,
-    now: Moment,
-) -> Result<Option<Refusal>, Memory>
-    requires { forest.now ≡ book_forest book.now }
-    ensures { IfOk result (λ r. r ≡ refusal_of world.now book.now now command) }
-{
-    let Some(kind) = regroup_command(command.name) else {
-        return Ok(None);
-    };
-    if let Some(unknown) = unknown_in(book, command) {
-        return Ok(Some(unknown));
-    }
-    let Some(i) = command.i else {
-        return Ok(None);
-    };
-    refusal_about(alloc, book, forest, world, kind, i, command.d, now)
 }
 
 /// Refuses one of these commands with the refusal of the lowest number that applies. It goes by the book with its rules
@@ -354,7 +249,13 @@ pub fn permit(
     requires here { IsSome (regroup_command command.name) }
     ensures { Gives (λ _. tt) permit_fault result (permitted (refusal_of world.now book.now now command)) }
 {
-    answered(refusal_of(alloc, book, forest, world, command, now)?)
+    if let Some(unknown) = unknown_in(book, command) {
+        return Err(PermitFault::Refused(unknown));
+    }
+    let (Some(kind), Some(i)) = (regroup_command(command.name), command.i) else {
+        return Ok(());
+    };
+    answered(refusal_about(alloc, book, forest, world, kind, i, command.d, now)?)
 }
 
 fn leased_by(
@@ -368,7 +269,9 @@ fn leased_by(
     ensures { IfOk result (λ list. list.items ≡ leased_by world.now book.now command) }
 {
     match (regroup_command(command.name), command.i) {
-        (Some(kind), Some(i)) => list_of(alloc, book, forest, world, kind, i, command.d),
+        (Some(kind), Some(i)) => {
+            case_of(alloc, book, forest, world, kind, i, command.d)?.leases(alloc)
+        }
         (Some(_), None) | (None, _) => Ok(Vec::new(alloc)),
     }
 }

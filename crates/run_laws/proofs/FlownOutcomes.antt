@@ -50,8 +50,9 @@ use Rattle.move_laws.proofs.Begun as coords
 use Rattle.move_laws.proofs.BegunGtid as gtids
 use Rattle.path_laws.proofs.Begun as paths
 use Rattle.operations.specs.Jobs.{Job, job_with}
+use Rattle.permission.specs.Rows.{about as about_given, about_one}
 use Rattle.recovery_plans.specs.declared.purpose.Purpose.TheVariants as purpose
-use Rattle.regroup.specs.Permits.{leased_about, leased_in}
+use Rattle.regroup.specs.Permits.{list_of}
 use Rattle.regroup.specs.declared.command.RegroupCommand.{RegroupCommand}
 use Rattle.regroup.specs.declared.command.RegroupCommand.TheVariants as command
 use Rattle.std.specs.List.{list_any}
@@ -182,7 +183,7 @@ permitted-begin w b now js c (Regroups ByBridges) id wait h = go c.i
 
 -- a regroup has the leases of the replicas
 regroup-beside : (w : World) (b : BookState) (l : Leases) (c : Command) (id wait : ℕ) (i d : Option ServerNo)
-    → IsHeldBeside w (leased_to l (leased_about w b command.RegroupReplicas i d) id) (regroup_about b id wait i)
+    → IsHeldBeside w (leased_to l (about_one [] (list_of w b command.RegroupReplicas) i d) id) (regroup_about b id wait i)
 regroup-beside w b l c id wait None d = tt
 regroup-beside w b l c id wait (Some i) d = recovery-held w l (i ∷ replicas_of b i) purpose.Regroup id wait i (replicas_of b i) (replicas_of b i) None (listed-behind i (replicas_of b i)) tt
 
@@ -194,7 +195,7 @@ job-beside w b l c (Paths kind) id wait by = tt
 job-beside w b l c (Regroups ByMatches) id wait by = tt
 job-beside w b l c (Matches kind) id wait by = tt
 job-beside w b l c (Regroups ByBridges) id wait by =
-    subst (λ (r : Option RegroupCommand). IsHeldBeside w (leased_to l (leased_in w b c r) id) (regroup_about b id wait c.i)) (sym (regroups-only c.name by)) (regroup-beside w b l c id wait c.i c.d)
+    subst (λ (r : Option RegroupCommand). IsHeldBeside w (leased_to l (about_given [] (list_of w b) r c) id) (regroup_about b id wait c.i)) (sym (regroups-only c.name by)) (regroup-beside w b l c id wait c.i c.d)
 
 regroup-sound : (w : World) (b : BookState) (id wait : ℕ) (i : Option ServerNo) → IsSoundBeside w (regroup_about b id wait i)
 regroup-sound w b id wait None = tt

@@ -1,0 +1,33 @@
+-- What is so of each command of a kind.
+use Rattle.std.proofs.Common.{◌≡◌, ◌<◌, List, [], length, refl, Option, Some, None}
+use Rattle.orch_base.specs.declared.server.ServerNo.{ServerNo}
+use Rattle.commands.specs.declared.refusal.Refusal.{Refusal}
+use Rattle.commands.specs.declared.turn.Command.{Command}
+use Rattle.instance_keeper.specs.Book.{BookState}
+use Rattle.instance_keeper.specs.Leases.{first_busy}
+use Rattle.permission.specs.Checks.{busy, unknown_in}
+use Rattle.permission.specs.Lists.{first_about}
+use Rattle.permission.specs.Rows.{about, about_one, refused}
+use Rattle.permission.proofs.Free.{free-list, neither}
+use Rattle.permission.proofs.Within.{Within}
+
+-- what is so of none, and of each command about a server of the book, is so of any
+pub about-is : {K A : Type 0} (P : A → Type 0) (none : A) (f : K → ServerNo → Option ServerNo → A) (b : BookState) (given : Command) → P none → Within b given.i
+    → ((c : K) (i : ServerNo) → i.0 < length b.names → P (f c i given.d)) → (kind : Option K) → P (about none f kind given)
+about-is P none f b given at_none at_i each None = at_none
+about-is P none f b given at_none at_i each (Some c) = go given.i at_i
+  where
+    go : (o : Option ServerNo) → Within b o → P (about_one none (f c) o given.d)
+    go None at = at_none
+    go (Some i) at = each c i at
+
+-- where what doesn't refuse a command finds its servers free, a command that isn't refused does
+pub about-free : {K : Type 0} (by : K → ServerNo → Option ServerNo → Option Refusal) (list : K → ServerNo → Option ServerNo → List ServerNo) (b : BookState) (given : Command)
+    → ((c : K) (i : ServerNo) → by c i given.d ≡ None → first_about (busy b) (list c i given.d) ≡ None) → (kind : Option K)
+    → refused b by kind given ≡ None → first_busy b.leases (about [] list kind given) ≡ None
+about-free by list b given free None h = refl
+about-free by list b given free (Some c) h = go given.i (neither (unknown_in b given) (about_one None (by c) given.i given.d) h).1
+  where
+    go : (o : Option ServerNo) → about_one None (by c) o given.d ≡ None → first_busy b.leases (about_one [] (list c) o given.d) ≡ None
+    go None h = refl
+    go (Some i) h = free-list b (list c i given.d) (free c i h)

@@ -1,0 +1,73 @@
+-- Rows of the permission table: which servers move to which source, and of which the job takes the leases.
+use Rattle.std.specs.Prelude.{Bool, true, false, List, [], ◌∷◌, ◌++◌, Option, Some, None}
+use Rattle.std.specs.Option.{option_or, option_to_list}
+use Rattle.orch_base.specs.declared.server.ServerNo.{ServerNo}
+use Rattle.commands.specs.declared.refusal.Refusal.{Refusal}
+use Rattle.commands.specs.declared.turn.Command.{Command}
+use Rattle.instance_keeper.specs.Book.{BookState}
+use Rattle.permission.specs.Checks.{Case, unknown_in}
+use Rattle.permission.specs.Lists.{moves_to}
+use Rattle.permission.specs.Views.{is_before}
+use Rattle.permission.specs.declared.case.Move.{Move}
+
+-- servers move to a new source, where there is one, which is looked at also where none moves; the job takes the leases of
+-- a list
+abbrev pub moving : ServerNo → List ServerNo → Option ServerNo → List ServerNo → Case
+moving i movers to leased = record {
+  i = i;
+  to = to;
+  leased = leased;
+  reached = leased;
+  moves = moves_to movers to;
+  sources = option_to_list to;
+}
+
+-- moves of which the first are by name before the others, or behind them
+abbrev pub in_order : Bool → List Move → List Move → List Move
+in_order true ms ns = ms ++ ns
+in_order false ms ns = ns ++ ms
+
+abbrev pub is_first : BookState → ServerNo → Option ServerNo → Bool
+is_first b i None = true
+is_first b i (Some x) = is_before b i x
+
+-- an instance goes to its source's source g, and its source x below it
+abbrev pub swapping : BookState → ServerNo → Option ServerNo → Option ServerNo → Case
+swapping b i x g = record {
+  i = i;
+  to = g;
+  leased = i ∷ option_to_list x;
+  reached = i ∷ option_to_list x;
+  moves = in_order (is_first b i x) (moves_to (i ∷ []) g) (moves_to (option_to_list x) (Some i));
+  sources = i ∷ option_to_list g;
+}
+
+-- ---- a command of some kind
+
+abbrev pub about_one : {A : Type 0} → A → (ServerNo → Option ServerNo → A) → Option ServerNo → Option ServerNo → A
+about_one none f None d = none
+about_one none f (Some i) d = f i d
+
+-- what is so of a command by its kind, its instance and the destination that is given: `none` where it has no such kind,
+-- or no instance is given
+abbrev pub about : {K A : Type 0} → A → (K → ServerNo → Option ServerNo → A) → Option K → Command → A
+about none f None given = none
+about none f (Some c) given = about_one none (f c) given.i given.d
+
+-- the refusal with the lowest number that applies to a command: 2, or what refuses it by its kind
+abbrev pub refused : {K : Type 0} → BookState → (K → ServerNo → Option ServerNo → Option Refusal) → Option K → Command → Option Refusal
+refused b by kind given = option_or (unknown_in b given) (about None by kind given)
+
+-- ---- what a row is made of: the instance where it stays, servers that move, others beside them; these change places
+-- with the instance where it is said whether that one is the first by name
+
+abbrev pub moves_by : Option Bool → List Move → List Move → List Move
+moves_by None ms ns = ms
+moves_by (Some first) ms ns = in_order first ms ns
+
+abbrev pub sources_by : Option Bool → ServerNo → List ServerNo → List ServerNo
+sources_by None i above = above
+sources_by (Some first) i above = i ∷ above
+
+abbrev pub leased_with : Option ServerNo → List ServerNo → List ServerNo → List ServerNo
+leased_with before movers beside = option_to_list before ++ (movers ++ beside)

@@ -1,0 +1,8 @@
+use Rattle.std.proofs.Common.{◌≡◌, ◌++◌, take}
+use Rattle.std.specs.List.{flat_map}
+use Rattle.std.specs.Option.{option_to_list}
+use Rattle.regroup.specs.Ways.{passed_in, path_to}
+use Rattle.regroup.proofs.permits.beside_of.Given as goal
+
+abbrev pub invariant-loop-no : goal.invariant-loop-no
+invariant-loop-no l = l.list.items ≡ option_to_list l.d ++ flat_map (λ n. passed_in (path_to l.book l.d n)) (take l.no-index l.movers)
