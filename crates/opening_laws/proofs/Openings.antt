@@ -17,7 +17,7 @@ use Rattle.openings.specs.Sound.{IsSound, IsUnder}
 use Rattle.openings.proofs.Soundness.{sound_checked}
 use Rattle.server_model.specs.Layout.{LaysOut}
 use Rattle.server_model.specs.Layout as layout
-use Rattle.server_model.specs.Links.{HasSize}
+use Rattle.server_model.specs.Fit.{HasSize}
 use Rattle.world_openings.specs.Opening.{source_state, opened_server, opened_world}
 use Rattle.server_model.specs.Safe.{Safe, AttachedWell, IsKin, Grounded, IsSource, KeepFiles}
 use Rattle.server_model.specs.Worlds.{KeepsFrom, World, server_at, histories, history_of, sources, source_of, source_no}

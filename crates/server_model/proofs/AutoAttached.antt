@@ -14,7 +14,7 @@ use Rattle.orch_base.specs.declared.server.ServerNo.{ServerNo}
 use Rattle.orch_base.specs.declared.server.Txn.{Txn}
 use Rattle.server_model.specs.Attach.{chain_meets, purged_answer, spot_below}
 use Rattle.server_model.specs.Gtids.{uuids, uuids_in, set_of, has_gtid, held_len, held_of, kept_coord, purged_len, auto_purged, auto_coord, auto_readiness, auto_decision, answer_by_sets, errant_answer, errant_set, attach_auto_answer, attached_auto, after_attach_auto, attach_fault, IsAutoTarget, IsSetOf}
-use Rattle.server_model.specs.Links.{IsFit}
+use Rattle.server_model.specs.Fit.{IsFit}
 use Rattle.server_model.specs.Worlds.{World, server_at, sources}
 use Rattle.server_words.specs.declared.attach.AttachFault.{AttachFault}
 use Rattle.server_words.specs.declared.attach.AttachFault.TheVariants as attaching

@@ -1,14 +1,12 @@
 -- A change of one server that leaves its history and log keeps what is kept; so does a new file of its log.
-use Rattle.std.proofs.Common.{◌≡◌, ℕ, ◌<◌, ◌≤◌, Bool, true, false, not, cond, List, [], length, take, refl, sym, ◌∙◌, ap, subst, Option, Some, None, Result, Ok, Err, arith, ◌&&◌, ◌||◌, zero, suc}
-use Rattle.std.specs.Prelude.{slice_get, slice_set, ◌==◌, All, count_by, nat_lt, unwrap_or}
+use Rattle.std.proofs.Common.{◌≡◌, ℕ, ◌<◌, ◌≤◌, Bool, true, false, not, cond, List, length, take, refl, sym, ◌∙◌, ap, subst, Option, Some, None, Result, Ok, Err, arith, ◌&&◌, ◌||◌, zero, suc}
+use Rattle.std.specs.Prelude.{slice_get, slice_set, ◌==◌, All, nat_lt, unwrap_or}
 use Rattle.std.proofs.lemmas.Bool.{eq-eqb, false≢true}
 use Rattle.std.proofs.lemmas.Option.{same_Some}
 use Rattle.binlog_coords.specs.declared.Coord.{Coord}
 use Rattle.binlog_coords.specs.Grown as grown
-use Rattle.binlog_coords.specs.Log.{Log, place, has_place, ends_by, file_start, flush, end_of}
-use Rattle.binlog_coords.specs.Relay.{IsRelay, Empty}
-use Rattle.binlog_coords.proofs.Places.{stable_flush, place-from}
-use Rattle.binlog_coords.proofs.Relays.{IsRelay-flush}
+use Rattle.binlog_coords.specs.Log.{place, has_place, file_start, flush, end_of}
+use Rattle.binlog_coords.proofs.Places.{stable_flush}
 use Rattle.orch_base.specs.declared.server.ServerNo.{ServerNo}
 use Rattle.orch_base.specs.declared.server.SourceState.{SourceState}
 use Rattle.orch_base.specs.declared.server.SourceState.TheVariants.{Without, Attached, Detached}
@@ -16,13 +14,13 @@ use Rattle.server_model.specs.Attach.{spot_below, live_spot, same_spot, chain_me
 use Rattle.server_words.specs.declared.attach.Spot.{Spot}
 use Rattle.server_words.specs.declared.attach.AttachFault.{AttachFault}
 use Rattle.server_words.specs.declared.attach.AttachFault.TheVariants as attaching
-use Rattle.server_model.specs.Desk.{stopped, started, detached, reattached, without_source, asked, detached_source, attached_source, empties, with_link, healed, befallen, rotated, desk_answer, after_desk, befall, rotate_answer, after_rotate, is_detached}
+use Rattle.server_model.specs.Desk.{stopped, started, detached, reattached, without_source, asked, detached_source, attached_source, with_link, healed, befallen, rotated, desk_answer, after_desk, befall, rotate_answer, after_rotate, is_detached}
 use Rattle.server_model.specs.Exchanges.{is_attached}
-use Rattle.orch_base.specs.Histories.{count_own}
-use Rattle.server_model.specs.Gtids.{purged_len, purged_txns}
+use Rattle.server_model.specs.Gtids.{purged_len, AreGtids}
 use Rattle.server_model.specs.Kept.{Kept}
 use Rattle.binlog_coords.specs.Index.{Index}
-use Rattle.server_model.specs.Links.{HasSize, IsFit, IsLinked, IsKept}
+use Rattle.gtid_sets.specs.Reserved.{Reserved}
+use Rattle.server_model.specs.Fit.{HasPlaces, HasSize, IsFit, IsKept}
 use Rattle.server_model.specs.Worlds.{World, server_at, source_no, sources}
 use Rattle.server_model.specs.Purging.{after_purge}
 use Rattle.server_words.specs.declared.answers.PurgeAnswer.TheVariants as purging
@@ -35,88 +33,70 @@ use Rattle.server_words.specs.declared.changes.Link.{Link}
 use Rattle.server_words.specs.declared.changes.Link.TheVariants as link
 use Rattle.server_words.specs.declared.changes.Threads.{Threads}
 use Rattle.server_words.specs.declared.changes.Threads.TheVariants as threads
-use Rattle.server_model.specs.declared.ledger.Ledger.{Ledger}
 use Rattle.server_model.specs.declared.server.Server.{Server}
-use Rattle.server_model.proofs.Keeps.{IsKept-any, IsKept-with, beside_of}
+use Rattle.server_model.proofs.Keeps.{IsKept-any, IsKept-with}
 use Rattle.server_model.proofs.Lists.{set_self}
+use Rattle.server_model.proofs.ExecutedSets.{AreGtids-still}
 
--- the ledger of a server whose relay log is emptied, or not
-abbrev pub emptied : Bool → Ledger → Ledger
-emptied all l = record l { relay = cond all (record l.relay { entries = [] }) l.relay }
-
--- a change that leaves the history and the log, and stands as before under the same source, if under any
-pub record IsMoved (s s' : Server) (all : Bool) : Type 0 where
+-- a change that leaves the settings, the history and the log
+pub record IsUntouched (s s' : Server) : Type 0 where
   pub settings : s'.settings ≡ s.settings
   pub history : s'.history ≡ s.history
   pub log : s'.log ≡ s.log
   pub first : s'.first ≡ s.first
+
+-- one that stands as before under the same source, too, if under any
+pub record IsMoved (s s' : Server) : Type 0 where
+  pub same : IsUntouched s s'
   pub source : (m : ℕ) → source_no s'.source ≡ Some m → source_no s.source ≡ Some m
-  pub link : (m : ℕ) → source_no s'.source ≡ Some m → (t : Server) (l : Ledger) → IsLinked s t l → IsLinked s' t (emptied all l)
+  pub places : (m : ℕ) → source_no s'.source ≡ Some m → (t : Server) → HasPlaces s t → HasPlaces s' t
 
 module _ (s : Server) where
   -- the same place in the source's log
-  stays : (s' : Server) → s'.exec ≡ s.exec → s'.read ≡ s.read → (t : Server) (l : Ledger) → IsLinked s t l → IsLinked s' t (emptied false l)
-  stays s' exec read t l old = record {
-    steps = old.steps;
-    relay = subst (λ (c : Coord). IsRelay t.log.log c old.steps s'.read) (sym exec) (subst (λ (c : Coord). IsRelay t.log.log s.exec old.steps c) (sym read) old.relay);
-    entries = old.entries;
-    exec_place = (old.exec_place.0, ap (place t.log.log) exec ∙ old.exec_place.1);
-    read_place = (old.read_place.0, ap (place t.log.log) read ∙ old.read_place.1);
-  }
+  stays : (s' : Server) → s'.exec ≡ s.exec → s'.read ≡ s.read → (t : Server) → HasPlaces s t → HasPlaces s' t
+  stays s' exec read t old =
+      record { exec = ap (has_place t.log.log) exec ∙ old.exec; read = ap (has_place t.log.log) read ∙ old.read }
 
-  -- what was read and not executed is dropped
-  drops : (s' : Server) → s'.exec ≡ s.exec → s'.read ≡ s.exec → (t : Server) (l : Ledger) → IsLinked s t l → IsLinked s' t (emptied true l)
-  drops s' exec read t l old = record {
-    steps = [];
-    relay = subst (λ (c : Coord). IsRelay t.log.log s'.exec [] c) (exec ∙ sym read) (Empty s'.exec);
-    entries = refl;
-    exec_place = (old.exec_place.0, ap (place t.log.log) exec ∙ old.exec_place.1);
-    read_place = (old.exec_place.0, ap (place t.log.log) read ∙ old.exec_place.1);
-  }
+  still : (s' : Server) → s'.settings ≡ s.settings → s'.history ≡ s.history → s'.log ≡ s.log → s'.first ≡ s.first → source_no s'.source ≡ source_no s.source → s'.exec ≡ s.exec → s'.read ≡ s.read → IsMoved s s'
+  still s' settings history log first source exec read = record { same = record { settings = settings; history = history; log = log; first = first }; source = λ m h. sym source ∙ h; places = λ m h t old. stays s' exec read t old }
 
-  still : (s' : Server) → s'.settings ≡ s.settings → s'.history ≡ s.history → s'.log ≡ s.log → s'.first ≡ s.first → source_no s'.source ≡ source_no s.source → s'.exec ≡ s.exec → s'.read ≡ s.read → IsMoved s s' false
-  still s' settings history log first source exec read = record { settings = settings; history = history; log = log; first = first; source = λ m h. sym source ∙ h; link = λ m h t l old. stays s' exec read t l old }
-
-  moved-stopped : (which : Threads) → IsMoved s (stopped which s) false
+  moved-stopped : (which : Threads) → IsMoved s (stopped which s)
   moved-stopped threads.Both = still (stopped threads.Both s) refl refl refl refl refl refl refl
   moved-stopped threads.Receiver = still (stopped threads.Receiver s) refl refl refl refl refl refl refl
   moved-stopped threads.Applier = still (stopped threads.Applier s) refl refl refl refl refl refl refl
 
-  moved-started : (until : Option Coord) → IsMoved s (started until s) false
+  moved-started : (until : Option Coord) → IsMoved s (started until s)
   moved-started until = go (is_attached s.source)
     where
-      go : (b : Bool) → IsMoved s (cond b (record s { receiver = true; applier = true; until = until }) s) false
+      go : (b : Bool) → IsMoved s (cond b (record s { receiver = true; applier = true; until = until }) s)
       go true = still (record s { receiver = true; applier = true; until = until }) refl refl refl refl refl refl refl
       go false = still s refl refl refl refl refl refl refl
 
-  moved-detached : IsMoved s (detached s) (is_attached s.source)
+  moved-detached : IsMoved s (detached s)
   moved-detached = go s.source refl
     where
       go : (source : SourceState) → s.source ≡ source
-          → IsMoved s (cond (is_attached source) (record s { source = detached_source source; receiver = false; applier = false; read = s.exec; until = None }) s) (is_attached source)
+          → IsMoved s (cond (is_attached source) (record s { source = detached_source source; receiver = false; applier = false; read = s.exec; until = None }) s)
       go Without is = still s refl refl refl refl refl refl refl
       go (Attached m) is = record {
-        settings = refl;
-        history = refl;
-        log = refl;
-        first = refl;
+        same = record { settings = refl; history = refl; log = refl; first = refl };
         source = λ k h. ap source_no is ∙ h;
-        link = λ k h t l old. drops (record s { source = Detached m; receiver = false; applier = false; read = s.exec; until = None }) refl refl t l old;
+        places = λ k h t old. record { exec = old.exec; read = old.exec };
       }
       go (Detached m) is = still s refl refl refl refl refl refl refl
 
-  moved-reattached : IsMoved s (reattached s) false
+  moved-reattached : IsMoved s (reattached s)
   moved-reattached = go s.source refl
     where
-      go : (source : SourceState) → s.source ≡ source → IsMoved s (cond (is_detached source) (record s { source = attached_source source; receiver = false; applier = false }) s) false
+      go : (source : SourceState) → s.source ≡ source → IsMoved s (cond (is_detached source) (record s { source = attached_source source; receiver = false; applier = false }) s)
       go Without is = still s refl refl refl refl refl refl refl
       go (Attached m) is = still s refl refl refl refl refl refl refl
       go (Detached m) is = still (record s { source = Attached m; receiver = false; applier = false }) refl refl refl refl (sym (ap source_no is)) refl refl
 
-  moved-reset : IsMoved s (without_source s) true
-  moved-reset = record { settings = refl; history = refl; log = refl; first = refl; source = λ m h. cc; link = λ m h t l old. cc }
+  moved-reset : IsMoved s (without_source s)
+  moved-reset = record { same = record { settings = refl; history = refl; log = refl; first = refl }; source = λ m h. cc; places = λ m h t old. cc }
 
-  pub moved-asked : (a : Ask) → IsMoved s (asked a s) (empties a s)
+  pub moved-asked : (a : Ask) → IsMoved s (asked a s)
   moved-asked (asking.Stop which) = moved-stopped which
   moved-asked asking.Start = moved-started None
   moved-asked (asking.StartUntil to) = moved-started (Some to)
@@ -125,99 +105,88 @@ module _ (s : Server) where
   moved-asked asking.Reset = moved-reset
   moved-asked (asking.SetReadOnly on) = still (record s { read_only = on }) refl refl refl refl refl refl refl
 
-  moved-link : (l : Link) (on : Bool) → IsMoved s (with_link l on s) false
+  moved-link : (l : Link) (on : Bool) → IsMoved s (with_link l on s)
   moved-link link.Desk on = still (record s { desk = on }) refl refl refl refl refl refl refl
   moved-link link.Feed on = still (record s { feed = on }) refl refl refl refl refl refl refl
 
-  moved-healed : IsMoved s (healed s) false
+  moved-healed : IsMoved s (healed s)
   moved-healed = go s.up
     where
-      go : (b : Bool) → IsMoved s (cond b s (healed (record s { up = false }))) false
+      go : (b : Bool) → IsMoved s (cond b s (healed (record s { up = false })))
       go true = still s refl refl refl refl refl refl refl
       go false = still (healed (record s { up = false })) refl refl refl refl refl refl refl
 
-  pub moved-befallen : (e : Event) → IsMoved s (befallen e s) false
+  pub moved-befallen : (e : Event) → IsMoved s (befallen e s)
   moved-befallen event.Fail = still (record s { up = false }) refl refl refl refl refl refl refl
   moved-befallen event.Heal = moved-healed
   moved-befallen (event.Cut l) = moved-link l false
   moved-befallen (event.Join l) = moved-link l true
 
--- it leaves what is purged
-pub purged-moved : (s s' : Server) (all : Bool) → IsMoved s s' all → purged_txns s' ≡ purged_txns s
-purged-moved s s' all moved =
-    ap (λ (h : Kept). take (purged_len s') h.txns) moved.history
+-- it leaves the sets
+pub AreGtids-untouched : (servers : List Server) (executed purged : List Reserved) (gtid : Bool) (n : ℕ) (s s' : Server)
+    → AreGtids servers executed purged gtid → slice_get servers n ≡ Some s → IsUntouched s s' → AreGtids (slice_set servers n s') executed purged gtid
+AreGtids-untouched servers executed purged gtid n s s' are here same =
+    AreGtids-still servers executed purged gtid n s s' are here same.settings same.history (ap (λ (i : Index). length i.log.entries) same.log)
+    (ap (λ (h : Kept). take (purged_len s') h.txns) same.history
     ∙ ap (λ k. take k s.history.txns)
-    (ap (λ (i : Index). unwrap_or (place i.log (file_start s'.first)) 0) moved.log ∙ ap (λ file. unwrap_or (place s.log.log (file_start file)) 0) moved.first)
+    (ap (λ (i : Index). unwrap_or (place i.log (file_start s'.first)) 0) same.log ∙ ap (λ file. unwrap_or (place s.log.log (file_start file)) 0) same.first))
 
-module _ (servers : List Server) (ledgers : List Ledger) (errant n : ℕ) (s : Server) (kept : IsKept servers ledgers errant) (here : slice_get servers n ≡ Some s) where
-  fit-moved : (s' : Server) → s'.settings ≡ s.settings → s'.history ≡ s.history → s'.log ≡ s.log → s'.first ≡ s.first → IsFit s'
-  fit-moved s' settings history log first =
+module _ (servers : List Server) (errant n : ℕ) (s : Server) (kept : IsKept servers errant) (here : slice_get servers n ≡ Some s) where
+  fit-untouched : (s' : Server) → IsUntouched s s' → IsFit s'
+  fit-untouched s' same =
       let f = kept.fit n s here in
       record {
-        high = rw history f.high;
-        room = rw (history, log) f.room;
-        within = rw history f.within;
-        entries = rw (log, history) f.entries;
-        sizes = subst (λ (h : Kept). All HasSize h.txns) (sym history) f.sizes;
-        grown = rw log f.grown;
-        files = rw log f.files;
-        kept = rw (settings, log, first) f.kept;
+        high = rw same.history f.high;
+        room = rw (same.history, same.log) f.room;
+        within = rw same.history f.within;
+        entries = rw (same.log, same.history) f.entries;
+        sizes = subst (λ (h : Kept). All HasSize h.txns) (sym same.history) f.sizes;
+        grown = rw same.log f.grown;
+        files = rw same.log f.files;
+        kept = rw (same.settings, same.log, same.first) f.kept;
       }
 
-  pub IsKept-moved : (s' : Server) (all : Bool) (l : Ledger) → slice_get ledgers n ≡ Some l → IsMoved s s' all → IsKept (slice_set servers n s') (slice_set ledgers n (emptied all l)) errant
-  IsKept-moved s' all l beside moved =
-      IsKept-with servers ledgers errant errant n s s' l (emptied all l) kept here beside
+  pub IsKept-moved : (s' : Server) → IsMoved s s' → IsKept (slice_set servers n s') errant
+  IsKept-moved s' moved =
+      IsKept-with servers errant errant n s s' kept here
       (record {
         source = moved.source;
-        places = λ c k h. ap (λ (i : Index). place i.log c) moved.log ∙ h;
-        relays = λ c d xs h. subst (λ (i : Index). IsRelay i.log c xs d) (sym moved.log) h;
-        fit = fit-moved s' moved.settings moved.history moved.log moved.first;
-        own = kept.own n s l here beside ∙ ap (λ (h : Kept). count_own n h.txns) (sym moved.history);
-        room = ap (λ (i : Index). i.room) moved.log;
-        relay_room = same_room all;
-        link = λ m t from at old. moved.link m from t l old;
-        errant = rw moved.history (omega arith);
+        stable = λ c k h. ap (λ (i : Index). place i.log c) moved.same.log ∙ h;
+        fit = fit-untouched s' moved.same;
+        places = λ m t from at old. moved.places m from t old;
+        errant = rw moved.same.history (omega arith);
       })
-    where
-      same_room : (b : Bool) → (cond b (record l.relay { entries = [] }) l.relay).room ≡ l.relay.room
-      same_room true = refl
-      same_room false = refl
-
-  pub IsKept-still : (s' : Server) → IsMoved s s' false → IsKept (slice_set servers n s') ledgers errant
-  IsKept-still s' moved =
-      let l = beside_of servers ledgers errant n s kept here in
-      subst (λ (ks : List Ledger). IsKept (slice_set servers n s') ks errant) (set_self ledgers n l.0 l.1) (IsKept-moved s' false l.0 l.1 moved)
 
   -- a new file of the log
-  pub IsKept-rotated : 0 < s.log.flushes → IsKept (slice_set servers n (rotated s)) ledgers errant
+  pub IsKept-rotated : 0 < s.log.flushes → IsKept (slice_set servers n (rotated s)) errant
   IsKept-rotated some =
-      let l = beside_of servers ledgers errant n s kept here in
       let f = kept.fit n s here in
-      subst (λ (ks : List Ledger). IsKept (slice_set servers n (rotated s)) ks errant) (set_self ledgers n l.0 l.1)
-      (IsKept-with servers ledgers errant errant n s (rotated s) l.0 l.0 kept here l.1
+      IsKept-with servers errant errant n s (rotated s) kept here
       (record {
         source = λ m h. h;
-        places = λ c k h. stable_flush s.log.log c k h;
-        relays = λ c d xs h. IsRelay-flush s.log.log c d xs h;
-        fit = record { high = f.high; room = f.room; within = f.within; entries = f.entries; sizes = f.sizes; grown = grown.Flushed s.log.log f.grown; files = let e = f.files in omega arith; kept = record { low = f.kept.low; high = let e = f.kept.high in omega arith; unlogged = f.kept.unlogged } };
-        own = kept.own n s l.0 here l.1;
-        room = refl;
-        relay_room = refl;
-        link = λ m t from at old. record { steps = old.steps; relay = old.relay; entries = old.entries; exec_place = old.exec_place; read_place = old.read_place };
+        stable = λ c k h. stable_flush s.log.log c k h;
+        fit = record {
+          high = f.high;
+          room = f.room;
+          within = f.within;
+          entries = f.entries;
+          sizes = f.sizes;
+          grown = grown.Flushed s.log.log f.grown;
+          files = let e = f.files in omega arith;
+          kept = record { low = f.kept.low; high = let e = f.kept.high in omega arith; unlogged = f.kept.unlogged };
+        };
+        places = λ m t from at old. record { exec = old.exec; read = old.read };
         errant = omega arith;
-      }))
+      })
 
   -- files of the log of a server that logs are purged
-  pub IsKept-purged : (first : ℕ) → s.first ≤ first → first ≤ s.log.log.files → s.settings.logs ≡ true → IsKept (slice_set servers n (record s { first = first })) ledgers errant
+  pub IsKept-purged : (first : ℕ) → s.first ≤ first → first ≤ s.log.log.files → s.settings.logs ≡ true → IsKept (slice_set servers n (record s { first = first })) errant
   IsKept-purged first low high logs =
-      let l = beside_of servers ledgers errant n s kept here in
       let f = kept.fit n s here in
-      subst (λ (ks : List Ledger). IsKept (slice_set servers n (record s { first = first })) ks errant) (set_self ledgers n l.0 l.1)
-      (IsKept-with servers ledgers errant errant n s (record s { first = first }) l.0 l.0 kept here l.1
+      IsKept-with servers errant errant n s (record s { first = first }) kept here
       (record {
         source = λ m h. h;
-        places = λ c k h. h;
-        relays = λ c d xs h. h;
+        stable = λ c k h. h;
         fit = record {
           high = f.high;
           room = f.room;
@@ -228,12 +197,9 @@ module _ (servers : List Server) (ledgers : List Ledger) (errant n : ℕ) (s : S
           files = f.files;
           kept = record { low = let e = f.kept.low in omega arith; high = high; unlogged = λ off. absurd (false≢true (sym off ∙ logs)) };
         };
-        own = kept.own n s l.0 here l.1;
-        room = refl;
-        relay_room = refl;
-        link = λ m t from at old. record { steps = old.steps; relay = old.relay; entries = old.entries; exec_place = old.exec_place; read_place = old.read_place };
+        places = λ m t from at old. record { exec = old.exec; read = old.read };
         errant = omega arith;
-      }))
+      })
 
 -- what is answered, and what is left of the world
 
@@ -278,31 +244,24 @@ pub rotate-answered : (w : World) (n : ℕ) (s : Server) (end : Coord) → serve
 rotate-answered w n s end at up logs some is = rw (at, up, logs, some, is)
 
 -- a change of source to a place of another server's log
-pub IsKept-attached : (auto : Bool) (servers : List Server) (ledgers : List Ledger) (errant n : ℕ) (s : Server) (l : Ledger) (to : ServerNo) (at : Coord) (target : Server)
-    → IsKept servers ledgers errant
-    → slice_get servers n ≡ Some s → slice_get ledgers n ≡ Some l → slice_get servers to.0 ≡ Some target → has_place target.log.log at ≡ true → (to.0 ≡ n → ⊥)
-    → IsKept (slice_set servers n (record (attached_to to at s) { auto = auto })) (slice_set ledgers n (emptied true l)) errant
-IsKept-attached auto servers ledgers errant n s l to at target kept here beside there placed apart =
+pub IsKept-attached : (auto : Bool) (servers : List Server) (errant n : ℕ) (s : Server) (to : ServerNo) (at : Coord) (target : Server)
+    → IsKept servers errant
+    → slice_get servers n ≡ Some s → slice_get servers to.0 ≡ Some target → has_place target.log.log at ≡ true → (to.0 ≡ n → ⊥)
+    → IsKept (slice_set servers n (record (attached_to to at s) { auto = auto })) errant
+IsKept-attached auto servers errant n s to at target kept here there placed apart =
     let f = kept.fit n s here in
-    IsKept-any servers ledgers errant errant n s (record (attached_to to at s) { auto = auto }) l (emptied true l) kept here beside
+    IsKept-any servers errant errant n s (record (attached_to to at s) { auto = auto }) kept here
     (record {
-      places = λ c k h. h;
-      relays = λ c d xs h. h;
+      stable = λ c k h. h;
       fit = record { high = f.high; room = f.room; within = f.within; entries = f.entries; sizes = f.sizes; grown = f.grown; files = f.files; kept = f.kept };
-      own = kept.own n s l here beside;
-      room = refl;
-      relay_room = refl;
       apart = λ from. apart (same_Some to.0 n from);
-      link = λ m t from at_m.
+      places = λ m t from at_m.
           let number : to.0 ≡ m = same_Some to.0 m from in
           let same : target ≡ t = same_Some target t (sym there ∙ ap (slice_get servers) number ∙ at_m) in
-          let place : (k : ℕ) × (place t.log.log at ≡ Some k) = subst (λ (x : Server). (k : ℕ) × (place x.log.log at ≡ Some k)) same (place-of target.log.log at placed) in
-          record { steps = []; relay = Empty at; entries = refl; exec_place = place; read_place = place };
+          let place : has_place t.log.log at ≡ true = subst (λ (x : Server). has_place x.log.log at ≡ true) same placed in
+          record { exec = place; read = place };
       errant = omega arith;
     })
-  where
-    place-of : (log : Log) (c : Coord) → has_place log c ≡ true → (k : ℕ) × (place log c ≡ Some k)
-    place-of log c h = (count_by (ends_by c) log.entries, place-from log c (count_by (ends_by c) log.entries) h refl)
 
 -- a walk that doesn't meet a server doesn't begin at it
 pub chain-apart : (up : ℕ → Option ℕ) (steps from n : ℕ) → chain_meets up steps from n ≡ false → from ≡ n → ⊥

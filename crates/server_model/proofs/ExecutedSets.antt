@@ -21,7 +21,7 @@ use Rattle.orch_base.specs.Histories.{same_txn, holds as txns_hold}
 use Rattle.server_model.specs.Exchanges.{took}
 use Rattle.server_model.specs.Gtids.{uuid_of, uuids_in, has_gtid, with_gtid, with_gtids, set_of, purged_len, purged_txns, TellsExecuted, IsSetOf, IsNumbered, AreGtids}
 use Rattle.server_model.specs.Kept.{Kept}
-use Rattle.server_model.specs.Links.{IsFit}
+use Rattle.server_model.specs.Fit.{IsFit}
 use Rattle.server_model.specs.declared.server.Server.{Server}
 use Rattle.server_model.proofs.Lists.{set_cases, set_same, set_other, set_self}
 use Rattle.server_model.proofs.LogSizes.{length-push}

@@ -1,12 +1,11 @@
 pub mod Lists
 pub mod LogSizes
-pub mod RelayBetween
-pub mod RelaySteps
 pub mod PurgedFiles
 pub mod Purges
 pub mod ExecutedSets
 pub mod Errants
 pub mod Keeps
+pub mod OwnCounts
 pub mod Takes
 pub mod Answered
 pub mod Fetched

@@ -12,7 +12,7 @@ use Rattle.orch_base.specs.declared.server.Txn.{Txn}
 use Rattle.server_model.specs.Desk.{rotated}
 use Rattle.server_model.specs.Exchanges.{took}
 use Rattle.server_model.specs.Gtids.{purged_len, purged_txns}
-use Rattle.server_model.specs.Links.{IsFit}
+use Rattle.server_model.specs.Fit.{IsFit}
 use Rattle.server_model.specs.Worlds.{KeepsFrom}
 use Rattle.server_model.specs.declared.server.Server.{Server}
 use Rattle.server_model.proofs.LogSizes.{files-rise}

@@ -68,16 +68,6 @@ asked asking.Reattach s = reattached s
 asked asking.Reset s = without_source s
 asked (asking.SetReadOnly on) s = record s { read_only = on }
 
--- whether the relay log is emptied
-abbrev pub empties : Ask → Server → Bool
-empties (asking.Stop which) s = false
-empties asking.Start s = false
-empties (asking.StartUntil to) s = false
-empties asking.Detach s = is_attached s.source
-empties asking.Reattach s = false
-empties asking.Reset s = true
-empties (asking.SetReadOnly on) s = false
-
 -- whether orchestrator reaches a server: it is up, and its desk link is joined
 abbrev pub can_reach : Option Server → Bool
 can_reach None = false

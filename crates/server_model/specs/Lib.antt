@@ -3,6 +3,7 @@ pub mod KeptBy
 pub mod Layout
 pub mod Worlds
 pub mod Exchanges
+pub mod Steps
 pub mod Desk
 pub mod Attach
 pub mod Gtids
@@ -10,9 +11,8 @@ pub mod Purging
 pub mod Safe
 pub mod Run
 pub mod Plains
-pub mod Links
+pub mod Fit
 pub mod Standing
-pub mod Ledgers
 pub mod WorldsBy
 pub mod Bridges
 pub mod Observed

@@ -1,7 +1,7 @@
 -- Servers that stand: what has to hold of them so that they make a world.
-use Rattle.std.specs.Prelude.{◌≡◌, ◌≢◌, ℕ, ◌≤◌, Bool, true, List, All, length, Option, Some, slice_get}
+use Rattle.std.specs.Prelude.{◌≡◌, ◌≢◌, ℕ, ◌≤◌, Bool, true, List, All, length, Some, slice_get}
+use Rattle.server_model.specs.Fit.{IsFit}
 use Rattle.server_model.specs.Gtids.{IsNumbered}
-use Rattle.server_model.specs.Links.{IsFit}
 use Rattle.server_model.specs.Safe.{StandsIn}
 use Rattle.server_model.specs.Worlds.{World, source_no}
 use Rattle.server_model.specs.declared.server.Server.{Server}
@@ -33,8 +33,3 @@ pub record CanStand (servers : List Server) : Type 0 where
 -- the world of servers that stand, before any exchange
 abbrev pub world_with : List Server → Bool → World
 world_with servers gtid = record { servers = servers; gtid = gtid; errant = 0 }
-
--- a server without a source, or one that stands in the log of its source, which has at most so many transactions
-pub record StandsUnder (r : Server) (source : Option Server) (room : ℕ) : Type 0 where
-  pub stands : (s : Server) → source ≡ Some s → StandsIn r s
-  pub fits : (s : Server) → source ≡ Some s → length s.log.log.entries ≤ room

@@ -3,25 +3,18 @@
 ghost use Rattle.std.specs.Prelude.{◌≡◌, length, slice_get};
 ghost use Rattle.server_model.specs.Attach.{attach_decision, chain_meets, first_kept, live_spot, purged_answer, same_spot, spot_below};
 ghost use Rattle.server_model.specs.Worlds.{sources_in};
-ghost use Rattle.binlog_coords.specs.Log.{same_coord};
 
 use crate::Server;
 use binlog_coords::Coord;
 use orch_base::{ServerNo, SourceState};
 use server_words::{AttachFault, Spot};
 
-fn same_coord(c: Coord, d: Coord) -> bool
-    ensures { result ≡ same_coord c d }
-{
-    c.file == d.file && c.pos == d.pos
-}
-
 fn same_spot(x: Spot, y: Spot) -> bool
     ensures { result ≡ same_spot x y }
 {
     match (x, y) {
-        (Spot::At(m, c), Spot::At(n, d)) => m.0 == n.0 && same_coord(c, d),
-        (Spot::OwnEnd(c), Spot::OwnEnd(d)) => same_coord(c, d),
+        (Spot::At(m, c), Spot::At(n, d)) => m.0 == n.0 && c.is_same(d),
+        (Spot::OwnEnd(c), Spot::OwnEnd(d)) => c.is_same(d),
         _ => false,
     }
 }

@@ -5,10 +5,8 @@ mod attach;
 mod decisions;
 mod gtids;
 mod history;
-mod ledger;
-mod ledgers;
+mod own;
 mod purging;
-mod relay;
 mod server;
 mod status;
 mod steps;
@@ -17,8 +15,6 @@ mod world;
 
 pub(crate) use decisions::{ApplyStep, FetchStep};
 pub use history::History;
-pub(crate) use ledger::Ledger;
-pub(crate) use relay::Relay;
 pub use server::Server;
 pub use server_words::{
     ApplyAnswer, Ask, AttachFault, Event, FetchAnswer, Link, Plain, PurgeAnswer, RotateAnswer,

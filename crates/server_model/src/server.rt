@@ -1,8 +1,8 @@
 //! One server.
 
 use crate::steps::is_attached;
-use crate::{Ask, Event, History, Link, Threads};
-use binlog_coords::{Coord, LogIndex};
+use crate::{ApplyStep, Ask, Event, FetchStep, History, Link, Threads};
+use binlog_coords::{Coord, LogIndex, Next};
 use orch_base::{ServerNo, Settings, SourceState, Txn};
 
 /// A server: what it has executed, its log, and where it stands in its source's log.
@@ -37,8 +37,10 @@ pub struct Server {
 }
 
 impl Server {
-    ghost use Rattle.std.specs.Prelude.{◌≡◌, ◌+◌, ◌<◌, ◌≤◌, length};
-    ghost use Rattle.server_model.specs.Exchanges.{took};
+    ghost use Rattle.std.specs.Prelude.{◌≡◌, ◌+◌, ◌<◌, ◌≤◌, length, Some};
+    ghost use Rattle.server_model.specs.Exchanges.{took, IsReady};
+    ghost use Rattle.server_model.specs.Fit.{IsFit};
+    ghost use Rattle.server_model.specs.Steps.{applier_did, receiver_did};
     ghost use Rattle.server_model.specs.Attach.{attached_to};
     ghost use Rattle.server_model.specs.Gtids.{attached_auto};
     ghost use Rattle.server_model.specs.Desk.{stopped, started, detached, reattached, without_source, asked, with_link, healed, befallen, rotated};
@@ -54,6 +56,43 @@ impl Server {
         self.history.push(t);
         if self.settings.logs {
             self.log.push(t.size);
+        }
+    }
+
+    /// The receiver does its step.
+    pub(crate) fn receive(&mut self, step: FetchStep)
+        ensures { self.new ≡ receiver_did step self.old }
+    {
+        match step {
+            FetchStep::Take(Next::Entry(_, to) | Next::Rotate(to)) => {
+                self.read = to;
+            }
+            FetchStep::Refuse(_) => {
+                self.receiver = false;
+            }
+            FetchStep::Halt | FetchStep::Unlinked | FetchStep::Take(Next::End) => {}
+        }
+    }
+
+    /// The applier does its step.
+    pub(crate) fn apply(&mut self, step: ApplyStep)
+        requires ready { IsReady (Some self.old) step }
+        requires fit { IsFit self.old }
+        ensures { self.new ≡ applier_did step self.old }
+    {
+        match step {
+            ApplyStep::Halt | ApplyStep::Idle | ApplyStep::NoRoom => {}
+            ApplyStep::ForgetUntil => {
+                self.applier = false;
+                self.until = None;
+            }
+            ApplyStep::Pass(to) | ApplyStep::Skip(to) => {
+                self.exec = to;
+            }
+            ApplyStep::Execute(t, to) => {
+                self.take(t);
+                self.exec = to;
+            }
         }
     }
 

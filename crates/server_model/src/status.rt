@@ -1,13 +1,24 @@
 //! What orchestrator sees of a server in one exchange.
 
-ghost use Rattle.std.specs.Prelude.{◌≡◌};
+ghost use Rattle.std.specs.Prelude.{◌≡◌, option_and_then, slice_get};
 ghost use Rattle.std.specs.Option.{option_copied};
 ghost use Rattle.server_model.specs.Gtids.{io_of, status_of};
+ghost use Rattle.server_model.specs.Worlds.{source_no};
 
 use crate::Server;
 use gtid_sets::GtidSet;
-use orch_base::IoState;
+use orch_base::{IoState, SourceState};
 use server_words::Status;
+
+/// The server that one with this source is attached to or detached from.
+pub(crate) fn above(servers: &[Server], source: SourceState) -> Option<&Server>
+    ensures { option_copied result ≡ option_and_then (λ m. slice_get servers.now m) (source_no source) }
+{
+    match source {
+        SourceState::Attached(m) | SourceState::Detached(m) => servers.get(m.0 as usize),
+        SourceState::Without => None,
+    }
+}
 
 fn io_of(r: &Server, source: Option<&Server>) -> IoState
     ensures { result ≡ io_of r.now (option_copied source.entry) }

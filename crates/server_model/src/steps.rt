@@ -1,15 +1,14 @@
 //! What a receiver and an applier are to do next.
 
 ghost use Rattle.std.specs.Prelude.{◌≡◌, ◌<◌, ◌≤◌, All, Some, true, ◌==◌, ◌&&◌, if◌then◌else◌};
-ghost use Rattle.binlog_coords.specs.Log.{has_place, same_coord};
-ghost use Rattle.server_model.specs.Exchanges.{applied, apply_answer, fetch_answer, fetch_from, is_applying, is_attached, is_reached, is_receiving, IsReady};
-ghost use Rattle.server_model.specs.Desk.{empties};
+ghost use Rattle.binlog_coords.specs.Log.{has_place};
+ghost use Rattle.server_model.specs.Exchanges.{applied, apply_answer, apply_from, fetch_answer, fetch_from, is_applying, is_attached, is_reached, is_receiving, IsReady};
 ghost use Rattle.server_model.specs.Worlds.{has_source};
 ghost use Rattle.server_model.specs.Gtids.{uuids_in, TellsExecuted};
-ghost use Rattle.server_model.specs.Links.{relay_step, step_to, HasSize};
+ghost use Rattle.server_model.specs.Fit.{HasSize};
 
 use crate::gtids::uuid_of;
-use crate::{ApplyAnswer, ApplyStep, Ask, FetchAnswer, FetchStep, Relay, Server};
+use crate::{ApplyAnswer, ApplyStep, FetchAnswer, FetchStep, Server};
 use binlog_coords::{Coord, Next};
 use gtid_sets::ReservedSet;
 use orch_base::{ServerNo, SourceState, Txn};
@@ -25,18 +24,6 @@ pub(crate) fn is_reachable(s: &Server) -> bool
     ensures { result ≡ (s.now.up && s.now.desk) }
 {
     s.up && s.desk
-}
-
-/// Whether what is asked of the server empties its relay log.
-pub(crate) fn empties(ask: Ask, s: &Server) -> bool
-    ensures { result ≡ empties ask s.now }
-{
-    match ask {
-        Ask::Detach => is_attached(s.source),
-        Ask::Reset => true,
-        Ask::Stop(_) | Ask::Start | Ask::StartUntil(_) | Ask::Reattach | Ask::SetReadOnly(_) =>
-            false,
-    }
 }
 
 /// Whether the receiver of a replica is on.
@@ -69,7 +56,7 @@ pub(crate) fn is_reached(until: Option<Coord>, exec: Coord) -> bool
 {
     match until {
         None => false,
-        Some(until) => until.file < exec.file || (until.file == exec.file && until.pos <= exec.pos),
+        Some(until) => until.is_at_or_before(exec),
     }
 }
 
@@ -122,45 +109,24 @@ pub(crate) fn apply_answer(step: ApplyStep) -> ApplyAnswer
     }
 }
 
-fn same_coord(c: Coord, d: Coord) -> bool
-    ensures { result ≡ same_coord c d }
-{
-    c.file == d.file && c.pos == d.pos
-}
-
-/// What follows `c` where this transaction is the next to be executed.
-fn step_to(c: Coord, entry: Option<(u64, Coord)>) -> Next
-    requires { c.file < 4294967295 }
-    ensures { result ≡ step_to c entry }
-{
-    match entry {
-        Some((index, to)) if to.file == c.file => Next::Entry(index, to),
-        _ => Next::Rotate(Coord {
-            file: c.file + 1,
-            pos: 4,
-        }),
-    }
-}
-
 /// What the applier of `r`, which is on and isn't where it is to stop, is to do under its source `s`.
-pub(crate) fn relay_step(
+pub(crate) fn applier_step(
     gtid: bool,
     r: &Server,
     s: &Server,
-    relay: &Relay,
     servers: &[Server],
     executed: &ReservedSet,
 ) -> ApplyStep
+    requires place { has_place s.now.log.log r.now.exec ≡ true }
     requires sizes { All HasSize s.now.history.txns }
     requires told { TellsExecuted gtid (uuids_in servers.now) executed.now.intervals r.now s.now }
-    requires file { r.now.exec.file < 4294967295 }
-    ensures step { result ≡ relay_step gtid r.now s.now relay.now.entries }
+    ensures step { result ≡ apply_from gtid r.now (Some s.now) }
     ensures ready { IsReady (Some r.now) result }
 {
-    if same_coord(r.exec, r.read) {
+    if r.exec.is_same(r.read) {
         return ApplyStep::Idle;
     }
-    let next = step_to(r.exec, relay.front());
+    let next = s.log.next_after(r.exec);
     applied(gtid, r, s, next, servers, executed)
 }
 

@@ -17,15 +17,15 @@ use crate::gtids::{
     auto_readiness, executed_sets, held_len, keep_gtid, keep_gtids, kept_coord, purged_len,
     purged_sets, uuid_of,
 };
-use crate::ledgers::{above, ledgers_of, most_room};
+use crate::own::own_counts;
 use crate::purging::kept_from;
-use crate::status::status_of;
+use crate::status::{above, status_of};
 use crate::steps::{
-    apply_answer, empties, errant_writes, fetch_answer, is_applying, is_reachable, is_reached,
-    is_receiving, own_of, receiver_step, relay_step,
+    applier_step, apply_answer, errant_writes, fetch_answer, is_applying, is_reachable, is_reached,
+    is_receiving, own_of, receiver_step,
 };
 use crate::{
-    ApplyAnswer, ApplyStep, Ask, AttachFault, Event, FetchAnswer, FetchStep, Ledger, Link, Plain,
+    ApplyAnswer, ApplyStep, Ask, AttachFault, Event, FetchAnswer, FetchStep, Link, Plain,
     PurgeAnswer, RotateAnswer, Server, Spot, Status, StatusFault, Threads, Unreachable,
     WriteAnswer,
 };
@@ -39,7 +39,8 @@ use std::marker::Model;
 #[derive(Drop)]
 pub struct World {
     servers: Vec<Server>,
-    ledgers: Vec<Ledger>,
+    // How many transactions of its own each server has executed.
+    own: Vec<u64>,
     // The GTIDs of what each server has executed, where they are used.
     executed: Vec<ReservedSet>,
     // The GTIDs of what stands in the purged files of each server's log, where they are used.
@@ -67,13 +68,12 @@ impl World {
         requires { CanStand servers.items }
         ensures { IfOk result (λ w. w ≡ world_with servers.items gtid) }
     {
-        let room = most_room(&servers);
-        let ledgers = ledgers_of(alloc, &servers, room)?;
+        let own = own_counts(alloc, &servers)?;
         let executed = executed_sets(alloc, &servers, gtid)?;
         let purged = purged_sets(alloc, &servers, gtid)?;
         Ok(World {
             servers,
-            ledgers,
+            own,
             executed,
             purged,
             gtid,
@@ -177,9 +177,8 @@ impl World {
         if s.history.room() <= s.history.len() {
             return WriteAnswer::Full;
         }
-        let l = &mut self.ledgers[n];
-        let seq = l.own + 1;
-        l.own = seq;
+        let seq = self.own[n] + 1;
+        self.own[n] = seq;
         let executed = &mut self.executed[n];
         keep_gtid(executed, self.gtid, s.settings.uuid, seq);
         self.errant += errant_writes(s.source);
@@ -198,12 +197,8 @@ impl World {
         ensures world { self.new ≡ after_fetch self.old no.0 (server_at self.old no.0) (fetch_step self.old (server_at self.old no.0)) }
     {
         let step = self.fetch_step(no);
-        match step {
-            FetchStep::Take(Next::Entry(index, to)) => self.receive(no, index, to),
-            FetchStep::Take(Next::Rotate(to)) => self.turn_to(no, to),
-            FetchStep::Refuse(first) => self.refuse(no, first),
-            FetchStep::Halt | FetchStep::Unlinked | FetchStep::Take(Next::End) => {}
-        }
+        let r = &mut self.servers[no.0 as usize];
+        r.receive(step);
         fetch_answer(step)
     }
 
@@ -221,40 +216,6 @@ impl World {
         }
     }
 
-    // The transaction joins the relay log, and the read coordinate moves to its end.
-    fn receive(&mut self, no: ServerNo, index: u64, to: Coord)
-        requires server { no.0 < length self.old.servers }
-        requires step { fetch_step self.old (server_at self.old no.0) ≡ FetchStep.Take (Next.Entry index to) }
-        ensures { self.new ≡ after_fetch self.old no.0 (server_at self.old no.0) (FetchStep.Take (Next.Entry index to)) }
-    {
-        let n = no.0 as usize;
-        let r = &mut self.servers[n];
-        r.read = to;
-        let l = &mut self.ledgers[n];
-        l.relay.push(index, to);
-    }
-
-    // The receiver goes off, since what it is to read is purged.
-    fn refuse(&mut self, no: ServerNo, first: u32)
-        requires server { no.0 < length self.old.servers }
-        requires step { fetch_step self.old (server_at self.old no.0) ≡ FetchStep.Refuse first }
-        ensures { self.new ≡ after_fetch self.old no.0 (server_at self.old no.0) (FetchStep.Refuse first) }
-    {
-        let _ = first;
-        let r = &mut self.servers[no.0 as usize];
-        r.receiver = false;
-    }
-
-    // The read coordinate moves to the source's next file.
-    fn turn_to(&mut self, no: ServerNo, to: Coord)
-        requires server { no.0 < length self.old.servers }
-        requires step { fetch_step self.old (server_at self.old no.0) ≡ FetchStep.Take (Next.Rotate to) }
-        ensures { self.new ≡ after_fetch self.old no.0 (server_at self.old no.0) (FetchStep.Take (Next.Rotate to)) }
-    {
-        let r = &mut self.servers[no.0 as usize];
-        r.read = to;
-    }
-
     /// The applier of a replica executes one step of its relay log.
     pub fn apply(&mut self, no: ServerNo) -> ApplyAnswer
         requires { no.0 < length self.old.servers }
@@ -262,12 +223,14 @@ impl World {
         ensures world { self.new ≡ after_apply self.old no.0 (server_at self.old no.0) (apply_step self.old (server_at self.old no.0)) }
     {
         let step = self.apply_step(no);
-        match step {
-            ApplyStep::Halt | ApplyStep::Idle | ApplyStep::NoRoom => {}
-            ApplyStep::ForgetUntil => self.forget_until(no),
-            ApplyStep::Pass(to) => self.pass(no, to),
-            ApplyStep::Skip(to) => self.skip(no, to),
-            ApplyStep::Execute(t, to) => self.execute(no, t, to),
+        let n = no.0 as usize;
+        let r = &mut self.servers[n];
+        r.apply(step);
+        if let ApplyStep::Execute(t, _) = step {
+            self.own[n] += own_of(no, t);
+            let uuid = uuid_of(&self.servers, t.origin);
+            let executed = &mut self.executed[n];
+            keep_gtid(executed, self.gtid, uuid, t.seq);
         }
         apply_answer(step)
     }
@@ -287,63 +250,8 @@ impl World {
         }
         match self.source_of(r.source) {
             None => ApplyStep::Idle,
-            Some(s) => {
-                let relay = &self.ledgers[n].relay;
-                relay_step(self.gtid, r, s, relay, &self.servers, &self.executed[n])
-            }
+            Some(s) => applier_step(self.gtid, r, s, &self.servers, &self.executed[n]),
         }
-    }
-
-    // The applier stops, and how far it was to go is forgotten.
-    fn forget_until(&mut self, no: ServerNo)
-        requires server { no.0 < length self.old.servers }
-        ensures { self.new ≡ after_apply self.old no.0 (server_at self.old no.0) ApplyStep.ForgetUntil }
-    {
-        let r = &mut self.servers[no.0 as usize];
-        r.applier = false;
-        r.until = None;
-    }
-
-    // The executed coordinate moves to the source's next file.
-    fn pass(&mut self, no: ServerNo, to: Coord)
-        requires server { no.0 < length self.old.servers }
-        requires step { apply_step self.old (server_at self.old no.0) ≡ ApplyStep.Pass to }
-        ensures { self.new ≡ after_apply self.old no.0 (server_at self.old no.0) (ApplyStep.Pass to) }
-    {
-        let r = &mut self.servers[no.0 as usize];
-        r.exec = to;
-    }
-
-    // The executed coordinate passes the first transaction of the relay log.
-    fn skip(&mut self, no: ServerNo, to: Coord)
-        requires server { no.0 < length self.old.servers }
-        requires step { apply_step self.old (server_at self.old no.0) ≡ ApplyStep.Skip to }
-        ensures { self.new ≡ after_apply self.old no.0 (server_at self.old no.0) (ApplyStep.Skip to) }
-    {
-        let n = no.0 as usize;
-        let r = &mut self.servers[n];
-        r.exec = to;
-        let l = &mut self.ledgers[n];
-        l.relay.pop();
-    }
-
-    // The server executes the first transaction of its relay log.
-    fn execute(&mut self, no: ServerNo, t: Txn, to: Coord)
-        requires server { no.0 < length self.old.servers }
-        requires step { apply_step self.old (server_at self.old no.0) ≡ ApplyStep.Execute t to }
-        requires ready { IsReady (server_at self.old no.0) (ApplyStep.Execute t to) }
-        ensures { self.new ≡ after_apply self.old no.0 (server_at self.old no.0) (ApplyStep.Execute t to) }
-    {
-        let n = no.0 as usize;
-        let uuid = uuid_of(&self.servers, t.origin);
-        let r = &mut self.servers[n];
-        r.take(t);
-        r.exec = to;
-        let l = &mut self.ledgers[n];
-        l.relay.pop();
-        l.own += own_of(no, t);
-        let executed = &mut self.executed[n];
-        keep_gtid(executed, self.gtid, uuid, t.seq);
     }
 
     // The server that a replica is attached to.
@@ -426,15 +334,11 @@ impl World {
         ensures answer { result ≡ desk_answer (server_at self.old no.0) }
         ensures world { self.new ≡ (ask_of self.old no.0 ask).1 }
     {
-        let n = no.0 as usize;
-        let s = &mut self.servers[n];
+        let s = &mut self.servers[no.0 as usize];
         if !is_reachable(s) {
             return Err(Unreachable);
         }
-        let all = empties(ask, s);
         s.ask(ask);
-        let l = &mut self.ledgers[n];
-        l.relay.clear_if(all);
         Ok(())
     }
 
@@ -558,11 +462,8 @@ impl World {
             Err(fault) => return Err(fault),
             Ok(()) => {}
         }
-        let n = no.0 as usize;
-        let s = &mut self.servers[n];
+        let s = &mut self.servers[no.0 as usize];
         s.attach(to, at);
-        let l = &mut self.ledgers[n];
-        l.relay.clear_if(true);
         Ok(())
     }
 
@@ -631,11 +532,8 @@ impl World {
         ensures world { self.new ≡ after_attach_auto self.old no.0 to (server_at self.old no.0) result }
     {
         let at = self.auto_place(alloc, no, observed, to)?;
-        let n = no.0 as usize;
-        let s = &mut self.servers[n];
+        let s = &mut self.servers[no.0 as usize];
         s.attach_auto(to, at);
-        let l = &mut self.ledgers[n];
-        l.relay.clear_if(true);
         Ok(())
     }
 

@@ -11,7 +11,7 @@ use Rattle.orch_base.specs.declared.server.Txn.{Txn}
 use Rattle.openings.specs.declared.init.ServerInit.{ServerInit}
 use Rattle.openings.specs.Logs.{flushed_times, flushed_at, laid_after, laid}
 use Rattle.openings.specs.Servers.{log_by}
-use Rattle.server_model.specs.Links.{HasSize}
+use Rattle.server_model.specs.Fit.{HasSize}
 use Rattle.server_model.proofs.LogSizes.{length-push, files-push}
 
 entries-flushed_times : (n : ℕ) (log : Log) → length (flushed_times n log).entries ≡ length log.entries

@@ -20,7 +20,7 @@ use Rattle.openings.proofs.ListedCounts.{length-listed_history}
 use Rattle.openings.proofs.ServerHistories.{history_of, history_numbered}
 use Rattle.openings.proofs.Soundness.{sound_checked}
 use Rattle.server_model.specs.Gtids.{IsNumbered}
-use Rattle.server_model.specs.Links.{HasSize, IsFit}
+use Rattle.server_model.specs.Fit.{HasSize, IsFit}
 use Rattle.server_model.specs.Standing.{IsServer, IsSourceOf, CanStand}
 use Rattle.server_model.specs.Worlds.{source_no, KeepsFrom}
 use Rattle.server_model.specs.declared.server.Server.{Server}

@@ -5,55 +5,46 @@ use Rattle.server_model.specs.Worlds.{World, server_at}
 use Rattle.server_model.specs.Exchanges.{apply_from}
 use Rattle.server_model.proofs.Lists.{slice_get-index}
 use Rattle.server_model.proofs.Fetched.{attached_from}
-use Rattle.server_model.proofs.Applied.{apply_step-on, relay_step-is, file-small, ready_at}
+use Rattle.server_model.proofs.Applied.{apply_step-on, ready_at}
 use Rattle.std.proofs.Common.{List}
 use Rattle.server_model.specs.Gtids.{uuids_in, TellsExecuted}
 use Rattle.server_model.specs.declared.server.Server.{Server}
 use Rattle.server_model.proofs.ExecutedSets.{tells}
 use Rattle.server_model.proofs.world.World.apply_step.Goals as goal
 
-pub relay_step-requires-clause-file : goal.relay_step-requires-clause-file
-relay_step-requires-clause-file c =
+pub applier_step-requires-clause-place : goal.applier_step-requires-clause-place
+applier_step-requires-clause-place c =
     let within : c.args.no.0 < length c.self.inside.servers.items = subst (λ (w : World). c.args.no.0 < length w.servers) (sym c.self.view_is) c.requires in
-    let beyond : c.args.no.0 < length c.self.inside.ledgers.items = let e = c.self.invariant.kept.paired in omega arith in
     let here = slice_get-index c.self.inside.servers.items c.args.no.0 c.index-r.result.now within c.index-r.ensures in
-    let beside = slice_get-index c.self.inside.ledgers.items c.args.no.0 c.index.result.now beyond c.index.ensures in
     let source = attached_from c.args.self.now c.index-r.result.now.source c.in-Some.s.now (sym c.source_of.ensures ∙ ap option_copied c.in-Some.is) in
     let at : slice_get c.self.inside.servers.items source.number ≡ Some c.in-Some.s.now = subst (λ (w : World). server_at w source.number ≡ Some c.in-Some.s.now) (sym c.self.view_is) source.at in
-    file-small c.index-r.result.now c.in-Some.s.now c.index.result.now (c.self.invariant.kept.fit source.number c.in-Some.s.now at)
-    (c.self.invariant.kept.linked c.args.no.0 source.number c.index-r.result.now c.in-Some.s.now c.index.result.now here source.from at beside)
+    (c.self.invariant.kept.places c.args.no.0 source.number c.index-r.result.now c.in-Some.s.now here source.from at).exec
 
-pub relay_step-requires-clause-told : goal.relay_step-requires-clause-told
-relay_step-requires-clause-told c =
+pub applier_step-requires-clause-told : goal.applier_step-requires-clause-told
+applier_step-requires-clause-told c =
     let within : c.args.no.0 < length c.self.inside.servers.items = subst (λ (w : World). c.args.no.0 < length w.servers) (sym c.self.view_is) c.requires in
     let beyond : c.args.no.0 < length c.self.inside.executed.items = let e = c.self.invariant.gtids.paired in omega arith in
     let here = slice_get-index c.self.inside.servers.items c.args.no.0 c.index-r.result.now within c.index-r.ensures in
-    let beside = slice_get-index c.self.inside.executed.items c.args.no.0 c.index-in-Some.result.now beyond c.index-in-Some.ensures in
+    let beside = slice_get-index c.self.inside.executed.items c.args.no.0 c.index.result.now beyond c.index.ensures in
     let source = attached_from c.args.self.now c.index-r.result.now.source c.in-Some.s.now (sym c.source_of.ensures ∙ ap option_copied c.in-Some.is) in
     let at : slice_get c.self.inside.servers.items source.number ≡ Some c.in-Some.s.now = subst (λ (w : World). server_at w source.number ≡ Some c.in-Some.s.now) (sym c.self.view_is) source.at in
-    subst (λ (xs : List Server). TellsExecuted c.self.inside.gtid (uuids_in xs) c.index-in-Some.result.now.intervals c.index-r.result.now c.in-Some.s.now) (sym c.deref.ensures.value)
-    (tells c.self.inside.servers.items c.self.inside.executed.items c.self.inside.purged.items c.self.inside.gtid source.number c.args.no.0 c.index-r.result.now c.in-Some.s.now c.index-in-Some.result.now c.self.invariant.gtids here at beside)
+    subst (λ (xs : List Server). TellsExecuted c.self.inside.gtid (uuids_in xs) c.index.result.now.intervals c.index-r.result.now c.in-Some.s.now) (sym c.deref.ensures.value)
+    (tells c.self.inside.servers.items c.self.inside.executed.items c.self.inside.purged.items c.self.inside.gtid source.number c.args.no.0 c.index-r.result.now c.in-Some.s.now c.index.result.now c.self.invariant.gtids here at beside)
 
 pub returns-in-Some-clause-step : goal.returns-in-Some-clause-step
 returns-in-Some-clause-step c =
     let within : c.args.no.0 < length c.self.inside.servers.items = subst (λ (w : World). c.args.no.0 < length w.servers) (sym c.self.view_is) c.requires in
-    let beyond : c.args.no.0 < length c.self.inside.ledgers.items = let e = c.self.invariant.kept.paired in omega arith in
     let here = slice_get-index c.self.inside.servers.items c.args.no.0 c.index-r.result.now within c.index-r.ensures in
-    let beside = slice_get-index c.self.inside.ledgers.items c.args.no.0 c.index.result.now beyond c.index.ensures in
-    let is = sym c.source_of.ensures ∙ ap option_copied c.in-Some.is in
-    let source = attached_from c.args.self.now c.index-r.result.now.source c.in-Some.s.now is in
-    let at : slice_get c.self.inside.servers.items source.number ≡ Some c.in-Some.s.now = subst (λ (w : World). server_at w source.number ≡ Some c.in-Some.s.now) (sym c.self.view_is) source.at in
-    c.relay_step.ensures.step
-    ∙ relay_step-is c.self.inside.gtid c.index-r.result.now c.in-Some.s.now c.index.result.now (c.self.invariant.kept.fit source.number c.in-Some.s.now at)
-    (c.self.invariant.kept.linked c.args.no.0 source.number c.index-r.result.now c.in-Some.s.now c.index.result.now here source.from at beside)
+    c.applier_step.ensures.step
     ∙ ap (λ (w : World). apply_from w.gtid c.index-r.result.now (Some c.in-Some.s.now)) c.self.view_is
     ∙ sym (apply_step-on c.args.self.now c.args.no.0 c.index-r.result.now (Some c.in-Some.s.now)
     (subst (λ (w : World). server_at w c.args.no.0 ≡ Some c.index-r.result.now) c.self.view_is here)
-    (sym c.is_applying.ensures ∙ c.if-not-is_applying.false) (sym c.is_reached.ensures ∙ c.if-is_reached.false) is)
+    (sym c.is_applying.ensures ∙ c.if-not-is_applying.false) (sym c.is_reached.ensures ∙ c.if-is_reached.false)
+    (sym c.source_of.ensures ∙ ap option_copied c.in-Some.is))
 
 pub returns-in-Some-clause-ready : goal.returns-in-Some-clause-ready
 returns-in-Some-clause-ready c =
     let within : c.args.no.0 < length c.self.inside.servers.items = subst (λ (w : World). c.args.no.0 < length w.servers) (sym c.self.view_is) c.requires in
     let here = slice_get-index c.self.inside.servers.items c.args.no.0 c.index-r.result.now within c.index-r.ensures in
-    ready_at c.args.self.now c.args.no.0 c.index-r.result.now c.relay_step.result
-    (subst (λ (w : World). server_at w c.args.no.0 ≡ Some c.index-r.result.now) c.self.view_is here) c.relay_step.ensures.ready
+    ready_at c.args.self.now c.args.no.0 c.index-r.result.now c.applier_step.result
+    (subst (λ (w : World). server_at w c.args.no.0 ≡ Some c.index-r.result.now) c.self.view_is here) c.applier_step.ensures.ready

@@ -1,11 +1,9 @@
-use Rattle.std.proofs.Common.{◌≡◌, ◌<◌, length, Some, arith, subst, sym, ◌∙◌}
+use Rattle.std.proofs.Common.{◌≡◌, ◌<◌, length, Some, subst, sym, ◌∙◌}
 use Rattle.server_model.specs.Worlds.{World, server_at}
 use Rattle.server_model.proofs.Lists.{slice_get-index}
-use Rattle.server_model.proofs.Changed.{moved-asked, purged-moved, IsKept-moved, desk-reached, desk-unreached, asked-left, unasked-left}
-use Rattle.std.proofs.Common.{ap}
-use Rattle.binlog_coords.specs.Index.{Index}
+use Rattle.server_model.proofs.Changed.{moved-asked, AreGtids-untouched, IsKept-moved, desk-reached, desk-unreached, asked-left, unasked-left}
 use Rattle.server_model.specs.Desk.{asked}
-use Rattle.server_model.proofs.ExecutedSets.{AreGtids-still}
+use Rattle.server_model.proofs.OwnCounts.{own-still}
 use Rattle.server_model.proofs.world.World.ask.Goals as goal
 
 pub returns-then-not-is_reachable-clause-world : goal.returns-then-not-is_reachable-clause-world
@@ -19,16 +17,14 @@ returns-then-not-is_reachable-clause-world c =
 pub invariant_of-self-2 : goal.invariant_of-self-2
 invariant_of-self-2 c =
     let within : c.args.no.0 < length c.self.inside.servers.items = subst (λ (w : World). c.args.no.0 < length w.servers) (sym c.self.view_is) c.requires in
-    let beyond : c.args.no.0 < length c.self.inside.ledgers.items = let e = c.self.invariant.kept.paired in omega arith in
     let here = slice_get-index c.self.inside.servers.items c.args.no.0 c.index_mut-s.result.now within c.index_mut-s.ensures.value in
-    let beside = slice_get-index c.self.inside.ledgers.items c.args.no.0 c.index_mut-l.result.now beyond c.index_mut-l.ensures.value in
     let moved = moved-asked c.index_mut-s.result.now c.args.ask in
     record {
-      kept = rw (c.ask.ensures, c.clear_if.ensures, c.empties-all.ensures)
-          (IsKept-moved c.self.inside.servers.items c.self.inside.ledgers.items c.self.inside.errant c.args.no.0 c.index_mut-s.result.now c.self.invariant.kept here
-          _ _ c.index_mut-l.result.now beside moved);
-      gtids = rw c.ask.ensures (AreGtids-still c.self.inside.servers.items c.self.inside.executed.items c.self.inside.purged.items c.self.inside.gtid c.args.no.0 c.index_mut-s.result.now (asked c.args.ask c.index_mut-s.result.now) c.self.invariant.gtids here moved.settings moved.history (ap (λ (i : Index). length i.log.entries) moved.log)
-          (purged-moved c.index_mut-s.result.now _ _ moved));
+      kept = rw c.ask.ensures
+          (IsKept-moved c.self.inside.servers.items c.self.inside.errant c.args.no.0 c.index_mut-s.result.now c.self.invariant.kept here
+          _ moved);
+      own = rw c.ask.ensures (own-still c.self.inside.servers.items c.self.inside.own.items c.args.no.0 c.index_mut-s.result.now _ c.self.invariant.own here moved.same.history);
+      gtids = rw c.ask.ensures (AreGtids-untouched c.self.inside.servers.items c.self.inside.executed.items c.self.inside.purged.items c.self.inside.gtid c.args.no.0 c.index_mut-s.result.now (asked c.args.ask c.index_mut-s.result.now) c.self.invariant.gtids here moved.same);
     }
 
 pub returns-clause-answer : goal.returns-clause-answer

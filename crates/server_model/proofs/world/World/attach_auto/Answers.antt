@@ -1,4 +1,4 @@
-use Rattle.std.proofs.Common.{◌≡◌, ◌<◌, length, Some, arith, subst, sym, ap, ◌∙◌, refl, true}
+use Rattle.std.proofs.Common.{◌≡◌, ◌<◌, length, Some, subst, sym, ap, ◌∙◌, refl, true}
 use Rattle.std.specs.Prelude.{slice_get}
 use Rattle.binlog_coords.specs.Log.{has_place}
 use Rattle.server_model.specs.Gtids.{attached_auto, uuids}
@@ -7,14 +7,13 @@ use Rattle.server_model.proofs.Lists.{slice_get-index}
 use Rattle.server_model.proofs.Changed.{IsKept-attached}
 use Rattle.server_model.proofs.AutoAttached.{auto-apart, auto-placed, auto-coord-at, auto-left}
 use Rattle.server_model.proofs.ExecutedSets.{AreGtids-still}
+use Rattle.server_model.proofs.OwnCounts.{own-still}
 use Rattle.server_model.proofs.world.World.attach_auto.Goals as goal
 
 pub invariant_of-self : goal.invariant_of-self
 invariant_of-self c =
     let within : c.args.no.0 < length c.self.inside.servers.items = subst (λ (w : World). c.args.no.0 < length w.servers) (sym c.self.view_is) c.requires.server in
-    let beyond : c.args.no.0 < length c.self.inside.ledgers.items = let e = c.self.invariant.kept.paired in omega arith in
     let here = slice_get-index c.self.inside.servers.items c.args.no.0 c.index_mut-s.result.now within c.index_mut-s.ensures.value in
-    let beside = slice_get-index c.self.inside.ledgers.items c.args.no.0 c.index_mut-l.result.now beyond c.index_mut-l.ensures.value in
     let target = c.requires.target.target in
     let there : slice_get c.self.inside.servers.items c.args.to.0 ≡ Some target = subst (λ (w : World). server_at w c.args.to.0 ≡ Some target) (sym c.self.view_is) c.requires.target.there in
     let at = auto-coord-at c.args.self.now c.args.no.0 c.args.to.0 c.in_ok-at.at c.index_mut-s.result.now target
@@ -25,9 +24,11 @@ invariant_of-self c =
     let apart = auto-apart c.args.self.now c.self.inside.servers.items c.self.inside.gtid c.self.inside.errant c.args.no.0 c.args.observed.now c.args.to.0 c.index_mut-s.result.now c.self.view_is here
     c.in_ok-at.ensures.answer in
     record {
-      kept = rw (c.attach_auto.ensures, c.clear_if.ensures)
-          (IsKept-attached true c.self.inside.servers.items c.self.inside.ledgers.items c.self.inside.errant c.args.no.0 c.index_mut-s.result.now c.index_mut-l.result.now c.args.to c.in_ok-at.at target
-          c.self.invariant.kept here beside there placed apart);
+      kept = rw c.attach_auto.ensures
+          (IsKept-attached true c.self.inside.servers.items c.self.inside.errant c.args.no.0 c.index_mut-s.result.now c.args.to c.in_ok-at.at target
+          c.self.invariant.kept here there placed apart);
+      own = rw c.attach_auto.ensures
+          (own-still c.self.inside.servers.items c.self.inside.own.items c.args.no.0 c.index_mut-s.result.now (attached_auto c.args.to c.in_ok-at.at c.index_mut-s.result.now) c.self.invariant.own here refl);
       gtids = rw c.attach_auto.ensures
           (AreGtids-still c.self.inside.servers.items c.self.inside.executed.items c.self.inside.purged.items c.self.inside.gtid c.args.no.0 c.index_mut-s.result.now
           (attached_auto c.args.to c.in_ok-at.at c.index_mut-s.result.now) c.self.invariant.gtids here refl refl refl refl);

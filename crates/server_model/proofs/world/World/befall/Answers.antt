@@ -1,11 +1,9 @@
 use Rattle.std.proofs.Common.{◌<◌, length, subst, sym}
 use Rattle.server_model.specs.Worlds.{World}
 use Rattle.server_model.proofs.Lists.{slice_get-index}
-use Rattle.server_model.proofs.Changed.{moved-befallen, purged-moved, IsKept-still, befallen-left}
-use Rattle.std.proofs.Common.{ap}
-use Rattle.binlog_coords.specs.Index.{Index}
+use Rattle.server_model.proofs.Changed.{moved-befallen, AreGtids-untouched, IsKept-moved, befallen-left}
 use Rattle.server_model.specs.Desk.{befallen}
-use Rattle.server_model.proofs.ExecutedSets.{AreGtids-still}
+use Rattle.server_model.proofs.OwnCounts.{own-still}
 use Rattle.server_model.proofs.world.World.befall.Goals as goal
 
 pub invariant_of-self : goal.invariant_of-self
@@ -15,10 +13,10 @@ invariant_of-self c =
     let moved = moved-befallen c.index_mut-s.result.now c.args.event in
     record {
       kept = rw c.befall.ensures
-          (IsKept-still c.self.inside.servers.items c.self.inside.ledgers.items c.self.inside.errant c.args.no.0 c.index_mut-s.result.now c.self.invariant.kept here
+          (IsKept-moved c.self.inside.servers.items c.self.inside.errant c.args.no.0 c.index_mut-s.result.now c.self.invariant.kept here
           _ moved);
-      gtids = rw c.befall.ensures (AreGtids-still c.self.inside.servers.items c.self.inside.executed.items c.self.inside.purged.items c.self.inside.gtid c.args.no.0 c.index_mut-s.result.now (befallen c.args.event c.index_mut-s.result.now) c.self.invariant.gtids here moved.settings moved.history (ap (λ (i : Index). length i.log.entries) moved.log)
-          (purged-moved c.index_mut-s.result.now _ _ moved));
+      own = rw c.befall.ensures (own-still c.self.inside.servers.items c.self.inside.own.items c.args.no.0 c.index_mut-s.result.now _ c.self.invariant.own here moved.same.history);
+      gtids = rw c.befall.ensures (AreGtids-untouched c.self.inside.servers.items c.self.inside.executed.items c.self.inside.purged.items c.self.inside.gtid c.args.no.0 c.index_mut-s.result.now (befallen c.args.event c.index_mut-s.result.now) c.self.invariant.gtids here moved.same);
     }
 
 pub returns : goal.returns

@@ -3,7 +3,7 @@ use Rattle.std.specs.Prelude.{slice_get}
 use Rattle.std.specs.Option.{option_copied}
 use Rattle.server_model.specs.Worlds.{World, server_at}
 use Rattle.server_model.proofs.Lists.{slice_get-index}
-use Rattle.server_model.proofs.Fetched.{attached_from, fetch_step-on, has_place-read}
+use Rattle.server_model.proofs.Fetched.{attached_from, fetch_step-on}
 use Rattle.server_model.proofs.world.World.fetch_step.Goals as goal
 
 pub receiver_step-requires : goal.receiver_step-requires
@@ -12,8 +12,7 @@ receiver_step-requires c =
     let here = slice_get-index c.self.inside.servers.items c.args.no.0 c.index-r.result.now within c.index-r.ensures in
     let source = attached_from c.args.self.now c.index-r.result.now.source c.in-Some.s.now (sym c.source_of.ensures ∙ ap option_copied c.in-Some.is) in
     let at : slice_get c.self.inside.servers.items source.number ≡ Some c.in-Some.s.now = subst (λ (w : World). server_at w source.number ≡ Some c.in-Some.s.now) (sym c.self.view_is) source.at in
-    has_place-read c.self.inside.servers.items c.self.inside.ledgers.items c.self.inside.errant c.args.no.0 source.number c.index-r.result.now c.in-Some.s.now
-    c.self.invariant.kept here source.from at
+    (c.self.invariant.kept.places c.args.no.0 source.number c.index-r.result.now c.in-Some.s.now here source.from at).read
 
 pub returns-in-None : goal.returns-in-None
 returns-in-None c =

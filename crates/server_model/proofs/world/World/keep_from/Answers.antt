@@ -10,6 +10,7 @@ use Rattle.server_model.specs.declared.server.Server.{Server}
 use Rattle.server_model.proofs.Changed.{IsKept-purged, purged-left}
 use Rattle.server_model.proofs.ExecutedSets.{purged_with, purge-room, uuids_in-set, AreGtids-purged}
 use Rattle.server_model.proofs.Lists.{set_same, slice_get-index}
+use Rattle.server_model.proofs.OwnCounts.{own-still}
 use Rattle.server_model.proofs.PurgedFiles.{from_file, newly_purged, purged_len-later, purged_len-rises}
 use Rattle.server_model.proofs.world.World.keep_from.Goals as goal
 
@@ -156,7 +157,8 @@ invariant_of-self c =
     let kept : c.keep_gtids.new.kept ≡ purged_with c.self.inside.gtid (uuids_in c.deref.result.now) (newly_purged c.args.first c.index_mut-s.result.now) c.index_mut-purged.result.now =
     c.keep_gtids.ensures ∙ ap (λ (ts : List Txn). purged_with c.self.inside.gtid (uuids_in c.deref.result.now) ts c.index_mut-purged.result.now) newly in
     record {
-      kept = IsKept-purged c.self.inside.servers.items c.self.inside.ledgers.items c.self.inside.errant c.args.no.0 c.index_mut-s.result.now c.self.invariant.kept here c.args.first file.0 file.1 logs;
+      kept = IsKept-purged c.self.inside.servers.items c.self.inside.errant c.args.no.0 c.index_mut-s.result.now c.self.invariant.kept here c.args.first file.0 file.1 logs;
+      own = own-still c.self.inside.servers.items c.self.inside.own.items c.args.no.0 c.index_mut-s.result.now (from_file c.args.first c.index_mut-s.result.now) c.self.invariant.own here refl;
       gtids = rw kept
           (AreGtids-purged c.self.inside.servers.items c.self.inside.executed.items c.self.inside.purged.items c.self.inside.gtid c.args.no.0 c.index_mut-s.result.now c.index_mut-purged.result.now c.args.first
           (uuids_in c.deref.result.now) c.self.invariant.gtids here beside same rises);

@@ -7,6 +7,7 @@ use Rattle.server_model.proofs.Lists.{slice_get-index}
 use Rattle.server_model.proofs.Changed.{IsKept-rotated, rotated-left, rotate-answered}
 use Rattle.std.proofs.Common.{refl}
 use Rattle.server_model.proofs.ExecutedSets.{AreGtids-still}
+use Rattle.server_model.proofs.OwnCounts.{own-still}
 use Rattle.server_model.proofs.PurgedFiles.{purged_txns-rotated}
 use Rattle.server_model.specs.Desk.{rotated}
 use Rattle.server_model.proofs.world.World.rotate.Goals as goal
@@ -20,7 +21,8 @@ invariant_of-self-2 c =
     let here = slice_get-index c.self.inside.servers.items c.args.no.0 c.index_mut-s.result.now within c.index_mut-s.ensures.value in
     record {
       kept = rw c.rotate.ensures
-          (IsKept-rotated c.self.inside.servers.items c.self.inside.ledgers.items c.self.inside.errant c.args.no.0 c.index_mut-s.result.now c.self.invariant.kept here (omega (arith, left_over c.index_mut-s.result.now.log.flushes (λ e. c.if-flushes_left-eq0.false (c.flushes_left.ensures ∙ e)))));
+          (IsKept-rotated c.self.inside.servers.items c.self.inside.errant c.args.no.0 c.index_mut-s.result.now c.self.invariant.kept here (omega (arith, left_over c.index_mut-s.result.now.log.flushes (λ e. c.if-flushes_left-eq0.false (c.flushes_left.ensures ∙ e)))));
+      own = rw c.rotate.ensures (own-still c.self.inside.servers.items c.self.inside.own.items c.args.no.0 c.index_mut-s.result.now (rotated c.index_mut-s.result.now) c.self.invariant.own here refl);
       gtids = rw c.rotate.ensures (AreGtids-still c.self.inside.servers.items c.self.inside.executed.items c.self.inside.purged.items c.self.inside.gtid c.args.no.0 c.index_mut-s.result.now (rotated c.index_mut-s.result.now) c.self.invariant.gtids here refl refl refl
           (purged_txns-rotated c.index_mut-s.result.now (c.self.invariant.kept.fit c.args.no.0 c.index_mut-s.result.now here)));
     }

@@ -1,93 +1,125 @@
-use Rattle.std.proofs.Common.{◌≡◌, ◌+◌, ◌<◌, length, Some, arith, subst, sym}
-use Rattle.server_model.specs.Worlds.{World, server_at}
-use Rattle.server_model.proofs.Lists.{slice_get-index}
-use Rattle.server_model.proofs.Takes.{IsKept-write, own-small, errant-small}
+use Rattle.std.proofs.Common.{◌≡◌, ◌+◌, ◌<◌, length, refl, Some, arith, subst, sym}
+use Rattle.std.specs.Prelude.{slice_get}
+use Rattle.std.proofs.lemmas.Bool.{eq-eqb}
+use Rattle.orch_base.specs.Histories.{count_own}
 use Rattle.server_model.specs.Exchanges.{own_txn}
 use Rattle.server_model.specs.Gtids.{uuids_in}
-use Rattle.server_model.proofs.ExecutedSets.{AreGtids-took, set-room, uuids_in-at}
-use Rattle.server_model.proofs.Takes.{own-numbered}
+use Rattle.server_model.specs.Worlds.{World, server_at}
 use Rattle.server_model.proofs.Answered.{write-answered, write-left}
+use Rattle.server_model.proofs.ExecutedSets.{AreGtids-took, set-room, uuids_in-at}
+use Rattle.server_model.proofs.Lists.{slice_get-index}
+use Rattle.server_model.proofs.OwnCounts.{length-own, own-at, own-few}
+use Rattle.server_model.proofs.Takes.{errant-small, own-numbered, own-took, IsKept-write}
+use Rattle.server_model.proofs.world.World.write.Goals.{After-index}
 use Rattle.server_model.proofs.world.World.write.Goals as goal
+
+-- the server is there, and this is its count
+record Counts (c : After-index) : Type 0 where
+  here : slice_get c.self.inside.servers.items c.args.no.0 ≡ Some c.index_mut-s.result.now
+  at : slice_get c.self.inside.own.items c.args.no.0 ≡ Some c.index.result.now
+  count : c.index.result.now ≡ count_own c.args.no.0 c.index_mut-s.result.now.history.txns
+
+counts : (c : After-index) → Counts c
+counts c =
+    let servers = c.self.inside.servers.items in
+    let own = c.self.inside.own.items in
+    let n = c.args.no.0 in
+    let s = c.index_mut-s.result.now in
+    let within : n < length servers = subst (λ (w : World). n < length w.servers) (sym c.self.view_is) c.requires.server in
+    let beyond : n < length own = let long = length-own servers own c.self.invariant.own in omega (arith, within, long) in
+    let here = slice_get-index servers n s within c.index_mut-s.ensures.value in
+    let at = slice_get-index own n c.index.result.now beyond c.index.ensures in
+    record { here = here; at = at; count = own-at servers own n c.index.result.now s c.self.invariant.own here at }
+
+pub index-requires : goal.index-requires
+index-requires c =
+    let within : c.args.no.0 < length c.self.inside.servers.items = subst (λ (w : World). c.args.no.0 < length w.servers) (sym c.self.view_is) c.requires.server in
+    let count = length-own c.self.inside.servers.items c.self.inside.own.items c.self.invariant.own in
+    let long = c.self.inside.own.ok.0 in
+    omega (arith, within, count, long)
+
+pub index_mut-requires : goal.index_mut-requires
+index_mut-requires c =
+    let within : c.args.no.0 < length c.self.inside.servers.items = subst (λ (w : World). c.args.no.0 < length w.servers) (sym c.self.view_is) c.requires.server in
+    let count = length-own c.self.inside.servers.items c.self.inside.own.items c.self.invariant.own in
+    let long = c.self.inside.own.ok.0 in
+    omega (arith, within, count, long)
 
 pub overflow_add-seq : goal.overflow_add-seq
 overflow_add-seq c =
-    let within : c.args.no.0 < length c.self.inside.servers.items = subst (λ (w : World). c.args.no.0 < length w.servers) (sym c.self.view_is) c.requires.server in
-    let beyond : c.args.no.0 < length c.self.inside.ledgers.items = let e = c.self.invariant.kept.paired in omega arith in
-    let here = slice_get-index c.self.inside.servers.items c.args.no.0 c.index_mut-s.result.now within c.index_mut-s.ensures.value in
-    let beside = slice_get-index c.self.inside.ledgers.items c.args.no.0 c.index_mut-l.result.now beyond c.index_mut-l.ensures.value in
-    let few = own-small c.self.inside.servers.items c.self.inside.ledgers.items c.self.inside.errant c.args.no.0 c.index_mut-s.result.now c.index_mut-l.result.now c.self.invariant.kept here beside in
-    omega arith
+    let known = counts (goal.at.overflow_add-seq c).After-index in
+    let few = own-few c.args.no.0 c.index.result.now c.index_mut-s.result.now known.count in
+    let fit = c.self.invariant.kept.fit c.args.no.0 c.index_mut-s.result.now known.here in
+    let high = fit.high in
+    let long = fit.within in
+    omega (arith, few, high, long)
 
 pub keep_gtid-requires-clause-few : goal.keep_gtid-requires-clause-few
 keep_gtid-requires-clause-few c =
-    let within : c.args.no.0 < length c.self.inside.servers.items = subst (λ (w : World). c.args.no.0 < length w.servers) (sym c.self.view_is) c.requires.server in
-    let beyond : c.args.no.0 < length c.self.inside.ledgers.items = let e = c.self.invariant.kept.paired in omega arith in
-    let here = slice_get-index c.self.inside.servers.items c.args.no.0 c.index_mut-s.result.now within c.index_mut-s.ensures.value in
-    let beside = slice_get-index c.self.inside.ledgers.items c.args.no.0 c.index_mut-l.result.now beyond c.index_mut-l.ensures.value in
-    let few = own-small c.self.inside.servers.items c.self.inside.ledgers.items c.self.inside.errant c.args.no.0 c.index_mut-s.result.now c.index_mut-l.result.now c.self.invariant.kept here beside in
-    omega arith
+    let known = counts (goal.at.keep_gtid-requires-clause-few c).After-index in
+    let few = own-few c.args.no.0 c.index.result.now c.index_mut-s.result.now known.count in
+    let fit = c.self.invariant.kept.fit c.args.no.0 c.index_mut-s.result.now known.here in
+    let high = fit.high in
+    let long = fit.within in
+    omega (arith, few, high, long)
 
 pub keep_gtid-requires-clause-room : goal.keep_gtid-requires-clause-room
 keep_gtid-requires-clause-room c =
+    let s = c.index_mut-s.result.now in
+    let e = c.index_mut-executed.result.now in
+    let here = (counts (goal.at.keep_gtid-requires-clause-room c).After-index).here in
     let within : c.args.no.0 < length c.self.inside.servers.items = subst (λ (w : World). c.args.no.0 < length w.servers) (sym c.self.view_is) c.requires.server in
-    let here = slice_get-index c.self.inside.servers.items c.args.no.0 c.index_mut-s.result.now within c.index_mut-s.ensures.value in
-    let set_beyond : c.args.no.0 < length c.self.inside.executed.items = let e = c.self.invariant.gtids.paired in omega arith in
-    let set_beside = slice_get-index c.self.inside.executed.items c.args.no.0 c.index_mut-executed.result.now set_beyond c.index_mut-executed.ensures.value in
-    set-room c.self.inside.gtid (uuids_in c.self.inside.servers.items) c.index_mut-s.result.now c.index_mut-executed.result.now
-    (c.self.invariant.gtids.kept c.args.no.0 c.index_mut-s.result.now c.index_mut-executed.result.now here set_beside)
+    let beyond : c.args.no.0 < length c.self.inside.executed.items = let long = c.self.invariant.gtids.paired in omega (arith, within, long) in
+    let beside = slice_get-index c.self.inside.executed.items c.args.no.0 e beyond c.index_mut-executed.ensures.value in
+    set-room c.self.inside.gtid (uuids_in c.self.inside.servers.items) s e (c.self.invariant.gtids.kept c.args.no.0 s e here beside)
     (omega (arith, c.len.ensures.value, c.room.ensures.value, c.if-room-len.false))
 
 pub take-requires-clause-log_room : goal.take-requires-clause-log_room
 take-requires-clause-log_room c =
-    let within : c.args.no.0 < length c.self.inside.servers.items = subst (λ (w : World). c.args.no.0 < length w.servers) (sym c.self.view_is) c.requires.server in
-    let here = slice_get-index c.self.inside.servers.items c.args.no.0 c.index_mut-s.result.now within c.index_mut-s.ensures.value in
+    let here = (counts (goal.at.take-requires-clause-log_room c).After-index).here in
     let fit = c.self.invariant.kept.fit c.args.no.0 c.index_mut-s.result.now here in
-    let a = fit.room in let b = fit.entries in
-    omega (arith, c.len.ensures.value, c.room.ensures.value, c.if-room-len.false)
+    let room = fit.room in
+    let few = fit.entries in
+    omega (arith, room, few, c.len.ensures.value, c.room.ensures.value, c.if-room-len.false)
 
 pub overflow_add-self : goal.overflow_add-self
 overflow_add-self c =
-    let few = errant-small c.self.inside.servers.items c.self.inside.ledgers.items c.self.inside.errant c.self.invariant.kept in
-    omega (arith, c.errant_writes.ensures.within)
+    let few = errant-small c.self.inside.servers.items c.self.inside.errant c.self.invariant.kept in
+    omega (arith, few, c.errant_writes.ensures.within)
 
 pub invariant_of-self-2 : goal.invariant_of-self-2
 invariant_of-self-2 c =
+    let servers = c.self.inside.servers.items in
+    let n = c.args.no.0 in
+    let s = c.index_mut-s.result.now in
+    let e = c.index_mut-executed.result.now in
+    let k = c.index.result.now in
+    let t = own_txn n (k + 1) c.args.size in
+    let known = counts (goal.at.invariant_of-self-2 c).After-index in
     let within : c.args.no.0 < length c.self.inside.servers.items = subst (λ (w : World). c.args.no.0 < length w.servers) (sym c.self.view_is) c.requires.server in
-    let beyond : c.args.no.0 < length c.self.inside.ledgers.items = let e = c.self.invariant.kept.paired in omega arith in
-    let here = slice_get-index c.self.inside.servers.items c.args.no.0 c.index_mut-s.result.now within c.index_mut-s.ensures.value in
-    let beside = slice_get-index c.self.inside.ledgers.items c.args.no.0 c.index_mut-l.result.now beyond c.index_mut-l.ensures.value in
-    let set_beyond : c.args.no.0 < length c.self.inside.executed.items = let e = c.self.invariant.gtids.paired in omega arith in
-    let set_beside = slice_get-index c.self.inside.executed.items c.args.no.0 c.index_mut-executed.result.now set_beyond c.index_mut-executed.ensures.value in
+    let past : n < length c.self.inside.executed.items = let long = c.self.invariant.gtids.paired in omega (arith, within, long) in
+    let beside = slice_get-index c.self.inside.executed.items n e past c.index_mut-executed.ensures.value in
+    let room : length s.history.txns < s.history.room = omega (arith, c.len.ensures.value, c.room.ensures.value, c.if-room-len.false) in
+    let fit = c.self.invariant.kept.fit n s known.here in
     record {
       kept = rw c.take.ensures
-          (IsKept-write c.self.inside.servers.items c.self.inside.ledgers.items c.self.inside.errant (c.self.inside.errant + c.errant_writes.result) c.args.no.0 c.args.size
-          c.index_mut-s.result.now c.index_mut-l.result.now c.self.invariant.kept
-          (slice_get-index c.self.inside.servers.items c.args.no.0 c.index_mut-s.result.now within c.index_mut-s.ensures.value)
-          (slice_get-index c.self.inside.ledgers.items c.args.no.0 c.index_mut-l.result.now beyond c.index_mut-l.ensures.value)
-          (omega (arith, c.len.ensures.value, c.room.ensures.value, c.if-room-len.false)) c.requires.some c.requires.size (omega (arith, c.errant_writes.ensures.within)));
+          (IsKept-write servers c.self.inside.errant (c.self.inside.errant + c.errant_writes.result) n s t c.self.invariant.kept known.here room c.requires.some c.requires.size
+          (omega (arith, c.errant_writes.ensures.within)));
+      own = rw c.take.ensures (own-took servers c.self.inside.own.items n k 1 s t s.exec c.self.invariant.own known.here known.at (rw (eq-eqb n n refl)));
       gtids = rw (c.take.ensures, c.keep_gtid.ensures)
-          (AreGtids-took c.self.inside.servers.items c.self.inside.executed.items c.self.inside.purged.items c.self.inside.gtid c.args.no.0 c.index_mut-s.result.now c.index_mut-executed.result.now
-          (own_txn c.args.no.0 (c.index_mut-l.result.now.own + 1) c.args.size) c.index_mut-s.result.now.exec c.index_mut-s.result.now.settings.uuid c.self.invariant.gtids here set_beside
-          (own-numbered c.self.inside.servers.items c.self.inside.ledgers.items c.self.inside.errant c.args.no.0 c.args.size c.index_mut-s.result.now c.index_mut-l.result.now c.self.invariant.kept here beside
-          (omega (arith, c.len.ensures.value, c.room.ensures.value, c.if-room-len.false)))
-          (sym (uuids_in-at c.self.inside.servers.items c.args.no.0 c.index_mut-s.result.now here)) (c.self.invariant.kept.fit c.args.no.0 c.index_mut-s.result.now here) c.requires.some);
+          (AreGtids-took servers c.self.inside.executed.items c.self.inside.purged.items c.self.inside.gtid n s e t s.exec s.settings.uuid c.self.invariant.gtids known.here beside
+          (own-numbered servers n k c.args.size s fit known.here known.count room) (sym (uuids_in-at servers n s known.here)) fit c.requires.some);
     }
 
 pub returns-clause-answer : goal.returns-clause-answer
 returns-clause-answer c =
-    let within : c.args.no.0 < length c.self.inside.servers.items = subst (λ (w : World). c.args.no.0 < length w.servers) (sym c.self.view_is) c.requires.server in
-    let beyond : c.args.no.0 < length c.self.inside.ledgers.items = let e = c.self.invariant.kept.paired in omega arith in
-    let here = slice_get-index c.self.inside.servers.items c.args.no.0 c.index_mut-s.result.now within c.index_mut-s.ensures.value in
-    let beside = slice_get-index c.self.inside.ledgers.items c.args.no.0 c.index_mut-l.result.now beyond c.index_mut-l.ensures.value in
-    write-answered c.args.self.now c.args.no.0 c.index_mut-l.result.now.own c.index_mut-s.result.now
-    (subst (λ (w : World). server_at w c.args.no.0 ≡ Some c.index_mut-s.result.now) c.self.view_is here)
-    c.if-not-s.false c.if-s.false (omega (arith, c.len.ensures.value, c.room.ensures.value, c.if-room-len.false))
-    (c.self.invariant.kept.own c.args.no.0 c.index_mut-s.result.now c.index_mut-l.result.now here beside)
+    let known = counts (goal.at.returns-clause-answer c).After-index in
+    write-answered c.args.self.now c.args.no.0 c.index.result.now c.index_mut-s.result.now
+    (subst (λ (w : World). server_at w c.args.no.0 ≡ Some c.index_mut-s.result.now) c.self.view_is known.here)
+    c.if-not-s.false c.if-s.false (omega (arith, c.len.ensures.value, c.room.ensures.value, c.if-room-len.false)) known.count
 
 pub returns-clause-world : goal.returns-clause-world
 returns-clause-world c =
-    let within : c.args.no.0 < length c.self.inside.servers.items = subst (λ (w : World). c.args.no.0 < length w.servers) (sym c.self.view_is) c.requires.server in
-    write-left c.args.self.now c.self.inside.servers.items c.self.inside.gtid c.self.inside.errant c.errant_writes.result c.args.no.0 c.args.size c.index_mut-l.result.now.own
-    c.index_mut-s.result.now c.take.new.self c.self.view_is
-    (slice_get-index c.self.inside.servers.items c.args.no.0 c.index_mut-s.result.now within c.index_mut-s.ensures.value)
+    write-left c.args.self.now c.self.inside.servers.items c.self.inside.gtid c.self.inside.errant c.errant_writes.result c.args.no.0 c.args.size c.index.result.now
+    c.index_mut-s.result.now c.take.new.self c.self.view_is (counts (goal.at.returns-clause-world c).After-index).here
     c.take.ensures c.errant_writes.ensures.value

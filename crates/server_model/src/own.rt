@@ -1,0 +1,27 @@
+//! How many transactions of its own each server has executed.
+
+ghost use Rattle.std.specs.Prelude.{◌≡◌, ◌≤◌, IfOk, length};
+ghost use Rattle.orch_base.specs.Histories.{count_own};
+ghost use Rattle.server_model.specs.Fit.{own_counts};
+
+use crate::Server;
+use orch_base::{Memory, ServerNo, Txn};
+use std::alloc::Global;
+
+fn count_own(no: ServerNo, txns: &[Txn]) -> u64
+    ensures { result ≡ count_own no.0 txns.now }
+{
+    txns.iter().filter(|t| t.origin.0 == no.0).count() as u64
+}
+
+/// How many transactions of its own each server has executed.
+pub(crate) fn own_counts(alloc: Global, servers: &[Server]) -> Result<Vec<u64>, Memory>
+    requires { length servers.now ≤ 1000 }
+    ensures { IfOk result (λ v. v.items ≡ own_counts servers.now) }
+{
+    let mut counts = Vec::new(alloc);
+    for (n, s) in servers.iter().enumerate() {
+        counts.push(count_own(ServerNo(n as u32), s.history.as_slice()))?;
+    }
+    Ok(counts)
+}
