@@ -1,19 +1,22 @@
 -- What a search by halves needs of a log's transactions.
 use Rattle.std.proofs.Common.{◌≡◌, ℕ, ◌+◌, ◌-◌, ◌<◌, ◌≤◌, Bool, true, false, cond, List, [], ◌∷◌, ◌++◌, length, refl, sym, ◌∙◌, ap, subst, inl, inr, Option, Some, None, arith, zero, suc, ◌||◌, get_or}
-use Rattle.std.specs.Prelude.{count_by, slice_get}
+use Rattle.std.specs.Prelude.{count_by, map, option_map, slice_get}
 use Rattle.std.specs.Int.{from_bool}
 use Rattle.std.specs.List.{list_any, prefix_len}
 use Rattle.std.specs.List.Sorted.{IsPartitionedBy, IsPartitionPoint}
 use Rattle.std.proofs.lemmas.List.Sums.{prefix_len_is}
 use Rattle.std.proofs.lemmas.Bool.{cases_Bool}
-use Rattle.std.proofs.lemmas.Option.{slice_get-get_or, slice_get_past}
+use Rattle.std.proofs.lemmas.List.{length-map, map-append}
+use Rattle.std.proofs.lemmas.Option.{slice_get-get_or, slice_get-map, slice_get_past}
 use Rattle.std.proofs.lemmas.Bool.Decides.{nat_tests}
 use Rattle.binlog_coords.specs.declared.Coord.{Coord}
 use Rattle.binlog_coords.specs.declared.Entry.{Entry}
 use Rattle.binlog_coords.specs.declared.Next.{Next}
 use Rattle.binlog_coords.specs.declared.Next.TheVariants as next
+use Rattle.binlog_coords.specs.declared.index.Slot.{Slot}
 use Rattle.binlog_coords.specs.Log.{Log, is_before, is_at_or_before, same_coord, file_start, end_of, start_coord, end_coord, ends_by, touches, is_file_start, has_place, coord_after, end_or_first, entry_from, next_file, next_after}
 use Rattle.binlog_coords.specs.Entries.{LieBetween, starts_at}
+use Rattle.binlog_coords.specs.Slots.{entry_of}
 use Rattle.binlog_coords.proofs.Places.{is_at_or_before-trans, count_by-cons}
 
 -- one more transaction at the end
@@ -98,63 +101,82 @@ count-is-prefix c from to (x ∷ es) h =
     ]
 
 -- each begins behind where the list does, and takes bytes
-lies-behind : (from to : Coord) (es : List Entry) → LieBetween from to es → (j : ℕ) (d : Entry) → j < length es
-    → (is_at_or_before from (start_coord (get_or es j d)) ≡ true) × ((get_or es j d).start < (get_or es j d).end)
+lies-behind : (from to : Coord) (es : List Slot) → LieBetween from to (map entry_of es) → (j : ℕ) (d : Slot) → j < length es
+    → (is_at_or_before from (start_coord (entry_of (get_or es j d))) ≡ true) × ((entry_of (get_or es j d)).start < (entry_of (get_or es j d)).end)
 lies-behind from to [] h j d below = absurd (omega arith)
 lies-behind from to (x ∷ es) h zero d below = (h.0, h.1)
 lies-behind from to (x ∷ es) h (suc j) d below =
     let first = h.0 in
     let some = h.1 in
-    let here : is_at_or_before from (end_coord x) ≡ true = grind (arith, nat_tests) in
-    let rest = lies-behind (end_coord x) to es h.2 j d (omega arith) in
-    (is_at_or_before-trans from (end_coord x) (start_coord (get_or es j d)) here rest.0, rest.1)
+    let here : is_at_or_before from (end_coord (entry_of x)) ≡ true = grind (arith, nat_tests) in
+    let rest = lies-behind (end_coord (entry_of x)) to es h.2 j d (omega arith) in
+    (is_at_or_before-trans from (end_coord (entry_of x)) (start_coord (entry_of (get_or es j d))) here rest.0, rest.1)
 
 ended-with : (c from : Coord) (e : Entry) → is_at_or_before from (start_coord e) ≡ true → e.start < e.end → ends_by c e ≡ true → is_at_or_before from c ≡ true
 ended-with c from e behind some by = grind (arith, nat_tests)
 
+-- the transaction of a slot ends at or before c
+abbrev pub slot_ends : Coord → Slot → Bool
+slot_ends c s = ends_by c (entry_of s)
+
 -- those that have ended stand before those that have not
-pub ended-before : (c from to : Coord) (es : List Entry) → LieBetween from to es → IsPartitionedBy (ends_by c) es
+pub ended-before : (c from to : Coord) (es : List Slot) → LieBetween from to (map entry_of es) → IsPartitionedBy (slot_ends c) es
 ended-before c from to [] h i j d order below by = absurd (omega arith)
 ended-before c from to (x ∷ es) h zero zero d order below by = by
 ended-before c from to (x ∷ es) h zero (suc j) d order below by =
-    let rest = lies-behind (end_coord x) to es h.2 j d (omega arith) in ended-with c (end_coord x) (get_or es j d) rest.0 rest.1 by
+    let rest = lies-behind (end_coord (entry_of x)) to es h.2 j d (omega arith) in
+    ended-with c (end_coord (entry_of x)) (entry_of (get_or es j d)) rest.0 rest.1 by
 ended-before c from to (x ∷ es) h (suc i) zero d order below by = absurd (omega arith)
-ended-before c from to (x ∷ es) h (suc i) (suc j) d order below by = ended-before c (end_coord x) to es h.2 i j d (omega arith) (omega arith) by
+ended-before c from to (x ∷ es) h (suc i) (suc j) d order below by =
+    ended-before c (end_coord (entry_of x)) to es h.2 i j d (omega arith) (omega arith) by
+
+prefix_len-entries : (c : Coord) (es : List Slot) → prefix_len (ends_by c) (map entry_of es) ≡ prefix_len (slot_ends c) es
+prefix_len-entries c [] = refl
+prefix_len-entries c (x ∷ es) = let rest = prefix_len-entries c es in go (slot_ends c x) rest
+  where
+    go : (b : Bool) → prefix_len (ends_by c) (map entry_of es) ≡ prefix_len (slot_ends c) es
+        → cond b (1 + prefix_len (ends_by c) (map entry_of es)) 0 ≡ cond b (1 + prefix_len (slot_ends c) es) 0
+    go true rest = ap (λ n. 1 + n) rest
+    go false rest = refl
 
 -- the boundary that a search by halves finds is their number; equal lists stand for what is searched
-pub boundary-by : (c to : Coord) (items seen es : List Entry) (i : ℕ) → items ≡ seen → LieBetween (file_start 1) to items → es ≡ items → i ≤ length es
-    → IsPartitionPoint (λ e. ends_by c e ≡ true) (λ e. ends_by c e ≡ false) es i → i ≡ count_by (ends_by c) seen
+pub boundary-by : (c to : Coord) (items : List Slot) (seen : List Entry) (es : List Slot) (i : ℕ) → map entry_of items ≡ seen → LieBetween (file_start 1) to (map entry_of items) → es ≡ items
+    → i ≤ length es → IsPartitionPoint (λ s. slot_ends c s ≡ true) (λ s. slot_ends c s ≡ false) es i → i ≡ count_by (ends_by c) seen
 boundary-by c to items seen es i view h same within point =
-    let found : prefix_len (ends_by c) es ≡ i =
-    prefix_len_is (ends_by c) es i (record { file = 0; start = 0; end = 0 }) within (λ k below. point.0 k _ (omega arith) below) (λ below. point.1 i _ (omega arith) below) in
-    sym found ∙ ap (prefix_len (ends_by c)) same ∙ sym (count-is-prefix c (file_start 1) to items h) ∙ ap (count_by (ends_by c)) view
+    let none : Slot = record { file = 0; start = 0; size = 0; origin = 0; seq = 0 } in
+    let found : prefix_len (slot_ends c) es ≡ i =
+    prefix_len_is (slot_ends c) es i none within (λ k below. point.0 k _ (omega arith) below) (λ below. point.1 i _ (omega arith) below) in
+    sym found ∙ ap (prefix_len (slot_ends c)) same ∙ sym (prefix_len-entries c items) ∙ sym (count-is-prefix c (file_start 1) to (map entry_of items) h)
+    ∙ ap (count_by (ends_by c)) view
 
 -- where the last has begun, all before it have ended
-ended-at_last : (c from to : Coord) (es : List Entry) → LieBetween from to es → (i : ℕ) (last : Entry) → length es ≡ suc i → ((d : Entry) → last ≡ get_or es i d)
-    → is_at_or_before (start_coord last) c ≡ true → count_by (ends_by c) es ≡ i + cond (ends_by c last) 1 0
+ended-at_last : (c from to : Coord) (es : List Slot) → LieBetween from to (map entry_of es) → (i : ℕ) (last : Slot) → length es ≡ suc i → ((d : Slot) → last ≡ get_or es i d)
+    → is_at_or_before (start_coord (entry_of last)) c ≡ true → count_by (ends_by c) (map entry_of es) ≡ i + cond (slot_ends c last) 1 0
 ended-at_last c from to [] h i last count is begun = absurd (omega arith)
-ended-at_last c from to (x ∷ []) h zero last count is begun = rw (count_by-cons (ends_by c) x [], is x) (omega arith)
+ended-at_last c from to (x ∷ []) h zero last count is begun = rw (count_by-cons (ends_by c) (entry_of x) [], is x) (omega arith)
 ended-at_last c from to (x ∷ y ∷ es) h zero last count is begun = absurd (omega arith)
 ended-at_last c from to (x ∷ es) h (suc i) last count is begun =
-    let behind = lies-behind (end_coord x) to es h.2 i x (omega arith) in
-    let before : is_at_or_before (end_coord x) (start_coord last) ≡ true = rw (is x) behind.0 in
-    let ended : ends_by c x ≡ true = is_at_or_before-trans (end_coord x) (start_coord last) c before begun in
-    let rest = ended-at_last c (end_coord x) to es h.2 i last (omega arith) is begun in
-    rw (count_by-cons (ends_by c) x es, ended, rest) (omega arith)
+    let behind = lies-behind (end_coord (entry_of x)) to es h.2 i x (omega arith) in
+    let before : is_at_or_before (end_coord (entry_of x)) (start_coord (entry_of last)) ≡ true = rw (is x) behind.0 in
+    let ended : ends_by c (entry_of x) ≡ true = is_at_or_before-trans (end_coord (entry_of x)) (start_coord (entry_of last)) c before begun in
+    let rest = ended-at_last c (end_coord (entry_of x)) to es h.2 i last (omega arith) is begun in
+    rw (count_by-cons (ends_by c) (entry_of x) (map entry_of es), ended, rest) (omega arith)
 
 as_number : (b : Bool) → from_bool b ≡ cond b 1 0
 as_number true = refl
 as_number false = refl
 
 -- the same where equal values stand for the parts
-pub count-at_last : (c to start : Coord) (items seen es : List Entry) (last : Entry) (n : ℕ) (begun ended : Bool) → items ≡ seen → LieBetween (file_start 1) to items → es ≡ items
-    → (0 < length es) × ((d : Entry) → last ≡ get_or es (length es - 1) d) → length es ≡ n → start ≡ start_coord last → begun ≡ is_at_or_before start c → begun ≡ true → ended ≡ ends_by c last
+pub count-at_last : (c to start : Coord) (items : List Slot) (seen : List Entry) (es : List Slot) (last : Slot) (n : ℕ) (begun ended : Bool) → map entry_of items ≡ seen
+    → LieBetween (file_start 1) to (map entry_of items) → es ≡ items → (0 < length es) × ((d : Slot) → last ≡ get_or es (length es - 1) d) → length es ≡ n
+    → start ≡ start_coord (entry_of last) → begun ≡ is_at_or_before start c → begun ≡ true → ended ≡ slot_ends c last
     → n - 1 + from_bool ended ≡ count_by (ends_by c) seen
 count-at_last c to start items seen es last n begun ended view h same at count start_is begun_is is_begun ended_is =
-    let here : is_at_or_before (start_coord last) c ≡ true = subst (λ (x : Coord). is_at_or_before x c ≡ true) start_is (sym begun_is ∙ is_begun) in
+    let here : is_at_or_before (start_coord (entry_of last)) c ≡ true = subst (λ (x : Coord). is_at_or_before x c ≡ true) start_is (sym begun_is ∙ is_begun) in
     let number : length es ≡ suc (n - 1) = let some = at.0 in omega arith in
     let place : length es - 1 ≡ n - 1 = omega arith in
-    rw (ended_is, as_number (ends_by c last), ← view, ← same) (sym (ended-at_last c (file_start 1) to es (rw same h) (n - 1) last number (λ d. at.1 d ∙ ap (λ i. get_or es i d) place) here))
+    rw (ended_is, as_number (slot_ends c last), ← view, ← same)
+    (sym (ended-at_last c (file_start 1) to es (rw same h) (n - 1) last number (λ d. at.1 d ∙ ap (λ i. get_or es i d) place) here))
 
 -- a transaction, if there is one, ends at c
 abbrev end_stands : Coord → Option Entry → Bool
@@ -276,33 +298,54 @@ has_place-by log seen c d k es heads ends begins view h count at_head at at_end 
     (has_place-at log c h k (count ∙ ap (λ (x : Log). count_by (ends_by c) x.entries) (sym view)))
 
 -- what follows, by what stands behind those that have ended
-next_after-at : (log seen : Log) (c : Coord) (k : ℕ) (es : List Entry) (o : Option Entry) (none : Next) → log ≡ seen → LieBetween (file_start 1) (end_of log) log.entries
-    → k ≡ count_by (ends_by c) seen.entries → es ≡ log.entries → slice_get es k ≡ o → none ≡ next_file log c
+next_after-at : (log seen : Log) (c : Coord) (k : ℕ) (es : List Slot) (o : Option Entry) (none : Next) → log ≡ seen → LieBetween (file_start 1) (end_of log) log.entries
+    → k ≡ count_by (ends_by c) seen.entries → map entry_of es ≡ log.entries → slice_get (map entry_of es) k ≡ o → none ≡ next_file log c
     → next_at c k o none ≡ next_after seen c
 next_after-at log seen c k es o none view h count same at other =
     rw (← at, other, same, ← view)
     (sym (entry_from-at c (file_start 1) (end_of log) 0 log.entries (next_file log c) h k k (count ∙ ap (λ (x : Log). count_by (ends_by c) x.entries) (sym view)) (omega arith)))
 
+-- how many there are
+pub entries-count : (es : List Slot) → length (map entry_of es) ≡ length es
+entries-count es = length-map es entry_of
+
+-- the transaction of a slot
+slot-entry : (es : List Slot) (k : ℕ) (t : Slot) → k < length es → t ≡ get_or es k t → slice_get (map entry_of es) k ≡ Some (entry_of t)
+slot-entry es k t within at = slice_get-map entry_of es k ∙ ap (option_map entry_of) (slice_get-get_or es k t within ∙ ap Some (sym at))
+
 -- a transaction that begins here, one that begins elsewhere, or none
-pub next_after-begun : (log seen : Log) (c start to : Coord) (k : ℕ) (es : List Entry) (t : Entry) (begins : Bool) → log ≡ seen → LieBetween (file_start 1) (end_of log) log.entries
-    → k ≡ count_by (ends_by c) seen.entries → es ≡ log.entries → (k < length es) × ((d : Entry) → t ≡ get_or es k d) → start ≡ start_coord t → begins ≡ same_coord start c → begins ≡ true
-    → to ≡ end_coord t → next.Entry k to ≡ next_after seen c
+pub next_after-begun : (log seen : Log) (c start to : Coord) (k : ℕ) (es : List Slot) (t : Slot) (begins : Bool) → log ≡ seen → LieBetween (file_start 1) (end_of log) log.entries
+    → k ≡ count_by (ends_by c) seen.entries → map entry_of es ≡ log.entries → (k < length es) × ((d : Slot) → t ≡ get_or es k d) → start ≡ start_coord (entry_of t)
+    → begins ≡ same_coord start c → begins ≡ true → to ≡ end_coord (entry_of t) → next.Entry k to ≡ next_after seen c
 next_after-begun log seen c start to k es t begins view h count same at from begins_is here ends =
-    let begun : same_coord (start_coord t) c ≡ true = subst (λ (x : Coord). same_coord x c ≡ true) from (sym begins_is ∙ here) in
-    let found : slice_get es k ≡ Some t = slice_get-get_or es k t at.0 ∙ ap Some (sym (at.1 t)) in
-    ap (next.Entry k) ends ∙ sym (ap (λ b. cond b (next.Entry k (end_coord t)) (next_file log c)) begun)
-    ∙ next_after-at log seen c k es (Some t) (next_file log c) view h count same found refl
+    let begun : same_coord (start_coord (entry_of t)) c ≡ true = subst (λ (x : Coord). same_coord x c ≡ true) from (sym begins_is ∙ here) in
+    ap (next.Entry k) ends ∙ sym (ap (λ b. cond b (next.Entry k (end_coord (entry_of t))) (next_file log c)) begun)
+    ∙ next_after-at log seen c k es (Some (entry_of t)) (next_file log c) view h count same (slot-entry es k t at.0 (at.1 t)) refl
 
-pub next_after-elsewhere : (log seen : Log) (c start : Coord) (k : ℕ) (es : List Entry) (t : Entry) (begins : Bool) (none : Next) → log ≡ seen → LieBetween (file_start 1) (end_of log) log.entries
-    → k ≡ count_by (ends_by c) seen.entries → es ≡ log.entries → (k < length es) × ((d : Entry) → t ≡ get_or es k d) → start ≡ start_coord t → begins ≡ same_coord start c → begins ≡ false
-    → none ≡ next_file log c → none ≡ next_after seen c
+pub next_after-elsewhere : (log seen : Log) (c start : Coord) (k : ℕ) (es : List Slot) (t : Slot) (begins : Bool) (none : Next) → log ≡ seen → LieBetween (file_start 1) (end_of log) log.entries
+    → k ≡ count_by (ends_by c) seen.entries → map entry_of es ≡ log.entries → (k < length es) × ((d : Slot) → t ≡ get_or es k d) → start ≡ start_coord (entry_of t)
+    → begins ≡ same_coord start c → begins ≡ false → none ≡ next_file log c → none ≡ next_after seen c
 next_after-elsewhere log seen c start k es t begins none view h count same at from begins_is elsewhere other =
-    let begun : same_coord (start_coord t) c ≡ false = subst (λ (x : Coord). same_coord x c ≡ false) from (sym begins_is ∙ elsewhere) in
-    let found : slice_get es k ≡ Some t = slice_get-get_or es k t at.0 ∙ ap Some (sym (at.1 t)) in
-    sym (ap (λ b. cond b (next.Entry k (end_coord t)) none) begun)
-    ∙ next_after-at log seen c k es (Some t) none view h count same found other
+    let begun : same_coord (start_coord (entry_of t)) c ≡ false = subst (λ (x : Coord). same_coord x c ≡ false) from (sym begins_is ∙ elsewhere) in
+    sym (ap (λ b. cond b (next.Entry k (end_coord (entry_of t))) none) begun)
+    ∙ next_after-at log seen c k es (Some (entry_of t)) none view h count same (slot-entry es k t at.0 (at.1 t)) other
 
-pub next_after-past : (log seen : Log) (c : Coord) (k : ℕ) (es : List Entry) (none : Next) → log ≡ seen → LieBetween (file_start 1) (end_of log) log.entries
-    → k ≡ count_by (ends_by c) seen.entries → es ≡ log.entries → length es ≤ k → none ≡ next_file log c → none ≡ next_after seen c
+pub next_after-past : (log seen : Log) (c : Coord) (k : ℕ) (es : List Slot) (none : Next) → log ≡ seen → LieBetween (file_start 1) (end_of log) log.entries
+    → k ≡ count_by (ends_by c) seen.entries → map entry_of es ≡ log.entries → length es ≤ k → none ≡ next_file log c → none ≡ next_after seen c
 next_after-past log seen c k es none view h count same past other =
-    next_after-at log seen c k es None none view h count same (slice_get_past es k past) other
+    let size = entries-count es in
+    next_after-at log seen c k es None none view h count same (slice_get_past (map entry_of es) k (omega arith)) other
+
+-- where the first transactions end is where the last of them does
+pub coord_after-last : (log : Log) (es : List Slot) (k : ℕ) (t : Slot) (to : Coord) → map entry_of es ≡ log.entries → (k ≡ 0 → ⊥) → k ≤ length log.entries → t ≡ get_or es (k - 1) t
+    → to ≡ end_coord (entry_of t) → to ≡ coord_after log k
+coord_after-last log es zero t to same some within at ends = absurd (some refl)
+coord_after-last log es (suc k) t to same some within at ends =
+    let last : suc k - 1 ≡ k = omega arith in
+    let count : length log.entries ≡ length es = sym (ap length same) ∙ entries-count es in
+    let found = subst (λ i. slice_get (map entry_of es) i ≡ Some (entry_of t)) last (slot-entry es (suc k - 1) t (omega arith) at) in
+    ends ∙ sym (ap end_or_first (ap (λ xs. slice_get xs k) (sym same) ∙ found))
+
+-- one slot more
+pub entries-pushed : (es es' : List Slot) (s : Slot) → es' ≡ es ++ s ∷ [] → map entry_of es' ≡ map entry_of es ++ entry_of s ∷ []
+entries-pushed es es' s more = ap (map entry_of) more ∙ map-append entry_of es (s ∷ [])

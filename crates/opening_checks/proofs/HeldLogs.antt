@@ -36,3 +36,13 @@ AreLogs-put servers logs n l are is = record { count = length-set logs n (Some l
       | inl new ↦ ap (λ (x : Index). x.log) (same_Some m l new.1) ∙ is ∙ ap (log_at servers) (sym new.0)
       | inr old ↦ are.each k m old
     ]
+
+-- the log of a server is taken out
+pub AreLogs-take : (servers : List ServerInit) (logs : List (Option Index)) (n : ℕ) (o : Option Index) → AreLogs servers logs → o ≡ None → AreLogs servers (slice_set logs n o)
+AreLogs-take servers logs n o are none = record {
+  count = length-set logs n o ∙ are.count;
+  each = λ k m at. elim (put_cases logs n o k (Some m) at) [
+    | inl new ↦ absurd (no_log m (new.1 ∙ none))
+    | inr old ↦ are.each k m old
+  ];
+}

@@ -1,8 +1,8 @@
 -- A log that is laid in one pass.
-use Rattle.std.proofs.Common.{◌≡◌, ℕ, ◌+◌, ◌<◌, ◌≤◌, true, false, cond, List, [], ◌∷◌, length, drop, refl, sym, ap, ◌∙◌, arith, suc, zero, get_or, subst, inl, inr, length-append}
+use Rattle.std.proofs.Common.{◌≡◌, ℕ, ◌+◌, ◌<◌, ◌≤◌, true, false, cond, List, [], ◌∷◌, ◌++◌, length, take, drop, refl, sym, ap, ◌∙◌, append_assoc, arith, suc, zero, get_or, subst, inl, inr, length-append}
 use Rattle.std.specs.Prelude.{◌==◌, ◌||◌, nat_le, nat_lt, count_by, All, slice_index_or}
 use Rattle.std.proofs.lemmas.Bool.{cases_lt, cases_order, cases_Bool, eq-eqb, ne_eqb, and_parts, or_parts, leb-true, le-leb, ltb-false}
-use Rattle.std.proofs.lemmas.List.{drop_more, drop_all, length-drop, get_or-drop}
+use Rattle.std.proofs.lemmas.List.{drop_more, drop_all, length-drop, get_or-drop, length-take-le, take_all, take_more}
 use Rattle.std.proofs.lemmas.List.Sums.{sum_by-cons}
 use Rattle.binlog_coords.specs.Log.{Log, push, flush, appended, entry_at_end}
 use Rattle.orch_base.specs.declared.server.Txn.{Txn}
@@ -149,26 +149,14 @@ none_behind bound (x ∷ xs) rises all =
     let least = leb-true (bound + 1) x (and_parts (nat_le (bound + 1) x) (rises_from x xs) rises).0 in
     let most : x ≤ bound = all 0 0 (omega arith) in absurd (omega arith)
 
-pub flushed_times-entries : (n : ℕ) (log : Log) → (flushed_times n log).entries ≡ log.entries
-flushed_times-entries zero log = refl
-flushed_times-entries (suc n) log = flushed_times-entries n log
-
-push-entries : (log : Log) (size : ℕ) → length (push log size).entries ≡ length log.entries + 1
-push-entries log size =
-    elim (cases_Bool (nat_le log.limit (log.pos + size))) [
-      | inl over ↦ ap (λ b. length (cond b (flush (appended log size)) (appended log size)).entries) over ∙ length-append log.entries (entry_at_end log size ∷ [])
-      | inr within ↦ ap (λ b. length (cond b (flush (appended log size)) (appended log size)).entries) within ∙ length-append log.entries (entry_at_end log size ∷ [])
-    ]
-
 -- so many transactions of a history are laid, with the flush points before this one
 pub record Lays (flushes : List ℕ) (history : List Txn) (next count : ℕ) (before now : Log) : Type 0 where
   pub within : next ≤ length flushes
   pub rises : rises_from count (drop next flushes) ≡ true
   pub log : laid_after (drop next flushes) count now (drop count history) ≡ laid_after flushes 0 before history
-  pub entries : length now.entries ≡ length before.entries + count
 
 pub Lays-none : (flushes : List ℕ) (history : List Txn) (log : Log) → rises_from 0 flushes ≡ true → Lays flushes history 0 0 log log
-Lays-none flushes history log rises = record { within = omega arith; rises = rises; log = refl; entries = omega arith }
+Lays-none flushes history log rises = record { within = omega arith; rises = rises; log = refl }
 
 pub Lays-more : (flushes : List ℕ) (history : List Txn) (next at count : ℕ) (before now flushed : Log) (t : Txn) → drop count history ≡ t ∷ drop (count + 1) history → Lays flushes history next count before now
     → flushed ≡ flushed_at (drop next flushes) count now → SameBehind count (drop next flushes) (drop at flushes) → at ≤ length flushes → rises_from (count + 1) (drop at flushes) ≡ true
@@ -177,10 +165,6 @@ Lays-more flushes history next at count before now flushed t here lays is behind
   within = within;
   rises = rises;
   log = laid_after-on (drop next flushes) (drop at flushes) count now flushed t (drop (count + 1) history) is behind ∙ ap (laid_after (drop next flushes) count now) (sym here) ∙ lays.log;
-  entries =
-      let pushed = push-entries flushed t.size in
-      let kept : length flushed.entries ≡ length now.entries = ap (λ (l : Log). length l.entries) is ∙ ap length (flushed_times-entries (points_at count (drop next flushes)) now) in
-      let old = lays.entries in omega arith;
 }
 
 abbrev no_more : List Txn
@@ -200,10 +184,36 @@ all_flushed flushes count at within rises all =
     let none = none_behind count (drop at flushes) rises rest in
     let size = length-drop at flushes in omega arith
 
-pub good_logged : (i : ServerInit) → i.settings.logs ≡ true → bad_flushes i ≡ false → falls_or_passes (count_of i) 0 i.flushes ≡ false
+good_logged : (i : ServerInit) → i.settings.logs ≡ true → bad_flushes i ≡ false → falls_or_passes (count_of i) 0 i.flushes ≡ false
 good_logged i logs good = sym (ap (λ b. cond b (falls_or_passes (count_of i) 0 i.flushes) (nat_lt 0 (length i.flushes))) logs) ∙ good
 
-pub good_silent : (i : ServerInit) → i.settings.logs ≡ false → bad_flushes i ≡ false → length i.flushes ≡ 0
+good_silent : (i : ServerInit) → i.settings.logs ≡ false → bad_flushes i ≡ false → length i.flushes ≡ 0
 good_silent i silent good =
     let none : nat_lt 0 (length i.flushes) ≡ false = sym (ap (λ b. cond b (falls_or_passes (count_of i) 0 i.flushes) (nat_lt 0 (length i.flushes))) silent) ∙ good in
     let h = ltb-false 0 (length i.flushes) none in omega arith
+
+-- flush points that are not bad rise, and none is behind the history
+pub good-points : (i : ServerInit) → bad_flushes i ≡ false → (rises_from 0 i.flushes ≡ true) × All (λ k. k ≤ count_of i) i.flushes
+good-points i good = elim (cases_Bool i.settings.logs) [
+  | inl logs ↦ (rises-from_good (count_of i) 0 i.flushes (good_logged i logs good), within-from_good (count_of i) 0 i.flushes (good_logged i logs good))
+  | inr silent ↦ no_points i.flushes (good_silent i silent good)
+]
+  where
+    no_points : (xs : List ℕ) → length xs ≡ 0 → (rises_from 0 xs ≡ true) × All (λ k. k ≤ count_of i) xs
+    no_points [] none = (refl, λ k d l. absurd (omega arith))
+    no_points (x ∷ xs) none = absurd (omega arith)
+
+-- so many transactions of the history stand in the log, then one more, and at the end all
+pub txns-count : (history before now : List Txn) (count : ℕ) → count < length history → now ≡ before ++ take count history → length now ≡ length before + count
+txns-count history before now count within is =
+    let size = length-take-le count history (omega arith) in
+    ap length is ∙ length-append before (take count history) ∙ ap (λ n. length before + n) size
+
+pub txns-more : (history before now after : List Txn) (count : ℕ) (d : Txn) → count < length history → now ≡ before ++ take count history → after ≡ now
+    → after ++ get_or history count d ∷ [] ≡ before ++ take (count + 1) history
+txns-more history before now after count d within is same =
+    ap (λ xs. xs ++ get_or history count d ∷ []) (same ∙ is) ∙ append_assoc before (take count history) (get_or history count d ∷ [])
+    ∙ ap (λ xs. before ++ xs) (sym (take_more history count d within))
+
+pub txns-all : (history before now : List Txn) (count : ℕ) → count ≡ length history → now ≡ before ++ take count history → now ≡ before ++ history
+txns-all history before now count end is = is ∙ ap (λ xs. before ++ xs) (take_all count history (omega arith))

@@ -63,6 +63,10 @@ history_at servers n = take (count_at (slice_get servers n)) (listed_history (pa
 abbrev pub log_by : ServerInit → List Txn → Log
 log_by i history = if i.settings.logs then laid i.settings.limit i.flushes history else opened i.settings.limit
 
+-- the transactions that stand in it
+abbrev pub logged_by : ServerInit → List Txn → List Txn
+logged_by i history = if i.settings.logs then history else []
+
 abbrev pub log_in : List ServerInit → ℕ → Option ServerInit → Log
 log_in servers n None = opened 100
 log_in servers n (Some i) = log_by i (history_at servers n)

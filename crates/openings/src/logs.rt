@@ -1,11 +1,10 @@
 //! The log of each server.
 
-ghost use Rattle.std.specs.Prelude.{◌≡◌, ◌+◌, ◌-◌, ◌<◌, ◌≤◌, All, IfOk, IsTrue, drop, false, length};
-ghost use Rattle.binlog_coords.specs.Log.{push};
+ghost use Rattle.std.specs.Prelude.{◌≡◌, ◌+◌, ◌-◌, ◌<◌, ◌≤◌, ◌++◌, All, IfOk, IsTrue, drop, false, length};
 ghost use Rattle.openings.specs.Flaws.{bad_flushes};
 ghost use Rattle.openings.specs.Laying.{rises_from, SameBehind};
-ghost use Rattle.openings.specs.Logs.{flushed_at, laid_after};
-ghost use Rattle.openings.specs.Servers.{count_of, log_by};
+ghost use Rattle.openings.specs.Logs.{flushed_at, laid, laid_after};
+ghost use Rattle.openings.specs.Servers.{count_of, log_by, logged_by};
 ghost use Rattle.openings.specs.Taking.{HasSize};
 
 use crate::ServerInit;
@@ -20,6 +19,7 @@ fn flush_at(log: &mut LogIndex, flushes: &[u64], next: usize, count: u64) -> usi
     requires left { length flushes.now ≤ log.old.flushes + next }
     requires rises { IsTrue (rises_from count (drop next flushes.now)) }
     ensures log { log.new.log ≡ flushed_at (drop next flushes.now) count log.old.log }
+    ensures txns { log.new.txns ≡ log.old.txns }
     ensures room { log.new.room ≡ log.old.room }
     ensures flushes { log.new.flushes + result ≡ log.old.flushes + next }
     ensures next { result ≤ length flushes.now }
@@ -37,10 +37,11 @@ fn flush_at(log: &mut LogIndex, flushes: &[u64], next: usize, count: u64) -> usi
 // Lays the transactions into an empty log in order, with a flush after each count that is listed.
 fn lay(log: &mut LogIndex, flushes: &[u64], history: &[Txn])
     requires sizes { All HasSize history.now }
-    requires room { length log.old.log.entries + length history.now ≤ log.old.room }
+    requires room { length log.old.txns + length history.now ≤ log.old.room }
     requires left { length flushes.now ≤ log.old.flushes }
     requires rises { IsTrue (rises_from 0 flushes.now) }
     ensures log { log.new.log ≡ laid_after flushes.now 0 log.old.log history.now }
+    ensures txns { log.new.txns ≡ log.old.txns ++ history.now }
     ensures room { log.new.room ≡ log.old.room }
     ensures flushes { All (λ k. k ≤ length history.now) flushes.now
         → log.new.flushes + length flushes.now ≡ log.old.flushes }
@@ -48,9 +49,38 @@ fn lay(log: &mut LogIndex, flushes: &[u64], history: &[Txn])
     let mut next = 0;
     for (count, t) in history.iter().enumerate() {
         next = flush_at(log, flushes, next, count as u64);
-        log.push(t.size);
+        log.push_txn(*t);
     }
     flush_at(log, flushes, next, history.len() as u64);
+}
+
+/// What a server has executed, laid with its flush points as its log lays it, also where it doesn't log; a flush point
+/// behind it all is none. There is room for so many transactions and flushes, with those that are laid. `Err` is want of
+/// memory.
+pub fn laid_history(
+    alloc: Global,
+    init: &ServerInit,
+    history: &[Txn],
+    room: u64,
+    flushes: u64,
+) -> Result<LogIndex, Memory>
+    requires limit_low { 100 ≤ init.now.settings.limit }
+    requires limit_high { init.now.settings.limit ≤ 1073741824 }
+    requires sizes { All HasSize history.now }
+    requires fits { length history.now ≤ room }
+    requires room { room ≤ 4000000 }
+    requires left { length init.now.flushes ≤ flushes }
+    requires flushes { flushes ≤ 4000000 }
+    requires points { bad_flushes init.now ≡ false }
+    ensures log { IfOk result (λ l. l.log ≡ laid init.now.settings.limit init.now.flushes history.now) }
+    ensures txns { IfOk result (λ l. l.txns ≡ history.now) }
+    ensures room { IfOk result (λ l. l.room ≡ room) }
+    ensures flushes { count_of init.now ≡ length history.now
+        → IfOk result (λ l. l.flushes ≡ flushes - length init.now.flushes) }
+{
+    let mut log = LogIndex::with_room(alloc, init.settings.limit, room, flushes)?;
+    lay(&mut log, init.flushes.as_slice(), history);
+    Ok(log)
 }
 
 /// The log of a server that has executed these transactions, as `log_of` makes it, where a flush point behind them all
@@ -71,15 +101,16 @@ pub fn laid_log(
     requires flushes { flushes ≤ 4000000 }
     requires points { bad_flushes init.now ≡ false }
     ensures log { IfOk result (λ l. l.log ≡ log_by init.now history.now) }
+    ensures txns { IfOk result (λ l. l.txns ≡ logged_by init.now history.now) }
     ensures room { IfOk result (λ l. l.room ≡ room) }
     ensures flushes { count_of init.now ≡ length history.now
         → IfOk result (λ l. l.flushes ≡ flushes - length init.now.flushes) }
 {
-    let mut log = LogIndex::with_room(alloc, init.settings.limit, room, flushes)?;
     if init.settings.logs {
-        lay(&mut log, init.flushes.as_slice(), history);
+        laid_history(alloc, init, history, room, flushes)
+    } else {
+        LogIndex::with_room(alloc, init.settings.limit, room, flushes)
     }
-    Ok(log)
 }
 
 /// The log of a server that has executed this history, with room for `room` transactions, and for `flushes` flushes
@@ -103,6 +134,7 @@ pub fn log_of(
     requires counts { length history.now ≡ count_of init.now }
     ensures { IfOk result (λ l. l ≡ record {
       log = log_by init.now history.now;
+      txns = logged_by init.now history.now;
       room = room;
       flushes = flushes - length init.now.flushes;
     }) }

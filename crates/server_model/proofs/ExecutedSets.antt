@@ -1,6 +1,6 @@
 -- Executed sets: what they hold, and that they are kept as one server changes.
 use Rattle.std.proofs.Common.{◌≡◌, ℕ, ◌+◌, ◌-◌, ◌<◌, ◌≤◌, Bool, true, false, cond, List, [], ◌∷◌, ◌++◌, length, drop, refl, sym, ◌∙◌, ap, subst, inl, inr, Some, arith, zero, suc, length-append}
-use Rattle.std.specs.Prelude.{slice_get, slice_set, ◌==◌, ◌&&◌, ◌||◌, All}
+use Rattle.std.specs.Prelude.{slice_get, slice_range, slice_set, ◌==◌, ◌&&◌, ◌||◌, All}
 use Rattle.std.specs.List.{fold, list_any}
 use Rattle.std.proofs.lemmas.Bool.{cases_eq, eq-eqb, ne_eqb}
 use Rattle.std.proofs.lemmas.Bool.Decides.{nat_tests}
@@ -19,11 +19,11 @@ use Rattle.orch_base.specs.declared.server.Settings.{Settings}
 use Rattle.orch_base.specs.declared.server.Txn.{Txn}
 use Rattle.orch_base.specs.Histories.{same_txn, holds as txns_hold}
 use Rattle.server_model.specs.Exchanges.{took}
-use Rattle.server_model.specs.Gtids.{uuid_of, uuids_in, has_gtid, with_gtid, with_gtids, set_of, purged_len, purged_txns, TellsExecuted, IsSetOf, IsNumbered, AreGtids}
+use Rattle.server_model.specs.Gtids.{uuid_of, uuids_in, has_gtid, held_len, with_gtid, with_gtids, set_of, purged_len, purged_txns, TellsExecuted, IsSetOf, IsNumbered, AreGtids}
 use Rattle.server_model.specs.Kept.{Kept}
 use Rattle.server_model.specs.Fit.{IsFit}
 use Rattle.server_model.specs.declared.server.Server.{Server}
-use Rattle.server_model.proofs.Lists.{set_cases, set_same, set_other, set_self}
+use Rattle.server_model.proofs.Lists.{set_cases, set_same, set_other, set_self, slice_get-drop}
 use Rattle.server_model.proofs.LogSizes.{length-push}
 use Rattle.server_model.proofs.PurgedFiles.{from_file, newly_purged, purged_len-later, purged_txns-took, take-range}
 
@@ -66,6 +66,22 @@ length-fold uuid (t ∷ ts) set =
 
 pub length-set_of : (uuid : ℕ → ℕ) (txns : List Txn) → length (set_of uuid txns) ≤ length txns
 length-set_of uuid txns = let l = length-fold uuid txns [] in omega (arith, l)
+
+pub with_gtids-push : (uuid : ℕ → ℕ) (set : List Interval) (txns : List Txn) (t : Txn) → with_gtids uuid set (txns ++ t ∷ []) ≡ with_gtid uuid (with_gtids uuid set txns) t
+with_gtids-push uuid set txns t = fold-append (with_gtid uuid) set txns (t ∷ [])
+
+-- a part of a history adds no more than it has
+pub length-range : (uuid : ℕ → ℕ) (set : List Interval) (txns : List Txn) (from k : ℕ) → length (with_gtids uuid set (slice_range txns from k)) ≤ length set + (k - from)
+length-range uuid set txns from k =
+    let few = length-fold uuid (slice_range txns from k) set in
+    let part = length-take (k - from) (drop from txns) in
+    omega (arith, few, part)
+
+-- the prefix that a set holds, by its first transaction
+pub held_len-first : (uuid : ℕ → ℕ) (set : List Interval) (txns : List Txn) (k : ℕ) (t : Txn) (held : Bool) → slice_get txns k ≡ Some t → has_gtid uuid set t ≡ held
+    → held_len uuid set (drop k txns) ≡ cond held (1 + held_len uuid set (drop (k + 1) txns)) 0
+held_len-first uuid set txns k t held at is =
+    ap (held_len uuid set) (slice_get-drop txns k t at) ∙ ap (λ b. cond b (1 + held_len uuid set (drop (k + 1) txns)) 0) is
 
 pub set_of-push : (uuid : ℕ → ℕ) (txns : List Txn) (t : Txn) → set_of uuid (txns ++ t ∷ []) ≡ with_gtid uuid (set_of uuid txns) t
 set_of-push uuid txns t = fold-append (with_gtid uuid) [] txns (t ∷ [])
@@ -269,7 +285,7 @@ AreGtids-took servers executed purged gtid n s e t to u are here beside numbered
     (AreGtids-with servers executed purged gtid n s (record (took s t) { exec = to }) e (kept_with gtid u t.seq e) p.0 p.0 are here beside p.1 refl
     (All-push (IsNumbered (length servers)) s.history.txns t (are.numbered n s here) numbered)
     (λ on.
-    ap (λ b. length (cond b (record s.log { log = push s.log.log t.size }) s.log).log.entries) on
+    ap (λ b. length (cond b (record s.log { log = push s.log.log t.size; txns = s.log.txns ++ t ∷ [] }) s.log).log.entries) on
     ∙ length-push s.log.log t.size ∙ ap (λ k. k + 1) (are.logged n s here on) ∙ sym (length-append s.history.txns (t ∷ [])))
     (with_set gtid kept)
     (still p.0 (are.purges n s p.0 here p.1)))
@@ -293,16 +309,15 @@ purged_with gtid uuid txns p = cond gtid (record p { intervals = with_gtids uuid
 
 -- the set has room for what is purged then
 pub purge-room : (gtid : Bool) (uuid : ℕ → ℕ) (s : Server) (p : Reserved) (first : ℕ) → IsFit s → IsSetOf gtid uuid s (purged_txns s) p → s.first ≤ first → first ≤ s.log.log.files
-    → purged_len s ≤ purged_len (from_file first s) → gtid ≡ true → length p.intervals + length (newly_purged first s) ≤ p.room
+    → purged_len s ≤ purged_len (from_file first s) → gtid ≡ true → length p.intervals + (purged_len (from_file first s) - purged_len s) ≤ p.room
 purge-room gtid uuid s p first fit kept low high more on =
     let set : p.intervals ≡ set_of uuid (purged_txns s) = kept.set ∙ ap (λ b. cond b (set_of uuid (purged_txns s)) []) on in
     let few = length-set_of uuid (purged_txns s) in
     let before = length-take (purged_len s) s.history.txns in
-    let newly = length-take (purged_len (from_file first s) - purged_len s) (drop (purged_len s) s.history.txns) in
     let within = purged_len-later s first fit low high in
     let room = fit.within in
     let enough = kept.room on in
-    rw set (omega (arith, few, before, newly, length-drop (purged_len s) s.history.txns, within, room, enough, more))
+    rw set (omega (arith, few, before, within, room, enough, more))
 
 -- files are purged
 pub AreGtids-purged : (servers : List Server) (executed purged : List Reserved) (gtid : Bool) (n : ℕ) (s : Server) (p : Reserved) (first : ℕ) (uuid : ℕ → ℕ) → AreGtids servers executed purged gtid

@@ -1,4 +1,5 @@
 pub mod Lists
+pub mod Told
 pub mod LogSizes
 pub mod PurgedFiles
 pub mod Purges

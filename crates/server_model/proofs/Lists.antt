@@ -1,6 +1,6 @@
 -- Look-ups after a write.
-use Rattle.std.proofs.Common.{◌≡◌, ℕ, false, cond, List, [], ◌∷◌, refl, sym, ◌∙◌, ap, inl, inr, ◌⊎◌, Some, arith, zero, suc, length, ◌<◌, ◌+◌, ◌++◌, take, get_or}
-use Rattle.std.specs.Prelude.{slice_get, slice_set, ◌==◌}
+use Rattle.std.proofs.Common.{◌≡◌, ℕ, false, cond, List, [], ◌∷◌, refl, sym, ◌∙◌, ap, inl, inr, ◌⊎◌, Some, arith, zero, suc, length, ◌<◌, ◌≤◌, ◌+◌, ◌-◌, ◌++◌, take, drop, get_or}
+use Rattle.std.specs.Prelude.{slice_get, slice_range, slice_set, ◌==◌}
 use Rattle.std.proofs.lemmas.Bool.{cases_eq, eq-eqb, ne_eqb}
 use Rattle.std.proofs.lemmas.Bool.Decides.{nat_tests}
 use Rattle.std.proofs.lemmas.Option.{same_Some, slice_get-get_or}
@@ -67,3 +67,22 @@ slice_get-take [] (suc n) i x h = h
 slice_get-take (z ∷ xs) zero i x h = cc
 slice_get-take (z ∷ xs) (suc n) zero x h = h
 slice_get-take (z ∷ xs) (suc n) (suc i) x h = slice_get-take xs n i x h
+
+-- the list from an index on begins with what stands there
+pub slice_get-drop : {X : Type 0} (xs : List X) (i : ℕ) (x : X) → slice_get xs i ≡ Some x → drop i xs ≡ x ∷ drop (i + 1) xs
+slice_get-drop [] i x h = cc
+slice_get-drop (z ∷ xs) zero x h = let e : z ≡ x = same_Some z x h in ap (λ y. y ∷ xs) e
+slice_get-drop (z ∷ xs) (suc i) x h = let e : suc i + 1 ≡ suc (i + 1) = omega arith in rw e (slice_get-drop xs i x h)
+
+-- a part of a list goes on with what stands behind it
+pub range-more : {X : Type 0} (xs : List X) (from i : ℕ) (x : X) → from ≤ i → slice_get xs i ≡ Some x → slice_range xs from (i + 1) ≡ slice_range xs from i ++ x ∷ []
+range-more xs zero i x h e =
+    let front : i + 1 - 0 ≡ i + 1 = omega arith in
+    let same : i - 0 ≡ i = omega arith in
+    rw (front, same) (take-more xs i x e)
+range-more [] (suc from) i x h e = cc
+range-more (z ∷ xs) (suc from) zero x h e = absurd (omega arith)
+range-more (z ∷ xs) (suc from) (suc i) x h e =
+    let front : suc i + 1 - suc from ≡ i + 1 - from = omega arith in
+    let same : suc i - suc from ≡ i - from = omega arith in
+    rw (front, same) (range-more xs from i x (omega arith) e)

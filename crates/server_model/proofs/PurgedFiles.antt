@@ -76,7 +76,7 @@ purged_len-later s first fit more high =
 pub KeepsFrom-took : (s : Server) (t : Txn) → KeepsFrom s.settings.logs s.log.log s.first → KeepsFrom s.settings.logs (took s t).log.log s.first
 KeepsFrom-took s t kept = go s.settings.logs refl
   where
-    go : (b : Bool) → s.settings.logs ≡ b → KeepsFrom s.settings.logs (cond b (record s.log { log = push s.log.log t.size }) s.log).log s.first
+    go : (b : Bool) → s.settings.logs ≡ b → KeepsFrom s.settings.logs (cond b (record s.log { log = push s.log.log t.size; txns = s.log.txns ++ t ∷ [] }) s.log).log s.first
     go true on = record {
       low = kept.low;
       high = (let more = files-rise s.log.log t.size in let high = kept.high in omega arith);
@@ -87,7 +87,7 @@ KeepsFrom-took s t kept = go s.settings.logs refl
 purged_len-took : (s : Server) (t : Txn) (to : Coord) → IsFit s → 0 < t.size → purged_len (record (took s t) { exec = to }) ≡ purged_len s
 purged_len-took s t to fit some = go s.settings.logs
   where
-    go : (b : Bool) → unwrap_or (place (cond b (record s.log { log = push s.log.log t.size }) s.log).log (file_start s.first)) 0 ≡ purged_len s
+    go : (b : Bool) → unwrap_or (place (cond b (record s.log { log = push s.log.log t.size; txns = s.log.txns ++ t ∷ [] }) s.log).log (file_start s.first)) 0 ≡ purged_len s
     go true = ap (λ o. unwrap_or o 0) (stable_push s.log.log t.size (file_start s.first) (purged_len s) fit.grown some (purged-place s fit.kept.low fit.kept.high))
     go false = refl
 

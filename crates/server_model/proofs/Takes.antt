@@ -26,10 +26,10 @@ use Rattle.server_model.proofs.PurgedFiles.{KeepsFrom-took}
 
 module _ (s : Server) (t : Txn) (to : Coord) (fit : IsFit s) (some : 0 < t.size) (size : t.size ≤ 1000000) (room : length s.history.txns < s.history.room) where
   -- of a log that took the transaction, and of one that didn't since the server doesn't log
-  by_logs : (P : Index → Type 0) → P (record s.log { log = push s.log.log t.size }) → P s.log → P (took s t).log
+  by_logs : (P : Index → Type 0) → P (record s.log { log = push s.log.log t.size; txns = s.log.txns ++ t ∷ [] }) → P s.log → P (took s t).log
   by_logs P logged unlogged = go s.settings.logs
     where
-      go : (b : Bool) → P (cond b (record s.log { log = push s.log.log t.size }) s.log)
+      go : (b : Bool) → P (cond b (record s.log { log = push s.log.log t.size; txns = s.log.txns ++ t ∷ [] }) s.log)
       go true = logged
       go false = unlogged
 

@@ -26,7 +26,7 @@ use Rattle.server_model.specs.Worlds.{World, server_at, with_server, has_source}
 abbrev pub took : Server → Txn → Server
 took s t = record s {
   history = record s.history { txns = s.history.txns ++ t ∷ [] };
-  log = if s.settings.logs then record s.log { log = push s.log.log t.size } else s.log;
+  log = if s.settings.logs then record s.log { log = push s.log.log t.size; txns = s.log.txns ++ t ∷ [] } else s.log;
 }
 
 -- write: an ordinary client's transaction

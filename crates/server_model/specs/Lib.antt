@@ -1,5 +1,6 @@
 pub mod Kept
-pub mod KeptBy
+pub mod Server
+pub mod ServerBy
 pub mod Layout
 pub mod Worlds
 pub mod Exchanges

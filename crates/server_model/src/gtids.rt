@@ -1,14 +1,14 @@
 //! Servers by the GTIDs of what they have executed.
 
-ghost use Rattle.std.specs.Prelude.{◌≡◌, ◌+◌, ◌<◌, ◌≤◌, All, IfOk, length, map, true, if◌then◌else◌};
+ghost use Rattle.std.specs.Prelude.{◌≡◌, ◌+◌, ◌-◌, ◌<◌, ◌≤◌, All, IfOk, length, map, take, slice_range, true, if◌then◌else◌};
 ghost use Rattle.gtid_sets.specs.Adding.{with_pair};
 ghost use Rattle.server_model.specs.Gtids.{auto_readiness, held_len, kept_coord, purged_len, purged_txns, reserved_set, uuids_in, with_gtids, IsNumbered};
 
 use crate::attach::spot_below;
 use crate::{AttachFault, Server};
-use binlog_coords::Coord;
+use binlog_coords::{Coord, LogIndex};
 use gtid_sets::ReservedSet;
-use orch_base::{Memory, ServerNo, Txn};
+use orch_base::{Memory, ServerNo};
 use std::alloc::Global;
 
 /// The UUID of a server, or 0 where there is none.
@@ -35,34 +35,45 @@ pub(crate) fn keep_gtid(executed: &mut ReservedSet, gtid: bool, uuid: u128, n: u
     }
 }
 
-/// Adds the GTIDs of these transactions to the set, where GTIDs are used. It takes no memory.
-pub(crate) fn keep_gtids(kept: &mut ReservedSet, gtid: bool, servers: &[Server], txns: &[Txn])
-    requires numbered { All (IsNumbered (length servers.now)) txns.now }
-    requires room { gtid ≡ true → length kept.old.intervals + length txns.now ≤ kept.old.room }
+/// Adds the GTIDs of the transactions from one index on and before another to the set, where GTIDs are used. It takes no
+/// memory.
+pub(crate) fn keep_gtids(
+    kept: &mut ReservedSet,
+    gtid: bool,
+    servers: &[Server],
+    log: &LogIndex,
+    from: u64,
+    to: u64,
+)
+    requires numbered { All (IsNumbered (length servers.now)) log.now.txns }
+    requires order { from ≤ to }
+    requires within { to ≤ length log.now.txns }
+    requires room { gtid ≡ true → length kept.old.intervals + (to - from) ≤ kept.old.room }
     ensures { kept.new ≡ (if gtid
         then record kept.old {
-          intervals = with_gtids (uuids_in servers.now) kept.old.intervals txns.now;
+          intervals = with_gtids (uuids_in servers.now) kept.old.intervals (slice_range log.now.txns from to);
         }
         else kept.old) }
 {
     if gtid {
-        for t in txns {
+        for k in from..to {
+            let t = log.txn(k).unwrap();
             kept.add(uuid_of(servers, t.origin), t.seq);
         }
     }
 }
 
 /// How many transactions the longest prefix of a history has that the set holds.
-pub(crate) fn held_len(servers: &[Server], executed: &ReservedSet, txns: &[Txn]) -> u64
-    requires { length txns.now ≤ 4000000 }
-    ensures { result ≡ held_len (uuids_in servers.now) executed.now.intervals txns.now }
+pub(crate) fn held_len(servers: &[Server], executed: &ReservedSet, log: &LogIndex) -> u64
+    ensures { result ≡ held_len (uuids_in servers.now) executed.now.intervals log.now.txns }
 {
-    for (k, t) in txns.iter().enumerate() {
+    for k in 0..log.len() {
+        let t = log.txn(k).unwrap();
         if !executed.contains(uuid_of(servers, t.origin), t.seq) {
-            return k as u64;
+            return k;
         }
     }
-    txns.len() as u64
+    log.len()
 }
 
 /// Why a server can't be attached by a set, but for the sets, by whether it would close a loop.
@@ -85,6 +96,9 @@ pub(crate) fn auto_readiness(s: &Server, loops: bool) -> Result<(), AttachFault>
 pub(crate) fn purged_len(s: &Server) -> u64
     ensures { result ≡ purged_len s.now }
 {
+    if !s.settings.logs {
+        return 0;
+    }
     let kept = Coord {
         file: s.first,
         pos: 4,
@@ -106,25 +120,25 @@ pub(crate) fn kept_coord(s: &Server, at: Coord) -> Coord
     }
 }
 
-// The set of what a server has executed, where GTIDs are used, in room for so many transactions.
+// The set of the first transactions, so many, that a server has executed, where GTIDs are used, in the room that its
+// history has.
 fn executed_set(
     alloc: Global,
     servers: &[Server],
     gtid: bool,
-    room: u64,
-    txns: &[Txn],
+    log: &LogIndex,
+    count: u64,
 ) -> Result<ReservedSet, Memory>
-    requires numbered { All (IsNumbered (length servers.now)) txns.now }
-    requires fits { length txns.now ≤ room }
-    ensures { IfOk result (λ set. set ≡ reserved_set gtid (uuids_in servers.now) room txns.now) }
+    requires numbered { All (IsNumbered (length servers.now)) log.now.txns }
+    requires within { count ≤ length log.now.txns }
+    requires fits { count ≤ log.now.room }
+    ensures { IfOk result (λ set. set ≡ reserved_set gtid (uuids_in servers.now) log.now.room (take count log.now.txns)) }
 {
     if !gtid {
         return ReservedSet::with_room(alloc, 0);
     }
-    let mut executed = ReservedSet::with_room(alloc, room)?;
-    for t in txns {
-        executed.add(uuid_of(servers, t.origin), t.seq);
-    }
+    let mut executed = ReservedSet::with_room(alloc, log.room())?;
+    keep_gtids(&mut executed, true, servers, log, 0, count);
     Ok(executed)
 }
 
@@ -144,9 +158,7 @@ pub(crate) fn purged_sets(
 {
     let mut sets = Vec::new(alloc);
     for s in servers {
-        let room = s.history.room();
-        let txns = &s.history.as_slice()[..purged_len(s) as usize];
-        sets.push(executed_set(alloc, servers, gtid, room, txns)?)?;
+        sets.push(executed_set(alloc, servers, gtid, &s.log, purged_len(s))?)?;
     }
     Ok(sets)
 }
@@ -157,16 +169,14 @@ pub(crate) fn executed_sets(
     servers: &[Server],
     gtid: bool,
 ) -> Result<Vec<ReservedSet>, Memory>
-    requires numbered { All (λ s. All (IsNumbered (length servers.now)) s.history.txns) servers.now }
-    requires fits { All (λ s. length s.history.txns ≤ s.history.room) servers.now }
+    requires { All (λ s. All (IsNumbered (length servers.now)) s.history.txns) servers.now }
     ensures { IfOk result (λ v. v.items ≡
         map (λ s. reserved_set gtid (uuids_in servers.now) s.history.room s.history.txns)
         servers.now) }
 {
     let mut sets = Vec::new(alloc);
     for s in servers {
-        let (room, txns) = (s.history.room(), s.history.as_slice());
-        sets.push(executed_set(alloc, servers, gtid, room, txns)?)?;
+        sets.push(executed_set(alloc, servers, gtid, &s.log, s.log.len())?)?;
     }
     Ok(sets)
 }

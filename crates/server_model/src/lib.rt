@@ -4,7 +4,6 @@
 mod attach;
 mod decisions;
 mod gtids;
-mod history;
 mod own;
 mod purging;
 mod server;
@@ -14,7 +13,6 @@ mod threads;
 mod world;
 
 pub(crate) use decisions::{ApplyStep, FetchStep};
-pub use history::History;
 pub use server::Server;
 pub use server_words::{
     ApplyAnswer, Ask, AttachFault, Event, FetchAnswer, Link, Plain, PurgeAnswer, RotateAnswer,

@@ -5,13 +5,19 @@ ghost use Rattle.orch_base.specs.Histories.{count_own};
 ghost use Rattle.server_model.specs.Fit.{own_counts};
 
 use crate::Server;
-use orch_base::{Memory, ServerNo, Txn};
+use crate::steps::own_of;
+use binlog_coords::LogIndex;
+use orch_base::{Memory, ServerNo};
 use std::alloc::Global;
 
-fn count_own(no: ServerNo, txns: &[Txn]) -> u64
-    ensures { result ≡ count_own no.0 txns.now }
+fn count_own(no: ServerNo, log: &LogIndex) -> u64
+    ensures { result ≡ count_own no.0 log.now.txns }
 {
-    txns.iter().filter(|t| t.origin.0 == no.0).count() as u64
+    let mut own = 0;
+    for k in 0..log.len() {
+        own += own_of(no, log.txn(k).unwrap());
+    }
+    own
 }
 
 /// How many transactions of its own each server has executed.
@@ -21,7 +27,7 @@ pub(crate) fn own_counts(alloc: Global, servers: &[Server]) -> Result<Vec<u64>, 
 {
     let mut counts = Vec::new(alloc);
     for (n, s) in servers.iter().enumerate() {
-        counts.push(count_own(ServerNo(n as u32), s.history.as_slice()))?;
+        counts.push(count_own(ServerNo(n as u32), &s.log))?;
     }
     Ok(counts)
 }

@@ -1,17 +1,16 @@
 //! One server.
 
 use crate::steps::is_attached;
-use crate::{ApplyStep, Ask, Event, FetchStep, History, Link, Threads};
+use crate::{ApplyStep, Ask, Event, FetchStep, Link, Threads};
 use binlog_coords::{Coord, LogIndex, Next};
 use orch_base::{ServerNo, Settings, SourceState, Txn};
+use std::marker::Model;
 
 /// A server: what it has executed, its log, and where it stands in its source's log.
 #[derive(Drop)]
 pub struct Server {
     pub settings: Settings,
-    /// What it has executed.
-    pub history: History,
-    /// Its own binary log. That of a server that doesn't log stays empty.
+    /// What it has executed, and its own binary log. One that doesn't log keeps this list, too, and shows an empty log.
     pub log: LogIndex,
     /// The first file that its log keeps: those before it are purged. 1 before any purge.
     pub first: u32,
@@ -36,10 +35,19 @@ pub struct Server {
     pub feed: bool,
 }
 
+impl Model for Server {
+    ghost use Rattle.server_model.specs.Server.{Server as ServerState};
+
+    ghost Value = { ServerState };
+
+    ghost use Rattle.server_model.specs.ServerBy.{server_of};
+
+    ghost view = { server_of };
+}
+
 impl Server {
-    ghost use Rattle.std.specs.Prelude.{◌≡◌, ◌+◌, ◌<◌, ◌≤◌, length, Some};
+    ghost use Rattle.std.specs.Prelude.{◌≡◌, ◌+◌, ◌<◌, ◌≤◌, true, length, Some};
     ghost use Rattle.server_model.specs.Exchanges.{took, IsReady};
-    ghost use Rattle.server_model.specs.Fit.{IsFit};
     ghost use Rattle.server_model.specs.Steps.{applier_did, receiver_did};
     ghost use Rattle.server_model.specs.Attach.{attached_to};
     ghost use Rattle.server_model.specs.Gtids.{attached_auto};
@@ -48,15 +56,11 @@ impl Server {
     /// The history takes the transaction, and so does the log of a server that logs.
     pub(crate) fn take(&mut self, t: Txn)
         requires room { length self.old.history.txns < self.old.history.room }
-        requires log_room { length self.old.log.log.entries < self.old.log.room }
         requires some { 0 < t.size }
         requires size { t.size ≤ 1000000 }
         ensures { self.new ≡ took self.old t }
     {
-        self.history.push(t);
-        if self.settings.logs {
-            self.log.push(t.size);
-        }
+        self.log.push_txn(t);
     }
 
     /// The receiver does its step.
@@ -76,8 +80,7 @@ impl Server {
 
     /// The applier does its step.
     pub(crate) fn apply(&mut self, step: ApplyStep)
-        requires ready { IsReady (Some self.old) step }
-        requires fit { IsFit self.old }
+        requires { IsReady (Some self.old) step }
         ensures { self.new ≡ applier_did step self.old }
     {
         match step {
@@ -238,9 +241,10 @@ impl Server {
         }
     }
 
-    /// The next file of its log begins.
+    /// The next file of the log of a server that logs begins.
     pub(crate) fn rotate(&mut self)
-        requires { 0 < self.old.log.flushes }
+        requires logs { self.old.settings.logs ≡ true }
+        requires flushes { 0 < self.old.log.flushes }
         ensures { self.new ≡ rotated self.old }
     {
         self.log.rotate();

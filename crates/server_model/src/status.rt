@@ -10,12 +10,12 @@ use gtid_sets::GtidSet;
 use orch_base::{IoState, SourceState};
 use server_words::Status;
 
-/// The server that one with this source is attached to or detached from.
-pub(crate) fn above(servers: &[Server], source: SourceState) -> Option<&Server>
+/// The server that this one is attached to or detached from.
+pub(crate) fn above<'a>(servers: &'a [Server], s: &Server) -> Option<&'a Server>
     ensures { option_copied result ≡
-        option_and_then (λ m. slice_get servers.now m) (source_no source) }
+        option_and_then (λ m. slice_get servers.now m) (source_no s.now.source) }
 {
-    match source {
+    match s.source {
         SourceState::Attached(m) | SourceState::Detached(m) => servers.get(m.0 as usize),
         SourceState::Without => None,
     }

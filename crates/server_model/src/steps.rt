@@ -1,7 +1,7 @@
 //! What a receiver and an applier are to do next.
 
 ghost use Rattle.std.specs.Prelude.{◌≡◌, ◌<◌, ◌≤◌, All, Some, true, ◌==◌, ◌&&◌, if◌then◌else◌};
-ghost use Rattle.binlog_coords.specs.Log.{has_place};
+ghost use Rattle.binlog_coords.specs.Log.{has_place, next_after};
 ghost use Rattle.server_model.specs.Exchanges.{applied, apply_answer, apply_from, fetch_answer, fetch_from, is_applying, is_attached, is_reached, is_receiving, IsReady};
 ghost use Rattle.server_model.specs.Worlds.{has_source};
 ghost use Rattle.server_model.specs.Gtids.{uuids_in, TellsExecuted};
@@ -40,23 +40,36 @@ pub(crate) fn is_applying(r: &Server) -> bool
     r.up && (is_attached(r.source) && r.applier)
 }
 
-/// How many of the writes that a server with this source accepts are errant: each, or none.
-pub(crate) fn errant_writes(source: SourceState) -> u64
-    ensures value { result ≡ (if has_source source then 1 else 0) }
+/// How many of the writes that the server accepts are errant: each, where it has a source, or none.
+pub(crate) fn errant_writes(s: &Server) -> u64
+    ensures value { result ≡ (if has_source s.now.source then 1 else 0) }
     ensures within { result ≤ 1 }
 {
-    match source {
+    match s.source {
         SourceState::Without => 0,
         SourceState::Attached(_) | SourceState::Detached(_) => 1,
     }
 }
 
-pub(crate) fn is_reached(until: Option<Coord>, exec: Coord) -> bool
-    ensures { result ≡ is_reached until exec }
+/// Whether the applier of a replica is where it is to stop.
+pub(crate) fn is_reached(r: &Server) -> bool
+    ensures { result ≡ is_reached r.now.until r.now.exec }
 {
-    match until {
+    match r.until {
         None => false,
-        Some(until) => until.is_at_or_before(exec),
+        Some(until) => until.is_at_or_before(r.exec),
+    }
+}
+
+// What follows in the log of a server; that of one that doesn't log is empty.
+fn next_in(s: &Server, c: Coord) -> Next
+    requires { has_place s.now.log.log c ≡ true }
+    ensures { result ≡ next_after s.now.log.log c }
+{
+    if s.settings.logs {
+        s.log.next_after(c)
+    } else {
+        Next::End
     }
 }
 
@@ -71,7 +84,7 @@ pub(crate) fn receiver_step(r: &Server, s: &Server) -> FetchStep
     if r.read.file < s.first {
         return FetchStep::Refuse(s.first);
     }
-    FetchStep::Take(s.log.next_after(r.read))
+    FetchStep::Take(next_in(s, r.read))
 }
 
 pub(crate) fn fetch_answer(step: FetchStep) -> FetchAnswer
@@ -126,7 +139,7 @@ pub(crate) fn applier_step(
     if r.exec.is_same(r.read) {
         return ApplyStep::Idle;
     }
-    let next = s.log.next_after(r.exec);
+    let next = next_in(s, r.exec);
     applied(gtid, r, s, next, servers, executed)
 }
 
@@ -144,12 +157,12 @@ fn applied(
     ensures ready { IsReady (Some r.now) result }
 {
     match next {
-        Next::Entry(index, to) => match s.history.get(index) {
+        Next::Entry(index, to) => match s.log.txn(index) {
             None => ApplyStep::Idle,
             Some(t) => {
                 if gtid && executed.contains(uuid_of(servers, t.origin), t.seq) {
                     ApplyStep::Skip(to)
-                } else if r.history.room() <= r.history.len() {
+                } else if r.log.room() <= r.log.len() {
                     ApplyStep::NoRoom
                 } else {
                     ApplyStep::Execute(t, to)

@@ -1,11 +1,10 @@
 //! The types of this crate can be moved between threads, and shared by them.
 
-use crate::{History, Server, World};
+use crate::{Server, World};
 
 fn crosses_threads<T: Send + Sync>() {}
 
 fn all_cross_threads() {
-    crosses_threads::<History>();
     crosses_threads::<Server>();
     crosses_threads::<World>();
 }

@@ -93,7 +93,8 @@ impl World {
         requires { no.0 < length self.now.servers }
         ensures { option_map (λ s. s.settings) (server_at self.now no.0) ≡ Some result.now }
     {
-        &self.servers[no.0 as usize].settings
+        let s = &self.servers[no.0 as usize];
+        &s.settings
     }
 
     /// Whether the servers use GTIDs.
@@ -115,7 +116,8 @@ impl World {
         requires { no.0 < length self.now.servers }
         ensures { option_map (λ s. length s.history.txns) (server_at self.now no.0) ≡ Some result }
     {
-        self.servers[no.0 as usize].history.len()
+        let s = &self.servers[no.0 as usize];
+        s.log.len()
     }
 
     /// The transaction of this index, from 0, among those that a server has executed.
@@ -125,7 +127,8 @@ impl World {
         ensures { option_and_then (λ s. slice_get s.history.txns k) (server_at self.now no.0)
             ≡ Some result }
     {
-        self.servers[no.0 as usize].history.as_slice()[k as usize]
+        let s = &self.servers[no.0 as usize];
+        s.log.txn(k).unwrap()
     }
 
     /// What the tables tell of a server, reachable or not.
@@ -175,14 +178,14 @@ impl World {
         if s.read_only {
             return WriteAnswer::ReadOnly;
         }
-        if s.history.room() <= s.history.len() {
+        if s.log.room() <= s.log.len() {
             return WriteAnswer::Full;
         }
         let seq = self.own[n] + 1;
         self.own[n] = seq;
         let executed = &mut self.executed[n];
         keep_gtid(executed, self.gtid, s.settings.uuid, seq);
-        self.errant += errant_writes(s.source);
+        self.errant += errant_writes(s);
         s.take(Txn {
             origin: no,
             seq,
@@ -213,7 +216,7 @@ impl World {
         if !is_receiving(r) {
             return FetchStep::Halt;
         }
-        match self.source_of(r.source) {
+        match self.source_of(r) {
             None => FetchStep::Unlinked,
             Some(s) => receiver_step(r, s),
         }
@@ -250,20 +253,20 @@ impl World {
         if !is_applying(r) {
             return ApplyStep::Halt;
         }
-        if is_reached(r.until, r.exec) {
+        if is_reached(r) {
             return ApplyStep::ForgetUntil;
         }
-        match self.source_of(r.source) {
+        match self.source_of(r) {
             None => ApplyStep::Idle,
             Some(s) => applier_step(self.gtid, r, s, &self.servers, &self.executed[n]),
         }
     }
 
     // The server that a replica is attached to.
-    fn source_of(&self, source: SourceState) -> Option<&Server>
-        ensures { option_copied result ≡ attached_at self.now source }
+    fn source_of(&self, r: &Server) -> Option<&Server>
+        ensures { option_copied result ≡ attached_at self.now r.now.source }
     {
-        match source {
+        match r.source {
             SourceState::Attached(m) => self.servers.get(m.0 as usize),
             SourceState::Without | SourceState::Detached(_) => None,
         }
@@ -441,13 +444,13 @@ impl World {
             after_purge self.old no.0 (server_at self.old no.0) (PurgeAnswer.Done first) }
     {
         let n = no.0 as usize;
-        let from = purged_len(&self.servers[n]);
         let s = &mut self.servers[n];
+        let from = purged_len(s);
         s.first = first;
-        let to = purged_len(&self.servers[n]);
-        let txns = self.servers[n].history.between(from, to);
+        let to = purged_len(s);
+        let s = &self.servers[n];
         let purged = &mut self.purged[n];
-        keep_gtids(purged, self.gtid, &self.servers, txns);
+        keep_gtids(purged, self.gtid, &self.servers, &s.log, from, to);
     }
 
     /// Attaches a server that stands at the expected spot to `to`, a server that logs, at `at`, which has a place in
@@ -510,7 +513,7 @@ impl World {
         let s = &self.servers[n];
         let set = self.executed[n].copy(alloc)?;
         let purged = self.purged[n].copy(alloc)?;
-        Ok(status_of(s, above(&self.servers, s.source), set, purged))
+        Ok(status_of(s, above(&self.servers, s), set, purged))
     }
 
     /// What orchestrator sees of a server in one exchange: Unreachable exactly where the server is down or its desk
@@ -590,7 +593,7 @@ impl World {
             return Err(AttachFault::Errant(errant));
         }
         let source = &self.servers[to.0 as usize];
-        let held = held_len(&self.servers, &self.executed[n], source.history.as_slice());
+        let held = held_len(&self.servers, &self.executed[n], &source.log);
         purged_answer(held < purged_len(source), source.first)?;
         Ok(kept_coord(source, source.log.coord_after(held)))
     }
@@ -609,6 +612,6 @@ impl World {
         if !s.settings.logs || k < purged_len(s) {
             return Ok(None);
         }
-        Ok(s.history.get(k))
+        Ok(s.log.txn(k))
     }
 }

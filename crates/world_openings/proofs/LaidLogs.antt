@@ -6,11 +6,12 @@ use Rattle.std.proofs.lemmas.List.Elements.{All-head, All-tail}
 use Rattle.std.proofs.lemmas.List.Sums.{sum_by-cons, count_by-le-length}
 use Rattle.binlog_coords.specs.Grown.{Grown}
 use Rattle.binlog_coords.specs.Grown as grown
+use Rattle.binlog_coords.specs.Index.{Index}
 use Rattle.binlog_coords.specs.Log.{Log, opened, push}
 use Rattle.orch_base.specs.declared.server.Txn.{Txn}
 use Rattle.openings.specs.declared.init.ServerInit.{ServerInit}
 use Rattle.openings.specs.Logs.{flushed_times, flushed_at, laid_after, laid}
-use Rattle.openings.specs.Servers.{log_by}
+use Rattle.openings.specs.Servers.{log_by, logged_by}
 use Rattle.server_model.specs.Fit.{HasSize}
 use Rattle.server_model.proofs.LogSizes.{length-push, files-push}
 
@@ -92,3 +93,28 @@ pub entries-log_by : (i : ServerInit) (history : List Txn) → i.settings.logs �
 entries-log_by i history on =
     ap (λ b. length (cond b (laid i.settings.limit i.flushes history) (opened i.settings.limit)).entries) on
     ∙ (let e = entries-laid_after i.flushes 0 (opened i.settings.limit) history in omega (arith, e))
+
+-- an index by its parts
+pub index-is : (x : Index) (l : Log) (ts : List Txn) (r f : ℕ) → x.log ≡ l → x.txns ≡ ts → x.room ≡ r → x.flushes ≡ f
+    → x ≡ record { log = l; txns = ts; room = r; flushes = f }
+index-is x l ts r f log txns room flushes =
+    ap (λ y. record x { log = y }) log ∙ ap (λ y. record x { log = l; txns = y }) txns
+    ∙ ap (λ y. record x { log = l; txns = ts; room = y }) room ∙ ap (λ y. record x { log = l; txns = ts; room = r; flushes = y }) flushes
+
+-- what is told of the log of a server by all that it has executed
+pub told-log_by : (i : ServerInit) (history : List Txn) (room flushes : ℕ) (x : Index) → x ≡ record { log = laid i.settings.limit i.flushes history; txns = history; room = room; flushes = flushes }
+    → cond i.settings.logs x (record x { log = opened i.settings.limit; txns = [] })
+    ≡ record { log = log_by i history; txns = logged_by i history; room = room; flushes = flushes }
+told-log_by i history room flushes x is =
+    ap (λ (y : Index). cond i.settings.logs y (record y { log = opened i.settings.limit; txns = [] })) is ∙ go i.settings.logs
+  where
+    go : (b : Bool) → cond b (record { log = laid i.settings.limit i.flushes history; txns = history; room = room; flushes = flushes })
+            (record { log = opened i.settings.limit; txns = []; room = room; flushes = flushes })
+        ≡ record {
+            log = cond b (laid i.settings.limit i.flushes history) (opened i.settings.limit);
+            txns = cond b history [];
+            room = room;
+            flushes = flushes;
+        }
+    go true = refl
+    go false = refl

@@ -5,6 +5,7 @@ use Rattle.std.proofs.lemmas.Bool.{cases_eq, cases_lt}
 use Rattle.std.proofs.lemmas.Option.{same_Some, slice_get_within}
 use Rattle.std.proofs.lemmas.List.{length-set}
 use Rattle.binlog_coords.specs.declared.Coord.{Coord}
+use Rattle.binlog_coords.specs.Index.{Index}
 use Rattle.openings.specs.declared.init.ServerInit.{ServerInit}
 use Rattle.openings.specs.Opening.{Opened}
 use Rattle.openings.specs.Servers.{exec_of, read_of}
@@ -60,15 +61,16 @@ AreBare-more o room flushes n servers i at bare = record {
   ];
 }
 
--- they have their logs
+-- they have their settings and logs
 pub HaveLogs-bare : (o : Opened) (room flushes : ℕ) (servers : List Server) → AreBare o room flushes (length o.servers) servers → HaveLogs o.servers servers
 HaveLogs-bare o room flushes servers bare = record {
   count = bare.count;
-  each = λ k i s at here.
-      let is : s ≡ bare_server o.servers room flushes k i =
-      same_Some s (bare_server o.servers room flushes k i) (sym here ∙ bare.each k i at (slice_get_within o.servers k i at)) in
-      ap (λ (x : Server). x.log.log) is ∙ sym (log_at-is o.servers k i at);
+  settings = λ k i s at here. ap (λ (x : Server). x.settings) (is k i s at here);
+  each = λ k i s at here. ap (λ (x : Server). x.log.log) (is k i s at here) ∙ sym (log_at-is o.servers k i at);
 }
+  where
+    is : (k : ℕ) (i : ServerInit) (s : Server) → slice_get o.servers k ≡ Some i → slice_get servers k ≡ Some s → s ≡ bare_server o.servers room flushes k i
+    is k i s at here = same_Some s (bare_server o.servers room flushes k i) (sym here ∙ bare.each k i at (slice_get_within o.servers k i at))
 
 -- one server more has its coordinates
 pub ArePlaced-none : (inits : List ServerInit) (servers : List Server) → ArePlaced inits 0 servers servers
@@ -93,19 +95,28 @@ ArePlaced-more inits n before servers i s exec read at here is_exec is_read plac
       rest = λ k t was h. set_other servers n s new here k (λ same. absurd (omega arith)) ∙ placed.rest k t was (omega arith);
     }
 
--- a server with its coordinates keeps its log
+-- a server with its coordinates keeps its settings and its log
 pub HaveLogs-placed : (inits : List ServerInit) (n : ℕ) (before servers : List Server) → HaveLogs inits before → ArePlaced inits n before servers → HaveLogs inits servers
 HaveLogs-placed inits n before servers logs placed = record {
   count = placed.count ∙ logs.count;
-  each = λ k i s at here.
-      let within = slice_get_within servers k s here in
-      let count = placed.count in
-      let old = there before k (omega arith) in
-      elim (cases_lt k n) [
-        | inl done ↦ ap (λ (x : Server). x.log.log) (same_Some s (placed_by inits i old.0) (sym here ∙ placed.done k i old.0 at old.1 done)) ∙ logs.each k i old.0 at old.1
-        | inr after ↦ ap (λ (x : Server). x.log.log) (same_Some s old.0 (sym here ∙ placed.rest k old.0 old.1 after)) ∙ logs.each k i old.0 at old.1
-      ];
+  settings = λ k i s at here. let o = old k i s at here in o.2 ∙ logs.settings k i o.0 at o.1;
+  each = λ k i s at here. let o = old k i s at here in ap (λ (x : Index). x.log) o.3 ∙ logs.each k i o.0 at o.1;
 }
+  where
+    old : (k : ℕ) (i : ServerInit) (s : Server) → slice_get inits k ≡ Some i → slice_get servers k ≡ Some s
+        → (t : Server) × (slice_get before k ≡ Some t) × (s.settings ≡ t.settings) × (s.log ≡ t.log)
+    old k i s at here =
+        let within = slice_get_within servers k s here in
+        let count = placed.count in
+        let t = there before k (omega arith) in
+        elim (cases_lt k n) [
+          | inl done ↦
+              let is = same_Some s (placed_by inits i t.0) (sym here ∙ placed.done k i t.0 at t.1 done) in
+              (t.0, t.1, ap (λ (x : Server). x.settings) is, ap (λ (x : Server). x.log) is)
+          | inr after ↦
+              let is = same_Some s t.0 (sym here ∙ placed.rest k t.0 t.1 after) in
+              (t.0, t.1, ap (λ (x : Server). x.settings) is, ap (λ (x : Server). x.log) is)
+        ]
 
 -- all servers, with their coordinates
 pub ArePlaced-all : (o : Opened) (room flushes : ℕ) (before servers : List Server) → AreBare o room flushes (length o.servers) before → ArePlaced o.servers (length o.servers) before servers

@@ -31,9 +31,10 @@ pub record AreBare (o : Opened) (room flushes n : ℕ) (servers : List Server) :
   pub count : length servers ≡ n
   pub each : (k : ℕ) (i : ServerInit) → slice_get o.servers k ≡ Some i → k < n → slice_get servers k ≡ Some (bare_server o.servers room flushes k i)
 
--- each server has its log
+-- each server has its settings and its log
 pub record HaveLogs (inits : List ServerInit) (servers : List Server) : Type 0 where
   pub count : length servers ≡ length inits
+  pub settings : (k : ℕ) (i : ServerInit) (s : Server) → slice_get inits k ≡ Some i → slice_get servers k ≡ Some s → s.settings ≡ i.settings
   pub each : (k : ℕ) (i : ServerInit) (s : Server) → slice_get inits k ≡ Some i → slice_get servers k ≡ Some s → s.log.log ≡ log_at inits k
 
 -- a server with the coordinates that are listed of it

@@ -6,7 +6,7 @@ use Rattle.orch_base.specs.declared.server.SourceState.TheVariants.{Without, Att
 use Rattle.openings.specs.declared.init.ServerInit.{ServerInit}
 use Rattle.openings.specs.Listed.{transactions}
 use Rattle.openings.specs.Opening.{Opened}
-use Rattle.openings.specs.Servers.{parts_of, history_at, log_by, exec_of, read_of}
+use Rattle.openings.specs.Servers.{parts_of, history_at, log_by, logged_by, exec_of, read_of}
 use Rattle.server_model.specs.declared.server.Server.{Server}
 use Rattle.server_model.specs.Worlds.{World}
 
@@ -19,7 +19,12 @@ abbrev pub opened_server : List ServerInit → ℕ → ℕ → ℕ → ServerIni
 opened_server servers room flushes n i = record {
   settings = i.settings;
   history = record { txns = history_at servers n; room = room };
-  log = record { log = log_by i (history_at servers n); room = room; flushes = flushes - length i.flushes };
+  log = record {
+    log = log_by i (history_at servers n);
+    txns = logged_by i (history_at servers n);
+    room = room;
+    flushes = flushes - length i.flushes;
+  };
   first = i.purged;
   source = source_state i.detached i.source;
   exec = exec_of servers i;

@@ -6,9 +6,9 @@ ghost use Rattle.world_openings.specs.Opening.{opened_from, source_state, Fits};
 ghost use Rattle.world_openings.specs.Makings.{bare_server, exec_in, read_in, AreBare, ArePlaced, HaveLogs, IsPlacedIn};
 
 use binlog_coords::{Coord, LogIndex};
-use openings::{Opening, ServerInit, history_at, log_of};
+use openings::{Opening, ServerInit, history_at, laid_history};
 use orch_base::{Memory, ServerNo, SourceState};
-use server_model::{History, Server};
+use server_model::Server;
 use std::alloc::Global;
 
 fn source_state(detached: bool, source: Option<ServerNo>) -> SourceState
@@ -37,13 +37,12 @@ fn bare_server(
     ensures { IfOk result (λ s. s ≡ bare_server from.now.servers room flushes no.0 init.now) }
 {
     let txns = history_at(alloc, from.servers(), no, room)?;
-    let log = log_of(alloc, init, &txns, room, flushes)?;
+    let log = laid_history(alloc, init, &txns, room, flushes)?;
     let settings = init.settings.copy(alloc)?;
     let start = Coord { file: 1, pos: 4 };
     let is_replica = init.source.is_some();
     Ok(Server {
         settings,
-        history: History::new(txns, room),
         log,
         first: init.purged,
         source: source_state(init.detached, init.source),
@@ -110,7 +109,10 @@ fn standing_of(from: &Opening, no: ServerNo, servers: &[Server]) -> (Coord, Coor
     let start = Coord { file: 1, pos: 4 };
     match init.source {
         None => (start, start),
-        Some(m) => standing_in(init, &servers[m.0 as usize].log),
+        Some(m) => {
+            let source = &servers[m.0 as usize];
+            standing_in(init, &source.log)
+        }
     }
 }
 

@@ -1,8 +1,7 @@
 use Rattle.std.proofs.Common.{◌≡◌, ◌+◌, List, [], ◌∷◌, ◌++◌, map, take, ap, sym, ◌∙◌}
 use Rattle.std.proofs.lemmas.List.{map-append, take_more}
 use Rattle.gtid_sets.specs.Reserved.{Reserved}
-use Rattle.orch_base.specs.declared.server.Txn.{Txn}
-use Rattle.server_model.specs.Gtids.{purged_len, purged_txns, reserved_set, uuids_in}
+use Rattle.server_model.specs.Gtids.{purged_txns, reserved_set, uuids_in}
 use Rattle.server_model.specs.declared.server.Server.{Server}
 use Rattle.server_model.proofs.gtids.purged_sets.Goals as goal
 
@@ -11,11 +10,10 @@ loop-s-preserved c =
     let servers = c.args.servers.now in
     let s = c.s-item.result in
     let made : Server → Reserved = λ x. reserved_set c.args.gtid (uuids_in servers) x.history.room (purged_txns x) in
-    let one : c.in_ok-executed_set.field-0 ≡ reserved_set c.args.gtid (uuids_in c.args.servers.now) c.s-item.result.history.room (purged_txns c.s-item.result) =
+    let one : c.in_ok-executed_set.field-0 ≡ made s =
     c.in_ok-executed_set.ensures
-    ∙ ap (λ k. reserved_set c.args.gtid (uuids_in servers) k (take c.purged_len.result c.as_slice.result.now)) c.room-room.ensures.value
-    ∙ ap (λ k. reserved_set c.args.gtid (uuids_in servers) s.history.room (take k c.as_slice.result.now)) c.purged_len.ensures
-    ∙ ap (λ (ts : List Txn). reserved_set c.args.gtid (uuids_in servers) s.history.room (take (purged_len s) ts)) c.as_slice.ensures in
+    ∙ ap (λ (x : Server). reserved_set c.args.gtid (uuids_in servers) x.history.room (take c.purged_len.result x.history.txns)) c.s.view_is
+    ∙ ap (λ k. reserved_set c.args.gtid (uuids_in servers) s.history.room (take k s.history.txns)) c.purged_len.ensures in
     let more : map made (take (c.loop-s.s-index + 1) servers) ≡ map made (take c.loop-s.s-index servers) ++ made s ∷ [] =
     ap (map made) (take_more servers c.loop-s.s-index s c.loop-s-test.true)
     ∙ map-append made (take c.loop-s.s-index servers) _ ∙ ap (λ (x : Server). map made (take c.loop-s.s-index servers) ++ made x ∷ []) (sym c.s-item.is) in

@@ -1,7 +1,7 @@
 use Rattle.std.proofs.Common.{◌≤◌, List, length, ap, subst, sym, ◌∙◌, arith}
 use Rattle.std.specs.Prelude.{All}
 use Rattle.orch_base.specs.declared.server.Txn.{Txn}
-use Rattle.openings.specs.Servers.{history_at}
+use Rattle.openings.specs.Servers.{count_of, history_at}
 use Rattle.openings.specs.declared.init.ServerInit.{ServerInit}
 use Rattle.openings.proofs.Soundness.{sound_checked}
 use Rattle.openings.specs.Taking.{HasSize, PartsInRange}
@@ -20,34 +20,34 @@ history_at-requires-clause-fits c =
     subst (λ (is : List ServerInit). length (history_at is c.args.no.0) ≤ c.args.room) (sym c.servers.ensures.value)
     (length-history_at c.args.from.now c.args.room c.args.flushes c.args.no.0 c.requires.fits)
 
-pub log_of-requires-clause-limit_low : goal.log_of-requires-clause-limit_low
-log_of-requires-clause-limit_low c = (c.servers.ensures.checked.listed.each c.args.no.0 c.args.init.now c.requires.at).limit_low
+pub laid_history-requires-clause-limit_low : goal.laid_history-requires-clause-limit_low
+laid_history-requires-clause-limit_low c = (c.servers.ensures.checked.listed.each c.args.no.0 c.args.init.now c.requires.at).limit_low
 
-pub log_of-requires-clause-limit_high : goal.log_of-requires-clause-limit_high
-log_of-requires-clause-limit_high c = (c.servers.ensures.checked.listed.each c.args.no.0 c.args.init.now c.requires.at).limit_high
+pub laid_history-requires-clause-limit_high : goal.laid_history-requires-clause-limit_high
+laid_history-requires-clause-limit_high c = (c.servers.ensures.checked.listed.each c.args.no.0 c.args.init.now c.requires.at).limit_high
 
-pub log_of-requires-clause-sizes : goal.log_of-requires-clause-sizes
-log_of-requires-clause-sizes c = subst (λ (ts : List Txn). All HasSize ts) (sym c.deref.ensures.value) c.in_ok-txns.ensures.sizes
+pub laid_history-requires-clause-sizes : goal.laid_history-requires-clause-sizes
+laid_history-requires-clause-sizes c = subst (λ (ts : List Txn). All HasSize ts) (sym c.deref.ensures.value) c.in_ok-txns.ensures.sizes
 
-pub log_of-requires-clause-fits : goal.log_of-requires-clause-fits
-log_of-requires-clause-fits c =
+pub laid_history-requires-clause-fits : goal.laid_history-requires-clause-fits
+laid_history-requires-clause-fits c =
     subst (λ (ts : List Txn). length ts ≤ c.args.room)
     (sym (c.deref.ensures.value ∙ c.in_ok-txns.ensures.history ∙ ap (λ (is : List ServerInit). history_at is c.args.no.0) c.servers.ensures.value))
     (length-history_at c.args.from.now c.args.room c.args.flushes c.args.no.0 c.requires.fits)
 
-pub log_of-requires-clause-left : goal.log_of-requires-clause-left
-log_of-requires-clause-left c = (Fits-at c.args.from.now c.args.room c.args.flushes c.args.no.0 c.args.init.now c.requires.fits c.requires.at).1
+pub laid_history-requires-clause-left : goal.laid_history-requires-clause-left
+laid_history-requires-clause-left c = (Fits-at c.args.from.now c.args.room c.args.flushes c.args.no.0 c.args.init.now c.requires.fits c.requires.at).1
 
-pub log_of-requires-clause-counts : goal.log_of-requires-clause-counts
-log_of-requires-clause-counts c =
-    (ap (λ (ts : List Txn). length ts) (c.deref.ensures.value ∙ c.in_ok-txns.ensures.history ∙ ap (λ (is : List ServerInit). history_at is c.args.no.0) c.servers.ensures.value)
-    ∙ (sound_checked c.args.from.now c.servers.ensures.checked).counts c.args.no.0 c.args.init.now c.requires.at)
+pub laid_history-requires-clause-points : goal.laid_history-requires-clause-points
+laid_history-requires-clause-points c = (sound_checked c.args.from.now c.servers.ensures.checked).flushes c.args.no.0 c.args.init.now c.requires.at
 
-pub log_of-requires-clause-points : goal.log_of-requires-clause-points
-log_of-requires-clause-points c = (sound_checked c.args.from.now c.servers.ensures.checked).flushes c.args.no.0 c.args.init.now c.requires.at
-
-pub new-requires-clause-fits : goal.new-requires-clause-fits
-new-requires-clause-fits c =
-    subst (λ (ts : List Txn). length ts ≤ c.args.room)
-    (sym (c.in_ok-txns.ensures.history ∙ ap (λ (is : List ServerInit). history_at is c.args.no.0) c.servers.ensures.value))
-    (length-history_at c.args.from.now c.args.room c.args.flushes c.args.no.0 c.requires.fits)
+pub returns : goal.returns
+returns c =
+    let servers = c.args.from.now.servers in
+    let n = c.args.no.0 in
+    let i = c.args.init.now in
+    let txns : c.deref.result.now ≡ history_at servers n =
+    c.deref.ensures.value ∙ c.in_ok-txns.ensures.history ∙ ap (λ (is : List ServerInit). history_at is n) c.servers.ensures.value in
+    let counts : count_of i ≡ length c.deref.result.now =
+    sym ((sound_checked c.args.from.now c.servers.ensures.checked).counts n i c.requires.at) ∙ sym (ap (λ (ts : List Txn). length ts) txns) in
+    ?

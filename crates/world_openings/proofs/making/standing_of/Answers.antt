@@ -30,6 +30,7 @@ bounds-servers-m c =
 -- the source's server, and its log
 record Above (listed : List ServerInit) (i : ServerInit) (m : ℕ) (s : Server) : Type 0 where
   under : IsUnder listed m i
+  logs : s.settings.logs ≡ true
   log : s.log.log ≡ log_at listed m
 
 above : (c : goal.After-index-servers-m) → Above c.args.from.now.servers c.index-inits-no.result c.in-Some.m.0 (get_or c.args.servers.now c.in-Some.m.0 c.index-servers-m.result)

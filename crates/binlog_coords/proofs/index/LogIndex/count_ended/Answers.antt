@@ -1,8 +1,7 @@
 use Rattle.std.proofs.Common.{◌∙◌, rules, sym, ap}
 use Rattle.std.proofs.lemmas.List.Sorted.{IsPartitionPoint-from_clause}
 use Rattle.binlog_coords.specs.Index.{Index}
-use Rattle.binlog_coords.specs.Log.{ends_by}
-use Rattle.binlog_coords.proofs.Halves.{ended-before, boundary-by, count-at_last}
+use Rattle.binlog_coords.proofs.Halves.{slot_ends, ended-before, boundary-by, count-at_last}
 use Rattle.binlog_coords.proofs.index.LogIndex.count_ended.Goals as goal
 
 pub returns-in-Some : goal.returns-in-Some
@@ -12,5 +11,5 @@ returns-in-Some c =
 
 pub returns-in_default : goal.returns-in_default
 returns-in_default c =
-    let point = IsPartitionPoint-from_clause (ends_by c.args.c) _ _ c.partition_point.ensures.partitioned (rw c.deref-in_default.ensures.value (ended-before c.args.c _ _ _ c.self.invariant.in_order)) (λ a r q k. search rules) in
+    let point = IsPartitionPoint-from_clause (slot_ends c.args.c) _ _ c.partition_point.ensures.partitioned (rw c.deref-in_default.ensures.value (ended-before c.args.c _ _ _ c.self.invariant.in_order)) (λ a r q k. search rules) in
     boundary-by c.args.c _ _ _ _ _ (ap (λ (x : Index). x.log.entries) c.self.view_is) c.self.invariant.in_order c.deref-in_default.ensures.value c.partition_point.ensures.bound point

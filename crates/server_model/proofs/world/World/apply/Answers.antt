@@ -25,11 +25,6 @@ executes c here =
     executes-in c.args.self.now c.self.inside.servers.items c.self.inside.executed.items c.self.inside.purged.items c.self.inside.gtid c.self.inside.errant c.args.no.0 c.index_mut-r.result.now
     c.in-Execute.t c.in-Execute.field-1 c.apply_step-step.result c.self.view_is here c.self.invariant.gtids c.apply_step-step.ensures.step c.apply_step-step.ensures.ready c.in-Execute.is
 
-pub apply-requires-clause-fit : goal.apply-requires-clause-fit
-apply-requires-clause-fit c =
-    let within : c.args.no.0 < length c.self.inside.servers.items = subst (λ (w : World). c.args.no.0 < length w.servers) (sym c.self.view_is) c.requires in
-    c.self.invariant.kept.fit c.args.no.0 c.index_mut-r.result.now (slice_get-index c.self.inside.servers.items c.args.no.0 c.index_mut-r.result.now within c.index_mut-r.ensures.value)
-
 pub index_mut-requires : goal.index_mut-requires
 index_mut-requires c =
     let within : c.args.no.0 < length c.self.inside.servers.items = subst (λ (w : World). c.args.no.0 < length w.servers) (sym c.self.view_is) c.requires in

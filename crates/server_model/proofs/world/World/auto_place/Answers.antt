@@ -3,11 +3,13 @@ use Rattle.std.specs.Prelude.{nat_lt, slice_get}
 use Rattle.std.proofs.lemmas.Bool.{false≢true}
 use Rattle.std.proofs.lemmas.Option.{slice_get_within}
 use Rattle.std.proofs.lemmas.Result.{err_from_is_err_and}
-use Rattle.orch_base.specs.declared.server.Txn.{Txn}
 use Rattle.server_model.specs.Attach.{chain_meets, purged_answer}
 use Rattle.server_model.specs.Gtids.{auto_readiness, errant_set, held_len, kept_coord, purged_len, uuids, uuids_in}
 use Rattle.server_model.specs.Worlds.{World, server_at, sources_in}
 use Rattle.server_model.specs.declared.server.Server.{Server}
+use Rattle.binlog_coords.specs.Index.{Index}
+use Rattle.binlog_coords.specs.Log.{coord_after}
+use Rattle.server_model.proofs.Told.{log-logged}
 use Rattle.server_model.proofs.Lists.{slice_get-index}
 use Rattle.server_model.proofs.AutoAttached.{auto-ends, auto-errant, auto-found, auto-held, auto-refused, auto-target, errant-kept, fault-given, held-within, purged-fault}
 use Rattle.server_model.proofs.world.World.auto_place.Goals as goal
@@ -50,22 +52,15 @@ index-source-requires c =
     let below = slice_get_within c.self.inside.servers.items c.args.to.0 target there in
     omega (arith, below)
 
-pub held_len-held-requires : goal.held_len-held-requires
-held_len-held-requires c =
-    let target = auto-target c.args.self.now c.self.inside.servers.items c.self.inside.gtid c.self.inside.errant c.args.to.0 c.index-source.result.now c.self.view_is c.requires.target c.index-source.ensures in
-    let fit = c.self.invariant.kept.fit c.args.to.0 c.index-source.result.now target.0 in
-    let high = fit.high in
-    let few = fit.within in
-    rw c.as_slice.ensures (omega (arith, high, few))
-
 pub coord_after-requires : goal.coord_after-requires
 coord_after-requires c =
     let target = auto-target c.args.self.now c.self.inside.servers.items c.self.inside.gtid c.self.inside.errant c.args.to.0 c.index-source.result.now c.self.view_is c.requires.target c.index-source.ensures in
     let held : c.held_len-held.result ≡ held_len (uuids_in c.deref-2.result.now) c.index-3.result.now.intervals c.index-source.result.now.history.txns =
-    c.held_len-held.ensures ∙ ap (λ (ts : List Txn). held_len (uuids_in c.deref-2.result.now) c.index-3.result.now.intervals ts) c.as_slice.ensures in
+    c.held_len-held.ensures ∙ ap (λ (x : Server). held_len (uuids_in c.deref-2.result.now) c.index-3.result.now.intervals x.history.txns) c.source.view_is in
     let few = held-within (uuids_in c.deref-2.result.now) c.index-3.result.now.intervals c.index-source.result.now
     (c.self.invariant.gtids.logged c.args.to.0 c.index-source.result.now target.0 target.1) in
-    rw held few
+    let known = ap (λ (i : Index). length i.log.entries) (log-logged c.source.inside c.index-source.result.now c.source.view_is (ap (λ (x : Server). x.settings.logs) c.source.view_is ∙ target.1)) in
+    omega (arith, held, few, known)
 
 -- where no transaction is errant the source answers by what it has purged
 
@@ -85,12 +80,13 @@ returns-in_err-purged_answer-clause-answer c =
     ∙ ap (λ (w : World). errant_set (uuids w) c.args.observed.now c.index.result.now.history.txns) c.self.view_is in
     let target = auto-target c.args.self.now c.self.inside.servers.items c.self.inside.gtid c.self.inside.errant c.args.to.0 c.index-source.result.now c.self.view_is c.requires.target c.index-source.ensures in
     let held : c.held_len-held.result ≡ held_len (uuids_in c.self.inside.servers.items) c.index-3.result.now.intervals c.index-source.result.now.history.txns =
-    c.held_len-held.ensures ∙ ap (λ (ts : List Txn). held_len (uuids_in c.deref-2.result.now) c.index-3.result.now.intervals ts) c.as_slice.ensures
+    c.held_len-held.ensures ∙ ap (λ (x : Server). held_len (uuids_in c.deref-2.result.now) c.index-3.result.now.intervals x.history.txns) c.source.view_is
     ∙ ap (λ (xs : List Server). held_len (uuids_in xs) c.index-3.result.now.intervals c.index-source.result.now.history.txns) c.deref-2.ensures.value in
     let count = auto-held c.args.self.now c.self.inside.servers.items c.self.inside.gtid c.self.inside.errant c.index.result.now c.index-source.result.now c.index-3.result.now c.held_len-held.result c.self.view_is
     (c.self.invariant.gtids.kept c.args.no.0 c.index.result.now c.index-3.result.now here besides) on held in
     let is : purged_answer (nat_lt c.held_len-held.result (purged_len c.index-source.result.now)) c.index-source.result.now.first ≡ Err c.in_err-purged_answer.field-0.0 =
-    ap (λ k. purged_answer (nat_lt c.held_len-held.result k) c.index-source.result.now.first) (sym c.purged_len.ensures) ∙ sym c.purged_answer.ensures ∙ c.in_err-purged_answer.was in
+    ap (λ k. purged_answer (nat_lt c.held_len-held.result k) c.index-source.result.now.first) (sym c.purged_len.ensures)
+    ∙ ap (λ (x : Server). purged_answer (nat_lt c.held_len-held.result c.purged_len.result) x.first) (sym c.source.view_is) ∙ sym c.purged_answer.ensures ∙ c.in_err-purged_answer.was in
     let p = err_from_is_err_and c.from_residual-in_err-purged_answer.result c.from_residual-in_err-purged_answer.ensures.1 in
     rw (p.1, p.2)
     (fault-given c.in_err-purged_answer.field-0.0 _ (purged-fault (nat_lt c.held_len-held.result (purged_len c.index-source.result.now)) c.index-source.result.now.first c.in_err-purged_answer.field-0.0 is)
@@ -114,14 +110,15 @@ returns-clause-answer c =
     ∙ ap (λ (w : World). errant_set (uuids w) c.args.observed.now c.index.result.now.history.txns) c.self.view_is in
     let target = auto-target c.args.self.now c.self.inside.servers.items c.self.inside.gtid c.self.inside.errant c.args.to.0 c.index-source.result.now c.self.view_is c.requires.target c.index-source.ensures in
     let held : c.held_len-held.result ≡ held_len (uuids_in c.self.inside.servers.items) c.index-3.result.now.intervals c.index-source.result.now.history.txns =
-    c.held_len-held.ensures ∙ ap (λ (ts : List Txn). held_len (uuids_in c.deref-2.result.now) c.index-3.result.now.intervals ts) c.as_slice.ensures
+    c.held_len-held.ensures ∙ ap (λ (x : Server). held_len (uuids_in c.deref-2.result.now) c.index-3.result.now.intervals x.history.txns) c.source.view_is
     ∙ ap (λ (xs : List Server). held_len (uuids_in xs) c.index-3.result.now.intervals c.index-source.result.now.history.txns) c.deref-2.ensures.value in
     let count = auto-held c.args.self.now c.self.inside.servers.items c.self.inside.gtid c.self.inside.errant c.index.result.now c.index-source.result.now c.index-3.result.now c.held_len-held.result c.self.view_is
     (c.self.invariant.gtids.kept c.args.no.0 c.index.result.now c.index-3.result.now here besides) on held in
     auto-ends c.args.self.now c.args.no.0 c.args.observed.now c.args.to.0 c.index.result.now c.index-source.result.now c.in_ok-errant.errant c.held_len-held.result
     (subst (λ (w : World). server_at w c.args.no.0 ≡ Some c.index.result.now) c.self.view_is here) (subst (λ (w : World). server_at w c.args.to.0 ≡ Some c.index-source.result.now) c.self.view_is target.0)
     (ap (auto_readiness c.index.result.now) (sym loops) ∙ sym c.auto_readiness.ensures ∙ c.in_ok-auto_readiness.was) set (c.is_empty.ensures.list.0 c.if-not-is_empty.false) count
-    ∙ ap (λ k. purged_answer (nat_lt c.held_len-held.result k) c.index-source.result.now.first) (sym c.purged_len.ensures) ∙ sym c.purged_answer.ensures ∙ c.in_ok-purged_answer.was
+    ∙ ap (λ k. purged_answer (nat_lt c.held_len-held.result k) c.index-source.result.now.first) (sym c.purged_len.ensures)
+    ∙ ap (λ (x : Server). purged_answer (nat_lt c.held_len-held.result c.purged_len.result) x.first) (sym c.source.view_is) ∙ sym c.purged_answer.ensures ∙ c.in_ok-purged_answer.was
 
 pub returns-clause-place : goal.returns-clause-place
 returns-clause-place c =
@@ -131,10 +128,14 @@ returns-clause-place c =
     let besides = slice_get-index c.self.inside.executed.items c.args.no.0 c.index-3.result.now beyond c.index-3.ensures in
     let target = auto-target c.args.self.now c.self.inside.servers.items c.self.inside.gtid c.self.inside.errant c.args.to.0 c.index-source.result.now c.self.view_is c.requires.target c.index-source.ensures in
     let held : c.held_len-held.result ≡ held_len (uuids_in c.self.inside.servers.items) c.index-3.result.now.intervals c.index-source.result.now.history.txns =
-    c.held_len-held.ensures ∙ ap (λ (ts : List Txn). held_len (uuids_in c.deref-2.result.now) c.index-3.result.now.intervals ts) c.as_slice.ensures
+    c.held_len-held.ensures ∙ ap (λ (x : Server). held_len (uuids_in c.deref-2.result.now) c.index-3.result.now.intervals x.history.txns) c.source.view_is
     ∙ ap (λ (xs : List Server). held_len (uuids_in xs) c.index-3.result.now.intervals c.index-source.result.now.history.txns) c.deref-2.ensures.value in
     let count = auto-held c.args.self.now c.self.inside.servers.items c.self.inside.gtid c.self.inside.errant c.index.result.now c.index-source.result.now c.index-3.result.now c.held_len-held.result c.self.view_is
     (c.self.invariant.gtids.kept c.args.no.0 c.index.result.now c.index-3.result.now here besides) target.2 held in
     auto-found c.args.self.now c.args.no.0 c.args.to.0 c.index.result.now c.index-source.result.now c.held_len-held.result c.kept_coord.result
     (subst (λ (w : World). server_at w c.args.no.0 ≡ Some c.index.result.now) c.self.view_is here) (subst (λ (w : World). server_at w c.args.to.0 ≡ Some c.index-source.result.now) c.self.view_is target.0)
-    count (c.kept_coord.ensures ∙ ap (kept_coord c.index-source.result.now) c.coord_after.ensures)
+    count
+    (c.kept_coord.ensures
+    ∙ ap (kept_coord c.index-source.result.now)
+    (c.coord_after.ensures ∙ ap (λ (i : Index). coord_after i.log c.held_len-held.result) (sym (log-logged c.source.inside c.index-source.result.now c.source.view_is
+    (ap (λ (x : Server). x.settings.logs) c.source.view_is ∙ target.1)))))

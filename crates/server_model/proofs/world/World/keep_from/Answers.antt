@@ -1,10 +1,11 @@
-use Rattle.std.proofs.Common.{◌≡◌, ℕ, ◌+◌, ◌<◌, ◌≤◌, List, Option, Some, true, length, refl, arith, ap, subst, sym, ◌∙◌, drop}
-use Rattle.std.specs.Prelude.{All, IsSomeAnd, slice_range, slice_set}
+use Rattle.std.proofs.Common.{◌≡◌, ℕ, ◌+◌, ◌-◌, ◌<◌, ◌≤◌, List, Option, Some, true, length, refl, arith, ap, subst, sym, ◌∙◌}
+use Rattle.std.specs.Prelude.{All, IsSomeAnd, slice_get, slice_range, slice_set}
 use Rattle.std.proofs.lemmas.List.{length-set}
-use Rattle.std.proofs.lemmas.List.Elements.{All-drop, All-take}
 use Rattle.std.proofs.lemmas.Option.{same_Some}
+use Rattle.gtid_sets.specs.Reserved.{Reserved}
 use Rattle.orch_base.specs.declared.server.Txn.{Txn}
 use Rattle.server_model.specs.Gtids.{purged_len, uuids_in, IsNumbered}
+use Rattle.server_model.specs.ServerBy.{server_of}
 use Rattle.server_model.specs.Worlds.{World, server_at}
 use Rattle.server_model.specs.declared.server.Server.{Server}
 use Rattle.server_model.proofs.Changed.{IsKept-purged, purged-left}
@@ -12,160 +13,109 @@ use Rattle.server_model.proofs.ExecutedSets.{purged_with, purge-room, uuids_in-s
 use Rattle.server_model.proofs.Lists.{set_same, slice_get-index}
 use Rattle.server_model.proofs.OwnCounts.{own-still}
 use Rattle.server_model.proofs.PurgedFiles.{from_file, newly_purged, purged_len-later, purged_len-rises}
+use Rattle.server_model.proofs.world.World.keep_from.Goals.{After-s-2}
 use Rattle.server_model.proofs.world.World.keep_from.Goals as goal
 
-pub between-txns-requires-clause-order : goal.between-txns-requires-clause-order
-between-txns-requires-clause-order c =
-    let servers = c.self.inside.servers.items in
-    let s = c.index_mut-s.result.now in
-    let within : c.args.no.0 < length c.self.inside.servers.items = subst (λ (w : World). c.args.no.0 < length w.servers) (sym c.self.view_is) c.requires.server in
-    let here = slice_get-index c.self.inside.servers.items c.args.no.0 c.index_mut-s.result.now within c.index_mut-s.ensures.value in
-    let at = subst (λ (w : World). server_at w c.args.no.0 ≡ Some c.index_mut-s.result.now) c.self.view_is here in
-    let file = subst (λ (o : Option Server). IsSomeAnd o (λ x. (x.first ≤ c.args.first) × (c.args.first ≤ x.log.log.files))) at c.requires.file in
-    let fit = c.self.invariant.kept.fit c.args.no.0 c.index_mut-s.result.now here in
-    let rises = purged_len-rises c.index_mut-s.result.now c.args.first fit.kept.low file.0 file.1 in
-    let first_there = slice_get-index c.self.inside.servers.items c.args.no.0 c.index.result.now within c.index.ensures in
-    let later = slice_set c.self.inside.servers.items c.args.no.0 (from_file c.args.first c.index_mut-s.result.now) in
-    let beyond : c.args.no.0 < length (slice_set c.self.inside.servers.items c.args.no.0 (from_file c.args.first c.index_mut-s.result.now)) =
-    omega (arith, within, length-set c.self.inside.servers.items c.args.no.0 (from_file c.args.first c.index_mut-s.result.now)) in
-    let new = set_same c.self.inside.servers.items c.args.no.0 c.index_mut-s.result.now (from_file c.args.first c.index_mut-s.result.now) here in
-    let second = slice_get-index later c.args.no.0 c.index-2.result.now beyond c.index-2.ensures in
-    let from : c.purged_len-from.result ≡ purged_len c.index_mut-s.result.now = c.purged_len-from.ensures ∙ ap purged_len (same_Some c.index.result.now s (sym first_there ∙ here)) in
-    let to : c.purged_len-to.result ≡ purged_len (from_file c.args.first c.index_mut-s.result.now) =
-    c.purged_len-to.ensures ∙ ap purged_len (same_Some c.index-2.result.now (from_file c.args.first s) (sym second ∙ new)) in
-    omega (arith, from, to, rises)
+-- the server is there and logs, its history is as it was, and both counts are those of its log
+record Known (c : After-s-2) : Type 0 where
+  here : slice_get c.self.inside.servers.items c.args.no.0 ≡ Some c.index_mut-s.result.now
+  logs : c.index_mut-s.result.now.settings.logs ≡ true
+  low : c.index_mut-s.result.now.first ≤ c.args.first
+  high : c.args.first ≤ c.index_mut-s.result.now.log.log.files
+  from : c.purged_len-from.result ≡ purged_len c.index_mut-s.result.now
+  to : c.purged_len-to.result ≡ purged_len (from_file c.args.first c.index_mut-s.result.now)
+  txns : c.s-2.inside.log.txns ≡ c.index_mut-s.result.now.history.txns
+  beside : slice_get c.self.inside.purged.items c.args.no.0 ≡ Some c.index_mut-purged.result.now
+  count : length c.deref.result.now ≡ length c.self.inside.servers.items
 
-pub between-txns-requires-clause-within : goal.between-txns-requires-clause-within
-between-txns-requires-clause-within c =
+known : (c : After-s-2) → Known c
+known c =
     let servers = c.self.inside.servers.items in
+    let n = c.args.no.0 in
     let s = c.index_mut-s.result.now in
-    let within : c.args.no.0 < length c.self.inside.servers.items = subst (λ (w : World). c.args.no.0 < length w.servers) (sym c.self.view_is) c.requires.server in
-    let here = slice_get-index c.self.inside.servers.items c.args.no.0 c.index_mut-s.result.now within c.index_mut-s.ensures.value in
-    let at = subst (λ (w : World). server_at w c.args.no.0 ≡ Some c.index_mut-s.result.now) c.self.view_is here in
+    let changed = from_file c.args.first (server_of c.s.inside) in
+    let within : n < length servers = subst (λ (w : World). n < length w.servers) (sym c.self.view_is) c.requires.server in
+    let here = slice_get-index servers n s within c.index_mut-s.ensures.value in
+    let at = subst (λ (w : World). server_at w n ≡ Some s) c.self.view_is here in
     let file = subst (λ (o : Option Server). IsSomeAnd o (λ x. (x.first ≤ c.args.first) × (c.args.first ≤ x.log.log.files))) at c.requires.file in
-    let fit = c.self.invariant.kept.fit c.args.no.0 c.index_mut-s.result.now here in
-    let rises = purged_len-rises c.index_mut-s.result.now c.args.first fit.kept.low file.0 file.1 in
-    let first_there = slice_get-index c.self.inside.servers.items c.args.no.0 c.index.result.now within c.index.ensures in
-    let later = slice_set c.self.inside.servers.items c.args.no.0 (from_file c.args.first c.index_mut-s.result.now) in
-    let beyond : c.args.no.0 < length (slice_set c.self.inside.servers.items c.args.no.0 (from_file c.args.first c.index_mut-s.result.now)) =
-    omega (arith, within, length-set c.self.inside.servers.items c.args.no.0 (from_file c.args.first c.index_mut-s.result.now)) in
-    let new = set_same c.self.inside.servers.items c.args.no.0 c.index_mut-s.result.now (from_file c.args.first c.index_mut-s.result.now) here in
-    let second = slice_get-index later c.args.no.0 c.index-2.result.now beyond c.index-2.ensures in
-    let from : c.purged_len-from.result ≡ purged_len c.index_mut-s.result.now = c.purged_len-from.ensures ∙ ap purged_len (same_Some c.index.result.now s (sym first_there ∙ here)) in
-    let to : c.purged_len-to.result ≡ purged_len (from_file c.args.first c.index_mut-s.result.now) =
-    c.purged_len-to.ensures ∙ ap purged_len (same_Some c.index-2.result.now (from_file c.args.first s) (sym second ∙ new)) in
-    let third = slice_get-index later c.args.no.0 c.index-3.result.now beyond c.index-3.ensures in
-    let history : c.index-3.result.now.history.txns ≡ c.index_mut-s.result.now.history.txns =
-    ap (λ (x : Server). x.history.txns) (same_Some c.index-3.result.now (from_file c.args.first s) (sym third ∙ new)) in
-    let few = purged_len-later c.index_mut-s.result.now c.args.first fit file.0 file.1 in
-    rw history (omega (arith, to, few))
+    let beyond : n < length (slice_set servers n changed) = omega (arith, within, length-set servers n changed) in
+    let past : n < length c.self.inside.purged.items = (let e = c.self.invariant.gtids.purged_paired in omega (arith, within, e)) in
+    let there = slice_get-index (slice_set servers n changed) n c.index-s.result.now beyond c.index-s.ensures in
+    let same = same_Some c.index-s.result.now changed (sym there ∙ set_same servers n s changed here) in
+    record {
+      here = here;
+      logs = subst (λ (o : Option Server). IsSomeAnd o (λ x. x.settings.logs ≡ true)) at c.requires.logs;
+      low = file.0;
+      high = file.1;
+      from = c.purged_len-from.ensures;
+      to = c.purged_len-to.ensures ∙ ap (λ (x : Server). purged_len (from_file c.args.first x)) c.s.view_is;
+      txns = ap (λ (x : Server). x.history.txns) (c.s-2.view_is ∙ same ∙ ap (from_file c.args.first) c.s.view_is);
+      beside = slice_get-index c.self.inside.purged.items n c.index_mut-purged.result.now past c.index_mut-purged.ensures.value;
+      count = ap length c.deref.ensures.value ∙ length-set servers n changed;
+    }
 
 pub keep_gtids-requires-clause-numbered : goal.keep_gtids-requires-clause-numbered
 keep_gtids-requires-clause-numbered c =
-    let servers = c.self.inside.servers.items in
+    let k = known (goal.at.keep_gtids-requires-clause-numbered c).After-s-2 in
+    subst (λ (ts : List Txn). All (IsNumbered (length c.deref.result.now)) ts) (sym k.txns)
+    (subst (λ (m : ℕ). All (IsNumbered m) c.index_mut-s.result.now.history.txns) (sym k.count)
+    (c.self.invariant.gtids.numbered c.args.no.0 c.index_mut-s.result.now k.here))
+
+pub keep_gtids-requires-clause-order : goal.keep_gtids-requires-clause-order
+keep_gtids-requires-clause-order c =
+    let k = known (goal.at.keep_gtids-requires-clause-order c).After-s-2 in
     let s = c.index_mut-s.result.now in
-    let within : c.args.no.0 < length c.self.inside.servers.items = subst (λ (w : World). c.args.no.0 < length w.servers) (sym c.self.view_is) c.requires.server in
-    let here = slice_get-index c.self.inside.servers.items c.args.no.0 c.index_mut-s.result.now within c.index_mut-s.ensures.value in
-    let at = subst (λ (w : World). server_at w c.args.no.0 ≡ Some c.index_mut-s.result.now) c.self.view_is here in
-    let file = subst (λ (o : Option Server). IsSomeAnd o (λ x. (x.first ≤ c.args.first) × (c.args.first ≤ x.log.log.files))) at c.requires.file in
-    let fit = c.self.invariant.kept.fit c.args.no.0 c.index_mut-s.result.now here in
-    let rises = purged_len-rises c.index_mut-s.result.now c.args.first fit.kept.low file.0 file.1 in
-    let first_there = slice_get-index c.self.inside.servers.items c.args.no.0 c.index.result.now within c.index.ensures in
-    let later = slice_set c.self.inside.servers.items c.args.no.0 (from_file c.args.first c.index_mut-s.result.now) in
-    let beyond : c.args.no.0 < length (slice_set c.self.inside.servers.items c.args.no.0 (from_file c.args.first c.index_mut-s.result.now)) =
-    omega (arith, within, length-set c.self.inside.servers.items c.args.no.0 (from_file c.args.first c.index_mut-s.result.now)) in
-    let new = set_same c.self.inside.servers.items c.args.no.0 c.index_mut-s.result.now (from_file c.args.first c.index_mut-s.result.now) here in
-    let second = slice_get-index later c.args.no.0 c.index-2.result.now beyond c.index-2.ensures in
-    let from : c.purged_len-from.result ≡ purged_len c.index_mut-s.result.now = c.purged_len-from.ensures ∙ ap purged_len (same_Some c.index.result.now s (sym first_there ∙ here)) in
-    let to : c.purged_len-to.result ≡ purged_len (from_file c.args.first c.index_mut-s.result.now) =
-    c.purged_len-to.ensures ∙ ap purged_len (same_Some c.index-2.result.now (from_file c.args.first s) (sym second ∙ new)) in
-    let third = slice_get-index later c.args.no.0 c.index-3.result.now beyond c.index-3.ensures in
-    let history : c.index-3.result.now.history.txns ≡ c.index_mut-s.result.now.history.txns =
-    ap (λ (x : Server). x.history.txns) (same_Some c.index-3.result.now (from_file c.args.first s) (sym third ∙ new)) in
-    let newly : c.between-txns.result.now ≡ newly_purged c.args.first c.index_mut-s.result.now =
-    c.between-txns.ensures ∙ ap (λ (ts : List Txn). slice_range ts c.purged_len-from.result c.purged_len-to.result) history
-    ∙ ap (λ k. slice_range s.history.txns k c.purged_len-to.result) from ∙ ap (λ k. slice_range s.history.txns (purged_len s) k) to in
-    let count : length c.deref.result.now ≡ length c.self.inside.servers.items =
-    ap length c.deref.ensures.value ∙ length-set c.self.inside.servers.items c.args.no.0 (from_file c.args.first c.index_mut-s.result.now) in
-    let all = c.self.invariant.gtids.numbered c.args.no.0 c.index_mut-s.result.now here in
-    subst (λ (ts : List Txn). All (IsNumbered (length c.deref.result.now)) ts) (sym newly)
-    (subst (λ (k : ℕ). All (IsNumbered k) (newly_purged c.args.first s)) (sym count)
-    (All-take (IsNumbered (length servers)) _ (drop (purged_len s) s.history.txns) (All-drop (IsNumbered (length servers)) (purged_len s) s.history.txns all)))
+    let fit = c.self.invariant.kept.fit c.args.no.0 s k.here in
+    omega (arith, k.from, k.to, purged_len-rises s c.args.first fit.kept.low k.low k.high)
+
+pub keep_gtids-requires-clause-within : goal.keep_gtids-requires-clause-within
+keep_gtids-requires-clause-within c =
+    let k = known (goal.at.keep_gtids-requires-clause-within c).After-s-2 in
+    let s = c.index_mut-s.result.now in
+    let fit = c.self.invariant.kept.fit c.args.no.0 s k.here in
+    rw k.txns (omega (arith, k.to, purged_len-later s c.args.first fit k.low k.high))
 
 pub keep_gtids-requires-clause-room : goal.keep_gtids-requires-clause-room
 keep_gtids-requires-clause-room c =
-    let servers = c.self.inside.servers.items in
+    let k = known (goal.at.keep_gtids-requires-clause-room c).After-s-2 in
     let s = c.index_mut-s.result.now in
-    let within : c.args.no.0 < length c.self.inside.servers.items = subst (λ (w : World). c.args.no.0 < length w.servers) (sym c.self.view_is) c.requires.server in
-    let here = slice_get-index c.self.inside.servers.items c.args.no.0 c.index_mut-s.result.now within c.index_mut-s.ensures.value in
-    let at = subst (λ (w : World). server_at w c.args.no.0 ≡ Some c.index_mut-s.result.now) c.self.view_is here in
-    let file = subst (λ (o : Option Server). IsSomeAnd o (λ x. (x.first ≤ c.args.first) × (c.args.first ≤ x.log.log.files))) at c.requires.file in
-    let fit = c.self.invariant.kept.fit c.args.no.0 c.index_mut-s.result.now here in
-    let rises = purged_len-rises c.index_mut-s.result.now c.args.first fit.kept.low file.0 file.1 in
-    let first_there = slice_get-index c.self.inside.servers.items c.args.no.0 c.index.result.now within c.index.ensures in
-    let later = slice_set c.self.inside.servers.items c.args.no.0 (from_file c.args.first c.index_mut-s.result.now) in
-    let beyond : c.args.no.0 < length (slice_set c.self.inside.servers.items c.args.no.0 (from_file c.args.first c.index_mut-s.result.now)) =
-    omega (arith, within, length-set c.self.inside.servers.items c.args.no.0 (from_file c.args.first c.index_mut-s.result.now)) in
-    let new = set_same c.self.inside.servers.items c.args.no.0 c.index_mut-s.result.now (from_file c.args.first c.index_mut-s.result.now) here in
-    let second = slice_get-index later c.args.no.0 c.index-2.result.now beyond c.index-2.ensures in
-    let from : c.purged_len-from.result ≡ purged_len c.index_mut-s.result.now = c.purged_len-from.ensures ∙ ap purged_len (same_Some c.index.result.now s (sym first_there ∙ here)) in
-    let to : c.purged_len-to.result ≡ purged_len (from_file c.args.first c.index_mut-s.result.now) =
-    c.purged_len-to.ensures ∙ ap purged_len (same_Some c.index-2.result.now (from_file c.args.first s) (sym second ∙ new)) in
-    let third = slice_get-index later c.args.no.0 c.index-3.result.now beyond c.index-3.ensures in
-    let history : c.index-3.result.now.history.txns ≡ c.index_mut-s.result.now.history.txns =
-    ap (λ (x : Server). x.history.txns) (same_Some c.index-3.result.now (from_file c.args.first s) (sym third ∙ new)) in
-    let newly : c.between-txns.result.now ≡ newly_purged c.args.first c.index_mut-s.result.now =
-    c.between-txns.ensures ∙ ap (λ (ts : List Txn). slice_range ts c.purged_len-from.result c.purged_len-to.result) history
-    ∙ ap (λ k. slice_range s.history.txns k c.purged_len-to.result) from ∙ ap (λ k. slice_range s.history.txns (purged_len s) k) to in
-    let past : c.args.no.0 < length c.self.inside.purged.items = (let e = c.self.invariant.gtids.purged_paired in omega arith) in
-    let beside = slice_get-index c.self.inside.purged.items c.args.no.0 c.index_mut-purged.result.now past c.index_mut-purged.ensures.value in
+    let e = c.index_mut-purged.result.now in
+    let fit = c.self.invariant.kept.fit c.args.no.0 s k.here in
+    let rises = purged_len-rises s c.args.first fit.kept.low k.low k.high in
     λ on.
-    subst (λ (ts : List Txn). length c.index_mut-purged.result.now.intervals + length ts ≤ c.index_mut-purged.result.now.room) (sym newly)
-    (purge-room c.self.inside.gtid (uuids_in servers) s c.index_mut-purged.result.now c.args.first fit (c.self.invariant.gtids.purges c.args.no.0 s c.index_mut-purged.result.now here beside)
-    file.0 file.1 rises on)
+    rw (k.from, k.to)
+    (purge-room c.self.inside.gtid (uuids_in c.self.inside.servers.items) s e c.args.first fit (c.self.invariant.gtids.purges c.args.no.0 s e k.here k.beside) k.low k.high rises on)
 
 pub invariant_of-self : goal.invariant_of-self
 invariant_of-self c =
+    let k = known (goal.at.invariant_of-self c).After-s-2 in
     let servers = c.self.inside.servers.items in
+    let n = c.args.no.0 in
+    let first = c.args.first in
     let s = c.index_mut-s.result.now in
-    let within : c.args.no.0 < length c.self.inside.servers.items = subst (λ (w : World). c.args.no.0 < length w.servers) (sym c.self.view_is) c.requires.server in
-    let here = slice_get-index c.self.inside.servers.items c.args.no.0 c.index_mut-s.result.now within c.index_mut-s.ensures.value in
-    let at = subst (λ (w : World). server_at w c.args.no.0 ≡ Some c.index_mut-s.result.now) c.self.view_is here in
-    let file = subst (λ (o : Option Server). IsSomeAnd o (λ x. (x.first ≤ c.args.first) × (c.args.first ≤ x.log.log.files))) at c.requires.file in
-    let fit = c.self.invariant.kept.fit c.args.no.0 c.index_mut-s.result.now here in
-    let rises = purged_len-rises c.index_mut-s.result.now c.args.first fit.kept.low file.0 file.1 in
-    let first_there = slice_get-index c.self.inside.servers.items c.args.no.0 c.index.result.now within c.index.ensures in
-    let later = slice_set c.self.inside.servers.items c.args.no.0 (from_file c.args.first c.index_mut-s.result.now) in
-    let beyond : c.args.no.0 < length (slice_set c.self.inside.servers.items c.args.no.0 (from_file c.args.first c.index_mut-s.result.now)) =
-    omega (arith, within, length-set c.self.inside.servers.items c.args.no.0 (from_file c.args.first c.index_mut-s.result.now)) in
-    let new = set_same c.self.inside.servers.items c.args.no.0 c.index_mut-s.result.now (from_file c.args.first c.index_mut-s.result.now) here in
-    let second = slice_get-index later c.args.no.0 c.index-2.result.now beyond c.index-2.ensures in
-    let from : c.purged_len-from.result ≡ purged_len c.index_mut-s.result.now = c.purged_len-from.ensures ∙ ap purged_len (same_Some c.index.result.now s (sym first_there ∙ here)) in
-    let to : c.purged_len-to.result ≡ purged_len (from_file c.args.first c.index_mut-s.result.now) =
-    c.purged_len-to.ensures ∙ ap purged_len (same_Some c.index-2.result.now (from_file c.args.first s) (sym second ∙ new)) in
-    let third = slice_get-index later c.args.no.0 c.index-3.result.now beyond c.index-3.ensures in
-    let history : c.index-3.result.now.history.txns ≡ c.index_mut-s.result.now.history.txns =
-    ap (λ (x : Server). x.history.txns) (same_Some c.index-3.result.now (from_file c.args.first s) (sym third ∙ new)) in
-    let newly : c.between-txns.result.now ≡ newly_purged c.args.first c.index_mut-s.result.now =
-    c.between-txns.ensures ∙ ap (λ (ts : List Txn). slice_range ts c.purged_len-from.result c.purged_len-to.result) history
-    ∙ ap (λ k. slice_range s.history.txns k c.purged_len-to.result) from ∙ ap (λ k. slice_range s.history.txns (purged_len s) k) to in
-    let past : c.args.no.0 < length c.self.inside.purged.items = (let e = c.self.invariant.gtids.purged_paired in omega arith) in
-    let beside = slice_get-index c.self.inside.purged.items c.args.no.0 c.index_mut-purged.result.now past c.index_mut-purged.ensures.value in
-    let logs = subst (λ (o : Option Server). IsSomeAnd o (λ x. x.settings.logs ≡ true)) at c.requires.logs in
-    let same : (k : ℕ) → uuids_in c.deref.result.now k ≡ uuids_in c.self.inside.servers.items k =
-    λ k. ap (λ (ss : List Server). uuids_in ss k) c.deref.ensures.value ∙ uuids_in-set c.self.inside.servers.items c.args.no.0 c.index_mut-s.result.now (from_file c.args.first c.index_mut-s.result.now) here refl k in
-    let kept : c.keep_gtids.new.kept ≡ purged_with c.self.inside.gtid (uuids_in c.deref.result.now) (newly_purged c.args.first c.index_mut-s.result.now) c.index_mut-purged.result.now =
-    c.keep_gtids.ensures ∙ ap (λ (ts : List Txn). purged_with c.self.inside.gtid (uuids_in c.deref.result.now) ts c.index_mut-purged.result.now) newly in
-    record {
-      kept = IsKept-purged c.self.inside.servers.items c.self.inside.errant c.args.no.0 c.index_mut-s.result.now c.self.invariant.kept here c.args.first file.0 file.1 logs;
-      own = own-still c.self.inside.servers.items c.self.inside.own.items c.args.no.0 c.index_mut-s.result.now (from_file c.args.first c.index_mut-s.result.now) c.self.invariant.own here refl;
+    let e = c.index_mut-purged.result.now in
+    let fit = c.self.invariant.kept.fit n s k.here in
+    let rises = purged_len-rises s first fit.kept.low k.low k.high in
+    let changed : from_file first (server_of c.s.inside) ≡ from_file first s = ap (from_file first) c.s.view_is in
+    let same : (m : ℕ) → uuids_in c.deref.result.now m ≡ uuids_in servers m =
+    λ m. ap (λ (ss : List Server). uuids_in ss m) c.deref.ensures.value ∙ uuids_in-set servers n s (from_file first (server_of c.s.inside)) k.here (ap (λ (x : Server). x.settings) c.s.view_is) m in
+    let newly : slice_range c.s-2.inside.log.txns c.purged_len-from.result c.purged_len-to.result ≡ newly_purged first s =
+    ap (λ (ts : List Txn). slice_range ts c.purged_len-from.result c.purged_len-to.result) k.txns
+    ∙ ap (λ m. slice_range s.history.txns m c.purged_len-to.result) k.from ∙ ap (λ m. slice_range s.history.txns (purged_len s) m) k.to in
+    let kept : c.keep_gtids.new.kept ≡ purged_with c.self.inside.gtid (uuids_in c.deref.result.now) (newly_purged first s) e =
+    c.keep_gtids.ensures ∙ ap (λ (ts : List Txn). purged_with c.self.inside.gtid (uuids_in c.deref.result.now) ts e) newly in
+    rw changed
+    (record {
+      kept = IsKept-purged servers c.self.inside.errant n s c.self.invariant.kept k.here first k.low k.high k.logs;
+      own = own-still servers c.self.inside.own.items n s (from_file first s) c.self.invariant.own k.here refl;
       gtids = rw kept
-          (AreGtids-purged c.self.inside.servers.items c.self.inside.executed.items c.self.inside.purged.items c.self.inside.gtid c.args.no.0 c.index_mut-s.result.now c.index_mut-purged.result.now c.args.first
-          (uuids_in c.deref.result.now) c.self.invariant.gtids here beside same rises);
-    }
+          (AreGtids-purged servers c.self.inside.executed.items c.self.inside.purged.items c.self.inside.gtid n s e first (uuids_in c.deref.result.now) c.self.invariant.gtids k.here k.beside same rises);
+    })
 
 pub returns : goal.returns
 returns c =
-    let within : c.args.no.0 < length c.self.inside.servers.items = subst (λ (w : World). c.args.no.0 < length w.servers) (sym c.self.view_is) c.requires.server in
-    purged-left c.args.self.now c.self.inside.servers.items c.self.inside.gtid c.self.inside.errant c.args.no.0 c.args.first c.index_mut-s.result.now c.self.view_is
-    (slice_get-index c.self.inside.servers.items c.args.no.0 c.index_mut-s.result.now within c.index_mut-s.ensures.value)
+    let first = c.args.first in
+    let s = c.index_mut-s.result.now in
+    let here = (known (goal.at.returns c).After-s-2).here in
+    let changed : from_file first (server_of c.s.inside) ≡ from_file first s = ap (from_file first) c.s.view_is in
+    rw changed (purged-left c.args.self.now c.self.inside.servers.items c.self.inside.gtid c.self.inside.errant c.args.no.0 first s c.self.view_is here)

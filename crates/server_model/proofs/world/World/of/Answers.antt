@@ -11,15 +11,10 @@ use Rattle.server_model.proofs.world.World.of.Goals as goal
 pub own_counts-requires : goal.own_counts-requires
 own_counts-requires c = subst (λ (ss : List Server). length ss ≤ 1000) (sym c.deref.ensures.value) c.requires.few
 
-pub executed_sets-requires-clause-numbered : goal.executed_sets-requires-clause-numbered
-executed_sets-requires-clause-numbered c =
+pub executed_sets-requires : goal.executed_sets-requires
+executed_sets-requires c =
     subst (λ (ss : List Server). All (λ (s : Server). All (IsNumbered (length ss)) s.history.txns) ss) (sym c.deref-2.ensures.value)
     (λ k d h. (c.requires.each k _ (slice_get-get_or c.args.servers.items k d h)).numbered)
-
-pub executed_sets-requires-clause-fits : goal.executed_sets-requires-clause-fits
-executed_sets-requires-clause-fits c =
-    subst (All (λ (s : Server). length s.history.txns ≤ s.history.room)) (sym c.deref-2.ensures.value)
-    (λ k d h. (c.requires.each k _ (slice_get-get_or c.args.servers.items k d h)).fit.within)
 
 pub purged_sets-requires-clause-numbered : goal.purged_sets-requires-clause-numbered
 purged_sets-requires-clause-numbered c =

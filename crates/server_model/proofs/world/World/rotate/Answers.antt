@@ -1,5 +1,6 @@
-use Rattle.std.proofs.Common.{◌≡◌, ℕ, ◌<◌, length, Some, subst, sym, ap, ◌∙◌, arith}
+use Rattle.std.proofs.Common.{◌≡◌, ℕ, ◌<◌, length, Some, subst, sym, ap, ◌∙◌, arith, true}
 use Rattle.std.proofs.lemmas.Bool.{ne_eqb}
+use Rattle.binlog_coords.specs.Index.{Index}
 use Rattle.binlog_coords.specs.Log.{end_of}
 use Rattle.server_model.specs.Worlds.{World, server_at}
 use Rattle.server_model.specs.declared.server.Server.{Server}
@@ -9,11 +10,18 @@ use Rattle.std.proofs.Common.{refl}
 use Rattle.server_model.proofs.ExecutedSets.{AreGtids-still}
 use Rattle.server_model.proofs.OwnCounts.{own-still}
 use Rattle.server_model.proofs.PurgedFiles.{purged_txns-rotated}
+use Rattle.server_model.proofs.Told.{log-logged}
 use Rattle.server_model.specs.Desk.{rotated}
+use Rattle.server_model.proofs.world.World.rotate.Goals.{After-flushes_left}
 use Rattle.server_model.proofs.world.World.rotate.Goals as goal
 
 left_over : (n : ℕ) → (n ≡ 0 → ⊥) → 0 < n
 left_over n some = omega arith
+
+-- the server logs, and a new file may be asked for
+some_left : (c : After-flushes_left) → c.s.inside.settings.logs ≡ true → (c.flushes_left.result ≡ 0 → ⊥) → c.index_mut-s.result.now.log.flushes ≡ 0 → ⊥
+some_left c logs some none =
+    some (c.flushes_left.ensures ∙ ap (λ (i : Index). i.flushes) (sym (log-logged c.s.inside c.index_mut-s.result.now c.s.view_is logs)) ∙ none)
 
 pub invariant_of-self-2 : goal.invariant_of-self-2
 invariant_of-self-2 c =
@@ -21,7 +29,7 @@ invariant_of-self-2 c =
     let here = slice_get-index c.self.inside.servers.items c.args.no.0 c.index_mut-s.result.now within c.index_mut-s.ensures.value in
     record {
       kept = rw c.rotate.ensures
-          (IsKept-rotated c.self.inside.servers.items c.self.inside.errant c.args.no.0 c.index_mut-s.result.now c.self.invariant.kept here (omega (arith, left_over c.index_mut-s.result.now.log.flushes (λ e. c.if-flushes_left-eq0.false (c.flushes_left.ensures ∙ e)))));
+          (IsKept-rotated c.self.inside.servers.items c.self.inside.errant c.args.no.0 c.index_mut-s.result.now c.self.invariant.kept here (left_over c.index_mut-s.result.now.log.flushes (some_left (goal.at.invariant_of-self-2 c).After-flushes_left c.if-not-s-2.false c.if-flushes_left-eq0.false)));
       own = rw c.rotate.ensures (own-still c.self.inside.servers.items c.self.inside.own.items c.args.no.0 c.index_mut-s.result.now (rotated c.index_mut-s.result.now) c.self.invariant.own here refl);
       gtids = rw c.rotate.ensures (AreGtids-still c.self.inside.servers.items c.self.inside.executed.items c.self.inside.purged.items c.self.inside.gtid c.args.no.0 c.index_mut-s.result.now (rotated c.index_mut-s.result.now) c.self.invariant.gtids here refl refl refl
           (purged_txns-rotated c.index_mut-s.result.now (c.self.invariant.kept.fit c.args.no.0 c.index_mut-s.result.now here)));
@@ -33,8 +41,11 @@ returns-clause-answer c =
     let here = slice_get-index c.self.inside.servers.items c.args.no.0 c.index_mut-s.result.now within c.index_mut-s.ensures.value in
     rotate-answered c.args.self.now c.args.no.0 c.index_mut-s.result.now c.end-end.result
     (subst (λ (w : World). server_at w c.args.no.0 ≡ Some c.index_mut-s.result.now) c.self.view_is here)
-    c.if-not-s.false c.if-not-s-2.false (ne_eqb c.index_mut-s.result.now.log.flushes 0 (λ e. c.if-flushes_left-eq0.false (c.flushes_left.ensures ∙ e)))
-    (c.end-end.ensures ∙ ap (λ (s : Server). end_of s.log.log) c.rotate.ensures)
+    (ap (λ (x : Server). x.up) (sym c.s.view_is) ∙ c.if-not-s.false) (ap (λ (x : Server). x.settings.logs) (sym c.s.view_is) ∙ c.if-not-s-2.false)
+    (ne_eqb c.index_mut-s.result.now.log.flushes 0 (some_left (goal.at.returns-clause-answer c).After-flushes_left c.if-not-s-2.false c.if-flushes_left-eq0.false))
+    (c.end-end.ensures ∙ ap (λ (i : Index). end_of i.log) (sym (log-logged c.s-2.inside c.rotate.new.self c.s-2.view_is
+    (ap (λ (x : Server). x.settings.logs) (c.s-2.view_is ∙ c.rotate.ensures ∙ ap rotated (sym c.s.view_is)) ∙ c.if-not-s-2.false)))
+    ∙ ap (λ (s : Server). end_of s.log.log) c.rotate.ensures)
 
 pub returns-clause-world : goal.returns-clause-world
 returns-clause-world c =

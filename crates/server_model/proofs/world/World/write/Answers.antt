@@ -1,10 +1,11 @@
-use Rattle.std.proofs.Common.{◌≡◌, ◌+◌, ◌<◌, length, refl, Some, arith, subst, sym}
+use Rattle.std.proofs.Common.{◌≡◌, ◌+◌, ◌<◌, length, refl, Some, ap, arith, subst, sym, ◌∙◌}
 use Rattle.std.specs.Prelude.{slice_get}
 use Rattle.std.proofs.lemmas.Bool.{eq-eqb}
 use Rattle.orch_base.specs.Histories.{count_own}
 use Rattle.server_model.specs.Exchanges.{own_txn}
 use Rattle.server_model.specs.Gtids.{uuids_in}
 use Rattle.server_model.specs.Worlds.{World, server_at}
+use Rattle.server_model.specs.declared.server.Server.{Server}
 use Rattle.server_model.proofs.Answered.{write-answered, write-left}
 use Rattle.server_model.proofs.ExecutedSets.{AreGtids-took, set-room, uuids_in-at}
 use Rattle.server_model.proofs.Lists.{slice_get-index}
@@ -30,6 +31,13 @@ counts c =
     let here = slice_get-index servers n s within c.index_mut-s.ensures.value in
     let at = slice_get-index own n c.index.result.now beyond c.index.ensures in
     record { here = here; at = at; count = own-at servers own n c.index.result.now s c.self.invariant.own here at }
+
+-- the history has room
+room_left : (c : After-index) → c.len.result < c.room.result → length c.index_mut-s.result.now.history.txns < c.index_mut-s.result.now.history.room
+room_left c left =
+    let count = ap (λ (x : Server). length x.history.txns) c.s.view_is in
+    let room = ap (λ (x : Server). x.history.room) c.s.view_is in
+    omega (arith, count, room, c.len.ensures.txns, c.room.ensures.room, left)
 
 pub index-requires : goal.index-requires
 index-requires c =
@@ -72,15 +80,7 @@ keep_gtid-requires-clause-room c =
     let beyond : c.args.no.0 < length c.self.inside.executed.items = let long = c.self.invariant.gtids.paired in omega (arith, within, long) in
     let beside = slice_get-index c.self.inside.executed.items c.args.no.0 e beyond c.index_mut-executed.ensures.value in
     set-room c.self.inside.gtid (uuids_in c.self.inside.servers.items) s e (c.self.invariant.gtids.kept c.args.no.0 s e here beside)
-    (omega (arith, c.len.ensures.value, c.room.ensures.value, c.if-room-len.false))
-
-pub take-requires-clause-log_room : goal.take-requires-clause-log_room
-take-requires-clause-log_room c =
-    let here = (counts (goal.at.take-requires-clause-log_room c).After-index).here in
-    let fit = c.self.invariant.kept.fit c.args.no.0 c.index_mut-s.result.now here in
-    let room = fit.room in
-    let few = fit.entries in
-    omega (arith, room, few, c.len.ensures.value, c.room.ensures.value, c.if-room-len.false)
+    (room_left (goal.at.keep_gtid-requires-clause-room c).After-index c.if-room-len.false)
 
 pub overflow_add-self : goal.overflow_add-self
 overflow_add-self c =
@@ -99,7 +99,7 @@ invariant_of-self-2 c =
     let within : c.args.no.0 < length c.self.inside.servers.items = subst (λ (w : World). c.args.no.0 < length w.servers) (sym c.self.view_is) c.requires.server in
     let past : n < length c.self.inside.executed.items = let long = c.self.invariant.gtids.paired in omega (arith, within, long) in
     let beside = slice_get-index c.self.inside.executed.items n e past c.index_mut-executed.ensures.value in
-    let room : length s.history.txns < s.history.room = omega (arith, c.len.ensures.value, c.room.ensures.value, c.if-room-len.false) in
+    let room : length s.history.txns < s.history.room = room_left (goal.at.invariant_of-self-2 c).After-index c.if-room-len.false in
     let fit = c.self.invariant.kept.fit n s known.here in
     record {
       kept = rw c.take.ensures
@@ -107,8 +107,8 @@ invariant_of-self-2 c =
           (omega (arith, c.errant_writes.ensures.within)));
       own = rw c.take.ensures (own-took servers c.self.inside.own.items n k 1 s t s.exec c.self.invariant.own known.here known.at (rw (eq-eqb n n refl)));
       gtids = rw (c.take.ensures, c.keep_gtid.ensures)
-          (AreGtids-took servers c.self.inside.executed.items c.self.inside.purged.items c.self.inside.gtid n s e t s.exec s.settings.uuid c.self.invariant.gtids known.here beside
-          (own-numbered servers n k c.args.size s fit known.here known.count room) (sym (uuids_in-at servers n s known.here)) fit c.requires.some);
+          (AreGtids-took servers c.self.inside.executed.items c.self.inside.purged.items c.self.inside.gtid n s e t s.exec c.s.inside.settings.uuid c.self.invariant.gtids known.here beside
+          (own-numbered servers n k c.args.size s fit known.here known.count room) (ap (λ (x : Server). x.settings.uuid) c.s.view_is ∙ sym (uuids_in-at servers n s known.here)) fit c.requires.some);
     }
 
 pub returns-clause-answer : goal.returns-clause-answer
@@ -116,7 +116,8 @@ returns-clause-answer c =
     let known = counts (goal.at.returns-clause-answer c).After-index in
     write-answered c.args.self.now c.args.no.0 c.index.result.now c.index_mut-s.result.now
     (subst (λ (w : World). server_at w c.args.no.0 ≡ Some c.index_mut-s.result.now) c.self.view_is known.here)
-    c.if-not-s.false c.if-s.false (omega (arith, c.len.ensures.value, c.room.ensures.value, c.if-room-len.false)) known.count
+    (ap (λ (x : Server). x.up) (sym c.s.view_is) ∙ c.if-not-s.false) (ap (λ (x : Server). x.read_only) (sym c.s.view_is) ∙ c.if-s.false)
+    (room_left (goal.at.returns-clause-answer c).After-index c.if-room-len.false) known.count
 
 pub returns-clause-world : goal.returns-clause-world
 returns-clause-world c =

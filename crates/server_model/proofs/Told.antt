@@ -1,0 +1,12 @@
+-- What is told of a server, by the list that it holds.
+use Rattle.std.proofs.Common.{◌≡◌, Bool, true, false, cond, [], refl, sym, ap, ◌∙◌}
+use Rattle.binlog_coords.specs.Index.{Index}
+use Rattle.binlog_coords.specs.Log.{opened}
+use Rattle.server_model.specs.ServerBy.{server_of}
+use Rattle.server_model.specs.declared.server.Server.{Server}
+use Rattle.server_model.specs.declared.server.Server.TheInside.{Inside}
+
+-- the log of a server that logs is all that it has executed
+pub log-logged : (a : Inside) (s : Server) → server_of a ≡ s → a.settings.logs ≡ true → s.log ≡ a.log
+log-logged a s view logs =
+    ap (λ (x : Server). x.log) (sym view) ∙ ap (λ b. cond b a.log (record a.log { log = opened a.settings.limit; txns = [] })) logs
