@@ -1,0 +1,6 @@
+pub mod Draws
+pub mod Sends
+pub mod Texts
+pub mod Servers
+pub mod Turns
+pub mod Wholes
