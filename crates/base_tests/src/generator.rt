@@ -100,7 +100,11 @@ fn taken(
 ) -> Result<(Vec<u8>, u64, Result<(), NotWritten>), Memory> {
     let mut sink = MemSink::new(alloc, room, vec![in alloc; if fails { 2 } else { 0 }]?)?;
     let answer = write_scenario(alloc, 3, 1000, 2000, &mut sink);
-    Ok((Vec::from_slice(alloc, sink.written())?, sink.faults(), answer))
+    Ok((
+        Vec::from_slice(alloc, sink.written())?,
+        sink.faults(),
+        answer,
+    ))
 }
 
 // A sink that fails at its second piece took the first, one that has no more room took what fits, and both tell it.
@@ -108,14 +112,16 @@ fn tells(alloc: Global) -> Result<bool, Memory> {
     let whole = taken(alloc, 200_000, false)?;
     let cut = taken(alloc, 200_000, true)?;
     let full = taken(alloc, 70_000, false)?;
-    Ok((whole.1, whole.2) == (0, Ok(()))
-        && whole.0.len() > 80_000
-        && (cut.1, cut.2) == (1, Err(NotWritten::Sink))
-        && (cut.0.len() >= 65_536 && cut.0.len() < 66_000)
-        && whole.0.starts_with(&cut.0)
-        && (full.1, full.2) == (1, Err(NotWritten::Sink))
-        && full.0.len() == 70_000
-        && whole.0.starts_with(&full.0))
+    Ok(
+        (whole.1, whole.2) == (0, Ok(()))
+            && whole.0.len() > 80_000
+            && (cut.1, cut.2) == (1, Err(NotWritten::Sink))
+            && (cut.0.len() >= 65_536 && cut.0.len() < 66_000)
+            && whole.0.starts_with(&cut.0)
+            && (full.1, full.2) == (1, Err(NotWritten::Sink))
+            && full.0.len() == 70_000
+            && whole.0.starts_with(&full.0),
+    )
 }
 
 #[test]

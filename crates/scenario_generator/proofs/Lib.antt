@@ -4,3 +4,4 @@ pub mod Texts
 pub mod Servers
 pub mod Turns
 pub mod Wholes
+pub mod Promises

@@ -31,12 +31,12 @@ servers_from-count x (suc n) = omega (arith, servers_from-count x n, length-appe
 
 -- ---- counts
 
-count_at-earlier : (ss more : List DrawnServer) (m : ℕ) → m < length ss → count_at (ss ++ more) m ≡ count_at ss m
+pub count_at-earlier : (ss more : List DrawnServer) (m : ℕ) → m < length ss → count_at (ss ++ more) m ≡ count_at ss m
 count_at-earlier [] more m h = absurd (omega arith)
 count_at-earlier (s ∷ ss) more zero h = refl
 count_at-earlier (s ∷ ss) more (suc m) h = count_at-earlier ss more m (omega arith)
 
-count_at-last : (ss : List DrawnServer) (s : DrawnServer) → count_at (ss ++ s ∷ []) (length ss) ≡ count_of s
+pub count_at-last : (ss : List DrawnServer) (s : DrawnServer) → count_at (ss ++ s ∷ []) (length ss) ≡ count_of s
 count_at-last [] s = refl
 count_at-last (t ∷ ss) s = count_at-last ss s
 

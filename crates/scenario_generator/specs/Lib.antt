@@ -3,3 +3,4 @@ pub mod Servers
 pub mod Turns
 pub mod Texts
 pub mod Pieces
+pub mod Promises

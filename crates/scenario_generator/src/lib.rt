@@ -3,6 +3,7 @@
 
 mod fault;
 mod generator;
+mod laws;
 mod numbers;
 mod pieces;
 mod server;
