@@ -5,3 +5,5 @@ pub mod Servers
 pub mod Turns
 pub mod Wholes
 pub mod Promises
+pub mod Reading
+pub mod Values

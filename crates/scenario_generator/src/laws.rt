@@ -1,10 +1,11 @@
 //! Laws of what is drawn.
 
-ghost use Rattle.std.specs.Prelude.{◌≡◌, ℕ, ◌+◌, ◌++◌, ◌<◌, ◌≤◌, ◌^◌, codes, length};
+ghost use Rattle.std.specs.Prelude.{◌≡◌, ℕ, ◌+◌, ◌++◌, ◌<◌, ◌≤◌, ◌^◌, Some, codes, length};
+ghost use Rattle.serde_json.specs.Read.{read};
 ghost use Rattle.scenario_generator.specs.Numbers.{below, next};
 ghost use Rattle.scenario_generator.specs.Promises.{ArePlaced, AreTurnsOf};
 ghost use Rattle.scenario_generator.specs.Servers.{count_at, servers_from};
-ghost use Rattle.scenario_generator.specs.Texts.{scenario_text, server_name};
+ghost use Rattle.scenario_generator.specs.Texts.{drawn_data, scenario_text, server_name};
 ghost use Rattle.scenario_generator.specs.Turns.{turns_from};
 
 /// Each number has 64 bits, and what it gives is below its bound.
@@ -36,6 +37,12 @@ pub fn names_are_numbered()
     ensures five { server_name 9999 ≡ codes "s10000" }
     ensures apart { (m n : ℕ) → m + 1 < 2 ^ 64 → n + 1 < 2 ^ 64 → server_name m ≡ server_name n
         → m ≡ n }
+{}
+
+/// The text is JSON, and reads as the value that was drawn.
+pub fn drawn_texts_read_as_json()
+    ensures { (seed servers turns : ℕ) → 0 < servers
+        → read (scenario_text seed servers turns) ≡ Some (drawn_data seed servers turns) }
 {}
 
 /// Small scenarios in full: those that other implementations draw, too.
