@@ -3,7 +3,7 @@
 ghost use Rattle.std.specs.Prelude.{◌<◌};
 
 use orch_base::{MemSink, Memory};
-use scenario_generator::{NotWritten, write_scenario};
+use scenario_generator::{NotWritten, generate, write_scenario};
 use std::alloc::Global;
 
 // A seed, so many servers and turns, and the text in parts.
@@ -73,15 +73,17 @@ fn joined(alloc: Global, parts: &[&str]) -> Result<Vec<u8>, Memory> {
     Ok(text)
 }
 
-// Whether this is the text that is drawn.
+// Whether this is the text that is drawn, in one piece and to a sink.
 fn is_drawn(alloc: Global, row: &Row) -> Result<bool, Memory> {
     let (seed, servers, turns, parts) = *row;
     if servers == 0 {
         return Ok(false);
     }
+    let text = joined(alloc, parts)?;
     let mut sink = MemSink::new(alloc, 4096, Vec::new(alloc))?;
     let answer = write_scenario(alloc, seed, servers, turns, &mut sink);
-    Ok(answer == Ok(()) && sink.written() == joined(alloc, parts)?.as_slice())
+    let whole = generate(alloc, seed, servers, turns)?;
+    Ok(answer == Ok(()) && sink.written() == text.as_slice() && whole == text)
 }
 
 #[test]

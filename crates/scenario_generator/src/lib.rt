@@ -9,6 +9,12 @@ mod pieces;
 mod server;
 mod text;
 mod turn;
+mod whole;
 
 pub use fault::NotWritten;
 pub use generator::write_scenario;
+pub use laws::{
+    drawn_texts_read_as_json, names_are_numbered, numbers_are_in_bounds,
+    servers_stand_in_trees_of_ten, small_scenarios_are_known, turns_are_of_the_servers,
+};
+pub use whole::generate;
