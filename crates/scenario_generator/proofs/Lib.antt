@@ -7,3 +7,5 @@ pub mod Wholes
 pub mod Promises
 pub mod Reading
 pub mod Values
+pub mod Names
+pub mod Lines

@@ -1,7 +1,10 @@
 //! Laws of what is drawn.
 
-ghost use Rattle.std.specs.Prelude.{◌≡◌, ℕ, ◌+◌, ◌++◌, ◌<◌, ◌≤◌, ◌^◌, Some, codes, length};
+ghost use Rattle.std.specs.Prelude.{◌≡◌, ℕ, ◌+◌, ◌++◌, ◌<◌, ◌≤◌, ◌^◌, Ok, Some, codes, length, true};
+ghost use Rattle.std.specs.Str.{is_utf8};
 ghost use Rattle.serde_json.specs.Read.{read};
+ghost use Rattle.orch_base.specs.Names.{name_at};
+ghost use Rattle.orch_base.specs.declared.source.TheConstants.{MAX_SCENARIO_LEN};
 ghost use Rattle.scenario_generator.specs.Numbers.{below, next};
 ghost use Rattle.scenario_generator.specs.Promises.{ArePlaced, AreTurnsOf};
 ghost use Rattle.scenario_generator.specs.Servers.{count_at, servers_from};
@@ -30,19 +33,26 @@ pub fn turns_are_of_the_servers()
         → AreTurnsOf servers (turns_from servers x n).drawn }
 {}
 
-/// Names are counted from 1, in four digits at least.
+/// Names are counted from 1, in four digits at least; no two are the same, and each reads as a host.
 pub fn names_are_numbered()
     ensures first { server_name 0 ≡ codes "s0001" }
     ensures four { server_name 998 ≡ codes "s0999" }
     ensures five { server_name 9999 ≡ codes "s10000" }
     ensures apart { (m n : ℕ) → m + 1 < 2 ^ 64 → n + 1 < 2 ^ 64 → server_name m ≡ server_name n
         → m ≡ n }
+    ensures read { (n : ℕ) → n + 1 < 2 ^ 64
+        → name_at (server_name n) ≡ Ok (record { host = server_name n; port = 3306 }) }
 {}
 
-/// The text is JSON, and reads as the value that was drawn.
+/// The text is UTF-8 and JSON, and reads as the value that was drawn. For at most 1,000 servers and 1,000,000 turns it
+/// isn't longer than a scenario's text may be.
 pub fn drawn_texts_read_as_json()
-    ensures { (seed servers turns : ℕ) → 0 < servers
+    ensures read { (seed servers turns : ℕ) → 0 < servers
         → read (scenario_text seed servers turns) ≡ Some (drawn_data seed servers turns) }
+    ensures utf8 { (seed servers turns : ℕ) → 0 < servers → servers < 2 ^ 64
+        → is_utf8 (scenario_text seed servers turns) ≡ true }
+    ensures short { (seed servers turns : ℕ) → 0 < servers → servers ≤ 1000 → turns ≤ 1000000
+        → length (scenario_text seed servers turns) ≤ MAX_SCENARIO_LEN }
 {}
 
 /// Small scenarios in full: those that other implementations draw, too.
