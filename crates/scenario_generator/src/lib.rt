@@ -17,4 +17,6 @@ pub use laws::{
     drawn_texts_read_as_json, names_are_numbered, numbers_are_in_bounds,
     servers_stand_in_trees_of_ten, small_scenarios_are_known, turns_are_of_the_servers,
 };
+pub use server::DrawnServer;
+pub use turn::DrawnTurn;
 pub use whole::generate;

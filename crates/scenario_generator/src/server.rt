@@ -10,10 +10,10 @@ use orch_base::Memory;
 
 /// A server that was drawn.
 #[derive(Clone, Copy)]
-pub(crate) enum DrawnServer {
+pub enum DrawnServer {
     /// It has no source, and took 20 transactions of 100 bytes from clients.
     Root,
-    /// It has executed so many of its source's transactions: 0 to 20.
+    /// It replicates from this one, by its number counted from 0, and has executed so many of its transactions: 0 to 20.
     Replica { source: u32, executed: u32 },
 }
 

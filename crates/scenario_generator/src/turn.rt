@@ -10,7 +10,7 @@ use orch_base::Memory;
 
 /// A turn that was drawn, by servers' numbers, counted from 0.
 #[derive(Clone, Copy)]
-pub(crate) enum DrawnTurn {
+pub enum DrawnTurn {
     /// An ordinary client's transaction of this size, 1 to 1,000 bytes, at a root.
     Write { root: u32, size: u32 },
     /// The receiver of a server reads one step.

@@ -1,0 +1,17 @@
+//! Laws of drawn scenarios that read: what is drawn reads without a fault, as it was drawn.
+#![tactic(auto)]
+
+ghost use Rattle.std.specs.Prelude.{◌≡◌, ℕ, ◌<◌, ◌≤◌, List, Ok};
+ghost use Rattle.scenario_values.specs.Faults.{each};
+ghost use Rattle.scenario_turns.specs.Turns.{turn_in};
+ghost use Rattle.scenario_generator.specs.Texts.{turns_data};
+ghost use Rattle.scenario_generator.specs.Turns.{turns_from};
+ghost use Rattle.generator_laws.specs.Drawn.{listed_turns, names_from};
+
+/// The turns that are drawn over so many servers read as those turns.
+pub fn drawn_turns_read()
+    ensures { (servers x turns : ℕ) (printed : List (List ℕ)) → 0 < servers → servers ≤ 1000
+        → each (turn_in (names_from 0 servers) printed)
+            (turns_data (turns_from servers x turns).drawn)
+        ≡ Ok (listed_turns (turns_from servers x turns).drawn) }
+{}
