@@ -25,7 +25,7 @@ other_name : (m n : ℕ) → m + 1 < 2 ^ 64 → n + 1 < 2 ^ 64 → m ≢ n → s
 other_name m n small small' other =
     told (same_name (name_of m) (name_of n)) (name_of m ≡ name_of n) (same_name_tells (name_of m) (name_of n)).0 (λ e. other (names_apart m n small small' (ap (λ (h : HostPort). h.host) e)))
 
-first_of_names : (n count k : ℕ) → n ≤ k → k < n + count → n + count < 2 ^ 64 → first_named (name_of k) n (names_from n count) ≡ Some k
+pub first_of_names : (n count k : ℕ) → n ≤ k → k < n + count → n + count < 2 ^ 64 → first_named (name_of k) n (names_from n count) ≡ Some k
 first_of_names n zero k low high small = absurd (omega arith)
 first_of_names n (suc count) k low high small = elim (eqb_tells n k) [
   | inl here ↦ let same : same_name (name_of n) (name_of k) ≡ true = ap (λ m. same_name (name_of n) (name_of m)) (sym here.1) ∙ same_name_true (name_of n) in rw same (ap Some here.1)

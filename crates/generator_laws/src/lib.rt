@@ -1,12 +1,22 @@
 //! Laws of drawn scenarios that read: what is drawn reads without a fault, as it was drawn.
 #![tactic(auto)]
 
-ghost use Rattle.std.specs.Prelude.{◌≡◌, ℕ, ◌<◌, ◌≤◌, List, Ok};
+ghost use Rattle.std.specs.Prelude.{◌≡◌, ℕ, ◌<◌, ◌≤◌, List, Ok, false};
+ghost use Rattle.serde_json.specs.Data.{array};
 ghost use Rattle.scenario_values.specs.Faults.{each};
+ghost use Rattle.scenario_servers.specs.Servers.{servers_in};
 ghost use Rattle.scenario_turns.specs.Turns.{turn_in};
-ghost use Rattle.scenario_generator.specs.Texts.{turns_data};
+ghost use Rattle.scenario_generator.specs.Servers.{servers_from};
+ghost use Rattle.scenario_generator.specs.Texts.{servers_data, turns_data};
 ghost use Rattle.scenario_generator.specs.Turns.{turns_from};
-ghost use Rattle.generator_laws.specs.Drawn.{listed_turns, names_from};
+ghost use Rattle.generator_laws.specs.Drawn.{givens_from, listed_turns, names_from};
+
+/// The servers that are drawn read as those servers: their names, and each with what it was given.
+pub fn drawn_servers_read()
+    ensures { (seed servers : ℕ) → 0 < servers → servers ≤ 1000
+        → servers_in false (array (servers_data 0 (servers_from seed servers).drawn))
+        ≡ Ok (names_from 0 servers, givens_from 0 (servers_from seed servers).drawn) }
+{}
 
 /// The turns that are drawn over so many servers read as those turns.
 pub fn drawn_turns_read()
