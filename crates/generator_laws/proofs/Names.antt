@@ -1,13 +1,13 @@
 -- Drawn names are found by their numbers.
-use Rattle.std.proofs.Common.{◌≡◌, ◌∙◌, ◌≢◌, ◌<◌, ◌≤◌, ℕ, zero, suc, ◌+◌, ◌^◌, Bool, true, false, ◌∷◌, List, [], Option, Some, None, Result, Ok, Err, refl, sym, ap, arith, inl, inr}
+use Rattle.std.proofs.Common.{◌≡◌, ◌∙◌, ◌≢◌, ◌<◌, ◌≤◌, ℕ, zero, suc, ◌+◌, ◌^◌, Bool, true, false, Some, Ok, refl, sym, ap, arith, inl, inr}
 use Rattle.std.proofs.lemmas.Bool.Decides.{eqb_tells}
-use Rattle.std.specs.Prelude.{◌↔◌, IsTrue, if◌then◌else◌}
+use Rattle.std.specs.Prelude.{IsTrue}
 use Rattle.serde_json.specs.Data.{string}
 use Rattle.orch_base.specs.Gives.{◌>>=◌}
-use Rattle.orch_base.specs.Names.{HostPort, name_at, same_name}
+use Rattle.orch_base.specs.Names.{HostPort, same_name}
 use Rattle.orch_base.proofs.SameNames.{same_name_tells}
-use Rattle.scenario_values.specs.Values.{name_in, name_or_fails, text_in}
-use Rattle.scenario_servers.specs.Names.{first_named, is_named, number_or_fails, server_named}
+use Rattle.scenario_values.specs.Values.{name_in}
+use Rattle.scenario_servers.specs.Names.{first_named, server_named}
 use Rattle.scenario_generator.specs.Texts.{server_name}
 use Rattle.scenario_generator.proofs.Names.{name_reads}
 use Rattle.scenario_generator.proofs.Promises.{names_apart}

@@ -1,12 +1,12 @@
 -- Drawn servers read as what was drawn.
-use Rattle.std.proofs.Common.{◌≡◌, ◌∙◌, ◌≢◌, ◌<◌, ◌≤◌, ◌==◌, ℕ, zero, suc, ◌+◌, ◌^◌, Bool, true, false, ◌∷◌, List, [], length, take, Option, Some, None, Ok, refl, sym, ap, subst, arith}
-use Rattle.std.specs.Prelude.{◌&&◌, codes, nat_le, nat_lt, slice_get}
+use Rattle.std.proofs.Common.{◌≡◌, ◌<◌, ◌≤◌, ◌==◌, ℕ, zero, suc, ◌+◌, ◌^◌, true, false, ◌∷◌, List, [], length, take, Option, Some, Ok, refl, sym, ap, subst, arith}
+use Rattle.std.specs.Prelude.{nat_le, nat_lt, slice_get}
 use Rattle.std.specs.List.{list_any}
 use Rattle.std.proofs.lemmas.Bool.{le-leb, le-ltb, ne_eqb}
 use Rattle.std.proofs.lemmas.Option.{slice_get_within}
-use Rattle.serde_json.specs.Data.{Data, Items, array}
+use Rattle.serde_json.specs.Data.{array}
 use Rattle.orch_base.specs.Gives.{◌>>=◌}
-use Rattle.scenario_values.specs.Faults.{each_from, item_count, under_item}
+use Rattle.scenario_values.specs.Faults.{each_from, item_count}
 use Rattle.scenario_values.specs.Values.{name_in, number_in, whole_in}
 use Rattle.scenario_servers.specs.Names.{has_uuid, listed_names, listed_uuids, own_name, own_uuid}
 use Rattle.scenario_servers.specs.Servers.{history_in, identity_in, listed_in, part_in, replication_in, server_from, server_in, servers_in, setup_in}
@@ -14,7 +14,7 @@ use Rattle.scenario_generator.specs.declared.server.DrawnServer.{DrawnServer}
 use Rattle.scenario_generator.specs.declared.server.DrawnServer.TheVariants.{Root, Replica}
 use Rattle.scenario_generator.specs.Promises.{IsPlaced}
 use Rattle.scenario_generator.specs.Servers.{servers_from}
-use Rattle.scenario_generator.specs.Texts.{server_data, server_name, servers_data}
+use Rattle.scenario_generator.specs.Texts.{server_data, servers_data}
 use Rattle.scenario_generator.proofs.Names.{name_reads}
 use Rattle.scenario_generator.proofs.Promises.{placed}
 use Rattle.scenario_generator.proofs.Servers.{servers_from-count}
@@ -83,7 +83,7 @@ each_reads count n uuids (s ∷ ss) each =
     let same : n + 0 ≡ n = omega arith in
     let first : server_in false (names_from 0 count) uuids n (server_data n s) ≡ Ok (given_of n s) = subst (λ k. server_in false (names_from 0 count) uuids k (server_data k s) ≡ Ok (given_of k s)) same (each zero s refl) in
     let rest = each_reads count (n + 1) uuids ss
-        (λ m t e. let moved : n + suc m ≡ n + 1 + m = omega arith in subst (λ k. server_in false (names_from 0 count) uuids k (server_data k t) ≡ Ok (given_of k t)) moved (each (suc m) t e)) in
+    (λ m t e. let moved : n + suc m ≡ n + 1 + m = omega arith in subst (λ k. server_in false (names_from 0 count) uuids k (server_data k t) ≡ Ok (given_of k t)) moved (each (suc m) t e)) in
     rw first (rw rest refl)
 
 servers_read_of : (ss : List DrawnServer) → 0 < length ss → length ss ≤ 1000 → EachReads (uuids_from 0 (length ss)) (length ss) 0 ss
@@ -102,6 +102,6 @@ servers_read seed servers some few =
     subst (λ k. servers_in false (array (servers_data 0 ss)) ≡ Ok (names_from 0 k, givens_from 0 ss)) count
     (servers_read_of ss (omega (arith, count)) (omega (arith, count))
     (λ m s e. let there : m < length ss = slice_get_within ss m s e in
-        let same : 0 + m ≡ m = omega arith in
-        subst (λ k. server_in false (names_from 0 (length ss)) (uuids_from 0 (length ss)) k (server_data k s) ≡ Ok (given_of k s)) (sym same)
-        (server_reads (length ss) m s ss there (omega (arith, count)) (placed seed servers m s e))))
+    let same : 0 + m ≡ m = omega arith in
+    subst (λ k. server_in false (names_from 0 (length ss)) (uuids_from 0 (length ss)) k (server_data k s) ≡ Ok (given_of k s)) (sym same)
+    (server_reads (length ss) m s ss there (omega (arith, count)) (placed seed servers m s e))))

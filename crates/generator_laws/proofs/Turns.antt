@@ -1,22 +1,20 @@
 -- Drawn turns read as what was drawn.
-use Rattle.std.proofs.Common.{◌≡◌, ◌∙◌, ◌<◌, ◌≤◌, ℕ, zero, suc, ◌+◌, ◌^◌, ◌∷◌, List, [], Some, Ok, refl, ap, arith}
+use Rattle.std.proofs.Common.{◌≡◌, ◌<◌, ◌≤◌, ℕ, zero, suc, ◌+◌, ◌∷◌, List, [], Ok, refl, arith}
 use Rattle.std.proofs.lemmas.Bool.{le-leb}
-use Rattle.std.specs.Prelude.{codes, nat_le, slice_get, true}
-use Rattle.serde_json.specs.Data.{Data, string}
+use Rattle.std.specs.Prelude.{nat_le, true}
 use Rattle.orch_base.specs.Gives.{◌>>=◌}
-use Rattle.scenario_values.specs.Faults.{each_from, under_item}
-use Rattle.scenario_values.specs.Values.{items_in, number_in, text_in, whole_in}
-use Rattle.scenario_servers.specs.Names.{server_named}
+use Rattle.scenario_values.specs.Faults.{each_from}
+use Rattle.scenario_values.specs.Values.{number_in, whole_in}
 use Rattle.scenario_turns.specs.Turns.{poll_of, poller_of, server_of, size_of, turn_in, turn_with}
 use Rattle.scenario_turns.specs.Words.{built_word}
 use Rattle.scenario_turns.specs.declared.expansion.ListedTurn.TheVariants.{One}
 use Rattle.scenario_generator.specs.declared.turn.DrawnTurn.{DrawnTurn}
 use Rattle.scenario_generator.specs.declared.turn.DrawnTurn.TheVariants.{Write, Fetch, Apply, Rotate, PollRead, PollStore}
 use Rattle.scenario_generator.specs.Promises.{AreTurnsOf, IsTurnOf}
-use Rattle.scenario_generator.specs.Texts.{server_name, turn_data, turns_data}
+use Rattle.scenario_generator.specs.Texts.{turn_data, turns_data}
 use Rattle.scenario_generator.specs.Turns.{turns_from}
 use Rattle.scenario_generator.proofs.Promises.{turns_are}
-use Rattle.generator_laws.specs.Drawn.{listed_turns, names_from, server_no, turn_of}
+use Rattle.generator_laws.specs.Drawn.{listed_turns, names_from, turn_of}
 use Rattle.generator_laws.proofs.Names.{named}
 
 turn_reads : (servers : ℕ) (printed : List (List ℕ)) (t : DrawnTurn) → servers ≤ 1000 → IsTurnOf servers t → turn_in (names_from 0 servers) printed (turn_data t) ≡ Ok (One (turn_of t))

@@ -7,9 +7,11 @@ ghost use Rattle.scenario_values.specs.Faults.{each};
 ghost use Rattle.scenario_servers.specs.Servers.{servers_in};
 ghost use Rattle.scenario_turns.specs.Turns.{turn_in};
 ghost use Rattle.scenario_generator.specs.Servers.{servers_from};
-ghost use Rattle.scenario_generator.specs.Texts.{servers_data, turns_data};
+ghost use Rattle.scenario_generator.specs.Texts.{scenario_text, servers_data, turns_data};
 ghost use Rattle.scenario_generator.specs.Turns.{turns_from};
+ghost use Rattle.scenario_reader.specs.Scenarios.{scenario_in, scenario_with};
 ghost use Rattle.generator_laws.specs.Drawn.{givens_from, listed_turns, names_from};
+ghost use Rattle.generator_laws.specs.Whole.{drawn_head};
 
 /// The servers that are drawn read as those servers: their names, and each with what it was given.
 pub fn drawn_servers_read()
@@ -22,6 +24,16 @@ pub fn drawn_servers_read()
 pub fn drawn_turns_read()
     ensures { (servers x turns : ℕ) (printed : List (List ℕ)) → 0 < servers → servers ≤ 1000
         → each (turn_in (names_from 0 servers) printed)
-            (turns_data (turns_from servers x turns).drawn)
+        (turns_data (turns_from servers x turns).drawn)
         ≡ Ok (listed_turns (turns_from servers x turns).drawn) }
+{}
+
+/// What is drawn reads without a fault as far as its servers' opening: the text, its keys and its servers. What is left
+/// is the opening of these servers and their turns.
+pub fn drawn_texts_read()
+    ensures { (seed servers turns : ℕ) → 0 < servers → servers ≤ 1000 → turns ≤ 1000000
+        → scenario_in (scenario_text seed servers turns)
+        ≡ scenario_with drawn_head
+        (names_from 0 servers, givens_from 0 (servers_from seed servers).drawn)
+        (turns_data (turns_from servers (servers_from seed servers).number turns).drawn) }
 {}
