@@ -2,3 +2,4 @@ pub mod Names
 pub mod Turns
 pub mod Servers
 pub mod Wholes
+pub mod Flaws

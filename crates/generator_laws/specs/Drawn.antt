@@ -2,6 +2,7 @@
 use Rattle.std.specs.Prelude.{ℕ, zero, suc, ◌+◌, ◌∷◌, List, [], true, false, Option, Some, None, map}
 use Rattle.orch_base.specs.declared.server.ServerNo.{ServerNo}
 use Rattle.orch_base.specs.Names.{HostPort}
+use Rattle.openings.specs.declared.init.ServerInit.{ServerInit}
 use Rattle.openings.specs.declared.part.Part.{Part}
 use Rattle.turns.specs.declared.turn.Turn.{Turn}
 use Rattle.turns.specs.declared.turn.Turn.TheVariants.{Act, Step}
@@ -11,6 +12,7 @@ use Rattle.scenario_servers.specs.declared.given.Given.{Given}
 use Rattle.scenario_servers.specs.declared.given.Identity.{Identity}
 use Rattle.scenario_servers.specs.declared.given.Setup.{Setup}
 use Rattle.scenario_servers.specs.declared.given.Replication.{Replication}
+use Rattle.scenario_servers.specs.Openings.{inits_of}
 use Rattle.scenario_servers.specs.Servers.{default_version}
 use Rattle.scenario_turns.specs.declared.expansion.ListedTurn.{ListedTurn}
 use Rattle.scenario_turns.specs.declared.expansion.ListedTurn.TheVariants.{One}
@@ -88,3 +90,7 @@ given_of n s = record {
 abbrev pub givens_from : ℕ → List DrawnServer → List Given
 givens_from n [] = []
 givens_from n (s ∷ ss) = given_of n s ∷ givens_from (n + 1) ss
+
+-- the servers that open
+abbrev pub inits_from_drawn : List DrawnServer → List ServerInit
+inits_from_drawn ss = inits_of (givens_from 0 ss)

@@ -1,8 +1,9 @@
 //! Laws of drawn scenarios that read: what is drawn reads without a fault, as it was drawn.
 #![tactic(auto)]
 
-ghost use Rattle.std.specs.Prelude.{◌≡◌, ℕ, ◌<◌, ◌≤◌, List, Ok, false};
+ghost use Rattle.std.specs.Prelude.{◌≡◌, ℕ, ◌<◌, ◌≤◌, List, None, Ok, false};
 ghost use Rattle.serde_json.specs.Data.{array};
+ghost use Rattle.openings.specs.Flaws.{bad_files, below_itself, both_given, first_met, source_not_logging, too_many};
 ghost use Rattle.scenario_values.specs.Faults.{each};
 ghost use Rattle.scenario_servers.specs.Servers.{servers_in};
 ghost use Rattle.scenario_turns.specs.Turns.{turn_in};
@@ -10,7 +11,7 @@ ghost use Rattle.scenario_generator.specs.Servers.{servers_from};
 ghost use Rattle.scenario_generator.specs.Texts.{scenario_text, servers_data, turns_data};
 ghost use Rattle.scenario_generator.specs.Turns.{turns_from};
 ghost use Rattle.scenario_reader.specs.Scenarios.{scenario_in, scenario_with};
-ghost use Rattle.generator_laws.specs.Drawn.{givens_from, listed_turns, names_from};
+ghost use Rattle.generator_laws.specs.Drawn.{givens_from, inits_from_drawn, listed_turns, names_from};
 ghost use Rattle.generator_laws.specs.Whole.{drawn_head};
 
 /// The servers that are drawn read as those servers: their names, and each with what it was given.
@@ -36,4 +37,19 @@ pub fn drawn_texts_read()
         ≡ scenario_with drawn_head
         (names_from 0 servers, givens_from 0 (servers_from seed servers).drawn)
         (turns_data (turns_from servers (servers_from seed servers).number turns).drawn) }
+{}
+
+/// Servers that are drawn open without these flaws: none has both a history and a source, each source logs, none is
+/// below itself, none counts more than its source, and no flush point or first kept file is out of place.
+pub fn drawn_servers_lack_flaws()
+    ensures both { (seed servers : ℕ) → first_met (λ n i. both_given i) 0
+        (inits_from_drawn (servers_from seed servers).drawn) ≡ None }
+    ensures logging { (seed servers : ℕ) → let inits = inits_from_drawn (servers_from seed servers).drawn
+        in first_met (λ n i. source_not_logging inits i) 0 inits ≡ None }
+    ensures loops { (seed servers : ℕ) → let inits = inits_from_drawn (servers_from seed servers).drawn
+        in first_met (λ n i. below_itself inits n) 0 inits ≡ None }
+    ensures many { (seed servers : ℕ) → let inits = inits_from_drawn (servers_from seed servers).drawn
+        in first_met (λ n i. too_many inits i) 0 inits ≡ None }
+    ensures files { (seed servers : ℕ) → let inits = inits_from_drawn (servers_from seed servers).drawn
+        in first_met (λ n i. bad_files inits n i) 0 inits ≡ None }
 {}
