@@ -20,12 +20,12 @@ use Rattle.generator_laws.specs.Drawn.{given_of, givens_from, inits_from_drawn, 
 -- ---- the server of a number
 
 -- it opens as it was drawn
-record IsDrawn (ss : List DrawnServer) (n : ℕ) (i : ServerInit) : Type 0 where
-  server : DrawnServer
-  there : slice_get ss n ≡ Some server
-  is : i ≡ init_of (givens_from 0 ss) n (given_of n server)
+pub record IsDrawn (ss : List DrawnServer) (n : ℕ) (i : ServerInit) : Type 0 where
+  pub server : DrawnServer
+  pub there : slice_get ss n ≡ Some server
+  pub is : i ≡ init_of (givens_from 0 ss) n (given_of n server)
 
-given_at : (n m : ℕ) (ss : List DrawnServer) (g : Given) → slice_get (givens_from n ss) m ≡ Some g → (s : DrawnServer) × (slice_get ss m ≡ Some s) × (g ≡ given_of (n + m) s)
+pub given_at : (n m : ℕ) (ss : List DrawnServer) (g : Given) → slice_get (givens_from n ss) m ≡ Some g → (s : DrawnServer) × (slice_get ss m ≡ Some s) × (g ≡ given_of (n + m) s)
 given_at n m [] g e = absurd (cc)
 given_at n zero (s ∷ ss) g e = let same : n ≡ n + 0 = omega arith in let is : given_of n s ≡ g = cc in (s, refl, sym is ∙ ap (λ k. given_of k s) same)
 given_at n (suc m) (s ∷ ss) g e =
@@ -41,7 +41,7 @@ init_at gs n (suc m) (x ∷ xs) i e =
     let same : n + 1 + m ≡ n + suc m = omega arith in
     (h.0, h.1, h.2 ∙ ap (λ k. init_of gs k h.0) same)
 
-drawn_at : (ss : List DrawnServer) (n : ℕ) (i : ServerInit) → slice_get (inits_from_drawn ss) n ≡ Some i → IsDrawn ss n i
+pub drawn_at : (ss : List DrawnServer) (n : ℕ) (i : ServerInit) → slice_get (inits_from_drawn ss) n ≡ Some i → IsDrawn ss n i
 drawn_at ss n i e =
     let gs = givens_from 0 ss in
     let h = init_at gs 0 n gs i e in
@@ -71,11 +71,11 @@ none_meets test ss each =
     subst (λ k. test k i ≡ false) (sym same) (subst (λ j. test m j ≡ false) (sym h.is) (each m h.server h.there)))
 
 -- a test of a source that every drawn server fails
-at_found : (test : ℕ → ServerInit → Bool) (m : ℕ) (o : Option ServerInit) → ((i : ServerInit) → o ≡ Some i → test m i ≡ false) → at_server (test m) o ≡ false
+pub at_found : (test : ℕ → ServerInit → Bool) (m : ℕ) (o : Option ServerInit) → ((i : ServerInit) → o ≡ Some i → test m i ≡ false) → at_server (test m) o ≡ false
 at_found test m None fails = refl
 at_found test m (Some i) fails = fails i refl
 
-at_drawn : (ss : List DrawnServer) (test : ℕ → ServerInit → Bool) (m : ℕ) → ((s : DrawnServer) → slice_get ss m ≡ Some s → test m (init_of (givens_from 0 ss) m (given_of m s)) ≡ false) → at_source (inits_from_drawn ss) test (Some m) ≡ false
+pub at_drawn : (ss : List DrawnServer) (test : ℕ → ServerInit → Bool) (m : ℕ) → ((s : DrawnServer) → slice_get ss m ≡ Some s → test m (init_of (givens_from 0 ss) m (given_of m s)) ≡ false) → at_source (inits_from_drawn ss) test (Some m) ≡ false
 at_drawn ss test m fails = at_found test m (slice_get (inits_from_drawn ss) m) (λ i e. let h = drawn_at ss m i e in subst (λ j. test m j ≡ false) (sym h.is) (fails h.server h.there))
 
 -- ---- the tests
@@ -106,7 +106,7 @@ falls_on up go n from (Some m) is down low more =
     let other : (m == n) ≡ false = ne_eqb m n (λ e. omega arith) in
     rw other (more m (omega arith))
 
-falls : (up : ℕ → Option ℕ) (steps n from : ℕ) → ((a b : ℕ) → up a ≡ Some b → b < a) → from ≤ n → is_reached up steps n from ≡ false
+pub falls : (up : ℕ → Option ℕ) (steps n from : ℕ) → ((a b : ℕ) → up a ≡ Some b → b < a) → from ≤ n → is_reached up steps n from ≡ false
 falls up zero n from down low = refl
 falls up (suc steps) n from down low = falls_on up (λ m. is_reached up steps n m) n from (up from) refl down low (λ m few. falls up steps n m down few)
 

@@ -3,3 +3,4 @@ pub mod Turns
 pub mod Servers
 pub mod Wholes
 pub mod Flaws
+pub mod Clusters

@@ -3,7 +3,7 @@
 
 ghost use Rattle.std.specs.Prelude.{◌≡◌, ℕ, ◌<◌, ◌≤◌, List, None, Ok, false};
 ghost use Rattle.serde_json.specs.Data.{array};
-ghost use Rattle.openings.specs.Flaws.{bad_files, below_itself, both_given, first_met, source_not_logging, too_many};
+ghost use Rattle.openings.specs.Flaws.{bad_files, below_itself, both_given, first_met, other_cluster, source_not_logging, too_many};
 ghost use Rattle.scenario_values.specs.Faults.{each};
 ghost use Rattle.scenario_servers.specs.Servers.{servers_in};
 ghost use Rattle.scenario_turns.specs.Turns.{turn_in};
@@ -40,7 +40,8 @@ pub fn drawn_texts_read()
 {}
 
 /// Servers that are drawn open without these flaws: none has both a history and a source, each source logs, none is
-/// below itself, none counts more than its source, and no flush point or first kept file is out of place.
+/// below itself or of another cluster than its source, none counts more than its source, and no flush point or first
+/// kept file is out of place.
 pub fn drawn_servers_lack_flaws()
     ensures both { (seed servers : ℕ) → first_met (λ n i. both_given i) 0
         (inits_from_drawn (servers_from seed servers).drawn) ≡ None }
@@ -48,6 +49,8 @@ pub fn drawn_servers_lack_flaws()
         in first_met (λ n i. source_not_logging inits i) 0 inits ≡ None }
     ensures loops { (seed servers : ℕ) → let inits = inits_from_drawn (servers_from seed servers).drawn
         in first_met (λ n i. below_itself inits n) 0 inits ≡ None }
+    ensures clusters { (seed servers : ℕ) → let inits = inits_from_drawn (servers_from seed servers).drawn
+        in first_met (λ n i. other_cluster inits i) 0 inits ≡ None }
     ensures many { (seed servers : ℕ) → let inits = inits_from_drawn (servers_from seed servers).drawn
         in first_met (λ n i. too_many inits i) 0 inits ≡ None }
     ensures files { (seed servers : ℕ) → let inits = inits_from_drawn (servers_from seed servers).drawn

@@ -18,7 +18,7 @@ pub fn numbers_are_in_bounds()
 {}
 
 /// As many servers are drawn as were asked for. The first of each ten is a root, and each other one has an earlier
-/// source of its ten and at most as many transactions as that; none has more than 20. More servers begin with these.
+/// source of its ten and at most as many transactions as that; none has more than 20.
 pub fn servers_stand_in_trees_of_ten()
     ensures count { (seed n : ℕ) → length (servers_from seed n).drawn ≡ n }
     ensures placed { (seed n : ℕ) → ArePlaced (servers_from seed n).drawn }

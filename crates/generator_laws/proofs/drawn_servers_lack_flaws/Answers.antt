@@ -1,5 +1,6 @@
 use Rattle.scenario_generator.specs.Servers.{servers_from}
 use Rattle.scenario_generator.proofs.Promises.{placed}
+use Rattle.generator_laws.proofs.Clusters.{none_is_elsewhere}
 use Rattle.generator_laws.proofs.Flaws.{each_source_logs, none_has_bad_files, none_has_both, none_has_too_many, none_is_below_itself}
 use Rattle.generator_laws.proofs.drawn_servers_lack_flaws.Goals as goal
 
@@ -17,3 +18,6 @@ returns-clause-many c = λ seed servers. none_has_too_many (servers_from seed se
 
 pub returns-clause-files : goal.returns-clause-files
 returns-clause-files c = λ seed servers. none_has_bad_files (servers_from seed servers).drawn
+
+pub returns-clause-clusters : goal.returns-clause-clusters
+returns-clause-clusters c = λ seed servers. none_is_elsewhere (servers_from seed servers).drawn (placed seed servers)
