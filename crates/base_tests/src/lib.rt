@@ -1,4 +1,4 @@
-//! Tests of the lowest crates: names, coordinates, GTID sets, filters, forests, the order of servers.
+//! Tests of the lowest crates: names, coordinates, GTID sets, filters, forests, the order of servers, drawn scenarios.
 #![tactic(auto)]
 
 #[cfg(test)]
@@ -7,6 +7,8 @@ mod coords;
 mod filters;
 #[cfg(test)]
 mod forest;
+#[cfg(test)]
+mod generator;
 #[cfg(test)]
 mod in_memory;
 #[cfg(test)]

@@ -1,0 +1,126 @@
+-- Values whose text reads back.
+use Rattle.std.proofs.Common.{◌≡◌, ◌∙◌, ◌<◌, ◌≤◌, ℕ, zero, suc, ◌+◌, ◌^◌, ◌∷◌, List, [], ◌++◌, Option, Some, option_map, option_and_then, refl, sym, ap, arith, append-nil}
+use Rattle.std.specs.Prelude.{codes}
+use Rattle.json.specs.Lex.{tokens}
+use Rattle.json.specs.Token.{Token}
+use Rattle.json.specs.Json as json
+use Rattle.json.specs.Tree as tree
+use Rattle.json.specs.Tree.{json_tokens, HasNumbers, ItemsHaveNumbers}
+use Rattle.json.proofs.Printed.Decimals.{IsNumber-decimal}
+use Rattle.json.proofs.Printed.Trees.{ArePrintable-json_tokens, value-json_tokens}
+use Rattle.serde_json.specs.Data.{Data, unsigned, number, string, array, object, Items, no_items, item, no_members, member, put}
+use Rattle.serde_json.specs.Read.{max_depth, of_items, of_json, read}
+use Rattle.serde_json.specs.Written.{compact_text, items_outline, outline}
+use Rattle.serde_json.proofs.Numbers.{number_of-decimal}
+use Rattle.serde_json.proofs.Texts.{print-outline}
+use Rattle.scenario_generator.specs.declared.server.DrawnServer.{DrawnServer}
+use Rattle.scenario_generator.specs.declared.server.DrawnServer.TheVariants.{Root, Replica}
+use Rattle.scenario_generator.specs.declared.turn.DrawnTurn.{DrawnTurn}
+use Rattle.scenario_generator.specs.declared.turn.DrawnTurn.TheVariants.{Write, Fetch, Apply, Rotate, PollRead, PollStore}
+use Rattle.scenario_generator.specs.Promises.{AreTurnsOf, IsTurnOf}
+use Rattle.scenario_generator.specs.Servers.{count_at, count_of, servers_from}
+use Rattle.scenario_generator.specs.Texts.{drawn_data, scenario_text, server_data, server_name, servers_data, turn_data, turns_data}
+use Rattle.scenario_generator.specs.Turns.{turns_from}
+use Rattle.scenario_generator.proofs.Promises.{counts_few, turns_are}
+use Rattle.scenario_generator.proofs.Reading.{tokens-line}
+
+-- ---- values that read back, no deeper than this
+
+record Reads (k : ℕ) (d : Data) : Type 0 where
+  back : of_json (outline d) ≡ Some d
+  numbers : HasNumbers (outline d)
+  shallow : tree.depth (outline d) ≤ k
+
+record ReadsItems (k : ℕ) (ds : Items) : Type 0 where
+  back : of_items (items_outline ds) ≡ Some ds
+  numbers : ItemsHaveNumbers (items_outline ds)
+  shallow : tree.items_depth (items_outline ds) ≤ k
+
+reads_string : (k : ℕ) (s : List ℕ) → Reads k (string s)
+reads_string k s = record { back = refl; numbers = tt; shallow = omega arith }
+
+reads_number : (k n : ℕ) → n < 2 ^ 64 → Reads k (number (unsigned n))
+reads_number k n small = record { back = ap (option_map number) (number_of-decimal n small); numbers = IsNumber-decimal n small; shallow = omega arith }
+
+reads_no_items : (k : ℕ) → ReadsItems k no_items
+reads_no_items k = record { back = refl; numbers = tt; shallow = omega arith }
+
+reads_item : (k : ℕ) (d : Data) (ds : Items) → Reads k d → ReadsItems k ds → ReadsItems k (item d ds)
+reads_item k d ds first rest = record {
+  back = rw (first.back, rest.back);
+  numbers = (first.numbers, rest.numbers);
+  shallow = omega (arith, first.shallow, rest.shallow);
+}
+
+reads_array : (k : ℕ) (ds : Items) → ReadsItems k ds → Reads (k + 1) (array ds)
+reads_array k ds items = record { back = ap (option_map array) items.back; numbers = items.numbers; shallow = omega (arith, items.shallow) }
+
+-- members in the order of their keys
+reads_two : (k : ℕ) (l m : List ℕ) (d e : Data) → put m e (member l d no_members) ≡ member l d (member m e no_members) → Reads k d → Reads k e → Reads (k + 1) (object (member l d (member m e no_members)))
+reads_two k l m d e order first second = record {
+  back = rw (first.back, second.back) (ap (λ ms. Some (object ms)) order);
+  numbers = (first.numbers, (second.numbers, tt));
+  shallow = omega (arith, first.shallow, second.shallow);
+}
+
+reads_three : (k : ℕ) (l m n : List ℕ) (d e f : Data) → put n f (put m e (member l d no_members)) ≡ member l d (member m e (member n f no_members)) → Reads k d → Reads k e → Reads k f
+    → Reads (k + 1) (object (member l d (member m e (member n f no_members))))
+reads_three k l m n d e f order first second third = record {
+  back = rw (first.back, second.back, third.back) (ap (λ ms. Some (object ms)) order);
+  numbers = (first.numbers, (second.numbers, (third.numbers, tt)));
+  shallow = omega (arith, first.shallow, second.shallow, third.shallow);
+}
+
+-- ---- what is drawn
+
+reads_server : (n : ℕ) (s : DrawnServer) → count_of s ≤ 20 → Reads 3 (server_data n s)
+reads_server n Root few =
+    reads_two 2 (codes "history") (codes "name") _ _ refl
+    (reads_array 1 _ (reads_item 1 _ _ (reads_array 0 _ (reads_item 0 _ _ (reads_string 0 (server_name n)) (reads_item 0 _ _ (reads_number 0 100 (omega arith)) (reads_item 0 _ _ (reads_number 0 20 (omega arith)) (reads_no_items 0))))) (reads_no_items 1)))
+    (reads_string 2 (server_name n))
+reads_server n (Replica source executed) few =
+    reads_three 2 (codes "executed") (codes "name") (codes "source") _ _ _ refl (reads_number 2 executed (omega arith)) (reads_string 2 (server_name n)) (reads_string 2 (server_name source))
+
+reads_servers : (n : ℕ) (ss : List DrawnServer) → ((m : ℕ) → count_at ss m ≤ 20) → ReadsItems 3 (servers_data n ss)
+reads_servers n [] few = reads_no_items 3
+reads_servers n (s ∷ ss) few = reads_item 3 (server_data n s) (servers_data (n + 1) ss) (reads_server n s (few zero)) (reads_servers (n + 1) ss (λ m. few (suc m)))
+
+reads_named : (word : List ℕ) (n : ℕ) → Reads 3 (array (item (string word) (item (string (server_name n)) no_items)))
+reads_named word n = reads_array 2 _ (reads_item 2 _ _ (reads_string 2 word) (reads_item 2 _ _ (reads_string 2 (server_name n)) (reads_no_items 2)))
+
+reads_turn : (servers : ℕ) (t : DrawnTurn) → IsTurnOf servers t → Reads 3 (turn_data t)
+reads_turn servers (Write root size) is =
+    reads_array 2 _ (reads_item 2 _ _ (reads_string 2 (codes "write")) (reads_item 2 _ _ (reads_string 2 (server_name root)) (reads_item 2 _ _ (reads_number 2 size (omega (arith, is.small))) (reads_no_items 2))))
+reads_turn servers (Fetch n) is = reads_named (codes "fetch") n
+reads_turn servers (Apply n) is = reads_named (codes "apply") n
+reads_turn servers (Rotate n) is = reads_named (codes "rotate") n
+reads_turn servers (PollRead n) is =
+    reads_array 2 _ (reads_item 2 _ _ (reads_string 2 (codes "poll-read")) (reads_item 2 _ _ (reads_number 2 0 (omega arith)) (reads_item 2 _ _ (reads_string 2 (server_name n)) (reads_no_items 2))))
+reads_turn servers PollStore is = reads_array 2 _ (reads_item 2 _ _ (reads_string 2 (codes "poll-store")) (reads_item 2 _ _ (reads_number 2 0 (omega arith)) (reads_no_items 2)))
+
+reads_turns : (servers : ℕ) (ts : List DrawnTurn) → AreTurnsOf servers ts → ReadsItems 3 (turns_data ts)
+reads_turns servers [] are = reads_no_items 3
+reads_turns servers (t ∷ ts) are = reads_item 3 (turn_data t) (turns_data ts) (reads_turn servers t (are zero t refl)) (reads_turns servers ts (λ k u e. are (suc k) u e))
+
+reads_drawn : (seed servers turns : ℕ) → 0 < servers → Reads 5 (drawn_data seed servers turns)
+unfolding drawn_data
+reads_drawn seed servers turns some =
+    let first = servers_from seed servers in
+    reads_three 4 (codes "servers") (codes "turns") (codes "version") _ _ _ refl (reads_array 3 _ (reads_servers 0 first.drawn (counts_few seed servers)))
+    (reads_array 3 _ (reads_turns servers (turns_from servers first.number turns).drawn (turns_are servers first.number turns some))) (reads_number 4 1 (omega arith))
+
+-- ---- the text
+
+abbrev whole : Option (json.Json × List Token) → Option Data
+whole o = option_and_then of_json (option_and_then (λ p. json.if_last p.0 p.1) o)
+
+reads_text : (k : ℕ) (d : Data) → k ≤ max_depth → Reads k d → read (compact_text d ++ 10 ∷ []) ≡ Some d
+reads_text k d deep h =
+    let j = outline d in
+    let text : tokens (compact_text d ++ 10 ∷ []) ≡ json_tokens j =
+    ap (λ (v : List ℕ). tokens (v ++ 10 ∷ [])) (sym (print-outline d)) ∙ tokens-line (json_tokens j) (ArePrintable-json_tokens j h.numbers) in
+    ap whole (ap (json.value max_depth) (text ∙ sym (append-nil (json_tokens j))) ∙ value-json_tokens j max_depth [] (omega (arith, h.shallow))) ∙ h.back
+
+pub text_reads : (seed servers turns : ℕ) → 0 < servers → read (scenario_text seed servers turns) ≡ Some (drawn_data seed servers turns)
+unfolding scenario_text
+text_reads seed servers turns some = reads_text 5 (drawn_data seed servers turns) (omega arith) (reads_drawn seed servers turns some)

@@ -1,0 +1,6 @@
+pub mod Numbers
+pub mod Servers
+pub mod Turns
+pub mod Texts
+pub mod Pieces
+pub mod Promises
