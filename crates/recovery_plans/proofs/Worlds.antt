@@ -47,7 +47,7 @@ module _ (st : Settings) where
   server n source k up = record {
     settings = record st { logs = true; uuid = n; dc = [] };
     history = record { txns = txns 1 k; room = 99 };
-    log = record { log = record { limit = 100000; entries = entries 4 k; files = 1; pos = 4 + 100 * k }; room = 99; flushes = 9 };
+    log = record { log = record { limit = 100000; entries = entries 4 k; files = 1; pos = 4 + 100 * k }; txns = txns 1 k; room = 99; flushes = 9 };
     first = 1;
     source = source;
     exec = end k;

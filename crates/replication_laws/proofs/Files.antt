@@ -39,7 +39,7 @@ use Rattle.replication_laws.proofs.Moves.{Same-asked, Same-befallen}
 flushes-took : (s : Server) (t : Txn) → (took s t).log.flushes ≡ s.log.flushes
 flushes-took s t = go s.settings.logs
   where
-    go : (b : Bool) → (cond b (record s.log { log = push s.log.log t.size }) s.log).flushes ≡ s.log.flushes
+    go : (b : Bool) → (cond b (record s.log { log = push s.log.log t.size; txns = s.log.txns ++ t ∷ [] }) s.log).flushes ≡ s.log.flushes
     go true = refl
     go false = refl
 

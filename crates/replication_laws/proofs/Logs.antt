@@ -28,13 +28,13 @@ GoesOn-took s t some laid = record {
   first = omega arith;
 }
   where
-    go : (b : Bool) → s.settings.logs ≡ b → (c : Coord) (k : ℕ) → place s.log.log c ≡ Some k → place (cond b (record s.log { log = push s.log.log t.size }) s.log).log c ≡ Some k
+    go : (b : Bool) → s.settings.logs ≡ b → (c : Coord) (k : ℕ) → place s.log.log c ≡ Some k → place (cond b (record s.log { log = push s.log.log t.size; txns = s.log.txns ++ t ∷ [] }) s.log).log c ≡ Some k
     go true logs c k h = stable_push s.log.log t.size c k (LaysOut-Grown s.history.txns s.log.log (laid logs)) some h
     go false logs c k h = h
 
 pub LaysOut-took : (s : Server) (t : Txn) → 0 < t.size → (s.settings.logs ≡ true → LaysOut s.history.txns s.log.log) → s.settings.logs ≡ true → LaysOut (took s t).history.txns (took s t).log.log
 LaysOut-took s t some laid logs =
-    subst (λ (b : Bool). LaysOut (s.history.txns ++ t ∷ []) (cond b (record s.log { log = push s.log.log t.size }) s.log).log) (sym logs) (Took s.history.txns s.log.log t some (laid logs))
+    subst (λ (b : Bool). LaysOut (s.history.txns ++ t ∷ []) (cond b (record s.log { log = push s.log.log t.size; txns = s.log.txns ++ t ∷ [] }) s.log).log) (sym logs) (Took s.history.txns s.log.log t some (laid logs))
 
 -- each transaction of a history that is laid out has a size
 pub LaysOut-size : (history : List Txn) (log : Log) → LaysOut history log → (i : ℕ) (t : Txn) → slice_get history i ≡ Some t → 0 < t.size

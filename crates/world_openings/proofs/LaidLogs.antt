@@ -1,17 +1,23 @@
 -- How long the log of a server is at the opening, and how many files it has.
-use Rattle.std.proofs.Common.{◌≡◌, ℕ, ◌+◌, ◌≤◌, Bool, true, false, cond, List, [], ◌∷◌, length, refl, ◌∙◌, ap, arith, zero, suc}
-use Rattle.std.specs.Prelude.{All, count_by, nat_le, ◌==◌}
+use Rattle.std.proofs.Common.{◌≡◌, ℕ, ◌+◌, ◌-◌, ◌≤◌, Bool, true, false, cond, List, [], ◌∷◌, length, refl, ◌∙◌, ap, arith, zero, suc}
+use Rattle.std.specs.Prelude.{All, count_by, is_some, nat_le, ◌==◌, ◌&&◌}
 use Rattle.std.proofs.lemmas.Bool.Decides.{nat_tests}
 use Rattle.std.proofs.lemmas.List.Elements.{All-head, All-tail}
 use Rattle.std.proofs.lemmas.List.Sums.{sum_by-cons, count_by-le-length}
 use Rattle.binlog_coords.specs.Grown.{Grown}
 use Rattle.binlog_coords.specs.Grown as grown
 use Rattle.binlog_coords.specs.Index.{Index}
-use Rattle.binlog_coords.specs.Log.{Log, opened, push}
+use Rattle.binlog_coords.specs.Log.{Log, file_start, opened, push}
 use Rattle.orch_base.specs.declared.server.Txn.{Txn}
 use Rattle.openings.specs.declared.init.ServerInit.{ServerInit}
 use Rattle.openings.specs.Logs.{flushed_times, flushed_at, laid_after, laid}
-use Rattle.openings.specs.Servers.{log_by, logged_by}
+use Rattle.openings.specs.Servers.{history_at, log_by, logged_by}
+use Rattle.orch_base.specs.declared.server.Settings.{Settings}
+use Rattle.orch_base.specs.declared.server.SourceState.{SourceState}
+use Rattle.server_model.specs.Kept.{Kept}
+use Rattle.server_model.specs.ServerBy.{server_of}
+use Rattle.world_openings.specs.Makings.{bare_server}
+use Rattle.world_openings.specs.Opening.{source_state}
 use Rattle.server_model.specs.Fit.{HasSize}
 use Rattle.server_model.proofs.LogSizes.{length-push, files-push}
 
@@ -102,19 +108,30 @@ index-is x l ts r f log txns room flushes =
     ∙ ap (λ y. record x { log = l; txns = ts; room = y }) room ∙ ap (λ y. record x { log = l; txns = ts; room = r; flushes = y }) flushes
 
 -- what is told of the log of a server by all that it has executed
+abbrev told_by : Bool → ServerInit → List Txn → ℕ → ℕ → Index
+told_by b i history room flushes =
+    record { log = cond b (laid i.settings.limit i.flushes history) (opened i.settings.limit); txns = cond b history []; room = room; flushes = flushes }
+
 pub told-log_by : (i : ServerInit) (history : List Txn) (room flushes : ℕ) (x : Index) → x ≡ record { log = laid i.settings.limit i.flushes history; txns = history; room = room; flushes = flushes }
     → cond i.settings.logs x (record x { log = opened i.settings.limit; txns = [] })
     ≡ record { log = log_by i history; txns = logged_by i history; room = room; flushes = flushes }
 told-log_by i history room flushes x is =
     ap (λ (y : Index). cond i.settings.logs y (record y { log = opened i.settings.limit; txns = [] })) is ∙ go i.settings.logs
   where
-    go : (b : Bool) → cond b (record { log = laid i.settings.limit i.flushes history; txns = history; room = room; flushes = flushes })
-            (record { log = opened i.settings.limit; txns = []; room = room; flushes = flushes })
-        ≡ record {
-            log = cond b (laid i.settings.limit i.flushes history) (opened i.settings.limit);
-            txns = cond b history [];
-            room = room;
-            flushes = flushes;
-        }
+    go : (b : Bool) → cond b (told_by true i history room flushes) (told_by false i history room flushes) ≡ told_by b i history room flushes
     go true = refl
     go false = refl
+
+-- a server by what it is made of
+pub bare_server-is : (servers : List ServerInit) (room flushes n : ℕ) (i : ServerInit) (settings : Settings) (x : Index) (source : SourceState) (receiver applier : Bool) → settings ≡ i.settings
+    → x ≡ record { log = laid i.settings.limit i.flushes (history_at servers n); txns = history_at servers n; room = room; flushes = flushes - length i.flushes }
+    → source ≡ source_state i.detached i.source → receiver ≡ (is_some i.source && i.io) → applier ≡ (is_some i.source && i.sql)
+    → server_of (record {
+      settings = settings; log = x; first = i.purged; source = source; exec = file_start 1; read = file_start 1; auto = i.auto; receiver = receiver; applier = applier;
+      until = i.until; read_only = i.read_only; up = i.up; desk = i.desk; feed = i.feed
+    }) ≡ bare_server servers room flushes n i
+bare_server-is servers room flushes n i settings x source receiver applier same is from on off =
+    rw (same, from, on, off)
+    (ap (λ (h : Kept). record (bare_server servers room flushes n i) { history = h; log = cond i.settings.logs x (record x { log = opened i.settings.limit; txns = [] }) })
+    (ap (λ (y : Index). record { txns = y.txns; room = y.room }) is)
+    ∙ ap (λ (l : Index). record (bare_server servers room flushes n i) { log = l }) (told-log_by i (history_at servers n) room (flushes - length i.flushes) x is))

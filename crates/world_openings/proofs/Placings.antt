@@ -8,7 +8,7 @@ use Rattle.binlog_coords.specs.declared.Coord.{Coord}
 use Rattle.binlog_coords.specs.Index.{Index}
 use Rattle.openings.specs.declared.init.ServerInit.{ServerInit}
 use Rattle.openings.specs.Opening.{Opened}
-use Rattle.openings.specs.Servers.{exec_of, read_of}
+use Rattle.openings.specs.Servers.{exec_of, log_at, read_of}
 use Rattle.server_model.specs.declared.server.Server.{Server}
 use Rattle.server_model.proofs.Lists.{set_same, set_other}
 use Rattle.world_openings.specs.Makings.{bare_server, placed_by, AreBare, ArePlaced, HaveLogs}
@@ -96,27 +96,38 @@ ArePlaced-more inits n before servers i s exec read at here is_exec is_read plac
     }
 
 -- a server with its coordinates keeps its settings and its log
+record Was (before : List Server) (k : ℕ) (s : Server) : Type 0 where
+  was : Server
+  at : slice_get before k ≡ Some was
+  settings : s.settings ≡ was.settings
+  log : s.log ≡ was.log
+
+was-at : (inits : List ServerInit) (n : ℕ) (before servers : List Server) → ArePlaced inits n before servers → (k : ℕ) (i : ServerInit) (s : Server) → slice_get inits k ≡ Some i
+    → slice_get servers k ≡ Some s → Was before k s
+was-at inits n before servers placed k i s at here =
+    let within = slice_get_within servers k s here in
+    let count = placed.count in
+    let t = there before k (omega arith) in
+    elim (cases_lt k n) [
+      | inl done ↦ like (placed_by inits i t.0) t.0 t.1 (same_Some s (placed_by inits i t.0) (sym here ∙ placed.done k i t.0 at t.1 done)) refl refl
+      | inr after ↦ like t.0 t.0 t.1 (same_Some s t.0 (sym here ∙ placed.rest k t.0 t.1 after)) refl refl
+    ]
+  where
+    like : (x t : Server) → slice_get before k ≡ Some t → s ≡ x → x.settings ≡ t.settings → x.log ≡ t.log → Was before k s
+    like x t at is settings log = record { was = t; at = at; settings = ap (λ (y : Server). y.settings) is ∙ settings; log = ap (λ (y : Server). y.log) is ∙ log }
+
 pub HaveLogs-placed : (inits : List ServerInit) (n : ℕ) (before servers : List Server) → HaveLogs inits before → ArePlaced inits n before servers → HaveLogs inits servers
 HaveLogs-placed inits n before servers logs placed = record {
   count = placed.count ∙ logs.count;
-  settings = λ k i s at here. let o = old k i s at here in o.2 ∙ logs.settings k i o.0 at o.1;
-  each = λ k i s at here. let o = old k i s at here in ap (λ (x : Index). x.log) o.3 ∙ logs.each k i o.0 at o.1;
+  settings = λ k i s at here. kept k i s at (was-at inits n before servers placed k i s at here);
+  each = λ k i s at here. laid k i s at (was-at inits n before servers placed k i s at here);
 }
   where
-    old : (k : ℕ) (i : ServerInit) (s : Server) → slice_get inits k ≡ Some i → slice_get servers k ≡ Some s
-        → (t : Server) × (slice_get before k ≡ Some t) × (s.settings ≡ t.settings) × (s.log ≡ t.log)
-    old k i s at here =
-        let within = slice_get_within servers k s here in
-        let count = placed.count in
-        let t = there before k (omega arith) in
-        elim (cases_lt k n) [
-          | inl done ↦
-              let is = same_Some s (placed_by inits i t.0) (sym here ∙ placed.done k i t.0 at t.1 done) in
-              (t.0, t.1, ap (λ (x : Server). x.settings) is, ap (λ (x : Server). x.log) is)
-          | inr after ↦
-              let is = same_Some s t.0 (sym here ∙ placed.rest k t.0 t.1 after) in
-              (t.0, t.1, ap (λ (x : Server). x.settings) is, ap (λ (x : Server). x.log) is)
-        ]
+    kept : (k : ℕ) (i : ServerInit) (s : Server) → slice_get inits k ≡ Some i → Was before k s → s.settings ≡ i.settings
+    kept k i s at w = w.settings ∙ logs.settings k i w.was at w.at
+
+    laid : (k : ℕ) (i : ServerInit) (s : Server) → slice_get inits k ≡ Some i → Was before k s → s.log.log ≡ log_at inits k
+    laid k i s at w = ap (λ (x : Index). x.log) w.log ∙ logs.each k i w.was at w.at
 
 -- all servers, with their coordinates
 pub ArePlaced-all : (o : Opened) (room flushes : ℕ) (before servers : List Server) → AreBare o room flushes (length o.servers) before → ArePlaced o.servers (length o.servers) before servers

@@ -1,4 +1,4 @@
-use Rattle.std.proofs.Common.{◌≤◌, List, length, ap, subst, sym, ◌∙◌, arith}
+use Rattle.std.proofs.Common.{◌≡◌, ◌≤◌, List, length, ap, subst, sym, ◌∙◌, ◌-◌, arith, rules}
 use Rattle.std.specs.Prelude.{All}
 use Rattle.orch_base.specs.declared.server.Txn.{Txn}
 use Rattle.openings.specs.Servers.{count_of, history_at}
@@ -6,6 +6,8 @@ use Rattle.openings.specs.declared.init.ServerInit.{ServerInit}
 use Rattle.openings.proofs.Soundness.{sound_checked}
 use Rattle.openings.specs.Taking.{HasSize, PartsInRange}
 use Rattle.world_openings.proofs.OpenedWorlds.{Fits-at, length-history_at}
+use Rattle.openings.specs.Logs.{laid}
+use Rattle.world_openings.proofs.LaidLogs.{bare_server-is, index-is}
 use Rattle.world_openings.proofs.making.bare_server.Goals as goal
 
 pub history_at-requires-clause-parts : goal.history_at-requires-clause-parts
@@ -50,4 +52,7 @@ returns c =
     c.deref.ensures.value ∙ c.in_ok-txns.ensures.history ∙ ap (λ (is : List ServerInit). history_at is n) c.servers.ensures.value in
     let counts : count_of i ≡ length c.deref.result.now =
     sym ((sound_checked c.args.from.now c.servers.ensures.checked).counts n i c.requires.at) ∙ sym (ap (λ (ts : List Txn). length ts) txns) in
-    ?
+    let log = index-is c.in_ok-log.log (laid i.settings.limit i.flushes (history_at servers n)) (history_at servers n) c.args.room (c.args.flushes - length i.flushes)
+    (c.in_ok-log.ensures.log ∙ ap (laid i.settings.limit i.flushes) txns) (c.in_ok-log.ensures.txns ∙ txns) c.in_ok-log.ensures.room (c.in_ok-log.ensures.flushes counts) in
+    bare_server-is servers c.args.room c.args.flushes n i c.in_ok-settings.settings c.in_ok-log.log c.source_state.result c.if-is_replica.result c.if-is_replica-2.result
+    c.in_ok-settings.ensures log c.source_state.ensures (search rules) (search rules)

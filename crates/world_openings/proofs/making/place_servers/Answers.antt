@@ -1,7 +1,8 @@
-use Rattle.std.proofs.Common.{◌≡◌, ℕ, ◌+◌, ◌<◌, List, length, ap, subst, arith, get_or}
+use Rattle.std.proofs.Common.{◌≡◌, ℕ, ◌+◌, ◌<◌, List, length, ap, subst, sym, ◌∙◌, arith}
 use Rattle.std.specs.Prelude.{slice_set}
 use Rattle.openings.specs.Servers.{exec_of, read_of}
 use Rattle.openings.specs.declared.init.ServerInit.{ServerInit}
+use Rattle.server_model.specs.ServerBy.{server_of}
 use Rattle.server_model.specs.declared.server.Server.{Server}
 use Rattle.server_model.proofs.Lists.{slice_get-index}
 use Rattle.world_openings.specs.Makings.{ArePlaced}
@@ -25,9 +26,9 @@ loop-n-preserved c =
     let here = slice_get-index servers n s within c.index-servers-n.is in
     let placed : ArePlaced inits (n + 1) c.args.servers.now (slice_set servers n (record s { exec = c.standing_of.result.0; read = c.standing_of.result.1 })) =
     ArePlaced-more inits n c.args.servers.now servers init.0 s c.standing_of.result.0 c.standing_of.result.1 init.1 here init.2 init.3 c.loop-n.invariant.placed in
-    let placed_at : ArePlaced inits (n + 1) c.args.servers.now (slice_set servers n (record (get_or servers n s) { exec = c.standing_of.result.0; read = c.standing_of.result.1 })) =
-    subst (λ (x : Server). ArePlaced inits (n + 1) c.args.servers.now (slice_set servers n (record x { exec = c.standing_of.result.0; read = c.standing_of.result.1 }))) c.index-servers-n.is placed in
-    record { placed = placed_at; logs = HaveLogs-placed inits (n + 1) c.args.servers.now _ c.requires placed_at }
+    let told : record (server_of c.s.inside) { exec = c.standing_of.result.0; read = c.standing_of.result.1 } ≡ record s { exec = c.standing_of.result.0; read = c.standing_of.result.1 } =
+    ap (λ (x : Server). record x { exec = c.standing_of.result.0; read = c.standing_of.result.1 }) (c.s.view_is ∙ sym c.index-servers-n.is) in
+    rw told record { placed = placed; logs = HaveLogs-placed inits (n + 1) c.args.servers.now _ c.requires placed }
 
 pub returns : goal.returns
 returns c =

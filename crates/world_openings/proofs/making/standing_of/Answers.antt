@@ -1,7 +1,10 @@
-use Rattle.std.proofs.Common.{◌≡◌, ℕ, ◌<◌, List, length, Some, ap, subst, sym, ◌∙◌, arith, get_or}
+use Rattle.std.proofs.Common.{◌≡◌, ℕ, ◌<◌, List, length, Some, ap, subst, sym, ◌∙◌, arith, get_or, true}
 use Rattle.std.specs.Prelude.{option_map, slice_get}
 use Rattle.std.proofs.lemmas.Option.{slice_get_within}
+use Rattle.binlog_coords.specs.Index.{Index}
 use Rattle.binlog_coords.specs.Log.{Log}
+use Rattle.orch_base.specs.declared.server.Settings.{Settings}
+use Rattle.server_model.proofs.Told.{log-logged}
 use Rattle.openings.specs.Servers.{log_at, exec_of, read_of}
 use Rattle.openings.specs.Sound.{IsUnder}
 use Rattle.openings.specs.declared.init.ServerInit.{ServerInit}
@@ -10,6 +13,7 @@ use Rattle.server_model.specs.declared.server.Server.{Server}
 use Rattle.server_model.proofs.Lists.{slice_get-index}
 use Rattle.world_openings.specs.Makings.{exec_in, read_in, IsPlacedIn}
 use Rattle.world_openings.proofs.OpenedWorlds.{placed-under, exec_of-under, read_of-under, read_of-root}
+use Rattle.world_openings.proofs.making.standing_of.Goals.{After-source}
 use Rattle.world_openings.proofs.making.standing_of.Goals as goal
 
 -- the server as it is listed
@@ -27,29 +31,32 @@ bounds-servers-m c =
     let count = c.requires.logs.count in
     omega arith
 
--- the source's server, and its log
-record Above (listed : List ServerInit) (i : ServerInit) (m : ℕ) (s : Server) : Type 0 where
+-- the source's log
+record Above (listed : List ServerInit) (i : ServerInit) (m : ℕ) (log : Log) : Type 0 where
   under : IsUnder listed m i
-  logs : s.settings.logs ≡ true
-  log : s.log.log ≡ log_at listed m
+  is : log ≡ log_at listed m
 
-above : (c : goal.After-index-servers-m) → Above c.args.from.now.servers c.index-inits-no.result c.in-Some.m.0 (get_or c.args.servers.now c.in-Some.m.0 c.index-servers-m.result)
+above : (c : After-source) → Above c.args.from.now.servers c.index-inits-no.result c.in-Some.m.0 c.source.inside.log.log
 above c =
     let o = c.args.from.now in
+    let s = c.index-servers-m.result in
     let at = listed-at c.servers-inits.result.now o.servers c.args.no.0 c.index-inits-no.result c.servers-inits.ensures.value c.requires.there c.index-inits-no.is in
     let u = (sound_checked o c.servers-inits.ensures.checked).under c.args.no.0 c.index-inits-no.result c.in-Some.m at c.in-Some.is in
     let within = slice_get_within o.servers c.in-Some.m.0 u.source u.there in
     let count = c.requires.logs.count in
-    let here = slice_get-index c.args.servers.now c.in-Some.m.0 c.index-servers-m.result (omega arith) c.index-servers-m.is in
+    let here = slice_get-index c.args.servers.now c.in-Some.m.0 s (omega arith) c.index-servers-m.is in
+    let view = c.source.view_is in
+    let settings = ap (λ (x : Server). x.settings) view ∙ c.requires.logs.settings c.in-Some.m.0 u.source s u.there here in
+    let logs : c.source.inside.settings.logs ≡ true = ap (λ (x : Settings). x.logs) settings ∙ u.logs in
     record {
       under = u;
-      log = ap (λ (s : Server). s.log.log) (sym c.index-servers-m.is) ∙ c.requires.logs.each c.in-Some.m.0 u.source c.index-servers-m.result u.there here;
+      is = ap (λ (x : Index). x.log) (sym (log-logged c.source.inside s view logs)) ∙ c.requires.logs.each c.in-Some.m.0 u.source s u.there here;
     }
 
 pub standing_in-requires : goal.standing_in-requires
 standing_in-requires c =
-    let a = above c in
-    subst (λ (l : Log). IsPlacedIn l c.index-inits-no.result) (sym a.log)
+    let a = above (goal.at.standing_in-requires c).After-source in
+    subst (λ (l : Log). IsPlacedIn l c.index-inits-no.result) (sym a.is)
     (placed-under c.args.from.now.servers c.index-inits-no.result c.in-Some.m c.in-Some.is a.under)
 
 pub returns-in-None-clause-read : goal.returns-in-None-clause-read
@@ -63,14 +70,14 @@ pub returns-in-Some-clause-exec : goal.returns-in-Some-clause-exec
 returns-in-Some-clause-exec c =
     let o = c.args.from.now in
     let at = listed-at c.servers-inits.result.now o.servers c.args.no.0 c.index-inits-no.result c.servers-inits.ensures.value c.requires.there c.index-inits-no.is in
-    let a = above c.before in
+    let a = above (goal.at.returns-in-Some-clause-exec c).After-source in
     ap (option_map (λ (i : ServerInit). exec_of o.servers i)) at
-    ∙ ap Some (exec_of-under o.servers c.index-inits-no.result c.in-Some.m c.in-Some.is ∙ ap (λ (l : Log). exec_in l c.index-inits-no.result) (sym a.log) ∙ sym c.standing_in.ensures.exec)
+    ∙ ap Some (exec_of-under o.servers c.index-inits-no.result c.in-Some.m c.in-Some.is ∙ ap (λ (l : Log). exec_in l c.index-inits-no.result) (sym a.is) ∙ sym c.standing_in.ensures.exec)
 
 pub returns-in-Some-clause-read : goal.returns-in-Some-clause-read
 returns-in-Some-clause-read c =
     let o = c.args.from.now in
     let at = listed-at c.servers-inits.result.now o.servers c.args.no.0 c.index-inits-no.result c.servers-inits.ensures.value c.requires.there c.index-inits-no.is in
-    let a = above c.before in
+    let a = above (goal.at.returns-in-Some-clause-read c).After-source in
     ap (option_map (λ (i : ServerInit). read_of o.servers i)) at
-    ∙ ap Some (read_of-under o.servers c.index-inits-no.result c.in-Some.m c.in-Some.is ∙ ap (λ (l : Log). read_in l c.index-inits-no.result) (sym a.log) ∙ sym c.standing_in.ensures.read)
+    ∙ ap Some (read_of-under o.servers c.index-inits-no.result c.in-Some.m c.in-Some.is ∙ ap (λ (l : Log). read_in l c.index-inits-no.result) (sym a.is) ∙ sym c.standing_in.ensures.read)
