@@ -49,7 +49,7 @@ row_of gtids command.RestartReplica = attached_row
 row_of gtids command.SetReadOnly = Busy ∷ Unreachable ∷ []
 row_of gtids command.SetWriteable = Busy ∷ Unreachable ∷ []
 
--- which servers move to which source, by the destination that is given, and the servers of which the job takes the leases
+-- which servers move to which source, by the destination that is given, and of which the job takes the leases
 abbrev pub case_of : BookState → CoordsCommand → ServerNo → Option ServerNo → Case
 case_of b command.MoveUp i d = moving i (i ∷ []) (source_above b i) (i ∷ option_to_list (source_of b i))
 case_of b command.MoveUpReplicas i d = moving i (replicas_of b i) (source_of b i) (i ∷ replicas_of b i)

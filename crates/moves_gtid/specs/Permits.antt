@@ -27,8 +27,8 @@ row_of command.MoveReplicasGtid = move_row
 row_of command.EnableGtid = Busy ∷ Unreachable ∷ NoSource ∷ AlreadyDetached ∷ GtidOff ∷ Errant ∷ []
 row_of command.DisableGtid = Busy ∷ Unreachable ∷ NoSource ∷ AlreadyDetached ∷ GtidOff ∷ []
 
--- which servers move to which source, by the destination that is given, and the servers of which the job takes the leases;
--- one that finds its place anew keeps its source
+-- which servers move to which source, by the destination that is given, and of which the job takes the leases; one that
+-- finds its place anew keeps its source
 abbrev pub case_of : BookState → GtidCommand → ServerNo → Option ServerNo → Case
 case_of b command.MoveGtid i d = moving i (i ∷ []) d (i ∷ option_to_list d)
 case_of b command.MoveReplicasGtid i d = moving i (replicas_but b i d) d (replicas_but b i d ++ option_to_list d)

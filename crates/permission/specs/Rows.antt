@@ -10,8 +10,8 @@ use Rattle.permission.specs.Lists.{moves_to}
 use Rattle.permission.specs.Views.{is_before}
 use Rattle.permission.specs.declared.case.Move.{Move}
 
--- servers move to a new source, where there is one, which is looked at also where none moves; the job takes the leases of
--- a list
+-- servers move to a new source, where there is one, which is looked at also where none moves; the job takes the leases
+-- of a list
 abbrev pub moving : ServerNo → List ServerNo → Option ServerNo → List ServerNo → Case
 moving i movers to leased = record {
   i = i;
@@ -48,8 +48,8 @@ abbrev pub about_one : {A : Type 0} → A → (ServerNo → Option ServerNo → 
 about_one none f None d = none
 about_one none f (Some i) d = f i d
 
--- what is so of a command by its kind, its instance and the destination that is given: `none` where it has no such kind,
--- or no instance is given
+-- what is so of a command by its kind, its instance and the destination that is given: `none` where it has no such
+-- kind, or no instance is given
 abbrev pub about : {K A : Type 0} → A → (K → ServerNo → Option ServerNo → A) → Option K → Command → A
 about none f None given = none
 about none f (Some c) given = about_one none (f c) given.i given.d

@@ -114,7 +114,8 @@ fn beside_of(
     d: Option<ServerNo>,
 ) -> Result<Vec<ServerNo>, Memory>
     requires { forest.now ≡ book_forest book.now }
-    ensures { IfOk result (λ list. list.items ≡ option_to_list d ++ passed_by gtid book.now movers.now d) }
+    ensures { IfOk result (λ list. list.items ≡ option_to_list d ++ passed_by gtid book.now
+        movers.now d) }
 {
     let mut list = one_or_none(alloc, d)?;
     if gtid {

@@ -1,7 +1,7 @@
 use Rattle.std.proofs.Common.{◌≡◌, Bool, List, None, ap, sym, ◌∙◌}
 use Rattle.permission.specs.Checks.{Case, first_refusal}
 use Rattle.permission.specs.declared.case.Check.{Check}
-use Rattle.regroup.specs.Permits.{case_of, row_of, row_refusal}
+use Rattle.regroup.specs.Permits.{row_of, row_refusal}
 use Rattle.regroup.proofs.permits.refusal_about.Goals as goal
 
 pub returns : goal.returns
