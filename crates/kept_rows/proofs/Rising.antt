@@ -19,9 +19,9 @@ puts_behind front [] across rises = sym (append-nil front)
 puts_behind front (r ∷ rows) across rises =
     let below = All-weaker (λ x. All (Before x) (r ∷ rows)) (λ x. Before x r) (λ x h. All-head (Before x) r rows h) front across in
     let more =
-      All-append (λ x. All (Before x) rows) front (r ∷ [])
-      (All-weaker (λ x. All (Before x) (r ∷ rows)) (λ x. All (Before x) rows) (λ x h. All-tail (Before x) r rows h) front across)
-      (All-cons (λ x. All (Before x) rows) r [] (pairs_head Before r rows rises) (All-nil (λ x. All (Before x) rows))) in
+    All-append (λ x. All (Before x) rows) front (r ∷ [])
+    (All-weaker (λ x. All (Before x) (r ∷ rows)) (λ x. All (Before x) rows) (λ x h. All-tail (Before x) r rows h) front across)
+    (All-cons (λ x. All (Before x) rows) r [] (pairs_head Before r rows rises) (All-nil (λ x. All (Before x) rows))) in
     ap (λ (xs : List Row). fold put xs rows) (put_last front r below)
     ∙ puts_behind (front ++ r ∷ []) rows more (pairs_tail Before r rows rises) ∙ append_assoc front (r ∷ []) rows
 
@@ -39,7 +39,9 @@ steps rows each i (suc n) d within =
 
 -- where each row stands before the next, the rows rise
 pub adjacent_rise : (rows : List Row) (b : Bool) → IsAllAdjacentAnswer (λ x y b. b ≡ nat_lt (sort_key_of x) (sort_key_of y)) rows b → OnTrue b (IsRising rows)
-adjacent_rise rows true each = record { apart = λ i j d less within.
-    let there : j ≡ i + suc (j - suc i) = omega (arith, less) in
-    subst (λ k. sort_key_of (get_or rows i d) < sort_key_of (get_or rows k d)) (sym there) (steps rows each i (j - suc i) d (omega (arith, less, within))) }
+adjacent_rise rows true each = record {
+  apart = λ i j d less within.
+      let there : j ≡ i + suc (j - suc i) = omega (arith, less) in
+      subst (λ k. sort_key_of (get_or rows i d) < sort_key_of (get_or rows k d)) (sym there) (steps rows each i (j - suc i) d (omega (arith, less, within)));
+}
 adjacent_rise rows false not_each = tt

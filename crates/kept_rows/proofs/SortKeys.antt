@@ -114,9 +114,9 @@ pub first_at : (rows : List Row) (p i : ℕ) → IsRising rows → i < length ro
 first_at rows p i rising within here = record {
   within = omega (arith, within);
   below = λ k d low h.
-    let at = here d in
-    let less = rising.apart k i d h within in
-    let goal : sort_key_of (get_or rows k d) < p = omega (arith, at, less) in goal;
+      let at = here d in
+      let less = rising.apart k i d h within in
+      let goal : sort_key_of (get_or rows k d) < p = omega (arith, at, less) in goal;
   above = rises_above rows p i rising within (λ d. let at = here d in let goal : p ≤ sort_key_of (get_or rows i d) = omega (arith, at) in goal);
 }
 

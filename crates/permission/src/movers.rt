@@ -79,12 +79,7 @@ impl Movers {
     }
 
     /// Servers move to a new source, where there is one, and the instance stays. It takes no memory.
-    pub fn round(
-        alloc: Global,
-        i: ServerNo,
-        to: Option<ServerNo>,
-        movers: Vec<ServerNo>,
-    ) -> Movers
+    pub fn round(alloc: Global, i: ServerNo, to: Option<ServerNo>, movers: Vec<ServerNo>) -> Movers
         ensures { result ≡ moving i movers.items to (i ∷ movers.items) }
     {
         Movers {

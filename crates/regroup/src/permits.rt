@@ -17,9 +17,7 @@ use book_views::replicas;
 use commands::{Command, Refusal};
 use instance_keeper::Book;
 use orch_base::{Moment, ServerNo};
-use permission::{
-    Check, Movers, answered, one_or_none, replicas_but, row_refusal, unknown_in,
-};
+use permission::{Check, Movers, answered, one_or_none, replicas_but, row_refusal, unknown_in};
 use promotion_candidates::has_candidate;
 use server_model::World;
 use std::alloc::Global;

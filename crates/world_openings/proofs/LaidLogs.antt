@@ -127,8 +127,20 @@ pub bare_server-is : (servers : List ServerInit) (room flushes n : ℕ) (i : Ser
     → x ≡ record { log = laid i.settings.limit i.flushes (history_at servers n); txns = history_at servers n; room = room; flushes = flushes - length i.flushes }
     → source ≡ source_state i.detached i.source → receiver ≡ (is_some i.source && i.io) → applier ≡ (is_some i.source && i.sql)
     → server_of (record {
-      settings = settings; log = x; first = i.purged; source = source; exec = file_start 1; read = file_start 1; auto = i.auto; receiver = receiver; applier = applier;
-      until = i.until; read_only = i.read_only; up = i.up; desk = i.desk; feed = i.feed
+      settings = settings;
+      log = x;
+      first = i.purged;
+      source = source;
+      exec = file_start 1;
+      read = file_start 1;
+      auto = i.auto;
+      receiver = receiver;
+      applier = applier;
+      until = i.until;
+      read_only = i.read_only;
+      up = i.up;
+      desk = i.desk;
+      feed = i.feed;
     }) ≡ bare_server servers room flushes n i
 bare_server-is servers room flushes n i settings x source receiver applier same is from on off =
     rw (same, from, on, off)
