@@ -13,7 +13,7 @@ use serde_json::Value;
 use std::alloc::Global;
 
 const TWO: &str =
-    r#"[{"name":"m"},{"name":"r","source":"m:3306","version":"08.4.0","io":false,"known":false,"rule":"must_not"}]"#;
+    r#"[{"name":"m"},{"name":"r","source":"m:3306","version":"08.4.0","io":false,"known":false,"rule":"must_not","purged":3,"dc":"west"}]"#;
 
 // UUID, server_id, version and source.
 fn identity(given: &Given) -> (u128, u32, Version, Option<ServerNo>) {
@@ -38,6 +38,11 @@ fn setup(given: &Given) -> (bool, bool, u64, Option<bool>, Option<bool>) {
     )
 }
 
+// The first kept file of its log, and its data centre.
+fn place(given: &Given) -> (u32, &str) {
+    (given.purged, given.dc.as_str())
+}
+
 fn version(major: u16, minor: u16, patch: u16) -> Version {
     Version {
         major,
@@ -52,6 +57,7 @@ fn are_default(master: &Given, replica: &Given) -> bool {
         && identity(replica) == (2, 2, version(8, 4, 0), source)
         && setup(master) == (true, false, 1_073_741_824, None, None)
         && setup(replica) == (true, true, 1_073_741_824, Some(false), None)
+        && (place(master), place(replica)) == ((1, ""), (3, "west"))
 }
 
 // Whether the two servers of `TWO` have what is given, or else what stands for it.
@@ -112,7 +118,7 @@ fn opened(alloc: Global, text: &str) -> Result<usize, ReadFault> {
 // A text of servers, and their number, or the code and the path of their fault.
 type Row = (&'static str, Result<usize, (FaultCode, &'static str)>);
 
-static ROWS: [Row; 2] = [
+static ROWS: [Row; 3] = [
     (
         r#"[{"name":"m","history":[["m",100,3]]},{"name":"r","source":"m","executed":1},{"name":"s","source":"r","detached":true}]"#,
         Ok(3),
@@ -120,6 +126,10 @@ static ROWS: [Row; 2] = [
     (
         r#"[{"name":"m","history":[["m",100,3]]},{"name":"r","source":"m","executed":2,"at":"mysql-bin.000001:104"}]"#,
         Err((FaultCode::BadPlace, "/servers/1/at")),
+    ),
+    (
+        r#"[{"name":"m","history":[["m",100,3]],"purged":2},{"name":"r","source":"m","executed":2,"at":"mysql-bin.000001:104"}]"#,
+        Err((FaultCode::BadPlace, "/servers/0/purged")),
     ),
 ];
 

@@ -3,8 +3,8 @@
 use binlog_coords::Coord;
 use orch_base::Version;
 use scenario_values::{
-    FaultCode, ReadFault, coord_in, fails, items_in, label_in, name_in, number_in, text_within,
-    under, uuid_in, version_in,
+    FaultCode, ReadFault, coord_in, fails, items_in, label_in, name_in, number_in, short_in,
+    text_within, under, uuid_in, version_in,
 };
 use serde_json::Value;
 use std::alloc::Global;
@@ -25,18 +25,19 @@ fn plain_in(alloc: Global, values: &[Value]) -> Result<(u64, Coord, u128, Versio
     ))
 }
 
-// Whether these are the name `m:3307` and the label `main`, and `ab` is a text of two bytes.
+// Whether these are the name `m:3307` and the label `main`, which is short, and `ab` is a text of two bytes.
 fn are_texts(alloc: Global, values: &[Value]) -> Result<bool, ReadFault> {
     let [.., name, label] = values else {
         return Err(ReadFault::Memory);
     };
     let mut printed = Vec::new(alloc);
     name_in(alloc, name)?.print(&mut printed)?;
+    let short = short_in(alloc, label)?;
     let label = label_in(alloc, label)?;
     let text = text_within(alloc, 0, 2, "ab")?;
     Ok(
         printed.as_slice() == b"m:3307".as_slice()
-            && label.as_str() == "main"
+            && (label.as_str(), short.as_str()) == ("main", "main")
             && text.as_str() == "ab",
     )
 }

@@ -1,5 +1,6 @@
 //! Whole scenarios, and texts of the greatest length.
 
+use openings::ServerInit;
 use orch_base::{Memory, Rule};
 use scenario_reader::read;
 use scenario_values::{FaultCode, ReadFault};
@@ -26,29 +27,48 @@ fn long_texts_are_refused(rt: HostRuntime) {
 }
 
 const EVERY_KEY: &str = r#"{
-    "version": 1, "now": 7, "gtid": true, "block": 60, "aliases": {"c1": "pay", "other": "x"},
+    "version": 1, "now": 7, "gtid": true, "block": 60, "blocks": {"other": 0, "c1": 5}, "aliases": {"c1": "pay", "other": "x"},
     "filters": {"master": ["alias=pay"], "intermediate": ["^c2", "alias~=^x"]},
     "servers": [
         {"name": "m", "uuid": "00000000-0000-0000-0000-00000000000a", "server_id": 3, "version": "5.7.44", "cluster": "c1",
          "logs": true, "read_only": false, "limit": 1000, "up": true, "desk": true, "feed": true, "known": false,
-         "history": [["m", 100, 2]], "flushes": [1]},
+         "history": [["m", 100, 2]], "flushes": [1], "purged": 2, "dc": "east"},
         {"name": "r:3307", "cluster": "c1", "source": "m", "executed": 2, "io": true, "sql": false, "auto": true, "detached": false,
          "until": "mysql-bin.000009:4", "rule": "must_not"}
     ],
     "turns": [["write", "m", 100], ["fetch", "r:3307"], ["apply", "r:3307"], ["fail", "m"], ["heal", "m"], ["rotate", "m"],
-        ["cut", "r:3307", "desk"], ["join", "r:3307", "feed"], ["tick", 1000000000]]
+        ["purge", "m", 2], ["cut", "r:3307", "desk"], ["join", "r:3307", "feed"], ["tick", 1000000000]]
 }"#;
+
+// The first kept file of a server's log, and its data centre.
+fn place(server: &ServerInit) -> (u32, &str) {
+    (server.purged, server.settings.dc.as_str())
+}
+
+// The block periods of two clusters that have their own, and of one that hasn't.
+fn periods(scenario: &Scenario) -> (u64, u64, u64) {
+    let (own, all) = (&scenario.blocks, scenario.block);
+    (
+        own.period(all, "c1"),
+        own.period(all, "other"),
+        own.period(all, "c2"),
+    )
+}
 
 fn has_every_key(scenario: &Scenario) -> bool {
     let filters = &scenario.filters;
-    (scenario.moment.0, scenario.block) == (7, 60)
+    let [master, replica] = scenario.opening.servers() else {
+        return false;
+    };
+    scenario.moment.0 == 7
+        && periods(scenario) == (5, 0, 60)
+        && (place(master), place(replica)) == ((2, "east"), (1, ""))
         && scenario.aliases.as_slice().len() == 2
         && filters.master.passes.as_slice() == [true, true].as_slice()
         && filters.intermediate.passes.as_slice() == [false, false].as_slice()
-        && scenario.opening.servers().len() == 2
         && scenario.known.as_slice() == [false, true].as_slice()
         && scenario.rules.as_slice() == [None, Some(Rule::MustNot)].as_slice()
-        && scenario.turns.as_slice().len() == 9
+        && scenario.turns.as_slice().len() == 10
 }
 
 #[test]

@@ -1,5 +1,6 @@
 -- Tables as they grow.
-use Rattle.std.proofs.Common.{◌≡◌, ℕ, ◌+◌, ◌<◌, Bool, true, false, cond, List, [], length, get_or, drop, Option, Some, Bor, refl, sym, ap, subst, ◌∙◌}
+use Rattle.std.proofs.Common.{◌≡◌, ℕ, ◌+◌, ◌<◌, Bool, true, false, cond, eqb, List, [], length, get_or, drop, Option, Some, Bor, refl, sym, ap, subst, ◌∙◌, add-one, drop-cons}
+use Rattle.std.specs.Cmp.Lexicographic.{pointwise}
 use Rattle.std.specs.HashMap.{HashMap, get_by}
 use Rattle.std.specs.Map.{update}
 use Rattle.std.specs.Option.{option_map_or}
@@ -13,7 +14,11 @@ use Rattle.scenarios.specs.declared.filters.FilterList.{FilterList}
 use Rattle.scenario_filters.specs.Aliases.{alias_of}
 use Rattle.scenario_filters.specs.AliasTable.{alias_at, answered_by, AreKnown, IsAliasTable}
 use Rattle.scenario_filters.specs.Filters.{answered_list}
-use Rattle.scenario_filters.proofs.AliasLemmas.{alias_of-at}
+
+-- the alias at a place, or one behind it
+alias_of-at : (aliases : List Alias) (n : ℕ) (a : Alias) (cluster : List ℕ) (test : Bool) → n < length aliases → a ≡ get_or aliases n a → test ≡ pointwise eqb a.cluster cluster
+    → alias_of (drop n aliases) cluster ≡ cond test a.alias (alias_of (drop (n + 1) aliases) cluster)
+alias_of-at aliases n a cluster test lt here is = rw (add-one, drop-cons aliases n a lt, ← here, ← is) refl
 
 -- in the new table a text has this value, and the others have theirs
 abbrev pub Adds : {X S : Type 0} → HashMap (Bor (List ℕ)) X S → HashMap (Bor (List ℕ)) X S → List ℕ → X → Type 0

@@ -1,3 +1,2 @@
-pub mod AliasLemmas
 pub mod AliasTables
 pub mod PatternLemmas

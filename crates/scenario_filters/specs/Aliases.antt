@@ -1,11 +1,11 @@
 -- The clusters' aliases.
 use Rattle.std.specs.Prelude.{ℕ, ◌∷◌, List, [], nat_eq, if◌then◌else◌, Result, Ok}
 use Rattle.std.specs.Cmp.Lexicographic.{pointwise}
-use Rattle.serde_json.specs.Data.{Data, Members, no_members, member}
+use Rattle.serde_json.specs.Data.{Data}
 use Rattle.orch_base.specs.Gives.{◌>>=◌}
 use Rattle.scenarios.specs.declared.filters.Alias.{Alias}
 use Rattle.scenario_values.specs.declared.fault.Fault.{Fault}
-use Rattle.scenario_values.specs.Faults.{under}
+use Rattle.scenario_values.specs.Faults.{each_member}
 use Rattle.scenario_values.specs.Values.{members_in, text_in, label_or_fails, text_within}
 
 -- the alias of a cluster's label: the label has 1 to 261 bytes, the alias at most 255
@@ -17,17 +17,10 @@ alias_in label d = do
   Ok (record { cluster = cluster; alias = alias })
 
 -- the labels by their bytes, as the members of an object stand
-abbrev pub aliases_from : Members → Result (List Alias) Fault
-aliases_from no_members = Ok []
-aliases_from (member label d ms) = do
-  alias ← under label (alias_in label d)
-  more ← aliases_from ms
-  Ok (alias ∷ more)
-
 unfoldable pub aliases_in : Data → Result (List Alias) Fault
 aliases_in d = do
   ms ← members_in d
-  aliases_from ms
+  each_member alias_in ms
 
 -- the alias of a cluster: empty where it has none
 abbrev pub alias_of : List Alias → List ℕ → List ℕ

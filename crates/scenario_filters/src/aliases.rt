@@ -3,8 +3,8 @@
 ghost use Rattle.std.specs.Prelude.{◌≡◌, IfOk};
 ghost use Rattle.orch_base.specs.Gives.{Gives};
 ghost use Rattle.serde_json.specs.View.{view, members_view};
-ghost use Rattle.scenario_values.specs.Faults.{fault_of, under};
-ghost use Rattle.scenario_filters.specs.Aliases.{alias_in, aliases_from, aliases_in};
+ghost use Rattle.scenario_values.specs.Faults.{fault_of, under as place_under, each_member};
+ghost use Rattle.scenario_filters.specs.Aliases.{alias_in, aliases_in};
 ghost use Rattle.scenario_filters.specs.AliasTable.{alias_at, IsAliasTable};
 
 use orch_base::Memory;
@@ -26,13 +26,13 @@ fn alias_in(alloc: Global, label: &str, value: &Value) -> Result<Alias, ReadFaul
 
 #[tactic(auto, using(scenario_values::proofs::Unders::gives_under))]
 fn alias_at(alloc: Global, label: &str, value: &Value) -> Result<Alias, ReadFault>
-    ensures { Gives (λ a. a) fault_of result (under label.now (alias_in label.now (view value.now))) }
+    ensures { Gives (λ a. a) fault_of result (place_under label.now (alias_in label.now (view value.now))) }
 {
     under(alloc, label.as_bytes(), alias_in(alloc, label, value))
 }
 
 fn aliases_from(alloc: Global, members: &Map<String, Value>) -> Result<Vec<Alias>, ReadFault>
-    ensures { Gives (λ v. v.items) fault_of result (aliases_from (members_view members.now.entries)) }
+    ensures { Gives (λ v. v.items) fault_of result (each_member alias_in (members_view members.now.entries)) }
 {
     let mut aliases = Vec::new(alloc);
     for (label, value) in members {

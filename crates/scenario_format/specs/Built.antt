@@ -5,16 +5,18 @@ use Rattle.std.specs.List.{list_any}
 use Rattle.command_routes.specs.Routes.{is_built_command}
 
 abbrev pub built_keys : List (List ℕ)
-built_keys = codes "version" ∷ codes "now" ∷ codes "gtid" ∷ codes "block" ∷ codes "aliases" ∷ codes "filters" ∷ codes "servers" ∷ codes "turns" ∷ []
+built_keys = codes "version" ∷ codes "now" ∷ codes "gtid" ∷ codes "block" ∷ codes "blocks" ∷ codes "aliases" ∷ codes "filters" ∷ codes "servers"
+    ∷ codes "turns" ∷ []
 
 abbrev pub built_server_keys : List (List ℕ)
 built_server_keys = codes "name" ∷ codes "uuid" ∷ codes "server_id" ∷ codes "version" ∷ codes "cluster" ∷ codes "logs" ∷ codes "read_only" ∷ codes "limit"
     ∷ codes "up" ∷ codes "desk" ∷ codes "feed" ∷ codes "known" ∷ codes "rule" ∷ codes "history" ∷ codes "source" ∷ codes "executed" ∷ codes "at"
-    ∷ codes "read" ∷ codes "io" ∷ codes "sql" ∷ codes "auto" ∷ codes "detached" ∷ codes "until" ∷ codes "flushes" ∷ []
+    ∷ codes "read" ∷ codes "io" ∷ codes "sql" ∷ codes "auto" ∷ codes "detached" ∷ codes "until" ∷ codes "flushes"
+    ∷ codes "purged" ∷ codes "dc" ∷ []
 
 abbrev pub built_turns : List (List ℕ)
-built_turns = codes "write" ∷ codes "fetch" ∷ codes "apply" ∷ codes "fail" ∷ codes "heal" ∷ codes "cut" ∷ codes "join" ∷ codes "rotate" ∷ codes "tick"
-    ∷ codes "poll-read" ∷ codes "poll-store" ∷ codes "polls" ∷ codes "round" ∷ codes "command" ∷ codes "job" ∷ codes "scan" ∷ codes "restart" ∷ []
+built_turns = codes "write" ∷ codes "fetch" ∷ codes "apply" ∷ codes "fail" ∷ codes "heal" ∷ codes "cut" ∷ codes "join" ∷ codes "rotate" ∷ codes "purge"
+    ∷ codes "tick" ∷ codes "poll-read" ∷ codes "poll-store" ∷ codes "polls" ∷ codes "round" ∷ codes "command" ∷ codes "job" ∷ codes "scan" ∷ codes "restart" ∷ []
 
 -- the top keys, the servers' keys and the turns that are built
 abbrev pub built_names : List (List ℕ)

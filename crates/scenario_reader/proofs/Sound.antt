@@ -1,6 +1,6 @@
 -- What is read as a scenario meets the condition of the calls that take one.
 use Rattle.std.proofs.Common.{◌≡◌, ℕ, ◌+◌, ◌*◌, ◌≤◌, ◌⊎◌, inl, inr, ◌∙◌, Bool, leb, List, [], ◌∷◌, length, All, Option, Some, None, Ok, refl, ap, subst, sym, arith}
-use Rattle.std.specs.Prelude.{count_by, codes, decimal, slice_get}
+use Rattle.std.specs.Prelude.{count_by, codes, decimal}
 use Rattle.std.proofs.lemmas.Bool.{leb-true}
 use Rattle.std.proofs.lemmas.List.{length-map}
 use Rattle.serde_json.specs.Data.{Data, Items, no_items, item}
@@ -21,17 +21,18 @@ use Rattle.scenarios.specs.Turns.{IsTurn, is_write}
 use Rattle.scenario_values.specs.declared.fault.FaultCode.{FaultCode}
 use Rattle.scenario_values.specs.declared.fault.FaultCode.TheVariants.{TooLong, TooLarge}
 use Rattle.scenario_values.specs.Faults.{holds, under, needed, optional, each, each_from, item_count}
-use Rattle.scenario_values.specs.Values.{items_in, bool_in, number_in}
+use Rattle.scenario_values.specs.Values.{items_in, bool_in, label_or_fails, members_in, number_in}
 use Rattle.scenario_servers.specs.declared.given.Given.{Given}
 use Rattle.scenario_servers.specs.Names.{listed_names, listed_uuids}
 use Rattle.scenario_servers.specs.Openings.{inits_from, inits_of, known_of, rules_of, IsGiven}
 use Rattle.scenario_openings.specs.Openings.{listed_count, is_small, code_of, keys_of, fails_at, opening_or_fails, opening_in}
 use Rattle.scenario_servers.specs.Servers.{server_in, listed_in, servers_in}
 use Rattle.scenario_servers.proofs.Reading.{read_given}
-use Rattle.scenario_servers.proofs.Steps.{same_Ok, bind-ok, holds-ok, under-ok, needed-ok, optional-ok, number-ok, each_from-length, each_from-all}
+use Rattle.scenario_servers.proofs.Steps.{same_Ok, bind-ok, holds-ok, under-ok, needed-ok, optional-ok, number-ok, each_from-length, each_from-all, each_member-all}
 use Rattle.scenario_filters.specs.Aliases.{aliases_in}
 use Rattle.scenario_filters.specs.Filters.{filters_in, no_filters, answered}
 use Rattle.scenario_reader.specs.declared.head.Head.{Head}
+use Rattle.scenario_reader.specs.Blocks.{block_in, blocks_in, period_in}
 use Rattle.scenario_turns.specs.Expansion.{IsListedTurn, server_names, printed_of, in_order, expanded}
 use Rattle.scenario_turns.specs.Turns.{turn_in}
 use Rattle.scenario_reader.specs.Scenarios.{json_in, one_in, keys_in, head_in, bounded, turns_in, scenario_with, scenario_from, scenario_in}
@@ -138,14 +139,29 @@ record AreSmall (h : Head) : Type 0 where
   blocks : All (λ b. b.seconds ≤ 1000000000) h.blocks
   hooks : AreHooks h.hooks
 
+-- each block period is short
+block-has : (label : List ℕ) (d : Data) (b : Block) → block_in label d ≡ Ok b → b.seconds ≤ 1000000000
+unfolding block_in
+block-has label d b e =
+    let cluster = bind-ok (label_or_fails label) _ b e in
+    let seconds = bind-ok (period_in d) _ b cluster.2 in
+    subst (λ (c : Block). c.seconds ≤ 1000000000) (same_Ok (record { cluster = cluster.0; seconds = seconds.0 }) b seconds.2) (number-ok 0 1000000000 d seconds.0 seconds.1).1
+
+blocks-have : (d : Data) (bs : List Block) → blocks_in d ≡ Ok bs → All (λ b. b.seconds ≤ 1000000000) bs
+unfolding blocks_in
+blocks-have d bs e =
+    let members = bind-ok (members_in d) _ bs e in
+    each_member-all (λ b. b.seconds ≤ 1000000000) block_in block-has members.0 bs members.2
+
 head-has : (d : Data) (h : Head) → head_in d ≡ Ok h → AreSmall h
 unfolding head_in
 head-has d h e =
     let version = bind-ok (needed (codes "version") one_in d) _ h e in
     let moment = bind-ok (optional (codes "now") (number_in 0 1000000000000000) 0 d) _ h version.2 in
     let gtid = bind-ok (optional (codes "gtid") bool_in _ d) _ h moment.2 in
-    let block = bind-ok (optional (codes "block") (number_in 0 1000000000) 3600 d) _ h gtid.2 in
-    let aliases = bind-ok (optional (codes "aliases") aliases_in [] d) _ h block.2 in
+    let block = bind-ok (optional (codes "block") period_in 3600 d) _ h gtid.2 in
+    let blocks = bind-ok (optional (codes "blocks") blocks_in [] d) _ h block.2 in
+    let aliases = bind-ok (optional (codes "aliases") aliases_in [] d) _ h blocks.2 in
     let filters = bind-ok (optional (codes "filters") filters_in no_filters d) _ h aliases.2 in
     let made : Head = record {
       moment = moment.0;
@@ -153,7 +169,7 @@ head-has d h e =
       pseudo = 0;
       nodes = 1;
       block = block.0;
-      blocks = [];
+      blocks = blocks.0;
       aliases = aliases.0;
       filters = filters.0;
       hooks = no_hooks;
@@ -162,14 +178,18 @@ head-has d h e =
       moment = by 1000000000000000 0 moment.0 (omega arith) (optional-ok (codes "now") (number_in 0 1000000000000000) 0 d moment.0 moment.1);
       pseudo = omega arith;
       nodes = refl;
-      block = by 1000000000 3600 block.0 (omega arith) (optional-ok (codes "block") (number_in 0 1000000000) 3600 d block.0 block.1);
-      blocks = none_of (λ (b : Block). b.seconds ≤ 1000000000);
+      block = by 1000000000 3600 block.0 (omega arith) (optional-ok (codes "block") period_in 3600 d block.0 block.1);
+      blocks = listed blocks.0 (optional-ok (codes "blocks") blocks_in [] d blocks.0 blocks.1);
       hooks = record { pre_failover = none_of IsHook; post_failover = none_of IsHook; post_unsuccessful = none_of IsHook };
     })
   where
     by : (most default n : ℕ) → default ≤ most → (n ≡ default) ⊎ ((v : Data) × (number_in 0 most v ≡ Ok n)) → n ≤ most
     by most default n few (inl same) = omega arith
     by most default n few (inr there) = (number-ok 0 most there.0 n there.1).1
+
+    listed : (bs : List Block) → (bs ≡ []) ⊎ ((v : Data) × (blocks_in v ≡ Ok bs)) → All (λ b. b.seconds ≤ 1000000000) bs
+    listed bs (inl none) = subst (All (λ (b : Block). b.seconds ≤ 1000000000)) (sym none) (none_of (λ (b : Block). b.seconds ≤ 1000000000))
+    listed bs (inr there) = blocks-have there.0 bs there.1
 
 -- ---- the whole
 

@@ -23,6 +23,7 @@ use Rattle.scenario_openings.specs.Openings.{listed_count, is_small, opening_in}
 use Rattle.scenario_filters.specs.Aliases.{aliases_in}
 use Rattle.scenario_filters.specs.Filters.{filters_in, no_filters, answered}
 use Rattle.scenario_reader.specs.declared.head.Head.{Head}
+use Rattle.scenario_reader.specs.Blocks.{blocks_in, period_in}
 use Rattle.scenario_turns.specs.Expansion.{in_order, expanded, printed_of}
 use Rattle.scenario_turns.specs.Turns.{turn_in}
 
@@ -35,7 +36,8 @@ json_in bytes = or_fails NotJson (if is_utf8 bytes then read bytes else None)
 -- ---- the top object
 
 abbrev pub top_keys : List (List ℕ)
-top_keys = codes "version" ∷ codes "now" ∷ codes "gtid" ∷ codes "block" ∷ codes "aliases" ∷ codes "filters" ∷ codes "servers" ∷ codes "turns" ∷ []
+top_keys = codes "version" ∷ codes "now" ∷ codes "gtid" ∷ codes "block" ∷ codes "blocks" ∷ codes "aliases" ∷ codes "filters" ∷ codes "servers"
+    ∷ codes "turns" ∷ []
 
 abbrev pub is_one : Option ℕ → Bool
 is_one None = false
@@ -65,7 +67,8 @@ head_in d = do
   version ← needed (codes "version") one_in d
   moment ← optional (codes "now") (number_in 0 1000000000000000) 0 d
   gtid ← optional (codes "gtid") bool_in false d
-  block ← optional (codes "block") (number_in 0 1000000000) 3600 d
+  block ← optional (codes "block") period_in 3600 d
+  blocks ← optional (codes "blocks") blocks_in [] d
   aliases ← optional (codes "aliases") aliases_in [] d
   filters ← optional (codes "filters") filters_in no_filters d
   Ok (record {
@@ -74,7 +77,7 @@ head_in d = do
     pseudo = 0;
     nodes = 1;
     block = block;
-    blocks = [];
+    blocks = blocks;
     aliases = aliases;
     filters = filters;
     hooks = no_hooks;

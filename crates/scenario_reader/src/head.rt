@@ -6,8 +6,10 @@ ghost use Rattle.serde_json.specs.View.{view};
 ghost use Rattle.scenario_values.specs.Faults.{fault_of, needed, optional};
 ghost use Rattle.scenario_filters.specs.Aliases.{aliases_in};
 ghost use Rattle.scenario_filters.specs.Filters.{filters_in, no_filters, AreRead};
+ghost use Rattle.scenario_reader.specs.Blocks.{blocks_in};
 ghost use Rattle.scenario_reader.specs.Scenarios.{is_one, one_in, is_there, keys_in, head_in};
 
+use crate::blocks::blocks_in;
 use scenario_filters::{FilterTexts, aliases_in, filters_in, no_filters};
 use scenario_values::{
     FaultCode, ReadFault, bool_at, fails, holds, members_in, number_at, only_keys, under,
@@ -29,7 +31,7 @@ pub struct Head {
     pub nodes: u32,
     /// The block period: at most 1,000,000,000 seconds.
     pub block: u64,
-    /// Clusters with block periods of their own.
+    /// Clusters with block periods of their own, by the bytes of their labels.
     pub blocks: Blocks,
     pub aliases: Aliases,
     pub filters: FilterTexts,
@@ -49,7 +51,7 @@ pub(crate) fn keys_in(alloc: Global, value: &Value) -> Result<(), ReadFault>
     ensures { Gives (λ _. tt) fault_of result (keys_in (view value.now)) }
 {
     let members = members_in(alloc, value)?;
-    only_keys(alloc, members, &["version", "now", "gtid", "block", "aliases", "filters", "servers", "turns"])?;
+    only_keys(alloc, members, &["version", "now", "gtid", "block", "blocks", "aliases", "filters", "servers", "turns"])?;
     holds(alloc, FaultCode::Missing, is_there("version", value) && is_there("servers", value))
 }
 
@@ -79,6 +81,16 @@ fn version_at(alloc: Global, object: &Value) -> Result<(), ReadFault>
     match object.get("version") {
         Some(value) => under(alloc, b"version", one_in(alloc, value)),
         None => Err(fails(alloc, FaultCode::Missing)),
+    }
+}
+
+#[tactic(auto, using(scenario_values::proofs::Unders::gives_under))]
+fn blocks_at(alloc: Global, object: &Value) -> Result<Blocks, ReadFault>
+    ensures { Gives (λ b. b) fault_of result (optional (codes "blocks") blocks_in [] (view object.now)) }
+{
+    match object.get("blocks") {
+        Some(value) => under(alloc, b"blocks", blocks_in(alloc, value)),
+        None => Ok(Blocks::new(Vec::new(alloc))),
     }
 }
 
@@ -113,6 +125,7 @@ pub(crate) fn head_in(alloc: Global, object: &Value) -> Result<Head, ReadFault>
     let moment = number_at(alloc, object, "now", 0, 1_000_000_000_000_000, 0)?;
     let gtid = bool_at(alloc, object, "gtid", false)?;
     let block = number_at(alloc, object, "block", 0, 1_000_000_000, 3600)?;
+    let blocks = blocks_at(alloc, object)?;
     let aliases = aliases_at(alloc, object)?;
     let filters = filters_at(alloc, object)?;
     Ok(Head {
@@ -121,7 +134,7 @@ pub(crate) fn head_in(alloc: Global, object: &Value) -> Result<Head, ReadFault>
         pseudo: 0,
         nodes: 1,
         block,
-        blocks: Blocks::new(Vec::new(alloc)),
+        blocks,
         aliases,
         filters,
         hooks: Hooks::none(alloc),

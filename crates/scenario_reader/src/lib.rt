@@ -1,6 +1,7 @@
 //! Reads scenarios: the scenario that bytes are, or the first fault of the walk over them, with its place.
 #![tactic(auto)]
 
+mod blocks;
 mod head;
 mod walk;
 

@@ -10,7 +10,7 @@ use Rattle.openings.specs.declared.part.Part.{Part}
 use Rattle.openings.specs.Opening.{IsPart}
 use Rattle.scenario_values.specs.declared.fault.FaultCode.TheVariants.{AutoWithoutGtid, BadNumber}
 use Rattle.scenario_values.specs.Faults.{fails, holds, under_item, needed, optional, maybe, only_keys, item_count}
-use Rattle.scenario_values.specs.Values.{members_in, items_in, bool_in, whole_in, number_in, coord_in, label_in, version_in, name_in}
+use Rattle.scenario_values.specs.Values.{members_in, items_in, bool_in, whole_in, number_in, coord_in, label_in, short_in, version_in, name_in}
 use Rattle.scenario_servers.specs.declared.given.Identity.{Identity}
 use Rattle.scenario_servers.specs.declared.given.Setup.{Setup}
 use Rattle.scenario_servers.specs.declared.given.Replication.{Replication}
@@ -153,6 +153,14 @@ replication-ok gtid d r e =
       until = until.1;
     })
 
+-- the first kept file
+pub purged-ok : (d : Data) (n : ℕ) → optional (codes "purged") (number_in 1 4294967295) 1 d ≡ Ok n → (1 ≤ n) × (n ≤ 4294967295)
+purged-ok d n e = by (optional-ok (codes "purged") (number_in 1 4294967295) 1 d n e)
+  where
+    by : (n ≡ 1) ⊎ ((v : Data) × (number_in 1 4294967295 v ≡ Ok n)) → (1 ≤ n) × (n ≤ 4294967295)
+    by (inl is) = (omega arith, omega arith)
+    by (inr there) = number-ok 1 4294967295 there.0 n there.1
+
 pub record ReadsServer (gtid : Bool) (names : List (Option HostPort)) (uuids : List (Option ℕ)) (n : ℕ) (d : Data) (g : Given) : Type 0 where
   pub members : Members
   pub of : members_in d ≡ Ok members
@@ -178,7 +186,9 @@ server-ok gtid names uuids n d g e =
     let source = bind-ok (maybe (codes "source") (server_named names) d) _ g history.2 in
     let replication = bind-ok (replication_in gtid d) _ g source.2 in
     let flushes = bind-ok (optional (codes "flushes") flushes_in [] d) _ g replication.2 in
-    subst (ReadsServer gtid names uuids n d) (same_Ok _ g flushes.2) (record {
+    let purged = bind-ok (optional (codes "purged") (number_in 1 4294967295) 1 d) _ g flushes.2 in
+    let dc = bind-ok (optional (codes "dc") short_in [] d) _ g purged.2 in
+    subst (ReadsServer gtid names uuids n d) (same_Ok _ g dc.2) (record {
       members = ms.0;
       of = ms.1;
       keys = keys.1;
@@ -188,5 +198,5 @@ server-ok gtid names uuids n d g e =
       source = source.1;
       replication = replication-ok gtid d replication.0 replication.1;
       flushes = flushes.1;
-      purged = omega arith;
+      purged = (purged-ok d purged.0 purged.1).0;
     })

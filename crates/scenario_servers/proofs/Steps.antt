@@ -15,7 +15,7 @@ use Rattle.orch_base.specs.Gives.{◌>>=◌}
 use Rattle.scenario_values.specs.declared.fault.Fault.{Fault}
 use Rattle.scenario_values.specs.declared.fault.FaultCode.{FaultCode}
 use Rattle.scenario_values.specs.declared.fault.FaultCode.TheVariants.{BadNumber, UnknownKey}
-use Rattle.scenario_values.specs.Faults.{fails, or_fails, holds, under, under_item, needed_in, needed, optional_in, optional, maybe_in, maybe, is_key, only_keys, each_from, item_count}
+use Rattle.scenario_values.specs.Faults.{fails, or_fails, holds, under, under_item, needed_in, needed, optional_in, optional, maybe_in, maybe, is_key, only_keys, each_from, each_member, item_count}
 use Rattle.scenario_values.specs.Values.{within, members_in, whole_in, number_in}
 
 -- two readings answer the same
@@ -158,3 +158,14 @@ each_from-all P read each n no_items all e = subst (All P) (same_Ok [] all e) (A
 each_from-all P read each n (item d ds) all e =
     let parts = each_from-ok read n d ds all e in
     subst (All P) parts.4 (All-cons P parts.0 parts.1 (each n d parts.0 parts.2) (each_from-all P read each (n + 1) ds parts.1 parts.3))
+
+-- ---- members
+
+pub each_member-all : {A : Type 0} (P : A → Type 0) (read : List ℕ → Data → Result A Fault) → ((key : List ℕ) (d : Data) (x : A) → read key d ≡ Ok x → P x)
+    → (ms : Members) (all : List A) → each_member read ms ≡ Ok all → All P all
+each_member-all P read each no_members all e = subst (All P) (same_Ok [] all e) (All-nil P)
+each_member-all P read each (member key d ms) all e =
+    let first = bind-ok (under key (read key d)) _ all e in
+    let rest = bind-ok (each_member read ms) _ all first.2 in
+    subst (All P) (same_Ok (first.0 ∷ rest.0) all rest.2)
+    (All-cons P first.0 rest.0 (each key d first.0 (under-ok key (read key d) first.0 first.1)) (each_member-all P read each ms rest.0 rest.1))

@@ -13,7 +13,7 @@ use Rattle.scenario_servers.specs.declared.given.Setup.{Setup}
 use Rattle.scenario_servers.specs.declared.given.Replication.{Replication}
 use Rattle.scenario_servers.specs.declared.given.Given.{Given}
 use Rattle.scenario_values.specs.Faults.{fails, holds, under_item, needed, optional, maybe, only_keys, each, each_from, item_count}
-use Rattle.scenario_values.specs.Values.{members_in, items_in, bool_in, whole_in, number_in, coord_in, label_in, version_in}
+use Rattle.scenario_values.specs.Values.{members_in, items_in, bool_in, whole_in, number_in, coord_in, label_in, short_in, version_in}
 use Rattle.scenario_servers.specs.Rules.{rule_in}
 use Rattle.scenario_servers.specs.Names.{listed_names, server_named, own_name, listed_uuids, own_uuid}
 
@@ -49,7 +49,8 @@ flushes_in d = do
 
 abbrev pub own_keys : List (List ℕ)
 own_keys = codes "name" ∷ codes "uuid" ∷ codes "server_id" ∷ codes "version" ∷ codes "cluster" ∷ codes "logs" ∷ codes "read_only" ∷ codes "limit"
-    ∷ codes "up" ∷ codes "desk" ∷ codes "feed" ∷ codes "known" ∷ codes "rule" ∷ codes "history" ∷ codes "source" ∷ codes "flushes" ∷ []
+    ∷ codes "up" ∷ codes "desk" ∷ codes "feed" ∷ codes "known" ∷ codes "rule" ∷ codes "history" ∷ codes "source" ∷ codes "flushes"
+    ∷ codes "purged" ∷ codes "dc" ∷ []
 
 -- the keys that only a server with a source has
 abbrev pub replica_keys : List (List ℕ)
@@ -115,6 +116,8 @@ server_from gtid names uuids n d = do
   source ← maybe (codes "source") (server_named names) d
   replication ← replication_in gtid d
   flushes ← optional (codes "flushes") flushes_in [] d
+  purged ← optional (codes "purged") (number_in 1 4294967295) 1 d
+  dc ← optional (codes "dc") short_in [] d
   Ok (record {
     identity = identity;
     setup = setup;
@@ -124,8 +127,8 @@ server_from gtid names uuids n d = do
     source = source;
     replication = replication;
     flushes = flushes;
-    purged = 1;
-    dc = [];
+    purged = purged;
+    dc = dc;
   })
 
 -- Server n. Its unknown keys come first.

@@ -61,9 +61,9 @@ pub struct Given {
     pub source: Option<ServerNo>,
     pub replication: Replication,
     pub flushes: Counts,
-    /// The first file that its binary log keeps.
+    /// The first file that its binary log keeps: 1 to 4,294,967,295.
     pub purged: u32,
-    /// The server's data centre: empty where it has none.
+    /// The server's data centre, at most 255 bytes: empty where it has none.
     pub dc: OwnedText,
 }
 

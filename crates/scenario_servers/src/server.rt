@@ -4,6 +4,7 @@ ghost use Rattle.std.specs.Prelude.{◌≡◌, ◌<◌, [], false, map, codes};
 ghost use Rattle.orch_base.specs.Gives.{Gives};
 ghost use Rattle.serde_json.specs.View.{view, items_view, members_view};
 ghost use Rattle.scenario_values.specs.Faults.{fault_of, only_keys, optional, maybe};
+ghost use Rattle.scenario_values.specs.Values.{number_in, short_in};
 ghost use Rattle.scenario_servers.specs.Names.{server_named};
 ghost use Rattle.scenario_servers.specs.Servers.{has_source, server_keys, setup_in, auto_in, replication_in, history_in, flushes_in, server_from, server_in};
 
@@ -17,7 +18,7 @@ use openings::{Counts, Parts};
 use orch_base::{OwnedText, ServerNo};
 use scenario_values::{
     FaultCode, ReadFault, bool_at, bool_in, fails, maybe_bool, maybe_coord, members_in, number_at,
-    only_keys, under, whole_at,
+    only_keys, short_in, under, whole_at,
 };
 use serde_json::{Map, Value};
 use std::alloc::Global;
@@ -132,8 +133,25 @@ fn flushes_at(alloc: Global, object: &Value) -> Result<Counts, ReadFault>
     }
 }
 
+fn purged_at(alloc: Global, object: &Value) -> Result<u32, ReadFault>
+    ensures { Gives (λ n. n) fault_of result (optional (codes "purged") (number_in 1 4294967295) 1 (view object.now)) }
+{
+    let first = number_at(alloc, object, "purged", 1, 4_294_967_295, 1)?;
+    Ok(first as u32)
+}
+
+#[tactic(auto, using(scenario_values::proofs::Unders::gives_under))]
+fn dc_at(alloc: Global, object: &Value) -> Result<OwnedText, ReadFault>
+    ensures { Gives (λ t. t) fault_of result (optional (codes "dc") short_in [] (view object.now)) }
+{
+    match object.get("dc") {
+        Some(value) => under(alloc, b"dc", short_in(alloc, value)),
+        None => Ok(OwnedText::new(String::new(alloc))),
+    }
+}
+
 // The keys of a server that has no key but these: the last eight only where it has a source.
-const SERVER_KEYS: [&str; 24] = [
+const SERVER_KEYS: [&str; 26] = [
     "name",
     "uuid",
     "server_id",
@@ -150,6 +168,8 @@ const SERVER_KEYS: [&str; 24] = [
     "history",
     "source",
     "flushes",
+    "purged",
+    "dc",
     "executed",
     "at",
     "read",
@@ -166,7 +186,7 @@ fn known_keys(alloc: Global, object: &Value, members: &Map<String, Value>) -> Re
     if has_source(object) {
         only_keys(alloc, members, &SERVER_KEYS)
     } else {
-        only_keys(alloc, members, &SERVER_KEYS[..16])
+        only_keys(alloc, members, &SERVER_KEYS[..18])
     }
 }
 
@@ -190,6 +210,8 @@ fn server_from(
     let source = source_at(alloc, names, object)?;
     let replication = replication_in(alloc, gtid, object)?;
     let flushes = flushes_at(alloc, object)?;
+    let purged = purged_at(alloc, object)?;
+    let dc = dc_at(alloc, object)?;
     Ok(Given {
         identity,
         setup,
@@ -199,8 +221,8 @@ fn server_from(
         source,
         replication,
         flushes,
-        purged: 1,
-        dc: OwnedText::new(String::new(alloc)),
+        purged,
+        dc,
     })
 }
 

@@ -6,7 +6,7 @@ use Rattle.orch_base.specs.Names.{HostPort}
 use Rattle.server_words.specs.declared.changes.Link.{Link}
 use Rattle.turns.specs.declared.turn.Turn.{Turn}
 use Rattle.turns.specs.declared.turn.Turn.TheVariants.{Act, Step, Tick}
-use Rattle.turns.specs.declared.turn.Step.TheVariants.{Write, Fetch, Apply, Fail, Heal, Cut, Join, Rotate}
+use Rattle.turns.specs.declared.turn.Step.TheVariants.{Write, Fetch, Apply, Fail, Heal, Cut, Join, Rotate, Purge}
 use Rattle.turns.specs.declared.turn.Act.TheVariants.{PollRead, PollStore, Command, Job, Scan, Restart}
 use Rattle.scenarios.specs.Turns.{IsCommand, IsTurn}
 use Rattle.scenario_values.specs.declared.fault.Fault.{Fault}
@@ -22,7 +22,7 @@ use Rattle.scenario_turns.specs.declared.word.Word.{Word}
 use Rattle.scenario_turns.specs.declared.word.Word.TheVariants as word
 use Rattle.scenario_turns.specs.Expansion.{IsListedTurn}
 use Rattle.scenario_turns.specs.Words.{word_at}
-use Rattle.scenario_turns.specs.Turns.{one_of, two_of, link_in, poller_in, server_of, size_of, link_of, seconds_of, poll_of, poller_of, job_of, turn_by, alone, turn_of, turn_with, turn_from, turn_in}
+use Rattle.scenario_turns.specs.Turns.{one_of, two_of, link_in, poller_in, server_of, amount_of, link_of, seconds_of, poll_of, poller_of, job_of, turn_by, alone, turn_of, turn_with, turn_from, turn_in}
 use Rattle.scenario_turns.proofs.Sound.{command-has}
 
 server-has : (names : List (Option HostPort)) (rest : Items) (n : ServerNo) → server_of names rest ≡ Ok n → n.0 < length names
@@ -31,19 +31,19 @@ server-has names rest n e =
     let server = bind-ok (one_of rest) _ n e in
     named-ok names server.0 n (under-ok _ _ n server.2)
 
-record IsSized (count : ℕ) (p : ServerNo × ℕ) : Type 0 where
+record IsAmount (count most : ℕ) (p : ServerNo × ℕ) : Type 0 where
   within : p.0.0 < count
   some : 1 ≤ p.1
-  few : p.1 ≤ 1000000
+  few : p.1 ≤ most
 
-size-has : (names : List (Option HostPort)) (rest : Items) (p : ServerNo × ℕ) → size_of names rest ≡ Ok p → IsSized (length names) p
-unfolding size_of
-size-has names rest p e =
+amount-has : (names : List (Option HostPort)) (most : ℕ) (rest : Items) (p : ServerNo × ℕ) → amount_of names most rest ≡ Ok p → IsAmount (length names) most p
+unfolding amount_of
+amount-has names most rest p e =
     let parts = bind-ok (two_of rest) _ p e in
     let server = bind-ok (under_item 1 (server_named names parts.0.0)) _ p parts.2 in
-    let size = bind-ok (under_item 2 (number_in 1 1000000 parts.0.1)) _ p server.2 in
-    let bounds = number-ok 1 1000000 parts.0.1 size.0 (under-ok _ _ size.0 size.1) in
-    subst (IsSized (length names)) (same_Ok (server.0, size.0) p size.2)
+    let amount = bind-ok (under_item 2 (number_in 1 most parts.0.1)) _ p server.2 in
+    let bounds = number-ok 1 most parts.0.1 amount.0 (under-ok _ _ amount.0 amount.1) in
+    subst (IsAmount (length names) most) (same_Ok (server.0, amount.0) p amount.2)
     (record { within = named-ok names parts.0.0 server.0 (under-ok _ _ server.0 server.1); some = bounds.0; few = bounds.1 })
 
 link-has : (names : List (Option HostPort)) (rest : Items) (p : ServerNo × Link) → link_of names rest ≡ Ok p → p.0.0 < length names
@@ -95,12 +95,14 @@ alone-has count turn (item a rest) t is e = cc
 turn_of-has : (names : List (Option HostPort)) (printed : List (List ℕ)) (w : Word) (rest : Items) (t : ListedTurn) → length printed ≡ length names → turn_of names printed w rest ≡ Ok t
     → IsListedTurn (length names) t
 turn_of-has names printed word.Write rest t counts e =
-    made-has (length names) (IsSized (length names)) (λ p. Step (Write p.0 p.1)) (size_of names rest) t (λ p is. (is.within, is.some, is.few)) (size-has names rest) e
+    made-has (length names) (IsAmount (length names) 1000000) (λ p. Step (Write p.0 p.1)) (amount_of names 1000000 rest) t (λ p is. (is.within, is.some, is.few)) (amount-has names 1000000 rest) e
 turn_of-has names printed word.Fetch rest t counts e = made-has (length names) (λ n. n.0 < length names) (λ n. Step (Fetch n)) (server_of names rest) t (λ n is. is) (server-has names rest) e
 turn_of-has names printed word.Apply rest t counts e = made-has (length names) (λ n. n.0 < length names) (λ n. Step (Apply n)) (server_of names rest) t (λ n is. is) (server-has names rest) e
 turn_of-has names printed word.Fail rest t counts e = made-has (length names) (λ n. n.0 < length names) (λ n. Step (Fail n)) (server_of names rest) t (λ n is. is) (server-has names rest) e
 turn_of-has names printed word.Heal rest t counts e = made-has (length names) (λ n. n.0 < length names) (λ n. Step (Heal n)) (server_of names rest) t (λ n is. is) (server-has names rest) e
 turn_of-has names printed word.Rotate rest t counts e = made-has (length names) (λ n. n.0 < length names) (λ n. Step (Rotate n)) (server_of names rest) t (λ n is. is) (server-has names rest) e
+turn_of-has names printed word.Purge rest t counts e =
+    made-has (length names) (IsAmount (length names) 4294967295) (λ p. Step (Purge p.0 p.1)) (amount_of names 4294967295 rest) t (λ p is. (is.within, is.some, is.few)) (amount-has names 4294967295 rest) e
 turn_of-has names printed word.Cut rest t counts e = made-has (length names) (λ p. p.0.0 < length names) (λ p. Step (Cut p.0 p.1)) (link_of names rest) t (λ p is. is) (link-has names rest) e
 turn_of-has names printed word.Join rest t counts e = made-has (length names) (λ p. p.0.0 < length names) (λ p. Step (Join p.0 p.1)) (link_of names rest) t (λ p is. is) (link-has names rest) e
 turn_of-has names printed word.Tick rest t counts e = made-has (length names) (λ n. n ≤ 1000000000) Tick (seconds_of rest) t (λ n is. is) (seconds-have rest) e

@@ -22,11 +22,11 @@ use Rattle.scenarios.specs.Turns.{IsCommand}
 use Rattle.scenario_values.specs.declared.fault.Fault.{Fault}
 use Rattle.scenario_values.specs.declared.fault.FaultCode.TheVariants.{BadCommand, BadNumber, BadPattern}
 use Rattle.scenario_values.specs.Faults.{fails, holds, or_fails, under_item, maybe, only_keys}
-use Rattle.scenario_values.specs.Values.{members_in, text_in, text_within}
+use Rattle.scenario_values.specs.Values.{members_in, short_in, text_in, text_within}
 use Rattle.scenario_servers.specs.Names.{server_named}
 use Rattle.scenario_servers.proofs.ServerSteps.{named-ok}
 use Rattle.scenario_servers.proofs.Steps.{same_Ok, bind-ok, or_fails-ok, holds-ok, under-ok, maybe-ok}
-use Rattle.scenario_turns.specs.Commands.{command_in, command_keys, duration_in, given_in, instances_in, keys_in, name_in, parts_of, pattern_in, short_in}
+use Rattle.scenario_turns.specs.Commands.{command_in, command_keys, duration_in, given_in, instances_in, keys_in, name_in, parts_of, pattern_in}
 use Rattle.scenario_servers.specs.Rules.{rule_in}
 use Rattle.scenario_turns.specs.Found.{found_in, found_of}
 

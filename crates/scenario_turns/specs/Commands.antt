@@ -18,7 +18,7 @@ use Rattle.scenario_servers.specs.Rules.{rule_in}
 use Rattle.scenario_values.specs.declared.fault.Fault.{Fault}
 use Rattle.scenario_values.specs.declared.fault.FaultCode.TheVariants.{BadCommand, BadNumber, BadTurn}
 use Rattle.scenario_values.specs.Faults.{fails, or_fails, holds, under_item, maybe, only_keys}
-use Rattle.scenario_values.specs.Values.{members_in, text_in, text_within}
+use Rattle.scenario_values.specs.Values.{members_in, short_in, text_in}
 
 -- a command that is built
 unfoldable pub name_in : Data → Result CommandName Fault
@@ -35,12 +35,6 @@ unfoldable pub duration_in : Data → Result ℕ Fault
 duration_in d = do
   text ← text_in d
   or_fails BadNumber (seconds_at text)
-
--- a reason or an owner: at most 255 bytes
-unfoldable pub short_in : Data → Result (List ℕ) Fault
-short_in d = do
-  text ← text_in d
-  text_within 0 255 text
 
 unfoldable pub pattern_in : List (List ℕ) → Data → Result Found Fault
 pattern_in printed d = do
@@ -59,7 +53,7 @@ instances_in names name given = do
   has_d ← holds BadCommand (is_there (needs_of name).d d)
   Ok (record { name = name; i = i; d = d })
 
--- the other keys, each where it is given; one that is needed is given
+-- the other keys, each where it is given; one that is needed is given; a reason and an owner have at most 255 bytes
 unfoldable pub keys_in : List (List ℕ) → CommandName → Data → Result Keys Fault
 keys_in printed name given = do
   rule ← maybe (codes "rule") rule_in given

@@ -8,7 +8,7 @@ use Rattle.server_words.specs.declared.changes.Link.{Link}
 use Rattle.server_words.specs.declared.changes.Link.TheVariants.{Desk, Feed}
 use Rattle.turns.specs.declared.turn.Turn.{Turn}
 use Rattle.turns.specs.declared.turn.Turn.TheVariants.{Act, Step, Tick}
-use Rattle.turns.specs.declared.turn.Step.TheVariants.{Write, Fetch, Apply, Fail, Heal, Cut, Join, Rotate}
+use Rattle.turns.specs.declared.turn.Step.TheVariants.{Write, Fetch, Apply, Fail, Heal, Cut, Join, Rotate, Purge}
 use Rattle.turns.specs.declared.turn.Act.TheVariants.{PollRead, PollStore, Command, Job, Scan, Restart}
 use Rattle.scenario_values.specs.declared.fault.Fault.{Fault}
 use Rattle.scenario_values.specs.declared.fault.FaultCode.TheVariants.{BadTurn, BadNumber}
@@ -44,13 +44,13 @@ server_of names rest = do
   server ← one_of rest
   under_item 1 (server_named names server)
 
--- S, N
-unfoldable pub size_of : List (Option HostPort) → Items → Result (ServerNo × ℕ) Fault
-size_of names rest = do
+-- S, N from 1 to a most
+unfoldable pub amount_of : List (Option HostPort) → ℕ → Items → Result (ServerNo × ℕ) Fault
+amount_of names most rest = do
   parts ← two_of rest
   n ← under_item 1 (server_named names parts.0)
-  size ← under_item 2 (number_in 1 1000000 parts.1)
-  Ok (n, size)
+  amount ← under_item 2 (number_in 1 most parts.1)
+  Ok (n, amount)
 
 -- S, L
 unfoldable pub link_of : List (Option HostPort) → Items → Result (ServerNo × Link) Fault
@@ -102,12 +102,13 @@ alone turn no_items = Ok turn
 alone turn _ = fails BadTurn
 
 abbrev pub turn_of : List (Option HostPort) → List (List ℕ) → Word → Items → Result ListedTurn Fault
-turn_of names printed word.Write rest = turn_by (λ p. Step (Write p.0 p.1)) (size_of names rest)
+turn_of names printed word.Write rest = turn_by (λ p. Step (Write p.0 p.1)) (amount_of names 1000000 rest)
 turn_of names printed word.Fetch rest = turn_by (λ n. Step (Fetch n)) (server_of names rest)
 turn_of names printed word.Apply rest = turn_by (λ n. Step (Apply n)) (server_of names rest)
 turn_of names printed word.Fail rest = turn_by (λ n. Step (Fail n)) (server_of names rest)
 turn_of names printed word.Heal rest = turn_by (λ n. Step (Heal n)) (server_of names rest)
 turn_of names printed word.Rotate rest = turn_by (λ n. Step (Rotate n)) (server_of names rest)
+turn_of names printed word.Purge rest = turn_by (λ p. Step (Purge p.0 p.1)) (amount_of names 4294967295 rest)
 turn_of names printed word.Cut rest = turn_by (λ p. Step (Cut p.0 p.1)) (link_of names rest)
 turn_of names printed word.Join rest = turn_by (λ p. Step (Join p.0 p.1)) (link_of names rest)
 turn_of names printed word.Tick rest = turn_by Tick (seconds_of rest)

@@ -6,7 +6,7 @@ use Rattle.scenario_values.specs.declared.fault.Fault.{Fault}
 use Rattle.scenario_values.specs.declared.fault.FaultCode.TheVariants.{BadTurn}
 use Rattle.scenario_values.specs.Faults.{fails}
 use Rattle.scenario_turns.specs.declared.word.Word.{Word}
-use Rattle.scenario_turns.specs.declared.word.Word.TheVariants.{Write, Fetch, Apply, Fail, Heal, Rotate, Cut, Join, Tick, PollRead, PollStore, Polls, Round, Command, Job, Scan, Restart}
+use Rattle.scenario_turns.specs.declared.word.Word.TheVariants.{Write, Fetch, Apply, Fail, Heal, Rotate, Purge, Cut, Join, Tick, PollRead, PollStore, Polls, Round, Command, Job, Scan, Restart}
 
 abbrev pub is_word : List ℕ → List ℕ → Bool
 is_word word text = pointwise nat_eq word text
@@ -22,6 +22,7 @@ words =
     ∷ (codes "cut", Cut)
     ∷ (codes "join", Join)
     ∷ (codes "rotate", Rotate)
+    ∷ (codes "purge", Purge)
     ∷ (codes "tick", Tick)
     ∷ (codes "poll-read", PollRead)
     ∷ (codes "poll-store", PollStore)

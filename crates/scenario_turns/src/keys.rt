@@ -2,9 +2,10 @@
 
 ghost use Rattle.std.specs.Prelude.{◌≡◌};
 ghost use Rattle.orch_base.specs.Gives.{Gives};
-ghost use Rattle.scenario_turns.specs.Commands.{duration_in, short_in, pattern_in, instances_in, keys_in, given_in};
+ghost use Rattle.scenario_turns.specs.Commands.{duration_in, pattern_in, instances_in, keys_in, given_in};
 ghost use Rattle.scenario_servers.specs.Names.{server_named};
 ghost use Rattle.scenario_values.specs.Faults.{fault_of, maybe};
+ghost use Rattle.scenario_values.specs.Values.{short_in};
 ghost use Rattle.serde_json.specs.View.{view};
 
 use crate::patterns::Patterns;
@@ -12,7 +13,7 @@ use commands::{Command, CommandName, CommandTurn, Found, Keys, seconds_at};
 use orch_base::{OwnedText, ServerNo};
 use scenario_servers::{Names, maybe_rule, server_named};
 use scenario_values::{
-    FaultCode, ReadFault, fails, holds, members_in, only_keys, text_in, text_within, under,
+    FaultCode, ReadFault, fails, holds, members_in, only_keys, short_in, text_in, under,
 };
 use serde_json::Value;
 use std::alloc::Global;
@@ -26,14 +27,6 @@ fn duration_in(alloc: Global, value: &Value) -> Result<u64, ReadFault>
         Some(seconds) => Ok(seconds),
         None => Err(fails(alloc, FaultCode::BadNumber)),
     }
-}
-
-#[tactic(auto, unfolding(crate::specs::Commands::short_in))]
-fn short_in(alloc: Global, value: &Value) -> Result<OwnedText, ReadFault>
-    ensures { Gives (λ l. l) fault_of result (short_in (view value.now)) }
-{
-    let text = text_in(alloc, value)?;
-    text_within(alloc, 0, 255, text)
 }
 
 #[tactic(auto, unfolding(crate::specs::Commands::pattern_in))]

@@ -7,11 +7,11 @@ ghost use Rattle.scenario_values.specs.Faults.{fault_of, under_item, each};
 ghost use Rattle.scenario_values.specs.Values.{text_in, number_in};
 ghost use Rattle.scenario_servers.specs.Names.{server_named};
 ghost use Rattle.turns.specs.declared.turn.Act.TheVariants.{Command, PollRead};
-ghost use Rattle.turns.specs.declared.turn.Step.TheVariants.{Cut, Join, Write};
+ghost use Rattle.turns.specs.declared.turn.Step.TheVariants.{Cut, Join, Purge, Write};
 ghost use Rattle.turns.specs.declared.turn.Turn.TheVariants.{Act as Acts, Step as Steps};
 ghost use Rattle.scenario_turns.specs.Commands.{command_in};
 ghost use Rattle.scenario_turns.specs.declared.expansion.ListedTurn.TheVariants.{One};
-ghost use Rattle.scenario_turns.specs.Turns.{link_in, poller_in, one_of, two_of, server_of, size_of, link_of, seconds_of, poll_of, poller_of, job_of, turn_by, alone, turn_of, turn_with, turn_from, turn_in};
+ghost use Rattle.scenario_turns.specs.Turns.{link_in, poller_in, one_of, two_of, server_of, amount_of, link_of, seconds_of, poll_of, poller_of, job_of, turn_by, alone, turn_of, turn_with, turn_from, turn_in};
 
 use crate::command::command_in;
 use crate::expansion::ListedTurn;
@@ -104,14 +104,19 @@ fn server_of(alloc: Global, names: &Names, rest: &[Value]) -> Result<ServerNo, R
     server_at(alloc, names, 1, server)
 }
 
-#[tactic(auto, unfolding(crate::specs::Turns::size_of))]
-fn size_of(alloc: Global, names: &Names, rest: &[Value]) -> Result<(ServerNo, u32), ReadFault>
-    ensures { Gives (λ p. p) fault_of result (size_of names.now (items_view rest.now)) }
+#[tactic(auto, unfolding(crate::specs::Turns::amount_of))]
+fn amount_of(
+    alloc: Global,
+    names: &Names,
+    most: u32,
+    rest: &[Value],
+) -> Result<(ServerNo, u32), ReadFault>
+    ensures { Gives (λ p. p) fault_of result (amount_of names.now most (items_view rest.now)) }
 {
-    let (server, size) = two_of(alloc, rest)?;
+    let (server, amount) = two_of(alloc, rest)?;
     let server = server_at(alloc, names, 1, server)?;
-    let size = number_at(alloc, 2, 1, 1_000_000, size)?;
-    Ok((server, size as u32))
+    let amount = number_at(alloc, 2, 1, u64::from(most), amount)?;
+    Ok((server, amount as u32))
 }
 
 #[tactic(auto, unfolding(crate::specs::Turns::link_of))]
@@ -185,10 +190,19 @@ fn act_turn(act: Act) -> ListedTurn
 }
 
 fn write_of(alloc: Global, names: &Names, rest: &[Value]) -> Result<ListedTurn, ReadFault>
-    ensures { Gives (λ t. t) fault_of result (turn_by (λ p. Steps (Write p.0 p.1)) (size_of names.now (items_view rest.now))) }
+    ensures { Gives (λ t. t) fault_of result
+        (turn_by (λ p. Steps (Write p.0 p.1)) (amount_of names.now 1000000 (items_view rest.now))) }
 {
-    let (server, size) = size_of(alloc, names, rest)?;
+    let (server, size) = amount_of(alloc, names, 1_000_000, rest)?;
     Ok(step_turn(Step::Write(server, size)))
+}
+
+fn purge_of(alloc: Global, names: &Names, rest: &[Value]) -> Result<ListedTurn, ReadFault>
+    ensures { Gives (λ t. t) fault_of result
+        (turn_by (λ p. Steps (Purge p.0 p.1)) (amount_of names.now 4294967295 (items_view rest.now))) }
+{
+    let (server, file) = amount_of(alloc, names, u32::MAX, rest)?;
+    Ok(step_turn(Step::Purge(server, file)))
 }
 
 fn cut_of(alloc: Global, names: &Names, rest: &[Value]) -> Result<ListedTurn, ReadFault>
@@ -246,6 +260,7 @@ fn turn_of(alloc: Global, names: &Names, patterns: &Patterns, word: Word, rest: 
         Word::Fail => Ok(step_turn(Step::Fail(server_of(alloc, names, rest)?))),
         Word::Heal => Ok(step_turn(Step::Heal(server_of(alloc, names, rest)?))),
         Word::Rotate => Ok(step_turn(Step::Rotate(server_of(alloc, names, rest)?))),
+        Word::Purge => purge_of(alloc, names, rest),
         Word::Cut => cut_of(alloc, names, rest),
         Word::Join => join_of(alloc, names, rest),
         Word::Tick => Ok(ListedTurn::One(Turn::Tick(seconds_of(alloc, rest)?))),

@@ -96,7 +96,7 @@ abbrev pub only_keys : List (List ℕ) → Members → Result (Unit {0}) Fault
 only_keys known no_members = Ok tt
 only_keys known (member k d ms) = if is_key known k then only_keys known ms else under k (fails UnknownKey)
 
--- ---- items
+-- ---- items and members
 
 -- each item in order, by its number, counted from n
 abbrev pub each_from : {A : Type 0} → (ℕ → Data → Result A Fault) → ℕ → Items → Result (List A) Fault
@@ -108,6 +108,14 @@ each_from read n (item d ds) = do
 
 abbrev pub each : {A : Type 0} → (Data → Result A Fault) → Items → Result (List A) Fault
 each read ds = each_from (λ n d. read d) 0 ds
+
+-- each member in order, by its key
+abbrev pub each_member : {A : Type 0} → (List ℕ → Data → Result A Fault) → Members → Result (List A) Fault
+each_member read no_members = Ok []
+each_member read (member key d ms) = do
+  x ← under key (read key d)
+  xs ← each_member read ms
+  Ok (x ∷ xs)
 
 abbrev pub item_count : Items → ℕ
 item_count no_items = 0

@@ -67,6 +67,12 @@ coord_in d = do
 abbrev pub text_within : ℕ → ℕ → List ℕ → Result (List ℕ) Fault
 text_within low high text = if nat_le low (length text) && nat_le (length text) high then Ok text else fails BadNumber
 
+-- a text of at most 255 bytes
+unfoldable pub short_in : Data → Result (List ℕ) Fault
+short_in d = do
+  text ← text_in d
+  text_within 0 255 text
+
 abbrev pub label_or_fails : List ℕ → Result (List ℕ) Fault
 label_or_fails text = text_within 1 261 text
 

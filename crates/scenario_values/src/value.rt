@@ -7,7 +7,7 @@ ghost use Rattle.uuid.specs.Text.{parsed_hyphenated};
 ghost use Rattle.orch_base.specs.Gives.{Gives};
 ghost use Rattle.serde_json.specs.View.{view, items_view, members_view};
 ghost use Rattle.scenario_values.specs.Faults.{fault_of};
-ghost use Rattle.scenario_values.specs.Values.{members_in, items_in, text_in, bool_in, whole_in, within, number_in, name_in, coord_in, text_within, label_or_fails, label_in, uuid_or_fails, uuid_in, is_dot, behind_dot, version_part, version_at, version_in};
+ghost use Rattle.scenario_values.specs.Values.{members_in, items_in, text_in, bool_in, whole_in, within, number_in, name_in, coord_in, text_within, short_in, label_or_fails, label_in, uuid_or_fails, uuid_in, is_dot, behind_dot, version_part, version_at, version_in};
 
 use crate::fault::{FaultCode, ReadFault, fails};
 use binlog_coords::{Coord, read_coord};
@@ -123,6 +123,15 @@ pub fn text_within(
     } else {
         Err(fails(alloc, FaultCode::BadNumber))
     }
+}
+
+/// A text of at most 255 bytes; a longer one is `BadNumber`, a value of another kind `BadType`.
+#[tactic(auto, unfolding(crate::specs::Values::short_in))]
+pub fn short_in(alloc: Global, value: &Value) -> Result<OwnedText, ReadFault>
+    ensures { Gives (λ s. s) fault_of result (short_in (view value.now)) }
+{
+    let text = text_in(alloc, value)?;
+    text_within(alloc, 0, 255, text)
 }
 
 /// A cluster's label, a text of 1 to 261 bytes; of another length it is `BadNumber`.

@@ -1,0 +1,25 @@
+-- The block periods of single clusters.
+use Rattle.std.specs.Prelude.{ℕ, List, Result, Ok}
+use Rattle.serde_json.specs.Data.{Data}
+use Rattle.orch_base.specs.Gives.{◌>>=◌}
+use Rattle.scenarios.specs.declared.blocks.Block.{Block}
+use Rattle.scenario_values.specs.declared.fault.Fault.{Fault}
+use Rattle.scenario_values.specs.Faults.{each_member}
+use Rattle.scenario_values.specs.Values.{members_in, label_or_fails, number_in}
+
+-- a block period in seconds
+abbrev pub period_in : Data → Result ℕ Fault
+period_in d = number_in 0 1000000000 d
+
+-- the block period of a cluster's label, which has 1 to 261 bytes
+unfoldable pub block_in : List ℕ → Data → Result Block Fault
+block_in label d = do
+  cluster ← label_or_fails label
+  seconds ← period_in d
+  Ok (record { cluster = cluster; seconds = seconds })
+
+-- the labels by their bytes, as the members of an object stand
+unfoldable pub blocks_in : Data → Result (List Block) Fault
+blocks_in d = do
+  ms ← members_in d
+  each_member block_in ms

@@ -1,0 +1,11 @@
+use Rattle.std.proofs.Common.{◌≡◌, arith, rules}
+use Rattle.serde_json.specs.View.{view}
+use Rattle.scenario_values.specs.Values.{number_in}
+use Rattle.scenario_servers.proofs.Steps.{number-ok, under-ok}
+use Rattle.scenario_turns.proofs.turn_forms.amount_of.Goals as goal
+
+pub overflow_cast-result : goal.overflow_cast-result
+overflow_cast-result c =
+    let most : c.from.result ≡ c.args.most = search rules in
+    let bounds = number-ok 1 c.from.result (view c.in_ok-server.amount.now) c.in_ok-amount.amount (under-ok _ (number_in 1 c.from.result (view c.in_ok-server.amount.now)) c.in_ok-amount.amount c.in_ok-amount.ensures) in
+    omega (arith, bounds.1, most)
