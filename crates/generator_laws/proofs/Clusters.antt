@@ -1,13 +1,12 @@
 -- Drawn servers are of the cluster of their source.
-use Rattle.std.proofs.Common.{◌≡◌, ◌∙◌, ◌<◌, ◌≤◌, ◌||◌, ℕ, zero, suc, ◌+◌, Bool, true, false, ◌∷◌, List, [], length, Option, Some, None, refl, sym, ap, subst, arith}
+use Rattle.std.proofs.Common.{◌≡◌, ◌∙◌, ◌<◌, ℕ, zero, suc, ◌+◌, true, false, ◌∷◌, List, [], length, Option, Some, None, refl, sym, ap, arith}
 use Rattle.std.specs.Prelude.{nat_eq, not, slice_get}
 use Rattle.std.specs.Cmp.Lexicographic.{pointwise}
-use Rattle.std.specs.List.{list_any}
 use Rattle.std.proofs.lemmas.Bool.{eq-eqb}
 use Rattle.std.proofs.lemmas.Option.{slice_get_within}
 use Rattle.openings.specs.declared.init.ServerInit.{ServerInit}
 use Rattle.openings.specs.Flaws.{at_server, first_met, other_cluster, same_cluster}
-use Rattle.openings.specs.Servers.{number_of, reached_from}
+use Rattle.openings.specs.Servers.{number_of}
 use Rattle.openings.proofs.Roots.{IsLoopless, same-end}
 use Rattle.scenario_servers.specs.declared.given.Given.{Given}
 use Rattle.scenario_servers.specs.Openings.{init_of, label_at, root_in, source_in}

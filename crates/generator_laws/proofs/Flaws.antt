@@ -1,20 +1,19 @@
 -- Flaws that drawn servers haven't.
-use Rattle.std.proofs.Common.{◌≡◌, ◌∙◌, ◌<◌, ◌≤◌, ◌==◌, ◌||◌, ℕ, zero, suc, ◌+◌, Bool, true, false, ◌∷◌, List, [], length, Option, Some, None, refl, sym, ap, subst, arith}
-use Rattle.std.specs.Prelude.{◌&&◌, is_some, nat_lt, not, slice_get}
+use Rattle.std.proofs.Common.{◌≡◌, ◌∙◌, ◌<◌, ◌≤◌, ◌==◌, ◌||◌, ℕ, zero, suc, ◌+◌, Bool, false, ◌∷◌, List, [], length, Option, Some, None, refl, sym, ap, subst, arith}
+use Rattle.std.specs.Prelude.{nat_lt, not, slice_get}
 use Rattle.std.proofs.lemmas.Bool.{le-ltb, ne_eqb}
 use Rattle.orch_base.specs.Chains.{is_reached, is_reached_on}
 use Rattle.openings.specs.declared.init.ServerInit.{ServerInit}
-use Rattle.openings.specs.Flaws.{at_server, at_source, bad_files, below_itself, both_given, first_met, of_source, source_not_logging, too_many}
+use Rattle.openings.specs.Flaws.{at_server, at_source, bad_files, below_itself, both_given, first_met, source_not_logging, too_many}
 use Rattle.openings.specs.Servers.{count_of, log_at, number_of, source_of, sources}
 use Rattle.openings.proofs.Files.{log_at-files}
 use Rattle.scenario_servers.specs.declared.given.Given.{Given}
-use Rattle.scenario_servers.specs.Openings.{init_of, inits_from, inits_of}
+use Rattle.scenario_servers.specs.Openings.{init_of, inits_from}
 use Rattle.scenario_generator.specs.declared.server.DrawnServer.{DrawnServer}
 use Rattle.scenario_generator.specs.declared.server.DrawnServer.TheVariants.{Root, Replica}
 use Rattle.scenario_generator.specs.Promises.{ArePlaced, IsPlaced}
 use Rattle.scenario_generator.specs.Servers as drawn
 use Rattle.scenario_generator.specs.Servers.{servers_from}
-use Rattle.scenario_generator.proofs.Promises.{placed}
 use Rattle.generator_laws.specs.Drawn.{given_of, givens_from, inits_from_drawn, source_of as source_in}
 
 -- ---- the server of a number
@@ -52,6 +51,24 @@ drawn_at ss n i e =
       there = k.1;
       is = h.2 ∙ (ap (λ m. init_of gs m h.0) same ∙ (ap (init_of gs n) k.2 ∙ ap (λ m. init_of gs n (given_of m k.0)) same));
     }
+
+-- what is there opens there
+init_there : (gs : List Given) (n m : ℕ) (ss : List DrawnServer) (s : DrawnServer) → slice_get ss m ≡ Some s → slice_get (inits_from gs n (givens_from n ss)) m ≡ Some (init_of gs (n + m) (given_of (n + m) s))
+init_there gs n m [] s e = absurd (cc)
+init_there gs n zero (t ∷ ss) s e =
+    let same : n ≡ n + 0 = omega arith in
+    let is : t ≡ s = cc in
+    ap (λ u. Some (init_of gs n (given_of n u))) is ∙ ap (λ k. Some (init_of gs k (given_of k s))) same
+init_there gs n (suc m) (t ∷ ss) s e =
+    let same : n + 1 + m ≡ n + suc m = omega arith in
+    init_there gs (n + 1) m ss s e ∙ ap (λ k. Some (init_of gs k (given_of k s))) same
+
+pub opens_there : (ss : List DrawnServer) (n : ℕ) (s : DrawnServer) → slice_get ss n ≡ Some s → slice_get (inits_from_drawn ss) n ≡ Some (init_of (givens_from 0 ss) n (given_of n s))
+opens_there ss n s e = let same : 0 + n ≡ n = omega arith in init_there (givens_from 0 ss) 0 n ss s e ∙ ap (λ k. Some (init_of (givens_from 0 ss) k (given_of k s))) same
+
+pub length-inits : (gs : List Given) (n : ℕ) (ss : List DrawnServer) → length (inits_from gs n (givens_from n ss)) ≡ length ss
+length-inits gs n [] = refl
+length-inits gs n (s ∷ ss) = ap suc (length-inits gs (n + 1) ss)
 
 -- ---- a test that no server meets
 
@@ -114,7 +131,7 @@ below_drawn : (ss : List DrawnServer) (a b : ℕ) (s : DrawnServer) → IsPlaced
 below_drawn ss a b Root is e = absurd (cc)
 below_drawn ss a b (Replica source executed) is e = let same : source ≡ b = cc in omega (arith, is.earlier, same)
 
-init_source : (ss : List DrawnServer) (n : ℕ) (s : DrawnServer) → (init_of (givens_from 0 ss) n (given_of n s)).source ≡ source_in s
+pub init_source : (ss : List DrawnServer) (n : ℕ) (s : DrawnServer) → (init_of (givens_from 0 ss) n (given_of n s)).source ≡ source_in s
 init_source ss n Root = refl
 init_source ss n (Replica source executed) = refl
 
@@ -125,7 +142,7 @@ below_of ss are a b (Some i) is e =
     let same : number_of i.source ≡ number_of (source_in h.server) = ap (λ (j : ServerInit). number_of j.source) h.is ∙ ap number_of (init_source ss a h.server) in
     below_drawn ss a b h.server (are a h.server h.there) (sym same ∙ e)
 
-source_below : (ss : List DrawnServer) → ArePlaced ss → (a b : ℕ) → sources (inits_from_drawn ss) a ≡ Some b → b < a
+pub source_below : (ss : List DrawnServer) → ArePlaced ss → (a b : ℕ) → sources (inits_from_drawn ss) a ≡ Some b → b < a
 source_below ss are a b e = below_of ss are a b (slice_get (inits_from_drawn ss) a) refl e
 
 pub none_is_below_itself : (ss : List DrawnServer) → ArePlaced ss → first_met (λ n i. below_itself (inits_from_drawn ss) n) 0 (inits_from_drawn ss) ≡ None
@@ -139,7 +156,7 @@ pub none_has_bad_files : (ss : List DrawnServer) → first_met (λ n i. bad_file
 none_has_bad_files ss = none_meets (λ n i. bad_files (inits_from_drawn ss) n i) ss (λ n s e. purged_of ss n s)
 
 -- none counts more than its source
-count_is : (ss : List DrawnServer) (n : ℕ) (s : DrawnServer) → count_of (init_of (givens_from 0 ss) n (given_of n s)) ≡ drawn.count_of s
+pub count_is : (ss : List DrawnServer) (n : ℕ) (s : DrawnServer) → count_of (init_of (givens_from 0 ss) n (given_of n s)) ≡ drawn.count_of s
 count_is ss n Root = refl
 count_is ss n (Replica source executed) = refl
 

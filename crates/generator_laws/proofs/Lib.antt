@@ -4,3 +4,8 @@ pub mod Servers
 pub mod Wholes
 pub mod Flaws
 pub mod Clusters
+pub mod Histories
+pub mod Coords
+pub mod Kinship
+pub mod Sizes
+pub mod Scenarios

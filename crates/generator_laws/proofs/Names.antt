@@ -3,7 +3,6 @@ use Rattle.std.proofs.Common.{◌≡◌, ◌∙◌, ◌≢◌, ◌<◌, ◌≤�
 use Rattle.std.proofs.lemmas.Bool.Decides.{eqb_tells}
 use Rattle.std.specs.Prelude.{IsTrue}
 use Rattle.serde_json.specs.Data.{string}
-use Rattle.orch_base.specs.Gives.{◌>>=◌}
 use Rattle.orch_base.specs.Names.{HostPort, same_name}
 use Rattle.orch_base.proofs.SameNames.{same_name_tells}
 use Rattle.scenario_values.specs.Values.{name_in}

@@ -5,7 +5,6 @@ use Rattle.std.specs.List.{list_any}
 use Rattle.std.proofs.lemmas.Bool.{le-leb, le-ltb, ne_eqb}
 use Rattle.std.proofs.lemmas.Option.{slice_get_within}
 use Rattle.serde_json.specs.Data.{array}
-use Rattle.orch_base.specs.Gives.{◌>>=◌}
 use Rattle.scenario_values.specs.Faults.{each_from, item_count}
 use Rattle.scenario_values.specs.Values.{name_in, number_in, whole_in}
 use Rattle.scenario_servers.specs.Names.{has_uuid, listed_names, listed_uuids, own_name, own_uuid}

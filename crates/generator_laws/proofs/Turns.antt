@@ -2,7 +2,6 @@
 use Rattle.std.proofs.Common.{◌≡◌, ◌<◌, ◌≤◌, ℕ, zero, suc, ◌+◌, ◌∷◌, List, [], Ok, refl, arith}
 use Rattle.std.proofs.lemmas.Bool.{le-leb}
 use Rattle.std.specs.Prelude.{nat_le, true}
-use Rattle.orch_base.specs.Gives.{◌>>=◌}
 use Rattle.scenario_values.specs.Faults.{each_from}
 use Rattle.scenario_values.specs.Values.{number_in, whole_in}
 use Rattle.scenario_turns.specs.Turns.{amount_of, poll_of, poller_of, server_of, turn_in, turn_with}

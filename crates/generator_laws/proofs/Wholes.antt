@@ -3,7 +3,6 @@ use Rattle.std.proofs.Common.{◌≡◌, ◌<◌, ◌≤◌, ℕ, true, length, 
 use Rattle.std.specs.Prelude.{nat_le}
 use Rattle.std.proofs.lemmas.Bool.{le-leb}
 use Rattle.orch_base.specs.declared.source.TheConstants.{MAX_SCENARIO_LEN}
-use Rattle.orch_base.specs.Gives.{◌>>=◌}
 use Rattle.scenario_reader.specs.Scenarios.{head_in, keys_in, one_in, scenario_from, scenario_in, scenario_with}
 use Rattle.scenario_generator.specs.Servers.{servers_from}
 use Rattle.scenario_generator.specs.Texts.{drawn_data, scenario_text, turns_data}

@@ -1,8 +1,14 @@
--- What stands before the servers of a drawn scenario.
-use Rattle.std.specs.Prelude.{[], false}
+-- What stands before the servers of a drawn scenario, and the whole.
+use Rattle.std.specs.Prelude.{ℕ, ◌∷◌, [], true, false, None, codes, map, replicate}
 use Rattle.hook_texts.specs.Hooks.{no_hooks}
+use Rattle.openings.specs.Opening.{opening}
+use Rattle.scenarios.specs.declared.filters.FilterList.{FilterList}
+use Rattle.scenarios.specs.declared.scenario.Scenario.{Scenario}
 use Rattle.scenario_filters.specs.Filters.{no_filters}
+use Rattle.scenario_generator.specs.Servers.{servers_from}
+use Rattle.scenario_generator.specs.Turns.{turns_from}
 use Rattle.scenario_reader.specs.declared.head.Head.{Head}
+use Rattle.generator_laws.specs.Drawn.{inits_from_drawn, turn_of}
 
 -- every key but the version is absent
 abbrev pub drawn_head : Head
@@ -17,3 +23,27 @@ drawn_head = record {
   filters = no_filters;
   hooks = no_hooks;
 }
+
+-- the one filter lets each of so many servers' clusters through
+abbrev pub passed_by_all : ℕ → FilterList
+passed_by_all servers = record { texts = codes "*" ∷ []; passes = replicate servers true }
+
+-- The scenario of a seed, so many servers and so many turns: it begins at moment 0 with the drawn servers, without
+-- GTIDs; the book knows each of them, and none has a rule; then come the drawn turns.
+abbrev pub drawn_scenario : ℕ → ℕ → ℕ → Scenario
+drawn_scenario seed servers turns =
+    let first = servers_from seed servers in
+    record {
+      opening = opening (inits_from_drawn first.drawn) false;
+      moment = record { 0 = 0 };
+      pseudo = 0;
+      nodes = 1;
+      block = 3600;
+      blocks = [];
+      aliases = [];
+      filters = record { master = passed_by_all servers; intermediate = passed_by_all servers };
+      hooks = no_hooks;
+      known = replicate servers true;
+      rules = replicate servers None;
+      turns = map turn_of (turns_from servers first.number turns).drawn;
+    }

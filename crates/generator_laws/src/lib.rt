@@ -1,18 +1,21 @@
 //! Laws of drawn scenarios that read: what is drawn reads without a fault, as it was drawn.
 #![tactic(auto)]
 
-ghost use Rattle.std.specs.Prelude.{◌≡◌, ℕ, ◌<◌, ◌≤◌, List, None, Ok, false};
+ghost use Rattle.std.specs.Prelude.{◌≡◌, ℕ, ◌+◌, ◌<◌, ◌≤◌, List, None, Ok, false, true};
 ghost use Rattle.serde_json.specs.Data.{array};
-ghost use Rattle.openings.specs.Flaws.{bad_files, below_itself, both_given, first_met, other_cluster, source_not_logging, too_many};
+ghost use Rattle.openings.specs.Flaws.{flaw_in};
+ghost use Rattle.scenarios.specs.Scenarios.{IsScenario};
 ghost use Rattle.scenario_values.specs.Faults.{each};
 ghost use Rattle.scenario_servers.specs.Servers.{servers_in};
 ghost use Rattle.scenario_turns.specs.Turns.{turn_in};
+ghost use Rattle.scenario_openings.specs.Openings.{is_small, listed_count};
+ghost use Rattle.scenario_generator.specs.Bounds.{is_drawable};
 ghost use Rattle.scenario_generator.specs.Servers.{servers_from};
 ghost use Rattle.scenario_generator.specs.Texts.{scenario_text, servers_data, turns_data};
 ghost use Rattle.scenario_generator.specs.Turns.{turns_from};
 ghost use Rattle.scenario_reader.specs.Scenarios.{scenario_in, scenario_with};
 ghost use Rattle.generator_laws.specs.Drawn.{givens_from, inits_from_drawn, listed_turns, names_from};
-ghost use Rattle.generator_laws.specs.Whole.{drawn_head};
+ghost use Rattle.generator_laws.specs.Whole.{drawn_head, drawn_scenario};
 
 /// The servers that are drawn read as those servers: their names, and each with what it was given.
 pub fn drawn_servers_read()
@@ -39,20 +42,24 @@ pub fn drawn_texts_read()
         (turns_data (turns_from servers (servers_from seed servers).number turns).drawn) }
 {}
 
-/// Servers that are drawn open without these flaws: none has both a history and a source, each source logs, none is
-/// below itself or of another cluster than its source, none counts more than its source, and no flush point or first
-/// kept file is out of place.
+/// Servers that are drawn have no flaw, however many there are: each replica's source logs, is of its cluster, counts
+/// no less and has a place for where the replica stands; no chain of sources comes back; and what roots list is kin.
 pub fn drawn_servers_lack_flaws()
-    ensures both { (seed servers : ℕ) → first_met (λ n i. both_given i) 0
-        (inits_from_drawn (servers_from seed servers).drawn) ≡ None }
-    ensures logging { (seed servers : ℕ) → let inits = inits_from_drawn (servers_from seed servers).drawn
-        in first_met (λ n i. source_not_logging inits i) 0 inits ≡ None }
-    ensures loops { (seed servers : ℕ) → let inits = inits_from_drawn (servers_from seed servers).drawn
-        in first_met (λ n i. below_itself inits n) 0 inits ≡ None }
-    ensures clusters { (seed servers : ℕ) → let inits = inits_from_drawn (servers_from seed servers).drawn
-        in first_met (λ n i. other_cluster inits i) 0 inits ≡ None }
-    ensures many { (seed servers : ℕ) → let inits = inits_from_drawn (servers_from seed servers).drawn
-        in first_met (λ n i. too_many inits i) 0 inits ≡ None }
-    ensures files { (seed servers : ℕ) → let inits = inits_from_drawn (servers_from seed servers).drawn
-        in first_met (λ n i. bad_files inits n i) 0 inits ≡ None }
+    ensures { (seed servers : ℕ) →
+        flaw_in (inits_from_drawn (servers_from seed servers).drawn) ≡ None }
+{}
+
+/// What is drawn within the bound reads without a fault, as the whole scenario that was drawn, so it meets the
+/// condition of the calls that take a scenario. The bound is the reader's, with one transaction for each turn.
+pub fn drawn_scenarios_read()
+    ensures whole { (seed servers turns : ℕ) → 0 < servers → servers ≤ 1000 → turns ≤ 1000000
+        → is_drawable servers turns ≡ true
+        → scenario_in (scenario_text seed servers turns)
+        ≡ Ok (drawn_scenario seed servers turns) }
+    ensures runs { (seed servers turns : ℕ) → 0 < servers → servers ≤ 1000 → turns ≤ 1000000
+        → is_drawable servers turns ≡ true
+        → IsScenario (drawn_scenario seed servers turns) }
+    ensures bound { (seed servers turns : ℕ) →
+        let inits = inits_from_drawn (servers_from seed servers).drawn
+        in is_drawable servers turns ≡ is_small servers (listed_count inits + turns) }
 {}

@@ -4,3 +4,4 @@ pub mod Turns
 pub mod Texts
 pub mod Pieces
 pub mod Promises
+pub mod Bounds
