@@ -1,0 +1,138 @@
+-- What a dump says before its servers reads as the scenario has it.
+use Rattle.std.proofs.Common.{◌≡◌, ◌≤◌, ◌+◌, ℕ, true, List, [], ◌∷◌, length, map, All, Ok, IsUtf8, refl, arith, leb}
+use Rattle.std.proofs.lemmas.Bool.{le-leb}
+use Rattle.std.proofs.lemmas.List.Elements.{All-head, All-tail}
+use Rattle.serde_json.specs.Data.{object, string}
+use Rattle.cluster_filters.specs.Forms.{form_of, has_pattern}
+use Rattle.hook_texts.specs.Hooks.{no_hooks}
+use Rattle.scenarios.specs.declared.blocks.Block.{Block}
+use Rattle.scenarios.specs.declared.filters.Alias.{Alias}
+use Rattle.scenarios.specs.declared.filters.ClusterFilters.{ClusterFilters}
+use Rattle.scenarios.specs.declared.scenario.Scenario.{Scenario}
+use Rattle.scenario_values.specs.Faults.{each_from, each_member}
+use Rattle.scenario_values.specs.Values.{label_or_fails}
+use Rattle.scenario_filters.specs.declared.filters.FilterTexts.{FilterTexts}
+use Rattle.scenario_filters.specs.Aliases.{alias_in, aliases_in}
+use Rattle.scenario_filters.specs.Filters.{HavePatterns, filter_in, filters_in, list_in}
+use Rattle.scenario_reader.specs.declared.head.Head.{Head}
+use Rattle.scenario_reader.specs.Blocks.{block_in, blocks_in, period_in}
+use Rattle.scenario_reader.specs.Scenarios.{head_in, keys_in, one_in}
+use Rattle.scenario_dump.specs.Texts.{aliases_data, blocks_data, count_data, dump_data, filters_data, items_of, list_data}
+use Rattle.server_model.specs.Worlds.{World}
+use Rattle.dump_laws.proofs.ReadData.{Rise}
+use Rattle.dump_laws.proofs.Values.{number-reads}
+
+-- a label that reads
+pub record IsLabel (label : List ℕ) : Type 0 where
+  pub some : 1 ≤ length label
+  pub short : length label ≤ 261
+  pub text : IsUtf8 label
+
+pub record IsAlias (a : Alias) : Type 0 where
+  pub cluster : IsLabel a.cluster
+  pub alias : length a.alias ≤ 255
+  pub text : IsUtf8 a.alias
+
+pub record IsBlock (b : Block) : Type 0 where
+  pub cluster : IsLabel b.cluster
+  pub seconds : b.seconds ≤ 1000000000
+
+label-passes : (label : List ℕ) → IsLabel label → label_or_fails label ≡ Ok label
+label-passes label is =
+    let least : leb 1 (length label) ≡ true = le-leb 1 (length label) is.some in
+    let most : leb (length label) 261 ≡ true = le-leb (length label) 261 is.short in
+    rw (least, most) refl
+
+block-reads : (b : Block) → IsBlock b → block_in b.cluster (count_data b.seconds) ≡ Ok b
+unfolding block_in
+block-reads b is = rw (label-passes b.cluster is.cluster) (rw (number-reads 0 1000000000 b.seconds (omega arith) is.seconds) refl)
+
+each-block : (bs : List Block) → All IsBlock bs → each_member block_in (blocks_data bs) ≡ Ok bs
+each-block [] all = refl
+each-block (b ∷ bs) all = rw (block-reads b (All-head IsBlock b bs all)) (rw (each-block bs (All-tail IsBlock b bs all)) refl)
+
+pub blocks-read : (bs : List Block) → All IsBlock bs → blocks_in (object (blocks_data bs)) ≡ Ok bs
+unfolding blocks_in
+blocks-read bs all = each-block bs all
+
+alias-reads : (a : Alias) → IsAlias a → alias_in a.cluster (string a.alias) ≡ Ok a
+unfolding alias_in
+alias-reads a is =
+    let least : leb 0 (length a.alias) ≡ true = le-leb 0 (length a.alias) (omega arith) in
+    let most : leb (length a.alias) 255 ≡ true = le-leb (length a.alias) 255 is.alias in
+    rw (label-passes a.cluster is.cluster) (rw (least, most) refl)
+
+each-alias : (xs : List Alias) → All IsAlias xs → each_member alias_in (aliases_data xs) ≡ Ok xs
+each-alias [] all = refl
+each-alias (a ∷ xs) all = rw (alias-reads a (All-head IsAlias a xs all)) (rw (each-alias xs (All-tail IsAlias a xs all)) refl)
+
+pub aliases-read : (xs : List Alias) → All IsAlias xs → aliases_in (object (aliases_data xs)) ≡ Ok xs
+unfolding aliases_in
+aliases-read xs all = each-alias xs all
+
+-- ---- filters
+
+abbrev HasPattern : List ℕ → Type 0
+HasPattern text = has_pattern (form_of text) ≡ true
+
+filter-reads : (text : List ℕ) → HasPattern text → filter_in (string text) ≡ Ok text
+unfolding filter_in
+filter-reads text has = rw has refl
+
+each-filter : (n : ℕ) (texts : List (List ℕ)) → HavePatterns texts → each_from (λ k d. filter_in d) n (items_of string texts) ≡ Ok texts
+each-filter n [] all = refl
+each-filter n (t ∷ ts) all = rw (filter-reads t (All-head HasPattern t ts all)) (rw (each-filter (n + 1) ts (All-tail HasPattern t ts all)) refl)
+
+list-reads : (texts : List (List ℕ)) → HavePatterns texts → list_in (list_data string texts) ≡ Ok texts
+unfolding list_in
+list-reads texts all = each-filter 0 texts all
+
+-- the texts of the lists
+abbrev pub texts_of : ClusterFilters → FilterTexts
+texts_of f = record { master = f.master.texts; intermediate = f.intermediate.texts }
+
+pub filters-read : (f : ClusterFilters) → HavePatterns f.master.texts → HavePatterns f.intermediate.texts → filters_in (filters_data f) ≡ Ok (texts_of f)
+unfolding filters_in
+filters-read f master intermediate = rw (list-reads f.master.texts master) (rw (list-reads f.intermediate.texts intermediate) refl)
+
+-- ---- the keys before the servers
+
+-- what was read of a scenario before its servers reads back
+pub record SaysReadable (s : Scenario) : Type 0 where
+  pub block : s.block ≤ 1000000000
+  pub blocks : All IsBlock s.blocks
+  pub aliases : All IsAlias s.aliases
+  pub master : HavePatterns s.filters.master.texts
+  pub intermediate : HavePatterns s.filters.intermediate.texts
+  pub master_texts : All IsUtf8 s.filters.master.texts
+  pub intermediate_texts : All IsUtf8 s.filters.intermediate.texts
+  pub aliases_rise : Rise (map (λ a. a.cluster) s.aliases)
+  pub blocks_rise : Rise (map (λ b. b.cluster) s.blocks)
+
+abbrev pub dumped_head : World → Scenario → ℕ → Head
+dumped_head w s now = record {
+  moment = now;
+  gtid = w.gtid;
+  pseudo = 0;
+  nodes = 1;
+  block = s.block;
+  blocks = s.blocks;
+  aliases = s.aliases;
+  filters = texts_of s.filters;
+  hooks = no_hooks;
+}
+
+module _ (w : World) (s : Scenario) (now : ℕ) where
+  pub keys-read : keys_in (dump_data w s now) ≡ Ok tt
+  unfolding keys_in dump_data
+  keys-read = refl
+
+  pub head-reads : SaysReadable s → now ≤ 1000000000000000 → head_in (dump_data w s now) ≡ Ok (dumped_head w s now)
+  unfolding head_in dump_data one_in
+  head-reads says early =
+      let moment = number-reads 0 1000000000000000 now (omega arith) early in
+      let block : period_in (count_data s.block) ≡ Ok s.block = number-reads 0 1000000000 s.block (omega arith) says.block in
+      let blocks = blocks-read s.blocks says.blocks in
+      let aliases = aliases-read s.aliases says.aliases in
+      let filters = filters-read s.filters says.master says.intermediate in
+      rw moment (rw block (rw blocks (rw aliases (rw filters refl))))

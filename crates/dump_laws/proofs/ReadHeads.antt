@@ -1,0 +1,195 @@
+-- What was read of a scenario reads back: what it says before its servers, its filters' answers, and its settings.
+use Rattle.std.proofs.Common.{◌≡◌, ◌∙◌, ◌≤◌, ℕ, true, false, List, [], map, All, Ok, IsUtf8, refl, sym, ap, subst, arith}
+use Rattle.std.specs.Prelude.{codes}
+use Rattle.std.proofs.lemmas.List.Elements.{All-cons, All-nil}
+use Rattle.json.proofs.Printed.Utf8.{IsUtf8-are_ascii}
+use Rattle.serde_json.specs.Data.{Data}
+use Rattle.cluster_filters.specs.Forms.{form_of, has_pattern}
+use Rattle.hook_texts.specs.Hooks.{no_hooks}
+use Rattle.scenarios.specs.declared.blocks.Block.{Block}
+use Rattle.scenarios.specs.declared.filters.Alias.{Alias}
+use Rattle.scenario_values.specs.declared.fault.FaultCode.TheVariants.{BadPattern}
+use Rattle.scenario_values.specs.Faults.{holds, needed, only_keys, optional}
+use Rattle.scenario_values.specs.Values.{bool_in, items_in, label_or_fails, members_in, number_in, text_in, text_within}
+use Rattle.scenario_servers.proofs.Steps.{bind-ok, holds-ok, number-ok, same_Ok}
+use Rattle.scenario_filters.specs.declared.filters.FilterTexts.{FilterTexts}
+use Rattle.scenario_filters.specs.Aliases.{alias_in, aliases_in}
+use Rattle.scenario_filters.specs.Filters.{everything, filter_in, filter_keys, filters_in, list_in, no_filters}
+use Rattle.scenario_reader.specs.declared.head.Head.{Head}
+use Rattle.scenario_reader.specs.Blocks.{block_in, blocks_in, period_in}
+use Rattle.scenario_reader.specs.Scenarios.{head_in, one_in}
+use Rattle.dump_laws.proofs.Heads.{IsAlias, IsBlock}
+use Rattle.dump_laws.proofs.ReadData as got
+use Rattle.dump_laws.proofs.ReadData.{IsAt, IsFromText, Rise, each-item, each-value, got-read, items-are, members-are, optional-at, text-is, values-rise}
+use Rattle.dump_laws.proofs.ReadValues.{label-passed, short-passed, text-ok}
+
+-- ---- block periods
+
+-- what is read of members that have their labels: each has its ranges, and the labels rise
+record AreBlocks (bs : List Block) : Type 0 where
+  each : All IsBlock bs
+  rise : Rise (map (λ b. b.cluster) bs)
+
+block-has : (label : List ℕ) (d : Data) (b : Block) → IsUtf8 label → IsFromText d → block_in label d ≡ Ok b → IsBlock b
+unfolding block_in
+block-has label d b u read e =
+    let cluster = bind-ok (label_or_fails label) _ b e in
+    let seconds = bind-ok (period_in d) _ b cluster.2 in
+    subst IsBlock (same_Ok (record { cluster = cluster.0; seconds = seconds.0 }) b seconds.2)
+    (record { cluster = label-passed label cluster.0 u cluster.1; seconds = (number-ok 0 1000000000 d seconds.0 seconds.1).1 })
+
+block-own : (label : List ℕ) (d : Data) (b : Block) → block_in label d ≡ Ok b → b.cluster ≡ label
+unfolding block_in
+block-own label d b e =
+    let cluster = bind-ok (label_or_fails label) _ b e in
+    let seconds = bind-ok (period_in d) _ b cluster.2 in
+    let same : label ≡ cluster.0 = (text-ok 1 261 label cluster.0 cluster.1).same in
+    sym (ap (λ (x : Block). x.cluster) (same_Ok (record { cluster = cluster.0; seconds = seconds.0 }) b seconds.2)) ∙ sym same
+
+blocks-have : (d : Data) (bs : List Block) → IsFromText d → blocks_in d ≡ Ok bs → AreBlocks bs
+unfolding blocks_in
+blocks-have d bs read e =
+    let members = bind-ok (members_in d) _ bs e in
+    let texts = members-are d members.0 read members.1 in
+    record {
+      each = each-value IsBlock block_in block-has members.0 bs texts members.2;
+      rise = values-rise (λ (b : Block). b.cluster) block_in block-own members.0 bs texts members.2;
+    }
+
+-- ---- aliases
+
+record AreAliases (xs : List Alias) : Type 0 where
+  each : All IsAlias xs
+  rise : Rise (map (λ a. a.cluster) xs)
+
+alias-has : (label : List ℕ) (d : Data) (a : Alias) → IsUtf8 label → IsFromText d → alias_in label d ≡ Ok a → IsAlias a
+unfolding alias_in
+alias-has label d a u read e =
+    let cluster = bind-ok (label_or_fails label) _ a e in
+    let text = bind-ok (text_in d) _ a cluster.2 in
+    let alias = bind-ok (text_within 0 255 text.0) _ a text.2 in
+    let short = short-passed text.0 alias.0 (text-is d text.0 read text.1) alias.1 in
+    subst IsAlias (same_Ok (record { cluster = cluster.0; alias = alias.0 }) a alias.2)
+    (record { cluster = label-passed label cluster.0 u cluster.1; alias = short.short; text = short.text })
+
+alias-own : (label : List ℕ) (d : Data) (a : Alias) → alias_in label d ≡ Ok a → a.cluster ≡ label
+unfolding alias_in
+alias-own label d a e =
+    let cluster = bind-ok (label_or_fails label) _ a e in
+    let text = bind-ok (text_in d) _ a cluster.2 in
+    let alias = bind-ok (text_within 0 255 text.0) _ a text.2 in
+    let same : label ≡ cluster.0 = (text-ok 1 261 label cluster.0 cluster.1).same in
+    sym (ap (λ (x : Alias). x.cluster) (same_Ok (record { cluster = cluster.0; alias = alias.0 }) a alias.2)) ∙ sym same
+
+aliases-have : (d : Data) (xs : List Alias) → IsFromText d → aliases_in d ≡ Ok xs → AreAliases xs
+unfolding aliases_in
+aliases-have d xs read e =
+    let members = bind-ok (members_in d) _ xs e in
+    let texts = members-are d members.0 read members.1 in
+    record {
+      each = each-value IsAlias alias_in alias-has members.0 xs texts members.2;
+      rise = values-rise (λ (a : Alias). a.cluster) alias_in alias-own members.0 xs texts members.2;
+    }
+
+-- ---- filters
+
+pub record IsFilter (text : List ℕ) : Type 0 where
+  pub pattern : has_pattern (form_of text) ≡ true
+  pub utf8 : IsUtf8 text
+
+filter-has : (d : Data) (text : List ℕ) → IsFromText d → filter_in d ≡ Ok text → IsFilter text
+unfolding filter_in
+filter-has d text read e =
+    let t = bind-ok (text_in d) _ text e in
+    let good = bind-ok (holds BadPattern (has_pattern (form_of t.0))) _ text t.2 in
+    subst IsFilter (same_Ok t.0 text good.2) (record { pattern = holds-ok BadPattern _ good.0 good.1; utf8 = text-is d t.0 read t.1 })
+
+list-has : (d : Data) (texts : List (List ℕ)) → IsFromText d → list_in d ≡ Ok texts → All IsFilter texts
+unfolding list_in
+list-has d texts read e =
+    let items = bind-ok (items_in d) _ texts e in
+    each-item IsFilter (λ n d. filter_in d) (λ n d t u f. filter-has d t u f) 0 items.0 texts (items-are d items.0 read items.1) items.2
+
+all-filter : All IsFilter everything
+all-filter = All-cons IsFilter (codes "*") [] (record { pattern = refl; utf8 = IsUtf8-are_ascii (codes "*") refl }) (All-nil IsFilter)
+
+record AreFilters (f : FilterTexts) : Type 0 where
+  master : All IsFilter f.master
+  intermediate : All IsFilter f.intermediate
+
+filters-have : (d : Data) (f : FilterTexts) → IsFromText d → filters_in d ≡ Ok f → AreFilters f
+unfolding filters_in
+filters-have d f read e =
+    let members = bind-ok (members_in d) _ f e in
+    let keys = bind-ok (only_keys filter_keys members.0) _ f members.2 in
+    let master = bind-ok (optional (codes "master") list_in everything d) _ f keys.2 in
+    let intermediate = bind-ok (optional (codes "intermediate") list_in everything d) _ f master.2 in
+    subst AreFilters (same_Ok (record { master = master.0; intermediate = intermediate.0 }) f intermediate.2) (record {
+      master = by (codes "master") master.0 (optional-at (codes "master") list_in everything d master.0 master.1);
+      intermediate = by (codes "intermediate") intermediate.0 (optional-at (codes "intermediate") list_in everything d intermediate.0 intermediate.1);
+    })
+  where
+    by : (key : List ℕ) (texts : List (List ℕ)) → IsAt key list_in everything d texts → All IsFilter texts
+    by key texts (got.absent is) = subst (All IsFilter) (sym is) all-filter
+    by key texts (got.there v at e) = list-has v texts (got-read key d v read at) e
+
+-- ---- all of it
+
+pub record IsHead (h : Head) : Type 0 where
+  pub block : h.block ≤ 1000000000
+  pub blocks : All IsBlock h.blocks
+  pub aliases : All IsAlias h.aliases
+  pub master : All IsFilter h.filters.master
+  pub intermediate : All IsFilter h.filters.intermediate
+  pub aliases_rise : Rise (map (λ a. a.cluster) h.aliases)
+  pub blocks_rise : Rise (map (λ b. b.cluster) h.blocks)
+
+pub head-has : (d : Data) (h : Head) → IsFromText d → head_in d ≡ Ok h → IsHead h
+unfolding head_in
+head-has d h read e =
+    let version = bind-ok (needed (codes "version") one_in d) _ h e in
+    let moment = bind-ok (optional (codes "now") (number_in 0 1000000000000000) 0 d) _ h version.2 in
+    let gtid = bind-ok (optional (codes "gtid") bool_in false d) _ h moment.2 in
+    let block = bind-ok (optional (codes "block") period_in 3600 d) _ h gtid.2 in
+    let blocks = bind-ok (optional (codes "blocks") blocks_in [] d) _ h block.2 in
+    let aliases = bind-ok (optional (codes "aliases") aliases_in [] d) _ h blocks.2 in
+    let filters = bind-ok (optional (codes "filters") filters_in no_filters d) _ h aliases.2 in
+    let made : Head = record {
+      moment = moment.0;
+      gtid = gtid.0;
+      pseudo = 0;
+      nodes = 1;
+      block = block.0;
+      blocks = blocks.0;
+      aliases = aliases.0;
+      filters = filters.0;
+      hooks = no_hooks;
+    } in
+    let bs = block-list blocks.0 (optional-at (codes "blocks") blocks_in [] d blocks.0 blocks.1) in
+    let as' = alias-list aliases.0 (optional-at (codes "aliases") aliases_in [] d aliases.0 aliases.1) in
+    let fs = filter-lists filters.0 (optional-at (codes "filters") filters_in no_filters d filters.0 filters.1) in
+    subst IsHead {x = made} (same_Ok made h filters.2) (record {
+      block = period block.0 (optional-at (codes "block") period_in 3600 d block.0 block.1);
+      blocks = bs.each;
+      aliases = as'.each;
+      master = fs.master;
+      intermediate = fs.intermediate;
+      aliases_rise = as'.rise;
+      blocks_rise = bs.rise;
+    })
+  where
+    period : (n : ℕ) → IsAt (codes "block") period_in 3600 d n → n ≤ 1000000000
+    period n (got.absent is) = omega arith
+    period n (got.there v at e) = (number-ok 0 1000000000 v n e).1
+
+    block-list : (bs : List Block) → IsAt (codes "blocks") blocks_in [] d bs → AreBlocks bs
+    block-list bs (got.absent is) = subst AreBlocks (sym is) (record { each = All-nil IsBlock; rise = tt })
+    block-list bs (got.there v at e) = blocks-have v bs (got-read (codes "blocks") d v read at) e
+
+    alias-list : (xs : List Alias) → IsAt (codes "aliases") aliases_in [] d xs → AreAliases xs
+    alias-list xs (got.absent is) = subst AreAliases (sym is) (record { each = All-nil IsAlias; rise = tt })
+    alias-list xs (got.there v at e) = aliases-have v xs (got-read (codes "aliases") d v read at) e
+
+    filter-lists : (f : FilterTexts) → IsAt (codes "filters") filters_in no_filters d f → AreFilters f
+    filter-lists f (got.absent is) = subst AreFilters (sym is) (record { master = all-filter; intermediate = all-filter })
+    filter-lists f (got.there v at e) = filters-have v f (got-read (codes "filters") d v read at) e

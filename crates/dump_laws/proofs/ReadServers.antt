@@ -1,0 +1,250 @@
+-- The settings of servers that were read have texts that read back.
+use Rattle.std.proofs.Common.{◌≡◌, ◌∙◌, ◌<◌, ◌≤◌, ◌^◌, ◌+◌, ◌⊎◌, inl, inr, ℕ, zero, suc, Bool, true, false, List, [], ◌∷◌, length, Option, Some, None, Ok, IfSome, refl, sym, subst, arith}
+use Rattle.std.specs.Prelude.{◌&&◌, codes, get_or, if◌then◌else◌, nat_le, slice_get, take, unwrap_or}
+use Rattle.std.specs.List.{list_any}
+use Rattle.std.proofs.lemmas.Bool.{and_parts, leb-true}
+use Rattle.std.proofs.lemmas.Str.{IsUtf8-nil}
+use Rattle.std.proofs.lemmas.Option.{same_Some, slice_get_cases, slice_get_within}
+use Rattle.serde_json.specs.Data.{Data, Items, item, no_items}
+use Rattle.serde_json.specs.Find.{get, get_item}
+use Rattle.orch_base.specs.declared.server.ServerNo.{ServerNo}
+use Rattle.orch_base.specs.declared.server.Version.{Version}
+use Rattle.orch_base.specs.Gives.{◌>>=◌}
+use Rattle.orch_base.specs.Names.{HostPort, IsName, printed}
+use Rattle.openings.specs.declared.init.ServerInit.{ServerInit}
+use Rattle.openings.specs.Servers.{follow_on, number_of, reached_from}
+use Rattle.scenario_values.specs.declared.fault.FaultCode.TheVariants.{BadNumber, DuplicateName, DuplicateUuid}
+use Rattle.scenario_values.specs.Faults.{each_from, fails, holds, item_count, maybe, needed, only_keys, optional}
+use Rattle.scenario_values.specs.Values.{bool_in, items_in, label_in, members_in, name_in, number_in, short_in, version_in}
+use Rattle.scenario_servers.specs.declared.given.Given.{Given}
+use Rattle.scenario_servers.specs.declared.given.Identity.{Identity}
+use Rattle.scenario_servers.specs.Names.{first_named, has_uuid, is_earlier, listed_names, listed_uuids, new_uuid, own_name, own_uuid, server_named, uuid_at}
+use Rattle.scenario_servers.specs.Openings.{init_of, inits_from, inits_of, label_at, label_of, root_in, settings_of, source_in}
+use Rattle.scenario_servers.specs.Rules.{rule_in}
+use Rattle.scenario_servers.specs.Servers.{default_version, flushes_in, history_in, identity_in, listed_in, replication_in, server_from, server_in, server_keys, servers_in, setup_in}
+use Rattle.scenario_servers.proofs.ServerSteps.{named-ok}
+use Rattle.scenario_servers.proofs.Steps.{Same, bind-ok, each_from-get, each_from-length, holds-ok, maybe-ok, needed-ok, number-ok, optional-ok, same_Ok, under-ok}
+use Rattle.dump_laws.proofs.Heads.{IsLabel}
+use Rattle.dump_laws.proofs.ReadData as got
+use Rattle.dump_laws.proofs.ReadData.{IsAt, IsMaybe, IsFromText, ItemsFromText, got-read, items-are, maybe-at, optional-at}
+use Rattle.dump_laws.proofs.ReadValues.{IsShort, label-ok, name-ok, printed-label, short-ok, uuid-ok, version-ok}
+use Rattle.dump_laws.proofs.Servers.{SettingsReadBack}
+use Rattle.dump_laws.proofs.Values.{IsVersion}
+
+-- who a server is, as it was read
+pub record IsIdentity (i : Identity) : Type 0 where
+  pub name : IsName i.name
+  pub uuid : i.uuid < 2 ^ 128
+  pub some_id : 1 ≤ i.server_id
+  pub id : i.server_id ≤ 4294967295
+  pub version : IsVersion i.version
+  pub cluster : IfSome i.cluster IsLabel
+
+own-name-ok : (names : List (Option HostPort)) (n : ℕ) (d : Data) (name : HostPort) → own_name names n d ≡ Ok name → IsName name
+unfolding own_name
+own-name-ok names n d name e =
+    let read = bind-ok (name_in d) _ name e in
+    go read.0 read.1 (is_earlier n (first_named read.0 0 names)) read.2
+  where
+    go : (own : HostPort) → name_in d ≡ Ok own → (b : Bool) → Same (if b then fails DuplicateName else Ok own) (Ok name) → IsName name
+    go own read true e = cc
+    go own read false e = subst IsName (same_Ok own name e) (name-ok d own read)
+
+own-uuid-ok : (uuids : List (Option ℕ)) (n : ℕ) (d : Data) (uuid : ℕ) → n < 1000 → own_uuid uuids n d ≡ Ok uuid → uuid < 2 ^ 128
+unfolding own_uuid
+own-uuid-ok uuids n d uuid few e =
+    let inner = under-ok (codes "uuid") (uuid_at n (get (codes "uuid") d) >>= new_uuid uuids n) uuid e in
+    let read = bind-ok (uuid_at n (get (codes "uuid") d)) (new_uuid uuids n) uuid inner in
+    fresh read.0 (list_any (has_uuid read.0) (take n uuids)) (given (get (codes "uuid") d) read.0 read.1) read.2
+  where
+    given : (o : Option Data) (own : ℕ) → uuid_at n o ≡ Ok own → own < 2 ^ 128
+    given None own e = let same : n + 1 ≡ own = same_Ok (n + 1) own e in omega arith
+    given (Some v) own e = uuid-ok v own e
+
+    fresh : (own : ℕ) (b : Bool) → own < 2 ^ 128 → Same (if b then fails DuplicateUuid else Ok own) (Ok uuid) → uuid < 2 ^ 128
+    fresh own true small e = cc
+    fresh own false small e = let same : own ≡ uuid = same_Ok own uuid e in omega arith
+
+identity-has : (names : List (Option HostPort)) (uuids : List (Option ℕ)) (n : ℕ) (d : Data) (i : Identity) → n < 1000 → IsFromText d → identity_in names uuids n d ≡ Ok i → IsIdentity i
+unfolding identity_in
+identity-has names uuids n d i few read e =
+    let name = bind-ok (needed (codes "name") (own_name names n) d) _ i e in
+    let uuid = bind-ok (own_uuid uuids n d) _ i name.2 in
+    let id = bind-ok (optional (codes "server_id") (number_in 1 4294967295) (n + 1) d) _ i uuid.2 in
+    let version = bind-ok (optional (codes "version") version_in default_version d) _ i id.2 in
+    let cluster = bind-ok (maybe (codes "cluster") label_in d) _ i version.2 in
+    let found = needed-ok (codes "name") (own_name names n) d name.0 name.1 in
+    let range = ids id.0 (optional-ok (codes "server_id") (number_in 1 4294967295) (n + 1) d id.0 id.1) in
+    let made : Identity = record { name = name.0; uuid = uuid.0; server_id = id.0; version = version.0; cluster = cluster.0 } in
+    subst IsIdentity {x = made} (same_Ok made i cluster.2) (record {
+      name = own-name-ok names n found.0 name.0 found.2;
+      uuid = own-uuid-ok uuids n d uuid.0 few uuid.1;
+      some_id = range.0;
+      id = range.1;
+      version = versions version.0 (optional-ok (codes "version") version_in default_version d version.0 version.1);
+      cluster = labels cluster.0 (maybe-at (codes "cluster") label_in d cluster.0 cluster.1);
+    })
+  where
+    ids : (k : ℕ) → (k ≡ n + 1) ⊎ ((v : Data) × (number_in 1 4294967295 v ≡ Ok k)) → (1 ≤ k) × (k ≤ 4294967295)
+    ids k (inl is) = (omega arith, omega arith)
+    ids k (inr there) = number-ok 1 4294967295 there.0 k there.1
+
+    versions : (v : Version) → (v ≡ default_version) ⊎ ((x : Data) × (version_in x ≡ Ok v)) → IsVersion v
+    versions v (inl is) = subst IsVersion (sym is) (record { major = omega arith; minor = omega arith; patch = omega arith })
+    versions v (inr there) = version-ok there.0 v there.1
+
+    labels : (o : Option (List ℕ)) → IsMaybe (codes "cluster") label_in d o → IfSome o IsLabel
+    labels o (got.none is) = subst (λ p. IfSome p IsLabel) (sym is) tt
+    labels o (got.some v x at is e) = subst (λ p. IfSome p IsLabel) (sym is) (label-ok v x (got-read (codes "cluster") d v read at) e)
+
+-- one of so many servers that were read
+pub record WasRead (count : ℕ) (g : Given) : Type 0 where
+  pub identity : IsIdentity g.identity
+  pub dc : IsShort g.dc
+  pub source : (m : ServerNo) → g.source ≡ Some m → m.0 < count
+
+server-has : (gtid : Bool) (names : List (Option HostPort)) (uuids : List (Option ℕ)) (n : ℕ) (d : Data) (g : Given) → n < 1000 → IsFromText d → server_in gtid names uuids n d ≡ Ok g → WasRead (length names) g
+unfolding server_in server_from
+server-has gtid names uuids n d g small read e =
+    let ms = bind-ok (members_in d) _ g e in
+    let keys = bind-ok (only_keys (server_keys d) ms.0) _ g ms.2 in
+    let identity = bind-ok (identity_in names uuids n d) _ g keys.2 in
+    let setup = bind-ok (setup_in d) _ g identity.2 in
+    let known = bind-ok (optional (codes "known") bool_in true d) _ g setup.2 in
+    let rule = bind-ok (maybe (codes "rule") rule_in d) _ g known.2 in
+    let history = bind-ok (maybe (codes "history") (history_in names) d) _ g rule.2 in
+    let source = bind-ok (maybe (codes "source") (server_named names) d) _ g history.2 in
+    let replication = bind-ok (replication_in gtid d) _ g source.2 in
+    let flushes = bind-ok (optional (codes "flushes") flushes_in [] d) _ g replication.2 in
+    let purged = bind-ok (optional (codes "purged") (number_in 1 4294967295) 1 d) _ g flushes.2 in
+    let dc = bind-ok (optional (codes "dc") short_in [] d) _ g purged.2 in
+    let made : Given = record {
+      identity = identity.0;
+      setup = setup.0;
+      known = known.0;
+      rule = rule.0;
+      history = history.0;
+      source = source.0;
+      replication = replication.0;
+      flushes = flushes.0;
+      purged = purged.0;
+      dc = dc.0;
+    } in
+    subst (WasRead (length names)) {x = made} (same_Ok made g dc.2) (record {
+      identity = identity-has names uuids n d identity.0 small read identity.1;
+      dc = shorts dc.0 (optional-at (codes "dc") short_in [] d dc.0 dc.1);
+      source = λ m is. sources source.0 m is (maybe-ok (codes "source") (server_named names) d source.0 source.1);
+    })
+  where
+    shorts : (text : List ℕ) → IsAt (codes "dc") short_in [] d text → IsShort text
+    shorts text (got.absent is) = subst IsShort (sym is) (record { short = omega arith; text = IsUtf8-nil })
+    shorts text (got.there v at e) = short-ok v text (got-read (codes "dc") d v read at) e
+
+    sources : (o : Option ServerNo) (m : ServerNo) → o ≡ Some m → (get (codes "source") d ≡ None) × (o ≡ None) ⊎ ((v : Data) × (x : ServerNo) × (o ≡ Some x) × (server_named names v ≡ Ok x)) → m.0 < length names
+    sources o m is (inl none) = let both : None ≡ Some m = sym none.1 ∙ is in cc
+    sources o m is (inr there) = subst (λ (x : ServerNo). x.0 < length names) (same_Some there.1 m (sym there.2 ∙ is)) (named-ok names there.0 there.1 there.3)
+
+-- ---- labels
+
+abbrev pub AreRead : List Given → Type 0
+AreRead gs = (n : ℕ) (g : Given) → slice_get gs n ≡ Some g → WasRead (length gs) g
+
+module _ (gs : List Given) (read : AreRead gs) where
+  source-below : (o : Option Given) (n m : ℕ) → slice_get gs n ≡ o → source_in o ≡ Some m → m < length gs
+  source-below None n m at from = cc
+  source-below (Some g) n m at from = go g.source refl from
+    where
+      go : (o : Option ServerNo) → g.source ≡ o → number_of o ≡ Some m → m < length gs
+      go None is from = cc
+      go (Some x) is from = let same = same_Some x.0 m from in let below = (read n g at).source x is in omega arith
+
+  reached-below : (steps n : ℕ) → n < length gs → reached_from (λ m. source_in (slice_get gs m)) steps n < length gs
+  reached-below zero n less = less
+  reached-below (suc steps) n less = go (source_in (slice_get gs n)) refl (λ m. reached-below steps m)
+    where
+      go : (o : Option ℕ) → source_in (slice_get gs n) ≡ o → ((m : ℕ) → m < length gs → reached_from (λ m. source_in (slice_get gs m)) steps m < length gs)
+          → follow_on (λ m. reached_from (λ m. source_in (slice_get gs m)) steps m) n o < length gs
+      go None is more = less
+      go (Some m) is more = more m (source-below (slice_get gs n) n m refl is)
+
+  own-label-is : (g : Given) → IsIdentity g.identity → (o : Option (List ℕ)) → IfSome o IsLabel → IsLabel (unwrap_or o (printed g.identity.name))
+  own-label-is g is None cluster = printed-label g.identity.name is.name
+  own-label-is g is (Some label) cluster = cluster
+
+  root-label : (n : ℕ) → n < length gs → IsLabel (label_at (slice_get gs (root_in gs n)))
+  root-label n less = go (slice_get gs (root_in gs n)) refl
+    where
+      go : (o : Option Given) → slice_get gs (root_in gs n) ≡ o → IsLabel (label_at o)
+      go None none =
+          let below = reached-below (length gs) n less in
+          let found = slice_get_cases gs (root_in gs n) in
+          absurd (past found.1)
+        where
+          past : ((x : Given) × (root_in gs n < length gs) × (slice_get gs (root_in gs n) ≡ Some x) × (get_or gs (root_in gs n) x ≡ x)) ⊎ ((length gs ≤ root_in gs n) × (slice_get gs (root_in gs n) ≡ None)) → ⊥
+          past (inl there) = let never : None ≡ Some there.0 = sym none ∙ there.2 in cc
+          past (inr out) = let most = out.0 in let below = reached-below (length gs) n less in omega arith
+      go (Some g) at = let is = (read (root_in gs n) g at).identity in own-label-is g is g.identity.cluster is.cluster
+
+  label-is : (n : ℕ) (g : Given) → slice_get gs n ≡ Some g → (o : Option (List ℕ)) → IfSome o IsLabel → IsLabel (unwrap_or o (label_at (slice_get gs (root_in gs n))))
+  label-is n g at None cluster = root-label n (slice_get_within gs n g at)
+  label-is n g at (Some label) cluster = cluster
+
+  settings-are : (n : ℕ) (g : Given) → slice_get gs n ≡ Some g → SettingsReadBack (settings_of (label_of gs n g) g)
+  settings-are n g at =
+      let was = read n g at in
+      let is = was.identity in
+      let label = label-is n g at g.identity.cluster is.cluster in
+      record {
+        name = is.name;
+        uuid = is.uuid;
+        some_id = is.some_id;
+        id = is.id;
+        version = is.version;
+        some_label = label.some;
+        label = label.short;
+        dc = was.dc.short;
+        cluster_text = label.text;
+        dc_text = was.dc.text;
+      }
+
+  inits-are : (n : ℕ) (xs : List Given) → ((k : ℕ) (g : Given) → slice_get xs k ≡ Some g → slice_get gs (n + k) ≡ Some g) → (k : ℕ) (i : ServerInit) → slice_get (inits_from gs n xs) k ≡ Some i → SettingsReadBack i.settings
+  inits-are n [] stand k i at = absurd (cc)
+  inits-are n (g ∷ xs) stand zero i at =
+      let here : n + 0 ≡ n = omega arith in
+      subst (λ (j : ServerInit). SettingsReadBack j.settings) (same_Some (init_of gs n g) i at) (settings-are n g (subst (λ k. slice_get gs k ≡ Some g) here (stand zero g refl)))
+  inits-are n (g ∷ xs) stand (suc k) i at =
+      inits-are (n + 1) xs (λ j x e. let next : n + suc j ≡ n + 1 + j = omega arith in subst (λ m. slice_get gs m ≡ Some x) next (stand (suc j) x e)) k i at
+
+  pub each-init : (k : ℕ) (i : ServerInit) → slice_get (inits_of gs) k ≡ Some i → SettingsReadBack i.settings
+  each-init = inits-are 0 gs (λ k g e. let same : k ≡ 0 + k = omega arith in subst (λ m. slice_get gs m ≡ Some g) same e)
+
+-- ---- all servers
+
+length-listed_names : (ds : Items) → length (listed_names ds) ≡ item_count ds
+length-listed_names no_items = refl
+length-listed_names (item d ds) = let more = length-listed_names ds in omega arith
+
+item-read : (ds : Items) (n : ℕ) (d : Data) → ItemsFromText ds → get_item n ds ≡ Some d → IsFromText d
+item-read no_items n d all at = absurd (cc)
+item-read (item x ds) zero d all at = subst IsFromText (same_Some x d at) all.0
+item-read (item x ds) (suc n) d all at = item-read ds n d all.1 at
+
+pub servers-have : (gtid : Bool) (d : Data) (given : List (Option HostPort) × List Given) → IsFromText d → servers_in gtid d ≡ Ok given → (k : ℕ) (i : ServerInit) → slice_get (inits_of given.1) k ≡ Some i → SettingsReadBack i.settings
+unfolding servers_in listed_in
+servers-have gtid d given texts e =
+    let listed = bind-ok (listed_in d) _ given e in
+    let items = bind-ok (items_in d) _ listed.0 listed.1 in
+    let some = bind-ok (holds BadNumber (nat_le 1 (item_count items.0) && nat_le (item_count items.0) 1000)) _ listed.0 items.2 in
+    let few = leb-true (item_count items.0) 1000 (and_parts (nat_le 1 (item_count items.0)) (nat_le (item_count items.0) 1000) (holds-ok BadNumber _ some.0 some.1)).1 in
+    let own : items.0 ≡ listed.0 = same_Ok items.0 listed.0 some.2 in
+    let short : item_count listed.0 ≤ 1000 = subst (λ ds. item_count ds ≤ 1000) own few in
+    let servers = bind-ok (each_from (server_in gtid (listed_names listed.0) (listed_uuids 0 listed.0)) 0 listed.0) _ given listed.2 in
+    let is : (listed_names listed.0, servers.0) ≡ given = same_Ok (listed_names listed.0, servers.0) given servers.2 in
+    let names = length-listed_names listed.0 in
+    let count = each_from-length _ 0 listed.0 servers.0 servers.1 in
+    let same : length (listed_names listed.0) ≡ length servers.0 = omega arith in
+    let read : AreRead servers.0 = λ n g at.
+    let within = slice_get_within servers.0 n g at in
+    let found = each_from-get _ 0 listed.0 servers.0 servers.1 n g at in
+    subst (λ m. WasRead m g) same (server-has gtid (listed_names listed.0) (listed_uuids 0 listed.0) (0 + n) found.0 g (omega arith) (item-read listed.0 n found.0 (subst ItemsFromText own (items-are d items.0 texts items.1)) found.1) found.2) in
+    subst (λ (p : List (Option HostPort) × List Given). (k : ℕ) (i : ServerInit) → slice_get (inits_of p.1) k ≡ Some i → SettingsReadBack i.settings) is (each-init servers.0 read)

@@ -1,0 +1,132 @@
+-- Texts that stand in quotes as they are.
+use Rattle.std.proofs.Common.{◌≡◌, ◌∙◌, ◌==◌, ℕ, zero, suc, ◌+◌, ◌/◌, ◌%◌, ◌<◌, Bool, true, false, cond, ◌&&◌, ◌∷◌, List, [], ◌++◌, length, drop, sym, ap, ap₂, subst, refl, arith, append_assoc, decimal}
+use Rattle.std.specs.Prelude.{codes, if◌then◌else◌}
+use Rattle.std.specs.Fmt.{digits, digits_onto, digit_glyph}
+use Rattle.std.specs.Int.{to_be_bytes, w128}
+use Rattle.std.specs.List.{list_all}
+use Rattle.std.proofs.lemmas.Bool.{false≢true}
+use Rattle.std.proofs.lemmas.Grind.{common_steps}
+use Rattle.std.proofs.Math.Seq.{drop-nil}
+use Rattle.json.specs.Print.{escape, escape_byte}
+use Rattle.json.proofs.Printed.Strings.{escape_byte_plain}
+use Rattle.binlog_coords.specs.declared.Coord.{Coord}
+use Rattle.binlog_coords.specs.Text.{coord_text, six_digits}
+use Rattle.gtid_sets.specs.Printed.{uuid_text}
+use Rattle.orch_base.specs.Names.{HostPort, IsName, is_host_byte, printed}
+use Rattle.orch_base.specs.declared.server.Version.{Version}
+use Rattle.uuid.specs.Text.{by_index, digit_place, hex_digit, is_hyphen_place, lower, nibble}
+use Rattle.uuid.proofs.TextLemmas.{nibble_small}
+use Rattle.scenario_dump.specs.Texts.{version_text}
+
+escape-append : (a b : List ℕ) → escape (a ++ b) ≡ escape a ++ escape b
+escape-append [] b = refl
+escape-append (x ∷ xs) b = ap (λ (v : List ℕ). escape_byte x ++ v) (escape-append xs b) ∙ sym (append_assoc (escape_byte x) (escape xs) (escape b))
+
+-- both parts stand as they are
+escape-both : (a b : List ℕ) → escape a ≡ a → escape b ≡ b → escape (a ++ b) ≡ a ++ b
+escape-both a b first second = escape-append a b ∙ ap₂ (λ (v w : List ℕ). v ++ w) first second
+
+-- ---- decimals
+
+plain_glyph : (n : ℕ) → escape_byte (digit_glyph false (n % 10)) ≡ digit_glyph false (n % 10) ∷ []
+plain_glyph n =
+    let same : digit_glyph false (n % 10) ≡ 48 + n % 10 = grind (arith, common_steps) in
+    rw same (escape_byte_plain (48 + n % 10) (λ e. omega arith) (λ e. omega arith) (omega arith))
+
+escape-either : (b : Bool) (x y : List ℕ) → escape x ≡ x → escape y ≡ y → escape (cond b x y) ≡ cond b x y
+escape-either true x y same same' = same
+escape-either false x y same same' = same'
+
+escape-glyph : (n : ℕ) (acc : List ℕ) → escape acc ≡ acc → escape (digit_glyph false (n % 10) ∷ acc) ≡ digit_glyph false (n % 10) ∷ acc
+escape-glyph n acc same = ap (λ (v : List ℕ). v ++ escape acc) (plain_glyph n) ∙ ap (λ (v : List ℕ). digit_glyph false (n % 10) ∷ v) same
+
+escape-onto : (k n : ℕ) (acc : List ℕ) → escape acc ≡ acc → escape (digits_onto k 10 false n acc) ≡ digits_onto k 10 false n acc
+escape-onto zero n acc same = same
+escape-onto (suc k) n acc same =
+    let last = escape-glyph n acc same in
+    escape-either (n / 10 == 0) (digit_glyph false (n % 10) ∷ acc) (digits_onto k 10 false (n / 10) (digit_glyph false (n % 10) ∷ acc)) last (escape-onto k (n / 10) (digit_glyph false (n % 10) ∷ acc) last)
+
+escape-decimal : (n : ℕ) → escape (decimal n) ≡ decimal n
+unfolding digits
+escape-decimal n = escape-onto 64 n [] refl
+
+-- ---- coordinates, names, UUIDs and versions
+
+escape-zeros : (k : ℕ) → escape (drop k (codes "000000")) ≡ drop k (codes "000000")
+unfolding escape_byte
+escape-zeros zero = refl
+escape-zeros (suc zero) = refl
+escape-zeros (suc (suc zero)) = refl
+escape-zeros (suc (suc (suc zero))) = refl
+escape-zeros (suc (suc (suc (suc zero)))) = refl
+escape-zeros (suc (suc (suc (suc (suc zero))))) = refl
+escape-zeros (suc (suc (suc (suc (suc (suc k)))))) = rw (drop-nil k)
+
+pub escape-coord_text : (c : Coord) → escape (coord_text c) ≡ coord_text c
+unfolding escape_byte
+escape-coord_text c =
+    escape-both (codes "mysql-bin." ++ six_digits c.file ++ codes ":") (decimal c.pos)
+    (escape-both (codes "mysql-bin." ++ six_digits c.file) (codes ":")
+    (escape-both (codes "mysql-bin.") (six_digits c.file) refl (escape-both (drop (length (decimal c.file)) (codes "000000")) (decimal c.file) (escape-zeros (length (decimal c.file))) (escape-decimal c.file))) refl)
+    (escape-decimal c.pos)
+
+plain_host : (b : ℕ) → is_host_byte b ≡ true → escape_byte b ≡ b ∷ []
+plain_host b is =
+    escape_byte_plain b (λ e. absurd (false≢true (subst (λ (x : ℕ). is_host_byte x ≡ true) e is)))
+    (λ e. absurd (false≢true (subst (λ (x : ℕ). is_host_byte x ≡ true) e is))) (grind (arith, common_steps, is))
+
+both : (a b : Bool) → (a && b) ≡ true → (a ≡ true) × (b ≡ true)
+both true b e = (refl, e)
+both false b e = absurd (false≢true e)
+
+escape-host : (host : List ℕ) → list_all is_host_byte host ≡ true → escape host ≡ host
+escape-host [] all = refl
+escape-host (b ∷ host) all = let p = both (is_host_byte b) (list_all is_host_byte host) all in ap₂ (λ (v w : List ℕ). v ++ w) (plain_host b p.0) (escape-host host p.1)
+
+pub escape-printed : (name : HostPort) → IsName name → escape (printed name) ≡ printed name
+unfolding escape_byte
+escape-printed name is = escape-both name.host (58 ∷ decimal name.port) (escape-host name.host is.bytes) (escape-both (58 ∷ []) (decimal name.port) refl (escape-decimal name.port))
+
+plain_digit : (d : ℕ) → d < 16 → escape_byte (hex_digit lower d) ≡ hex_digit lower d ∷ []
+unfolding escape_byte
+plain_digit zero small = refl
+plain_digit (suc zero) small = refl
+plain_digit (suc (suc zero)) small = refl
+plain_digit (suc (suc (suc zero))) small = refl
+plain_digit (suc (suc (suc (suc zero)))) small = refl
+plain_digit (suc (suc (suc (suc (suc zero))))) small = refl
+plain_digit (suc (suc (suc (suc (suc (suc zero)))))) small = refl
+plain_digit (suc (suc (suc (suc (suc (suc (suc zero))))))) small = refl
+plain_digit (suc (suc (suc (suc (suc (suc (suc (suc zero)))))))) small = refl
+plain_digit (suc (suc (suc (suc (suc (suc (suc (suc (suc zero))))))))) small = refl
+plain_digit (suc (suc (suc (suc (suc (suc (suc (suc (suc (suc zero)))))))))) small = refl
+plain_digit (suc (suc (suc (suc (suc (suc (suc (suc (suc (suc (suc zero))))))))))) small = refl
+plain_digit (suc (suc (suc (suc (suc (suc (suc (suc (suc (suc (suc (suc zero)))))))))))) small = refl
+plain_digit (suc (suc (suc (suc (suc (suc (suc (suc (suc (suc (suc (suc (suc zero))))))))))))) small = refl
+plain_digit (suc (suc (suc (suc (suc (suc (suc (suc (suc (suc (suc (suc (suc (suc zero)))))))))))))) small = refl
+plain_digit (suc (suc (suc (suc (suc (suc (suc (suc (suc (suc (suc (suc (suc (suc (suc zero))))))))))))))) small = refl
+plain_digit (suc (suc (suc (suc (suc (suc (suc (suc (suc (suc (suc (suc (suc (suc (suc (suc d)))))))))))))))) small = absurd (omega arith)
+
+escape-by_index : (n : ℕ) (f : ℕ → ℕ) → ((k : ℕ) → escape_byte (f k) ≡ f k ∷ []) → escape (by_index n f) ≡ by_index n f
+unfolding by_index
+escape-by_index zero f each = refl
+escape-by_index (suc n) f each = escape-both (by_index n f) (f n ∷ []) (escape-by_index n f each) (ap (λ (v : List ℕ). v ++ []) (each n))
+
+plain_or : (b : Bool) (x : ℕ) → escape_byte x ≡ x ∷ [] → escape_byte (if b then 45 else x) ≡ (if b then 45 else x) ∷ []
+unfolding escape_byte
+plain_or true x same = refl
+plain_or false x same = same
+
+pub escape-uuid_text : (uuid : ℕ) → escape (uuid_text uuid) ≡ uuid_text uuid
+escape-uuid_text uuid =
+    let bytes = to_be_bytes w128 uuid in
+    escape-by_index 36 (λ k. if is_hyphen_place k then 45 else hex_digit lower (nibble bytes (digit_place k)))
+    (λ k. plain_or (is_hyphen_place k) (hex_digit lower (nibble bytes (digit_place k))) (plain_digit (nibble bytes (digit_place k)) (nibble_small bytes (digit_place k))))
+
+pub escape-version_text : (v : Version) → escape (version_text v) ≡ version_text v
+unfolding escape_byte
+escape-version_text v =
+    escape-both (decimal v.major ++ codes "." ++ decimal v.minor ++ codes ".") (decimal v.patch)
+    (escape-both (decimal v.major ++ codes "." ++ decimal v.minor) (codes ".")
+    (escape-both (decimal v.major ++ codes ".") (decimal v.minor) (escape-both (decimal v.major) (codes ".") (escape-decimal v.major) refl) (escape-decimal v.minor)) refl)
+    (escape-decimal v.patch)

@@ -1,0 +1,31 @@
+-- The whole text, part by part.
+use Rattle.std.proofs.Common.{◌≡◌, ℕ, ◌∷◌, List, [], ◌++◌, append_assoc, decimal}
+use Rattle.std.specs.Fmt.{digits}
+use Rattle.std.specs.Prelude.{codes}
+use Rattle.json.specs.Print.{escape_byte}
+use Rattle.serde_json.specs.Data.{object, string}
+use Rattle.serde_json.specs.Written.{compact_text}
+use Rattle.scenarios.specs.declared.scenario.Scenario.{Scenario}
+use Rattle.server_model.specs.Worlds.{World}
+use Rattle.scenario_dump.specs.Parts.{flag_text, servers_text}
+use Rattle.scenario_dump.specs.Texts.{aliases_data, blocks_data, dump_data, dump_text, list_data}
+use Rattle.scenario_dump.proofs.Printed.{joined}
+
+abbrev pub whole_parts : World → Scenario → ℕ → List (List ℕ)
+whole_parts w s now =
+    codes "{\"aliases\":" ∷ compact_text (object (aliases_data s.aliases)) ∷ (codes ",\"block\":" ++ decimal s.block) ∷ codes ",\"blocks\":" ∷ compact_text (object (blocks_data s.blocks))
+    ∷ codes ",\"filters\":{\"intermediate\":" ∷ compact_text (list_data string s.filters.intermediate.texts) ∷ codes ",\"master\":" ∷ compact_text (list_data string s.filters.master.texts)
+    ∷ (codes "},\"gtid\":" ++ flag_text w.gtid) ∷ (codes ",\"now\":" ++ decimal now) ∷ codes ",\"servers\":" ∷ servers_text w ∷ codes ",\"turns\":[],\"version\":1}\n" ∷ []
+
+whole_shape : (a b p i m g n s : List ℕ)
+    → codes "{\"aliases\":" ++ (a ++ (codes ",\"block\":" ++ (b ++ (codes ",\"blocks\":" ++ (p ++ (codes ",\"filters\":" ++ ((codes "{\"intermediate\":" ++ (i ++ (codes ",\"master\":" ++ (m ++ codes "}"))))
+    ++ (codes ",\"gtid\":" ++ (g ++ (codes ",\"now\":" ++ (n ++ (codes ",\"servers\":" ++ (s ++ codes ",\"turns\":[],\"version\":1}"))))))))))))) ++ codes "\n"
+    ≡ codes "{\"aliases\":" ++ (a ++ ((codes ",\"block\":" ++ b) ++ (codes ",\"blocks\":" ++ (p ++ (codes ",\"filters\":{\"intermediate\":" ++ (i ++ (codes ",\"master\":" ++ (m ++ ((codes "},\"gtid\":" ++ g)
+    ++ ((codes ",\"now\":" ++ n) ++ (codes ",\"servers\":" ++ (s ++ codes ",\"turns\":[],\"version\":1}\n"))))))))))))
+whole_shape a b p i m g n s = simp append_assoc
+
+pub whole_text : (w : World) (s : Scenario) (now : ℕ) → dump_text w s now ≡ joined (whole_parts w s now)
+unfolding dump_text dump_data escape_byte digits
+whole_text w s now =
+    whole_shape (compact_text (object (aliases_data s.aliases))) (decimal s.block) (compact_text (object (blocks_data s.blocks))) (compact_text (list_data string s.filters.intermediate.texts)) (compact_text (list_data string s.filters.master.texts)) (flag_text w.gtid) (decimal now)
+    (servers_text w)

@@ -1,0 +1,11 @@
+use Rattle.std.proofs.Common.{[], ◌∷◌}
+use Rattle.orch_base.specs.Names.{printed}
+use Rattle.scenario_dump.proofs.Printed.{appended, in_quotes, map_ok}
+use Rattle.scenario_dump.proofs.Quotes.{escape-printed}
+use Rattle.scenario_dump.proofs.values.print_name.Goals as goal
+
+pub returns : goal.returns
+returns c =
+    map_ok c.extend_from_slice-3.result
+    (in_quotes c.args.out.now.items _ _ _ _ c.args.before.now (printed c.args.name.now) (escape-printed c.args.name.now c.in_ok-print.ensures.name) c.in_ok-extend_from_slice.ensures.items c.in_ok-extend_from_slice-2.ensures.items c.in_ok-print.ensures.ok)
+    (appended c.extend_from_slice-3.result c.extend_from_slice-3.new.self.items c.print.new.out.items (34 ∷ []) c.extend_from_slice-3.ensures.items)

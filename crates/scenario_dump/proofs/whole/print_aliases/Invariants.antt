@@ -1,0 +1,9 @@
+use Rattle.std.proofs.Common.{◌≡◌, ◌++◌, drop}
+use Rattle.std.specs.Prelude.{nat_lt}
+use Rattle.serde_json.specs.Data.{object}
+use Rattle.serde_json.specs.Written.{compact_text, members_text}
+use Rattle.scenario_dump.specs.Texts.{aliases_data}
+use Rattle.scenario_dump.proofs.whole.print_aliases.Given as goal
+
+abbrev pub invariant-loop-n : goal.invariant-loop-n
+invariant-loop-n l = l.out.items ++ members_text (nat_lt 0 l.n) (aliases_data (drop l.n l.fn.aliases)) ≡ l.fn.out.items ++ compact_text (object (aliases_data l.fn.aliases))

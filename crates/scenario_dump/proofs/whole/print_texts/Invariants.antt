@@ -1,0 +1,9 @@
+use Rattle.std.proofs.Common.{◌≡◌, ◌++◌, drop}
+use Rattle.std.specs.Prelude.{map, nat_lt, string_bytes}
+use Rattle.serde_json.specs.Data.{string}
+use Rattle.serde_json.specs.Written.{compact_text, items_text}
+use Rattle.scenario_dump.specs.Texts.{items_of, list_data}
+use Rattle.scenario_dump.proofs.whole.print_texts.Given as goal
+
+abbrev pub invariant-loop-n : goal.invariant-loop-n
+invariant-loop-n l = l.out.items ++ items_text (nat_lt 0 l.n) (items_of string (drop l.n (map string_bytes l.fn.texts))) ≡ l.fn.out.items ++ compact_text (list_data string (map string_bytes l.fn.texts))

@@ -1,0 +1,9 @@
+pub mod Files
+pub mod Histories
+pub mod Servers
+pub mod Texts
+pub mod Tidy
+pub mod Parts
+pub mod Reading
+pub mod Promises
+pub mod Small

@@ -1,0 +1,40 @@
+//! Laws of the text.
+
+ghost use Rattle.std.specs.Prelude.{◌≡◌, ℕ, ◌++◌, Some, codes, true};
+ghost use Rattle.std.specs.Str.{is_utf8};
+ghost use Rattle.serde_json.specs.Read.{read};
+ghost use Rattle.scenarios.specs.declared.scenario.Scenario.{Scenario};
+ghost use Rattle.server_model.specs.Worlds.{World};
+ghost use Rattle.scenario_dump.specs.Promises.{HasTexts, IsReadable};
+ghost use Rattle.scenario_dump.specs.Small.{named_scenario, one_server, plain_scenario, two_servers};
+ghost use Rattle.scenario_dump.specs.Texts.{dump_data, dump_text};
+
+/// The text is JSON, and reads as the value of the world. Where its texts are UTF-8 so is the whole.
+pub fn dumps_read_as_json()
+    ensures read { (w : World) (s : Scenario) (now : ℕ) → IsReadable w s now
+        → read (dump_text w s now) ≡ Some (dump_data w s now) }
+    ensures utf8 { (w : World) (s : Scenario) (now : ℕ) → HasTexts w s
+        → is_utf8 (dump_text w s now) ≡ true }
+{}
+
+/// Small worlds in full.
+#[rattlefmt::skip]
+pub fn small_dumps_are_known()
+    ensures one { dump_text one_server plain_scenario 0
+        ≡ codes "{\"aliases\":{},\"block\":3600,\"blocks\":{},\"filters\":{\"intermediate\":[\"*\"],\"master\":[\"*\"]},\"gtid\":false,\"now\":0,"
+        ++ codes "\"servers\":[{\"cluster\":\"m:3306\",\"dc\":\"\",\"desk\":true,\"feed\":true,\"flushes\":[],\"history\":[],\"limit\":1073741824,"
+        ++ codes "\"logs\":true,\"name\":\"m:3306\",\"purged\":1,\"read_only\":false,\"server_id\":1,\"up\":true,"
+        ++ codes "\"uuid\":\"00000000-0000-0000-0000-000000000001\",\"version\":\"8.0.36\"}],\"turns\":[],\"version\":1}\n" }
+    ensures two { dump_text two_servers named_scenario 7
+        ≡ codes "{\"aliases\":{\"m:3306\":\"a \\\"b\\\"\"},\"block\":3600,\"blocks\":{\"m:3306\":60},\"filters\":{\"intermediate\":[\"*\"],\"master\":[\"*\"]},"
+        ++ codes "\"gtid\":false,\"now\":7,"
+        ++ codes "\"servers\":[{\"cluster\":\"m:3306\",\"dc\":\"\",\"desk\":true,\"feed\":true,\"flushes\":[1,3],"
+        ++ codes "\"history\":[[\"m:3306\",100,2],[\"m:3306\",200,1]],\"limit\":250,"
+        ++ codes "\"logs\":true,\"name\":\"m:3306\",\"purged\":1,\"read_only\":false,\"server_id\":1,\"up\":true,"
+        ++ codes "\"uuid\":\"00000000-0000-0000-0000-000000000001\",\"version\":\"8.0.36\"},"
+        ++ codes "{\"at\":\"mysql-bin.000002:104\",\"auto\":false,\"cluster\":\"m:3306\",\"dc\":\"east\",\"desk\":false,\"detached\":true,"
+        ++ codes "\"executed\":2,\"feed\":true,\"flushes\":[],\"io\":false,\"limit\":100,\"logs\":false,\"name\":\"r:3306\",\"purged\":1,"
+        ++ codes "\"read\":\"mysql-bin.000002:304\",\"read_only\":true,\"server_id\":2,\"source\":\"m:3306\",\"sql\":false,"
+        ++ codes "\"until\":\"mysql-bin.000003:4\",\"up\":true,"
+        ++ codes "\"uuid\":\"00000000-0000-0000-0000-000000000002\",\"version\":\"8.0.36\"}],\"turns\":[],\"version\":1}\n" }
+{}

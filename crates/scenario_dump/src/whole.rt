@@ -1,0 +1,89 @@
+//! The whole text.
+
+ghost use Rattle.std.specs.Prelude.{◌≡◌, ◌++◌, IfOk, OnOk, map, string_bytes};
+ghost use Rattle.serde_json.specs.Data.{object, string};
+ghost use Rattle.serde_json.specs.Written.{compact_text};
+ghost use Rattle.scenario_dump.specs.Parts.{servers_text};
+ghost use Rattle.scenario_dump.specs.Texts.{aliases_data, blocks_data, dump_text, list_data};
+
+use crate::server::print_server;
+use crate::values::{comma, print_flag, print_number, print_text};
+use orch_base::{Memory, Moment, ServerNo};
+use scenarios::{Alias, Block, Scenario};
+use server_model::World;
+use std::alloc::Global;
+
+fn print_aliases(alloc: Global, aliases: &[Alias], out: &mut Vec<u8>) -> Result<(), Memory>
+    ensures { OnOk result
+        (out.new.items ≡ out.old.items ++ compact_text (object (aliases_data aliases.now))) }
+{
+    out.extend_from_slice(b"{")?;
+    for (n, alias) in aliases.iter().enumerate() {
+        print_text(alloc, comma(n > 0), alias.cluster.as_str(), out)?;
+        print_text(alloc, b":", alias.alias.as_str(), out)?;
+    }
+    out.extend_from_slice(b"}")
+}
+
+fn print_blocks(alloc: Global, blocks: &[Block], out: &mut Vec<u8>) -> Result<(), Memory>
+    ensures { OnOk result
+        (out.new.items ≡ out.old.items ++ compact_text (object (blocks_data blocks.now))) }
+{
+    out.extend_from_slice(b"{")?;
+    for (n, block) in blocks.iter().enumerate() {
+        print_text(alloc, comma(n > 0), block.cluster.as_str(), out)?;
+        print_number(b":", block.seconds, out)?;
+    }
+    out.extend_from_slice(b"}")
+}
+
+fn print_texts(alloc: Global, texts: &[String], out: &mut Vec<u8>) -> Result<(), Memory>
+    ensures { OnOk result (out.new.items
+        ≡ out.old.items ++ compact_text (list_data string (map string_bytes texts.now))) }
+{
+    out.extend_from_slice(b"[")?;
+    for (n, text) in texts.iter().enumerate() {
+        print_text(alloc, comma(n > 0), text.as_str(), out)?;
+    }
+    out.extend_from_slice(b"]")
+}
+
+fn print_servers(alloc: Global, world: &World, out: &mut Vec<u8>) -> Result<(), Memory>
+    ensures { OnOk result (out.new.items ≡ out.old.items ++ servers_text world.now) }
+{
+    out.extend_from_slice(b"[")?;
+    for no in 0..world.servers() {
+        out.extend_from_slice(comma(no > 0))?;
+        print_server(alloc, world, ServerNo(no), out)?;
+    }
+    out.extend_from_slice(b"]")
+}
+
+/// The world as a scenario's text without turns, which begins at this moment: its servers as they stand, and what the
+/// scenario says beside its servers and turns. It is one line of compact JSON. `Memory` comes only for want of memory;
+/// beside the text it takes none.
+pub fn dump(
+    alloc: Global,
+    world: &World,
+    scenario: &Scenario,
+    now: Moment,
+) -> Result<Vec<u8>, Memory>
+    ensures { IfOk result (λ v. v.items ≡ dump_text world.now scenario.now now.0) }
+{
+    let filters = &scenario.filters;
+    let mut out = Vec::from_slice(alloc, b"{\"aliases\":")?;
+    print_aliases(alloc, scenario.aliases.as_slice(), &mut out)?;
+    print_number(b",\"block\":", scenario.block, &mut out)?;
+    out.extend_from_slice(b",\"blocks\":")?;
+    print_blocks(alloc, scenario.blocks.as_slice(), &mut out)?;
+    out.extend_from_slice(b",\"filters\":{\"intermediate\":")?;
+    print_texts(alloc, filters.intermediate.texts.as_slice(), &mut out)?;
+    out.extend_from_slice(b",\"master\":")?;
+    print_texts(alloc, filters.master.texts.as_slice(), &mut out)?;
+    print_flag(b"},\"gtid\":", world.gtid(), &mut out)?;
+    print_number(b",\"now\":", now.0, &mut out)?;
+    out.extend_from_slice(b",\"servers\":")?;
+    print_servers(alloc, world, &mut out)?;
+    out.extend_from_slice(b",\"turns\":[],\"version\":1}\n")?;
+    Ok(out)
+}

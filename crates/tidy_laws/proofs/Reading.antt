@@ -1,0 +1,164 @@
+-- In a scenario that was read each coordinate up to which an applier is to go can be printed.
+use Rattle.std.proofs.Common.{◌≡◌, ℕ, ◌+◌, ◌<◌, ◌≤◌, ◌^◌, ◌&&◌, inl, inr, Bool, true, false, cond, leb, List, [], ◌∷◌, length, Option, Some, None, Result, Ok, Err, refl, sym, subst}
+use Rattle.std.specs.Prelude.{All, IfSome, codes, decimal, nat_le, nat_lt, option_and_then}
+use Rattle.std.specs.List.{after_last, before_last, list_any}
+use Rattle.std.specs.Str.Parse.{digits_value}
+use Rattle.std.proofs.lemmas.Bool.{leb-true, ltb-true}
+use Rattle.std.proofs.lemmas.Option.{same_Some}
+use Rattle.std.proofs.lemmas.List.Elements.{All-cons, All-head, All-nil, All-tail}
+use Rattle.serde_json.specs.Data.{Data, Items, no_items}
+use Rattle.binlog_coords.specs.declared.Coord.{Coord}
+use Rattle.binlog_coords.specs.declared.text.CoordFault.{CoordFault}
+use Rattle.binlog_coords.specs.declared.text.CoordFault.TheVariants.{NoColon}
+use Rattle.binlog_coords.specs.Grammar.{coord_at, coord_of, extension_of, file_at, is_colon, is_extension, is_plain, number_at, pos_at, value_within}
+use Rattle.orch_base.specs.declared.source.TheConstants.{MAX_SCENARIO_LEN}
+use Rattle.orch_base.specs.Names.{HostPort}
+use Rattle.openings.specs.declared.init.ServerInit.{ServerInit}
+use Rattle.openings.specs.declared.opening.Flaw.{Flaw}
+use Rattle.openings.specs.Flaws.{flaw_in}
+use Rattle.openings.specs.Opening.{Opened, opening}
+use Rattle.opening_checks.specs.Checked.{found_of, opening_or}
+use Rattle.opening_checks.specs.Values.{value_at}
+use Rattle.scenarios.specs.declared.scenario.Scenario.{Scenario}
+use Rattle.scenario_values.specs.declared.fault.FaultCode.{FaultCode}
+use Rattle.scenario_values.specs.declared.fault.FaultCode.TheVariants.{TooLong, TooLarge}
+use Rattle.scenario_values.specs.Faults.{each_from, holds, maybe, needed, optional}
+use Rattle.scenario_values.specs.Values.{coord_in, coord_or_fails, items_in, text_in}
+use Rattle.scenario_servers.specs.declared.given.Given.{Given}
+use Rattle.scenario_servers.specs.Names.{listed_names, listed_uuids}
+use Rattle.scenario_servers.specs.Openings.{init_of, inits_from, inits_of}
+use Rattle.scenario_servers.specs.Servers.{listed_in, server_in, servers_in}
+use Rattle.scenario_servers.proofs.ServerSteps.{server-ok}
+use Rattle.scenario_servers.proofs.Steps.{bind-ok, each_from-all, maybe-ok, needed-ok, same_Ok, under-ok}
+use Rattle.scenario_openings.specs.Openings.{code_of, fails_at, is_small, keys_of, listed_count, opening_in, opening_or_fails}
+use Rattle.scenario_reader.specs.declared.head.Head.{Head}
+use Rattle.scenario_reader.specs.Scenarios.{head_in, json_in, keys_in, scenario_from, scenario_in, scenario_with, turns_in}
+use Rattle.scenario_dump.specs.Tidy.{IsWritten}
+use Rattle.tidy_laws.specs.Runs.{UntilsCanBePrinted}
+
+-- ---- a coordinate
+
+-- a number in a range
+within-range : (low limit v n : ℕ) → cond (nat_le low v && nat_lt v limit) (Some v) None ≡ Some n → (low ≤ n) × (n < limit)
+within-range low limit v n h = go (nat_le low v) (nat_lt v limit) refl refl h
+  where
+    go : (a b : Bool) → nat_le low v ≡ a → nat_lt v limit ≡ b → cond (a && b) (Some v) None ≡ Some n → (low ≤ n) × (n < limit)
+    go true true le lt h = let same : v ≡ n = same_Some v n h in (leb-true low n (subst (λ (k : ℕ). nat_le low k ≡ true) same le), ltb-true n limit (subst (λ (k : ℕ). nat_lt k limit ≡ true) same lt))
+    go true false le lt h = cc
+    go false b le lt h = cc
+
+file-range : (name : List ℕ) (n : ℕ) → file_at name ≡ Some n → (1 ≤ n) × (n < 2 ^ 32)
+file-range name n h = go (extension_of name) h
+  where
+    by : (digits : List ℕ) (b : Bool) → cond b (value_within 1 (2 ^ 32) digits) None ≡ Some n → (1 ≤ n) × (n < 2 ^ 32)
+    by digits true h = within-range 1 (2 ^ 32) (digits_value 10 digits) n h
+    by digits false h = cc
+
+    go : (o : Option (List ℕ)) → option_and_then number_at o ≡ Some n → (1 ≤ n) × (n < 2 ^ 32)
+    go None h = cc
+    go (Some digits) h = by digits (is_extension digits) h
+
+pos-range : (digits : List ℕ) (n : ℕ) → pos_at digits ≡ Some n → (4 ≤ n) × (n < 2 ^ 64)
+pos-range digits n h = go (is_plain digits) h
+  where
+    go : (b : Bool) → cond b (value_within 4 (2 ^ 64) digits) None ≡ Some n → (4 ≤ n) × (n < 2 ^ 64)
+    go true h = within-range 4 (2 ^ 64) (digits_value 10 digits) n h
+    go false h = cc
+
+text-written : (text : List ℕ) (c : Coord) → coord_at text ≡ Ok c → IsWritten c
+unfolding coord_at
+text-written text c e = go (list_any is_colon text) (file_at (before_last is_colon text)) (pos_at (after_last is_colon text)) refl refl e
+  where
+    go : (some : Bool) (file pos : Option ℕ) → file_at (before_last is_colon text) ≡ file → pos_at (after_last is_colon text) ≡ pos → cond some (coord_of file pos) (Err NoColon) ≡ Ok c → IsWritten c
+    go true (Some file) (Some pos) at place e =
+        let one = file-range (before_last is_colon text) file at in
+        let two = pos-range (after_last is_colon text) pos place in
+        let same : record { file = file; pos = pos } ≡ c = cc in
+        subst IsWritten same (record { file = one.0; files = one.1; start = two.0; pos = two.1 })
+    go true (Some file) None at place e = cc
+    go true None pos at place e = cc
+    go false file pos at place e = cc
+
+coord-written : (d : Data) (c : Coord) → coord_in d ≡ Ok c → IsWritten c
+unfolding coord_in
+coord-written d c e =
+    let text = bind-ok (text_in d) _ c e in
+    go (coord_at text.0) refl text.2
+  where
+    go : (r : Result Coord CoordFault) → coord_at (bind-ok (text_in d) _ c e).0 ≡ r → coord_or_fails r ≡ Ok c → IsWritten c
+    go (Ok x) is h =
+        subst IsWritten (same_Ok x c h) (text-written (bind-ok (text_in d) _ c e).0 x is)
+    go (Err f) is h = cc
+
+-- ---- a server
+
+abbrev IsPrinted : Given → Type 0
+IsPrinted g = IfSome g.replication.until IsWritten
+
+until-written : (d : Data) (o : Option Coord) → maybe (codes "until") coord_in d ≡ Ok o → IfSome o IsWritten
+until-written d o e = elim (maybe-ok (codes "until") coord_in d o e) [
+  | inl none ↦ subst (λ (x : Option Coord). IfSome x IsWritten) (sym none.1) tt
+  | inr some ↦ subst (λ (x : Option Coord). IfSome x IsWritten) (sym some.2) (coord-written some.0 some.1 some.3)
+]
+
+server-written : (gtid : Bool) (names : List (Option HostPort)) (uuids : List (Option ℕ)) (n : ℕ) (d : Data) (g : Given) → server_in gtid names uuids n d ≡ Ok g → IsPrinted g
+server-written gtid names uuids n d g e = until-written d g.replication.until (server-ok gtid names uuids n d g e).replication.until
+
+servers-written : (gtid : Bool) (d : Data) (given : List (Option HostPort) × List Given) → servers_in gtid d ≡ Ok given → All IsPrinted given.1
+unfolding servers_in
+servers-written gtid d given e =
+    let listed = bind-ok (listed_in d) _ given e in
+    let servers = bind-ok (each_from (server_in gtid (listed_names listed.0) (listed_uuids 0 listed.0)) 0 listed.0) _ given listed.2 in
+    let is : (listed_names listed.0, servers.0) ≡ given = same_Ok (listed_names listed.0, servers.0) given servers.2 in
+    subst (λ (p : List (Option HostPort) × List Given). All IsPrinted p.1) is
+    (each_from-all IsPrinted (server_in gtid (listed_names listed.0) (listed_uuids 0 listed.0)) (λ n x g f. server-written gtid (listed_names listed.0) (listed_uuids 0 listed.0) n x g f) 0 listed.0 servers.0 servers.1)
+
+-- ---- the opening
+
+inits-written : (gs : List Given) (n : ℕ) (xs : List Given) → All IsPrinted xs → All (λ i. IfSome i.until IsWritten) (inits_from gs n xs)
+inits-written gs n [] all = All-nil (λ (i : ServerInit). IfSome i.until IsWritten)
+inits-written gs n (x ∷ xs) all =
+    All-cons (λ (i : ServerInit). IfSome i.until IsWritten) (init_of gs n x) (inits_from gs (n + 1) xs) (All-head IsPrinted x xs all)
+    (inits-written gs (n + 1) xs (All-tail IsPrinted x xs all))
+
+never : {A : Type 0} (code : FaultCode) (parts : List (List ℕ)) (x : A) → fails_at code parts ≡ Ok x → ⊥
+never code [] x e = cc
+never code (part ∷ parts) x e = never code parts x (under-ok part (fails_at code parts) x e)
+
+opening-same : (servers : List ServerInit) (gtid : Bool) (o : Opened) → opening_in servers gtid ≡ Ok o → o.servers ≡ servers
+unfolding opening_in
+opening-same servers gtid o e =
+    let small = bind-ok (holds TooLarge (is_small (length servers) (listed_count servers))) _ o e in
+    go (flaw_in servers) small.2
+  where
+    go : (f : Option (Flaw × ℕ)) → opening_or_fails (opening_or (opening servers gtid) (found_of servers f)) ≡ Ok o → o.servers ≡ servers
+    go None e = subst (λ (x : Opened). x.servers ≡ servers) (same_Ok (opening servers gtid) o e) refl
+    go (Some f) e = absurd (never (code_of f.0) (codes "servers" ∷ decimal f.1 ∷ keys_of (value_at servers f.0 f.1)) o e)
+
+-- ---- the whole
+
+with-written : (head : Head) (given : List (Option HostPort) × List Given) (items : Items) (s : Scenario) → All IsPrinted given.1 → scenario_with head given items ≡ Ok s → UntilsCanBePrinted s
+unfolding scenario_with
+with-written head given items s all e =
+    let o = bind-ok (opening_in (inits_of given.1) head.gtid) _ s e in
+    let ts = bind-ok (turns_in given.0 o.0.servers items) _ s o.2 in
+    subst UntilsCanBePrinted (same_Ok _ s ts.2)
+    (subst (λ (is : List ServerInit). All (λ i. IfSome i.until IsWritten) is) (sym (opening-same (inits_of given.1) head.gtid o.0 o.1)) (inits-written given.1 0 given.1 all))
+
+from-data : (d : Data) (s : Scenario) → scenario_from d ≡ Ok s → UntilsCanBePrinted s
+unfolding scenario_from
+from-data d s e =
+    let keys = bind-ok (keys_in d) _ s e in
+    let head = bind-ok (head_in d) _ s keys.2 in
+    let given = bind-ok (needed (codes "servers") (servers_in head.0.gtid) d) _ s head.2 in
+    let listed = bind-ok (optional (codes "turns") items_in no_items d) _ s given.2 in
+    let servers = needed-ok (codes "servers") (servers_in head.0.gtid) d given.0 given.1 in
+    with-written head.0 given.0 listed.0 s (servers-written head.0.gtid servers.0 given.0 servers.2) listed.2
+
+-- what bytes are read as
+pub read-written : (bytes : List ℕ) (s : Scenario) → scenario_in bytes ≡ Ok s → UntilsCanBePrinted s
+unfolding scenario_in
+read-written bytes s e =
+    let short = bind-ok (holds TooLong (leb (length bytes) MAX_SCENARIO_LEN)) _ s e in
+    let d = bind-ok (json_in bytes) scenario_from s short.2 in
+    from-data d.0 s d.2

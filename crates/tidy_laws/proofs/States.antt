@@ -1,0 +1,320 @@
+-- Each turn leaves a neat state neat.
+use Rattle.std.proofs.Common.{◌≡◌, ◌∙◌, ℕ, ◌+◌, Bool, true, false, cond, not, List, [], ◌∷◌, ◌++◌, map, refl, sym, ap, subst, Option, Some, None, Result, Ok, Err}
+use Rattle.std.specs.Prelude.{All, is_some, ◌==◌, if◌then◌else◌}
+use Rattle.std.specs.Option.{option_map}
+use Rattle.std.proofs.lemmas.List.Elements.{All-append, All-cons, All-filter, All-head, All-map, All-nil, All-push, All-tail}
+use Rattle.std.proofs.lemmas.Option.{same_Some}
+use Rattle.orch_base.specs.Memory.{next_count}
+use Rattle.orch_base.specs.declared.server.ServerNo.{ServerNo}
+use Rattle.asking_commands.specs.Answers.{allowed, lines_of, permitted}
+use Rattle.audit_log.specs.Audits.{AuditState}
+use Rattle.book_commands.specs.Decisions.{decided_of}
+use Rattle.book_commands.specs.declared.decided.Decided.{Decided}
+use Rattle.command_jobs.specs.Jobs.{job_by, leases_by, refusal_by}
+use Rattle.command_routes.specs.declared.route.Planner.{Planner}
+use Rattle.command_routes.specs.declared.route.Route.{Route}
+use Rattle.command_routes.specs.declared.route.Route.TheVariants.{Discovers, Forgets, Asks, Decides, Begins, Recovers, TakesOver}
+use Rattle.command_routes.specs.Routes.{route_of}
+use Rattle.commands.specs.declared.line.Line.{Line}
+use Rattle.commands.specs.declared.refusal.Refusal.{Refusal}
+use Rattle.commands.specs.declared.refusal.Refusal.TheVariants.{UnknownInstance}
+use Rattle.commands.specs.declared.turn.Command.{Command}
+use Rattle.commands.specs.declared.turn.CommandTurn.{CommandTurn}
+use Rattle.instance_keeper.specs.Book.{instance_at}
+use Rattle.kept_rows.specs.declared.observation.Observation.{Observation}
+use Rattle.kept_rows.specs.declared.row.Row.{Row}
+use Rattle.server_words.specs.declared.status.Status.{Status}
+use Rattle.operations.specs.Jobs.{Job}
+use Rattle.operations.specs.Turns.{is_going, turned}
+use Rattle.operations.proofs.Allowing.{turn-allowed}
+use Rattle.job_laws.specs.Flights.{Flight}
+use Rattle.job_laws.specs.Held.{HeldJob}
+use Rattle.job_laws.specs.Leases.{job_at as core_at}
+use Rattle.job_laws.specs.Passages as pass
+use Rattle.job_laws.specs.Passages.{Passage, passed}
+use Rattle.job_laws.proofs.Lists.{All-find}
+use Rattle.jobs_in_flight.specs.Jobs.{job_at, jobs_turned, with_job, without_job}
+use Rattle.recovery_core.specs.Tries.{Begins as RecoveryBegins, recovery_try, takeover_try}
+use Rattle.recovery_plans.specs.Recoveries.{Recovery}
+use Rattle.recovery_plans.specs.Taking.{taken}
+use Rattle.recovery_plans.proofs.Allowed.{taken-allowed}
+use Rattle.scenarios.specs.Turns.{IsStep, IsTurn}
+use Rattle.turns.specs.declared.turn.Act.{Act}
+use Rattle.turns.specs.declared.turn.Act.TheVariants as act
+use Rattle.turns.specs.declared.turn.Step.{Step}
+use Rattle.turns.specs.declared.turn.Step.TheVariants as step
+use Rattle.turns.specs.declared.turn.Turn.{Turn}
+use Rattle.turns.specs.declared.turn.Turn.TheVariants as turn
+use Rattle.unended_jobs.specs.declared.unended.Unended.{Unended}
+use Rattle.unended_jobs.specs.declared.unended.Unended.TheVariants as unended
+use Rattle.unended_jobs.specs.Unended.{Flown, core_of, number_of}
+use Rattle.unended_laws.specs.Beside.{IsHeldBeside}
+use Rattle.unended_laws.proofs.Cores.{core-found}
+use Rattle.job_laws.specs.Leases.{leases_of}
+use Rattle.orch_core.specs.After.{after_act, step as turn_step}
+use Rattle.orch_core.specs.Commands.{Outcome, about, asked, by_hand, begun, decided, discovered, forgotten, next_reading, outcome_by, outcome_of, question, recovered, recovery_begun, refusal, removal_refusal, taken_over}
+use Rattle.orch_core.specs.Jobs.{turn_of}
+use Rattle.orch_core.specs.Knowing.{recovery_job}
+use Rattle.orch_core.specs.Polls.{command_outcome, numbers_of, reading, scan_outcome}
+use Rattle.orch_core.specs.Settling.{settled}
+use Rattle.orch_core.specs.States.{State}
+use Rattle.orch_core.specs.Turns.{exchange_of}
+use Rattle.run_laws.specs.Entries.{attempt_in, recoveries_scanned}
+use Rattle.run_laws.specs.Flights.{act_passages, by_discovery, by_instance, by_job, by_permission, by_poll, by_recoveries, by_recovery, by_removal, by_route, by_takeover, by_try, discovers, flight_of, moment_at, passages_of}
+use Rattle.run_laws.specs.Ready.{Ready}
+use Rattle.run_laws.specs.States.{HeldState}
+use Rattle.run_laws.proofs.Flown.{flown as step-flown}
+use Rattle.run_laws.proofs.Passing.{step-may}
+use Rattle.tidy_laws.specs.Clusters.{Clusters}
+use Rattle.tidy_laws.specs.Flights.{AreNeatPassages, IsNeat, IsNeatTurn}
+use Rattle.tidy_laws.specs.Recoveries.{IsRecoveryWithin, IsUnendedWithin, KeepsWithin}
+use Rattle.tidy_laws.specs.Trim.{IsOrderly}
+use Rattle.tidy_laws.specs.Within.{IsTurnWithin}
+use Rattle.tidy_laws.proofs.Begun.{job-within, recovery-within, scan-within, takeover-within}
+use Rattle.tidy_laws.proofs.Passing.{neat-passing}
+use Rattle.tidy_laws.proofs.Recovering.{taken-within}
+use Rattle.tidy_laws.proofs.Turns.{turn-within}
+
+-- the flight is neat, and each unended job stays within a cluster
+pub record IsNeatState (c : Clusters) (s : State) : Type 0 where
+  pub flight : IsNeat c (flight_of s)
+  pub jobs : All (IsUnendedWithin c) s.jobs
+
+-- ---- what befalls a server
+
+step-orderly : (c : Clusters) (count : ℕ) (s : State) (x : Step) → IsStep count x → IsOrderly c s.world (exchange_of x)
+step-orderly c count s (step.Write n size) is = (is.1, is.2)
+step-orderly c count s (step.Fetch n) is = tt
+step-orderly c count s (step.Apply n) is = tt
+step-orderly c count s (step.Fail n) is = tt
+step-orderly c count s (step.Heal n) is = tt
+step-orderly c count s (step.Cut n link) is = tt
+step-orderly c count s (step.Join n link) is = tt
+step-orderly c count s (step.Rotate n) is = tt
+step-orderly c count s (step.Purge n file) is = tt
+
+module _ (c : Clusters) (s : State) (held : HeldState s) (neat : IsNeatState c s) where
+  -- ---- a job's turn
+
+  plan-turned : (id : ℕ) (j : Job) → job_at s.jobs id ≡ Some (unended.Plan j) → IsTurnWithin c s.world (turned s.world (next_count s.reads) (moment_at s) j)
+  plan-turned id j at =
+      let is_job : Job → Bool = λ k. k.id == id in
+      let is_unended : Unended → Bool = λ k. number_of k == id in
+      let found : core_at (map core_of s.jobs) id ≡ Some j = core-found s.jobs id ∙ ap (option_map core_of) at in
+      turn-within c s.world (next_count s.reads) (moment_at s) j neat.flight.placed neat.flight.trim
+      (All-find (HeldJob s.world) is_job (map core_of s.jobs) j held.flight.jobs found)
+      (All-find (IsUnendedWithin c) is_unended s.jobs (unended.Plan j) neat.jobs at)
+
+  recovery-turned : (id : ℕ) (r : Recovery) (entry : Option ℕ) → job_at s.jobs id ≡ Some (unended.Recovery r entry)
+      → KeepsWithin c s.world (taken s.world s.book (next_count s.reads) (moment_at s) r)
+  recovery-turned id r entry at =
+      let is_unended : Unended → Bool = λ k. number_of k == id in
+      let here = All-find (IsHeldBeside s.world (leases_of s.book.leases)) is_unended s.jobs (unended.Recovery r entry) held.jobs at in
+      taken-within c s.world s.book (next_count s.reads) (moment_at s) r neat.flight.placed neat.flight.trim (record { spans = held.flight.rings; own = held.own }) neat.flight.rings here.0
+      (All-find (IsUnendedWithin c) is_unended s.jobs (unended.Recovery r entry) neat.jobs at)
+
+  job-passages : (id : ℕ) (o : Option Unended) → job_at s.jobs id ≡ o → AreNeatPassages c (flight_of s) (by_job s id o)
+  job-passages id None at = tt
+  job-passages id (Some (unended.Plan j)) at =
+      let found : core_at (map core_of s.jobs) id ≡ Some j = core-found s.jobs id ∙ ap (option_map core_of) at in
+      let here = plan-turned id j at in
+      let read = next_count s.reads in
+      let now = moment_at s in (
+        λ k is.
+            subst (λ (x : Job). IsNeatTurn c s.world (turned s.world read now x)) (same_Some j k (sym found ∙ is))
+            (record { allowed = turn-allowed s.world read now j; orderly = here.orderly; read = here.read }),
+        tt,
+      )
+  job-passages id (Some (unended.Recovery r entry)) at =
+      let here = recovery-turned id r entry at in
+      (record { allowed = taken-allowed s.world s.book (next_count s.reads) (moment_at s) r; orderly = here.orderly; read = here.read }, tt)
+
+  -- ---- commands and scans
+
+  recoveries-passages : (xs : List RecoveryBegins) (f : Flight) → AreNeatPassages c f (by_recoveries xs)
+  recoveries-passages [] f = tt
+  recoveries-passages (x ∷ xs) f = (tt, recoveries-passages xs (passed f (pass.Beginning x.list (core_of (recovery_job x)))))
+
+  try-passages : (r : Result RecoveryBegins Refusal) → AreNeatPassages c (flight_of s) (by_try r)
+  try-passages (Ok x) = (tt, tt)
+  try-passages (Err r) = tt
+
+  instance-passages : (passages : ServerNo → List Passage) → ((i : ServerNo) → AreNeatPassages c (flight_of s) (passages i)) → (o : Option ServerNo) → AreNeatPassages c (flight_of s) (by_instance passages o)
+  instance-passages passages each None = tt
+  instance-passages passages each (Some i) = each i
+
+  discovery-passages : (i : ServerNo) → AreNeatPassages c (flight_of s) (by_discovery s i)
+  discovery-passages i = go (discovers s.book (reading s i))
+    where
+      go : (b : Bool) → AreNeatPassages c (flight_of s) (if b then pass.Discovering i (next_count s.reads) (moment_at s) ∷ [] else [])
+      go true = (tt, tt)
+      go false = tt
+
+  removal-passages : (p : Result Unit Refusal) (i : ServerNo) → AreNeatPassages c (flight_of s) (by_removal p i)
+  removal-passages (Ok permit) i = (tt, tt)
+  removal-passages (Err r) i = tt
+
+  permission-passages : (x : Command) (p : Planner) (r : Option Refusal) → AreNeatPassages c (flight_of s) (by_permission s x p r)
+  permission-passages x p None = (tt, tt)
+  permission-passages x p (Some r) = tt
+
+  takeover-passages : (d : Option ServerNo) (i : ServerNo) → AreNeatPassages c (flight_of s) (by_takeover s d i)
+  takeover-passages None i = tt
+  takeover-passages (Some d) i =
+      try-passages (takeover_try s.world s.book s.audit (by_hand s.book s.configuration (numbers_of s) i) s.configuration.wait (s.last_job + 1) i d)
+
+  route-passages : (x : Command) (r : Route) → AreNeatPassages c (flight_of s) (by_route s x r)
+  route-passages x Discovers = instance-passages (by_discovery s) discovery-passages x.i
+  route-passages x Forgets = instance-passages (by_removal (allowed (removal_refusal s.book x))) (removal-passages (allowed (removal_refusal s.book x))) x.i
+  route-passages x (Asks q) = tt
+  route-passages x (Decides d) = tt
+  route-passages x (Begins p) = permission-passages x p (refusal_by s.world s.book (moment_at s) x p)
+  route-passages x Recovers =
+      instance-passages (by_recovery s)
+      (λ i. try-passages (recovery_try s.world s.book s.audit (by_hand s.book s.configuration (numbers_of s) i) s.configuration.wait (s.last_job + 1) i)) x.i
+  route-passages x TakesOver = instance-passages (by_takeover s x.d) (takeover-passages x.d) x.i
+
+  -- ---- every turn
+
+  poll-passages : (p : ℕ) (n : ServerNo) → AreNeatPassages c (flight_of s) (by_poll s p n)
+  poll-passages p n = go (is_some (instance_at s.book n))
+    where
+      go : (b : Bool) → AreNeatPassages c (flight_of s) (if b then pass.Polling p n (next_count s.reads) (moment_at s) ∷ [] else [])
+      go true = (tt, tt)
+      go false = tt
+
+  act-neat : (a : Act) → AreNeatPassages c (flight_of s) (act_passages s a)
+  act-neat (act.PollRead p n) = poll-passages p n
+  act-neat (act.PollStore p) = (tt, tt)
+  act-neat (act.Command x) = route-passages x.command (route_of x.command.name)
+  act-neat (act.Job job) = job-passages job (job_at s.jobs job) refl
+  act-neat act.Scan = recoveries-passages (recoveries_scanned s) (flight_of s)
+  act-neat act.Restart = (tt, tt)
+
+  passages-neat : (count : ℕ) (t : Turn) → IsTurn count t → AreNeatPassages c (flight_of s) (passages_of s t)
+  passages-neat count (turn.Step x) is = (((step-may count (flight_of s) x is).0, step-orderly c count s x is), tt)
+  passages-neat count (turn.Tick seconds) is = tt
+  passages-neat count (turn.Act a) is = act-neat a
+  passages-neat count (turn.As node a) is = absurd is
+  passages-neat count (turn.Claim node) is = absurd is
+  passages-neat count (turn.Release node) is = absurd is
+
+  -- ---- what a turn leaves of the jobs
+
+  abbrev P : Unended → Type 0
+  P u = IsUnendedWithin c u
+
+  all-with : (us : List Unended) (id : ℕ) (u : Unended) → P u → All P us → All P (with_job us id u)
+  all-with [] id u one all = All-nil P
+  all-with (k ∷ ks) id u one all = All-cons P (cond (number_of k == id) u k) (with_job ks id u) (go (number_of k == id)) (all-with ks id u one (All-tail P k ks all))
+    where
+      go : (b : Bool) → P (cond b u k)
+      go true = one
+      go false = All-head P k ks all
+
+  turned-by : (id : ℕ) (t : Flown) → (is_going t.step ≡ true → P t.next) → All P (jobs_turned s.jobs id (Some t))
+  turned-by id t next = go (is_going t.step) refl
+    where
+      go : (b : Bool) → is_going t.step ≡ b → All P (if b then with_job s.jobs id t.next else without_job s.jobs id)
+      go true is = all-with s.jobs id t.next (next is) neat.jobs
+      go false is = All-filter (λ k. not (number_of k == id)) P s.jobs neat.jobs
+
+  jobs-turned : (id : ℕ) (o : Option Unended) → job_at s.jobs id ≡ o → All P (jobs_turned s.jobs id (option_map (turn_of s) o))
+  jobs-turned id None at = neat.jobs
+  jobs-turned id (Some (unended.Plan j)) at = turned-by id (turn_of s (unended.Plan j)) (λ going. (plan-turned id j at).job)
+  jobs-turned id (Some (unended.Recovery r entry)) at = turned-by id (turn_of s (unended.Recovery r entry)) (λ going. (recovery-turned id r entry at).recovery going)
+
+  -- ---- by commands
+
+  abbrev KeepsJobs : Outcome → Type 0
+  KeepsJobs o = All P (settled s o).jobs
+
+  asked-jobs : (reads : ℕ) (p : Result Unit Refusal) (lines : List Line) → KeepsJobs (asked reads p lines)
+  asked-jobs reads (Ok permit) lines = neat.jobs
+  asked-jobs reads (Err r) lines = neat.jobs
+
+  forgotten-jobs : (reads : ℕ) (p : Result Unit Refusal) (i : ServerNo) → KeepsJobs (forgotten reads p i)
+  forgotten-jobs reads (Ok permit) i = neat.jobs
+  forgotten-jobs reads (Err r) i = neat.jobs
+
+  discovered-jobs : (reads : ℕ) (o : Observation) (x : Option Status) → KeepsJobs (discovered s.book reads o x)
+  discovered-jobs reads o None = neat.jobs
+  discovered-jobs reads o (Some seen) = neat.jobs
+
+  decided-jobs : (reads : ℕ) (a : AuditState) (p : Result Unit Refusal) (d : Decided) → KeepsJobs (decided reads a p d)
+  decided-jobs reads a (Ok permit) d = neat.jobs
+  decided-jobs reads a (Err r) d = neat.jobs
+
+  begun-jobs : (x : Command) (p : Planner) (r : Option Refusal) → refusal_by s.world s.book (moment_at s) x p ≡ r
+      → KeepsJobs (begun (numbers_of s) r (leases_by s.world s.book x p) (job_by s.world s.book x p (s.last_job + 1) s.configuration.wait))
+  begun-jobs x p None refuses =
+      All-push P s.jobs (job_by s.world s.book x p (s.last_job + 1) s.configuration.wait) neat.jobs
+      (job-within c s.world neat.flight.trim s.book (moment_at s) x (s.last_job + 1) s.configuration.wait p refuses)
+  begun-jobs x p (Some r) refuses = neat.jobs
+
+  recoveries-jobs : (xs : List RecoveryBegins) → All (λ x. IsRecoveryWithin c x.job) xs → All P (s.jobs ++ map recovery_job xs)
+  recoveries-jobs xs all = All-append P s.jobs (map recovery_job xs) neat.jobs (All-map P recovery_job xs all)
+
+  tried-jobs : (r : Result RecoveryBegins Refusal) → ((x : RecoveryBegins) → r ≡ Ok x → IsRecoveryWithin c x.job) → KeepsJobs (recovery_begun (numbers_of s) r)
+  tried-jobs (Ok x) each = recoveries-jobs (x ∷ []) (All-cons (λ (y : RecoveryBegins). IsRecoveryWithin c y.job) x [] (each x refl) (All-nil (λ (y : RecoveryBegins). IsRecoveryWithin c y.job)))
+  tried-jobs (Err r) each = neat.jobs
+
+  recovered-jobs : (i : ServerNo) → KeepsJobs (recovered s.world s.book s.audit s.configuration (numbers_of s) i)
+  recovered-jobs i =
+      tried-jobs (recovery_try s.world s.book s.audit (by_hand s.book s.configuration (numbers_of s) i) s.configuration.wait (s.last_job + 1) i)
+      (λ x is. recovery-within c s.world neat.flight.trim s.book s.audit (by_hand s.book s.configuration (numbers_of s) i) s.configuration.wait (s.last_job + 1) i x is)
+
+  taken-jobs : (d : Option ServerNo) (i : ServerNo) → KeepsJobs (taken_over s.world s.book s.audit s.configuration (numbers_of s) d i)
+  taken-jobs None i = neat.jobs
+  taken-jobs (Some d) i =
+      tried-jobs (takeover_try s.world s.book s.audit (by_hand s.book s.configuration (numbers_of s) i) s.configuration.wait (s.last_job + 1) i d)
+      (λ x is. takeover-within c s.world neat.flight.trim s.book s.audit (by_hand s.book s.configuration (numbers_of s) i) s.configuration.wait (s.last_job + 1) i d x is)
+
+  about-jobs : (none : Outcome) (some : ServerNo → Outcome) → KeepsJobs none → ((i : ServerNo) → KeepsJobs (some i)) → (o : Option ServerNo) → KeepsJobs (about none some o)
+  about-jobs none some first each None = first
+  about-jobs none some first each (Some i) = each i
+
+  route-jobs : (t : CommandTurn) (r : Route) → KeepsJobs (outcome_by s.world s.book s.audit s.configuration (numbers_of s) t r)
+  route-jobs t Discovers =
+      about-jobs (question s.book s.audit s.reads t) (λ i. discovered s.book s.reads (next_reading s.world (numbers_of s) i) (next_reading s.world (numbers_of s) i).seen)
+      (asked-jobs s.reads (permitted s.book t.command) (lines_of s.book s.audit.recoveries t t.command.name))
+      (λ i. discovered-jobs s.reads (next_reading s.world (numbers_of s) i) (next_reading s.world (numbers_of s) i).seen) t.command.i
+  route-jobs t Forgets =
+      about-jobs (question s.book s.audit s.reads t) (forgotten s.reads (allowed (removal_refusal s.book t.command)))
+      (asked-jobs s.reads (permitted s.book t.command) (lines_of s.book s.audit.recoveries t t.command.name)) (forgotten-jobs s.reads (allowed (removal_refusal s.book t.command))) t.command.i
+  route-jobs t (Asks q) = asked-jobs s.reads (permitted s.book t.command) (lines_of s.book s.audit.recoveries t t.command.name)
+  route-jobs t (Decides d) = decided-jobs s.reads s.audit (permitted s.book t.command) (decided_of s.book s.audit (moment_at s) t.keys t.command.i d)
+  route-jobs t (Begins p) = begun-jobs t.command p (refusal_by s.world s.book (moment_at s) t.command p) refl
+  route-jobs t Recovers = about-jobs (refusal s.reads UnknownInstance) (recovered s.world s.book s.audit s.configuration (numbers_of s)) neat.jobs recovered-jobs t.command.i
+  route-jobs t TakesOver = about-jobs (refusal s.reads UnknownInstance) (taken_over s.world s.book s.audit s.configuration (numbers_of s) t.command.d) neat.jobs (taken-jobs t.command.d) t.command.i
+
+  command-jobs : (t : CommandTurn) → KeepsJobs (command_outcome s t)
+  unfolding outcome_of
+  command-jobs t = route-jobs t (route_of t.command.name)
+
+  scan-jobs : KeepsJobs (scan_outcome s)
+  scan-jobs = recoveries-jobs (recoveries_scanned s) (scan-within c s.world neat.flight.trim s.book (attempt_in s) s.configuration.wait s.audit s.last_job)
+
+  -- ---- every turn
+
+  act-jobs : (rows : List Row) (a : Act) → All P (after_act rows s a).jobs
+  act-jobs rows (act.PollRead p n) = neat.jobs
+  act-jobs rows (act.PollStore p) = neat.jobs
+  act-jobs rows (act.Command t) = command-jobs t
+  act-jobs rows (act.Job job) = jobs-turned job (job_at s.jobs job) refl
+  act-jobs rows act.Scan = scan-jobs
+  act-jobs rows act.Restart = All-nil P
+
+  turn-jobs : (count : ℕ) (rows : List Row) (t : Turn) → IsTurn count t → All P (turn_step rows s t).jobs
+  turn-jobs count rows (turn.Step x) is = neat.jobs
+  turn-jobs count rows (turn.Tick seconds) is = neat.jobs
+  turn-jobs count rows (turn.Act a) is = act-jobs rows a
+  turn-jobs count rows (turn.As node a) is = absurd is
+  turn-jobs count rows (turn.Claim node) is = absurd is
+  turn-jobs count rows (turn.Release node) is = absurd is
+
+pub neat-step : (c : Clusters) (count : ℕ) (rows : List Row) (s : State) (t : Turn) → Ready count s → HeldState s → IsTurn count t → IsNeatState c s → IsNeatState c (turn_step rows s t)
+neat-step c count rows s t ready held is neat = record {
+  flight = subst (IsNeat c) (sym (step-flown count rows s t ready is)) (neat-passing c (flight_of s) (passages_of s t) neat.flight (passages-neat c s held neat count t is));
+  jobs = turn-jobs c s held neat count rows t is;
+}

@@ -1,0 +1,308 @@
+-- An operation that is due makes exchanges in order, and what it leaves goes by servers of one cluster.
+use Rattle.std.proofs.Common.{◌≡◌, ℕ, ◌+◌, Bool, true, false, cond, not, List, [], ◌∷◌, refl, sym, ◌∙◌, ap, subst, Option, Some, None, Ok, Err, Result, ◌&&◌}
+use Rattle.std.specs.Prelude.{◌==◌, IfSome, nat_lt}
+use Rattle.std.specs.Option.{option_and_then, option_map}
+use Rattle.std.proofs.lemmas.Bool.{and_parts, eqb-true}
+use Rattle.std.proofs.lemmas.Option.{same_Some}
+use Rattle.binlog_coords.specs.declared.Coord.{Coord}
+use Rattle.binlog_coords.specs.Log.{is_at_or_before, same_coord}
+use Rattle.orch_base.specs.declared.server.Moment.{Moment}
+use Rattle.orch_base.specs.declared.server.ServerNo.{ServerNo}
+use Rattle.orch_base.specs.declared.server.SourceState.{SourceState}
+use Rattle.orch_base.specs.declared.server.SourceState.TheVariants.{Without, Attached, Detached}
+use Rattle.kept_rows.specs.declared.observation.Observation.{Observation}
+use Rattle.kept_rows.specs.Seeing.{seen_in}
+use Rattle.server_words.specs.declared.status.Status.{Status}
+use Rattle.server_words.specs.declared.status.StatusFault.TheVariants as seeing
+use Rattle.server_words.specs.declared.answers.Unreachable.{Unreachable}
+use Rattle.server_words.specs.declared.attach.AttachFault.{AttachFault}
+use Rattle.server_words.specs.declared.attach.Spot.TheVariants as spot
+use Rattle.server_words.specs.declared.changes.Ask.{Ask}
+use Rattle.server_words.specs.declared.changes.Ask.TheVariants as asking
+use Rattle.server_model.specs.declared.server.Server.{Server}
+use Rattle.server_model.specs.Attach.{live_spot, same_spot, spot_below}
+use Rattle.server_model.specs.Desk.{desk_answer}
+use Rattle.server_model.specs.Gtids.{shown_of, status, status_in}
+use Rattle.server_model.specs.Run.{Exchange, Attach, AttachAuto, Request, after}
+use Rattle.server_model.specs.Safe.{Placed}
+use Rattle.server_model.specs.Worlds.{World, server_at, source_no}
+use Rattle.commands.specs.declared.cause.Cause.{Cause}
+use Rattle.commands.specs.declared.cause.Cause.TheVariants as cause
+use Rattle.instance_keeper.specs.declared.bridge.Bridge.{Bridge}
+use Rattle.operations.specs.declared.op.Aim.{Aim}
+use Rattle.operations.specs.declared.op.Aim.TheVariants as aim
+use Rattle.operations.specs.declared.op.Crossing.{Crossing}
+use Rattle.operations.specs.declared.op.Crossing.TheVariants as cross
+use Rattle.operations.specs.declared.op.Op.{Op}
+use Rattle.operations.specs.declared.sight.Position.{Position}
+use Rattle.operations.specs.declared.sight.Sight.{Sight}
+use Rattle.operations.specs.Deeds as deed
+use Rattle.operations.specs.Deeds.{Deed, deed_of}
+use Rattle.operations.specs.Jobs.{Job, position_of, seen_of, with_seen}
+use Rattle.operations.specs.Targets.{can_attach}
+use Rattle.operations.specs.Turns.{Attempt, Goes, Stops, after_answer, after_ask, after_attach, after_look, after_status, after_until, after_wait, after_wait_by, aim_of, attach_answer_of, attached_anew, bridge_at, by_deed, by_ops, by_set, crossed, failed, hands_after, holds_seen, is_moved, is_reached, next, observed, read_by, restarts, same_again, saw, settled, settles, turned, until_by}
+use Rattle.job_laws.specs.Footing.{finds, finds_crossing, footing, is_under, logs_at, source_shown}
+use Rattle.job_laws.specs.Held.{AllShow, HeldJob}
+use Rattle.job_laws.proofs.Spanning.{bridge-parts}
+use Rattle.job_laws.proofs.Turns.{due-of, with-one}
+use Rattle.tidy_laws.specs.Clusters.{AreAlike, Clusters, label}
+use Rattle.tidy_laws.specs.Trim.{AllOrderly, IsOrderly, IsOrderlyAsk, IsTrim}
+use Rattle.tidy_laws.specs.Within.{AllWithin, AreDueWithin, GoesWithin, IsDueWithin, IsJobWithin, IsReadWithin, IsTriedWithin, IsTurnWithin, IsWithinCluster, StoodWithin}
+use Rattle.tidy_laws.proofs.Tidying.{written-coords, written-target}
+use Rattle.scenario_dump.specs.Tidy.{IsWritten}
+
+-- ---- what a status shows
+
+-- the server that answered
+record Answers (w : World) (n : ℕ) (seen : Status) : Type 0 where
+  server : Server
+  there : server_at w n ≡ Some server
+  is : seen ≡ shown_of w server
+
+answers : (w : World) (n : ℕ) (seen : Status) → seen_in (status w n) ≡ Some seen → Answers w n seen
+answers w n seen h = go (server_at w n) refl h
+  where
+    go : (o : Option Server) → server_at w n ≡ o → seen_in (status_in w o) ≡ Some seen → Answers w n seen
+    go None at h = cc
+    go (Some s) at h = by (s.up && s.desk) h
+      where
+        by : (b : Bool) → seen_in (cond b (Ok (shown_of w s)) (Err seeing.Unreachable)) ≡ Some seen → Answers w n seen
+        by true h = record { server = s; there = at; is = sym (same_Some (shown_of w s) seen h) }
+        by false h = cc
+
+module _ (c : Clusters) (w : World) (placed : Placed w) (trim : IsTrim c w) where
+  pub stood-within : (n : ℕ) (seen : Status) → seen_in (status w n) ≡ Some seen → StoodWithin c n (position_of seen)
+  stood-within n seen h =
+      let a = answers w n seen h in
+      subst (λ (x : Status). StoodWithin c n (position_of x)) (sym a.is) (record {
+        source = λ m from. ap label ((trim.replicates n a.server a.there).source m from);
+        bare = λ none. (written-coords c w placed trim n a.server a.there).0;
+      })
+
+  pub read-within : (read : ℕ) (now : Moment) (n : ServerNo) → IsReadWithin c (observed w read now n)
+  read-within read now n = λ seen h. stood-within n.0 seen h
+
+-- an attached source that isn't another than the one that is named is that one
+not-moved : (m : ServerNo) (x : SourceState) → is_moved (Some m) x ≡ false → source_no x ≡ Some m.0
+not-moved m Without h = cc
+not-moved m (Attached k) h = go (k.0 == m.0) refl h
+  where
+    go : (b : Bool) → (k.0 == m.0) ≡ b → not b ≡ false → Some k.0 ≡ Some m.0
+    go true e h = ap Some (eqb-true k.0 m.0 e)
+    go false e h = cc
+not-moved m (Detached k) h = cc
+
+-- a server that stands where it is expected is below that source
+spot-source : (r : Server) (m : ServerNo) (at : Coord) (x : SourceState) → same_spot (spot.At m at) (spot_below r x) ≡ true → source_no x ≡ Some m.0
+spot-source r m at Without h = cc
+spot-source r m at (Attached k) h = ap Some (sym (eqb-true m.0 k.0 (and_parts (m.0 == k.0) (same_coord at r.exec) h).0))
+spot-source r m at (Detached k) h = ap Some (sym (eqb-true m.0 k.0 (and_parts (m.0 == k.0) (same_coord at r.exec) h).0))
+
+-- ---- restarts
+
+pub orderly-restarts : (c : Clusters) (w : World) (hands : List ServerNo) → AllOrderly c w (restarts hands)
+orderly-restarts c w [] = tt
+orderly-restarts c w (n ∷ ns) = (tt, orderly-restarts c (after w (Request n.0 asking.Start)) ns)
+
+-- ---- bridges that were seen
+
+module _ (c : Clusters) (xs : List Sight) (all : AllWithin c xs) where
+  pub bridge-within : (n : ServerNo) (b : Bridge) → bridge_at n (seen_of xs n.0) ≡ Some b → IsWithinCluster c b
+  bridge-within n b h =
+      let p = bridge-parts n (seen_of xs n.0) b h in
+      (all n.0 p.seen p.is).source b.source.0 p.from ∙ ap (λ (k : ℕ). label (c k)) p.no
+
+module _ (c : Clusters) (w : World) (trim : IsTrim c w) (xs : List Sight) (all : AllWithin c xs) where
+  live : (a : ServerNo) (m : ServerNo) (at : Coord) (r : Server) → server_at w a.0 ≡ Some r → same_spot (spot.At m at) (live_spot r (spot.At m at)) ≡ true → AreAlike c m.0 a.0
+  live a m at r here h = ap label ((trim.replicates a.0 r here).source m.0 (spot-source r m at r.source h))
+
+  -- back below the source that was seen
+  pub back-within : (a : ServerNo) (e : Exchange) → crossed cross.Back a (bridge_at a (seen_of xs a.0)) ≡ Some e → IsOrderly c w e
+  back-within a e h = go (bridge_at a (seen_of xs a.0)) refl h
+    where
+      go : (o : Option Bridge) → bridge_at a (seen_of xs a.0) ≡ o → crossed cross.Back a o ≡ Some e → IsOrderly c w e
+      go None is h = cc
+      go (Some x) is h =
+          subst (λ (y : Exchange). IsOrderly c w y) (same_Some (Attach a.0 (spot.OwnEnd x.own) x.source x.exec) e h)
+          (λ r at same. bridge-within c xs all a x is ∙ ap (λ (k : ℕ). label (c k)) (sym (bridge-parts a (seen_of xs a.0) x is).no))
+
+  pub crossing-within : (d : Crossing) (a b : ServerNo) (e : Exchange) → finds_crossing (footing w xs) d a b ≡ true → crossed d a (bridge_at (read_by d a b) (seen_of xs (read_by d a b).0)) ≡ Some e → IsOrderly c w e
+  crossing-within cross.Up a b e found h = go (bridge_at b (seen_of xs b.0)) refl h
+    where
+      go : (o : Option Bridge) → bridge_at b (seen_of xs b.0) ≡ o → crossed cross.Up a o ≡ Some e → IsOrderly c w e
+      go None is h = cc
+      go (Some x) is h =
+          subst (λ (y : Exchange). IsOrderly c w y) (same_Some (Attach a.0 (spot.At x.no x.own) x.source x.exec) e h)
+          (λ r at same. bridge-within c xs all b x is ∙ live a x.no x.own r at same)
+  crossing-within cross.Down a b e found h = go (bridge_at b (seen_of xs b.0)) refl h
+    where
+      go : (o : Option Bridge) → bridge_at b (seen_of xs b.0) ≡ o → crossed cross.Down a o ≡ Some e → IsOrderly c w e
+      go None is h = cc
+      go (Some x) is h =
+          subst (λ (y : Exchange). IsOrderly c w y) (same_Some (Attach a.0 (spot.At x.source x.exec) x.no x.own) e h)
+          (λ r at same. sym (bridge-within c xs all b x is) ∙ live a x.source x.exec r at same)
+  crossing-within cross.About a b e found h = go (bridge_at b (seen_of xs b.0)) refl h
+    where
+      go : (o : Option Bridge) → bridge_at b (seen_of xs b.0) ≡ o → crossed cross.About a o ≡ Some e → IsOrderly c w e
+      go None is h = cc
+      go (Some x) is h =
+          let under = (and_parts (is_under (source_shown (seen_of xs b.0)) a.0) (logs_at w b.0) found).0 in
+          let p = bridge-parts b (seen_of xs b.0) x is in
+          let about : x.source.0 ≡ a.0 = eqb-true x.source.0 a.0 (sym (ap (λ o. is_under o a.0) (ap source_shown p.is ∙ p.from)) ∙ under) in
+          subst (λ (y : Exchange). IsOrderly c w y) (same_Some (Attach a.0 (spot.OwnEnd x.exec) x.no x.own) e h)
+          (λ r at same. sym (bridge-within c xs all b x is) ∙ ap (λ (k : ℕ). label (c k)) about)
+  crossing-within cross.Back a b e found h = back-within a e h
+
+  same-within : (n : ServerNo) (e : Exchange) → same_again n (seen_of xs n.0) ≡ Some e → IsOrderly c w e
+  same-within n e h = go (seen_of xs n.0) refl h
+    where
+      by : (s : Position) (m : ServerNo) → seen_of xs n.0 ≡ Some s → source_no s.source ≡ Some m.0 → Some (Attach n.0 (spot.At m s.exec) m s.exec) ≡ Some e → IsOrderly c w e
+      by s m is from h =
+          subst (λ (y : Exchange). IsOrderly c w y) (same_Some (Attach n.0 (spot.At m s.exec) m s.exec) e h) (λ r at same. (all n.0 s is).source m.0 from)
+
+      at : (s : Position) (x : SourceState) → seen_of xs n.0 ≡ Some s → s.source ≡ x → attached_anew n s.exec x ≡ Some e → IsOrderly c w e
+      at s Without is from h = cc
+      at s (Attached m) is from h = by s m is (ap source_no from) h
+      at s (Detached m) is from h = by s m is (ap source_no from) h
+
+      go : (o : Option Position) → seen_of xs n.0 ≡ o → same_again n o ≡ Some e → IsOrderly c w e
+      go None is h = cc
+      go (Some s) is h = at s s.source is refl h
+
+  auto-within : (n m : ServerNo) (e : Exchange) → w.gtid ≡ true → AreAlike c m.0 n.0 → by_set n m (seen_of xs m.0) ≡ Some e → IsOrderly c w e
+  auto-within n m e gtid same h = go (seen_of xs m.0) h
+    where
+      go : (o : Option Position) → by_set n m o ≡ Some e → IsOrderly c w e
+      go None h = cc
+      go (Some s) h = subst (λ (y : Exchange). IsOrderly c w y) (same_Some (AttachAuto n.0 s.set m) e h) (gtid, same)
+
+-- ---- aims
+
+module _ (c : Clusters) (w : World) (placed : Placed w) (trim : IsTrim c w) (xs : List Sight) (shown : AllShow w xs) (all : AllWithin c xs) where
+  exec-written : (n : ℕ) (p : Position) → seen_of xs n ≡ Some p → IsWritten p.exec
+  exec-written n p is = go p.source refl
+    where
+      go : (x : SourceState) → p.source ≡ x → IsWritten p.exec
+      go Without from = (all n p is).bare from
+      go (Attached m) from = written-target c w placed trim m.0 p.exec ((shown n p is).under m.0 (ap source_no from))
+      go (Detached m) from = written-target c w placed trim m.0 p.exec ((shown n p is).under m.0 (ap source_no from))
+
+  aim-written : (to : Aim) (at : Coord) → aim_of xs to ≡ Some at → IsWritten at
+  aim-written (aim.EndOf n) at h = go (seen_of xs n.0) refl h
+    where
+      go : (o : Option Position) → seen_of xs n.0 ≡ o → option_and_then (λ s. s.own_end) o ≡ Some at → IsWritten at
+      go None is h = cc
+      go (Some p) is h = written-target c w placed trim n.0 at ((shown n.0 p is).own at h)
+  aim-written (aim.ExecOf n) at h = go (seen_of xs n.0) refl h
+    where
+      go : (o : Option Position) → seen_of xs n.0 ≡ o → option_map (λ s. s.exec) o ≡ Some at → IsWritten at
+      go None is h = cc
+      go (Some p) is h = subst IsWritten (same_Some p.exec at h) (exec-written n.0 p is)
+
+  until-written : (o : Option Position) (to : Option Coord) → ((at : Coord) → to ≡ Some at → IsWritten at) → IfSome (until_by o to) IsWritten
+  until-written None to each = tt
+  until-written (Some s) None each = tt
+  until-written (Some s) (Some at) each = go (is_at_or_before at s.exec)
+    where
+      go : (b : Bool) → IfSome (cond b None (Some at)) IsWritten
+      go true = tt
+      go false = each at refl
+
+-- ---- each kind of operation
+
+module _ (c : Clusters) (w : World) (j : Job) (rest : List Op) (placed : Placed w) (trim : IsTrim c w) (shown : AllShow w j.seen) (all : AllWithin c j.seen) (again : AreDueWithin c j.ops) where
+  saw-within : (n : ServerNo) (s : Status) → seen_in (status w n.0) ≡ Some s → AllWithin c (with_seen j.seen n (position_of s))
+  saw-within n s is = with-one (StoodWithin c) j.seen n (position_of s) all (stood-within c w placed trim n.0 s is)
+
+  look-within : (n : ServerNo) (from : Option ServerNo) (o : Observation) (r : Option Status) → seen_in (status w n.0) ≡ r → IsReadWithin c o → IsDueWithin c (deed.Look n from) (AreDueWithin c rest)
+      → IsTriedWithin c w (after_look j rest n from o r)
+  look-within n from o None is read due = read
+  look-within n from o (Some s) is read due = go (is_moved from s.source) refl
+    where
+      learns : (f : Option ServerNo) → is_moved f s.source ≡ false → IsDueWithin c (deed.Look n f) (AreDueWithin c rest) → AreDueWithin c rest
+      learns None e due = due
+      learns (Some m) e due = due ((stood-within c w placed trim n.0 s is).source m.0 (not-moved m s.source e))
+
+      go : (b : Bool) → is_moved from s.source ≡ b → IsTriedWithin c w (after_status j rest n from o s b)
+      go true e = read
+      go false e = record { orderly = tt; job = record { seen = saw-within n s is; left = learns from e due }; read = read }
+
+  ask-within : (n : ServerNo) (a : Ask) (r : Result (Unit {0}) Unreachable) → IsOrderlyAsk a → AreDueWithin c rest → IsTriedWithin c w (after_ask j rest n a r)
+  ask-within n a (Ok t) fine due = record { orderly = (fine, tt); job = record { seen = all; left = due }; read = tt }
+  ask-within n a (Err e) fine due = tt
+
+  passed-within : AreDueWithin c rest → GoesWithin c w None [] (next j rest)
+  passed-within due = record { orderly = tt; job = record { seen = all; left = due }; read = tt }
+
+  until-within : (n : ServerNo) (o : Option Coord) → IfSome o IsWritten → AreDueWithin c rest → IsTriedWithin c w (after_until w j rest n o)
+  until-within n None fine due = passed-within due
+  until-within n (Some to) fine due = ask-within n (asking.StartUntil to) (desk_answer (server_at w n.0)) fine due
+
+  wait-within : (n : ServerNo) (reached : Status → Bool) (r : Option Status) → seen_in (status w n.0) ≡ r → AreDueWithin c rest → IsTriedWithin c w (after_wait j rest n reached r)
+  wait-within n reached None is due = tt
+  wait-within n reached (Some s) is due = go (reached s)
+    where
+      more : (b : Bool) → IsTriedWithin c w (cond b (Goes None [] (record (saw j n s) { waited = j.waited + 1 })) (Stops (cause.WaitSpent n) None))
+      more true = record { orderly = tt; job = record { seen = saw-within n s is; left = again }; read = tt }
+      more false = tt
+
+      go : (b : Bool) → IsTriedWithin c w (after_wait_by j rest n s b)
+      go true = record { orderly = tt; job = record { seen = saw-within n s is; left = due }; read = tt }
+      go false = more (nat_lt (j.waited + 1) j.wait)
+
+  attach-within : (n : ServerNo) (o : Option Exchange) → ((e : Exchange) → o ≡ Some e → IsOrderly c w e) → AreDueWithin c rest → IsTriedWithin c w (after_attach w j rest n o)
+  attach-within n None fine due = passed-within due
+  attach-within n (Some e) fine due = by (can_attach w e)
+    where
+      go : (r : Result (Unit {0}) AttachFault) → IsTriedWithin c w (after_answer j rest n e r)
+      go (Ok t) = record { orderly = (fine e refl, tt); job = record { seen = all; left = due }; read = tt }
+      go (Err f) = tt
+
+      by : (b : Bool) → IsTriedWithin c w (cond b (after_answer j rest n e (attach_answer_of w e)) (Goes None [] (next j rest)))
+      by true = go (attach_answer_of w e)
+      by false = passed-within due
+
+-- ---- any operation
+
+pub deed-within : (c : Clusters) (w : World) (read : ℕ) (now : Moment) (j : Job) (rest : List Op) (d : Deed) → Placed w → IsTrim c w → AllShow w j.seen → AllWithin c j.seen → AreDueWithin c j.ops
+    → finds (footing w j.seen) d ≡ true → IsDueWithin c d (AreDueWithin c rest) → IsTriedWithin c w (by_deed w read now j rest d)
+deed-within c w read now j rest (deed.Look n from) placed trim shown all again found due =
+    look-within c w j rest placed trim shown all again n from (observed w read now n) (seen_in (status w n.0)) refl (read-within c w placed trim read now n) due
+deed-within c w read now j rest (deed.Request n a) placed trim shown all again found due = ask-within c w j rest placed trim shown all again n a (desk_answer (server_at w n.0)) due.0 due.1
+deed-within c w read now j rest (deed.Until n to) placed trim shown all again found due =
+    until-within c w j rest placed trim shown all again n (until_by (seen_of j.seen n.0) (aim_of j.seen to))
+    (until-written c w placed trim j.seen shown all (seen_of j.seen n.0) (aim_of j.seen to) (aim-written c w placed trim j.seen shown all to)) due
+deed-within c w read now j rest (deed.Await n to) placed trim shown all again found due =
+    wait-within c w j rest placed trim shown all again n (λ s. is_reached (aim_of j.seen to) s.exec) (seen_in (status w n.0)) refl due
+deed-within c w read now j rest (deed.AwaitSet n m) placed trim shown all again found due =
+    wait-within c w j rest placed trim shown all again n (holds_seen (seen_of j.seen m.0)) (seen_in (status w n.0)) refl due
+deed-within c w read now j rest (deed.Settle n) placed trim shown all again found due =
+    wait-within c w j rest placed trim shown all again n (settles j) (seen_in (status w n.0)) refl due
+deed-within c w read now j rest (deed.Cross d a b) placed trim shown all again found due =
+    attach-within c w j rest placed trim shown all again a (crossed d a (bridge_at (read_by d a b) (seen_of j.seen (read_by d a b).0)))
+    (λ e h. crossing-within c w trim j.seen all d a b e found h) due
+deed-within c w read now j rest (deed.Same n) placed trim shown all again found due =
+    attach-within c w j rest placed trim shown all again n (same_again n (seen_of j.seen n.0)) (same-within c w trim j.seen all n) due
+deed-within c w read now j rest (deed.Auto n m) placed trim shown all again found due =
+    let gtid : w.gtid ≡ true = (and_parts w.gtid ((footing w j.seen).read m.0 && (footing w j.seen).logs m.0) found).0 in
+    attach-within c w j rest placed trim shown all again n (by_set n m (seen_of j.seen m.0)) (λ e h. auto-within c w trim j.seen all n m e gtid due.0 h) due.1
+deed-within c w read now j rest (deed.Finish lines) placed trim shown all again found due = tt
+
+-- ---- a turn of a plan's job
+
+failed-within : (c : Clusters) (w : World) (j : Job) (why : Cause) (o : Option Observation) → AllWithin c j.seen → IfSome o (IsReadWithin c) → IsTurnWithin c w (failed j why o)
+failed-within c w j why o all read = record { orderly = orderly-restarts c w j.hands; job = record { seen = all; left = tt }; read = read }
+
+settled-within : (c : Clusters) (w : World) (j : Job) (a : Attempt) → AllWithin c j.seen → IsTriedWithin c w a → IsTurnWithin c w (settled j a)
+settled-within c w j (Goes o es k) all fine = fine
+settled-within c w j (Stops why o) all fine = failed-within c w j why o all fine
+settled-within c w j (Rattle.operations.specs.Turns.Ends lines) all fine = record { orderly = tt; job = record { seen = all; left = tt }; read = tt }
+
+pub turn-within : (c : Clusters) (w : World) (read : ℕ) (now : Moment) (j : Job) → Placed w → IsTrim c w → HeldJob w j → IsJobWithin c j → IsTurnWithin c w (turned w read now j)
+turn-within c w read now j placed trim held within = go j.ops refl within.left
+  where
+    go : (ops : List Op) → j.ops ≡ ops → AreDueWithin c ops → IsTurnWithin c w (settled j (by_ops w read now j ops))
+    go [] is due = record { orderly = tt; job = record { seen = within.seen; left = tt }; read = tt }
+    go (op ∷ rest) is due =
+        settled-within c w j (by_ops w read now j (op ∷ rest)) within.seen
+        (deed-within c w read now j rest (deed_of op) placed trim held.shown within.seen within.left (due-of w j op rest is held.left).found due)

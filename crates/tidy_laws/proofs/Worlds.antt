@@ -1,0 +1,124 @@
+-- A quiet state's servers are those of its scenario.
+use Rattle.std.proofs.Common.{◌≡◌, ◌∙◌, ℕ, ◌+◌, Bool, List, [], ◌∷◌, length, map, refl, sym, ap, subst, Option, Some, None, arith, suc}
+use Rattle.std.specs.Prelude.{All, slice_get}
+use Rattle.std.specs.Option.{option_map}
+use Rattle.std.proofs.lemmas.List.Elements.{All-head, All-tail}
+use Rattle.std.proofs.lemmas.Option.{same_Some}
+use Rattle.orch_base.specs.Memory.{next_count}
+use Rattle.orch_base.specs.declared.server.Settings.{Settings}
+use Rattle.kept_rows.specs.declared.row.Row.{Row}
+use Rattle.openings.specs.declared.init.ServerInit.{ServerInit}
+use Rattle.server_model.specs.declared.server.Server.{Server}
+use Rattle.server_model.specs.Run.{AllAllowed, run}
+use Rattle.server_model.specs.Safe.{IsQuiet}
+use Rattle.server_model.specs.Worlds.{World}
+use Rattle.replication_laws.specs.Growth.{Grows}
+use Rattle.replication_laws.proofs.Runs.{Grows-run}
+use Rattle.world_openings.specs.Opening.{opened_from}
+use Rattle.operations.proofs.Allowing.{turn-allowed}
+use Rattle.job_laws.proofs.Modes.{gtid-run}
+use Rattle.jobs_in_flight.specs.Jobs.{job_at, job_exchanges}
+use Rattle.recovery_plans.proofs.Allowed.{taken-allowed}
+use Rattle.unended_jobs.specs.declared.unended.Unended.{Unended}
+use Rattle.unended_jobs.specs.declared.unended.Unended.TheVariants as unended
+use Rattle.scenarios.specs.declared.scenario.Scenario.{Scenario}
+use Rattle.scenarios.specs.Scenarios.{flushes_of, room_of, settings_of}
+use Rattle.scenarios.specs.Turns.{IsTurn}
+use Rattle.turns.specs.declared.turn.Act.{Act}
+use Rattle.turns.specs.declared.turn.Act.TheVariants as act
+use Rattle.turns.specs.declared.turn.Turn.{Turn}
+use Rattle.turns.specs.declared.turn.Turn.TheVariants as turn
+use Rattle.orch_core.specs.After.{step as turn_step}
+use Rattle.orch_core.specs.Jobs.{turn_of}
+use Rattle.orch_core.specs.Runs.{engine, run_turns, turns_of}
+use Rattle.orch_core.specs.Scenarios.{start}
+use Rattle.orch_core.specs.States.{State}
+use Rattle.orch_core.specs.Turns.{act_exchanges, exchanges_at}
+use Rattle.orch_core.proofs.States.{Allowed-step}
+use Rattle.run_laws.specs.Flights.{moment_at}
+use Rattle.run_laws.specs.Runs.{ComesTo}
+use Rattle.run_laws.proofs.RunLaws.{Goes, Goes-comes, Goes-start, Goes-step}
+use Rattle.run_laws.proofs.Worlds.{world-turn}
+use Rattle.scenario_dump.specs.Reading.{IsWorldOf}
+use Rattle.tidy_laws.specs.Runs.{UntilsCanBePrinted}
+use Rattle.tidy_laws.proofs.Runs.{tidy-comes}
+
+abbrev settings_in : List Server → List Settings
+settings_in servers = map (λ x. x.settings) servers
+
+-- servers that go on keep their settings
+same-settings : (xs ys : List Server) → length ys ≡ length xs → ((n : ℕ) (s : Server) → slice_get xs n ≡ Some s → (t : Server) × (slice_get ys n ≡ Some t) × (t.settings ≡ s.settings)) → settings_in ys ≡ settings_in xs
+same-settings [] [] long each = refl
+same-settings [] (y ∷ ys) long each = absurd (omega arith)
+same-settings (x ∷ xs) [] long each = absurd (omega arith)
+same-settings (x ∷ xs) (y ∷ ys) long each =
+    let first = each 0 x refl in
+    let is : y ≡ first.0 = same_Some y first.0 first.1 in
+    let head : y.settings ≡ x.settings = ap (λ (s : Server). s.settings) is ∙ first.2 in
+    let rest = same-settings xs ys (omega arith) (λ n s h. each (suc n) s h) in
+    ap (λ (s : Settings). s ∷ settings_in ys) head ∙ ap (λ (ss : List Settings). x.settings ∷ ss) rest
+
+-- a turn's exchanges are allowed
+job-allowed : (s : State) (o : Option Unended) → AllAllowed s.world (job_exchanges (option_map (turn_of s) o))
+job-allowed s None = tt
+job-allowed s (Some (unended.Plan j)) = turn-allowed s.world (next_count s.reads) (moment_at s) j
+job-allowed s (Some (unended.Recovery r entry)) = taken-allowed s.world s.book (next_count s.reads) (moment_at s) r
+
+act-allowed : (s : State) (a : Act) → AllAllowed s.world (act_exchanges s a)
+act-allowed s (act.PollRead p n) = tt
+act-allowed s (act.PollStore p) = tt
+act-allowed s (act.Command x) = tt
+act-allowed s (act.Job job) = job-allowed s (job_at s.jobs job)
+act-allowed s act.Scan = tt
+act-allowed s act.Restart = tt
+
+turn-exchanges : (count : ℕ) (s : State) (t : Turn) → IsTurn count t → AllAllowed s.world (exchanges_at s t)
+turn-exchanges count s (turn.Step x) is = (Allowed-step count s.world x is).0
+turn-exchanges count s (turn.Tick seconds) is = tt
+turn-exchanges count s (turn.Act a) is = act-allowed s a
+turn-exchanges count s (turn.As node a) is = absurd is
+turn-exchanges count s (turn.Claim node) is = absurd is
+turn-exchanges count s (turn.Release node) is = absurd is
+
+-- the servers' settings, and the mode
+record IsOf (settings : List Settings) (gtid : Bool) (w : World) : Type 0 where
+  all : settings_in w.servers ≡ settings
+  mode : w.gtid ≡ gtid
+
+of-step : (settings : List Settings) (gtid : Bool) (count : ℕ) (rows : List Row) (s : State) (t : Turn) → IsTurn count t → Goes count s → IsOf settings gtid s.world → IsOf settings gtid (turn_step rows s t).world
+of-step settings gtid count rows s t is goes of =
+    let es = exchanges_at s t in
+    let allowed = turn-exchanges count s t is in
+    let grows : Grows s.world (run s.world es) = Grows-run s.world es goes.held.flight.placed allowed in
+    let after = Goes-step count rows s t is goes in
+    let world : (turn_step rows s t).world ≡ run s.world es = world-turn rows s t in
+    let long : length (run s.world es).servers ≡ length s.world.servers = sym (ap (λ (w : World). length w.servers) world) ∙ after.ready.servers ∙ sym goes.ready.servers in
+    subst (IsOf settings gtid) (sym world) (record {
+      all =
+          same-settings s.world.servers (run s.world es).servers long
+          (λ n x h. let g = grows n x h in (g.0, g.1, g.2.settings)) ∙ of.all;
+      mode = gtid-run s.world es ∙ of.mode;
+    })
+
+of-run : (settings : List Settings) (gtid : Bool) (count : ℕ) (s : State) (xs : List (List Row × Turn)) → All (IsTurn count) (turns_of xs) → Goes count s → IsOf settings gtid s.world
+    → IsOf settings gtid (run_turns engine s xs).world
+of-run settings gtid count s [] all goes of = of
+of-run settings gtid count s (x ∷ xs) all goes of =
+    let here = All-head (IsTurn count) x.1 (turns_of xs) all in
+    of-run settings gtid count (turn_step x.0 s x.1) xs (All-tail (IsTurn count) x.1 (turns_of xs) all) (Goes-step count x.0 s x.1 here goes) (of-step settings gtid count x.0 s x.1 here goes of)
+
+opened-settings : (servers : List ServerInit) (room flushes k : ℕ) (is : List ServerInit) → settings_in (opened_from servers room flushes k is) ≡ map (λ i. i.settings) is
+opened-settings servers room flushes k [] = refl
+opened-settings servers room flushes k (i ∷ is) = ap (λ (ss : List Settings). i.settings ∷ ss) (opened-settings servers room flushes (k + 1) is)
+
+of-comes : (s : Scenario) (xs : List (List Row × Turn)) (now : State) → ComesTo s xs now → IsOf (settings_of s) s.opening.gtid now.world
+of-comes s xs now comes =
+    subst (λ (x : State). IsOf (settings_of s) s.opening.gtid x.world) (sym comes.state)
+    (of-run (settings_of s) s.opening.gtid (length s.opening.servers) (start s comes.wait comes.rows) xs comes.turns (Goes-start s comes.wait comes.rows comes.scenario)
+    (record { all = opened-settings s.opening.servers (room_of s) (flushes_of s) 0 s.opening.servers; mode = refl }))
+
+pub world-comes : (s : Scenario) (xs : List (List Row × Turn)) (now : State) → ComesTo s xs now → UntilsCanBePrinted s → IsQuiet now.world → IsWorldOf s now.world
+world-comes s xs now comes untils quiet =
+    let goes = Goes-comes s xs now comes in
+    let of = of-comes s xs now comes in
+    record { settings = of.all; gtid = of.mode; safe = (goes.sound quiet).flight.safe; tidy = tidy-comes s xs now comes untils; quiet = quiet }

@@ -1,0 +1,15 @@
+-- When what is dumped of a state of a run reads back.
+use Rattle.std.specs.Prelude.{◌≡◌, ℕ, Ok}
+use Rattle.scenarios.specs.declared.scenario.Scenario.{Scenario}
+use Rattle.scenarios.specs.Scenarios.{IsScenario}
+use Rattle.scenario_dump.specs.Reading.{dumped_scenario, refitted}
+use Rattle.scenario_dump.specs.Texts.{dump_text}
+use Rattle.scenario_reader.specs.Scenarios.{scenario_in}
+use Rattle.server_model.specs.Worlds.{World}
+use Rattle.world_openings.specs.Opening.{opened_world}
+
+-- the text reads without a fault, as the scenario that it tells; this can be run, and its servers open to the very world
+pub record ReadsBack (w : World) (s : Scenario) (now : ℕ) : Type 0 where
+  pub reads : scenario_in (dump_text w s now) ≡ Ok (dumped_scenario w s now)
+  pub runs : IsScenario (dumped_scenario w s now)
+  pub opens : (room flushes : ℕ) → opened_world (dumped_scenario w s now).opening room flushes ≡ refitted room flushes w

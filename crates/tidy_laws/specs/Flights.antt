@@ -1,0 +1,42 @@
+-- That servers with jobs in flight, and what is kept of them, stay within clusters.
+use Rattle.std.specs.Prelude.{◌≡◌, List, [], ◌∷◌, All, IfSome, Some}
+use Rattle.server_model.specs.Run.{AllAllowed, Allowed}
+use Rattle.server_model.specs.Safe.{Placed}
+use Rattle.server_model.specs.Worlds.{World}
+use Rattle.operations.specs.Jobs.{Job}
+use Rattle.operations.specs.Turns.{Turned, turned}
+use Rattle.job_laws.specs.Flights.{Flight}
+use Rattle.job_laws.specs.Leases.{job_at}
+use Rattle.job_laws.specs.Passages as pass
+use Rattle.job_laws.specs.Passages.{Passage, passed}
+use Rattle.tidy_laws.specs.Clusters.{Clusters}
+use Rattle.tidy_laws.specs.Trim.{AllOrderly, IsOrderly, IsTrim}
+use Rattle.tidy_laws.specs.Within.{IsReadWithin, IsWithinCluster}
+
+-- the servers are placed and trim, and each bridge and each slot's reading is within a cluster
+pub record IsNeat (c : Clusters) (f : Flight) : Type 0 where
+  pub placed : Placed f.world
+  pub trim : IsTrim c f.world
+  pub rings : All (All (IsWithinCluster c)) f.rings
+  pub slots : All (λ slot. IfSome slot (IsReadWithin c)) f.slots
+
+-- a turn's exchanges are allowed and in order, and so is what it observes
+pub record IsNeatTurn (c : Clusters) (w : World) (t : Turned) : Type 0 where
+  pub allowed : AllAllowed w t.exchanges
+  pub orderly : AllOrderly c w t.exchanges
+  pub read : IfSome t.observation (IsReadWithin c)
+
+abbrev pub IsNeatPassage : Clusters → Flight → Passage → Type 0
+IsNeatPassage c f (pass.Exchanging e) = Allowed f.world e × IsOrderly c f.world e
+IsNeatPassage c f (pass.Polling p n read now) = Unit {0}
+IsNeatPassage c f (pass.Storing p keeps) = Unit {0}
+IsNeatPassage c f (pass.Discovering n read now) = Unit {0}
+IsNeatPassage c f (pass.Forgetting n) = Unit {0}
+IsNeatPassage c f pass.Restarting = Unit {0}
+IsNeatPassage c f (pass.Beginning list j) = Unit {0}
+IsNeatPassage c f (pass.Turning id read now keeps) = (j : Job) → job_at f.jobs id ≡ Some j → IsNeatTurn c f.world (turned f.world read now j)
+IsNeatPassage c f (pass.Taking id t keeps) = IsNeatTurn c f.world t
+
+abbrev pub AreNeatPassages : Clusters → Flight → List Passage → Type 0
+AreNeatPassages c f [] = Unit {0}
+AreNeatPassages c f (p ∷ ps) = IsNeatPassage c f p × AreNeatPassages c (passed f p) ps

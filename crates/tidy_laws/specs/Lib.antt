@@ -1,0 +1,7 @@
+pub mod Clusters
+pub mod Trim
+pub mod Within
+pub mod Recoveries
+pub mod Flights
+pub mod Runs
+pub mod Dumps

@@ -1,0 +1,61 @@
+//! Laws of the servers of runs beside that they are placed and safe: what a dump of them as a scenario rests on.
+#![tactic(auto)]
+
+ghost use Rattle.std.specs.Prelude.{◌≡◌, ℕ, List, Ok};
+ghost use Rattle.run_laws.specs.Runs.{InEveryStateOf};
+ghost use Rattle.scenario_dump.specs.Reading.{IsWithinLimits, IsWorldOf};
+ghost use Rattle.scenario_dump.specs.Tidy.{IsTidy};
+ghost use Rattle.scenario_reader.specs.Scenarios.{scenario_in};
+ghost use Rattle.scenarios.specs.declared.scenario.Scenario.{Scenario as AScenario};
+ghost use Rattle.server_model.specs.Run.{Allowed, Exchange, after};
+ghost use Rattle.server_model.specs.Safe.{IsQuiet, Placed};
+ghost use Rattle.server_model.specs.Worlds.{World};
+ghost use Rattle.tidy_laws.specs.Clusters.{Clusters};
+ghost use Rattle.tidy_laws.specs.Dumps.{ReadsBack};
+ghost use Rattle.tidy_laws.specs.Runs.{UntilsCanBePrinted};
+ghost use Rattle.tidy_laws.specs.Trim.{IsOrderly, IsTrim};
+
+use dump_laws::dumps_read;
+use dump_openings::{dumped_worlds_lack_flaws, dumped_worlds_open};
+
+/// Each state of each run over a scenario is tidy, quiet or not, whatever rows the keeper hands back: a server without
+/// a source has nothing of a replica, GTIDs find places only where they are used, each coordinate of a replica can be
+/// printed, transactions have sizes in their range, logs have their settings' limits, and each server is of the cluster
+/// of its source and of the origins of its transactions. So it is where the coordinates up to which the scenario's
+/// appliers are to go can be printed.
+pub fn every_state_is_tidy()
+    ensures { InEveryStateOf (λ s now. UntilsCanBePrinted s → IsTidy now.world) }
+{}
+
+/// The servers of each quiet state of each run are those of its scenario, with their settings in its order and its
+/// mode, safe and tidy.
+pub fn quiet_states_are_worlds_of_their_scenario()
+    ensures { InEveryStateOf (λ s now. UntilsCanBePrinted s → IsQuiet now.world → IsWorldOf s now.world) }
+{}
+
+/// In a scenario that was read the coordinates up to which appliers are to go can be printed.
+pub fn read_scenarios_can_be_printed()
+    ensures { (bytes : List ℕ) (s : AScenario) → scenario_in bytes ≡ Ok s → UntilsCanBePrinted s }
+{}
+
+/// What is dumped of a quiet state of a run over a scenario that was read, and keeps the limits of scenarios, reads
+/// without a fault, as a scenario that can be run; and its servers open to the very world that was dumped: the history
+/// of each server, its log, first kept file, source, coordinates, threads and settings.
+pub fn dumps_of_runs_read_back()
+    ensures { InEveryStateOf (λ s now. (bytes : List ℕ) → scenario_in bytes ≡ Ok s
+        → IsQuiet now.world → IsWithinLimits now.world s now.moment
+        → ReadsBack now.world s now.moment) }
+{
+    dumped_worlds_lack_flaws();
+    dumped_worlds_open();
+    dumps_read();
+}
+
+/// An exchange that is allowed and in order keeps servers trim: it writes a transaction with a size in its range, starts
+/// a replica up to a coordinate that can be printed, or attaches a server to one of its own cluster. A placed world of
+/// trim servers is tidy.
+pub fn exchanges_in_order_keep_trim()
+    ensures keeps { (c : Clusters) (w : World) (e : Exchange) → IsTrim c w → Allowed w e → IsOrderly c w e →
+        IsTrim c (after w e) }
+    ensures tidy { (c : Clusters) (w : World) → Placed w → IsTrim c w → IsTidy w }
+{}
