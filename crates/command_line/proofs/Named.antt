@@ -1,23 +1,26 @@
 -- What words that are taken have.
-use Rattle.std.proofs.Common.{◌≡◌, ℕ, ◌≤◌, Bool, true, false, List, length, Option, Some, None, Result, Ok, Err, refl, sym, ap, subst, cond}
-use Rattle.std.specs.Prelude.{◌&&◌, ◌||◌, codes, is_some, nat_le, not, IfSome, option_map, ◌*◌}
+use Rattle.std.proofs.Common.{◌≡◌, ◌∙◌, ℕ, ◌≤◌, arith, Bool, true, false, List, length, Option, Some, None, Result, Ok, Err, refl, sym, ap, subst, cond}
+use Rattle.std.specs.Prelude.{◌&&◌, ◌||◌, ◌-◌, ◌^◌, codes, is_some, nat_le, not, IfSome, option_map, ◌*◌}
 use Rattle.std.proofs.lemmas.Bool.{leb-true}
 use Rattle.clap.specs.Walk.{Row, Text, first_of}
 use Rattle.cluster_filters.specs.Patterns.{is_pattern}
-use Rattle.command_routes.specs.Routes.{is_built_command}
-use Rattle.commands.specs.Values.{number_and_unit, number_at, seconds_at, within}
+use Rattle.commands.specs.Values.{number_and_unit, number_at, number_within, seconds_at, within}
 use Rattle.orch_base.specs.Gives.{◌>>=◌}
+use Rattle.scenario_generator.specs.Bounds.{is_drawable}
+use Rattle.command_line.specs.declared.command.Own.{Own}
+use Rattle.command_line.specs.declared.command.Own.TheVariants.{Run, Generate, Dump}
+use Rattle.command_line.specs.declared.parts.Counts.{Counts}
 use Rattle.command_line.specs.declared.parts.Instances.{Instances}
 use Rattle.command_line.specs.declared.parts.Places.{Places}
 use Rattle.command_line.specs.declared.parts.Texts.{Texts}
 use Rattle.command_line.specs.declared.usage.Usage.{Usage}
 use Rattle.command_line.specs.declared.usage.Usage.TheVariants.{BadWords}
-use Rattle.command_line.specs.Commands.{command_in, has_needed, is_given, needs_at}
+use Rattle.command_line.specs.Commands.{command_in, has_needed, is_given, is_taken_word, needs_at, own_at}
 use Rattle.command_line.specs.Options.{rows_of_texts, texts_of}
-use Rattle.command_line.specs.Places.{counts_in, instances_in, places_in, places_of, texts_in}
-use Rattle.command_line.specs.Taken.{AreTaken}
+use Rattle.command_line.specs.Places.{bounded_in, counts_in, drawing_by, instances_in, is_within_bound, places_in, places_of, texts_in}
+use Rattle.command_line.specs.Taken.{AreTaken, IsDrawn}
 use Rattle.command_line.specs.Usages.{or_bad}
-use Rattle.command_line.specs.Values.{duration_in, maybe, name_in, or_bad as or_bad_value, pattern_in, rule_in, text_in, text_within}
+use Rattle.command_line.specs.Values.{duration_in, maybe, name_in, number_in, or_bad as or_bad_value, or_default, pattern_in, rule_in, text_in, text_within}
 
 abbrev Same : {A : Type 0} → Result A Usage → Result A Usage → Type 0
 Same r s = r ≡ s
@@ -85,21 +88,21 @@ pattern_has text t e = go (is_pattern text) refl e
 
 -- ---- the command
 
--- the command is built, and has what it needs
+-- the command is taken, and has what it needs
 record IsGiven (rows : List Row) (command : Text) : Type 0 where
-  built : is_built_command command ≡ true
+  word : is_taken_word command ≡ true
   there : has_needed (needs_at command) rows ≡ true
 
 given : (rows : List Row) (command : Text) → command_in rows ≡ Ok command → IsGiven rows command
 unfolding command_in
 given rows command e =
     let text = bind_ok (or_bad (first_of (codes "c") rows)) _ command e in
-    go text.0 (is_built_command text.0 && has_needed (needs_at text.0) rows) refl text.2
+    go text.0 (is_taken_word text.0 && has_needed (needs_at text.0) rows) refl text.2
   where
-    go : (text : Text) (b : Bool) → (is_built_command text && has_needed (needs_at text) rows) ≡ b → cond {A = Result Text Usage} b (Ok text) (Err BadWords) ≡ Ok command → IsGiven rows command
+    go : (text : Text) (b : Bool) → (is_taken_word text && has_needed (needs_at text) rows) ≡ b → cond {A = Result Text Usage} b (Ok text) (Err BadWords) ≡ Ok command → IsGiven rows command
     go text true is e =
-        let parts = both_true (is_built_command text) (has_needed (needs_at text) rows) is in
-        subst (IsGiven rows) (same_ok text command e) (record { built = parts.0; there = parts.1 })
+        let parts = both_true (is_taken_word text) (has_needed (needs_at text) rows) is in
+        subst (IsGiven rows) (same_ok text command e) (record { word = parts.0; there = parts.1 })
     go text false is e = cc
 
 -- ---- all options
@@ -145,13 +148,54 @@ texts_have rows t e =
       there = read_there pattern_in (first_of (codes "pattern") rows) pattern.0 pattern.1;
     })
 
+-- ---- what is to be drawn
+
+number_has : (low high n : ℕ) (text : Text) → number_in low high text ≡ Ok n → (low ≤ n) × (n ≤ high)
+number_has low high n text e = in_range low high n (number_at text) (read_some (number_within low high text) n e)
+
+default_has : (low high default n : ℕ) (o : Option Text) → low ≤ default → default ≤ high → or_default default (number_in low high) o ≡ Ok n → (low ≤ n) × (n ≤ high)
+default_has low high default n None above below e = subst (λ (k : ℕ). (low ≤ k) × (k ≤ high)) (same_ok default n e) (above, below)
+default_has low high default n (Some text) above below e = number_has low high n text e
+
+-- there is some server
+some_servers : (rows : List Row) (c : Counts) → counts_in rows ≡ Ok c → 1 ≤ c.servers
+unfolding counts_in
+some_servers rows c e =
+    let pollers = bind_ok (or_default 2 (number_in 1 16) (first_of (codes "pollers") rows)) _ c e in
+    let workers = bind_ok (or_default 2 (number_in 1 16) (first_of (codes "workers") rows)) _ c pollers.2 in
+    let wait = bind_ok (or_default 1000 (number_in 1 10000) (first_of (codes "wait") rows)) _ c workers.2 in
+    let seed = bind_ok (or_default 1 (number_in 0 (2 ^ 64 - 1)) (first_of (codes "seed") rows)) _ c wait.2 in
+    let servers = bind_ok (or_default 10 (number_in 1 1000) (first_of (codes "servers") rows)) _ c seed.2 in
+    let turns = bind_ok (or_default 100 (number_in 0 1000000) (first_of (codes "turns") rows)) _ c servers.2 in
+    let least : 1 ≤ servers.0 = (default_has 1 1000 10 servers.0 (first_of (codes "servers") rows) (omega arith) (omega arith) servers.1).0 in
+    subst (λ (k : Counts). 1 ≤ k.servers) (same_ok (record { pollers = pollers.0; workers = workers.0; wait = wait.0; seed = seed.0; servers = servers.0; turns = turns.0 }) c turns.2) least
+
+bounded : (command : Text) (rows : List Row) (c : Counts) → bounded_in command rows ≡ Ok c → (1 ≤ c.servers) × (is_within_bound (own_at command) c ≡ true)
+unfolding bounded_in
+bounded command rows c e =
+    let counts = bind_ok (counts_in rows) _ c e in
+    go counts.0 (is_within_bound (own_at command) counts.0) refl (some_servers rows counts.0 counts.1) counts.2
+  where
+    go : (d : Counts) (b : Bool) → is_within_bound (own_at command) d ≡ b → 1 ≤ d.servers → cond {A = Result Counts Usage} b (Ok d) (Err BadWords) ≡ Ok c → (1 ≤ c.servers) × (is_within_bound (own_at command) c ≡ true)
+    go d true is some e = subst (λ (k : Counts). (1 ≤ k.servers) × (is_within_bound (own_at command) k ≡ true)) (same_ok d c e) (some, is)
+    go d false is some e = cc
+
+drawing_has : (own : Option Own) (p : Places) (c : Counts) → p.servers ≡ c.servers → p.turns ≡ c.turns → 1 ≤ c.servers → is_within_bound own c ≡ true → IfSome (drawing_by own p) IsDrawn
+drawing_has None p c servers turns some within = tt
+drawing_has (Some Run) p c servers turns some within = tt
+drawing_has (Some Dump) p c servers turns some within = tt
+drawing_has (Some Generate) p c servers turns some within = record { servers = subst (λ (n : ℕ). 1 ≤ n) (sym servers) some; bound = ap (λ (n : ℕ). is_drawable n p.turns) servers ∙ (ap (λ (n : ℕ). is_drawable c.servers n) turns ∙ within) }
+
+-- ---- all of them
+
 places_have : (rows : List Row) (p : Places) → places_in rows ≡ Ok p → AreTaken p
 unfolding places_in
 places_have rows p e =
     let command = bind_ok (command_in rows) _ p e in
     let instances = bind_ok (instances_in rows) _ p command.2 in
     let texts = bind_ok (texts_in rows) _ p instances.2 in
-    let counts = bind_ok (counts_in rows) _ p texts.2 in
+    let counts = bind_ok (bounded_in command.0 rows) _ p texts.2 in
+    let drawn = bounded command.0 rows counts.0 counts.1 in
     let named = given rows command.0 command.1 in
     let read = instances_have rows instances.0 instances.1 in
     let told = texts_have rows texts.0 texts.1 in
@@ -159,12 +203,13 @@ places_have rows p e =
     let there : ((is_some instances.0.i || not needs.i) && (is_some instances.0.d || not needs.d) && (is_some instances.0.rule || not needs.rule) && (is_some texts.0.pattern || not needs.pattern)) ≡ true =
     rw (read.i, read.d, read.rule, told.there) named.there in
     subst AreTaken (same_ok _ p counts.2) (record {
-      built = named.built;
+      word = named.word;
       needs = there;
       duration = read.duration;
       reason = told.reason;
       owner = told.owner;
       pattern = told.pattern;
+      drawn = drawing_has (own_at command.0) _ counts.0 refl refl drawn.0 drawn.1;
     })
 
 pub taken_have : (words : List (List ℕ)) (p : Places) → places_of words ≡ Ok p → AreTaken p

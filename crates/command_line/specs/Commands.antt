@@ -1,16 +1,30 @@
--- The command that words name, and whether it has the options that it needs.
-use Rattle.std.specs.Prelude.{Bool, List, ◌&&◌, ◌||◌, not, codes, is_some, Result, Ok, Err, if◌then◌else◌}
+-- What words name, and whether it has the options that it needs.
+use Rattle.std.specs.Prelude.{Bool, List, ◌&&◌, ◌||◌, not, codes, is_some, Option, Some, None, Result, Ok, Err, if◌then◌else◌}
 use Rattle.std.specs.Option.{option_map_or}
+use Rattle.std.specs.Str.{bytes_eq}
 use Rattle.clap.specs.Walk.{Row, Text, first_of}
 use Rattle.orch_base.specs.Gives.{◌>>=◌}
 use Rattle.commands.specs.declared.needs.Needs.{Needs}
 use Rattle.commands.specs.Names.{name_of, needs_of, nothing}
-use Rattle.command_routes.specs.Routes.{is_built_command}
+use Rattle.command_routes.specs.Routes.{is_built_found}
+use Rattle.command_line.specs.declared.command.Own.{Own}
+use Rattle.command_line.specs.declared.command.Own.TheVariants.{Run, Generate, Dump}
 use Rattle.command_line.specs.declared.usage.Usage.{Usage}
 use Rattle.command_line.specs.declared.usage.Usage.TheVariants.{BadWords}
 use Rattle.command_line.specs.Usages.{or_bad}
 
--- what the command of this word needs; a run needs nothing
+-- what the program itself does by this word, where it is none of the commands'
+abbrev pub own_at : Text → Option Own
+own_at word =
+    if bytes_eq word (codes "run") then Some Run else
+    (if bytes_eq word (codes "generate") then Some Generate else
+    (if bytes_eq word (codes "dump") then Some Dump else None))
+
+-- it is a word of the program's own, or that of a command that is built
+abbrev pub is_taken_word : Text → Bool
+is_taken_word word = is_some (own_at word) || is_built_found (name_of word)
+
+-- what the command of this word needs; the program's own words need nothing
 unfoldable pub needs_at : Text → Needs
 needs_at word = option_map_or needs_of (name_of word) nothing
 
@@ -24,8 +38,8 @@ has_needed needs rows =
     (is_given (codes "i") rows || not needs.i) && (is_given (codes "d") rows || not needs.d)
     && (is_given (codes "promotion-rule") rows || not needs.rule) && (is_given (codes "pattern") rows || not needs.pattern)
 
--- the text of `-c`, which is `run` or names a command whose route is built, and has what it needs
+-- the text of `-c`, which is a word of the program's own or names a command whose route is built, and has what it needs
 unfoldable pub command_in : List Row → Result Text Usage
 command_in rows = do
   command ← or_bad (first_of (codes "c") rows)
-  if is_built_command command && has_needed (needs_at command) rows then Ok command else Err BadWords
+  if is_taken_word command && has_needed (needs_at command) rows then Ok command else Err BadWords

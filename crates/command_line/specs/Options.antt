@@ -1,4 +1,4 @@
--- The command line as `clap` knows it: each option takes one text, the flag is set by its presence, and none is
+-- The command line as `clap` knows it: each option takes one text, the flags are set by their presence, and none is
 -- required.
 use Rattle.std.specs.Prelude.{ℕ, List, [], ◌∷◌, codes, fold, Some, Result, Ok, Err, if◌then◌else◌}
 use Rattle.std.specs.List.{list_all}
@@ -39,7 +39,7 @@ abbrev pub with_letters : App → App
 with_letters app = with_rule (with_rule (with_rule app (short_rule 99 (codes "c"))) (short_rule 105 (codes "i"))) (short_rule 100 (codes "d"))
 
 unfoldable pub orch : App
-orch = with_rule (with_options (with_letters (new_app (codes "orch"))) option_names) (flag_rule (codes "tables"))
+orch = with_rule (with_rule (with_options (with_letters (new_app (codes "orch"))) option_names) (flag_rule (codes "tables"))) (flag_rule (codes "summary"))
 
 -- what a parse found, option by option
 abbrev pub rows_in : ArgMatches → List Row

@@ -1,15 +1,20 @@
 -- What the words mean.
-use Rattle.std.specs.Prelude.{ℕ, ◌-◌, ◌^◌, List, codes, Bool, false, Result, Ok}
+use Rattle.std.specs.Prelude.{ℕ, ◌-◌, ◌^◌, List, codes, Bool, true, false, Option, Some, None, Result, Ok, Err, if◌then◌else◌}
 use Rattle.std.specs.Option.{option_map_or}
 use Rattle.std.specs.Str.{bytes_eq}
-use Rattle.clap.specs.Walk.{Row, first_of}
+use Rattle.clap.specs.Walk.{Row, Text, first_of}
 use Rattle.orch_base.specs.Gives.{◌>>=◌}
+use Rattle.scenario_generator.specs.Bounds.{is_drawable}
 use Rattle.command_line.specs.declared.parts.Places.{Places}
 use Rattle.command_line.specs.declared.parts.Instances.{Instances}
 use Rattle.command_line.specs.declared.parts.Texts.{Texts}
 use Rattle.command_line.specs.declared.parts.Counts.{Counts}
+use Rattle.command_line.specs.declared.command.Own.{Own}
+use Rattle.command_line.specs.declared.command.Own.TheVariants.{Run, Generate, Dump}
+use Rattle.command_line.specs.declared.parts.Drawing.{Drawing}
 use Rattle.command_line.specs.declared.usage.Usage.{Usage}
-use Rattle.command_line.specs.Commands.{command_in}
+use Rattle.command_line.specs.declared.usage.Usage.TheVariants.{BadWords}
+use Rattle.command_line.specs.Commands.{command_in, own_at}
 use Rattle.command_line.specs.Options.{rows_of_texts, texts_of}
 use Rattle.command_line.specs.Values.{duration_in, maybe, name_in, number_in, or_default, pattern_in, rule_in, text_in, text_within}
 
@@ -42,16 +47,29 @@ counts_in rows = do
   turns ← or_default 100 (number_in 0 1000000) (first_of (codes "turns") rows)
   Ok (record { pollers = pollers; workers = workers; wait = wait; seed = seed; servers = servers; turns = turns })
 
--- the flag `--tables` is there
-abbrev pub has_tables : List Row → Bool
-has_tables rows = option_map_or (λ text. bytes_eq text (codes "true")) (first_of (codes "tables") rows) false
+-- the flag of this name is there
+abbrev pub has_flag : Text → List Row → Bool
+has_flag id rows = option_map_or (λ text. bytes_eq text (codes "true")) (first_of id rows) false
+
+-- what is drawn stays within a scenario's bound; nothing else is drawn
+abbrev pub is_within_bound : Option Own → Counts → Bool
+is_within_bound None counts = true
+is_within_bound (Some Run) counts = true
+is_within_bound (Some Generate) counts = is_drawable counts.servers counts.turns
+is_within_bound (Some Dump) counts = true
+
+-- the numbers, which are within the bound of what the command draws
+unfoldable pub bounded_in : Text → List Row → Result Counts Usage
+bounded_in command rows = do
+  counts ← counts_in rows
+  if is_within_bound (own_at command) counts then Ok counts else Err BadWords
 
 unfoldable pub places_in : List Row → Result Places Usage
 places_in rows = do
   command ← command_in rows
   instances ← instances_in rows
   texts ← texts_in rows
-  counts ← counts_in rows
+  counts ← bounded_in command rows
   Ok (record {
     command = command;
     i = instances.i;
@@ -68,13 +86,26 @@ places_in rows = do
     seed = counts.seed;
     servers = counts.servers;
     turns = counts.turns;
-    tables = has_tables rows;
+    tables = has_flag (codes "tables") rows;
+    summary = has_flag (codes "summary") rows;
   })
 
--- what the words mean, where they are taken: they are UTF-8, clap gives matches, `-c` names a command that is built
--- and has the options that it needs, and each value reads
+-- what the words mean, where they are taken: they are UTF-8, clap gives matches, `-c` names what the program itself does
+-- or a command that is built and has the options that it needs, each value reads, and what is to be drawn is within its
+-- bound
 unfoldable pub places_of : List (List ℕ) → Result Places Usage
 places_of words = do
   texts ← texts_of words
   rows ← rows_of_texts texts
   places_in rows
+
+-- the scenario that is to be drawn
+abbrev pub drawing_by : Option Own → Places → Option Drawing
+drawing_by None p = None
+drawing_by (Some Run) p = None
+drawing_by (Some Generate) p = Some (record { seed = p.seed; servers = p.servers; turns = p.turns })
+drawing_by (Some Dump) p = None
+
+-- the scenario that the words ask to draw; elsewhere they ask for one that is read
+abbrev pub drawing_of : Places → Option Drawing
+drawing_of p = drawing_by (own_at p.command) p

@@ -1,8 +1,8 @@
-//! The commands.
+//! What words name.
 
 ghost use Rattle.std.specs.Prelude.{◌≡◌};
 ghost use Rattle.orch_base.specs.Gives.{Gives};
-ghost use Rattle.command_line.specs.Commands.{command_in, has_needed, needs_at};
+ghost use Rattle.command_line.specs.Commands.{command_in, has_needed, is_taken_word, needs_at, own_at};
 ghost use Rattle.command_line.specs.Options.{rows_in};
 ghost use Rattle.command_line.specs.Usages.{usage_fault};
 
@@ -14,7 +14,42 @@ use commands::{CommandName, Needs};
 use orch_base::OwnedText;
 use std::alloc::Global;
 
-// What the command of this word needs; a run needs nothing.
+/// What the program itself does by a word of its own, which is none of the commands'.
+#[derive(Clone, Copy, Debug, PartialEq, Eq)]
+pub enum Own {
+    /// `run`: the turns of a scenario.
+    Run,
+    /// `generate`: a scenario is drawn.
+    Generate,
+    /// `dump`: the servers of a scenario behind its turns, as a scenario.
+    Dump,
+}
+
+impl Own {
+    /// What the program itself does by this word; None for the commands' words, and for any other text.
+    pub fn read(word: &str) -> Option<Own>
+        ensures { result ≡ own_at word.now }
+    {
+        if word == "run" {
+            Some(Own::Run)
+        } else if word == "generate" {
+            Some(Own::Generate)
+        } else if word == "dump" {
+            Some(Own::Dump)
+        } else {
+            None
+        }
+    }
+}
+
+/// Whether `-c` may have this text: a word of the program's own, or that of a command that is built. It takes no memory.
+pub fn is_taken_word(word: &str) -> bool
+    ensures { result ≡ is_taken_word word.now }
+{
+    Own::read(word).is_some() || is_built_command(word)
+}
+
+// What the command of this word needs; the program's own words need nothing.
 #[tactic(auto, unfolding(crate::specs::Commands::needs_at))]
 fn needs_at(word: &str) -> Needs
     ensures { result ≡ needs_at word.now }
@@ -40,8 +75,8 @@ fn has_needed(needs: Needs, matches: &ArgMatches<'_>) -> bool
         && (text_of(matches, "pattern").is_some() || !needs.pattern)
 }
 
-/// The text of `-c`. What is neither `run` nor the word of a command that is built, and one without an option that it
-/// needs, are `BadWords`.
+/// The text of `-c`. What is neither a word of the program's own nor that of a command that is built, and one without an
+/// option that it needs, are `BadWords`.
 #[tactic(auto, unfolding(crate::specs::Commands::command_in))]
 pub(crate) fn command_in(alloc: Global, matches: &ArgMatches<'_>) -> Result<OwnedText, Usage>
     ensures { Gives (λ l. l) usage_fault result (command_in (rows_in matches.now)) }
@@ -49,7 +84,7 @@ pub(crate) fn command_in(alloc: Global, matches: &ArgMatches<'_>) -> Result<Owne
     let Some(command) = text_of(matches, "c") else {
         return Err(Usage::BadWords);
     };
-    if !is_built_command(command) || !has_needed(needs_at(command), matches) {
+    if !is_taken_word(command) || !has_needed(needs_at(command), matches) {
         return Err(Usage::BadWords);
     }
     Ok(OwnedText::new(String::from_str(alloc, command)?))

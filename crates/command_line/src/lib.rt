@@ -9,9 +9,10 @@ mod usage;
 mod value;
 mod words;
 
+pub use command::{Own, is_taken_word};
 pub use laws::taken_words_are_sound;
 /// Want of memory.
 pub use orch_base::Memory;
-pub use parts::Places;
+pub use parts::{Drawing, Places};
 pub use usage::Usage;
 pub use words::places;

@@ -1,12 +1,14 @@
 //! The values of a command line's options.
 
-ghost use Rattle.std.specs.Prelude.{◌≡◌};
+ghost use Rattle.std.specs.Prelude.{◌≡◌, ◌≤◌, IfOk};
 ghost use Rattle.orch_base.specs.Gives.{Gives};
 ghost use Rattle.command_line.specs.Options.{rows_in};
-ghost use Rattle.command_line.specs.Places.{counts_in, has_tables, instances_in, places_in, texts_in};
+ghost use Rattle.command_line.specs.Commands.{own_at};
+ghost use Rattle.command_line.specs.Places.{bounded_in, counts_in, drawing_of, has_flag, instances_in, is_within_bound, places_in, texts_in};
+ghost use Rattle.scenario_generator.specs.Bounds.{is_drawable};
 ghost use Rattle.command_line.specs.Usages.{usage_fault};
 
-use crate::command::command_in;
+use crate::command::{Own, command_in};
 use crate::options::text_of;
 use crate::usage::Usage;
 use crate::value::{
@@ -52,6 +54,34 @@ pub struct Places {
     pub turns: u32,
     /// `--tables`.
     pub tables: bool,
+    /// `--summary`.
+    pub summary: bool,
+}
+
+/// A scenario that is to be drawn.
+#[derive(Clone, Copy, Debug, PartialEq, Eq)]
+pub struct Drawing {
+    pub seed: u64,
+    /// 1 to 1,000.
+    pub servers: u32,
+    /// 0 to 1,000,000.
+    pub turns: u32,
+}
+
+impl Places {
+    /// The scenario that the words ask to draw; elsewhere they ask for one that is read.
+    pub fn drawing(&self) -> Option<Drawing>
+        ensures { result ≡ drawing_of self.now }
+    {
+        match Own::read(self.command.as_str()) {
+            Some(Own::Generate) => Some(Drawing {
+                seed: self.seed,
+                servers: self.servers,
+                turns: self.turns,
+            }),
+            Some(Own::Run) | Some(Own::Dump) | None => None,
+        }
+    }
 }
 
 // The instances, and what is kept of one.
@@ -133,10 +163,40 @@ fn counts_in(matches: &ArgMatches<'_>) -> Result<Counts, Usage>
     })
 }
 
-fn has_tables(matches: &ArgMatches<'_>) -> bool
-    ensures { result ≡ has_tables (rows_in matches.now) }
+// Whether so many servers and turns may be drawn.
+fn is_drawable(servers: u32, turns: u32) -> bool
+    ensures { result ≡ is_drawable servers turns }
 {
-    text_of(matches, "tables") == Some("true")
+    let roots = (u64::from(servers) + 9) / 10;
+    u64::from(servers).saturating_mul(20 * roots + u64::from(turns)) <= 4_000_000
+}
+
+// Whether what is drawn by this word is within its bound.
+fn is_within_bound(own: Option<Own>, counts: Counts) -> bool
+    ensures { result ≡ is_within_bound own counts }
+{
+    match own {
+        Some(Own::Generate) => is_drawable(counts.servers, counts.turns),
+        Some(Own::Run) | Some(Own::Dump) | None => true,
+    }
+}
+
+#[tactic(auto, unfolding(crate::specs::Places::bounded_in))]
+fn bounded_in(command: &str, matches: &ArgMatches<'_>) -> Result<Counts, Usage>
+    ensures { Gives (λ p. p) usage_fault result (bounded_in command.now (rows_in matches.now)) }
+{
+    let counts = counts_in(matches)?;
+    if is_within_bound(Own::read(command), counts) {
+        Ok(counts)
+    } else {
+        Err(Usage::BadWords)
+    }
+}
+
+fn has_flag(matches: &ArgMatches<'_>, id: &str) -> bool
+    ensures { result ≡ has_flag id.now (rows_in matches.now) }
+{
+    text_of(matches, id) == Some("true")
 }
 
 #[tactic(auto, unfolding(crate::specs::Places::places_in))]
@@ -146,7 +206,7 @@ pub(crate) fn places_in(alloc: Global, matches: &ArgMatches<'_>) -> Result<Place
     let command = command_in(alloc, matches)?;
     let instances = instances_in(alloc, matches)?;
     let texts = texts_in(alloc, matches)?;
-    let counts = counts_in(matches)?;
+    let counts = bounded_in(command.as_str(), matches)?;
     Ok(Places {
         command,
         i: instances.i,
@@ -163,6 +223,7 @@ pub(crate) fn places_in(alloc: Global, matches: &ArgMatches<'_>) -> Result<Place
         seed: counts.seed,
         servers: counts.servers,
         turns: counts.turns,
-        tables: has_tables(matches),
+        tables: has_flag(matches, "tables"),
+        summary: has_flag(matches, "summary"),
     })
 }

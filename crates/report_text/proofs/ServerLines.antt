@@ -1,6 +1,7 @@
 -- The line of a server, by what the world tells of it.
 use Rattle.std.proofs.Common.{◌≡◌, ℕ, ◌+◌, ◌<◌, List, [], ◌∷◌, ◌++◌, zero, suc, length, map, take, drop, Option, Some, None, refl, sym, ap, ◌∙◌, arith, append_assoc, add-one}
-use Rattle.std.specs.Prelude.{option_map, slice_get}
+use Rattle.std.specs.Prelude.{option_map, slice_get, sum_by}
+use Rattle.std.proofs.lemmas.List.Sums.{sum_by-cons}
 use Rattle.orch_base.specs.Names.{HostPort}
 use Rattle.orch_base.specs.declared.server.Settings.{Settings}
 use Rattle.binlog_coords.specs.Index.{Index}
@@ -44,3 +45,23 @@ pub names_go_on : (xs : List Server) (n : ℕ) (settings : Settings) (before aft
     → option_map (λ s. s.settings) (slice_get xs n) ≡ Some settings → after ≡ before ++ settings.name ∷ [] → after ≡ map name_of (take (n + 1) xs)
 names_go_on xs n settings before after so_far at more =
     rw (more, add-one) (ap (λ (names : List HostPort). names ++ settings.name ∷ []) so_far ∙ sym (names_more xs n settings at))
+
+-- ---- what the servers have executed
+
+abbrev count_of : Server → ℕ
+count_of s = length s.history.txns
+
+executed_more : (xs : List Server) (n count : ℕ) → option_map count_of (slice_get xs n) ≡ Some count → sum_by count_of (take (suc n) xs) ≡ sum_by count_of (take n xs) + count
+executed_more [] n count at = cc
+executed_more (x ∷ xs) zero count at =
+    let here : count_of x ≡ count = cc in
+    sum_by-cons count_of x [] ∙ ap (λ (k : ℕ). k + 0) here ∙ omega arith
+executed_more (x ∷ xs) (suc n) count at =
+    let rest = executed_more xs n count at in
+    let first = sum_by-cons count_of x (take (suc n) xs) in
+    let before = sum_by-cons count_of x (take n xs) in
+    omega (arith, first, rest, before)
+
+-- one more server's transactions are counted
+pub executed_go_on : (xs : List Server) (n before count : ℕ) → before ≡ sum_by count_of (take n xs) → option_map count_of (slice_get xs n) ≡ Some count → before + count ≡ sum_by count_of (take (n + 1) xs)
+executed_go_on xs n before count so_far at = rw add-one (ap (λ (k : ℕ). k + count) so_far ∙ sym (executed_more xs n count at))

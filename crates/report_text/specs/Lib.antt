@@ -4,6 +4,7 @@ pub mod Lines
 pub mod Names
 pub mod Recoveries
 pub mod Refusals
+pub mod Summary
 pub mod Tables
 pub mod Told
 pub mod Turns

@@ -10,9 +10,11 @@ mod recovery;
 mod refusal;
 mod replies;
 mod table;
+mod totals;
 mod turn;
 mod words;
 
 pub use names::PrintedNames;
 pub use replies::{plain_text, reply_text, reply_text_by};
 pub use table::tables;
+pub use totals::{Tally, summary};

@@ -196,7 +196,8 @@ fn print_recoveries(world: &World, lines: &[Line], out: &mut Vec<u8>) -> Result<
     print_told_lines(b"", lines, &names, out)
 }
 
-fn print_errant(world: &World, out: &mut Vec<u8>) -> Result<(), Memory>
+/// The line of how many writes servers with a source accepted.
+pub(crate) fn print_errant(world: &World, out: &mut Vec<u8>) -> Result<(), Memory>
     ensures { OnOk result (out.new.items ≡ out.old.items ++ errant_text world.now) }
 {
     print_counted(b"errant ", world.errant(), out)?;

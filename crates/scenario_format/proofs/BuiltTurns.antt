@@ -1,14 +1,17 @@
 -- What is listed as built is what is read.
 use Rattle.std.proofs.Common.{◌≡◌, ℕ, List, [], ◌∷◌, Bool, true, false, cond, map, Option, Some, None, refl, ap, subst, sym, ◌∙◌}
-use Rattle.std.specs.Prelude.{◌||◌, is_some, nat_eq, find, option_map}
-use Rattle.std.specs.Cmp.Lexicographic.{pointwise}
+use Rattle.std.specs.Prelude.{◌||◌, codes, is_some, nat_eq, find, option_map}
+use Rattle.std.specs.Cmp.Lexicographic.{pointwise, same_text}
+use Rattle.std.specs.List.{list_all}
 use Rattle.std.specs.Str.{bytes_eq}
 use Rattle.std.proofs.lemmas.Slice.Eq.{bytes_eq-Decides}
 use Rattle.commands.specs.declared.name.CommandName.{CommandName}
 use Rattle.commands.specs.declared.name.CommandName.TheVariants as name
-use Rattle.commands.specs.Names.{word_of}
-use Rattle.command_routes.specs.Routes.{is_built_command, is_built_name}
-use Rattle.command_routes.proofs.Routes.{built-commands}
+use Rattle.commands.specs.Names.{name_of, word_of}
+use Rattle.commands.proofs.Words.{name_of-word_of}
+use Rattle.command_line.specs.declared.command.Own.{Own}
+use Rattle.command_line.specs.Commands.{is_taken_word, own_at}
+use Rattle.command_routes.specs.Routes.{is_built_found, is_built_name}
 use Rattle.scenario_format.specs.Built.{built_names, built_turns, is_built, is_listed}
 use Rattle.scenario_values.specs.declared.fault.FaultCode.TheVariants.{BadTurn}
 use Rattle.scenario_values.specs.Faults.{fails}
@@ -64,8 +67,33 @@ no_key name.DisableGlobalRecoveries = refl
 no_key name.EnableGlobalRecoveries = refl
 no_key name.CheckGlobalRecoveries = refl
 
+-- nor is it a text that names no command
+other_text : (n : CommandName) (text : List ℕ) → name_of text ≡ None → bytes_eq (word_of n) text ≡ false
+other_text n text none = go (bytes_eq (word_of n) text) refl
+  where
+    differ : (o : Option CommandName) → o ≡ Some n → o ≡ None → ⊥
+    differ None some none = absurd cc
+    differ (Some m) some none = absurd cc
+
+    go : (b : Bool) → bytes_eq (word_of n) text ≡ b → b ≡ false
+    go true is = absurd (differ (name_of text) (ap name_of (sym (same_text (word_of n) text (sym is))) ∙ name_of-word_of n) none)
+    go false is = refl
+
+no_command : (name_of (codes "run") ≡ None) × (name_of (codes "generate") ≡ None) × (name_of (codes "dump") ≡ None)
+unfolding name_of
+no_command = (refl, refl, refl)
+
+-- the program's own words are none of the commands'
+not_own : (n : CommandName) → own_at (word_of n) ≡ None
+not_own n = rw (other_text n (codes "run") no_command.0, other_text n (codes "generate") no_command.1, other_text n (codes "dump") no_command.2) refl
+
 pub words_built : (n : CommandName) → is_built (word_of n) ≡ is_built_name n
-words_built n = ap (λ b. b || is_built_command (word_of n)) (no_key n) ∙ built-commands n
+words_built n =
+    ap (λ b. b || is_taken_word (word_of n)) (no_key n) ∙ (ap (λ (o : Option Own). is_some o || is_built_found (name_of (word_of n))) (not_own n) ∙ ap is_built_found (name_of-word_of n))
+
+pub own_built : list_all is_built (codes "run" ∷ codes "generate" ∷ codes "dump" ∷ []) ≡ true
+unfolding name_of
+own_built = refl
 
 -- which of two texts is named first makes no difference
 turned : (a b : List ℕ) → bytes_eq a b ≡ pointwise nat_eq b a

@@ -2,7 +2,7 @@
 use Rattle.std.specs.Prelude.{ℕ, ◌∷◌, ◌++◌, ◌||◌, List, [], Bool, nat_eq, codes}
 use Rattle.std.specs.Cmp.Lexicographic.{pointwise}
 use Rattle.std.specs.List.{list_any}
-use Rattle.command_routes.specs.Routes.{is_built_command}
+use Rattle.command_line.specs.Commands.{is_taken_word}
 
 abbrev pub built_keys : List (List ℕ)
 built_keys = codes "version" ∷ codes "now" ∷ codes "gtid" ∷ codes "block" ∷ codes "blocks" ∷ codes "aliases" ∷ codes "filters" ∷ codes "servers"
@@ -25,6 +25,6 @@ built_names = built_keys ++ built_server_keys ++ built_turns
 abbrev pub is_listed : List (List ℕ) → List ℕ → Bool
 is_listed names what = list_any (λ name. pointwise nat_eq name what) names
 
--- the key or turn is listed, or there is such a command
+-- the key or turn is listed, or the command line takes such a word: one of the program's own, or a command's
 abbrev pub is_built : List ℕ → Bool
-is_built what = is_listed built_names what || is_built_command what
+is_built what = is_listed built_names what || is_taken_word what

@@ -3,7 +3,7 @@
 ghost use Rattle.std.specs.Prelude.{◌≡◌};
 ghost use Rattle.scenario_format.specs.Built.{built_names, is_built, is_listed};
 
-use command_routes::is_built_command;
+use command_line::is_taken_word;
 
 #[rattlefmt::skip]
 fn is_listed(what: &str) -> bool
@@ -19,9 +19,9 @@ fn is_listed(what: &str) -> bool
 }
 
 /// Whether the key, turn or command of this name is built: of the keys and turns those that are listed here, and of the
-/// commands `run` and all others. It takes no memory.
+/// command line's words those that it takes. It takes no memory.
 pub fn built(what: &str) -> bool
     ensures { result ≡ is_built what.now }
 {
-    is_listed(what) || is_built_command(what)
+    is_listed(what) || is_taken_word(what)
 }

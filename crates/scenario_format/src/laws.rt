@@ -1,6 +1,6 @@
 //! Laws of what is built: it is what is read.
 
-ghost use Rattle.std.specs.Prelude.{◌≡◌, ◌++◌, [], ℕ, Bool, List, None, Ok, Option, false, filter, is_some, not, true};
+ghost use Rattle.std.specs.Prelude.{◌≡◌, ◌∷◌, ◌++◌, [], codes, ℕ, Bool, List, None, Ok, Option, false, filter, is_some, not, true};
 ghost use Rattle.std.specs.List.{list_all};
 ghost use Rattle.serde_json.specs.Data.{Data};
 ghost use Rattle.serde_json.specs.Find.{get};
@@ -34,7 +34,8 @@ pub fn built_turns_are_read()
     ensures refused { (text : List ℕ) → is_listed built_turns text ≡ false → word_at text ≡ fails BadTurn }
 {}
 
-/// The word of each command that is built is built, and that of no other.
+/// The word of each command that is built is built, and that of no other; so are the words of the program's own.
 pub fn built_words_are_listed()
-    ensures { (name : CommandName) → is_built (word_of name) ≡ is_built_name name }
+    ensures commands { (name : CommandName) → is_built (word_of name) ≡ is_built_name name }
+    ensures own { list_all is_built (codes "run" ∷ codes "generate" ∷ codes "dump" ∷ []) ≡ true }
 {}

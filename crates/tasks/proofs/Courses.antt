@@ -1,8 +1,9 @@
 -- Runs with their journals, turn by turn, and the lines of their replies.
-use Rattle.std.proofs.Common.{◌≡◌, ◌∙◌, ℕ, ◌+◌, ◌<◌, List, [], ◌∷◌, ◌++◌, length, take, get_or, true, false, refl, sym, ap, subst, arith, append_assoc, Option, Some, None, Bool}
+use Rattle.std.proofs.Common.{◌≡◌, ◌∙◌, ℕ, ◌+◌, ◌<◌, ◌≤◌, cond, List, [], ◌∷◌, ◌++◌, length, take, get_or, true, false, refl, sym, ap, subst, arith, append_assoc, Option, Some, None, Bool}
 use Rattle.std.specs.Prelude.{◌||◌, slice_get}
 use Rattle.std.proofs.lemmas.List.{append-nil, length-append, length-take-le, take_more, take-append-le}
 use Rattle.std.proofs.lemmas.List.Folds.{list_any-append}
+use Rattle.std.proofs.lemmas.List.Sums.{count_by-le-length, sum_by_push}
 use Rattle.std.proofs.Math.ListN.{get_or-append}
 use Rattle.std.proofs.Math.Seq.{get_or-append_seam, take-length}
 use Rattle.std.proofs.lemmas.Option.{get_or_from_slice_get, slice_get-get_or}
@@ -21,10 +22,13 @@ use Rattle.orch_core.specs.Runs.{Held, Recorded, engine, held_run, held_step, re
 use Rattle.orch_core.specs.Scenarios.{without_turns}
 use Rattle.orch_core.specs.States.{State}
 use Rattle.orch_core.proofs.Runs.{Ran-more, Ran-nil, StepsTo-recorded}
+use Rattle.report_text.specs.declared.totals.Tally.{Tally}
 use Rattle.report_text.specs.Lines.{line_text, lines_text}
 use Rattle.tasks.specs.declared.progress.Progress.{Progress}
-use Rattle.tasks.specs.Progress.{Adds, Follows, GivesUp, GivesUpOn, GaveUp, IsFresh, Leads, Point, Replies, StopsBefore, StopsBehind, point}
-use Rattle.tasks.specs.Report.{any_refused, is_refused, last_reply, or_reply, replies_text}
+use Rattle.tasks.specs.declared.verdict.Verdict.{Verdict}
+use Rattle.tasks.specs.declared.verdict.Verdict.TheVariants as verdict
+use Rattle.tasks.specs.Progress.{Adds, Follows, GivesUp, GivesUpOn, GaveUp, IsFresh, Leads, Point, Replies, StopsBefore, StopsBehind, Tallies, point, with_reply}
+use Rattle.tasks.specs.Report.{any_refused, is_failure, is_refusal, is_refused, last_reply, or_reply, replies_text, tally_of, verdict_of}
 use Rattle.tasks.specs.Sinks.{Carries, IsOnTheWay, Taken, TakesFront, between}
 use Rattle.tasks.proofs.Sends.{front_of_longer, front_taken, takes_nothing}
 
@@ -191,6 +195,79 @@ gave_up names from mid to ts i d start old p fault.Memory within follows same ca
   ran = follows.ran;
   front = front_taken (between start old) p.pieces.held.items (replies_text names follows.run) p.pieces.failed follows.text;
 })
+
+-- ---- a run's summary
+
+abbrev tally : ℕ → ℕ → ℕ → Tally
+tally turns refused failed = record { turns = turns; refused = refused; failed = failed }
+
+same_tally : (a a' b b' c c' : ℕ) → a ≡ a' → b ≡ b' → c ≡ c' → tally a b c ≡ tally a' b' c'
+same_tally a a' b b' c c' ha hb hc = cc
+
+by_verdict : (turns refused failed : ℕ) (v : Verdict) → tally (turns + 1) (refused + cond (is_refusal v) 1 0) (failed + cond (is_failure v) 1 0) ≡ with_reply (tally turns refused failed) v
+by_verdict turns refused failed verdict.Neither = same_tally (turns + 1) (turns + 1) (refused + 0) refused (failed + 0) failed refl (omega arith) (omega arith)
+by_verdict turns refused failed verdict.Refused = same_tally (turns + 1) (turns + 1) (refused + 1) (refused + 1) (failed + 0) failed refl refl (omega arith)
+by_verdict turns refused failed verdict.Failed = same_tally (turns + 1) (turns + 1) (refused + 0) refused (failed + 1) (failed + 1) refl (omega arith) refl
+
+-- one more reply is counted
+tally_joins : (journal : List (Turn × Reply)) (t : Turn) (r : Reply) → tally_of (journal ++ (t, r) ∷ []) ≡ with_reply (tally_of journal) (verdict_of r)
+tally_joins journal t r =
+    let old = tally_of journal in
+    let one : length (journal ++ (t, r) ∷ []) ≡ length journal + 1 = omega (arith, length-append journal ((t, r) ∷ [])) in
+    same_tally _ (old.turns + 1) _ (old.refused + cond (is_refusal (verdict_of r)) 1 0) _ (old.failed + cond (is_failure (verdict_of r)) 1 0) one
+    (sum_by_push (λ (e : Turn × Reply). cond (is_refusal (verdict_of e.1)) 1 0) journal (t, r)) (sum_by_push (λ (e : Turn × Reply). cond (is_failure (verdict_of e.1)) 1 0) journal (t, r))
+    ∙ by_verdict old.turns old.refused old.failed (verdict_of r)
+
+-- no turn was taken yet
+pub Tallies-nil : (at : Point) (ts : List Turn) → Tallies at (take 0 ts) at (tally 0 0 0)
+Tallies-nil at ts = record { run = without_turns at.state; ran = Ran-nil recorder at.kept (without_turns at.state); state = refl; is = refl; count = refl }
+
+-- as many as turns, and no more refusals or failures
+pub record IsCounted (n : ℕ) (t : Tally) : Type 0 where
+  pub turns : t.turns ≡ n
+  pub refused : t.refused ≤ t.turns
+  pub failed : t.failed ≤ t.turns
+
+pub Tallies-counted : (from to : Point) (ts : List Turn) (t : Tally) → Tallies from ts to t → IsCounted (length ts) t
+Tallies-counted from to ts t tallies = subst (IsCounted (length ts)) (sym tallies.is) (record {
+  turns = tallies.count;
+  refused = count_by-le-length (λ (e : Turn × Reply). is_refusal (verdict_of e.1)) tallies.run.journal;
+  failed = count_by-le-length (λ (e : Turn × Reply). is_failure (verdict_of e.1)) tallies.run.journal;
+})
+
+module _ (from mid to : Point) (ts : List Turn) (i : ℕ) (d : Turn) (old new : Tally) (r : Reply) (within : i < length ts) (tallies : Tallies from (take i ts) mid old) (steps : StepsTo engine mid.kept mid.state (get_or ts i d) to.state) (keeps : to.kept ≡ kept_by engine true mid.kept mid.state (get_or ts i d))
+    (replied : r ≡ reply_of mid.state (get_or ts i d)) where
+  abbrev now : Turn
+  now = get_or ts i d
+
+  -- one more turn is taken
+  pub Tallies-next : new ≡ with_reply old (verdict_of r) → Tallies from (take (i + 1) ts) to new
+  Tallies-next is =
+      let joined : Recorded = record { state = to.state; journal = tallies.run.journal ++ (now, r) ∷ [] } in
+      record {
+        run = joined;
+        ran = subst (λ us. Leads from to.kept us joined) (sym (take_more ts i d within)) (next_leads from mid to (take i ts) tallies.run now r tallies.ran tallies.state steps keeps replied);
+        state = refl;
+        is = is ∙ (ap (λ (x : Tally). with_reply x (verdict_of r)) tallies.is ∙ sym (tally_joins tallies.run.journal now r));
+        count =
+            let few : length (take i ts) ≡ i = length-take-le i ts (omega (arith, within)) in
+            let more : length (take (i + 1) ts) ≡ i + 1 = length-take-le (i + 1) ts (omega (arith, within)) in
+            omega (arith, few, more, tallies.count, length-append tallies.run.journal ((now, r) ∷ []));
+      }
+
+-- a turn gave up, and nothing of it was done
+pub tally_gave_up : (from mid to : Point) (ts : List Turn) (i : ℕ) (d : Turn) (t : Tally) (why : TurnFault) → i < length ts → Tallies from (take i ts) mid t → to ≡ mid → (why ≡ fault.Keeper → Calls engine mid.state (get_or ts i d)) → GivesUp from ts to.kept why
+tally_gave_up from mid to ts i d t fault.Keeper within tallies same calls = subst (λ (at : Point). GivesUp from ts at.kept fault.Keeper) (sym same) (
+  tallies.run,
+  record {
+    k = i;
+    within = within;
+    comes = tallies.ran;
+    calls = λ u at.
+        subst (λ (v : State). Calls engine v u) (sym tallies.state) (subst (Calls engine mid.state) (get_or_from_slice_get ts i u d at) (calls refl));
+  },
+)
+tally_gave_up from mid to ts i d t fault.Memory within tallies same calls = subst (λ (at : Point). GivesUp from ts at.kept fault.Memory) (sym same) (record { k = i; within = omega (arith, within); run = tallies.run; ran = tallies.ran })
 
 -- ---- a single command's turns
 

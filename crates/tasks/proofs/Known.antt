@@ -1,6 +1,6 @@
 -- Tasks where the keeper tells its rows.
-use Rattle.std.proofs.Common.{◌≡◌, ◌∙◌, ℕ, ◌+◌, true, List, [], ◌∷◌, ◌++◌, length, take, drop, refl, sym, ap, subst, append_assoc, arith, Option, Some, inl, inr}
-use Rattle.std.proofs.lemmas.List.{append-nil, take-append-drop, take-append-le}
+use Rattle.std.proofs.Common.{◌≡◌, ◌∙◌, ℕ, ◌+◌, true, List, [], ◌∷◌, ◌++◌, length, map, None, take, drop, refl, sym, ap, subst, append_assoc, arith, Option, Some, inl, inr}
+use Rattle.std.proofs.lemmas.List.{append-nil, length-map, map-append, take-append-drop, take-append-le}
 use Rattle.std.proofs.Math.Seq.{take-append-add}
 use Rattle.std.proofs.lemmas.List.Sums.{fold-append}
 use Rattle.orch_base.specs.Names.{HostPort}
@@ -12,7 +12,7 @@ use Rattle.turns.specs.declared.turn.Turn.{Turn}
 use Rattle.turns.specs.declared.reply.Reply.{Reply}
 use Rattle.orch_core.specs.Keeping.{Ran}
 use Rattle.orch_core.specs.Replies.{reply_of}
-use Rattle.orch_core.specs.Runs.{Held, Recorded, held_run, held_step, recorder}
+use Rattle.orch_core.specs.Runs.{Held, LeadsTo, Recorded, held_run, held_step, record_turn, recorder, run_turns, turns_of}
 use Rattle.orch_core.specs.Scenarios.{StartsBy, kept_at_start, start, start_changes, without_turns}
 use Rattle.orch_core.specs.States.{State}
 use Rattle.report_text.specs.Lines.{lines_text}
@@ -22,7 +22,7 @@ use Rattle.tasks.specs.declared.asked.Task.{Task}
 use Rattle.tasks.specs.Closing.{closing}
 use Rattle.tasks.specs.Endings.{IsOn, IsWhole, WasCut, course_of}
 use Rattle.tasks.specs.Known.{Begins, IsFixed, all_turns, cut_answer, held_from, opened, own_held, task_answer}
-use Rattle.tasks.specs.Report.{asked_answer, cut_text, replies_text, tables_of}
+use Rattle.tasks.specs.Report.{asked_answer, cut_text, replies_text, tables_of, tally_of}
 use Rattle.tasks.specs.Works.{Comes, Work, turns_in}
 use Rattle.tasks.proofs.Courses.{lines-append}
 
@@ -73,14 +73,40 @@ replies_begin names h ts k =
 pub cut_begins : (c : Task) (s : Scenario) (rows : List Row) (k : ℕ) → Begins (cut_answer c s rows k) (task_answer c s rows).out
 cut_begins c s rows k = at c.asked (all_turns c s rows)
   where
-    at : (a : Asked) (ts : List Turn) → Begins (cut_text a (names_of s) (held_from c s rows (take k ts)).state) (asked_answer a c.tables (names_of s) (held_from c s rows ts).state).out
+    at : (a : Asked) (ts : List Turn) → Begins (cut_text a (names_of s) (held_from c s rows (take k ts)).state) (asked_answer a c.tables (names_of s) s (held_from c s rows ts).state).out
     at asked.Run ts =
         let first = replies_begin (names_of s) (opened c s rows) ts k in
         let tables = tables_of (held_from c s rows ts).state.state in
         record { rest = first.rest ++ tables; is = ap (λ (v : List ℕ). v ++ tables) first.is ∙ append_assoc (cut_text asked.Run (names_of s) (held_from c s rows (take k ts)).state) first.rest tables }
-    at (asked.Turn t) ts = record { rest = (asked_answer (asked.Turn t) c.tables (names_of s) (held_from c s rows ts).state).out; is = refl }
-    at asked.Unknown ts = record { rest = (asked_answer asked.Unknown c.tables (names_of s) (held_from c s rows ts).state).out; is = refl }
+    at asked.Summary ts = record { rest = (asked_answer asked.Summary c.tables (names_of s) s (held_from c s rows ts).state).out; is = refl }
+    at asked.Dump ts = record { rest = (asked_answer asked.Dump c.tables (names_of s) s (held_from c s rows ts).state).out; is = refl }
+    at (asked.Turn t) ts = record { rest = (asked_answer (asked.Turn t) c.tables (names_of s) s (held_from c s rows ts).state).out; is = refl }
+    at asked.Unknown ts = record { rest = (asked_answer asked.Unknown c.tables (names_of s) s (held_from c s rows ts).state).out; is = refl }
     at asked.Nothing ts = record { rest = []; is = refl }
+
+-- ---- the replies are those of the turns
+
+along_turns : (r : Recorded) (xs : List (List Row × Turn)) → map (λ e. e.0) (run_turns recorder r xs).journal ≡ map (λ e. e.0) r.journal ++ turns_of xs
+along_turns r [] = sym (append-nil (map (λ e. e.0) r.journal))
+along_turns r (x ∷ xs) =
+    along_turns (record_turn x.0 r x.1) xs
+    ∙ (ap (λ (us : List Turn). us ++ turns_of xs) (map-append (λ e. e.0) r.journal ((x.1, reply_of r.state x.1) ∷ [])) ∙ append_assoc (map (λ e. e.0) r.journal) (x.1 ∷ []) (turns_of xs))
+
+held_along_turns : (h : Held Recorded) (ts : List Turn) → map (λ e. e.0) (held_run recorder h ts).state.journal ≡ map (λ e. e.0) h.state.journal ++ ts
+held_along_turns h [] = sym (append-nil (map (λ e. e.0) h.state.journal))
+held_along_turns h (t ∷ ts) =
+    held_along_turns (held_step recorder h t) ts
+    ∙ (ap (λ (us : List Turn). us ++ ts) (map-append (λ e. e.0) h.state.journal ((t, reply_of h.state.state t) ∷ [])) ∙ append_assoc (map (λ e. e.0) h.state.journal) (t ∷ []) ts)
+
+turns_along : (kept : Option (List Row)) (begun : State) (ts : List Turn) (run : Recorded) → LeadsTo recorder kept (without_turns begun) ts run → map (λ e. e.0) run.journal ≡ ts
+turns_along None begun ts run leads = ap (λ (r : Recorded). map (λ e. e.0) r.journal) leads.2 ∙ (along_turns (without_turns begun) leads.0 ∙ leads.1)
+turns_along (Some rows) begun ts run leads = ap (λ (r : Recorded). map (λ e. e.0) r.journal) leads ∙ held_along_turns (record { rows = rows; state = without_turns begun }) ts
+
+pub replies_are_of_turns : (w : Work) (ts : List Turn) (kept : Option (List Row)) (run : Recorded) → Comes w ts kept run → map (λ e. e.0) run.journal ≡ ts
+replies_are_of_turns w ts kept run comes = turns_along (kept_at_start true w.old w.scenario) comes.begun ts run comes.ran.state
+
+pub summaries_count : (w : Work) (ts : List Turn) (kept : Option (List Row)) (run : Recorded) → Comes w ts kept run → (tally_of run.journal).turns ≡ length ts
+summaries_count w ts kept run comes = sym (length-map run.journal (λ e. e.0)) ∙ ap length (replies_are_of_turns w ts kept run comes)
 
 -- ---- all turns
 

@@ -7,6 +7,7 @@ use Rattle.orch_base.specs.Names.{HostPort}
 use Rattle.kept_rows.specs.declared.row.Row.{Row}
 use Rattle.commands.specs.declared.refusal.Refusal.TheVariants.{UnknownInstance}
 use Rattle.commands.specs.declared.turn.CommandTurn.{CommandTurn}
+use Rattle.scenarios.specs.declared.scenario.Scenario.{Scenario}
 use Rattle.scenarios.specs.Scenarios.{names_of}
 use Rattle.turns.specs.declared.turn.Turn.{Turn}
 use Rattle.turns.specs.declared.reply.Reply.{Reply}
@@ -18,6 +19,7 @@ use Rattle.orch_core.specs.Runs.{Recorded, engine, recorder}
 use Rattle.orch_core.specs.Scenarios.{StartsBy, kept_at_start, without_turns}
 use Rattle.orch_core.specs.States.{State}
 use Rattle.orch_core.proofs.Runs.{Ran-nil}
+use Rattle.report_text.specs.declared.totals.Tally.{Tally}
 use Rattle.tasks.specs.declared.asked.Asked.{Asked}
 use Rattle.tasks.specs.declared.asked.Asked.TheVariants as asked
 use Rattle.tasks.specs.declared.asked.Task.{Task}
@@ -27,8 +29,8 @@ use Rattle.tasks.specs.declared.progress.Progress.{Progress}
 use Rattle.tasks.specs.Asked.{own_turns, turns_taken}
 use Rattle.tasks.specs.Closing.{begun_by, closing, closing_by}
 use Rattle.tasks.specs.Endings.{Course, IsOn, IsWhole, Stands, Tells, WasCut}
-use Rattle.tasks.specs.Progress.{Answers, EndsCut, EndsWhole, Follows, GaveUp, Gives, GivesUp, GivesUpOn, Leads, Point, Stops, StopsBehind, StopsBefore, course_from, point}
-use Rattle.tasks.specs.Report.{Answer, answer_of, asked_answer, cut_text, last_reply, own_answer, replies_text, tables_of, told_answer}
+use Rattle.tasks.specs.Progress.{Answers, EndsCut, EndsWhole, Follows, GaveUp, Gives, GivesUp, GivesUpOn, Leads, Point, Stops, StopsBehind, StopsBefore, Tallies, course_from, point}
+use Rattle.tasks.specs.Report.{Answer, answer_of, asked_answer, cut_text, last_reply, dump_of, own_answer, replies_text, summary_of, tables_of, told_answer}
 use Rattle.tasks.specs.Singles.{Writes}
 use Rattle.tasks.specs.Sinks.{End, FailsIn, Taken, Takes, TakesFront, between}
 use Rattle.tasks.specs.Works.{Comes, IsCut, Work, turns_in}
@@ -37,17 +39,17 @@ use Rattle.tasks.proofs.Sends.{front_taken, nothing_is_front, takes_nothing}
 
 -- ---- runs
 
-module _ (c : Task) (names : List HostPort) (ts : List Turn) (from to : Point) (start mid new err : Taken) (p : Progress) (is_run : c.asked ≡ asked.Run) where
+module _ (c : Task) (names : List HostPort) (scenario : Scenario) (ts : List Turn) (from to : Point) (start mid new err : Taken) (p : Progress) (is_run : c.asked ≡ asked.Run) where
   abbrev course : Course
-  course = course_from c names ts from to.kept
+  course = course_from c names scenario ts from to.kept
 
-  run_text : (run : Recorded) → answer_of c names run ≡ asked_answer asked.Run c.tables names run
-  run_text run = ap (λ (a : Asked). asked_answer a c.tables names run) is_run
+  run_text : (run : Recorded) → answer_of c names scenario run ≡ asked_answer asked.Run c.tables names scenario run
+  run_text run = ap (λ (a : Asked). asked_answer a c.tables names scenario run) is_run
 
   left_text : (run : Recorded) → cut_text c.asked names run ≡ replies_text names run
   left_text run = ap (λ (a : Asked). cut_text a names run) is_run
 
-  whole_text : (run : Recorded) → run.state ≡ to.state → replies_text names run ++ tables_of to.state ≡ (answer_of c names run).out
+  whole_text : (run : Recorded) → run.state ≡ to.state → replies_text names run ++ tables_of to.state ≡ (answer_of c names scenario run).out
   whole_text run state = ap (λ (s : State). replies_text names run ++ tables_of s) (sym state) ∙ ap (λ (a : Answer). a.out) (sym (run_text run))
 
   -- nothing follows a run's turns
@@ -62,7 +64,7 @@ module _ (c : Task) (names : List HostPort) (ts : List Turn) (from to : Point) (
     closed = subst (λ us. Ran recorder to.kept run us to.kept run) (sym (nothing_follows run)) (Ran-nil recorder to.kept run);
   }
 
-  err_text : (run : Recorded) → Takes (between err err) (answer_of c names run).err
+  err_text : (run : Recorded) → Takes (between err err) (answer_of c names scenario run).err
   err_text run = subst (λ (v : List ℕ). Takes (between err err) v) (ap (λ (a : Answer). a.err) (sym (run_text run))) (takes_nothing err.bytes)
 
   -- behind all turns
@@ -132,7 +134,7 @@ gave_memory names from to ts e p why is gave = subst (GaveUp names from ts to e 
 -- ---- single commands
 
 -- an answer was written
-pub writes_stand : (c : Course) (run : Recorded) (a : Answer) (out err : End) (ending : Ending) → IsWhole c run → answer_of c.task c.names run ≡ a → Writes a out err ending → Stands c out err ending
+pub writes_stand : (c : Course) (run : Recorded) (a : Answer) (out err : End) (ending : Ending) → IsWhole c run → answer_of c.task c.names c.scenario run ≡ a → Writes a out err ending → Stands c out err ending
 writes_stand c run a out err (ends.Written refused) whole is wrote = record {
   run = run;
   whole = whole;
@@ -162,43 +164,73 @@ writes_stand c run a out err ends.Memory whole is wrote = record {
 -- nothing is left of it where its turns gave up
 quiet_cut : (a : Asked) (names : List HostPort) (run : Recorded) → (a ≡ asked.Run → ⊥) → cut_text a names run ≡ []
 quiet_cut asked.Run names run other = absurd (other refl)
+quiet_cut asked.Summary names run other = refl
+quiet_cut asked.Dump names run other = refl
 quiet_cut (asked.Turn t) names run other = refl
 quiet_cut asked.Unknown names run other = refl
 quiet_cut asked.Nothing names run other = refl
 
-pub cut_quietly : (c : Task) (names : List HostPort) (ts : List Turn) (from : Point) (kept : Option (List Row)) (out err : Taken) (run : Recorded) → (c.asked ≡ asked.Run → ⊥) → WasCut (course_from c names ts from kept) run
-    → Stands (course_from c names ts from kept) (between out out) (between err err) ends.Keeper
-cut_quietly c names ts from kept out err run other cut = record {
+pub cut_quietly : (c : Task) (names : List HostPort) (scenario : Scenario) (ts : List Turn) (from : Point) (kept : Option (List Row)) (out err : Taken) (run : Recorded) → (c.asked ≡ asked.Run → ⊥) → WasCut (course_from c names scenario ts from kept) run
+    → Stands (course_from c names scenario ts from kept) (between out out) (between err err) ends.Keeper
+cut_quietly c names scenario ts from kept out err run other cut = record {
   run = run;
   cut = cut;
   on_err = takes_nothing err.bytes;
   on_out = subst (λ (v : List ℕ). Takes (between out out) v) (sym (quiet_cut c.asked names run other)) (takes_nothing out.bytes);
 }
 
-pub wanting_quietly : (c : Task) (names : List HostPort) (ts : List Turn) (from : Point) (kept : Option (List Row)) (out err : Taken) (run : Recorded) → IsOn (course_from c names ts from kept) run
-    → Stands (course_from c names ts from kept) (between out out) (between err err) ends.Memory
-wanting_quietly c names ts from kept out err run on = record {
+pub wanting_quietly : (c : Task) (names : List HostPort) (scenario : Scenario) (ts : List Turn) (from : Point) (kept : Option (List Row)) (out err : Taken) (run : Recorded) → IsOn (course_from c names scenario ts from kept) run
+    → Stands (course_from c names scenario ts from kept) (between out out) (between err err) ends.Memory
+wanting_quietly c names scenario ts from kept out err run on = record {
   run = run;
   on = on;
   on_err = takes_nothing err.bytes;
   on_out = nothing_is_front out.bytes out.bytes (cut_text c.asked names run) (takes_nothing out.bytes);
 }
 
-pub keeper_stands : (c : Task) (names : List HostPort) (ts : List Turn) (from : Point) (kept : Option (List Row)) (out err : Taken) (why : TurnFault) → (c.asked ≡ asked.Run → ⊥) → why ≡ fault.Keeper → GivesUp from ts kept why
-    → Stands (course_from c names ts from kept) (between out out) (between err err) ends.Keeper
-keeper_stands c names ts from kept out err why other is gives =
+pub keeper_stands : (c : Task) (names : List HostPort) (scenario : Scenario) (ts : List Turn) (from : Point) (kept : Option (List Row)) (out err : Taken) (why : TurnFault) → (c.asked ≡ asked.Run → ⊥) → why ≡ fault.Keeper → GivesUp from ts kept why
+    → Stands (course_from c names scenario ts from kept) (between out out) (between err err) ends.Keeper
+keeper_stands c names scenario ts from kept out err why other is gives =
     let at : (run : Recorded) × IsCut (Leads from kept) ts run = subst (GivesUp from ts kept) is gives in
-    cut_quietly c names ts from kept out err at.0 other (inl at.1)
+    cut_quietly c names scenario ts from kept out err at.0 other (inl at.1)
 
-pub memory_stands : (c : Task) (names : List HostPort) (ts : List Turn) (from : Point) (kept : Option (List Row)) (out err : Taken) (why : TurnFault) → why ≡ fault.Memory → GivesUp from ts kept why
-    → Stands (course_from c names ts from kept) (between out out) (between err err) ends.Memory
-memory_stands c names ts from kept out err why is gives =
+pub memory_stands : (c : Task) (names : List HostPort) (scenario : Scenario) (ts : List Turn) (from : Point) (kept : Option (List Row)) (out err : Taken) (why : TurnFault) → why ≡ fault.Memory → GivesUp from ts kept why
+    → Stands (course_from c names scenario ts from kept) (between out out) (between err err) ends.Memory
+memory_stands c names scenario ts from kept out err why is gives =
     let at : Gives from.kept (without_turns from.state) ts kept = subst (GivesUp from ts kept) is gives in
-    wanting_quietly c names ts from kept out err at.run (inl (record { k = at.k; within = at.within; comes = at.ran }))
+    wanting_quietly c names scenario ts from kept out err at.run (inl (record { k = at.k; within = at.within; comes = at.ran }))
+
+-- ---- a run's summary
+
+module _ (c : Task) (names : List HostPort) (scenario : Scenario) (ts : List Turn) (from : Point) (is : c.asked ≡ asked.Summary) where
+  not_the_lines : c.asked ≡ asked.Run → ⊥
+  not_the_lines run = apart (sym is ∙ run)
+    where
+      apart : asked.Summary ≡ asked.Run → ⊥
+      apart e = cc
+
+  pub summary_stands : (to : Point) (tally : Tally) (out err : End) (ending : Ending) → Tallies from ts to tally → Writes (summary_of tally to.state) out err ending → Stands (course_from c names scenario ts from to.kept) out err ending
+  summary_stands to tally out err ending tallies wrote =
+      writes_stand (course_from c names scenario ts from to.kept) tallies.run (summary_of tally to.state) out err ending
+      (record {
+        mid = tallies.run;
+        rows = to.kept;
+        came = tallies.ran;
+        closed = subst (λ us. Ran recorder to.kept tallies.run us to.kept tallies.run) (sym (ap (λ (a : Asked). closing a tallies.run) is)) (Ran-nil recorder to.kept tallies.run);
+      })
+      (ap (λ (a : Asked). asked_answer a c.tables names scenario tallies.run) is
+      ∙ (ap (λ (t : Tally). summary_of t tallies.run.state) (sym tallies.is) ∙ ap (λ (s : State). summary_of tally s) tallies.state))
+      wrote
+
+  pub summary_keeper : (kept : Option (List Row)) (out err : Taken) (why : TurnFault) → why ≡ fault.Keeper → GivesUp from ts kept why → Stands (course_from c names scenario ts from kept) (between out out) (between err err) ends.Keeper
+  summary_keeper kept out err why failed gives = keeper_stands c names scenario ts from kept out err why not_the_lines failed gives
+
+  pub summary_memory : (kept : Option (List Row)) (out err : Taken) (why : TurnFault) → why ≡ fault.Memory → GivesUp from ts kept why → Stands (course_from c names scenario ts from kept) (between out out) (between err err) ends.Memory
+  summary_memory kept out err why failed gives = memory_stands c names scenario ts from kept out err why failed gives
 
 -- ---- a single command with a turn of its own
 
-module _ (c : Task) (names : List HostPort) (ts : List Turn) (from : Point) (t : CommandTurn) (is : c.asked ≡ asked.Turn t) where
+module _ (c : Task) (names : List HostPort) (scenario : Scenario) (ts : List Turn) (from : Point) (t : CommandTurn) (is : c.asked ≡ asked.Turn t) where
   not_a_run : c.asked ≡ asked.Run → ⊥
   not_a_run run = apart (sym is ∙ run)
     where
@@ -212,56 +244,56 @@ module _ (c : Task) (names : List HostPort) (ts : List Turn) (from : Point) (t :
 
   -- what is answered by its last reply
   pub own_stands : (to : Point) (tables : Bool) (reply : Reply) (out err : End) (ending : Ending) → c.tables ≡ tables → Answers from ts to reply → Writes (told_answer tables names to.state reply) out err ending
-      → Stands (course_from c names ts from to.kept) out err ending
+      → Stands (course_from c names scenario ts from to.kept) out err ending
   own_stands to tables reply out err ending tabled answers wrote =
       let closes = answers.closes in
       let mid = answers.replies.run in
-      writes_stand (course_from c names ts from to.kept) closes.run (told_answer tables names to.state reply) out err ending
+      writes_stand (course_from c names scenario ts from to.kept) closes.run (told_answer tables names to.state reply) out err ending
       (record {
         mid = mid;
         rows = answers.at.kept;
         came = answers.replies.ran;
         closed = subst (λ us. Ran recorder answers.at.kept mid us to.kept closes.run) (sym (follows_own mid answers.reply answers.replies.last)) closes.ran;
       })
-      (ap (λ (a : Asked). asked_answer a c.tables names closes.run) is
+      (ap (λ (a : Asked). asked_answer a c.tables names scenario closes.run) is
       ∙ (ap (λ (r : Option Reply). own_answer c.tables names closes.run.state r) closes.last
       ∙ (ap (λ (b : Bool). told_answer b names closes.run.state reply) tabled ∙ ap (λ (s : State). told_answer tables names s reply) closes.state)))
       wrote
 
-  pub own_keeper : (kept : Option (List Row)) (out err : Taken) (why : TurnFault) → why ≡ fault.Keeper → Stops from ts kept why → Stands (course_from c names ts from kept) (between out out) (between err err) ends.Keeper
-  own_keeper kept out err why failed (inl gives) = keeper_stands c names ts from kept out err why not_a_run failed gives
+  pub own_keeper : (kept : Option (List Row)) (out err : Taken) (why : TurnFault) → why ≡ fault.Keeper → Stops from ts kept why → Stands (course_from c names scenario ts from kept) (between out out) (between err err) ends.Keeper
+  own_keeper kept out err why failed (inl gives) = keeper_stands c names scenario ts from kept out err why not_a_run failed gives
   own_keeper kept out err why failed (inr stops) =
       let mid = stops.replies.run in
       let us = closing_by (begun_by stops.reply) mid.state in
       let at : (run : Recorded) × IsCut (λ vs run. Ran recorder stops.at.kept mid vs kept run) us run = subst (GivesUpOn stops.at.kept mid us kept) failed stops.gives in
-      cut_quietly c names ts from kept out err at.0 not_a_run (inr (record {
+      cut_quietly c names scenario ts from kept out err at.0 not_a_run (inr (record {
         mid = mid;
         rows = stops.at.kept;
         came = stops.replies.ran;
         cut = subst (λ vs. IsCut (λ ws run. Ran recorder stops.at.kept mid ws kept run) vs at.0) (sym (follows_own mid stops.reply stops.replies.last)) at.1;
       }))
 
-  pub own_memory : (kept : Option (List Row)) (out err : Taken) (why : TurnFault) → why ≡ fault.Memory → Stops from ts kept why → Stands (course_from c names ts from kept) (between out out) (between err err) ends.Memory
-  own_memory kept out err why failed (inl gives) = memory_stands c names ts from kept out err why failed gives
+  pub own_memory : (kept : Option (List Row)) (out err : Taken) (why : TurnFault) → why ≡ fault.Memory → Stops from ts kept why → Stands (course_from c names scenario ts from kept) (between out out) (between err err) ends.Memory
+  own_memory kept out err why failed (inl gives) = memory_stands c names scenario ts from kept out err why failed gives
   own_memory kept out err why failed (inr stops) =
       let mid = stops.replies.run in
       let us = closing_by (begun_by stops.reply) mid.state in
       let given : Gives stops.at.kept mid us kept = subst (GivesUpOn stops.at.kept mid us kept) failed stops.gives in
       let at = subst (λ vs. Gives stops.at.kept mid vs kept) (sym (follows_own mid stops.reply stops.replies.last)) given in
-      wanting_quietly c names ts from kept out err at.run (inr (record { mid = mid; rows = stops.at.kept; came = stops.replies.ran; k = at.k; within = at.within; ran = at.ran }))
+      wanting_quietly c names scenario ts from kept out err at.run (inr (record { mid = mid; rows = stops.at.kept; came = stops.replies.ran; k = at.k; within = at.within; ran = at.ran }))
 
 -- and to one that uses an instance that no server is
-pub unknown_stands : (c : Task) (names : List HostPort) (ts : List Turn) (from : Point) (kept : Option (List Row)) (now : State) (out err : End) (ending : Ending) → c.asked ≡ asked.Unknown → Recording from.kept (without_turns from.state) ts kept now
-    → Writes (told_answer false names now (answered.Refused UnknownInstance)) out err ending → Stands (course_from c names ts from kept) out err ending
-unknown_stands c names ts from kept now out err ending is recording wrote =
-    writes_stand (course_from c names ts from kept) recording.run (told_answer false names now (answered.Refused UnknownInstance)) out err ending
+pub unknown_stands : (c : Task) (names : List HostPort) (scenario : Scenario) (ts : List Turn) (from : Point) (kept : Option (List Row)) (now : State) (out err : End) (ending : Ending) → c.asked ≡ asked.Unknown → Recording from.kept (without_turns from.state) ts kept now
+    → Writes (told_answer false names now (answered.Refused UnknownInstance)) out err ending → Stands (course_from c names scenario ts from kept) out err ending
+unknown_stands c names scenario ts from kept now out err ending is recording wrote =
+    writes_stand (course_from c names scenario ts from kept) recording.run (told_answer false names now (answered.Refused UnknownInstance)) out err ending
     (record {
       mid = recording.run;
       rows = kept;
       came = recording.ran;
       closed = subst (λ us. Ran recorder kept recording.run us kept recording.run) (sym (ap (λ (a : Asked). closing a recording.run) is)) (Ran-nil recorder kept recording.run);
     })
-    (ap (λ (a : Asked). asked_answer a c.tables names recording.run) is
+    (ap (λ (a : Asked). asked_answer a c.tables names scenario recording.run) is
     ∙ ap (λ (s : State). told_answer false names s (answered.Refused UnknownInstance)) recording.state)
     wrote
 
@@ -292,19 +324,19 @@ module _ (c : Course) (came : List Turn → Option (List Row) → Recorded → T
   stands_on out err ends.Memory s = record { run = s.run; on = is_on s.run s.on; on_err = s.on_err; on_out = s.on_out }
 
 pub begun_stands : (w : Work) (names : List HostPort) (ts : List Turn) (begun : State) (mid : Option (List Row)) (out err : End) (ending : Ending) → StartsBy w.old w.scenario w.task.waits begun → mid ≡ kept_at_start true w.old w.scenario → names ≡ names_of w.scenario → ts ≡ turns_in w
-    → Stands (course_from w.task names ts (point mid begun) w.new) out err ending → Tells w out err ending
+    → Stands (course_from w.task names w.scenario ts (point mid begun) w.new) out err ending → Tells w out err ending
 begun_stands w names ts begun mid out err ending opens kept named all stands =
-    inr (subst (λ us. Stands (record { task = w.task; names = names_of w.scenario; turns = us; came = Comes w; kept = w.new }) out err ending) all
-    (subst (λ ns. Stands (record { task = w.task; names = ns; turns = ts; came = Comes w; kept = w.new }) out err ending) named
-    (stands_on (course_from w.task names ts (point mid begun) w.new) (Comes w)
+    inr (subst (λ us. Stands (record { task = w.task; names = names_of w.scenario; scenario = w.scenario; turns = us; came = Comes w; kept = w.new }) out err ending) all
+    (subst (λ ns. Stands (record { task = w.task; names = ns; scenario = w.scenario; turns = ts; came = Comes w; kept = w.new }) out err ending) named
+    (stands_on (course_from w.task names w.scenario ts (point mid begun) w.new) (Comes w)
     (λ us rows run leads. record { begun = begun; opens = opens; ran = subst (λ k. Ran recorder k (without_turns begun) us rows run) kept leads })
     out err ending stands)))
 
 -- the turns of each thing that is asked
-pub asked_stands : (c : Task) (names : List HostPort) (a : Asked) (ts us : List Turn) (from : Point) (kept : Option (List Row)) (out err : End) (ending : Ending) → c.asked ≡ a → us ≡ ts ++ own_turns a → Stands (course_from c names us from kept) out err ending
-    → Stands (course_from c names (turns_taken c.asked ts) from kept) out err ending
-asked_stands c names a ts us from kept out err ending is all stands =
-    subst (λ vs. Stands (course_from c names vs from kept) out err ending) (all ∙ ap (λ (b : Asked). turns_taken b ts) (sym is)) stands
+pub asked_stands : (c : Task) (names : List HostPort) (scenario : Scenario) (a : Asked) (ts us : List Turn) (from : Point) (kept : Option (List Row)) (out err : End) (ending : Ending) → c.asked ≡ a → us ≡ ts ++ own_turns a → Stands (course_from c names scenario us from kept) out err ending
+    → Stands (course_from c names scenario (turns_taken c.asked ts) from kept) out err ending
+asked_stands c names scenario a ts us from kept out err ending is all stands =
+    subst (λ vs. Stands (course_from c names scenario vs from kept) out err ending) (all ∙ ap (λ (b : Asked). turns_taken b ts) (sym is)) stands
 
 -- a command whose instance no server is, where the scenario's turns gave up
 not_run : (a : Asked) → a ≡ asked.Unknown → a ≡ asked.Run → ⊥
@@ -313,10 +345,37 @@ not_run a is run = absurd cc
 whole_gave_up : (from : Point) (kept : Option (List Row)) (now : State) (ts : List Turn) (why : TurnFault) → WasCutOff engine from.kept from.state ts kept now why → GivesUp from ts kept why
 whole_gave_up from kept now ts why cut = subst (λ us. GivesUp from us kept why) (append-nil ts) (first_gave_up from kept now ts [] why cut)
 
-pub unknown_keeper : (c : Task) (names : List HostPort) (ts : List Turn) (from : Point) (kept : Option (List Row)) (now : State) (out err : Taken) (why : TurnFault) → c.asked ≡ asked.Unknown → why ≡ fault.Keeper → WasCutOff engine from.kept from.state ts kept now why
-    → Stands (course_from c names ts from kept) (between out out) (between err err) ends.Keeper
-unknown_keeper c names ts from kept now out err why is failed cut = keeper_stands c names ts from kept out err why (not_run c.asked is) failed (whole_gave_up from kept now ts why cut)
+pub unknown_keeper : (c : Task) (names : List HostPort) (scenario : Scenario) (ts : List Turn) (from : Point) (kept : Option (List Row)) (now : State) (out err : Taken) (why : TurnFault) → c.asked ≡ asked.Unknown → why ≡ fault.Keeper → WasCutOff engine from.kept from.state ts kept now why
+    → Stands (course_from c names scenario ts from kept) (between out out) (between err err) ends.Keeper
+unknown_keeper c names scenario ts from kept now out err why is failed cut = keeper_stands c names scenario ts from kept out err why (not_run c.asked is) failed (whole_gave_up from kept now ts why cut)
 
-pub unknown_memory : (c : Task) (names : List HostPort) (ts : List Turn) (from : Point) (kept : Option (List Row)) (now : State) (out err : Taken) (why : TurnFault) → why ≡ fault.Memory → WasCutOff engine from.kept from.state ts kept now why
-    → Stands (course_from c names ts from kept) (between out out) (between err err) ends.Memory
-unknown_memory c names ts from kept now out err why failed cut = memory_stands c names ts from kept out err why failed (whole_gave_up from kept now ts why cut)
+pub unknown_memory : (c : Task) (names : List HostPort) (scenario : Scenario) (ts : List Turn) (from : Point) (kept : Option (List Row)) (now : State) (out err : Taken) (why : TurnFault) → why ≡ fault.Memory → WasCutOff engine from.kept from.state ts kept now why
+    → Stands (course_from c names scenario ts from kept) (between out out) (between err err) ends.Memory
+unknown_memory c names scenario ts from kept now out err why failed cut = memory_stands c names scenario ts from kept out err why failed (whole_gave_up from kept now ts why cut)
+
+-- ---- the servers as they are then
+
+module _ (c : Task) (names : List HostPort) (scenario : Scenario) (ts : List Turn) (from : Point) (is : c.asked ≡ asked.Dump) where
+  not_told : c.asked ≡ asked.Run → ⊥
+  not_told run = apart (sym is ∙ run)
+    where
+      apart : asked.Dump ≡ asked.Run → ⊥
+      apart e = cc
+
+  pub dump_stands : (kept : Option (List Row)) (now : State) (out err : End) (ending : Ending) → Recording from.kept (without_turns from.state) ts kept now → Writes (dump_of names scenario now) out err ending → Stands (course_from c names scenario ts from kept) out err ending
+  dump_stands kept now out err ending recording wrote =
+      writes_stand (course_from c names scenario ts from kept) recording.run (dump_of names scenario now) out err ending
+      (record {
+        mid = recording.run;
+        rows = kept;
+        came = recording.ran;
+        closed = subst (λ us. Ran recorder kept recording.run us kept recording.run) (sym (ap (λ (a : Asked). closing a recording.run) is)) (Ran-nil recorder kept recording.run);
+      })
+      (ap (λ (a : Asked). asked_answer a c.tables names scenario recording.run) is ∙ ap (dump_of names scenario) recording.state)
+      wrote
+
+  pub dump_keeper : (kept : Option (List Row)) (now : State) (out err : Taken) (why : TurnFault) → why ≡ fault.Keeper → WasCutOff engine from.kept from.state ts kept now why → Stands (course_from c names scenario ts from kept) (between out out) (between err err) ends.Keeper
+  dump_keeper kept now out err why failed cut = keeper_stands c names scenario ts from kept out err why not_told failed (whole_gave_up from kept now ts why cut)
+
+  pub dump_memory : (kept : Option (List Row)) (now : State) (out err : Taken) (why : TurnFault) → why ≡ fault.Memory → WasCutOff engine from.kept from.state ts kept now why → Stands (course_from c names scenario ts from kept) (between out out) (between err err) ends.Memory
+  dump_memory kept now out err why failed cut = memory_stands c names scenario ts from kept out err why failed (whole_gave_up from kept now ts why cut)

@@ -1,8 +1,7 @@
 -- What words that are taken ask has a turn over the servers.
 use Rattle.std.proofs.Common.{◌≡◌, ◌∙◌, ℕ, ◌+◌, ◌<◌, ◌≤◌, Bool, true, false, List, [], ◌∷◌, length, Option, Some, None, Ok, Err, refl, sym, ap, subst, arith, map, cond}
-use Rattle.std.specs.Prelude.{IfSome, MatchOption, ⊤, ◌&&◌, ◌||◌, not, codes, is_some, nat_lt, option_map}
+use Rattle.std.specs.Prelude.{IfSome, MatchOption, ⊤, ◌&&◌, ◌||◌, not, is_some, nat_lt, option_map}
 use Rattle.std.specs.Option.{option_map_or}
-use Rattle.std.specs.Str.{bytes_eq}
 use Rattle.std.proofs.lemmas.Bool.Decides.{nat_tests}
 use Rattle.std.proofs.lemmas.List.{length-map}
 use Rattle.std.proofs.lemmas.Option.{same_Some}
@@ -15,8 +14,11 @@ use Rattle.commands.specs.Turns.{is_there, is_within}
 use Rattle.commands.proofs.Needed.{needed-used}
 use Rattle.cluster_filters.specs.Patterns.{is_found, is_pattern}
 use Rattle.command_routes.specs.Routes.{is_built_found, is_built_name}
-use Rattle.command_line.specs.Commands.{needs_at}
+use Rattle.command_line.specs.Commands.{needs_at, own_at}
+use Rattle.command_line.specs.Places.{drawing_by}
 use Rattle.command_line.specs.Taken.{AreTaken, are_there}
+use Rattle.command_line.specs.declared.command.Own.{Own}
+use Rattle.command_line.specs.declared.command.Own.TheVariants as own
 use Rattle.command_line.specs.declared.parts.Places.{Places}
 use Rattle.command_line.proofs.Named.{taken_have}
 use Rattle.scenarios.specs.Turns.{IsCommand}
@@ -28,7 +30,7 @@ use Rattle.scenario_values.specs.declared.fault.ReadFault.{ReadFault}
 use Rattle.scenario_values.specs.declared.fault.ReadFault.TheVariants as reading
 use Rattle.scenario_values.specs.Faults.{fault_of, holds}
 use Rattle.tasks.specs.declared.asked.Asked.TheVariants as asked
-use Rattle.tasks.specs.Asked.{IsAsked, IsTaken, asked_about, asked_named, asked_of, pattern_for, server_from, server_given, server_of, turn_for, used}
+use Rattle.tasks.specs.Asked.{AskOfRead, IsAsked, IsTaken, asked_about, asked_at, asked_named, asked_of, pattern_for, server_from, server_given, server_of, turn_for, used}
 
 both_true : (a b : Bool) → (a && b) ≡ true → (a ≡ true) × (b ≡ true)
 both_true true b e = (refl, e)
@@ -177,16 +179,22 @@ is_asked_named : (p : Places) (names : List HostPort) (o : Option CommandName) �
 is_asked_named p names None words built there = cc
 is_asked_named p names (Some c) words built there = is_asked_about p names c words built (needed_given p c there) _ _ refl refl
 
-asked_at : (p : Places) (names : List HostPort) → AreTaken p → IsAsked (length names) (asked_of p names)
-unfolding asked_of needs_at
-asked_at p names words = go (bytes_eq p.command (codes "run")) words.built
+is_asked_at : (p : Places) (names : List HostPort) (o : Option Own) → AreTaken p → (is_some o || is_built_found (name_of p.command)) ≡ true → drawing_by o p ≡ None → IsAsked (length names) (asked_at p names o)
+unfolding needs_at
+is_asked_at p names None words built read = is_asked_named p names (name_of p.command) words built words.needs
+is_asked_at p names (Some own.Run) words built read = go p.summary
   where
-    go : (run : Bool) → (run || is_built_found (name_of p.command)) ≡ true → IsAsked (length names) (cond run asked.Run (asked_named p names (name_of p.command)))
-    go true built = tt
-    go false built = is_asked_named p names (name_of p.command) words built words.needs
+    go : (summary : Bool) → IsAsked (length names) (cond summary asked.Summary asked.Run)
+    go true = tt
+    go false = tt
+is_asked_at p names (Some own.Generate) words built read = absurd cc
+is_asked_at p names (Some own.Dump) words built read = tt
 
-pub asked_is : (p : Places) (names : List HostPort) → IsTaken p → IsAsked (length names) (asked_of p names)
-asked_is p names taken = asked_at p names (taken_have taken.0 p taken.1)
+pub asked_is : (p : Places) (names : List HostPort) → IsTaken p → AskOfRead p → IsAsked (length names) (asked_of p names)
+unfolding asked_of
+asked_is p names taken read =
+    let words = taken_have taken.0 p taken.1 in
+    is_asked_at p names (own_at p.command) words words.word read
 
 -- ---- the pattern
 

@@ -1,14 +1,16 @@
 -- What words ask of a scenario's servers.
-use Rattle.std.specs.Prelude.{◌≡◌, ℕ, ◌+◌, ◌++◌, ◌∷◌, Bool, List, [], codes, map, if◌then◌else◌, Option, Some, None, option_map, Ok}
-use Rattle.std.specs.Str.{bytes_eq}
+use Rattle.std.specs.Prelude.{◌≡◌, ℕ, ◌+◌, ◌++◌, ◌∷◌, Bool, List, [], map, if◌then◌else◌, Option, Some, None, option_map, Ok}
 use Rattle.orch_base.specs.Names.{HostPort, printed, same_name}
 use Rattle.orch_base.specs.declared.server.ServerNo.{ServerNo}
 use Rattle.commands.specs.declared.name.CommandName.{CommandName}
 use Rattle.commands.specs.declared.turn.CommandTurn.{CommandTurn}
 use Rattle.commands.specs.declared.turn.Found.{Found}
 use Rattle.commands.specs.Names.{name_of, uses_of}
+use Rattle.command_line.specs.declared.command.Own.{Own}
+use Rattle.command_line.specs.declared.command.Own.TheVariants as own
 use Rattle.command_line.specs.declared.parts.Places.{Places}
-use Rattle.command_line.specs.Places.{places_of}
+use Rattle.command_line.specs.Commands.{own_at}
+use Rattle.command_line.specs.Places.{drawing_of, places_of}
 use Rattle.scenarios.specs.Turns.{IsCommand}
 use Rattle.turns.specs.declared.turn.Turn.{Turn}
 use Rattle.turns.specs.declared.turn.Act.TheVariants as act
@@ -62,13 +64,22 @@ abbrev pub asked_named : Places → List HostPort → Option CommandName → Ask
 asked_named p names None = asked.Nothing
 asked_named p names (Some name) = asked_about p names name (server_given names (used (uses_of name).i p.i)) (server_given names (used (uses_of name).d p.d))
 
+-- by a word of the program's own, or by a command: a scenario that is drawn has no servers of which to ask something
+abbrev pub asked_at : Places → List HostPort → Option Own → Asked
+asked_at p names None = asked_named p names (name_of p.command)
+asked_at p names (Some own.Run) = if p.summary then asked.Summary else asked.Run
+asked_at p names (Some own.Generate) = asked.Nothing
+asked_at p names (Some own.Dump) = asked.Dump
+
 -- what words ask over servers of these names
 unfoldable pub asked_of : Places → List HostPort → Asked
-asked_of p names = if bytes_eq p.command (codes "run") then asked.Run else asked_named p names (name_of p.command)
+asked_of p names = asked_at p names (own_at p.command)
 
 -- the turns that are taken for it behind the scenario's
 abbrev pub own_turns : Asked → List Turn
 own_turns asked.Run = []
+own_turns asked.Summary = []
+own_turns asked.Dump = []
 own_turns (asked.Turn t) = turn.Act (act.Command t) ∷ []
 own_turns asked.Unknown = []
 own_turns asked.Nothing = []
@@ -80,6 +91,8 @@ turns_taken a ts = ts ++ own_turns a
 -- it is something, and its turn is one over so many servers
 abbrev pub IsAsked : ℕ → Asked → Type 0
 IsAsked count asked.Run = Unit {0}
+IsAsked count asked.Summary = Unit {0}
+IsAsked count asked.Dump = Unit {0}
 IsAsked count (asked.Turn t) = IsCommand count t
 IsAsked count asked.Unknown = Unit {0}
 IsAsked count asked.Nothing = ⊥
@@ -91,3 +104,7 @@ task_of p names = record { waits = p.wait; asked = asked_of p names; tables = p.
 -- the words of a call that takes them
 abbrev pub IsTaken : Places → Type 0
 IsTaken p = (words : List (List ℕ)) × (places_of words ≡ Ok p)
+
+-- the words ask of a scenario that is read, and not to draw one
+abbrev pub AskOfRead : Places → Type 0
+AskOfRead p = drawing_of p ≡ None

@@ -51,6 +51,8 @@ begun_by answered.Lapsed = None
 -- the job that the command's own turn began, which comes last in this run
 abbrev pub own_job : Asked → Recorded → Option ℕ
 own_job asked.Run run = None
+own_job asked.Summary run = None
+own_job asked.Dump run = None
 own_job (asked.Turn t) run = option_and_then begun_by (last_reply run.journal)
 own_job asked.Unknown run = None
 own_job asked.Nothing run = None

@@ -3,6 +3,7 @@ use Rattle.std.specs.Prelude.{◌≡◌, ℕ, ◌≤◌, ◌⊎◌, Bool, List, 
 use Rattle.kept_rows.specs.declared.row.Row.{Row}
 use Rattle.orch_base.specs.Causes.{Rose}
 use Rattle.orch_base.specs.Names.{HostPort}
+use Rattle.scenarios.specs.declared.scenario.Scenario.{Scenario}
 use Rattle.scenarios.specs.Scenarios.{names_of}
 use Rattle.turns.specs.declared.turn.Turn.{Turn}
 use Rattle.orch_core.specs.Keeping.{Ran}
@@ -15,11 +16,12 @@ use Rattle.tasks.specs.Report.{answer_of, cut_text}
 use Rattle.tasks.specs.Sinks.{End, FailsIn, Takes, TakesFront}
 use Rattle.tasks.specs.Works.{Comes, IsCut, Work, turns_in}
 
--- what a task's report is of: the task, the servers' names, the scenario's turns and the command's own, which turns
+-- what a task's report is of: the task, the servers' names, the scenario, its turns and the command's own, which turns
 -- lead to which kept rows and which state, and the kept rows at the end
 pub record Course : Type 1 where
   pub task : Task
   pub names : List HostPort
+  pub scenario : Scenario
   pub turns : List Turn
   pub came : List Turn → Option (List Row) → Recorded → Type 0
   pub kept : Option (List Row)
@@ -65,23 +67,23 @@ WasCut c run = IsCut (λ ts at. c.came ts c.kept at) c.turns run ⊎ IsCutInRoun
 pub record IsWritten (c : Course) (out err : End) (refused : Bool) : Type 0 where
   pub run : Recorded
   pub whole : IsWhole c run
-  pub on_out : Takes out (answer_of c.task c.names run).out
-  pub on_err : Takes err (answer_of c.task c.names run).err
-  pub is_refused : refused ≡ (answer_of c.task c.names run).is_refused
+  pub on_out : Takes out (answer_of c.task c.names c.scenario run).out
+  pub on_err : Takes err (answer_of c.task c.names c.scenario run).err
+  pub is_refused : refused ≡ (answer_of c.task c.names c.scenario run).is_refused
 
 -- all turns were taken, and err failed, before anything was written on out
 pub record ErrFails (c : Course) (out err : End) : Type 0 where
   pub run : Recorded
   pub whole : IsWhole c run
-  pub on_err : FailsIn err (answer_of c.task c.names run).err
+  pub on_err : FailsIn err (answer_of c.task c.names c.scenario run).err
   pub on_out : Takes out []
 
 -- all turns were taken, and out failed behind err
 pub record OutFails (c : Course) (out err : End) : Type 0 where
   pub run : Recorded
   pub whole : IsWhole c run
-  pub on_err : Takes err (answer_of c.task c.names run).err
-  pub on_out : FailsIn out (answer_of c.task c.names run).out
+  pub on_err : Takes err (answer_of c.task c.names c.scenario run).err
+  pub on_out : FailsIn out (answer_of c.task c.names c.scenario run).out
 
 -- the keeper failed; what is left of a run is written
 pub record KeeperFails (c : Course) (out err : End) : Type 0 where
@@ -125,7 +127,7 @@ NeverBegan w out err ends.Keeper = IsIdle w out err
 NeverBegan w out err ends.Memory = IsIdle w out err
 
 abbrev pub course_of : Work → Course
-course_of w = record { task = w.task; names = names_of w.scenario; turns = turns_in w; came = Comes w; kept = w.new }
+course_of w = record { task = w.task; names = names_of w.scenario; scenario = w.scenario; turns = turns_in w; came = Comes w; kept = w.new }
 
 -- what stands at each ending of a task
 abbrev pub Tells : Work → End → End → Ending → Type 0

@@ -39,7 +39,7 @@ last_held c s rows = held_from c s rows (all_turns c s rows)
 
 -- what is answered
 abbrev pub task_answer : Task → Scenario → List Row → Answer
-task_answer c s rows = answer_of c (names_of s) (last_held c s rows).state
+task_answer c s rows = answer_of c (names_of s) s (last_held c s rows).state
 
 -- what is left of it where its first k turns are taken
 abbrev pub cut_answer : Task → Scenario → List Row → ℕ → List ℕ

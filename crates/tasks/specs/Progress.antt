@@ -1,7 +1,8 @@
 -- A run's report on its way, turn by turn.
-use Rattle.std.specs.Prelude.{◌≡◌, ℕ, ◌<◌, ◌≤◌, ◌||◌, ◌⊎◌, List, [], false, length, take, slice_get, Option, Some}
+use Rattle.std.specs.Prelude.{◌≡◌, ℕ, ◌+◌, ◌<◌, ◌≤◌, ◌||◌, ◌⊎◌, List, [], false, length, take, slice_get, Option, Some}
 use Rattle.orch_base.specs.Names.{HostPort}
 use Rattle.kept_rows.specs.declared.row.Row.{Row}
+use Rattle.scenarios.specs.declared.scenario.Scenario.{Scenario}
 use Rattle.turns.specs.declared.reply.Reply.{Reply}
 use Rattle.turns.specs.declared.turn.Turn.{Turn}
 use Rattle.orch_core.specs.declared.fault.TurnFault.{TurnFault}
@@ -12,12 +13,15 @@ use Rattle.orch_core.specs.Scenarios.{without_turns}
 use Rattle.orch_core.specs.States.{State}
 use Rattle.tasks.specs.declared.asked.Task.{Task}
 use Rattle.tasks.specs.declared.progress.Progress.{Progress}
+use Rattle.report_text.specs.declared.totals.Tally.{Tally}
 use Rattle.report_text.specs.Lines.{line_text}
 use Rattle.tasks.specs.declared.ending.Ending.{Ending}
 use Rattle.tasks.specs.declared.ending.Ending.TheVariants as ends
 use Rattle.tasks.specs.Closing.{begun_by, closing_by}
 use Rattle.tasks.specs.Endings.{Course}
-use Rattle.tasks.specs.Report.{any_refused, is_refused, last_reply, replies_text, tables_of}
+use Rattle.tasks.specs.declared.verdict.Verdict.{Verdict}
+use Rattle.tasks.specs.declared.verdict.Verdict.TheVariants as verdict
+use Rattle.tasks.specs.Report.{any_refused, is_refused, last_reply, replies_text, tables_of, tally_of}
 use Rattle.tasks.specs.Sinks.{Carries, End, FailsInRest, Joins, Taken, TakesFront, TakesRest}
 use Rattle.tasks.specs.Works.{IsCut}
 
@@ -69,8 +73,24 @@ GaveUp names from ts to e p fault.Keeper = StopsBefore names from ts to e p
 GaveUp names from ts to e p fault.Memory = StopsBehind names from ts to e
 
 -- what a task's report is of, from a point on
-abbrev pub course_from : Task → List HostPort → List Turn → Point → Option (List Row) → Course
-course_from c names ts from kept = record { task = c; names = names; turns = ts; came = λ us rows run. Leads from rows us run; kept = kept }
+abbrev pub course_from : Task → List HostPort → Scenario → List Turn → Point → Option (List Row) → Course
+course_from c names s ts from kept = record { task = c; names = names; scenario = s; turns = ts; came = λ us rows run. Leads from rows us run; kept = kept }
+
+-- ---- a run's summary
+
+-- with one more reply
+abbrev pub with_reply : Tally → Verdict → Tally
+with_reply t verdict.Neither = record t { turns = t.turns + 1 }
+with_reply t verdict.Refused = record t { turns = t.turns + 1; refused = t.refused + 1 }
+with_reply t verdict.Failed = record t { turns = t.turns + 1; failed = t.failed + 1 }
+
+-- these turns led from one point to another, and their replies come to this tally
+pub record Tallies (from : Point) (ts : List Turn) (to : Point) (tally : Tally) : Type 0 where
+  pub run : Recorded
+  pub ran : Leads from to.kept ts run
+  pub state : run.state ≡ to.state
+  pub is : tally ≡ tally_of run.journal
+  pub count : length run.journal ≡ length ts
 
 -- ---- a single command
 

@@ -1,9 +1,9 @@
 -- What a task answers: a function of the task and of the last state of its run.
-use Rattle.std.specs.Prelude.{ℕ, List, [], ◌∷◌, ◌++◌, Bool, true, false, if◌then◌else◌, map, Option, Some, None}
+use Rattle.std.specs.Prelude.{ℕ, ◌==◌, List, [], ◌∷◌, ◌++◌, Bool, true, false, if◌then◌else◌, length, map, count_by, Option, Some, None}
 use Rattle.std.specs.List.{list_any}
 use Rattle.orch_base.specs.Names.{HostPort}
 use Rattle.audit_lines.specs.Lines.{recovery_lines}
-use Rattle.commands.specs.declared.refusal.Refusal.TheVariants.{UnknownInstance}
+use Rattle.commands.specs.declared.refusal.Refusal.TheVariants.{NotQuiet, UnknownInstance}
 use Rattle.turns.specs.declared.reply.Reply.{Reply}
 use Rattle.turns.specs.declared.reply.Reply.TheVariants as answered
 use Rattle.turns.specs.declared.turn.Turn.{Turn}
@@ -12,12 +12,18 @@ use Rattle.turns.specs.declared.turn.Act.TheVariants as act
 use Rattle.turns.specs.declared.turn.Turn.TheVariants as turn
 use Rattle.orch_core.specs.Runs.{Recorded}
 use Rattle.orch_core.specs.States.{State}
+use Rattle.scenario_dump.specs.Texts.{dump_text}
+use Rattle.scenarios.specs.declared.scenario.Scenario.{Scenario}
+use Rattle.report_text.specs.declared.totals.Tally.{Tally}
 use Rattle.report_text.specs.Lines.{lines_text, plain_text_of}
+use Rattle.report_text.specs.Summary.{summary_text}
 use Rattle.report_text.specs.Tables.{tables_text}
 use Rattle.unended_jobs.specs.Unended.{number_of}
 use Rattle.tasks.specs.declared.asked.Asked.{Asked}
 use Rattle.tasks.specs.declared.asked.Asked.TheVariants as asked
 use Rattle.tasks.specs.declared.asked.Task.{Task}
+use Rattle.tasks.specs.declared.verdict.Verdict.{Verdict}
+use Rattle.tasks.specs.declared.verdict.Verdict.TheVariants as verdict
 
 -- what is written on out and on err where nothing fails, and whether a written reply is refused or failed
 pub record Answer : Type 0 where
@@ -37,32 +43,51 @@ tables_of s = tables_text s.world (recovery_lines s.audit.recoveries) (map numbe
 abbrev pub report_text : List HostPort → Recorded → List ℕ
 report_text names run = replies_text names run ++ tables_of run.state
 
--- a command or a job is refused or fails, an exchange and a poll never
+-- a command is refused, or a job fails; an exchange and a poll never
+abbrev pub verdict_of : Reply → Verdict
+verdict_of (answered.Refused r) = verdict.Refused
+verdict_of (answered.Failed cause) = verdict.Failed
+verdict_of (answered.Write a) = verdict.Neither
+verdict_of (answered.Fetch a) = verdict.Neither
+verdict_of (answered.Apply a) = verdict.Neither
+verdict_of answered.Done = verdict.Neither
+verdict_of (answered.Rotate a) = verdict.Neither
+verdict_of (answered.Purge a) = verdict.Neither
+verdict_of (answered.Now t) = verdict.Neither
+verdict_of (answered.Read n) = verdict.Neither
+verdict_of (answered.ReadUnreachable n) = verdict.Neither
+verdict_of answered.Unknown = verdict.Neither
+verdict_of answered.Stored = verdict.Neither
+verdict_of (answered.Old n) = verdict.Neither
+verdict_of answered.Nothing = verdict.Neither
+verdict_of (answered.Told lines) = verdict.Neither
+verdict_of (answered.Begun job) = verdict.Neither
+verdict_of answered.Going = verdict.Neither
+verdict_of answered.NoJob = verdict.Neither
+verdict_of (answered.Held until) = verdict.Neither
+verdict_of (answered.Taken node until) = verdict.Neither
+verdict_of answered.Released = verdict.Neither
+verdict_of answered.NotHeld = verdict.Neither
+verdict_of answered.Lapsed = verdict.Neither
+
+abbrev pub is_refusal : Verdict → Bool
+is_refusal verdict.Neither = false
+is_refusal verdict.Refused = true
+is_refusal verdict.Failed = false
+
+abbrev pub is_failure : Verdict → Bool
+is_failure verdict.Neither = false
+is_failure verdict.Refused = false
+is_failure verdict.Failed = true
+
+-- it is one of the two
+abbrev pub is_bad : Verdict → Bool
+is_bad verdict.Neither = false
+is_bad verdict.Refused = true
+is_bad verdict.Failed = true
+
 abbrev pub is_refused : Reply → Bool
-is_refused (answered.Refused r) = true
-is_refused (answered.Failed cause) = true
-is_refused (answered.Write a) = false
-is_refused (answered.Fetch a) = false
-is_refused (answered.Apply a) = false
-is_refused answered.Done = false
-is_refused (answered.Rotate a) = false
-is_refused (answered.Purge a) = false
-is_refused (answered.Now t) = false
-is_refused (answered.Read n) = false
-is_refused (answered.ReadUnreachable n) = false
-is_refused answered.Unknown = false
-is_refused answered.Stored = false
-is_refused (answered.Old n) = false
-is_refused answered.Nothing = false
-is_refused (answered.Told lines) = false
-is_refused (answered.Begun job) = false
-is_refused answered.Going = false
-is_refused answered.NoJob = false
-is_refused (answered.Held until) = false
-is_refused (answered.Taken node until) = false
-is_refused answered.Released = false
-is_refused answered.NotHeld = false
-is_refused answered.Lapsed = false
+is_refused r = is_bad (verdict_of r)
 
 unfoldable pub any_refused : Recorded → Bool
 any_refused run = list_any (λ e. is_refused e.1) run.journal
@@ -70,6 +95,18 @@ any_refused run = list_any (λ e. is_refused e.1) run.journal
 -- a run of the scenario
 abbrev pub run_answer : List HostPort → Recorded → Answer
 run_answer names run = record { out = report_text names run; err = []; is_refused = any_refused run }
+
+-- how many turns were taken, and how many of their replies are refused, and how many failed
+abbrev pub tally_of : List (Turn × Reply) → Tally
+tally_of journal = record {
+  turns = length journal;
+  refused = count_by (λ e. is_refusal (verdict_of e.1)) journal;
+  failed = count_by (λ e. is_failure (verdict_of e.1)) journal;
+}
+
+-- a run's summary: what its replies come to, and its last state. It has no reply, and so none that is refused
+abbrev pub summary_of : Tally → State → Answer
+summary_of tally s = record { out = summary_text tally s.world (length s.audit.recoveries); err = []; is_refused = false }
 
 -- a single command: its lines, or its refusal on err; and the tables where they are asked for
 abbrev pub told_answer : Bool → List HostPort → State → Reply → Answer
@@ -114,20 +151,29 @@ abbrev pub own_answer : Bool → List HostPort → State → Option Reply → An
 own_answer tables names s None = no_answer
 own_answer tables names s (Some r) = told_answer tables names s r
 
+-- the world as a scenario that begins at the present moment; its refusal where a server with a source accepted a write
+abbrev pub dump_of : List HostPort → Scenario → State → Answer
+dump_of names s at =
+    if at.world.errant == 0 then record { out = dump_text at.world s at.moment; err = []; is_refused = false } else told_answer false names at (answered.Refused (NotQuiet at.world.errant))
+
 -- what is answered to each thing that words ask, by the last state; tables follow where they are asked for, but not
 -- where no turn of the command's own was taken
-abbrev pub asked_answer : Asked → Bool → List HostPort → Recorded → Answer
-asked_answer asked.Run tables names run = run_answer names run
-asked_answer (asked.Turn t) tables names run = own_answer tables names run.state (last_reply run.journal)
-asked_answer asked.Unknown tables names run = told_answer false names run.state (answered.Refused UnknownInstance)
-asked_answer asked.Nothing tables names run = no_answer
+abbrev pub asked_answer : Asked → Bool → List HostPort → Scenario → Recorded → Answer
+asked_answer asked.Run tables names s run = run_answer names run
+asked_answer asked.Summary tables names s run = summary_of (tally_of run.journal) run.state
+asked_answer asked.Dump tables names s run = dump_of names s run.state
+asked_answer (asked.Turn t) tables names s run = own_answer tables names run.state (last_reply run.journal)
+asked_answer asked.Unknown tables names s run = told_answer false names run.state (answered.Refused UnknownInstance)
+asked_answer asked.Nothing tables names s run = no_answer
 
-abbrev pub answer_of : Task → List HostPort → Recorded → Answer
-answer_of c names run = asked_answer c.asked c.tables names run
+abbrev pub answer_of : Task → List HostPort → Scenario → Recorded → Answer
+answer_of c names s run = asked_answer c.asked c.tables names s run
 
--- what is left of a run that was cut: its replies so far; of any other command nothing
+-- what is left of a run that was cut: its replies so far; of its summary, and of any other command, nothing
 abbrev pub cut_text : Asked → List HostPort → Recorded → List ℕ
 cut_text asked.Run names run = replies_text names run
+cut_text asked.Summary names run = []
+cut_text asked.Dump names run = []
 cut_text (asked.Turn t) names run = []
 cut_text asked.Unknown names run = []
 cut_text asked.Nothing names run = []

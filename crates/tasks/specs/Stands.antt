@@ -4,6 +4,7 @@ use Rattle.commands.specs.declared.turn.CommandTurn.{CommandTurn}
 use Rattle.kept_rows.specs.declared.row.Row.{Row}
 use Rattle.orch_base.specs.Names.{HostPort}
 use Rattle.orch_core.specs.States.{State}
+use Rattle.scenarios.specs.declared.scenario.Scenario.{Scenario}
 use Rattle.scenarios.specs.Turns.{IsCommand, IsTurn}
 use Rattle.turns.specs.declared.turn.Turn.{Turn}
 use Rattle.turns.specs.declared.turn.Act.TheVariants as act
@@ -30,12 +31,20 @@ with_own ts own = ts ++ turn.Act (act.Command own) ∷ []
 
 -- of any task that asks for a run; err takes nothing
 abbrev pub RunStands : List HostPort → List Turn → Point → Option (List Row) → End → Ending → Type 0
-RunStands names ts from kept out ending = (task : Task) (err : Taken) → task.asked ≡ asked.Run → Stands (course_from task names ts from kept) out (between err err) ending
+RunStands names ts from kept out ending = (task : Task) (s : Scenario) (err : Taken) → task.asked ≡ asked.Run → Stands (course_from task names s ts from kept) out (between err err) ending
+
+-- of any task that asks for a run's summary
+abbrev pub SummaryStands : List Turn → Point → Option (List Row) → End → End → Ending → Type 0
+SummaryStands ts from kept out err ending = (names : List HostPort) (s : Scenario) (task : Task) → task.asked ≡ asked.Summary → Stands (course_from task names s ts from kept) out err ending
 
 -- of any task that asks for this command, with the tables or without
 abbrev pub CommandStands : CommandTurn → Bool → List HostPort → List Turn → Point → Option (List Row) → End → End → Ending → Type 0
-CommandStands own tables names ts from kept out err ending = (task : Task) → task.asked ≡ asked.Turn own → task.tables ≡ tables → Stands (course_from task names (with_own ts own) from kept) out err ending
+CommandStands own tables names ts from kept out err ending = (task : Task) (s : Scenario) → task.asked ≡ asked.Turn own → task.tables ≡ tables → Stands (course_from task names s (with_own ts own) from kept) out err ending
 
 -- of any task that asks about an instance that no server is
 abbrev pub UnknownStands : List HostPort → List Turn → Point → Option (List Row) → End → End → Ending → Type 0
-UnknownStands names ts from kept out err ending = (task : Task) → task.asked ≡ asked.Unknown → Stands (course_from task names ts from kept) out err ending
+UnknownStands names ts from kept out err ending = (task : Task) (s : Scenario) → task.asked ≡ asked.Unknown → Stands (course_from task names s ts from kept) out err ending
+
+-- of any task that asks for this scenario's servers as they are then
+abbrev pub DumpStands : List HostPort → Scenario → List Turn → Point → Option (List Row) → End → End → Ending → Type 0
+DumpStands names s ts from kept out err ending = (task : Task) → task.asked ≡ asked.Dump → Stands (course_from task names s ts from kept) out err ending

@@ -4,7 +4,7 @@ ghost use Rattle.std.specs.Prelude.{◌≡◌, ◌≤◌, true, IfOk, IfSome, le
 ghost use Rattle.cluster_filters.specs.Patterns.{is_pattern};
 ghost use Rattle.tasks.specs.Asked.{IsTaken, asked_about, asked_named, asked_of, pattern_for, server_given, server_of, task_of, turn_for, used};
 
-use command_line::Places;
+use command_line::{Own, Places};
 use commands::{Command, CommandName, CommandTurn, Found, Keys};
 use orch_base::{Memory, Name, OwnedText, ServerNo};
 use scenario_turns::{found, printed_names};
@@ -17,11 +17,15 @@ use turns::BoxedCommand;
 pub enum Asked {
     /// `run`: the scenario's own turns.
     Run,
+    /// `run --summary`: the same turns, of which the summary is told.
+    Summary,
+    /// `dump`: the same turns, and the servers behind them as a scenario.
+    Dump,
     /// A command: this turn behind the scenario's.
     Turn(BoxedCommand),
     /// A command that uses an instance or a destination that no server is: it takes no turn of its own.
     Unknown,
-    /// Neither `run` nor a command: words that are taken never ask this.
+    /// Nothing of a scenario's servers: words that are taken ask this only where a scenario is to be drawn.
     Nothing,
 }
 
@@ -176,14 +180,21 @@ fn asked_of(alloc: Global, places: &Places, names: &[Name]) -> Result<Asked, Mem
     ensures { IfOk result (λ a. a ≡ asked_of places.now names.now) }
 {
     let word = places.command.as_str();
-    if word == "run" {
-        return Ok(Asked::Run);
+    match Own::read(word) {
+        Some(Own::Run) => Ok(if places.summary {
+            Asked::Summary
+        } else {
+            Asked::Run
+        }),
+        Some(Own::Generate) => Ok(Asked::Nothing),
+        Some(Own::Dump) => Ok(Asked::Dump),
+        None => asked_named(alloc, places, names, CommandName::read(word)),
     }
-    asked_named(alloc, places, names, CommandName::read(word))
 }
 
-/// What these words, which are taken, ask of servers of these names, of which there are at most 1,000: `run`, a
-/// command's turn with all options that the command uses, or a command whose instance or destination no server is.
+/// What these words, which are taken, ask of servers of these names, of which there are at most 1,000: a run, its
+/// summary or the servers that it leads to, a command's turn with all options that the command uses, or a command whose
+/// instance or destination no server is.
 /// `Memory` comes only for want of memory.
 pub fn task_of(alloc: Global, places: &Places, names: &[Name]) -> Result<Task, Memory>
     requires words { IsTaken places.now }

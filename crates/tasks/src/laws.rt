@@ -1,8 +1,8 @@
 //! Laws of tasks, over their definitions alone.
 
-ghost use Rattle.tasks.specs.Laws.{CutTextsBeginAnswers, KnownRowsFixRuns, TakenAreAsked};
+ghost use Rattle.tasks.specs.Laws.{CutTextsBeginAnswers, KnownRowsFixRuns, RepliesAreOfTurns, SummariesCountTurns, TakenAreAsked};
 
-/// What words that are taken ask is something, and its turn meets the condition of the calls that take turns: its
+/// What words that are taken ask of a scenario is something, and its turn meets the condition of the calls that take turns: its
 /// command is built, what it needs is there, each number and text is in its range, and its instance and destination are
 /// among the servers.
 pub fn asked_turns_are_sound()
@@ -18,4 +18,11 @@ pub fn known_rows_fix_the_run()
 /// What is left of a task that is cut behind any of its turns begins what it answers on out where nothing fails.
 pub fn cut_texts_begin_the_report()
     ensures { CutTextsBeginAnswers }
+{}
+
+/// The replies that a summary counts are those of the turns that were taken, one for each, in their order; so it tells as
+/// many turns as there were.
+pub fn summaries_count_the_turns()
+    ensures replies { RepliesAreOfTurns }
+    ensures turns { SummariesCountTurns }
 {}

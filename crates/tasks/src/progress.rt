@@ -9,7 +9,7 @@ ghost use Rattle.tasks.specs.Stands.{AreTurnsIn, RunStands};
 
 use crate::Ending;
 use crate::pieces::Pieces;
-use crate::refused::is_refused;
+use crate::verdict::is_refused;
 use instance_keeper::Keeper;
 use orch_base::{Memory, Name, Sink};
 use orch_core::{Engine, TurnFault};

@@ -8,8 +8,10 @@ ghost use Rattle.tasks.specs.Progress.{course_from, point};
 ghost use Rattle.tasks.specs.Sinks.{across};
 ghost use Rattle.tasks.specs.Stands.{AreTurnsIn};
 
+use crate::dumped::dump_report;
 use crate::progress::run_report;
 use crate::single::{command_report, unknown_report};
+use crate::summary::summary_report;
 use crate::{Asked, Ending, Task};
 use instance_keeper::Keeper;
 use orch_base::{Name, Sink};
@@ -23,6 +25,7 @@ fn asked_report<O: Sink, E: Sink, K: Keeper>(
     alloc: Global,
     task: &Task,
     names: &[Name],
+    scenario: &Scenario,
     turns: &[Turn],
     engine: &mut Engine,
     out: &mut O,
@@ -31,7 +34,8 @@ fn asked_report<O: Sink, E: Sink, K: Keeper>(
 ) -> Ending
     requires turns { AreTurnsIn engine.old turns.now }
     requires asked { IsAsked (length engine.old.world.servers) task.now.asked }
-    ensures stands { Stands (course_from task.now names.now (turns_taken task.now.asked turns.now)
+    ensures stands { Stands (course_from task.now names.now scenario.now
+        (turns_taken task.now.asked turns.now)
         (point (K.kept keeper.old) engine.old) (K.kept keeper.new))
         (across (O.written out.old) (O.faults out.old) (O.written out.new) (O.faults out.new))
         (across (E.written err.old) (E.faults err.old) (E.written err.new) (E.faults err.new))
@@ -41,6 +45,8 @@ fn asked_report<O: Sink, E: Sink, K: Keeper>(
 {
     match &task.asked {
         Asked::Run => run_report(alloc, keeper, engine, turns, names, out),
+        Asked::Summary => summary_report(alloc, keeper, engine, turns, out, err),
+        Asked::Dump => dump_report(alloc, keeper, engine, scenario, turns, names, out, err),
         Asked::Turn(own) => command_report(
             alloc,
             keeper,
@@ -58,12 +64,13 @@ fn asked_report<O: Sink, E: Sink, K: Keeper>(
 }
 
 /// Opens a scenario, takes its turns and the task's own, and writes the report: of a run each reply's line on out as it
-/// comes, in pieces of 64 KiB and a line, and then the tables; of a single command its lines on out, or its refusal on
-/// err, and the tables where they are asked for. `names` are the servers' names.
+/// comes, in pieces of 64 KiB and a line, and then the tables, or in place of both its summary; the servers as a scenario
+/// on out, or on err why they can't be given so; of a single command its lines on out, or its refusal on err, and the
+/// tables where they are asked for. `names` are the servers' names.
 ///
 /// Err is written before out. Where a sink fails all turns are taken all the same. A run that a keeper's fault cuts has
-/// written the replies before that turn, a single command nothing. `Keeper` comes only where the keeper's count of
-/// faults rose; err's never falls.
+/// written the replies before that turn, anything else nothing. `Keeper` comes only where the keeper's
+/// count of faults rose; err's never falls.
 pub fn task_report<O: Sink, E: Sink, K: Keeper>(
     alloc: Global,
     task: &Task,
@@ -94,5 +101,15 @@ pub fn task_report<O: Sink, E: Sink, K: Keeper>(
         Err(TurnFault::Memory) => return Ending::Memory,
     };
     let turns = scenario.turns.as_slice();
-    asked_report(alloc, task, names, turns, &mut engine, out, err, keeper)
+    asked_report(
+        alloc,
+        task,
+        names,
+        scenario,
+        turns,
+        &mut engine,
+        out,
+        err,
+        keeper,
+    )
 }

@@ -12,7 +12,7 @@ ghost use Rattle.tasks.specs.Stands.{AreTurnsIn, CommandStands, IsCommandIn, Unk
 
 use crate::Ending;
 use crate::pieces::add_tables;
-use crate::refused::is_refused;
+use crate::verdict::is_refused;
 use commands::Refusal;
 use instance_keeper::Keeper;
 use orch_base::{Memory, Name, Sink, write_all};
@@ -21,12 +21,12 @@ use report_text::plain_text;
 use std::alloc::Global;
 use turns::{Act, BoxedCommand, Reply, Turn};
 
-// What out and err are to take, and whether the reply is refused or failed.
+/// What out and err are to take, and whether the reply is refused or failed.
 #[derive(Drop)]
-struct Report {
-    out: Vec<u8>,
-    err: Vec<u8>,
-    is_refused: bool,
+pub(crate) struct Report {
+    pub(crate) out: Vec<u8>,
+    pub(crate) err: Vec<u8>,
+    pub(crate) is_refused: bool,
 }
 
 // The tables, where they are asked for.
@@ -40,8 +40,8 @@ fn some_tables(alloc: Global, asked: bool, engine: &Engine) -> Result<Vec<u8>, M
     Ok(text)
 }
 
-// The lines of a reply, or its refusal for err; and the tables where they are asked for.
-fn told_report(
+/// The lines of a reply, or its refusal for err; and the tables where they are asked for.
+pub(crate) fn told_report(
     alloc: Global,
     asked: bool,
     names: &[Name],
@@ -68,8 +68,8 @@ fn told_report(
     })
 }
 
-// Writes a report: what err is to take, then what out is.
-fn write_report<O: Sink, E: Sink>(out: &mut O, err: &mut E, report: &Report) -> Ending
+/// Writes a report: what err is to take, then what out is.
+pub(crate) fn write_report<O: Sink, E: Sink>(out: &mut O, err: &mut E, report: &Report) -> Ending
     ensures writes { Writes (view report.now)
         (across (O.written out.old) (O.faults out.old) (O.written out.new) (O.faults out.new))
         (across (E.written err.old) (E.faults err.old) (E.written err.new) (E.faults err.new))

@@ -1,9 +1,10 @@
 -- How calls end.
-use Rattle.std.proofs.Common.{◌≡◌, ◌∙◌, ℕ, ◌≤◌, ◌+◌, Bool, true, false, List, [], ◌++◌, length, Option, Some, None, Ok, Err, refl, sym, ap, subst, arith, ◌⊎◌, inl, inr}
-use Rattle.std.specs.Prelude.{IfSome, codes, Result, ⊤}
+use Rattle.std.proofs.Common.{◌≡◌, ◌∙◌, ℕ, ◌≤◌, true, false, List, Option, Some, None, Ok, Err, refl, sym, subst, arith, ◌⊎◌, inl, inr}
+use Rattle.std.specs.Prelude.{IfSome, codes, Result}
+use Rattle.std.specs.Io.KnownBytes.{Consumes}
+use Rattle.std.proofs.lemmas.Option.{same_Some}
 use Rattle.orch_base.specs.Causes.{Rose}
 use Rattle.orch_base.specs.Gives.{Gives}
-use Rattle.orch_base.specs.Names.{HostPort}
 use Rattle.kept_rows.specs.declared.row.Row.{Row}
 use Rattle.scenarios.specs.declared.scenario.Scenario.{Scenario}
 use Rattle.scenarios.specs.Scenarios.{names_of}
@@ -12,19 +13,21 @@ use Rattle.scenario_reader.specs.Scenarios.{scenario_in}
 use Rattle.command_line.specs.declared.parts.Places.{Places}
 use Rattle.command_line.specs.declared.usage.Usage.{Usage}
 use Rattle.command_line.specs.declared.usage.Usage.TheVariants as usage
-use Rattle.command_line.specs.Places.{places_of}
+use Rattle.command_line.specs.declared.parts.Drawing.{Drawing}
+use Rattle.command_line.specs.Places.{drawing_of, places_of}
+use Rattle.command_line.specs.Taken.{IsDrawn}
 use Rattle.command_line.specs.Usages.{usage_fault}
-use Rattle.tasks.specs.declared.asked.Task.{Task}
+use Rattle.command_line.proofs.Named.{taken_have}
 use Rattle.tasks.specs.declared.ending.Ending.{Ending}
 use Rattle.tasks.specs.declared.ending.Ending.TheVariants as ends
-use Rattle.tasks.specs.Asked.{task_of}
-use Rattle.tasks.specs.Endings.{IsIdle, IsWritten, Tells, course_of}
-use Rattle.tasks.specs.Sinks.{End, Fails, FailsIn, Taken, Takes, TakesLine, between, taken}
+use Rattle.tasks.specs.Asked.{AskOfRead, IsTaken, task_of}
+use Rattle.tasks.specs.Endings.{Tells}
+use Rattle.tasks.specs.Sinks.{End, Taken, TakesLine, between, taken}
 use Rattle.tasks.specs.Works.{Work}
-use Rattle.tasks.proofs.Sends.{takes_nothing}
+use Rattle.tasks.proofs.Sends.{nothing_is_front, takes_nothing}
 use Rattle.top_call.specs.declared.way.Way.{Way}
 use Rattle.top_call.specs.declared.way.Way.TheVariants as way
-use Rattle.top_call.specs.Ends.{AreTaken, Asks, Call, Closes, Ends, EndsBy, FaultsAs, FaultsBy, Idles, IsComplete, IsGood, IsReported, IsTask, IsUsage, NoneRose, Reports, call, status_of}
+use Rattle.top_call.specs.Ends.{AskARead, Asks, AskToDraw, Call, Closes, DrawEnds, Ends, FaultsAs, FaultsFor, Idles, IsComplete, IsGood, IsReported, IsUsage, NoneRose, ReadsWhole, call, drawn_text, status_of}
 use Rattle.top_call.specs.Faults.{fault_text}
 
 -- ---- where the bytes are known
@@ -42,15 +45,18 @@ lifted (Some bytes) P Q f h = f bytes h
 abbrev pub work : Places → Scenario → Option (List Row) → Option (List Row) → Work
 work p s old new = record { task = task_of p (names_of s); scenario = s; old = old; new = new }
 
-module _ (words : List (List ℕ)) (bytes : List ℕ) (p : Places) (s : Scenario) (old new : Option (List Row)) (out : End) (first mid last : Taken) (taken_as : places_of words ≡ Ok p) (read_as : scenario_in bytes ≡ Ok s) where
+module _ (words : List (List ℕ)) (bytes : List ℕ) (p : Places) (s : Scenario) (old new : Option (List Row)) (out : End) (first mid last : Taken) (taken_as : places_of words ≡ Ok p) (asks_read : AskOfRead p) (read_as : scenario_in bytes ≡ Ok s) where
   asks : Asks (call words bytes old new out (between first last)) (work p s old new)
-  asks = record { is = record { places = p; taken = taken_as; read = read_as; task = refl }; old = refl; new = refl }
+  asks = record { is = record { places = p; taken = taken_as; asks = asks_read; read = read_as; task = refl }; old = refl; new = refl }
 
   closes : (ending : Ending) (line : List ℕ) → Tells (work p s old new) out (between first mid) ending → first.faults ≤ mid.faults → TakesLine (between mid last) line → Closes (call words bytes old new out (between first last)) ending line
   closes ending line tells later took = record { work = work p s old new; asks = asks; mid = mid; tells = tells; later = later; err = took }
 
+  pub failing : Tells (work p s old new) out (between first mid) ends.Unwritten → first.faults ≤ mid.faults → TakesLine (between mid last) (codes "write fault\n") → Ends (call words bytes old new out (between first last)) way.Sink
+  failing tells later took = inl (closes ends.Unwritten (codes "write fault\n") tells later took)
+
   pub wanting : Tells (work p s old new) out (between first mid) ends.Memory → first.faults ≤ mid.faults → TakesLine (between mid last) (codes "out of memory\n") → Ends (call words bytes old new out (between first last)) way.Memory
-  wanting tells later took = inr (closes ends.Memory (codes "out of memory\n") tells later took)
+  wanting tells later took = inr (inl (closes ends.Memory (codes "out of memory\n") tells later took))
 
 -- a sink failed
 pub sink_rose : (w : Work) (out : End) (first mid last : Taken) → Tells w out (between first mid) ends.Unwritten → mid.faults ≤ last.faults → Rose out.old.faults out.new.faults ⊎ Rose first.faults last.faults
@@ -64,11 +70,11 @@ sink_rose w out first mid last (inr (inr (inr fails))) later = inl fails.on_out.
 pub idles : (words : List (List ℕ)) (bytes : List ℕ) (kept : Option (List Row)) (out : Taken) (err : End) (line : List ℕ) → TakesLine err line → Idles (call words bytes kept kept (between out out) err) line
 idles words bytes kept out err line took = record { kept = refl; out = takes_nothing out.bytes; err = took }
 
-pub faulty : (words : List (List ℕ)) (bytes : List ℕ) (p : Places) (fault : Fault) (kept : Option (List Row)) (out : Taken) (err : End) (w : Way) → places_of words ≡ Ok p → scenario_in bytes ≡ Err fault
+pub faulty : (words : List (List ℕ)) (bytes : List ℕ) (p : Places) (fault : Fault) (kept : Option (List Row)) (out : Taken) (err : End) (w : Way) → places_of words ≡ Ok p → AskOfRead p → scenario_in bytes ≡ Err fault
     → ((w ≡ way.Fault) × TakesLine err (fault_text fault)) ⊎ ((w ≡ way.Memory) × TakesLine err (codes "out of memory\n")) → Ends (call words bytes kept kept (between out out) err) w
-faulty words bytes p fault kept out err w taken_as read_as (inl closed) =
-    subst (Ends (call words bytes kept kept (between out out) err)) (sym closed.0) ((p, taken_as), (fault, read_as, idles words bytes kept out err (fault_text fault) closed.1))
-faulty words bytes p fault kept out err w taken_as read_as (inr closed) =
+faulty words bytes p fault kept out err w taken_as asks_read read_as (inl closed) =
+    subst (Ends (call words bytes kept kept (between out out) err)) (sym closed.0) ((p, taken_as, asks_read), (fault, read_as, idles words bytes kept out err (fault_text fault) closed.1))
+faulty words bytes p fault kept out err w taken_as asks_read read_as (inr closed) =
     subst (Ends (call words bytes kept kept (between out out) err)) (sym closed.0) (inl (idles words bytes kept out err (codes "out of memory\n") closed.1))
 
 -- ---- statuses
@@ -78,6 +84,7 @@ module _ where
   pub of_one : (w : Way) → status_of w ≡ 1 → w ≡ way.Usage
   of_one (way.Reported true) e = absurd (omega (arith, e))
   of_one (way.Reported false) e = absurd (omega (arith, e))
+  of_one way.Drawn e = absurd (omega (arith, e))
   of_one way.Usage e = refl
   of_one way.Fault e = absurd (omega (arith, e))
   of_one way.Source e = absurd (omega (arith, e))
@@ -88,6 +95,7 @@ module _ where
   pub of_two : (w : Way) → status_of w ≡ 2 → w ≡ way.Fault
   of_two (way.Reported true) e = absurd (omega (arith, e))
   of_two (way.Reported false) e = absurd (omega (arith, e))
+  of_two way.Drawn e = absurd (omega (arith, e))
   of_two way.Usage e = absurd (omega (arith, e))
   of_two way.Fault e = refl
   of_two way.Source e = absurd (omega (arith, e))
@@ -98,6 +106,7 @@ module _ where
   pub of_three : (w : Way) → status_of w ≡ 3 → w ≡ way.Source
   of_three (way.Reported true) e = absurd (omega (arith, e))
   of_three (way.Reported false) e = absurd (omega (arith, e))
+  of_three way.Drawn e = absurd (omega (arith, e))
   of_three way.Usage e = absurd (omega (arith, e))
   of_three way.Fault e = absurd (omega (arith, e))
   of_three way.Source e = refl
@@ -108,6 +117,7 @@ module _ where
   pub of_four : (w : Way) → status_of w ≡ 4 → w ≡ way.Sink
   of_four (way.Reported true) e = absurd (omega (arith, e))
   of_four (way.Reported false) e = absurd (omega (arith, e))
+  of_four way.Drawn e = absurd (omega (arith, e))
   of_four way.Usage e = absurd (omega (arith, e))
   of_four way.Fault e = absurd (omega (arith, e))
   of_four way.Source e = absurd (omega (arith, e))
@@ -118,6 +128,7 @@ module _ where
   pub of_five : (w : Way) → status_of w ≡ 5 → w ≡ way.Keeper
   of_five (way.Reported true) e = absurd (omega (arith, e))
   of_five (way.Reported false) e = absurd (omega (arith, e))
+  of_five way.Drawn e = absurd (omega (arith, e))
   of_five way.Usage e = absurd (omega (arith, e))
   of_five way.Fault e = absurd (omega (arith, e))
   of_five way.Source e = absurd (omega (arith, e))
@@ -128,6 +139,7 @@ module _ where
   pub of_six : (w : Way) → status_of w ≡ 6 → w ≡ way.Memory
   of_six (way.Reported true) e = absurd (omega (arith, e))
   of_six (way.Reported false) e = absurd (omega (arith, e))
+  of_six way.Drawn e = absurd (omega (arith, e))
   of_six way.Usage e = absurd (omega (arith, e))
   of_six way.Fault e = absurd (omega (arith, e))
   of_six way.Source e = absurd (omega (arith, e))
@@ -135,8 +147,9 @@ module _ where
   of_six way.Keeper e = absurd (omega (arith, e))
   of_six way.Memory e = refl
 
-  pub of_done : (w : Way) → (status_of w ≡ 0) ⊎ (status_of w ≡ 7) → IsReported w
-  of_done (way.Reported refused) e = tt
+  pub of_done : (w : Way) → (status_of w ≡ 0) ⊎ (status_of w ≡ 7) → IsReported w ⊎ (w ≡ way.Drawn)
+  of_done (way.Reported refused) e = inl tt
+  of_done way.Drawn e = inr refl
   of_done way.Usage (inl e) = absurd (omega (arith, e))
   of_done way.Usage (inr e) = absurd (omega (arith, e))
   of_done way.Fault (inl e) = absurd (omega (arith, e))
@@ -149,6 +162,99 @@ module _ where
   of_done way.Keeper (inr e) = absurd (omega (arith, e))
   of_done way.Memory (inl e) = absurd (omega (arith, e))
   of_done way.Memory (inr e) = absurd (omega (arith, e))
+
+-- ---- what words ask
+
+same_places : (r : Result Places Usage) (p q : Places) → r ≡ Ok p → r ≡ Ok q → p ≡ q
+same_places (Ok x) p q e f = cc
+same_places (Err u) p q e f = absurd cc
+
+pub none_or_some : (o : Option Drawing) (d : Drawing) → o ≡ None → o ≡ Some d → ⊥
+none_or_some None d none some = absurd cc
+none_or_some (Some e) d none some = absurd cc
+
+-- what one reading of the words gives, each does
+module _ (words : List (List ℕ)) (p : Places) (taken_as : places_of words ≡ Ok p) where
+  pub reads_at : AskARead words → AskOfRead p
+  reads_at ask = subst AskOfRead (same_places (places_of words) ask.0 p ask.1 taken_as) ask.2
+
+  pub draws_at : (d : Drawing) → AskToDraw words d → drawing_of p ≡ Some d
+  draws_at d ask = subst (λ (q : Places). drawing_of q ≡ Some d) (same_places (places_of words) ask.0 p ask.1 taken_as) ask.2
+
+-- words don't ask for both
+pub never_both : (words : List (List ℕ)) (d : Drawing) → AskARead words → AskToDraw words d → ⊥
+never_both words d read draw = none_or_some (drawing_of draw.0) d (reads_at words draw.0 draw.1 read) draw.2
+
+abbrev pub asks_of : (c : Call) (w : Work) → Asks c w → AskARead c.words
+asks_of c w asks = (asks.is.places, asks.is.taken, asks.is.asks)
+
+-- ---- a scenario is drawn
+
+module _ (words : List (List ℕ)) (bytes : List ℕ) (p : Places) (d : Drawing) (kept : Option (List Row)) (out err : End) (taken_as : places_of words ≡ Ok p) (draws : drawing_of p ≡ Some d) where
+  abbrev drawing_call : Call
+  drawing_call = call words bytes kept kept out err
+
+  drew_whole : DrawEnds d 0 out err → Ends drawing_call way.Drawn
+  drew_whole (inl e) = record { drawing = d; asks = (p, taken_as, draws); kept = refl; out = e.1; err = e.2 }
+  drew_whole (inr (inl e)) = let no : 0 ≡ 4 = e.0 in absurd (omega (arith, no))
+  drew_whole (inr (inr e)) = let no : 0 ≡ 6 = e.0 in absurd (omega (arith, no))
+
+  drew_failing : DrawEnds d 4 out err → Ends drawing_call way.Sink
+  drew_failing (inl e) = let no : 4 ≡ 0 = e.0 in absurd (omega (arith, no))
+  drew_failing (inr (inl e)) = inr (record { drawing = d; asks = (p, taken_as, draws); kept = refl; out = e.1; err = e.2 })
+  drew_failing (inr (inr e)) = let no : 4 ≡ 6 = e.0 in absurd (omega (arith, no))
+
+  drew_wanting : DrawEnds d 6 out err → Ends drawing_call way.Memory
+  drew_wanting (inl e) = let no : 6 ≡ 0 = e.0 in absurd (omega (arith, no))
+  drew_wanting (inr (inl e)) = let no : 6 ≡ 4 = e.0 in absurd (omega (arith, no))
+  drew_wanting (inr (inr e)) = inr (inr (record { drawing = d; asks = (p, taken_as, draws); kept = refl; out = e.1; err = e.2 }))
+
+  pub drew : (w : Way) → DrawEnds d (status_of w) out err → (w ≡ way.Drawn) ⊎ (w ≡ way.Sink) ⊎ (w ≡ way.Memory) → Ends drawing_call w
+  drew w ended (inl is) = subst (Ends drawing_call) (sym is) (drew_whole (subst (λ (v : Way). DrawEnds d (status_of v) out err) is ended))
+  drew w ended (inr (inl is)) = subst (Ends drawing_call) (sym is) (drew_failing (subst (λ (v : Way). DrawEnds d (status_of v) out err) is ended))
+  drew w ended (inr (inr is)) = subst (Ends drawing_call) (sym is) (drew_wanting (subst (λ (v : Way). DrawEnds d (status_of v) out err) is ended))
+
+-- it ends by no other way
+pub record IsDrawWay (w : Way) : Type 0 where
+  pub not_usage : w ≡ way.Usage → ⊥
+  pub not_source : w ≡ way.Source → ⊥
+  pub not_keeper : w ≡ way.Keeper → ⊥
+  pub not_reported : IsReported w → ⊥
+
+pub draw_way : (w : Way) → (w ≡ way.Drawn) ⊎ (w ≡ way.Sink) ⊎ (w ≡ way.Memory) → IsDrawWay w
+draw_way w (inl is) = subst IsDrawWay (sym is) (record { not_usage = λ e. absurd cc; not_source = λ e. absurd cc; not_keeper = λ e. absurd cc; not_reported = λ e. e })
+draw_way w (inr (inl is)) = subst IsDrawWay (sym is) (record { not_usage = λ e. absurd cc; not_source = λ e. absurd cc; not_keeper = λ e. absurd cc; not_reported = λ e. e })
+draw_way w (inr (inr is)) = subst IsDrawWay (sym is) (record { not_usage = λ e. absurd cc; not_source = λ e. absurd cc; not_keeper = λ e. absurd cc; not_reported = λ e. e })
+
+-- and by that of a sink only where out failed
+pub draw_rose : (d : Drawing) (w : Way) (out err : End) → DrawEnds d (status_of w) out err → w ≡ way.Sink → Rose out.old.faults out.new.faults
+draw_rose d w out err ended is = at (subst (λ (v : Way). DrawEnds d (status_of v) out err) is ended)
+  where
+    at : DrawEnds d 4 out err → Rose out.old.faults out.new.faults
+    at (inl e) = let no : 4 ≡ 0 = e.0 in absurd (omega (arith, no))
+    at (inr (inl e)) = e.1.failed
+    at (inr (inr e)) = let no : 4 ≡ 6 = e.0 in absurd (omega (arith, no))
+
+-- what words that are taken ask to draw may be drawn
+pub drawing_sound : (p : Places) (d : Drawing) → IsTaken p → drawing_of p ≡ Some d → IsDrawn d
+drawing_sound p d taken is = subst (λ (o : Option Drawing). IfSome o IsDrawn) is (taken_have taken.0 p taken.1).drawn
+
+pub drawn_once : (P : Drawing → Type 0) (o : Option Drawing) (d e : Drawing) → o ≡ Some d → o ≡ Some e → P d → P e
+drawn_once P o d e first second has = subst P (same_Some d e (sym first ∙ second)) has
+
+-- memory ran out before it was begun
+pub undrawn : (d : Drawing) (out : Taken) (err : End) → TakesLine err (codes "out of memory\n") → DrawEnds d 6 (between out out) err
+undrawn d out err took = inr (inr (refl, nothing_is_front out.bytes out.bytes (drawn_text d) (takes_nothing out.bytes), took))
+
+-- the source was read to its end where the words ask of it
+pub read_whole : (words : List (List ℕ)) (left left_now : Option (List ℕ)) (kept kept_now : Option (List Row)) (out err : End) (w : Way) (status : ℕ) → status ≡ status_of w → (IsReported w → IfSome left (λ bytes. Consumes left left_now bytes))
+    → IfSome left (λ bytes. Ends (call words bytes kept kept_now out err) w) → IfSome left (λ bytes. ReadsWhole words bytes status left left_now)
+read_whole words None left_now kept kept_now out err w status is read ended = tt
+read_whole words (Some bytes) left_now kept kept_now out err w status is read ended = λ ask done. go ask (of_done w (subst (λ (n : ℕ). (n ≡ 0) ⊎ (n ≡ 7)) is done))
+  where
+    go : AskARead words → IsReported w ⊎ (w ≡ way.Drawn) → Consumes (Some bytes) left_now bytes
+    go ask (inl reported) = read reported
+    go ask (inr drawn) = let at : Ends (call words bytes kept kept_now out err) way.Drawn = subst (Ends (call words bytes kept kept_now out err)) drawn ended in absurd (never_both words at.drawing ask at.asks)
 
 -- ---- the words are taken
 
@@ -167,20 +273,26 @@ module _ (c : Call) (p : Places) (taken_as : places_of c.words ≡ Ok p) where
   fault_back : (w : Way) → Ends c w → w ≡ way.Fault → (f : Fault) × (scenario_in c.bytes ≡ Err f)
   fault_back w ends_so is = let at : Ends c way.Fault = subst (Ends c) is ends_so in (at.1.0, at.1.1)
 
-  fault_on : (w : Way) (f : Fault) → Ends c w → scenario_in c.bytes ≡ Err f → (status_of w ≡ 2) ⊎ (status_of w ≡ 3) ⊎ (status_of w ≡ 6)
-  fault_on (way.Reported refused) f ends_so fault_as = absurd (sound c.bytes ends_so.work.scenario f ends_so.asks.is.read fault_as)
-  fault_on way.Usage f ends_so fault_as = absurd (taken_twice ends_so.0)
-  fault_on way.Fault f ends_so fault_as = inl refl
-  fault_on way.Source f ends_so fault_as = inr (inl refl)
-  fault_on way.Sink f ends_so fault_as = absurd (sound c.bytes ends_so.work.scenario f ends_so.asks.is.read fault_as)
-  fault_on way.Keeper f ends_so fault_as = absurd (sound c.bytes ends_so.work.scenario f ends_so.asks.is.read fault_as)
-  fault_on way.Memory f ends_so fault_as = inr (inr refl)
+  fault_on : (w : Way) (f : Fault) → AskARead c.words → Ends c w → scenario_in c.bytes ≡ Err f → (status_of w ≡ 2) ⊎ (status_of w ≡ 3) ⊎ (status_of w ≡ 6)
+  fault_on (way.Reported refused) f ask ends_so fault_as = absurd (sound c.bytes ends_so.work.scenario f ends_so.asks.is.read fault_as)
+  fault_on way.Drawn f ask ends_so fault_as = absurd (never_both c.words ends_so.drawing ask ends_so.asks)
+  fault_on way.Usage f ask ends_so fault_as = absurd (taken_twice ends_so.0)
+  fault_on way.Fault f ask ends_so fault_as = inl refl
+  fault_on way.Source f ask ends_so fault_as = inr (inl refl)
+  fault_on way.Sink f ask (inl closes) fault_as = absurd (sound c.bytes closes.work.scenario f closes.asks.is.read fault_as)
+  fault_on way.Sink f ask (inr draws) fault_as = absurd (never_both c.words draws.drawing ask draws.asks)
+  fault_on way.Keeper f ask ends_so fault_as = absurd (sound c.bytes ends_so.work.scenario f ends_so.asks.is.read fault_as)
+  fault_on way.Memory f ask ends_so fault_as = inr (inr refl)
+
+  faults_for : (w : Way) (o : Option Drawing) → drawing_of p ≡ o → Ends c w → FaultsFor o c.bytes (status_of w)
+  faults_for w None is ends_so = record {
+    only = λ two. fault_back w ends_so (of_two w two);
+    always = λ f fault_as. fault_on w f (p, taken_as, is) ends_so fault_as;
+  }
+  faults_for w (Some d) is ends_so = λ two. let at : Ends c way.Fault = subst (Ends c) (of_two w two) ends_so in never_both c.words d at.0 (p, taken_as, is)
 
   pub faults : (w : Way) → Ends c w → FaultsAs (places_of c.words) c.bytes (status_of w)
-  faults w ends_so = subst (λ (r : Result Places Usage). FaultsAs r c.bytes (status_of w)) (sym taken_as) (record {
-    only = λ two. fault_back w ends_so (of_two w two);
-    always = λ f fault_as. fault_on w f ends_so fault_as;
-  })
+  faults w ends_so = subst (λ (r : Result Places Usage). FaultsAs r c.bytes (status_of w)) (sym taken_as) (faults_for w (drawing_of p) refl ends_so)
 
 pub no_usage : (words : List (List ℕ)) (p : Places) (w : Way) → places_of words ≡ Ok p → (w ≡ way.Usage → ⊥) → IsUsage words (status_of w)
 no_usage words p w taken_as other = record {
@@ -192,8 +304,11 @@ pub complete : (c : Call) (w : Way) (sb sa kb ka : ℕ) → (w ≡ way.Source �
     → NoneRose sb sa kb ka c.out c.err → IsComplete (status_of w)
 complete c (way.Reported true) sb sa kb ka source sink keeper ends_so good none = inr (inl refl)
 complete c (way.Reported false) sb sa kb ka source sink keeper ends_so good none = inl refl
-complete c way.Usage sb sa kb ka source sink keeper ends_so good none = absurd (taken_twice c good.taken.0 good.taken.1 ends_so.0)
-complete c way.Fault sb sa kb ka source sink keeper ends_so good none = absurd (sound c.bytes good.scenario ends_so.1.0 good.read ends_so.1.1)
+complete c way.Drawn sb sa kb ka source sink keeper ends_so good none = inl refl
+complete c way.Usage sb sa kb ka source sink keeper ends_so good none = absurd (taken_twice c good.places good.taken ends_so.0)
+complete c way.Fault sb sa kb ka source sink keeper ends_so good none =
+    let read = good.read (reads_at c.words good.places good.taken ends_so.0) in
+    absurd (sound c.bytes read.0 ends_so.1.0 read.1 ends_so.1.1)
 complete c way.Source sb sa kb ka source sink keeper ends_so good none = absurd (none.no_source (source refl))
 complete c way.Sink sb sa kb ka source sink keeper ends_so good none = absurd (no_sink (sink refl))
   where
@@ -208,14 +323,16 @@ complete c way.Memory sb sa kb ka source sink keeper ends_so good none = inr (in
 pub bad_words : (words : List (List ℕ)) (u : Usage) → u ≡ usage.BadWords → Gives {X = Places} {Y = Places} (λ p. p) usage_fault (Err u) (places_of words) → places_of words ≡ Err usage.BadWords
 bad_words words u is h = rw is at h
 
+pub not_asked : (words : List (List ℕ)) (d : Drawing) → places_of words ≡ Err usage.BadWords → AskToDraw words d → ⊥
+not_asked words d bad ask = not_both (places_of words) ask.0 usage.BadWords ask.1 bad
+
 pub untaken_faults : (words : List (List ℕ)) (bytes : List ℕ) → places_of words ≡ Err usage.BadWords → FaultsAs (places_of words) bytes 1
 untaken_faults words bytes bad = subst (λ (r : Result Places Usage). FaultsAs r bytes 1) (sym bad) (λ two. absurd (omega (arith, two)))
 
 pub wanting_faults : (r : Result Places Usage) (bytes : List ℕ) → FaultsAs r bytes 6
-wanting_faults (Ok p) bytes = record { only = λ two. absurd (omega (arith, two)); always = λ f fault_as. inr (inr refl) }
+wanting_faults (Ok p) bytes = go (drawing_of p)
+  where
+    go : (o : Option Drawing) → FaultsFor o bytes 6
+    go None = record { only = λ two. absurd (omega (arith, two)); always = λ f fault_as. inr (inr refl) }
+    go (Some d) = λ two. absurd (omega (arith, two))
 wanting_faults (Err u) bytes = λ two. absurd (omega (arith, two))
-
--- what follows under a known left
-pub under : (left : Option (List ℕ)) (P : List ℕ → Type 0) (D R : Type 0) → (D → R) → (R → IfSome left P) → IfSome left (λ bytes. D → P bytes)
-under None P D R f h = tt
-under (Some bytes) P D R f h = λ d. h (f d)

@@ -14,7 +14,6 @@ use Rattle.scenario_values.specs.declared.fault.ReadFault.{ReadFault}
 use Rattle.scenario_values.specs.declared.fault.ReadFault.TheVariants as reading
 use Rattle.scenario_values.specs.Faults.{fault_of}
 use Rattle.scenario_reader.specs.Scenarios.{scenario_in}
-use Rattle.scenarios.specs.declared.scenario.Scenario.{Scenario}
 use Rattle.top_call.specs.declared.reading.Stop.{Stop}
 use Rattle.top_call.specs.declared.reading.Stop.TheVariants as stops
 use Rattle.top_call.specs.Reads.{ReadsAs, stop_by}

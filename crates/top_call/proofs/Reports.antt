@@ -1,7 +1,6 @@
 -- How calls end where the keeper tells its rows: against their report.
 use Rattle.std.proofs.Common.{◌≡◌, ◌∙◌, ℕ, ◌≤◌, Bool, true, false, List, [], ◌++◌, length, take, Option, Some, None, Ok, Err, refl, sym, ap, subst, arith, ◌⊎◌, inl, inr}
 use Rattle.std.specs.Prelude.{IfSome, codes, Result}
-use Rattle.std.proofs.Math.Seq.{take-length}
 use Rattle.kept_rows.specs.declared.row.Row.{Row}
 use Rattle.scenarios.specs.declared.scenario.Scenario.{Scenario}
 use Rattle.scenarios.specs.Scenarios.{names_of}
@@ -10,8 +9,8 @@ use Rattle.scenario_reader.specs.Scenarios.{scenario_in}
 use Rattle.command_line.specs.declared.parts.Places.{Places}
 use Rattle.command_line.specs.declared.usage.Usage.{Usage}
 use Rattle.command_line.specs.declared.usage.Usage.TheVariants as usage
-use Rattle.command_line.specs.Places.{places_of}
-use Rattle.turns.specs.declared.turn.Turn.{Turn}
+use Rattle.command_line.specs.declared.parts.Drawing.{Drawing}
+use Rattle.command_line.specs.Places.{drawing_of, places_of}
 use Rattle.orch_core.specs.Runs.{Recorded}
 use Rattle.tasks.specs.declared.asked.Task.{Task}
 use Rattle.tasks.specs.declared.ending.Ending.TheVariants as ends
@@ -19,15 +18,15 @@ use Rattle.tasks.specs.Asked.{task_of}
 use Rattle.tasks.specs.Endings.{IsWhole, Tells, WasCut, course_of}
 use Rattle.tasks.specs.Known.{cut_answer, task_answer}
 use Rattle.tasks.specs.Report.{Answer, answer_of, cut_text}
-use Rattle.tasks.specs.Sinks.{End, FailsIn, Taken, Takes, TakesFront, TakesLine, between}
+use Rattle.tasks.specs.Sinks.{End, Taken, Takes, TakesFront, TakesLine, between}
 use Rattle.tasks.specs.Works.{Work}
 use Rattle.tasks.proofs.Known.{cut_begins, cut_is, on_is, whole_is}
 use Rattle.tasks.proofs.Sends.{front_more, front_of_longer, nothing_is_front, rose_later, takes_more, whole_is_front}
 use Rattle.top_call.specs.declared.way.Way.{Way}
 use Rattle.top_call.specs.declared.way.Way.TheVariants as way
-use Rattle.top_call.specs.Ends.{AreTaken, Asks, Call, Closes, Ends, EndsBy, Idles, IsReported, Reports, call, status_of}
-use Rattle.top_call.specs.Report.{EndsAs, IsRun, KeepsRows, Report, TakesBehind, WritesErr, WritesOut, read_report, report, task_report, words_report, written_status}
-use Rattle.top_call.proofs.Ends.{of_done, of_five, of_four, of_one, of_six, of_three, of_two}
+use Rattle.top_call.specs.Ends.{AskARead, Asks, AskToDraw, Call, Closes, Ends, EndsBy, IsReported, call, drawn_text, status_of}
+use Rattle.top_call.specs.Report.{EndsAs, IsToWrite, KeepsRows, Report, TakesBehind, WritesErr, WritesOut, drawn_report, read_report, report, taken_report, task_report, words_report, written_status}
+use Rattle.top_call.proofs.Ends.{asks_of, of_done, of_five, of_four, of_one, of_six, of_three, of_two}
 
 -- ---- where the bytes and the rows are known
 
@@ -60,21 +59,25 @@ read_plain p rows (Ok s) = told_plain (task_answer (task_of p (names_of s)) s ro
 read_plain p rows (Err fault) = record { not_three = λ e. absurd (omega (arith, e)); not_four = λ e. absurd (omega (arith, e)); not_five = λ e. absurd (omega (arith, e)); not_six = λ e. absurd (omega (arith, e)) }
 
 words_plain : (bytes : List ℕ) (rows : List Row) (words : Result Places Usage) → IsPlain (words_report bytes rows words).status
-words_plain bytes rows (Ok p) = read_plain p rows (scenario_in bytes)
+words_plain bytes rows (Ok p) = taken_plain (drawing_of p)
+  where
+    taken_plain : (o : Option Drawing) → IsPlain (taken_report p bytes rows o).status
+    taken_plain None = read_plain p rows (scenario_in bytes)
+    taken_plain (Some d) = told_plain false
 words_plain bytes rows (Err u) = record { not_three = λ e. absurd (omega (arith, e)); not_four = λ e. absurd (omega (arith, e)); not_five = λ e. absurd (omega (arith, e)); not_six = λ e. absurd (omega (arith, e)) }
 
--- a task's report is one of a run, and not that of words that aren't taken
+-- a task's report is to be written, and the source is read for it
 told_run : (refused : Bool) → (written_status refused ≡ 0) ⊎ (written_status refused ≡ 7)
 told_run true = inr refl
 told_run false = inl refl
 
-read_taken : (p : Places) (rows : List Row) (read : Result Scenario Fault) → (read_report p rows read).status ≡ 1 → ⊥
-read_taken p rows (Ok s) = no_one (task_answer (task_of p (names_of s)) s rows).is_refused
-  where
-    no_one : (refused : Bool) → written_status refused ≡ 1 → ⊥
-    no_one true e = absurd (omega (arith, e))
-    no_one false e = absurd (omega (arith, e))
-read_taken p rows (Err fault) = λ e. absurd (omega (arith, e))
+read_reads : (p : Places) (rows : List Row) (read : Result Scenario Fault) → (read_report p rows read).reads ≡ true
+read_reads p rows (Ok s) = refl
+read_reads p rows (Err fault) = refl
+
+unlike : (b : Bool) → b ≡ true → b ≡ false → ⊥
+unlike true e f = cc
+unlike false e f = cc
 
 refused_of : (refused answered : Bool) → refused ≡ answered → written_status refused ≡ written_status answered
 refused_of refused answered is = ap written_status is
@@ -88,32 +91,43 @@ module _ (c : Call) (rows : List Row) (known : c.kept ≡ Some rows) where
   plain : IsPlain r.status
   plain = words_plain c.bytes rows (places_of c.words)
 
+  -- the report of what is read
+  of_taken : (ask : AskARead c.words) → r ≡ read_report ask.0 rows (scenario_in c.bytes)
+  of_taken ask = ap (words_report c.bytes rows) ask.1 ∙ ap (taken_report ask.0 c.bytes rows) ask.2
+
   -- the report of the task that it asks
   of_task : (w : Work) → Asks c w → r ≡ task_report w.task w.scenario rows
   of_task w asks =
-      ap (words_report c.bytes rows) asks.is.taken ∙ (ap (read_report asks.is.places rows) asks.is.read ∙ ap (λ (t : Task). task_report t w.scenario rows) (sym asks.is.task))
+      of_taken (asks_of c w asks) ∙ (ap (read_report asks.is.places rows) asks.is.read ∙ ap (λ (t : Task). task_report t w.scenario rows) (sym asks.is.task))
 
-  is_run : (w : Work) → Asks c w → IsRun r
-  is_run w asks = subst IsRun (sym (of_task w asks)) (told_run (task_answer w.task w.scenario rows).is_refused)
+  -- that of a scenario that is drawn
+  of_drawn : (d : Drawing) → AskToDraw c.words d → r ≡ drawn_report d rows
+  of_drawn d ask = ap (words_report c.bytes rows) ask.1 ∙ ap (taken_report ask.0 c.bytes rows) ask.2
+
+  to_write : (w : Work) → Asks c w → IsToWrite r
+  to_write w asks = subst IsToWrite (sym (of_task w asks)) (told_run (task_answer w.task w.scenario rows).is_refused)
+
+  drawn_to_write : (d : Drawing) → AskToDraw c.words d → IsToWrite r
+  drawn_to_write d ask = inl (ap (λ (x : Report). x.status) (of_drawn d ask))
+
+  reads_for : AskARead c.words → r.reads ≡ true
+  reads_for ask = ap (λ (x : Report). x.reads) (of_taken ask) ∙ read_reads ask.0 rows (scenario_in c.bytes)
 
   of_bad : places_of c.words ≡ Err usage.BadWords → r ≡ words_report c.bytes rows (Err usage.BadWords)
   of_bad bad = ap (words_report c.bytes rows) bad
 
-  of_taken : (p : Places) → places_of c.words ≡ Ok p → r ≡ read_report p rows (scenario_in c.bytes)
-  of_taken p taken = ap (words_report c.bytes rows) taken
-
-  of_fault : (p : Places) (f : Fault) → places_of c.words ≡ Ok p → scenario_in c.bytes ≡ Err f → r ≡ read_report p rows (Err f)
-  of_fault p f taken faulty = of_taken p taken ∙ ap (read_report p rows) faulty
+  of_fault : (ask : AskARead c.words) (f : Fault) → scenario_in c.bytes ≡ Err f → r ≡ read_report ask.0 rows (Err f)
+  of_fault ask f faulty = of_taken ask ∙ ap (read_report ask.0 rows) faulty
 
   -- ---- texts of the task
 
-  answer_is : (w : Work) (run : Recorded) → Asks c w → IsWhole (course_of w) run → answer_of w.task (names_of w.scenario) run ≡ task_answer w.task w.scenario rows
-  answer_is w run asks whole = ap (answer_of w.task (names_of w.scenario)) (whole_is w rows run (asks.old ∙ known) whole).run_is
+  answer_is : (w : Work) (run : Recorded) → Asks c w → IsWhole (course_of w) run → answer_of w.task (names_of w.scenario) w.scenario run ≡ task_answer w.task w.scenario rows
+  answer_is w run asks whole = ap (answer_of w.task (names_of w.scenario) w.scenario) (whole_is w rows run (asks.old ∙ known) whole).run_is
 
-  out_is : (w : Work) (run : Recorded) → Asks c w → IsWhole (course_of w) run → (answer_of w.task (names_of w.scenario) run).out ≡ r.out
+  out_is : (w : Work) (run : Recorded) → Asks c w → IsWhole (course_of w) run → (answer_of w.task (names_of w.scenario) w.scenario run).out ≡ r.out
   out_is w run asks whole = ap (λ (a : Answer). a.out) (answer_is w run asks whole) ∙ ap (λ (x : Report). x.out) (sym (of_task w asks))
 
-  err_is : (w : Work) (run : Recorded) → Asks c w → IsWhole (course_of w) run → (answer_of w.task (names_of w.scenario) run).err ≡ r.err
+  err_is : (w : Work) (run : Recorded) → Asks c w → IsWhole (course_of w) run → (answer_of w.task (names_of w.scenario) w.scenario run).err ≡ r.err
   err_is w run asks whole = ap (λ (a : Answer). a.err) (answer_is w run asks whole) ∙ ap (λ (x : Report). x.err) (sym (of_task w asks))
 
   -- what is left of a run that was cut begins the report
@@ -133,8 +147,13 @@ module _ (c : Call) (rows : List Row) (known : c.kept ≡ Some rows) where
 
   -- ---- out
 
-  sink_front : Closes c ends.Unwritten (codes "write fault\n") → TakesFront c.out r.out
-  sink_front closes = at closes.tells
+  -- of a drawn scenario's text
+  drawn_out : (P : List ℕ → Type 0) (d : Drawing) → AskToDraw c.words d → P (drawn_text d) → P r.out
+  drawn_out P d ask took = subst P (ap (λ (x : Report). x.out) (sym (of_drawn d ask))) took
+
+  sink_front : Ends c way.Sink → TakesFront c.out r.out
+  sink_front (inr draws) = drawn_out (TakesFront c.out) draws.drawing draws.asks draws.out.front
+  sink_front (inl closes) = at closes.tells
     where
       at : Tells closes.work c.out (between c.err.old closes.mid) ends.Unwritten → TakesFront c.out r.out
       at (inl never) = absurd never
@@ -149,9 +168,10 @@ module _ (c : Call) (rows : List Row) (known : c.kept ≡ Some rows) where
       at (inl idle) = empty_front idle.on_out
       at (inr fails) = cut_front closes.work fails.run closes.asks fails.cut (whole_is_front c.out.old.bytes c.out.new.bytes (cut_text closes.work.task.asked (names_of closes.work.scenario) fails.run) fails.on_out)
 
-  memory_front : Idles c (codes "out of memory\n") ⊎ Closes c ends.Memory (codes "out of memory\n") → TakesFront c.out r.out
+  memory_front : Ends c way.Memory → TakesFront c.out r.out
   memory_front (inl idle) = empty_front idle.out
-  memory_front (inr closes) = at closes.tells
+  memory_front (inr (inr draws)) = drawn_out (TakesFront c.out) draws.drawing draws.asks draws.out
+  memory_front (inr (inl closes)) = at closes.tells
     where
       at : Tells closes.work c.out (between c.err.old closes.mid) ends.Memory → TakesFront c.out r.out
       at (inl idle) = empty_front idle.on_out
@@ -159,8 +179,9 @@ module _ (c : Call) (rows : List Row) (known : c.kept ≡ Some rows) where
 
   whole_out : (w : Way) → Ends c w → status_of w ≡ r.status → Takes c.out r.out
   whole_out (way.Reported refused) reports same = subst (Takes c.out) (out_is reports.work reports.written.run reports.asks reports.written.whole) reports.written.on_out
+  whole_out way.Drawn draws same = drawn_out (Takes c.out) draws.drawing draws.asks draws.out
   whole_out way.Usage ended same = subst (Takes c.out) (ap (λ (x : Report). x.out) (sym (of_bad ended.0))) ended.1.out
-  whole_out way.Fault ended same = subst (Takes c.out) (ap (λ (x : Report). x.out) (sym (of_fault ended.0.0 ended.1.0 ended.0.1 ended.1.1))) ended.1.2.out
+  whole_out way.Fault ended same = subst (Takes c.out) (ap (λ (x : Report). x.out) (sym (of_fault ended.0 ended.1.0 ended.1.1))) ended.1.2.out
   whole_out way.Source ended same = absurd (plain.not_three same)
   whole_out way.Sink ended same = absurd (plain.not_four same)
   whole_out way.Keeper ended same = absurd (plain.not_five same)
@@ -186,8 +207,13 @@ module _ (c : Call) (rows : List Row) (known : c.kept ≡ Some rows) where
   behind : (n : ℕ) (mid : Taken) (line : List ℕ) → n ≤ length r.err → Takes (between c.err.old mid) (take n r.err) → c.err.old.faults ≤ mid.faults → TakesLine (between mid c.err.new) line → TakesBehind r line c.err
   behind n mid line few took later lined = (n, few, line_behind c.err.old mid c.err.new (take n r.err) line took later lined)
 
-  sink_line : Closes c ends.Unwritten (codes "write fault\n") → TakesBehind r (codes "write fault\n") c.err
-  sink_line closes = at closes.tells
+  -- nothing of the report stands before it
+  alone : (line : List ℕ) → TakesLine c.err line → TakesBehind r line c.err
+  alone line took = (0, omega arith, took)
+
+  sink_line : Ends c way.Sink → TakesBehind r (codes "write fault\n") c.err
+  sink_line (inr draws) = alone (codes "write fault\n") draws.err
+  sink_line (inl closes) = at closes.tells
     where
       from : TakesFront (between c.err.old closes.mid) r.err → TakesBehind r (codes "write fault\n") c.err
       from front = behind front.0 closes.mid (codes "write fault\n") front.1 front.2 closes.later closes.err
@@ -206,22 +232,27 @@ module _ (c : Call) (rows : List Row) (known : c.kept ≡ Some rows) where
       at (inl idle) = idle.on_err
       at (inr fails) = fails.on_err
 
-  memory_line : Idles c (codes "out of memory\n") ⊎ Closes c ends.Memory (codes "out of memory\n") → TakesLine c.err (codes "out of memory\n")
+  memory_line : Ends c way.Memory → TakesLine c.err (codes "out of memory\n")
   memory_line (inl idle) = idle.err
-  memory_line (inr closes) = line_behind c.err.old closes.mid c.err.new [] (codes "out of memory\n") (at closes.tells) closes.later closes.err
+  memory_line (inr (inr draws)) = draws.err
+  memory_line (inr (inl closes)) = line_behind c.err.old closes.mid c.err.new [] (codes "out of memory\n") (at closes.tells) closes.later closes.err
     where
       at : Tells closes.work c.out (between c.err.old closes.mid) ends.Memory → Takes (between c.err.old closes.mid) []
       at (inl idle) = idle.on_err
       at (inr fails) = fails.on_err
 
-  reported_err : (w : Way) → IsReported w → Ends c w → Takes c.err r.err
-  reported_err (way.Reported refused) is reports = subst (Takes c.err) (err_is reports.work reports.written.run reports.asks reports.written.whole) reports.written.on_err
-  reported_err way.Usage is ended = absurd is
-  reported_err way.Fault is ended = absurd is
-  reported_err way.Source is ended = absurd is
-  reported_err way.Sink is ended = absurd is
-  reported_err way.Keeper is ended = absurd is
-  reported_err way.Memory is ended = absurd is
+  reported_err : (w : Way) → IsReported w ⊎ (w ≡ way.Drawn) → Ends c w → Takes c.err r.err
+  reported_err (way.Reported refused) (inl is) reports = subst (Takes c.err) (err_is reports.work reports.written.run reports.asks reports.written.whole) reports.written.on_err
+  reported_err way.Drawn (inl is) ended = absurd is
+  reported_err way.Usage (inl is) ended = absurd is
+  reported_err way.Fault (inl is) ended = absurd is
+  reported_err way.Source (inl is) ended = absurd is
+  reported_err way.Sink (inl is) ended = absurd is
+  reported_err way.Keeper (inl is) ended = absurd is
+  reported_err way.Memory (inl is) ended = absurd is
+  reported_err w (inr is) ended =
+      let at : Ends c way.Drawn = subst (Ends c) is ended in
+      subst (Takes c.err) (ap (λ (x : Report). x.err) (sym (of_drawn at.drawing at.asks))) at.err
 
   pub on_err : (w : Way) → Ends c w → WritesErr r (status_of w) c.err
   on_err w ended = record {
@@ -237,7 +268,7 @@ module _ (c : Call) (rows : List Row) (known : c.kept ≡ Some rows) where
       usage_at at = subst (TakesLine c.err) (ap (λ (x : Report). x.err) (sym (of_bad at.0))) at.1.err
 
       fault_at : Ends c way.Fault → TakesLine c.err r.err
-      fault_at at = subst (TakesLine c.err) (ap (λ (x : Report). x.err) (sym (of_fault at.0.0 at.1.0 at.0.1 at.1.1))) at.1.2.err
+      fault_at at = subst (TakesLine c.err) (ap (λ (x : Report). x.err) (sym (of_fault at.0 at.1.0 at.1.1))) at.1.2.err
 
       source_at : Ends c way.Source → TakesLine c.err (codes "read fault\n")
       source_at at = at.1.err
@@ -252,31 +283,55 @@ module _ (c : Call) (rows : List Row) (known : c.kept ≡ Some rows) where
   ends_as (way.Reported refused) reports =
       inl (refused_of refused (task_answer reports.work.task reports.work.scenario rows).is_refused (reports.written.is_refused ∙ ap (λ (a : Answer). a.is_refused) (answer_is reports.work reports.written.run reports.asks reports.written.whole))
       ∙ ap (λ (x : Report). x.status) (sym (of_task reports.work reports.asks)))
+  ends_as way.Drawn draws = inl (ap (λ (x : Report). x.status) (sym (of_drawn draws.drawing draws.asks)))
   ends_as way.Usage ended = inl (ap (λ (x : Report). x.status) (sym (of_bad ended.0)))
-  ends_as way.Fault ended = inl (ap (λ (x : Report). x.status) (sym (of_fault ended.0.0 ended.1.0 ended.0.1 ended.1.1)))
-  ends_as way.Source ended = inr (inl (refl, λ one. read_taken ended.0.0 rows (scenario_in c.bytes) (ap (λ (x : Report). x.status) (sym (of_taken ended.0.0 ended.0.1)) ∙ one)))
-  ends_as way.Sink closes = inr (inr (inl (refl, is_run closes.work closes.asks)))
-  ends_as way.Keeper closes = inr (inr (inr (inl (refl, is_run closes.work closes.asks))))
+  ends_as way.Fault ended = inl (ap (λ (x : Report). x.status) (sym (of_fault ended.0 ended.1.0 ended.1.1)))
+  ends_as way.Source ended = inr (inl (refl, reads_for ended.0))
+  ends_as way.Sink (inl closes) = inr (inr (inl (refl, to_write closes.work closes.asks)))
+  ends_as way.Sink (inr draws) = inr (inr (inl (refl, drawn_to_write draws.drawing draws.asks)))
+  ends_as way.Keeper closes = inr (inr (inr (inl (refl, reads_for (asks_of c closes.work closes.asks), to_write closes.work closes.asks))))
   ends_as way.Memory ended = inr (inr (inr (inr refl)))
 
   whole_rows : (w : Way) → Ends c w → status_of w ≡ r.status → c.kept_now ≡ Some r.rows
   whole_rows (way.Reported refused) reports same =
       sym reports.asks.new ∙ ((whole_is reports.work rows reports.written.run (reports.asks.old ∙ known) reports.written.whole).rows_are ∙ ap (λ (x : Report). Some x.rows) (sym (of_task reports.work reports.asks)))
+  whole_rows way.Drawn draws same = draws.kept ∙ (known ∙ ap (λ (x : Report). Some x.rows) (sym (of_drawn draws.drawing draws.asks)))
   whole_rows way.Usage ended same = ended.1.kept ∙ (known ∙ ap (λ (x : Report). Some x.rows) (sym (of_bad ended.0)))
-  whole_rows way.Fault ended same = ended.1.2.kept ∙ (known ∙ ap (λ (x : Report). Some x.rows) (sym (of_fault ended.0.0 ended.1.0 ended.0.1 ended.1.1)))
+  whole_rows way.Fault ended same = ended.1.2.kept ∙ (known ∙ ap (λ (x : Report). Some x.rows) (sym (of_fault ended.0 ended.1.0 ended.1.1)))
   whole_rows way.Source ended same = absurd (plain.not_three same)
   whole_rows way.Sink ended same = absurd (plain.not_four same)
   whole_rows way.Keeper ended same = absurd (plain.not_five same)
   whole_rows way.Memory ended same = absurd (plain.not_six same)
 
+  -- a task's source is read
+  never_idle : (w : Work) → Asks c w → r.reads ≡ false → ⊥
+  never_idle w asks unread = unlike r.reads (reads_for (asks_of c w asks)) unread
+
+  unread_rows : (w : Way) → Ends c w → r.reads ≡ false → c.kept_now ≡ Some rows
+  unread_rows (way.Reported refused) reports unread = absurd (never_idle reports.work reports.asks unread)
+  unread_rows way.Drawn draws unread = draws.kept ∙ known
+  unread_rows way.Usage ended unread = ended.1.kept ∙ known
+  unread_rows way.Fault ended unread = ended.1.2.kept ∙ known
+  unread_rows way.Source ended unread = ended.1.kept ∙ known
+  unread_rows way.Sink (inl closes) unread = absurd (never_idle closes.work closes.asks unread)
+  unread_rows way.Sink (inr draws) unread = draws.kept ∙ known
+  unread_rows way.Keeper closes unread = absurd (never_idle closes.work closes.asks unread)
+  unread_rows way.Memory (inl idle) unread = idle.kept ∙ known
+  unread_rows way.Memory (inr (inl closes)) unread = absurd (never_idle closes.work closes.asks unread)
+  unread_rows way.Memory (inr (inr draws)) unread = draws.kept ∙ known
+
   pub keeps : (w : Way) → Ends c w → KeepsRows r (status_of w) rows c.kept_now
   keeps w ended = record {
     whole = whole_rows w ended;
-    idle = λ three. idle_at (subst (Ends c) (of_three w three) ended);
+    idle = idle_rows;
   }
     where
       idle_at : Ends c way.Source → c.kept_now ≡ Some rows
       idle_at at = at.1.kept ∙ known
+
+      idle_rows : (status_of w ≡ 3) ⊎ (r.reads ≡ false) → c.kept_now ≡ Some rows
+      idle_rows (inl three) = idle_at (subst (Ends c) (of_three w three) ended)
+      idle_rows (inr unread) = unread_rows w ended unread
 
 -- ---- by the number of the status
 

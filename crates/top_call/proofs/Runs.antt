@@ -1,6 +1,6 @@
 -- Each run of the turns that words take: its states are safe, its commands answer by the permission table, and its
 -- recoveries begin apart and finish well.
-use Rattle.std.proofs.Common.{◌≡◌, ℕ, zero, suc, ◌<◌, Bool, true, false, cond, List, [], ◌∷◌, ◌++◌, length, Option, Some, None, Ok, ◌∙◌, refl, sym, ap, subst, take, inl, inr}
+use Rattle.std.proofs.Common.{◌≡◌, ℕ, zero, suc, ◌<◌, Bool, true, false, cond, List, [], ◌∷◌, ◌++◌, length, Option, Some, None, ◌∙◌, refl, sym, ap, subst, take, inl, inr}
 use Rattle.std.specs.Prelude.{IfSome, All}
 use Rattle.std.proofs.Math.Seq.{take-length}
 use Rattle.std.proofs.lemmas.List.{length-map}
@@ -8,7 +8,6 @@ use Rattle.std.proofs.lemmas.List.Elements.{All-append, All-cons, All-nil, All-t
 use Rattle.kept_rows.specs.declared.row.Row.{Row}
 use Rattle.commands.specs.declared.line.Line.{Line}
 use Rattle.command_line.specs.declared.parts.Places.{Places}
-use Rattle.command_line.specs.Places.{places_of}
 use Rattle.orch_base.specs.Names.{HostPort}
 use Rattle.orch_base.specs.declared.server.ServerNo.{ServerNo}
 use Rattle.name_order.specs.NameOrder.{by_name}
@@ -20,16 +19,14 @@ use Rattle.turns.specs.declared.turn.Turn.{Turn}
 use Rattle.turns.specs.declared.turn.Act.TheVariants as act
 use Rattle.turns.specs.declared.turn.Turn.TheVariants as turn
 use Rattle.jobs_in_flight.specs.Jobs.{is_open, job_at, most_turns}
-use Rattle.orch_core.specs.Keeping.{Ran}
 use Rattle.orch_core.specs.Rounds.{after_turns, round_of}
 use Rattle.orch_core.proofs.Finishing.{Ran-append, turns-round}
-use Rattle.orch_core.specs.Runs.{Held, LeadsTo, Recorded, engine, held_run, held_step, recorder, record_turn, run_turns, turns_of}
+use Rattle.orch_core.specs.Runs.{Held, LeadsTo, Recorded, engine, held_run, held_step, recorder, run_turns, turns_of}
 use Rattle.kept_rows.specs.Rows.{changed}
-use Rattle.orch_core.specs.Scenarios.{StartsBy, kept_at_start, start, start_changes, without_turns}
+use Rattle.orch_core.specs.Scenarios.{StartsBy, kept_at_start, start_changes, without_turns}
 use Rattle.orch_core.specs.States.{State}
 use Rattle.run_laws.specs.Ready.{Ready}
 use Rattle.recovery_runs.specs.Finishes.{IsFinish}
-use Rattle.run_laws.specs.BegunJobs.{BegunJob, begun_of}
 use Rattle.run_laws.specs.Runs.{ComesTo}
 use Rattle.run_laws.proofs.Counting.{apart-comes}
 use Rattle.run_laws.proofs.Entries.{more-after}
@@ -42,7 +39,7 @@ use Rattle.scenario_reader.proofs.Sound.{scenario_in_sound}
 use Rattle.tasks.specs.declared.asked.Asked.{Asked}
 use Rattle.tasks.specs.declared.asked.Asked.TheVariants as asked
 use Rattle.tasks.specs.declared.asked.Task.{Task}
-use Rattle.tasks.specs.Asked.{IsAsked, IsTaken, asked_of, own_turns, task_of, turns_taken}
+use Rattle.tasks.specs.Asked.{AskOfRead, IsAsked, IsTaken, asked_of, own_turns, task_of}
 use Rattle.tasks.specs.Closing.{closing, closing_by, own_job, rounds_of, rounds_while}
 use Rattle.tasks.specs.Endings.{IsOn, IsOnRounds, IsOnTurns, course_of}
 use Rattle.tasks.specs.Works.{Comes, Work, turns_in}
@@ -50,27 +47,29 @@ use Rattle.tasks.proofs.Courses.{run_state}
 use Rattle.tasks.proofs.Words.{asked_is}
 use Rattle.unended_jobs.specs.declared.unended.Unended.TheVariants as unended
 use Rattle.top_call.specs.Ends.{IsTask}
-use Rattle.top_call.specs.Runs.{BeginApart, BeginsApart, Finishes, FinishWell, IsSafeRun, IsSafeState, LoseTruly, LosesTruly, Obeys, ObeysTable, AreSoFar, Through}
+use Rattle.top_call.specs.Runs.{BeginApart, BeginsApart, Finishes, FinishWell, IsSafeRun, IsSafeState, LoseTruly, LosesTruly, ObeysTable, AreSoFar, Through}
 
 -- ---- the turns
 
 own_taken : (count : ℕ) (a : Asked) → IsAsked count a → All (IsTurn count) (own_turns a)
 own_taken count asked.Run is = All-nil (IsTurn count)
+own_taken count asked.Summary is = All-nil (IsTurn count)
+own_taken count asked.Dump is = All-nil (IsTurn count)
 own_taken count asked.Unknown is = All-nil (IsTurn count)
 own_taken count (asked.Turn t) is = All-cons (IsTurn count) (turn.Act (act.Command t)) [] is (All-nil (IsTurn count))
 own_taken count asked.Nothing is = absurd is
 
 -- the task of words that are taken has a turn over the servers
-pub asked_in_task : (p : Places) (names : List HostPort) (s : Scenario) (t : Task) → IsTaken p → names ≡ names_of s → t ≡ task_of p names → IsAsked (length s.opening.servers) t.asked
-asked_in_task p names s t taken named is =
-    let own : IsAsked (length (names_of s)) (asked_of p (names_of s)) = asked_is p (names_of s) taken in
+pub asked_in_task : (p : Places) (names : List HostPort) (s : Scenario) (t : Task) → IsTaken p → AskOfRead p → names ≡ names_of s → t ≡ task_of p names → IsAsked (length s.opening.servers) t.asked
+asked_in_task p names s t taken asks named is =
+    let own : IsAsked (length (names_of s)) (asked_of p (names_of s)) = asked_is p (names_of s) taken asks in
     let here : IsAsked (length s.opening.servers) (asked_of p (names_of s)) = subst (λ (n : ℕ). IsAsked n (asked_of p (names_of s))) (length-map s.opening.servers (λ i. i.settings.name)) own in
     subst (λ (u : Task). IsAsked (length s.opening.servers) u.asked) (sym (is ∙ ap (task_of p) named)) here
 
 work_turns : (words : List (List ℕ)) (bytes : List ℕ) (w : Work) (k : ℕ) → IsTask words bytes w → IsScenario w.scenario → All (IsTurn (length w.scenario.opening.servers)) (take k (turns_in w))
 work_turns words bytes w k is scenario =
     let count = length w.scenario.opening.servers in
-    let own : IsAsked count w.task.asked = asked_in_task is.places (names_of w.scenario) w.scenario w.task (words, is.taken) refl is.task in
+    let own : IsAsked count w.task.asked = asked_in_task is.places (names_of w.scenario) w.scenario w.task (words, is.taken) is.asks refl is.task in
     All-take (IsTurn count) k (w.scenario.turns ++ own_turns w.task.asked) (All-append (IsTurn count) w.scenario.turns (own_turns w.task.asked) scenario.turns (own_taken count w.task.asked own))
 
 -- ---- the rows at each turn

@@ -1,20 +1,23 @@
 -- How a call ends.
-use Rattle.std.specs.Prelude.{◌≡◌, ℕ, ◌≤◌, ◌⊎◌, ⊤, Bool, List, [], codes, if◌then◌else◌, IfSome, Option, Result, Ok, Err}
+use Rattle.std.specs.Prelude.{◌≡◌, ℕ, ◌≤◌, ◌⊎◌, ⊤, Bool, List, [], codes, if◌then◌else◌, IfSome, Option, Some, None, Result, Ok, Err}
+use Rattle.std.specs.Io.KnownBytes.{Consumes}
 use Rattle.kept_rows.specs.declared.row.Row.{Row}
 use Rattle.orch_base.specs.Causes.{Rose}
 use Rattle.scenarios.specs.declared.scenario.Scenario.{Scenario}
 use Rattle.scenarios.specs.Scenarios.{names_of}
 use Rattle.scenario_values.specs.declared.fault.Fault.{Fault}
 use Rattle.scenario_reader.specs.Scenarios.{scenario_in}
+use Rattle.command_line.specs.declared.parts.Drawing.{Drawing}
 use Rattle.command_line.specs.declared.parts.Places.{Places}
 use Rattle.command_line.specs.declared.usage.Usage.{Usage}
 use Rattle.command_line.specs.declared.usage.Usage.TheVariants.{BadWords}
-use Rattle.command_line.specs.Places.{places_of}
+use Rattle.command_line.specs.Places.{drawing_of, places_of}
+use Rattle.scenario_generator.specs.Texts.{scenario_text}
 use Rattle.tasks.specs.declared.ending.Ending.{Ending}
 use Rattle.tasks.specs.declared.ending.Ending.TheVariants as ends
-use Rattle.tasks.specs.Asked.{task_of}
+use Rattle.tasks.specs.Asked.{AskOfRead, task_of}
 use Rattle.tasks.specs.Endings.{IsWritten, Tells, course_of}
-use Rattle.tasks.specs.Sinks.{End, Fails, Taken, Takes, TakesLine, between}
+use Rattle.tasks.specs.Sinks.{End, Fails, FailsIn, Taken, Takes, TakesFront, TakesLine, between}
 use Rattle.tasks.specs.Works.{Work}
 use Rattle.top_call.specs.Faults.{fault_text}
 use Rattle.top_call.specs.declared.way.Way.{Way}
@@ -23,6 +26,7 @@ use Rattle.top_call.specs.declared.way.Way.TheVariants as way
 -- the status of each way to end
 abbrev pub status_of : Way → ℕ
 status_of (way.Reported refused) = if refused then 7 else 0
+status_of way.Drawn = 0
 status_of way.Usage = 1
 status_of way.Fault = 2
 status_of way.Source = 3
@@ -43,10 +47,11 @@ pub record Call : Type 0 where
 abbrev pub call : List (List ℕ) → List ℕ → Option (List Row) → Option (List Row) → End → End → Call
 call words bytes kept kept_now out err = record { words = words; bytes = bytes; kept = kept; kept_now = kept_now; out = out; err = err }
 
--- the task that words ask over the scenario that bytes are
+-- the task that words ask over the scenario that bytes are; words that ask to draw one have none
 pub record IsTask (words : List (List ℕ)) (bytes : List ℕ) (w : Work) : Type 0 where
   pub places : Places
   pub taken : places_of words ≡ Ok places
+  pub asks : AskOfRead places
   pub read : scenario_in bytes ≡ Ok w.scenario
   pub task : w.task ≡ task_of places (names_of w.scenario)
 
@@ -77,20 +82,46 @@ pub record Reports (c : Call) (refused : Bool) : Type 0 where
   pub asks : Asks c work
   pub written : IsWritten (course_of work) c.out c.err refused
 
--- the words are taken
-abbrev pub AreTaken : List (List ℕ) → Type 0
-AreTaken words = (p : Places) × (places_of words ≡ Ok p)
+-- the words are taken, and ask of a scenario that is read
+abbrev pub AskARead : List (List ℕ) → Type 0
+AskARead words = (p : Places) × (places_of words ≡ Ok p) × AskOfRead p
 
--- What a call has done by each way to end. The words are tested first, then the source is read, then the scenario is
--- tested.
+-- the words are taken, and ask to draw this scenario
+abbrev pub AskToDraw : List (List ℕ) → Drawing → Type 0
+AskToDraw words d = (p : Places) × (places_of words ≡ Ok p) × (drawing_of p ≡ Some d)
+
+-- the text of a scenario that is drawn
+abbrev pub drawn_text : Drawing → List ℕ
+drawn_text d = scenario_text d.seed d.servers d.turns
+
+-- the call drew a scenario, and kept nothing; out took its text so, and err this
+pub record Draws (c : Call) (Took : List ℕ → Type 0) (Told : Type 0) : Type 0 where
+  pub drawing : Drawing
+  pub asks : AskToDraw c.words drawing
+  pub kept : c.kept_now ≡ c.kept
+  pub out : Took (drawn_text drawing)
+  pub err : Told
+
+-- What a call has done by each way to end. The words are tested first. Where they ask to draw a scenario, that is
+-- written; elsewhere the source is read, then the scenario is tested.
 abbrev pub Ends : Call → Way → Type 0
 Ends c (way.Reported refused) = Reports c refused
+Ends c way.Drawn = Draws c (Takes c.out) (Takes c.err [])
 Ends c way.Usage = (places_of c.words ≡ Err BadWords) × Idles c (codes "usage\n")
-Ends c way.Fault = AreTaken c.words × ((f : Fault) × (scenario_in c.bytes ≡ Err f) × Idles c (fault_text f))
-Ends c way.Source = AreTaken c.words × Idles c (codes "read fault\n")
-Ends c way.Sink = Closes c ends.Unwritten (codes "write fault\n")
+Ends c way.Fault = AskARead c.words × ((f : Fault) × (scenario_in c.bytes ≡ Err f) × Idles c (fault_text f))
+Ends c way.Source = AskARead c.words × Idles c (codes "read fault\n")
+Ends c way.Sink = Closes c ends.Unwritten (codes "write fault\n") ⊎ Draws c (FailsIn c.out) (TakesLine c.err (codes "write fault\n"))
 Ends c way.Keeper = Closes c ends.Keeper (codes "keeper fault\n")
-Ends c way.Memory = Idles c (codes "out of memory\n") ⊎ Closes c ends.Memory (codes "out of memory\n")
+Ends c way.Memory =
+    Idles c (codes "out of memory\n") ⊎ Closes c ends.Memory (codes "out of memory\n") ⊎ Draws c (TakesFront c.out) (TakesLine c.err (codes "out of memory\n"))
+
+-- So ends, with this status, a call that draws this scenario: out took its text whole (0), or failed and took a front of
+-- it (4), or memory ran out, and it took a front (6).
+abbrev pub DrawEnds : Drawing → ℕ → End → End → Type 0
+DrawEnds d status out err =
+    ((status ≡ 0) × Takes out (drawn_text d) × Takes err [])
+    ⊎ ((status ≡ 4) × FailsIn out (drawn_text d) × TakesLine err (codes "write fault\n"))
+    ⊎ ((status ≡ 6) × TakesFront out (drawn_text d) × TakesLine err (codes "out of memory\n"))
 
 -- so ends a call of any words that these places are, over the bytes that the source had, where they are known
 abbrev pub EndsOf : Places → Option (List ℕ) → Option (List Row) → Option (List Row) → End → End → Way → Type 0
@@ -100,9 +131,10 @@ EndsOf p left kept kept_now out err w = (words : List (List ℕ)) → places_of 
 abbrev pub EndsOver : Places → Scenario → Option (List Row) → Option (List Row) → End → End → Way → Type 0
 EndsOver p s kept kept_now out err w = (words : List (List ℕ)) (bytes : List ℕ) → places_of words ≡ Ok p → scenario_in bytes ≡ Ok s → Ends (call words bytes kept kept_now out err) w
 
--- it is the way of a whole report
+-- it is the way of a task's whole report
 abbrev pub IsReported : Way → Type 0
 IsReported (way.Reported refused) = ⊤
+IsReported way.Drawn = ⊥
 IsReported way.Usage = ⊥
 IsReported way.Fault = ⊥
 IsReported way.Source = ⊥
@@ -126,9 +158,14 @@ pub record FaultsBy (bytes : List ℕ) (status : ℕ) : Type 0 where
   pub only : status ≡ 2 → (f : Fault) × (scenario_in bytes ≡ Err f)
   pub always : (f : Fault) → scenario_in bytes ≡ Err f → (status ≡ 2) ⊎ (status ≡ 3) ⊎ (status ≡ 6)
 
--- so it is where the words are taken, and elsewhere it isn't 2
+-- so it is of words that ask of a scenario that is read, and of those that draw one it isn't 2
+abbrev pub FaultsFor : Option Drawing → List ℕ → ℕ → Type 0
+FaultsFor None bytes status = FaultsBy bytes status
+FaultsFor (Some d) bytes status = status ≡ 2 → ⊥
+
+-- nor is it where the words aren't taken
 abbrev pub FaultsAs : Result Places Usage → List ℕ → ℕ → Type 0
-FaultsAs (Ok p) bytes status = FaultsBy bytes status
+FaultsAs (Ok p) bytes status = FaultsFor (drawing_of p) bytes status
 FaultsAs (Err usage) bytes status = status ≡ 2 → ⊥
 
 -- so it is of words over the bytes that the source had, where they are known
@@ -142,11 +179,15 @@ pub record NoneRose (source_before source_after keeper_before keeper_after : ℕ
   pub no_out : ¬ (Fails out)
   pub no_err : ¬ (Fails err)
 
--- the words are taken and the bytes are a scenario
+-- the words are taken, and the bytes are a scenario, where they ask of one that is read
 pub record IsGood (words : List (List ℕ)) (bytes : List ℕ) : Type 0 where
-  pub taken : AreTaken words
-  pub scenario : Scenario
-  pub read : scenario_in bytes ≡ Ok scenario
+  pub places : Places
+  pub taken : places_of words ≡ Ok places
+  pub read : AskOfRead places → (s : Scenario) × (scenario_in bytes ≡ Ok s)
+
+-- with 0 and 7 a source that had these bytes was read to its end, where the words ask of a scenario that is read
+abbrev pub ReadsWhole : List (List ℕ) → List ℕ → ℕ → Option (List ℕ) → Option (List ℕ) → Type 0
+ReadsWhole words bytes status left left_now = AskARead words → (status ≡ 0) ⊎ (status ≡ 7) → Consumes left left_now bytes
 
 -- the report is written whole, or memory ran out
 abbrev pub IsComplete : ℕ → Type 0

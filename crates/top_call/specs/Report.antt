@@ -1,26 +1,30 @@
 -- The report of a call where the keeper tells its rows: a function of the words, the bytes of the scenario and the kept
 -- rows.
-use Rattle.std.specs.Prelude.{◌≡◌, ℕ, ◌⊎◌, ◌++◌, ◌≤◌, Bool, List, [], codes, if◌then◌else◌, length, take, IfSome, Option, Some, Result, Ok, Err}
+use Rattle.std.specs.Prelude.{◌≡◌, ℕ, ◌⊎◌, ◌++◌, ◌≤◌, Bool, true, false, List, [], codes, if◌then◌else◌, length, take, IfSome, Option, Some, None, Result, Ok, Err}
 use Rattle.kept_rows.specs.declared.row.Row.{Row}
 use Rattle.scenarios.specs.declared.scenario.Scenario.{Scenario}
 use Rattle.scenarios.specs.Scenarios.{names_of}
 use Rattle.scenario_values.specs.declared.fault.Fault.{Fault}
 use Rattle.scenario_reader.specs.Scenarios.{scenario_in}
+use Rattle.command_line.specs.declared.parts.Drawing.{Drawing}
 use Rattle.command_line.specs.declared.parts.Places.{Places}
 use Rattle.command_line.specs.declared.usage.Usage.{Usage}
-use Rattle.command_line.specs.Places.{places_of}
+use Rattle.command_line.specs.Places.{drawing_of, places_of}
 use Rattle.tasks.specs.declared.asked.Task.{Task}
 use Rattle.tasks.specs.Asked.{task_of}
 use Rattle.tasks.specs.Known.{last_held, task_answer}
 use Rattle.tasks.specs.Sinks.{End, Takes, TakesFront, TakesLine}
+use Rattle.top_call.specs.Ends.{drawn_text}
 use Rattle.top_call.specs.Faults.{fault_text}
 
--- what is written on out and on err, the status, and the kept rows then, where nothing fails
+-- what is written on out and on err, the status, and the kept rows then, where nothing fails; and whether the source is
+-- read for it
 pub record Report : Type 0 where
   pub out : List ℕ
   pub err : List ℕ
   pub status : ℕ
   pub rows : List Row
+  pub reads : Bool
 
 -- the status of a report that is written, by whether a written reply is refused or failed
 abbrev pub written_status : Bool → ℕ
@@ -33,17 +37,27 @@ task_report c s rows = record {
   err = (task_answer c s rows).err;
   status = written_status (task_answer c s rows).is_refused;
   rows = (last_held c s rows).rows;
+  reads = true;
 }
+
+-- of a scenario that is drawn, whatever the source has
+abbrev pub drawn_report : Drawing → List Row → Report
+drawn_report d rows = record { out = drawn_text d; err = []; status = 0; rows = rows; reads = false }
 
 -- of words that are taken, over what was read
 abbrev pub read_report : Places → List Row → Result Scenario Fault → Report
 read_report p rows (Ok s) = task_report (task_of p (names_of s)) s rows
-read_report p rows (Err fault) = record { out = []; err = fault_text fault; status = 2; rows = rows }
+read_report p rows (Err fault) = record { out = []; err = fault_text fault; status = 2; rows = rows; reads = true }
+
+-- by whether they ask to draw one
+abbrev pub taken_report : Places → List ℕ → List Row → Option Drawing → Report
+taken_report p bytes rows None = read_report p rows (scenario_in bytes)
+taken_report p bytes rows (Some d) = drawn_report d rows
 
 -- of words, by whether they are taken
 abbrev pub words_report : List ℕ → List Row → Result Places Usage → Report
-words_report bytes rows (Ok p) = read_report p rows (scenario_in bytes)
-words_report bytes rows (Err usage) = record { out = []; err = codes "usage\n"; status = 1; rows = rows }
+words_report bytes rows (Ok p) = taken_report p bytes rows (drawing_of p)
+words_report bytes rows (Err usage) = record { out = []; err = codes "usage\n"; status = 1; rows = rows; reads = false }
 
 abbrev pub report : List (List ℕ) → List ℕ → List Row → Report
 report words bytes rows = words_report bytes rows (places_of words)
@@ -54,14 +68,16 @@ report words bytes rows = words_report bytes rows (places_of words)
 abbrev pub ByReport : List (List ℕ) → Option (List ℕ) → Option (List Row) → (List Row → Report → Type 0) → Type 0
 ByReport words left kept P = IfSome left (λ bytes. IfSome kept (λ rows. P rows (report words bytes rows)))
 
--- all turns of a task were to be taken
-abbrev pub IsRun : Report → Type 0
-IsRun r = (r.status ≡ 0) ⊎ (r.status ≡ 7)
+-- a report was to be written: all turns of a task were to be taken, or a scenario was to be drawn
+abbrev pub IsToWrite : Report → Type 0
+IsToWrite r = (r.status ≡ 0) ⊎ (r.status ≡ 7)
 
--- The call ends with the status of the report, or something stopped it: the source, once the words were taken (3), a
--- sink (4) or the keeper (5) of a task's run, or want of memory (6).
+-- The call ends with the status of the report, or something stopped it: the source, where it is read (3), a sink of what
+-- was to be written (4), the keeper of a task's run (5), or want of memory (6).
 abbrev pub EndsAs : Report → ℕ → Type 0
-EndsAs r status = (status ≡ r.status) ⊎ ((status ≡ 3) × (r.status ≡ 1 → ⊥)) ⊎ ((status ≡ 4) × IsRun r) ⊎ ((status ≡ 5) × IsRun r) ⊎ (status ≡ 6)
+EndsAs r status =
+    (status ≡ r.status) ⊎ ((status ≡ 3) × (r.reads ≡ true)) ⊎ ((status ≡ 4) × IsToWrite r)
+    ⊎ ((status ≡ 5) × (r.reads ≡ true) × IsToWrite r) ⊎ (status ≡ 6)
 
 -- out took the report's part whole where the call ends with its status, a front of it where it was stopped, and nothing
 -- where no scenario was read
@@ -83,7 +99,8 @@ pub record WritesErr (r : Report) (status : ℕ) (err : End) : Type 0 where
   pub keeper : status ≡ 5 → TakesLine err (codes "keeper fault\n")
   pub memory : status ≡ 6 → TakesLine err (codes "out of memory\n")
 
--- the keeper has the report's rows where the call ends with its status, and those of before where no scenario was read
+-- the keeper has the report's rows where the call ends with its status, and those of before where no scenario was read,
+-- or none is
 pub record KeepsRows (r : Report) (status : ℕ) (rows : List Row) (kept : Option (List Row)) : Type 0 where
   pub whole : status ≡ r.status → kept ≡ Some r.rows
-  pub idle : status ≡ 3 → kept ≡ Some rows
+  pub idle : (status ≡ 3) ⊎ (r.reads ≡ false) → kept ≡ Some rows

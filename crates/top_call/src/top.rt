@@ -1,13 +1,16 @@
 //! The top call.
 
-ghost use Rattle.std.specs.Prelude.{◌≡◌, ◌≤◌, ◌⊎◌, codes, map, IfSome};
+ghost use Rattle.std.specs.Prelude.{◌≡◌, ◌≤◌, ◌⊎◌, [], codes, map, IfSome, Option, Some};
 ghost use Rattle.std.specs.Io.KnownBytes.{Consumes};
+ghost use Rattle.command_line.specs.Places.{drawing_of};
+ghost use Rattle.command_line.specs.Taken.{IsDrawn};
+ghost use Rattle.command_line.specs.declared.parts.Drawing.{Drawing};
 ghost use Rattle.orch_base.specs.Causes.{Rose};
 ghost use Rattle.scenarios.specs.Scenarios.{IsScenario, names_of};
-ghost use Rattle.tasks.specs.Asked.{IsTaken, task_of};
+ghost use Rattle.tasks.specs.Asked.{AskOfRead, IsTaken, task_of};
 ghost use Rattle.tasks.specs.Endings.{HasKeepersCause, Tells};
-ghost use Rattle.tasks.specs.Sinks.{TakesLine, across};
-ghost use Rattle.top_call.specs.Ends.{EndsBy, EndsOf, EndsOver, FaultsOf, IsComplete, IsGood, IsReported, IsUsage, NoneRose, call};
+ghost use Rattle.tasks.specs.Sinks.{FailsIn, Takes, TakesFront, TakesLine, across};
+ghost use Rattle.top_call.specs.Ends.{AskToDraw, DrawEnds, EndsBy, EndsOf, EndsOver, FaultsOf, IsComplete, IsGood, IsReported, IsUsage, NoneRose, ReadsWhole, call, drawn_text, status_of};
 ghost use Rattle.top_call.specs.Faults.{fault_text};
 ghost use Rattle.top_call.specs.Report.{ByReport, EndsAs, KeepsRows, WritesErr, WritesOut};
 ghost use Rattle.top_call.specs.Runs.{BeginApart, FinishWell, IsSafeRun, LoseTruly, ObeysTable};
@@ -15,9 +18,10 @@ ghost use Rattle.top_call.specs.Runs.{BeginApart, FinishWell, IsSafeRun, LoseTru
 use crate::fault::fault_line;
 use crate::reading::{Stop, scenario_from};
 use crate::way::Way;
-use command_line::{Places, Usage, places};
+use command_line::{Drawing, Places, Usage, places};
 use instance_keeper::Keeper;
 use orch_base::{Sink, Source, write_all};
+use scenario_generator::{NotWritten, write_scenario};
 use scenario_reader::Fault;
 use scenarios::Scenario;
 use std::alloc::Global;
@@ -46,6 +50,7 @@ fn told<O: Sink, E: Sink, K: Keeper>(
     keeper: &mut K,
 ) -> Ending
     requires words { IsTaken places.now }
+    requires asks { AskOfRead places.now }
     requires scenario { IsScenario scenario.now }
     ensures tells { Tells (record {
       task = task_of places.now (names_of scenario.now);
@@ -78,6 +83,7 @@ fn report<O: Sink, E: Sink, K: Keeper>(
     keeper: &mut K,
 ) -> Way
     requires words { IsTaken places.now }
+    requires asks { AskOfRead places.now }
     requires scenario { IsScenario scenario.now }
     ensures ends { EndsOver places.now scenario.now (K.kept keeper.old) (K.kept keeper.new)
         (across (O.written out.old) (O.faults out.old) (O.written out.new) (O.faults out.new))
@@ -127,7 +133,7 @@ fn close_fault<E: Sink>(alloc: Global, err: &mut E, fault: &Fault) -> Way
     }
 }
 
-// Answers words that are taken.
+// Answers words that are taken and ask of a scenario that is read.
 fn answer<S: Source, O: Sink, E: Sink, K: Keeper>(
     alloc: Global,
     places: &Places,
@@ -136,7 +142,8 @@ fn answer<S: Source, O: Sink, E: Sink, K: Keeper>(
     err: &mut E,
     keeper: &mut K,
 ) -> Way
-    requires { IsTaken places.now }
+    requires words { IsTaken places.now }
+    requires asks { AskOfRead places.now }
     ensures ends { EndsOf places.now (S.left source.old) (K.kept keeper.old) (K.kept keeper.new)
         (across (O.written out.old) (O.faults out.old) (O.written out.new) (O.faults out.new))
         (across (E.written err.old) (E.faults err.old) (E.written err.new) (E.faults err.new))
@@ -164,11 +171,69 @@ fn answer<S: Source, O: Sink, E: Sink, K: Keeper>(
     }
 }
 
+// Draws a scenario, and writes it on out.
+fn draw<O: Sink, E: Sink>(alloc: Global, drawing: Drawing, out: &mut O, err: &mut E) -> Way
+    requires { IsDrawn drawing }
+    ensures ends { DrawEnds drawing (status_of result)
+        (across (O.written out.old) (O.faults out.old) (O.written out.new) (O.faults out.new))
+        (across (E.written err.old) (E.faults err.old) (E.written err.new) (E.faults err.new)) }
+    ensures way { (result ≡ Way.Drawn) ⊎ (result ≡ Way.Sink) ⊎ (result ≡ Way.Memory) }
+{
+    match write_scenario(alloc, drawing.seed, drawing.servers, drawing.turns, out) {
+        Ok(()) => Way::Drawn,
+        Err(NotWritten::Sink) => {
+            close(err, b"write fault\n");
+            Way::Sink
+        }
+        Err(NotWritten::Memory) => {
+            close(err, b"out of memory\n");
+            Way::Memory
+        }
+    }
+}
+
+// Does what words ask that are taken.
+fn respond<S: Source, O: Sink, E: Sink, K: Keeper>(
+    alloc: Global,
+    places: &Places,
+    source: &mut S,
+    out: &mut O,
+    err: &mut E,
+    keeper: &mut K,
+) -> Way
+    requires { IsTaken places.now }
+    ensures ends { EndsOf places.now (S.left source.old) (K.kept keeper.old) (K.kept keeper.new)
+        (across (O.written out.old) (O.faults out.old) (O.written out.new) (O.faults out.new))
+        (across (E.written err.old) (E.faults err.old) (E.written err.new) (E.faults err.new))
+        result }
+    ensures not_usage { result ≡ Way.Usage → ⊥ }
+    ensures source { result ≡ Way.Source → Rose (S.faults source.old) (S.faults source.new) }
+    ensures sink { result ≡ Way.Sink → Rose (O.faults out.old) (O.faults out.new)
+        ⊎ Rose (E.faults err.old) (E.faults err.new) }
+    ensures keeper { result ≡ Way.Keeper → Rose (K.faults keeper.old) (K.faults keeper.new) }
+    ensures read { IsReported result
+        → IfSome (S.left source.old)
+        (λ bytes. Consumes (S.left source.old) (S.left source.new) bytes) }
+    ensures drawn { (d : Drawing) → drawing_of places.now ≡ Some d
+        → DrawEnds d (status_of result)
+        (across (O.written out.old) (O.faults out.old) (O.written out.new) (O.faults out.new))
+        (across (E.written err.old) (E.faults err.old) (E.written err.new) (E.faults err.new)) }
+    ensures unread { (d : Drawing) → drawing_of places.now ≡ Some d → source.new ≡ source.old }
+    ensures unkept { (d : Drawing) → drawing_of places.now ≡ Some d → keeper.new ≡ keeper.old }
+{
+    match places.drawing() {
+        Some(drawing) => draw(alloc, drawing, out, err),
+        None => answer(alloc, places, source, out, err, keeper),
+    }
+}
+
 /// Does what the words ask with the scenario that the source has, writes the report on out and what went wrong on err,
 /// and answers the program's status. What orchestrator knows is kept by the keeper: the run begins with its rows, and
-/// each change is kept before it is made.
+/// each change is kept before it is made. Words that ask to draw a scenario have it written on out; neither the source
+/// nor the keeper is called for them.
 ///
-/// - 0: the report is written, and no reply in it is refused or failed.
+/// - 0: the report is written, and no reply in it is refused or failed; or a run's summary is, or a scenario that was
+/// drawn.
 /// - 1: the words aren't taken; `usage` on err.
 /// - 2: the scenario has a fault; `scenario fault CODE NAME PATH` on err.
 /// - 3: the source failed; `read fault` on err.
@@ -176,7 +241,7 @@ fn answer<S: Source, O: Sink, E: Sink, K: Keeper>(
 /// `write fault`   on err.
 /// - 5: the keeper failed; out took the replies of a run before that turn, which changed nothing; `keeper fault` on
 /// err.
-/// - 6: want of memory; out took a front of a run's replies; `out of memory` on err.
+/// - 6: want of memory; out took a front of a run's replies, or of what is drawn; `out of memory` on err.
 /// - 7: the report is written, and a reply in it is refused or failed; of a single command that reply is on err.
 ///
 /// Elsewhere than at 4, where err fails it has a front of its line, and the status is the same.
@@ -188,18 +253,29 @@ pub fn orch<S: Source, O: Sink, E: Sink, K: Keeper>(
     err: &mut E,
     keeper: &mut K,
 ) -> u8
-    // 1 exactly where the words aren't taken, and 2 exactly where they are and the scenario has a fault, but for 3 and
-    // 6.
+    // 1 exactly where the words aren't taken, and 2 exactly where they are, ask of a scenario that is read, and it has a
+    // fault, but for 3 and 6.
     ensures usage { IsUsage (map (λ w. w.items) words.now) result }
     ensures fault { FaultsOf (map (λ w. w.items) words.now) (S.left scenario.old) result }
 
-    // 3, 4 and 5 only where a count of faults rose, and 0 and 7 only where the source was read to its end.
+    // 3, 4 and 5 only where a count of faults rose, and 0 and 7 only where the source was read to its end, or the words
+    // ask to draw a scenario.
     ensures source { result ≡ 3 → Rose (S.faults scenario.old) (S.faults scenario.new) }
     ensures sink { result ≡ 4 → Rose (O.faults out.old) (O.faults out.new)
         ⊎ Rose (E.faults err.old) (E.faults err.new) }
     ensures keeper { result ≡ 5 → Rose (K.faults keeper.old) (K.faults keeper.new) }
-    ensures read { IfSome (S.left scenario.old) (λ bytes.
-        (result ≡ 0) ⊎ (result ≡ 7) → Consumes (S.left scenario.old) (S.left scenario.new) bytes) }
+    ensures read { IfSome (S.left scenario.old) (λ bytes. ReadsWhole
+        (map (λ w. w.items) words.now) bytes result (S.left scenario.old) (S.left scenario.new)) }
+
+    // Where they do, it is written, whatever the source has; neither the source nor the keeper is called.
+    ensures drawn { (d : Drawing) → AskToDraw (map (λ w. w.items) words.now) d
+        → DrawEnds d result
+        (across (O.written out.old) (O.faults out.old) (O.written out.new) (O.faults out.new))
+        (across (E.written err.old) (E.faults err.old) (E.written err.new) (E.faults err.new)) }
+    ensures unread { (d : Drawing) → AskToDraw (map (λ w. w.items) words.now) d
+        → scenario.new ≡ scenario.old }
+    ensures unkept { (d : Drawing) → AskToDraw (map (λ w. w.items) words.now) d
+        → keeper.new ≡ keeper.old }
 
     // What out and err took and what the keeper has, by the status: exactly, whether the keeper tells its rows or not.
     ensures ends { IfSome (S.left scenario.old) (λ bytes.
@@ -249,7 +325,7 @@ pub fn orch<S: Source, O: Sink, E: Sink, K: Keeper>(
         (λ bytes. LoseTruly (map (λ w. w.items) words.now) bytes) }
 {
     match places(alloc, words) {
-        Ok(places) => answer(alloc, &places, scenario, out, err, keeper).status(),
+        Ok(places) => respond(alloc, &places, scenario, out, err, keeper).status(),
         Err(Usage::BadWords) => {
             close(err, b"usage\n");
             Way::Usage.status()

@@ -8,6 +8,8 @@ ghost use Rattle.top_call.specs.Ends.{status_of};
 pub enum Way {
     /// The report is written; whether a written reply is refused or failed.
     Reported(bool),
+    /// A scenario is drawn and written.
+    Drawn,
     /// The words aren't taken.
     Usage,
     /// The scenario has a fault.
@@ -29,7 +31,7 @@ impl Way {
     {
         match self {
             Way::Reported(true) => 7,
-            Way::Reported(false) => 0,
+            Way::Reported(false) | Way::Drawn => 0,
             Way::Usage => 1,
             Way::Fault => 2,
             Way::Source => 3,

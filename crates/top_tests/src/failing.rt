@@ -24,8 +24,31 @@ errant 0
 const FRONT: &str =
     "1 fetch r:3306: got mysql-bin.000001:304\n2 apply r:3306: done mysql-bin.000001:304\n3 fetch r:3306: g";
 
+const SUM: Words = &[b"orch", b"-c", b"run", b"--summary"];
+
+const DUMP: Words = &[b"orch", b"-c", b"dump"];
+
+const DRAW: Words = &[
+    b"orch",
+    b"-c",
+    b"generate",
+    b"--seed",
+    b"7",
+    b"--servers",
+    b"1",
+    b"--turns",
+    b"0",
+];
+
 // A server alone.
 const ALONE: &str = "{\"version\":1,\"servers\":[{\"name\":\"m\"}]}";
+
+// A server and its replica, and no turns.
+const PAIR: &str = r#"{"version":1,"servers":[{"name":"m"},{"name":"a","source":"m"}]}"#;
+
+// A replica that accepts a write.
+const WRITES: &str =
+    r#"{"version":1,"servers":[{"name":"m"},{"name":"a","source":"m","read_only":false}],"turns":[["write","a",10]]}"#;
 
 // The servers that catch up, and one poll of each.
 const POLLS: &str =
@@ -142,17 +165,18 @@ fn words_sources_and_sinks(rt: HostRuntime) -> Result<(), Fail> {
     Ok(())
 }
 
-// What a run answers over these rows, the keeper of which fails at this call; and whether the keeper then has so many
-// rows, these among them.
+// What these words answer over these rows, the keeper of which fails at this call; and whether the keeper then has so
+// many rows, these among them.
 fn over_rows(
     alloc: Global,
+    words: Words,
     text: &str,
     kept: &[Kept],
     objects: Objects,
     (count, some): (usize, &[Kept]),
 ) -> Result<(Told, bool), Fail> {
     let mut keeper = keeper_of(alloc, kept, objects.keeper_fails)?;
-    let told = call(alloc, RUN, text.as_bytes(), objects, &mut keeper)?;
+    let told = call(alloc, words, text.as_bytes(), objects, &mut keeper)?;
     let keeps = keeps(alloc, &mut keeper, count, some)?;
     Ok((told, keeps))
 }
@@ -224,12 +248,132 @@ fn keepers(rt: HostRuntime) -> Result<(), Fail> {
             out_room,
             ..WHOLE
         };
-        let (told, keeps) = over_rows(alloc, text, kept, objects, after)?;
+        let (told, keeps) = over_rows(alloc, RUN, text, kept, objects, after)?;
         assert_eq!(rt;
             (told.all(), keeps),
             ((status, Some(out), Some(err)), true),
             "at {keeper_fails}"
         );
+    }
+    Ok(())
+}
+
+#[test]
+fn summaries_dumps_and_drawings(rt: HostRuntime) -> Result<(), Fail> {
+    let alloc = rt.alloc();
+    let none: &[Kept] = &[];
+    let ended: &[Kept] = &[Kept::Recovery(1, 5, Some(6))];
+    let drawn =
+        "{\"servers\":[{\"history\":[[\"s0001\",100,20]],\"name\":\"s0001\"}],\"turns\":[],\"version\":1}\n";
+    let polled = "turns 4 refused 0 failed 0\nexecuted 7\nrecoveries 0\nerrant 0\n";
+    let loaded = "turns 0 refused 0 failed 0\nexecuted 0\nrecoveries 1\nerrant 0\n";
+    let wanting = "write fault\n";
+    let not_quiet = "refused 29 NotQuiet 1\n";
+    // The words, the scenario and the rows; the calls of the source, of out and of the keeper that fail, and the room of
+    // out; the status, what out and err took, and how many rows are kept then.
+    let cases: [(
+        Words,
+        &str,
+        &[Kept],
+        [u64; 3],
+        usize,
+        (u8, &str, &str),
+        usize,
+    ); 19] = [
+        (SUM, POLLS, none, [0, 0, 0], 2000, (0, polled, ""), 2),
+        (
+            SUM,
+            POLLS,
+            none,
+            [1, 0, 0],
+            2000,
+            (3, "", "read fault\n"),
+            0,
+        ),
+        (SUM, POLLS, none, [0, 1, 0], 2000, (4, "", wanting), 2),
+        (SUM, POLLS, none, [0, 0, 0], 9, (4, "turns 4 r", wanting), 2),
+        (
+            SUM,
+            POLLS,
+            none,
+            [0, 0, 2],
+            2000,
+            (5, "", "keeper fault\n"),
+            0,
+        ),
+        (
+            SUM,
+            POLLS,
+            none,
+            [0, 0, 4],
+            2000,
+            (5, "", "keeper fault\n"),
+            2,
+        ),
+        (SUM, POLLS, none, [0, 0, 5], 2000, (0, polled, ""), 2),
+        (SUM, PAIR, ended, [0, 0, 0], 2000, (0, loaded, ""), 3),
+        (
+            DUMP,
+            PAIR,
+            none,
+            [1, 0, 0],
+            2000,
+            (3, "", "read fault\n"),
+            0,
+        ),
+        (DUMP, PAIR, none, [0, 1, 0], 2000, (4, "", wanting), 2),
+        (
+            DUMP,
+            PAIR,
+            none,
+            [0, 0, 0],
+            11,
+            (4, "{\"aliases\":", wanting),
+            2,
+        ),
+        (
+            DUMP,
+            POLLS,
+            none,
+            [0, 0, 4],
+            2000,
+            (5, "", "keeper fault\n"),
+            2,
+        ),
+        (DUMP, WRITES, none, [0, 0, 0], 2000, (7, "", not_quiet), 2),
+        (DUMP, WRITES, none, [0, 1, 0], 2000, (7, "", not_quiet), 2),
+        (DRAW, "", none, [0, 0, 0], 2000, (0, drawn, ""), 0),
+        (DRAW, POLLS, ended, [1, 0, 1], 2000, (0, drawn, ""), 1),
+        (DRAW, POLLS, none, [0, 1, 0], 2000, (4, "", wanting), 0),
+        (
+            DRAW,
+            POLLS,
+            none,
+            [0, 0, 0],
+            12,
+            (4, "{\"servers\":[", wanting),
+            0,
+        ),
+        (DRAW, POLLS, none, [0, 2, 0], 2000, (0, drawn, ""), 0),
+    ];
+    for (
+        words,
+        text,
+        kept,
+        [source_fails, out_fails, keeper_fails],
+        out_room,
+        (status, out, err),
+        count,
+    ) in cases {
+        let objects = Objects {
+            source_fails,
+            out_fails,
+            keeper_fails,
+            out_room,
+            ..WHOLE
+        };
+        let (told, keeps) = over_rows(alloc, words, text, kept, objects, (count, &[]))?;
+        assert_eq!(rt; (told.all(), keeps), ((status, Some(out), Some(err)), true));
     }
     Ok(())
 }
@@ -256,7 +400,7 @@ fn all_turns_are_taken_where_out_fails(rt: HostRuntime) -> Result<(), Fail> {
         ..WHOLE
     };
     let polled = (1, [Kept::Instance(0, 1, 4000)].as_slice());
-    let (told, keeps) = over_rows(alloc, text.as_str(), &[], objects, polled)?;
+    let (told, keeps) = over_rows(alloc, RUN, text.as_str(), &[], objects, polled)?;
     let out =
         "1 tick 1: now 1\n2 tick 1: now 2\n3 tick 1: now 3\n4 tick 1: now 4\n5 tick 1: now 5\n6 tick 1: now 6\n7 ti";
     assert_eq!(rt;

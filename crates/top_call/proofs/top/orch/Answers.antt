@@ -1,10 +1,9 @@
-use Rattle.std.proofs.Common.{◌≡◌, ◌∙◌, ℕ, List, ap, inl, inr, map, subst, sym, ◌⊎◌}
-use Rattle.kept_rows.specs.declared.row.Row.{Row}
+use Rattle.std.proofs.Common.{◌∙◌, ℕ, List, inl, map, subst, sym}
 use Rattle.command_line.specs.Places.{places_of}
 use Rattle.tasks.specs.Sinks.{End, between, taken}
 use Rattle.top_call.specs.declared.way.Way.TheVariants as way
-use Rattle.top_call.specs.Ends.{Call, Ends, FaultsAs, IsComplete, IsReported, IsUsage, call}
-use Rattle.top_call.proofs.Ends.{bad_words, complete, each, faults, idles, lifted, no_usage, of_done, of_five, of_four, of_three, under, untaken_faults, wanting_faults}
+use Rattle.top_call.specs.Ends.{DrawEnds, FaultsAs, IsComplete, IsUsage, call}
+use Rattle.top_call.proofs.Ends.{bad_words, complete, draws_at, each, faults, idles, lifted, no_usage, not_asked, of_five, of_four, of_three, read_whole, undrawn}
 use Rattle.top_call.proofs.Reports.{both, err_by, kept_by_report, out_by, status_told}
 use Rattle.top_call.proofs.Runs.{begin_apart, finish_well, lose_truly, obeys, safe_run}
 use Rattle.top_call.proofs.top.orch.Goals as goal
@@ -14,37 +13,51 @@ use Rattle.top_call.proofs.top.orch.Goals as goal
 pub returns-in-Ok-clause-usage : goal.returns-in-Ok-clause-usage
 returns-in-Ok-clause-usage g c =
     let words : List (List ℕ) = map (λ w. w.items) c.args.words.now in
-    subst (λ (n : ℕ). IsUsage words n) (sym c.status.ensures) (no_usage words c.in-Ok.places c.answer.result c.in-Ok.ensures c.answer.ensures.not_usage)
+    subst (λ (n : ℕ). IsUsage words n) (sym c.status.ensures) (no_usage words c.in-Ok.places c.respond.result c.in-Ok.ensures c.respond.ensures.not_usage)
 
 pub returns-in-Ok-clause-fault : goal.returns-in-Ok-clause-fault
 returns-in-Ok-clause-fault g c =
     let words : List (List ℕ) = map (λ w. w.items) c.args.words.now in
     lifted (g.S.Source.left c.args.scenario.now) _ _
-    (λ bytes e. subst (λ (n : ℕ). FaultsAs (places_of words) bytes n) (sym c.status.ensures) (faults (call words bytes _ _ _ _) c.in-Ok.places c.in-Ok.ensures c.answer.result e)) (c.answer.ensures.ends words c.in-Ok.ensures)
+    (λ bytes e. subst (λ (n : ℕ). FaultsAs (places_of words) bytes n) (sym c.status.ensures) (faults (call words bytes _ _ _ _) c.in-Ok.places c.in-Ok.ensures c.respond.result e)) (c.respond.ensures.ends words c.in-Ok.ensures)
 
 pub returns-in-Ok-clause-source : goal.returns-in-Ok-clause-source
-returns-in-Ok-clause-source g c = λ three. c.answer.ensures.source (of_three c.answer.result (sym c.status.ensures ∙ three))
+returns-in-Ok-clause-source g c = λ three. c.respond.ensures.source (of_three c.respond.result (sym c.status.ensures ∙ three))
 
 pub returns-in-Ok-clause-sink : goal.returns-in-Ok-clause-sink
-returns-in-Ok-clause-sink g c = λ four. c.answer.ensures.sink (of_four c.answer.result (sym c.status.ensures ∙ four))
+returns-in-Ok-clause-sink g c = λ four. c.respond.ensures.sink (of_four c.respond.result (sym c.status.ensures ∙ four))
 
 pub returns-in-Ok-clause-keeper : goal.returns-in-Ok-clause-keeper
-returns-in-Ok-clause-keeper g c = λ five. c.answer.ensures.keeper (of_five c.answer.result (sym c.status.ensures ∙ five))
+returns-in-Ok-clause-keeper g c = λ five. c.respond.ensures.keeper (of_five c.respond.result (sym c.status.ensures ∙ five))
 
 pub returns-in-Ok-clause-read : goal.returns-in-Ok-clause-read
 returns-in-Ok-clause-read g c =
-    under (g.S.Source.left c.args.scenario.now) _ _ (IsReported c.answer.result) (λ done. of_done c.answer.result (subst (λ (n : ℕ). (n ≡ 0) ⊎ (n ≡ 7)) c.status.ensures done)) c.answer.ensures.read
+    let words : List (List ℕ) = map (λ w. w.items) c.args.words.now in
+    read_whole words (g.S.Source.left c.args.scenario.now) (g.S.Source.left c.respond.new.source) _ _ _ _ c.respond.result _ c.status.ensures c.respond.ensures.read (c.respond.ensures.ends words c.in-Ok.ensures)
+
+pub returns-in-Ok-clause-drawn : goal.returns-in-Ok-clause-drawn
+returns-in-Ok-clause-drawn g c = λ d ask.
+    let words : List (List ℕ) = map (λ w. w.items) c.args.words.now in
+    let out : End = between (taken (g.O.Sink.written c.args.out.now) (g.O.Sink.faults c.args.out.now)) (taken (g.O.Sink.written c.respond.new.out) (g.O.Sink.faults c.respond.new.out)) in
+    let err : End = between (taken (g.E.Sink.written c.args.err.now) (g.E.Sink.faults c.args.err.now)) (taken (g.E.Sink.written c.respond.new.err) (g.E.Sink.faults c.respond.new.err)) in
+    subst (λ (n : ℕ). DrawEnds d n out err) (sym c.status.ensures) (c.respond.ensures.drawn d (draws_at words c.in-Ok.places c.in-Ok.ensures d ask))
+
+pub returns-in-Ok-clause-unread : goal.returns-in-Ok-clause-unread
+returns-in-Ok-clause-unread g c = λ d ask. c.respond.ensures.unread d (draws_at (map (λ w. w.items) c.args.words.now) c.in-Ok.places c.in-Ok.ensures d ask)
+
+pub returns-in-Ok-clause-unkept : goal.returns-in-Ok-clause-unkept
+returns-in-Ok-clause-unkept g c = λ d ask. c.respond.ensures.unkept d (draws_at (map (λ w. w.items) c.args.words.now) c.in-Ok.places c.in-Ok.ensures d ask)
 
 pub returns-in-Ok-clause-ends : goal.returns-in-Ok-clause-ends
 returns-in-Ok-clause-ends g c =
-    lifted (g.S.Source.left c.args.scenario.now) _ _ (λ bytes e. (c.answer.result, c.status.ensures, e)) (c.answer.ensures.ends (map (λ w. w.items) c.args.words.now) c.in-Ok.ensures)
+    lifted (g.S.Source.left c.args.scenario.now) _ _ (λ bytes e. (c.respond.result, c.status.ensures, e)) (c.respond.ensures.ends (map (λ w. w.items) c.args.words.now) c.in-Ok.ensures)
 
 pub returns-in-Ok-clause-complete : goal.returns-in-Ok-clause-complete
 returns-in-Ok-clause-complete g c =
     let words : List (List ℕ) = map (λ w. w.items) c.args.words.now in
     lifted (g.S.Source.left c.args.scenario.now) _ _
-    (λ bytes e good none. subst IsComplete (sym c.status.ensures) (complete (call words bytes _ _ _ _) c.answer.result _ _ _ _ c.answer.ensures.source c.answer.ensures.sink c.answer.ensures.keeper e good none))
-    (c.answer.ensures.ends words c.in-Ok.ensures)
+    (λ bytes e good none. subst IsComplete (sym c.status.ensures) (complete (call words bytes _ _ _ _) c.respond.result _ _ _ _ c.respond.ensures.source c.respond.ensures.sink c.respond.ensures.keeper e good none))
+    (c.respond.ensures.ends words c.in-Ok.ensures)
 
 pub returns-in-Ok-clause-safe : goal.returns-in-Ok-clause-safe
 returns-in-Ok-clause-safe g c = safe_run (map (λ w. w.items) c.args.words.now) _
@@ -74,6 +87,15 @@ returns-in-Err-Memory-clause-ends g c =
     let words : List (List ℕ) = map (λ w. w.items) c.args.words.now in
     each (g.S.Source.left c.args.scenario.now) _ (λ bytes. (way.Memory, c.status-in-Err-Memory.ensures, inl (idles words bytes _ _ _ _ c.close-in-Err-Memory.ensures.took)))
 
+pub returns-in-Err-BadWords-clause-drawn : goal.returns-in-Err-BadWords-clause-drawn
+returns-in-Err-BadWords-clause-drawn g c = λ d ask. absurd (not_asked (map (λ w. w.items) c.args.words.now) d (bad_words (map (λ w. w.items) c.args.words.now) c.in-Err-BadWords.field-0 c.in-Err-BadWords.field-0-is c.in-Err-BadWords.ensures) ask)
+
+pub returns-in-Err-Memory-clause-drawn : goal.returns-in-Err-Memory-clause-drawn
+returns-in-Err-Memory-clause-drawn g c = λ d ask.
+    let out = taken (g.O.Sink.written c.args.out.now) (g.O.Sink.faults c.args.out.now) in
+    let err : End = between (taken (g.E.Sink.written c.args.err.now) (g.E.Sink.faults c.args.err.now)) (taken (g.E.Sink.written c.close-in-Err-Memory.new.err) (g.E.Sink.faults c.close-in-Err-Memory.new.err)) in
+    subst (λ (n : ℕ). DrawEnds d n (between out out) err) (sym c.status-in-Err-Memory.ensures) (undrawn d out err c.close-in-Err-Memory.ensures.took)
+
 pub returns-in-Err-Memory-clause-safe : goal.returns-in-Err-Memory-clause-safe
 returns-in-Err-Memory-clause-safe g c = safe_run (map (λ w. w.items) c.args.words.now) _
 
@@ -93,9 +115,9 @@ returns-in-Err-Memory-clause-losses g c = lose_truly (map (λ w. w.items) c.args
 
 pub returns-in-Ok-clause-status : goal.returns-in-Ok-clause-status
 returns-in-Ok-clause-status g c =
-    status_told (g.S.Source.left c.args.scenario.now) (g.K.Keeper.kept c.args.keeper.now) (g.K.Keeper.kept c.answer.new.keeper) (map (λ w. w.items) c.args.words.now)
-    (between (taken (g.O.Sink.written c.args.out.now) (g.O.Sink.faults c.args.out.now)) (taken (g.O.Sink.written c.answer.new.out) (g.O.Sink.faults c.answer.new.out)))
-    (between (taken (g.E.Sink.written c.args.err.now) (g.E.Sink.faults c.args.err.now)) (taken (g.E.Sink.written c.answer.new.err) (g.E.Sink.faults c.answer.new.err))) _ (returns-in-Ok-clause-ends g c)
+    status_told (g.S.Source.left c.args.scenario.now) (g.K.Keeper.kept c.args.keeper.now) (g.K.Keeper.kept c.respond.new.keeper) (map (λ w. w.items) c.args.words.now)
+    (between (taken (g.O.Sink.written c.args.out.now) (g.O.Sink.faults c.args.out.now)) (taken (g.O.Sink.written c.respond.new.out) (g.O.Sink.faults c.respond.new.out)))
+    (between (taken (g.E.Sink.written c.args.err.now) (g.E.Sink.faults c.args.err.now)) (taken (g.E.Sink.written c.respond.new.err) (g.E.Sink.faults c.respond.new.err))) _ (returns-in-Ok-clause-ends g c)
 
 pub returns-in-Ok-clause-out : goal.returns-in-Ok-clause-out
 returns-in-Ok-clause-out g c =

@@ -1,7 +1,11 @@
 use Rattle.tasks.specs.Sinks.{taken}
-use Rattle.top_call.proofs.Ends.{wanting}
+use Rattle.top_call.proofs.Ends.{failing, wanting}
 use Rattle.top_call.proofs.top.report.Goals as goal
+
+pub returns-in-Unwritten-clause-ends : goal.returns-in-Unwritten-clause-ends
+returns-in-Unwritten-clause-ends g c = λ words bytes t r.
+    failing words bytes c.args.places.now c.args.scenario.now _ _ _ _ (taken (g.E.Sink.written c.told.new.err) (g.E.Sink.faults c.told.new.err)) _ t c.requires.asks r c.in-Unwritten.ensures.tells c.in-Unwritten.ensures.later c.close.ensures.took
 
 pub returns-in-Memory-clause-ends : goal.returns-in-Memory-clause-ends
 returns-in-Memory-clause-ends g c = λ words bytes t r.
-    wanting words bytes c.args.places.now c.args.scenario.now _ _ _ _ (taken (g.E.Sink.written c.told.new.err) (g.E.Sink.faults c.told.new.err)) _ t r c.in-Memory.ensures.tells c.in-Memory.ensures.later c.close-in-Memory.ensures.took
+    wanting words bytes c.args.places.now c.args.scenario.now _ _ _ _ (taken (g.E.Sink.written c.told.new.err) (g.E.Sink.faults c.told.new.err)) _ t c.requires.asks r c.in-Memory.ensures.tells c.in-Memory.ensures.later c.close-in-Memory.ensures.took

@@ -1,0 +1,90 @@
+//! The servers that a run leads to, as a scenario.
+
+ghost use Rattle.std.specs.Prelude.{◌≡◌, ◌≤◌, IfOk};
+ghost use Rattle.tasks.specs.Endings.{HasKeepersCause};
+ghost use Rattle.tasks.specs.Progress.{point};
+ghost use Rattle.tasks.specs.Report.{dump_of};
+ghost use Rattle.tasks.specs.Singles.{Writes, view};
+ghost use Rattle.tasks.specs.Sinks.{across};
+ghost use Rattle.tasks.specs.Stands.{AreTurnsIn, DumpStands};
+
+use crate::Ending;
+use crate::single::{Report, told_report, write_report};
+use commands::Refusal;
+use instance_keeper::Keeper;
+use orch_base::{Memory, Name, Sink};
+use orch_core::{Engine, TurnFault};
+use scenario_dump::dump;
+use scenarios::Scenario;
+use std::alloc::Global;
+use turns::{Reply, Turn};
+
+// The servers as a scenario that begins now, or the refusal where a server with a source accepted a write.
+fn dumped(
+    alloc: Global,
+    names: &[Name],
+    scenario: &Scenario,
+    engine: &Engine,
+) -> Result<Report, Memory>
+    ensures { IfOk result (λ r. view r ≡ dump_of names.now scenario.now engine.now) }
+{
+    let errant = engine.world().errant();
+    if errant != 0 {
+        let reply = Reply::Refused(Refusal::NotQuiet(errant));
+        return told_report(alloc, false, names, engine, &reply);
+    }
+    Ok(Report {
+        out: dump(alloc, engine.world(), scenario, engine.now())?,
+        err: Vec::new(alloc),
+        is_refused: false,
+    })
+}
+
+// Writes the servers as a scenario, or the refusal.
+fn write_dump<O: Sink, E: Sink>(
+    alloc: Global,
+    names: &[Name],
+    scenario: &Scenario,
+    engine: &Engine,
+    out: &mut O,
+    err: &mut E,
+) -> Ending
+    ensures writes { Writes (dump_of names.now scenario.now engine.now)
+        (across (O.written out.old) (O.faults out.old) (O.written out.new) (O.faults out.new))
+        (across (E.written err.old) (E.faults err.old) (E.written err.new) (E.faults err.new))
+        result }
+    ensures later { E.faults err.old ≤ E.faults err.new }
+{
+    match dumped(alloc, names, scenario, engine) {
+        Ok(report) => write_report(out, err, &report),
+        Err(_) => Ending::Memory,
+    }
+}
+
+/// Takes the turns, and writes the servers as a scenario on out, or on err the refusal where a server with a source
+/// accepted a write. After a keeper's fault nothing is written.
+pub(crate) fn dump_report<O: Sink, E: Sink, K: Keeper>(
+    alloc: Global,
+    keeper: &mut K,
+    engine: &mut Engine,
+    scenario: &Scenario,
+    turns: &[Turn],
+    names: &[Name],
+    out: &mut O,
+    err: &mut E,
+) -> Ending
+    requires { AreTurnsIn engine.old turns.now }
+    ensures stands { DumpStands names.now scenario.now turns.now
+        (point (K.kept keeper.old) engine.old) (K.kept keeper.new)
+        (across (O.written out.old) (O.faults out.old) (O.written out.new) (O.faults out.new))
+        (across (E.written err.old) (E.faults err.old) (E.written err.new) (E.faults err.new))
+        result }
+    ensures cause { HasKeepersCause (K.faults keeper.old) (K.faults keeper.new) result }
+    ensures later { E.faults err.old ≤ E.faults err.new }
+{
+    match engine.run(alloc, keeper, turns) {
+        Ok(()) => write_dump(alloc, names, scenario, engine, out, err),
+        Err(TurnFault::Keeper) => Ending::Keeper,
+        Err(TurnFault::Memory) => Ending::Memory,
+    }
+}
