@@ -1,0 +1,9 @@
+//! JSON values of a text, whose strings are borrowed from it.
+#![tactic(auto)]
+
+mod number;
+mod reading;
+mod value;
+
+pub use reading::JsonFault;
+pub use value::{Map, Value};
