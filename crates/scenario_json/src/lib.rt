@@ -5,5 +5,5 @@ mod number;
 mod reading;
 mod value;
 
-pub use reading::JsonFault;
-pub use value::{Map, Value};
+pub use reading::{Arena, JsonFault};
+pub use value::Value;

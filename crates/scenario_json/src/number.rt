@@ -7,6 +7,7 @@ ghost use Rattle.serde_json.specs.View.{number_view};
 use fast_float::Numeral;
 use serde_json::Number;
 
+#[inline(always)]
 fn has_minus(bytes: &[u8]) -> bool
     ensures value { result ≡ (slice_index bytes.now 0 == 45) }
     ensures len { IsTrue result → 0 < length bytes.now }
@@ -14,12 +15,14 @@ fn has_minus(bytes: &[u8]) -> bool
     !bytes.is_empty() && bytes[0] == b'-'
 }
 
+#[inline(always)]
 fn nearest(negative: bool, numeral: &Numeral<'_>) -> Option<Number>
     ensures { option_map number_view result ≡ float_of negative numeral.now }
 {
     Number::from_f64(numeral.to_float::<f64>(negative))
 }
 
+#[inline(always)]
 fn unsigned(numeral: &Numeral<'_>) -> Option<Number>
     ensures { option_map number_view result ≡ number_from false numeral.now }
 {
@@ -29,6 +32,7 @@ fn unsigned(numeral: &Numeral<'_>) -> Option<Number>
     }
 }
 
+#[inline(always)]
 fn negative(numeral: &Numeral<'_>) -> Option<Number>
     ensures { option_map number_view result ≡ number_from true numeral.now }
 {
@@ -41,6 +45,7 @@ fn negative(numeral: &Numeral<'_>) -> Option<Number>
 }
 
 /// The number that a token of JSON writes, where it is in range.
+#[inline(always)]
 pub(crate) fn number_of(text: &str) -> Option<Number>
     ensures { option_map number_view result ≡ number_of text.now }
 {

@@ -7,9 +7,11 @@ ghost use Rattle.serde_json.specs.Read.{of_json, of_items, of_members, converted
 ghost use Rattle.scenario_json.specs.View.{view, items_view, members_view};
 
 use crate::number::number_of;
-use crate::value::{Map, Value};
+use crate::value::Value;
+use bumpalo::Bump;
 use json::{Invalid, Reader, Scratch, Token};
 use std::alloc::{AllocError, AllocFailed, Global};
+use std::collections::BTreeMap;
 
 const MAX_DEPTH: usize = 127;
 
@@ -55,41 +57,75 @@ impl<T: Drop> From<AllocFailed<T>> for JsonFault {
     }
 }
 
+/// The memory in which what a text's values hold stands, beside the text.
+pub struct Arena {
+    scratch: Scratch,
+    bump: Bump,
+}
+
+impl Arena {
+    /// Takes no memory yet.
+    pub fn new(alloc: Global) -> Arena {
+        Arena {
+            scratch: Scratch::new(alloc),
+            bump: Bump::new(alloc),
+        }
+    }
+}
+
 impl<'a> Value<'a> {
-    /// The value of a text, as serde_json reads it. Strings with escapes stand in `scratch`.
+    /// The value of a text, as serde_json reads it.
     pub fn from_slice(
         alloc: Global,
         bytes: &'a [u8],
-        scratch: &'a mut Scratch,
+        arena: &'a mut Arena,
     ) -> Result<Value<'a>, JsonFault>
         ensures ok { IfOk result (λ v. IsUtf8 bytes.now × (read_text bytes.now ≡ Some (view v))) }
         ensures err { result ≡ Err JsonFault.NotJson → IsUtf8 bytes.now → read_text bytes.now ≡ None }
     {
         match simdutf8::compat::from_utf8(bytes) {
-            Ok(text) => read_all(alloc, text, scratch),
+            Ok(text) => read_all(alloc, text, arena),
             Err(_) => Err(JsonFault::NotJson),
         }
     }
 }
 
-fn read_all<'a>(
-    alloc: Global,
-    text: &'a str,
-    scratch: &'a mut Scratch,
-) -> Result<Value<'a>, JsonFault>
+fn read_all<'a>(alloc: Global, text: &'a str, arena: &'a mut Arena) -> Result<Value<'a>, JsonFault>
     ensures ok { IfOk result (λ v. read_text text.now ≡ Some (view v)) }
     ensures err { result ≡ Err JsonFault.NotJson → read_text text.now ≡ None }
 {
-    let mut reader = Reader::new(text, scratch)?;
-    let value = read(alloc, &mut reader, MAX_DEPTH)?;
+    let bump = &arena.bump;
+    let mut reader = Reader::new(text, &mut arena.scratch)?;
+    let value = read(alloc, bump, &mut reader, MAX_DEPTH)?;
     if reader.next().is_some() {
         return Err(JsonFault::NotJson);
     }
     Ok(value)
 }
 
+// The members of a map, in the arena.
+fn listed<'a>(
+    alloc: Global,
+    bump: &'a Bump,
+    map: &BTreeMap<&'a str, Value<'a>>,
+) -> Result<&'a [(&'a str, Value<'a>)], AllocError>
+    ensures { IfOk result (λ s. s.now ≡ map.now.entries) }
+{
+    let mut members = Vec::new(alloc);
+    for (key, value) in map {
+        members.push((*key, *value))?;
+    }
+    Ok(bump.try_alloc_slice_copy(&members)?)
+}
+
 #[cycle(read)]
-fn read<'a>(alloc: Global, reader: &mut Reader<'a>, depth: usize) -> Result<Value<'a>, JsonFault>
+#[inline(always)]
+fn read<'a>(
+    alloc: Global,
+    bump: &'a Bump,
+    reader: &mut Reader<'a>,
+    depth: usize,
+) -> Result<Value<'a>, JsonFault>
     ensures ok { IfOk result
         (λ v. converted of_json (value depth reader.old) ≡ Some (view v, reader.new)) }
     ensures shorter { OnOk result (length reader.new < length reader.old) }
@@ -109,58 +145,61 @@ fn read<'a>(alloc: Global, reader: &mut Reader<'a>, depth: usize) -> Result<Valu
             if depth == 0 {
                 return Err(JsonFault::NotJson);
             }
-            Ok(Value::Array(read_items(alloc, reader, depth - 1)?))
+            Ok(Value::Array(read_items(alloc, bump, reader, depth - 1)?))
         }
         Token::BeginObject => {
             if depth == 0 {
                 return Err(JsonFault::NotJson);
             }
-            Ok(Value::Object(read_members(alloc, reader, depth - 1)?))
+            Ok(Value::Object(read_members(alloc, bump, reader, depth - 1)?))
         }
     }
 }
 
 #[cycle(read)]
+#[inline(never)]
 fn read_items<'a>(
     alloc: Global,
+    bump: &'a Bump,
     reader: &mut Reader<'a>,
     depth: usize,
-) -> Result<Vec<Value<'a>>, JsonFault>
+) -> Result<&'a [Value<'a>], JsonFault>
     ensures ok { IfOk result
         (λ v. converted of_items (items (value depth) (length reader.old) reader.old)
-        ≡ Some (items_view v.items, reader.new)) }
+        ≡ Some (items_view v.now, reader.new)) }
     ensures shorter { OnOk result (length reader.new < length reader.old) }
     ensures err { result ≡ Err JsonFault.NotJson
         → converted of_items (items (value depth) (length reader.old) reader.old) ≡ None }
 {
     let mut found = Vec::new(alloc);
     'items: while !reader.take_end_array() {
-        let item = read(alloc, reader, depth)?;
+        let item = read(alloc, bump, reader, depth)?;
         found.push(item)?;
     }
-    Ok(found)
+    Ok(bump.try_alloc_slice_copy(&found)?)
 }
 
 #[cycle(read)]
+#[inline(never)]
 fn read_members<'a>(
     alloc: Global,
+    bump: &'a Bump,
     reader: &mut Reader<'a>,
     depth: usize,
-) -> Result<Map<String, Value<'a>>, JsonFault>
+) -> Result<&'a [(&'a str, Value<'a>)], JsonFault>
     ensures ok { IfOk result
         (λ m. converted (λ ms. of_members ms no_members)
         (members (value depth) (length reader.old) reader.old)
-        ≡ Some (members_view m.entries, reader.new)) }
+        ≡ Some (members_view m.now, reader.new)) }
     ensures shorter { OnOk result (length reader.new < length reader.old) }
     ensures err { result ≡ Err JsonFault.NotJson
         → converted (λ ms. of_members ms no_members)
         (members (value depth) (length reader.old) reader.old) ≡ None }
 {
-    let mut found = Map::new(alloc);
-    'members: while let Some(name) = reader.next_key()? {
-        let key = String::from_str(alloc, name)?;
-        let member = read(alloc, reader, depth)?;
-        drop(found.insert(key, member)?);
+    let mut found = BTreeMap::new(alloc);
+    'members: while let Some(key) = reader.next_key()? {
+        let member = read(alloc, bump, reader, depth)?;
+        found.insert(key, member)?;
     }
-    Ok(found)
+    Ok(listed(alloc, bump, &found)?)
 }

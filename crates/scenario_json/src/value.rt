@@ -6,56 +6,57 @@ ghost use Rattle.serde_json.specs.View.{number_view};
 ghost use Rattle.scenario_json.specs.View.{view, items_view, members_view};
 
 use serde_json::Number;
-use std::collections::BTreeMap;
 
-/// An object's members, in the order of their keys' bytes.
-pub type Map<K, V> = BTreeMap<K, V>;
-
-/// A JSON value (RFC 8259) whose strings are borrowed from its text.
-#[derive(Drop)]
+/// A JSON value (RFC 8259) whose strings, items and members are borrowed.
+#[derive(Clone, Copy)]
 pub enum Value<'a> {
     Null,
     Bool(bool),
     Number(Number),
     String(&'a str),
-    Array(Vec<Value<'a>>),
-    Object(Map<String, Value<'a>>),
+    Array(&'a [Value<'a>]),
+    Object(&'a [(&'a str, Value<'a>)]),
 }
 
-fn member<'v, 'a>(map: &'v Map<String, Value<'a>>, name: &str) -> Option<&'v Value<'a>>
-    ensures { option_map (λ v. view v.now) result ≡ get_member name.now (members_view map.now.entries) }
+fn member<'a>(members: &'a [(&'a str, Value<'a>)], name: &str) -> Option<&'a Value<'a>>
+    ensures { option_map (λ v. view v.now) result ≡ get_member name.now (members_view members.now) }
 {
-    map.get(name)
+    for member in members {
+        if member.0 == name {
+            return Some(&member.1);
+        }
+    }
+    None
 }
 
 impl<'a> Value<'a> {
     /// The value at a key, where this is an object that has it.
-    pub fn get(&self, name: &str) -> Option<&Value<'a>>
+    pub fn get(&self, name: &str) -> Option<&'a Value<'a>>
         ensures { option_map (λ v. view v.now) result ≡ get name.now (view self.now) }
     {
         match self.as_object() {
-            Some(map) => member(map, name),
+            Some(members) => member(members, name),
             None => None,
         }
     }
 
-    /// The members, where this is an object.
-    pub fn as_object(&self) -> Option<&Map<String, Value<'a>>>
-        ensures { option_map (λ m. members_view m.now.entries) result ≡ as_object (view self.now) }
+    /// The members in the order of their keys' bytes, where this is an object. Of two with one key the later stands.
+    pub fn as_object(&self) -> Option<&'a [(&'a str, Value<'a>)]>
+        ensures { option_map (λ m. members_view m.now) result ≡ as_object (view self.now) }
     {
-        if let Value::Object(map) = self {
-            Some(map)
+        if let Value::Object(members) = self {
+            Some(*members)
         } else {
             None
         }
     }
 
     /// The items, where this is an array.
-    pub fn as_array(&self) -> Option<&Vec<Value<'a>>>
-        ensures { option_map (λ v. items_view v.now.items) result ≡ as_array (view self.now) }
+    pub fn as_array(&self) -> Option<&'a [Value<'a>]>
+        ensures { option_map (λ v. items_view v.now) result ≡ as_array (view self.now) }
     {
-        if let Value::Array(list) = self {
-            Some(list)
+        if let Value::Array(items) = self {
+            Some(*items)
         } else {
             None
         }

@@ -1,4 +1,4 @@
-use Rattle.std.proofs.Common.{◌≡◌, ◌-◌, ◌<◌, [], ◌∷◌, length, Some, None, string_bytes, sym, ap, ap₂, ◌∙◌, arith, rules}
+use Rattle.std.proofs.Common.{◌≡◌, ◌-◌, ◌<◌, [], ◌∷◌, length, Some, None, sym, ap, ap₂, ◌∙◌, arith, rules}
 use Rattle.json.specs.Token.{Token}
 use Rattle.json.specs.Json.{parse_map, after_end_array, read_key, items, members, value}
 use Rattle.json.specs.Reads.{token_of}
@@ -6,7 +6,7 @@ use Rattle.json.proofs.Grammar.{value_is, value-begin_array, value-begin_object,
 use Rattle.serde_json.specs.Data.{null, boolean, number, string, array, object, put}
 use Rattle.serde_json.specs.Read.{of_json, of_items, of_members, converted}
 use Rattle.serde_json.specs.View.{number_view}
-use Rattle.scenario_json.specs.View.{view, members_view}
+use Rattle.scenario_json.specs.View.{view, items_view, members_view}
 use Rattle.scenario_json.specs.declared.value.Value.{String, Number, Bool, Null, the_lemmas}
 use Rattle.scenario_json.proofs.Views.{view-Array, view-Object, members_view-insert_entry}
 use Rattle.scenario_json.proofs.Readings.{converted-array, converted-object, item_read, item_refused, items_over, member_read, member_refused, key_refused, members_over, items_before, items_before-no_items, one_more_item, none_before}
@@ -134,20 +134,20 @@ read_items-returns-clause-ok t c =
     let l = c.items in
     let n = l.invariant.0 in
     let r = c.take_end_array.new.self in
-    l.invariant.2 ∙ ap (parse_map (items_before l.found.items)) (items_over p n l.reader r l.invariant.1 (grind arith)) ∙ ap (λ ds. Some (ds, r)) (items_before-no_items l.found.items)
+    l.invariant.2 ∙ ap (parse_map (items_before l.found.items)) (items_over p n l.reader r l.invariant.1 (grind arith)) ∙ ap (λ ds. Some (ds, r)) (items_before-no_items l.found.items ∙ ap items_view (sym (c.in_ok-try_alloc_slice_copy.ensures ∙ c.deref.ensures.value)))
 
 pub read_members-members-init : goal.read_members-members-init
 read_members-members-init t c =
     let all = members (value c.args.depth) (length c.args.reader.now) c.args.reader.now in
     (length c.args.reader.now, omega arith, ap (λ es. converted (λ ms. of_members ms (members_view es)) all) (sym c.new-found.ensures.empty), omega arith)
 
-pub read_members-returns-in_err-name-clause-err : goal.read_members-returns-in_err-name-clause-err
-read_members-returns-in_err-name-clause-err t c refused =
+pub read_members-returns-in_err-key-clause-err : goal.read_members-returns-in_err-key-clause-err
+read_members-returns-in_err-key-clause-err t c refused =
     let p = value c.args.depth in
     let l = c.members in
     let n = l.invariant.0 in
     let old = members_view l.found.entries in
-    l.invariant.2 ∙ key_refused p old n l.reader c.in_err-name.ensures.value
+    l.invariant.2 ∙ key_refused p old n l.reader c.in_err-key.ensures.value
 
 pub read_members-returns-in_err-member-clause-err : goal.read_members-returns-in_err-member-clause-err
 read_members-returns-in_err-member-clause-err t c refused =
@@ -155,7 +155,7 @@ read_members-returns-in_err-member-clause-err t c refused =
     let l = c.members in
     let n = l.invariant.0 in
     let old = members_view l.found.entries in
-    let k = c.in-Some.name.now in
+    let k = c.in-Some.key.now in
     let s = c.next_key.new.self in
     let named : read_key l.reader ≡ Some (Some k, s) = grind arith in
     l.invariant.2 ∙ member_refused p old n k l.reader s named (c.read.ensures.err (grind arith))
@@ -166,7 +166,7 @@ read_members-members-preserved t c =
     let l = c.members in
     let n = l.invariant.0 in
     let old = members_view l.found.entries in
-    let k = c.in-Some.name.now in
+    let k = c.in-Some.key.now in
     let s = c.next_key.new.self in
     let named : read_key l.reader ≡ Some (Some k, s) = grind arith in
     let done = c.in_ok-member.ensures in
@@ -174,9 +174,8 @@ read_members-members-preserved t c =
     let r = c.read.new.reader in
     let less = read_key-shorter l.reader (Some k) s named in
     let lesser = done.shorter in
-    let copied : string_bytes c.in_ok-key.key ≡ k = search rules in
     let inserted : members_view c.insert.new.self.entries ≡ put k (view v) old =
-    ap members_view c.in_ok-insert.ensures.entries ∙ members_view-insert_entry l.found.entries c.in_ok-key.key v ∙ ap (λ name. put name (view v) old) copied in (
+    ap members_view c.in_ok-insert.ensures.entries ∙ members_view-insert_entry l.found.entries c.in-Some.key v in (
       n - 1,
       omega (arith, l.invariant.1),
       l.invariant.2 ∙ member_read p old n k l.reader s r (view v) (omega (arith, l.invariant.1)) named done.ok
@@ -190,4 +189,4 @@ read_members-returns-clause-ok t c =
     let l = c.members in
     let n = l.invariant.0 in
     let old = members_view l.found.entries in
-    l.invariant.2 ∙ members_over p old n l.reader c.next_key.new.self l.invariant.1 (grind arith)
+    l.invariant.2 ∙ members_over p old n l.reader c.next_key.new.self l.invariant.1 (grind arith) ∙ ap (λ es. Some (members_view es, c.next_key.new.self)) (sym c.in_ok-listed.ensures)
