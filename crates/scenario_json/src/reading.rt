@@ -58,6 +58,7 @@ impl<T: Drop> From<AllocFailed<T>> for JsonFault {
 }
 
 /// The memory in which what a text's values hold stands, beside the text.
+#[derive(Drop)]
 pub struct Arena {
     scratch: Scratch,
     bump: Bump,
