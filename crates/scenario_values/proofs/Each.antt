@@ -1,10 +1,9 @@
 -- Reading the items of a list, or the members of an object, one after the other, as a loop does.
-use Rattle.std.proofs.Common.{◌≡◌, ℕ, suc, Some, None, ◌+◌, ◌<◌, List, [], ◌∷◌, ◌++◌, length, get_or, drop, Option, MatchOption, Result, Ok, Err, refl, sym, ap, ◌∙◌, append_assoc, add-one, drop-cons}
-use Rattle.std.specs.Prelude.{⊤, String, string_bytes}
-use Rattle.std.specs.declared.alloc.Global.{Global}
+use Rattle.std.proofs.Common.{◌≡◌, ℕ, suc, Some, None, ◌+◌, ◌<◌, List, [], ◌∷◌, ◌++◌, length, get_or, drop, Option, MatchOption, Result, Ok, Err, Bor, refl, sym, ap, ◌∙◌, append_assoc, add-one, drop-cons}
+use Rattle.std.specs.Prelude.{⊤}
 use Rattle.serde_json.specs.Data.{Data}
-use Rattle.serde_json.specs.declared.value.Value.{Value}
-use Rattle.serde_json.specs.View.{view, items_view, members_view}
+use Rattle.scenario_json.specs.declared.value.Value.{Value}
+use Rattle.scenario_json.specs.View.{view, items_view, members_view}
 use Rattle.orch_base.specs.Gives.{◌>>=◌}
 use Rattle.scenario_values.specs.declared.fault.Fault.{Fault}
 use Rattle.scenario_values.specs.Faults.{under, under_item, each_from, each_member, item_count}
@@ -46,20 +45,28 @@ fails_read read vs at v front (Some f) lt here failed so_far =
 
 -- ---- members
 
--- the members before these were read as `front`
-abbrev pub AreReadTo : {A : Type 0} → (List ℕ → Data → Result A Fault) → List (String Global × Value) → List (String Global × Value) → List A → Type 0
-AreReadTo read all rest front = with_front front (each_member read (members_view rest)) ≡ each_member read (members_view all)
+abbrev pub Entry : Type 0
+Entry = Bor (List ℕ) × Value
 
-pub next_member : {A : Type 0} (read : List ℕ → Data → Result A Fault) (all rest : List (String Global × Value)) (m : String Global × Value) (x : A) (front : List A)
-    → under (string_bytes m.0) (read (string_bytes m.0) (view m.1)) ≡ Ok x → AreReadTo read all (m ∷ rest) front → AreReadTo read all rest (front ++ x ∷ [])
-next_member read all rest m x front ok so_far =
-    let one : with_front front (each_member read (members_view (m ∷ rest))) ≡ with_front (front ++ x ∷ []) (each_member read (members_view rest)) =
-    rw ok (regroup front x (each_member read (members_view rest))) in
+-- the members before `at` were read as `front`
+abbrev pub AreReadTo : {A : Type 0} → (List ℕ → Data → Result A Fault) → List Entry → ℕ → List A → Type 0
+AreReadTo read ms at front = with_front front (each_member read (members_view (drop at ms))) ≡ each_member read (members_view ms)
+
+member_at : (ms : List Entry) (at : ℕ) (m : Entry) → at < length ms → m ≡ get_or ms at m → drop at ms ≡ m ∷ drop (at + 1) ms
+member_at ms at m lt here = rw add-one (drop-cons ms at m lt ∙ ap (λ (e : Entry). e ∷ drop (suc at) ms) (sym here))
+
+pub next_member : {A : Type 0} (read : List ℕ → Data → Result A Fault) (ms : List Entry) (at : ℕ) (m : Entry) (x : A) (front : List A) → at < length ms → m ≡ get_or ms at m → under m.0.now (read m.0.now (view m.1)) ≡ Ok x
+    → AreReadTo read ms at front → AreReadTo read ms (at + 1) (front ++ x ∷ [])
+next_member read ms at m x front lt here ok so_far =
+    let rest : drop at ms ≡ m ∷ drop (at + 1) ms = member_at ms at m lt here in
+    let one : with_front front (each_member read (members_view (drop at ms))) ≡ with_front (front ++ x ∷ []) (each_member read (members_view (drop (at + 1) ms))) =
+    rw (rest, ok) (regroup front x (each_member read (members_view (drop (at + 1) ms)))) in
     sym one ∙ so_far
 
-pub fails_member : {A : Type 0} (read : List ℕ → Data → Result A Fault) (all rest : List (String Global × Value)) (m : String Global × Value) (front : List A) (o : Option Fault)
-    → MatchOption o ⊤ (λ f. under (string_bytes m.0) (read (string_bytes m.0) (view m.1)) ≡ Err f) → AreReadTo read all (m ∷ rest) front → MatchOption o ⊤ (λ f. each_member read (members_view all) ≡ Err f)
-fails_member read all rest m front None failed so_far = tt
-fails_member read all rest m front (Some f) failed so_far =
-    let one : with_front front (each_member read (members_view (m ∷ rest))) ≡ Err f = rw failed refl in
+pub fails_member : {A : Type 0} (read : List ℕ → Data → Result A Fault) (ms : List Entry) (at : ℕ) (m : Entry) (front : List A) (o : Option Fault) → at < length ms → m ≡ get_or ms at m
+    → MatchOption o ⊤ (λ f. under m.0.now (read m.0.now (view m.1)) ≡ Err f) → AreReadTo read ms at front → MatchOption o ⊤ (λ f. each_member read (members_view ms) ≡ Err f)
+fails_member read ms at m front None lt here failed so_far = tt
+fails_member read ms at m front (Some f) lt here failed so_far =
+    let rest : drop at ms ≡ m ∷ drop (at + 1) ms = member_at ms at m lt here in
+    let one : with_front front (each_member read (members_view (drop at ms))) ≡ Err f = rw (rest, failed) refl in
     sym so_far ∙ one

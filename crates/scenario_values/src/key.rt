@@ -2,11 +2,11 @@
 
 ghost use Rattle.std.specs.Prelude.{◌≡◌, map};
 ghost use Rattle.orch_base.specs.Gives.{Gives};
-ghost use Rattle.serde_json.specs.View.{members_view};
+ghost use Rattle.scenario_json.specs.View.{members_view};
 ghost use Rattle.scenario_values.specs.Faults.{fault_of, is_key, only_keys};
 
 use crate::fault::{FaultCode, ReadFault, fails, under};
-use serde_json::{Map, Value};
+use scenario_json::Value;
 use std::alloc::Global;
 
 fn is_key(known: &[&str], key: &str) -> bool
@@ -17,15 +17,11 @@ fn is_key(known: &[&str], key: &str) -> bool
 
 /// Nothing, where there is no key but these.
 #[tactic(auto, using(crate::proofs::Unders::gives_under))]
-pub fn only_keys(
-    alloc: Global,
-    members: &Map<String, Value>,
-    known: &[&str],
-) -> Result<(), ReadFault>
-    ensures { Gives (λ _. tt) fault_of result (only_keys (map (λ s. s.now) known.now) (members_view members.now.entries)) }
+pub fn only_keys(alloc: Global, members: &[(&str, Value)], known: &[&str]) -> Result<(), ReadFault>
+    ensures { Gives (λ _. tt) fault_of result (only_keys (map (λ s. s.now) known.now) (members_view members.now)) }
 {
-    for key in members.keys() {
-        if !is_key(known, key.as_str()) {
+    for (key, _) in members {
+        if !is_key(known, key) {
             let unknown: Result<(), ReadFault> = Err(fails(alloc, FaultCode::UnknownKey));
             return under(alloc, key.as_bytes(), unknown);
         }
