@@ -10,8 +10,8 @@ use Rattle.std.specs.declared.cmp.Ordering.TheVariants.{Less, Equal, Greater}
 use Rattle.std.proofs.lemmas.Bool.Decides.{nat_tests}
 use Rattle.std.proofs.lemmas.List.{length_push}
 use Rattle.std.proofs.lemmas.Map.Text.{is_eq-slice_cmp}
-use Rattle.serde_json.specs.declared.value.Value.{Value}
-use Rattle.serde_json.specs.View.{view, items_view}
+use Rattle.scenario_json.specs.declared.value.Value.{Value}
+use Rattle.scenario_json.specs.View.{view, items_view}
 use Rattle.orch_base.specs.Names.{HostPort, same_name, name_cmp}
 use Rattle.orch_base.proofs.SameNames.{same_name_tells}
 use Rattle.scenario_servers.specs.declared.names.NameKey.{NameKey}

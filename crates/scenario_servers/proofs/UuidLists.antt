@@ -1,8 +1,8 @@
 -- UUIDs, listed one after the other.
 use Rattle.std.proofs.Common.{◌≡◌, ℕ, suc, ◌+◌, ◌<◌, List, [], ◌∷◌, ◌++◌, length, get_or, drop, Option, codes, sym, ap, ◌∙◌, append_assoc, add-one, drop-cons}
-use Rattle.serde_json.specs.declared.value.Value.{Value}
+use Rattle.scenario_json.specs.declared.value.Value.{Value}
 use Rattle.serde_json.specs.Find.{get}
-use Rattle.serde_json.specs.View.{view, items_view}
+use Rattle.scenario_json.specs.View.{view, items_view}
 use Rattle.scenario_servers.specs.Names.{uuid_at, read_uuid, listed_uuids}
 
 -- the servers before `at` are listed

@@ -7,9 +7,9 @@ use Rattle.std.specs.Option.{option_or}
 use Rattle.std.specs.Ordering.{is_eq, nat_cmp}
 use Rattle.std.proofs.lemmas.Bool.Decides.{nat_tests}
 use Rattle.std.proofs.lemmas.List.{length_push}
-use Rattle.serde_json.specs.declared.value.Value.{Value}
+use Rattle.scenario_json.specs.declared.value.Value.{Value}
 use Rattle.serde_json.specs.Find.{get as key_at}
-use Rattle.serde_json.specs.View.{view, items_view}
+use Rattle.scenario_json.specs.View.{view, items_view}
 use Rattle.scenario_servers.specs.Names.{has_uuid, listed_uuids, read_uuid, uuid_at}
 use Rattle.scenario_servers.specs.UuidTable.{AddsUuid, IsUuidTable, first_with, is_before}
 use Rattle.scenario_servers.proofs.UuidLists.{IsUuidsTo, next_uuid}

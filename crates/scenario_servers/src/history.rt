@@ -2,7 +2,7 @@
 
 ghost use Rattle.std.specs.Prelude.{◌≡◌, nat_le};
 ghost use Rattle.orch_base.specs.Gives.{Gives};
-ghost use Rattle.serde_json.specs.View.{view, items_view};
+ghost use Rattle.scenario_json.specs.View.{view, items_view};
 ghost use Rattle.scenario_values.specs.Faults.{fault_of, holds, under_item, each, item_count};
 ghost use Rattle.scenario_values.specs.Values.{number_in, whole_in};
 ghost use Rattle.scenario_values.specs.declared.fault.FaultCode.TheVariants.{BadNumber};
@@ -12,13 +12,16 @@ ghost use Rattle.scenario_servers.specs.Servers.{three_of, part_in, history_in, 
 use crate::names::{Names, server_named};
 use openings::{Counts, Part, Parts};
 use orch_base::ServerNo;
+use scenario_json::Value;
 use scenario_values::{
     FaultCode, ReadFault, fails, holds, items_in, number_in, under_item, whole_in,
 };
-use serde_json::Value;
 use std::alloc::Global;
 
-fn three_of(alloc: Global, items: &[Value]) -> Result<(&Value, &Value, &Value), ReadFault>
+fn three_of<'a, 'v>(
+    alloc: Global,
+    items: &'v [Value<'a>],
+) -> Result<(&'v Value<'a>, &'v Value<'a>, &'v Value<'a>), ReadFault>
     ensures { Gives (λ t. (view t.0.now, view t.1.now, view t.2.now)) fault_of result (three_of (items_view items.now)) }
 {
     if items.len() != 3 {

@@ -2,7 +2,7 @@
 
 ghost use Rattle.std.specs.Prelude.{◌≡◌, ◌+◌, ◌<◌, codes};
 ghost use Rattle.orch_base.specs.Gives.{Gives};
-ghost use Rattle.serde_json.specs.View.{view};
+ghost use Rattle.scenario_json.specs.View.{view};
 ghost use Rattle.scenario_values.specs.Faults.{fault_of, needed, optional};
 ghost use Rattle.scenario_values.specs.Values.{number_in};
 ghost use Rattle.scenario_servers.specs.Names.{own_name};
@@ -12,8 +12,8 @@ use crate::given::Identity;
 use crate::names::{Names, own_name};
 use crate::uuids::{Uuids, own_uuid};
 use orch_base::{Name, Version};
+use scenario_json::Value;
 use scenario_values::{FaultCode, ReadFault, fails, maybe_label, number_in, under, version_at};
-use serde_json::Value;
 use std::alloc::Global;
 
 /// The version of a server that gives none.

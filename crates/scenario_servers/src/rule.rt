@@ -2,14 +2,14 @@
 
 ghost use Rattle.std.specs.Prelude.{◌≡◌};
 ghost use Rattle.orch_base.specs.Gives.{Gives};
-ghost use Rattle.serde_json.specs.View.{view};
+ghost use Rattle.scenario_json.specs.View.{view};
 ghost use Rattle.scenario_values.specs.Faults.{fault_of, maybe};
 ghost use Rattle.scenario_servers.specs.Rules.{rule_in};
 
 use commands::rule_at;
 use orch_base::Rule;
+use scenario_json::Value;
 use scenario_values::{FaultCode, ReadFault, fails, text_in, under};
-use serde_json::Value;
 use std::alloc::Global;
 
 #[tactic(auto, unfolding(crate::specs::Rules::rule_in))]

@@ -2,7 +2,7 @@
 
 ghost use Rattle.std.specs.Prelude.{◌≡◌, ◌<◌, [], false, map, codes};
 ghost use Rattle.orch_base.specs.Gives.{Gives};
-ghost use Rattle.serde_json.specs.View.{view, items_view, members_view};
+ghost use Rattle.scenario_json.specs.View.{view, items_view, members_view};
 ghost use Rattle.scenario_values.specs.Faults.{fault_of, only_keys, optional, maybe};
 ghost use Rattle.scenario_values.specs.Values.{number_in, short_in};
 ghost use Rattle.scenario_servers.specs.Names.{server_named};
@@ -16,11 +16,11 @@ use crate::rule::maybe_rule;
 use crate::uuids::Uuids;
 use openings::{Counts, Parts};
 use orch_base::{OwnedText, ServerNo};
+use scenario_json::Value;
 use scenario_values::{
     FaultCode, ReadFault, bool_at, bool_in, fails, maybe_bool, maybe_coord, members_in, number_at,
     only_keys, short_in, under, whole_at,
 };
-use serde_json::{Map, Value};
 use std::alloc::Global;
 
 fn has_source(object: &Value) -> bool
@@ -180,8 +180,8 @@ const SERVER_KEYS: [&str; 26] = [
     "until",
 ];
 
-fn known_keys(alloc: Global, object: &Value, members: &Map<String, Value>) -> Result<(), ReadFault>
-    ensures { Gives (λ _. tt) fault_of result (only_keys (server_keys (view object.now)) (members_view members.now.entries)) }
+fn known_keys(alloc: Global, object: &Value, members: &[(&str, Value)]) -> Result<(), ReadFault>
+    ensures { Gives (λ _. tt) fault_of result (only_keys (server_keys (view object.now)) (members_view members.now)) }
 {
     if has_source(object) {
         only_keys(alloc, members, &SERVER_KEYS)

@@ -1,5 +1,5 @@
 use Rattle.std.proofs.Common.{◌≡◌, true, false, rules}
-use Rattle.serde_json.specs.View.{view}
+use Rattle.scenario_json.specs.View.{view}
 use Rattle.scenario_servers.specs.Servers.{has_source}
 use Rattle.scenario_servers.proofs.server.known_keys.Goals as goal
 
