@@ -4,15 +4,15 @@ ghost use Rattle.std.specs.Prelude.{◌≡◌};
 ghost use Rattle.orch_base.specs.Gives.{Gives};
 ghost use Rattle.scenario_turns.specs.Commands.{name_in, given_in, parts_of, command_in};
 ghost use Rattle.scenario_values.specs.Faults.{fault_of, under_item};
-ghost use Rattle.serde_json.specs.View.{view, items_view};
+ghost use Rattle.scenario_json.specs.View.{view, items_view};
 
 use crate::keys::given_in;
 use crate::patterns::Patterns;
 use command_routes::Route;
 use commands::{CommandName, CommandTurn};
+use scenario_json::Value;
 use scenario_servers::Names;
 use scenario_values::{FaultCode, ReadFault, fails, holds, text_in, under_item};
-use serde_json::Value;
 use std::alloc::Global;
 
 #[tactic(auto, unfolding(crate::specs::Commands::name_in))]
@@ -47,7 +47,10 @@ fn given_at(
     under_item(alloc, 2, given_in(alloc, names, patterns, name, value))
 }
 
-fn parts_of(alloc: Global, rest: &[Value]) -> Result<(&Value, &Value), ReadFault>
+fn parts_of<'a, 'v>(
+    alloc: Global,
+    rest: &'v [Value<'a>],
+) -> Result<(&'v Value<'a>, &'v Value<'a>), ReadFault>
     ensures { Gives (λ p. (view p.0.now, view p.1.now)) fault_of result (parts_of (items_view rest.now)) }
 {
     if rest.len() != 2 {

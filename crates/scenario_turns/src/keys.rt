@@ -6,16 +6,16 @@ ghost use Rattle.scenario_turns.specs.Commands.{duration_in, pattern_in, instanc
 ghost use Rattle.scenario_servers.specs.Names.{server_named};
 ghost use Rattle.scenario_values.specs.Faults.{fault_of, maybe};
 ghost use Rattle.scenario_values.specs.Values.{short_in};
-ghost use Rattle.serde_json.specs.View.{view};
+ghost use Rattle.scenario_json.specs.View.{view};
 
 use crate::patterns::Patterns;
 use commands::{Command, CommandName, CommandTurn, Found, Keys, seconds_at};
 use orch_base::{OwnedText, ServerNo};
+use scenario_json::Value;
 use scenario_servers::{Names, maybe_rule, server_named};
 use scenario_values::{
     FaultCode, ReadFault, fails, holds, members_in, only_keys, short_in, text_in, under,
 };
-use serde_json::Value;
 use std::alloc::Global;
 
 #[tactic(auto, unfolding(crate::specs::Commands::duration_in))]

@@ -3,8 +3,8 @@
 use crate::pattern::found;
 use commands::{Answers, Found};
 use orch_base::{Memory, OwnedText};
+use scenario_json::Value;
 use scenario_values::ReadFault;
-use serde_json::Value;
 use std::alloc::Global;
 use std::collections::BTreeMap;
 use std::marker::Model;
@@ -28,7 +28,7 @@ impl Model for Patterns {
 }
 
 // The text of the pattern that a listed turn asks for, if it looks like one that does.
-fn asked(turn: &Value) -> Option<&str> {
+fn asked<'a>(turn: &Value<'a>) -> Option<&'a str> {
     turn.as_array()?.get(2)?.get("pattern")?.as_str()
 }
 

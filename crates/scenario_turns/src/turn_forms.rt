@@ -2,7 +2,7 @@
 
 ghost use Rattle.std.specs.Prelude.{◌≡◌};
 ghost use Rattle.orch_base.specs.Gives.{Gives};
-ghost use Rattle.serde_json.specs.View.{view, items_view};
+ghost use Rattle.scenario_json.specs.View.{view, items_view};
 ghost use Rattle.scenario_values.specs.Faults.{fault_of, under_item, each};
 ghost use Rattle.scenario_values.specs.Values.{text_in, number_in};
 ghost use Rattle.scenario_servers.specs.Names.{server_named};
@@ -18,10 +18,10 @@ use crate::expansion::ListedTurn;
 use crate::patterns::Patterns;
 use crate::word::{Word, is_word, word_at};
 use orch_base::ServerNo;
+use scenario_json::Value;
 use scenario_servers::{Names, server_named};
 use scenario_values::{FaultCode, ReadFault, fails, items_in, number_in, text_in, under_item};
 use scenarios::{Act, BoxedCommand, Step, Turn};
-use serde_json::Value;
 use server_words::Link;
 use std::alloc::Global;
 
@@ -39,7 +39,7 @@ fn link_in(alloc: Global, value: &Value) -> Result<Link, ReadFault>
     Err(fails(alloc, FaultCode::BadNumber))
 }
 
-fn one_of(alloc: Global, rest: &[Value]) -> Result<&Value, ReadFault>
+fn one_of<'a, 'v>(alloc: Global, rest: &'v [Value<'a>]) -> Result<&'v Value<'a>, ReadFault>
     ensures { Gives (λ v. view v.now) fault_of result (one_of (items_view rest.now)) }
 {
     if rest.len() != 1 {
@@ -48,7 +48,10 @@ fn one_of(alloc: Global, rest: &[Value]) -> Result<&Value, ReadFault>
     Ok(&rest[0])
 }
 
-fn two_of(alloc: Global, rest: &[Value]) -> Result<(&Value, &Value), ReadFault>
+fn two_of<'a, 'v>(
+    alloc: Global,
+    rest: &'v [Value<'a>],
+) -> Result<(&'v Value<'a>, &'v Value<'a>), ReadFault>
     ensures { Gives (λ p. (view p.0.now, view p.1.now)) fault_of result (two_of (items_view rest.now)) }
 {
     if rest.len() != 2 {
@@ -90,7 +93,7 @@ fn link_at(alloc: Global, value: &Value) -> Result<Link, ReadFault>
 }
 
 #[tactic(auto, using(scenario_values::proofs::Unders::gives_under))]
-fn text_at(alloc: Global, value: &Value) -> Result<&str, ReadFault>
+fn text_at<'a>(alloc: Global, value: &Value<'a>) -> Result<&'a str, ReadFault>
     ensures { Gives (λ s. s.now) fault_of result (under_item 0 (text_in (view value.now))) }
 {
     under_item(alloc, 0, text_in(alloc, value))

@@ -1,5 +1,5 @@
 use Rattle.std.proofs.Common.{◌≡◌, arith, rules}
-use Rattle.serde_json.specs.View.{view}
+use Rattle.scenario_json.specs.View.{view}
 use Rattle.scenario_values.specs.Values.{number_in}
 use Rattle.scenario_servers.proofs.Steps.{number-ok, under-ok}
 use Rattle.scenario_turns.proofs.turn_forms.amount_of.Goals as goal

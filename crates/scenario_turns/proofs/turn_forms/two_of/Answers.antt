@@ -1,6 +1,6 @@
 use Rattle.std.proofs.Common.{◌≡◌, List, [], ◌∷◌, length, refl}
-use Rattle.serde_json.specs.declared.value.Value.{Value}
-use Rattle.serde_json.specs.View.{items_view}
+use Rattle.scenario_json.specs.declared.value.Value.{Value}
+use Rattle.scenario_json.specs.View.{items_view}
 use Rattle.scenario_values.specs.declared.fault.FaultCode.TheVariants.{BadTurn}
 use Rattle.scenario_values.specs.Faults.{fails}
 use Rattle.scenario_turns.specs.Turns.{two_of}
