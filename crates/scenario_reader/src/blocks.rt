@@ -2,13 +2,13 @@
 
 ghost use Rattle.std.specs.Prelude.{◌≡◌};
 ghost use Rattle.orch_base.specs.Gives.{Gives};
-ghost use Rattle.serde_json.specs.View.{view, members_view};
+ghost use Rattle.scenario_json.specs.View.{view, members_view};
 ghost use Rattle.scenario_values.specs.Faults.{fault_of, under as place_under, each_member};
 ghost use Rattle.scenario_reader.specs.Blocks.{block_in, blocks_in};
 
+use scenario_json::Value;
 use scenario_values::{ReadFault, label_or_fails, members_in, number_in, under};
 use scenarios::{Block, Blocks};
-use serde_json::{Map, Value};
 use std::alloc::Global;
 
 #[tactic(auto, unfolding(crate::specs::Blocks::block_in))]
@@ -27,12 +27,12 @@ fn block_at(alloc: Global, label: &str, value: &Value) -> Result<Block, ReadFaul
     under(alloc, label.as_bytes(), block_in(alloc, label, value))
 }
 
-fn blocks_from(alloc: Global, members: &Map<String, Value>) -> Result<Vec<Block>, ReadFault>
-    ensures { Gives (λ v. v.items) fault_of result (each_member block_in (members_view members.now.entries)) }
+fn blocks_from(alloc: Global, members: &[(&str, Value)]) -> Result<Vec<Block>, ReadFault>
+    ensures { Gives (λ v. v.items) fault_of result (each_member block_in (members_view members.now)) }
 {
     let mut blocks = Vec::new(alloc);
     for (label, value) in members {
-        blocks.push(block_at(alloc, label.as_str(), value)?)?;
+        blocks.push(block_at(alloc, label, value)?)?;
     }
     Ok(blocks)
 }

@@ -2,7 +2,7 @@
 
 ghost use Rattle.std.specs.Prelude.{◌≡◌, [], codes, IfOk};
 ghost use Rattle.orch_base.specs.Gives.{Gives};
-ghost use Rattle.serde_json.specs.View.{view};
+ghost use Rattle.scenario_json.specs.View.{view};
 ghost use Rattle.scenario_values.specs.Faults.{fault_of, needed, optional};
 ghost use Rattle.scenario_filters.specs.Aliases.{aliases_in};
 ghost use Rattle.scenario_filters.specs.Filters.{filters_in, no_filters, AreRead};
@@ -11,11 +11,11 @@ ghost use Rattle.scenario_reader.specs.Scenarios.{is_one, one_in, is_there, keys
 
 use crate::blocks::blocks_in;
 use scenario_filters::{FilterTexts, aliases_in, filters_in, no_filters};
+use scenario_json::Value;
 use scenario_values::{
     FaultCode, ReadFault, bool_at, fails, holds, members_in, number_at, only_keys, under,
 };
 use scenarios::{Aliases, Blocks, Hooks};
-use serde_json::Value;
 use std::alloc::Global;
 
 /// What stands before the servers: when the scenario begins, whether it uses GTIDs, which transactions are marks, how

@@ -3,7 +3,7 @@
 ghost use Rattle.std.specs.Prelude.{◌≡◌, ◌+◌, ◌≤◌, ℕ, List, [], Some, Ok, IfOk, codes, count_by, length};
 ghost use Rattle.orch_base.specs.Gives.{Gives};
 ghost use Rattle.serde_json.specs.Data.{no_items};
-ghost use Rattle.serde_json.specs.View.{view, items_view};
+ghost use Rattle.scenario_json.specs.View.{view, items_view};
 ghost use Rattle.scenarios.specs.declared.scenario.Scenario.{Scenario as AScenario};
 ghost use Rattle.scenarios.specs.Scenarios.{IsScenario};
 ghost use Rattle.scenarios.specs.Turns.{is_write};
@@ -22,12 +22,12 @@ use crate::head::{Head, head_in, keys_in};
 use openings::ServerInit;
 use orch_base::{MAX_SCENARIO_LEN, Moment, ServerNo};
 use scenario_filters::answered;
+use scenario_json::{Arena, JsonFault, Value};
 use scenario_openings::{listed_count, opening_in};
 use scenario_servers::{Listed, Names, inits_of, known_of, rules_of, servers_in};
 use scenario_turns::{ListedTurn, Patterns, are_few, each_turn, expanded, in_order, printed_of};
 use scenario_values::{FaultCode, ReadFault, fails, holds, items_in, under};
 use scenarios::{Answers, Rules, Scenario, Step, Turn, Turns};
-use serde_json::Value;
 use std::alloc::Global;
 
 const MOST: u64 = 4_000_000;
@@ -156,7 +156,7 @@ fn servers_at(alloc: Global, gtid: bool, object: &Value) -> Result<Listed, ReadF
 }
 
 #[tactic(auto, using(scenario_values::proofs::Unders::gives_under))]
-fn listed_turns(alloc: Global, object: &Value) -> Result<&[Value], ReadFault>
+fn listed_turns<'a>(alloc: Global, object: &Value<'a>) -> Result<&'a [Value<'a>], ReadFault>
     ensures { Gives (λ v. items_view v.now) fault_of result
         (optional (codes "turns") items_in no_items (view object.now)) }
 {
@@ -180,18 +180,13 @@ fn scenario_from(alloc: Global, value: &Value) -> Result<Scenario, ReadFault>
     scenario_with(alloc, head, listed, items)
 }
 
-fn json_in(alloc: Global, bytes: &[u8]) -> Result<Value, ReadFault>
+fn json_in<'a>(alloc: Global, bytes: &'a [u8], arena: &'a mut Arena) -> Result<Value<'a>, ReadFault>
     ensures { Gives view fault_of result (json_in bytes.now) }
 {
-    match Value::from_slice(alloc, bytes) {
+    match Value::from_slice(alloc, bytes, arena) {
         Ok(value) => Ok(value),
-        Err(e) => {
-            if e.is_memory() {
-                Err(ReadFault::Memory)
-            } else {
-                Err(fails(alloc, FaultCode::NotJson))
-            }
-        }
+        Err(JsonFault::NotJson) => Err(fails(alloc, FaultCode::NotJson)),
+        Err(JsonFault::Memory) => Err(ReadFault::Memory),
     }
 }
 
@@ -207,7 +202,8 @@ fn scenario_in(alloc: Global, bytes: &[u8]) -> Result<Scenario, ReadFault>
     ensures { Gives (λ s. s) fault_of result (scenario_in bytes.now) }
 {
     holds(alloc, FaultCode::TooLong, bytes.len() <= MAX_SCENARIO_LEN)?;
-    let value = json_in(alloc, bytes)?;
+    let mut arena = Arena::new(alloc);
+    let value = json_in(alloc, bytes, &mut arena)?;
     scenario_from(alloc, &value)
 }
 

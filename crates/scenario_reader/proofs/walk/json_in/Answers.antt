@@ -1,4 +1,4 @@
-use Rattle.std.proofs.Common.{◌≡◌, ◌∙◌, ℕ, Bool, true, false, cond, List, None, refl, sym}
+use Rattle.std.proofs.Common.{◌≡◌, ◌∙◌, ap, Err, ℕ, Bool, true, false, cond, List, None, refl, sym}
 use Rattle.std.specs.Str.{IsUtf8, is_utf8}
 use Rattle.std.proofs.lemmas.Bool.{false≢true}
 use Rattle.std.proofs.lemmas.Str.{is_utf8-from_IsUtf8, IsUtf8-from_is_utf8}
@@ -14,8 +14,6 @@ none_at false bytes is none = refl
 pub returns-in-Ok : goal.returns-in-Ok
 returns-in-Ok c = rw (is_utf8-from_IsUtf8 _ c.in-Ok.ensures.ok.0, c.in-Ok.ensures.ok.1) refl
 
-pub returns-else-is_memory : goal.returns-else-is_memory
-returns-else-is_memory c =
-    rw c.fails.ensures
-    (none_at (is_utf8 c.args.bytes.now) c.args.bytes.now refl
-    (c.in-Err.ensures.err (λ m. false≢true (sym c.if-is_memory.false ∙ c.is_memory.ensures.1 m))))
+pub returns-in-Err-NotJson : goal.returns-in-Err-NotJson
+returns-in-Err-NotJson c =
+    rw c.fails.ensures (none_at (is_utf8 c.args.bytes.now) c.args.bytes.now refl (c.from_slice.ensures.err (c.in-Err-NotJson.is ∙ ap Err c.in-Err-NotJson.field-0-is)))

@@ -1,5 +1,5 @@
 use Rattle.std.specs.Prelude.{codes}
-use Rattle.serde_json.specs.View.{view}
+use Rattle.scenario_json.specs.View.{view}
 use Rattle.scenario_servers.specs.Servers.{servers_in}
 use Rattle.scenario_servers.proofs.Reading.{read_given}
 use Rattle.scenario_servers.proofs.Steps.{needed-ok}
