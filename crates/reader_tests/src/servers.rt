@@ -9,7 +9,7 @@ use orch_base::{Rule, ServerNo, Version};
 use scenario_openings::opening_in;
 use scenario_servers::{Given, inits_of, known_of, rules_of, servers_in};
 use scenario_values::{FaultCode, ReadFault};
-use serde_json::Value;
+use scenario_json::{Arena, Value};
 use std::alloc::Global;
 
 const TWO: &str =
@@ -62,7 +62,8 @@ fn are_default(master: &Given, replica: &Given) -> bool {
 
 // Whether the two servers of `TWO` have what is given, or else what stands for it.
 fn have_defaults(alloc: Global) -> Result<bool, ReadFault> {
-    let Ok(value) = Value::from_str(alloc, TWO) else {
+    let mut arena = Arena::new(alloc);
+    let Ok(value) = Value::from_slice(alloc, TWO.as_bytes(), &mut arena) else {
         return Ok(false);
     };
     let given = servers_in(alloc, true, &value)?.given;
@@ -105,7 +106,8 @@ fn are_labelled(servers: &[ServerInit], label: &str) -> bool {
 
 // How many servers the opening of these has, all of the cluster of `m`.
 fn opened(alloc: Global, text: &str) -> Result<usize, ReadFault> {
-    let Ok(value) = Value::from_str(alloc, text) else {
+    let mut arena = Arena::new(alloc);
+    let Ok(value) = Value::from_slice(alloc, text.as_bytes(), &mut arena) else {
         return Ok(0);
     };
     let inits = inits_of(alloc, servers_in(alloc, false, &value)?.given)?;
