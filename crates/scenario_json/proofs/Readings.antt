@@ -1,5 +1,6 @@
 -- The grammar's loops, a turn at a time, under the conversion to data.
-use Rattle.std.proofs.Common.{◌≡◌, ℕ, zero, suc, ◌-◌, ◌<◌, ◌≤◌, List, [], ◌∷◌, ◌++◌, length, Option, Some, None, option_map, option_and_then, refl, ap, ◌∙◌}
+use Rattle.std.proofs.Common.{◌≡◌, ℕ, zero, suc, ◌-◌, ◌<◌, ◌≤◌, List, [], ◌∷◌, ◌++◌, length, Option, Some, None, option_map, option_and_then, take, drop, refl, ap, ◌∙◌, arith, take_all, length-drop}
+use Rattle.std.proofs.Math.Seq.{drop-append_seam, take-append_seam}
 use Rattle.json.specs.Token.{Token}
 use Rattle.json.specs.Json as json
 use Rattle.json.specs.Json.{Parse, parse_map, after_end_array, read_key, items_step, items, members, if_last}
@@ -115,6 +116,13 @@ one_more_item vs v (Some p) = ap (λ ds. Some (ds, p.1)) (items_push vs v p.0)
 pub none_before : (r : Option (Items × List Token)) → r ≡ parse_map (λ a. a) r
 none_before None = refl
 none_before (Some p) = refl
+
+-- what stands above `start`, and what stands below it
+pub above : (before found all : List Value) (start : ℕ) → all ≡ before ++ found → start ≡ length before → take (length all - start) (drop start all) ≡ found
+above before found all start e s = take_all (length all - start) (drop start all) (omega (arith, length-drop start all)) ∙ rw (e, s) (drop-append_seam before found)
+
+pub below : (before found all : List Value) (start : ℕ) → all ≡ before ++ found → start ≡ length before → take start all ≡ before
+below before found all start e s = rw (e, s) (take-append_seam before found)
 
 -- ---- the whole text
 

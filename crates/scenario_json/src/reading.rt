@@ -96,8 +96,9 @@ fn read_all<'a>(alloc: Global, text: &'a str, arena: &'a mut Arena) -> Result<Va
     ensures err { result ≡ Err JsonFault.NotJson → read_text text.now ≡ None }
 {
     let bump = &arena.bump;
+    let mut stack = Vec::new(alloc);
     let mut reader = Reader::new(text, &mut arena.scratch)?;
-    let value = read(alloc, bump, &mut reader, MAX_DEPTH)?;
+    let value = read(alloc, bump, &mut stack, &mut reader, MAX_DEPTH)?;
     if reader.next().is_some() {
         return Err(JsonFault::NotJson);
     }
@@ -124,11 +125,13 @@ fn listed<'a>(
 fn read<'a>(
     alloc: Global,
     bump: &'a Bump,
+    stack: &mut Vec<Value<'a>>,
     reader: &mut Reader<'a>,
     depth: usize,
 ) -> Result<Value<'a>, JsonFault>
     ensures ok { IfOk result
         (λ v. converted of_json (value depth reader.old) ≡ Some (view v, reader.new)) }
+    ensures kept { OnOk result (stack.new.items ≡ stack.old.items) }
     ensures shorter { OnOk result (length reader.new < length reader.old) }
     ensures err { result ≡ Err JsonFault.NotJson → converted of_json (value depth reader.old) ≡ None }
 {
@@ -146,38 +149,43 @@ fn read<'a>(
             if depth == 0 {
                 return Err(JsonFault::NotJson);
             }
-            Ok(Value::Array(read_items(alloc, bump, reader, depth - 1)?))
+            Ok(Value::Array(read_items(alloc, bump, stack, reader, depth - 1)?))
         }
         Token::BeginObject => {
             if depth == 0 {
                 return Err(JsonFault::NotJson);
             }
-            Ok(Value::Object(read_members(alloc, bump, reader, depth - 1)?))
+            Ok(Value::Object(read_members(alloc, bump, stack, reader, depth - 1)?))
         }
     }
 }
 
+// The items stand at the end of the stack until the array ends.
 #[cycle(read)]
 #[inline(never)]
 fn read_items<'a>(
     alloc: Global,
     bump: &'a Bump,
+    stack: &mut Vec<Value<'a>>,
     reader: &mut Reader<'a>,
     depth: usize,
 ) -> Result<&'a [Value<'a>], JsonFault>
     ensures ok { IfOk result
         (λ v. converted of_items (items (value depth) (length reader.old) reader.old)
         ≡ Some (items_view v.now, reader.new)) }
+    ensures kept { OnOk result (stack.new.items ≡ stack.old.items) }
     ensures shorter { OnOk result (length reader.new < length reader.old) }
     ensures err { result ≡ Err JsonFault.NotJson
         → converted of_items (items (value depth) (length reader.old) reader.old) ≡ None }
 {
-    let mut found = Vec::new(alloc);
+    let start = stack.len();
     'items: while !reader.take_end_array() {
-        let item = read(alloc, bump, reader, depth)?;
-        found.push(item)?;
+        let item = read(alloc, bump, stack, reader, depth)?;
+        stack.push(item)?;
     }
-    Ok(bump.try_alloc_slice_copy(&found)?)
+    let items = bump.try_alloc_slice_copy(&stack[start..])?;
+    stack.truncate(start);
+    Ok(items)
 }
 
 #[cycle(read)]
@@ -185,6 +193,7 @@ fn read_items<'a>(
 fn read_members<'a>(
     alloc: Global,
     bump: &'a Bump,
+    stack: &mut Vec<Value<'a>>,
     reader: &mut Reader<'a>,
     depth: usize,
 ) -> Result<&'a [(&'a str, Value<'a>)], JsonFault>
@@ -192,6 +201,7 @@ fn read_members<'a>(
         (λ m. converted (λ ms. of_members ms no_members)
         (members (value depth) (length reader.old) reader.old)
         ≡ Some (members_view m.now, reader.new)) }
+    ensures kept { OnOk result (stack.new.items ≡ stack.old.items) }
     ensures shorter { OnOk result (length reader.new < length reader.old) }
     ensures err { result ≡ Err JsonFault.NotJson
         → converted (λ ms. of_members ms no_members)
@@ -199,7 +209,7 @@ fn read_members<'a>(
 {
     let mut found = BTreeMap::new(alloc);
     'members: while let Some(key) = reader.next_key()? {
-        let member = read(alloc, bump, reader, depth)?;
+        let member = read(alloc, bump, stack, reader, depth)?;
         found.insert(key, member)?;
     }
     Ok(listed(alloc, bump, &found)?)

@@ -1,4 +1,4 @@
-use Rattle.std.proofs.Common.{◌≡◌, ◌-◌, ◌<◌, [], ◌∷◌, length, Some, None, sym, ap, ap₂, ◌∙◌, arith, rules}
+use Rattle.std.proofs.Common.{◌≡◌, ◌-◌, ◌<◌, [], ◌∷◌, ◌++◌, refl, append-nil, append_assoc, length, Some, None, sym, ap, ap₂, ◌∙◌, arith, rules}
 use Rattle.json.specs.Token.{Token}
 use Rattle.json.specs.Json.{parse_map, after_end_array, read_key, items, members, value}
 use Rattle.json.specs.Reads.{token_of}
@@ -9,7 +9,7 @@ use Rattle.serde_json.specs.View.{number_view}
 use Rattle.scenario_json.specs.View.{view, items_view, members_view}
 use Rattle.scenario_json.specs.declared.value.Value.{String, Number, Bool, Null, the_lemmas}
 use Rattle.scenario_json.proofs.Views.{view-Array, view-Object, members_view-insert_entry}
-use Rattle.scenario_json.proofs.Readings.{converted-array, converted-object, item_read, item_refused, items_over, member_read, member_refused, key_refused, members_over, items_before, items_before-no_items, one_more_item, none_before}
+use Rattle.scenario_json.proofs.Readings.{above, below, converted-array, converted-object, item_read, item_refused, items_over, member_read, member_refused, key_refused, members_over, items_before, items_before-no_items, one_more_item, none_before}
 use Rattle.scenario_json.proofs.reading.+read.Goals as goal
 
 pub read-returns-in_err-token-clause-err : goal.read-returns-in_err-token-clause-err
@@ -100,7 +100,7 @@ read-returns-in_ok-read_members-in-BeginObject-clause-ok t c =
 pub read_items-items-init : goal.read_items-items-init
 read_items-items-init t c =
     let all = converted of_items (items (value c.args.depth) (length c.args.reader.now) c.args.reader.now) in
-    (length c.args.reader.now, omega arith, none_before all ∙ ap (λ vs. parse_map (items_before vs) all) (sym c.new-found.ensures.items), omega arith)
+    (length c.args.reader.now, omega arith, ([], sym (append-nil c.args.stack.now.items), none_before all), omega arith)
 
 pub read_items-returns-in_err-item-clause-err : goal.read_items-returns-in_err-item-clause-err
 read_items-returns-in_err-item-clause-err t c refused =
@@ -108,23 +108,24 @@ read_items-returns-in_err-item-clause-err t c refused =
     let l = c.items in
     let n = l.invariant.0 in
     let going : (after_end_array l.reader ≡ None) × (c.take_end_array.new.self ≡ l.reader) = grind arith in
-    l.invariant.2 ∙ ap (parse_map (items_before l.found.items)) (item_refused p n l.reader going.0 (rw (← going.1) (c.read.ensures.err (grind arith))))
+    l.invariant.2.2 ∙ ap (parse_map (items_before l.invariant.2.0)) (item_refused p n l.reader going.0 (rw (← going.1) (c.read.ensures.err (grind arith))))
 
 pub read_items-items-preserved : goal.read_items-items-preserved
 read_items-items-preserved t c =
     let p = value c.args.depth in
     let l = c.items in
     let n = l.invariant.0 in
+    let found = l.invariant.2.0 in
     let going : (after_end_array l.reader ≡ None) × (c.take_end_array.new.self ≡ l.reader) = grind arith in
     let done = c.in_ok-item.ensures in
     let v = c.in_ok-item.item in
     let r = c.read.new.reader in
     let less : length r < length l.reader = rw (← going.1) done.shorter in
-    let turn = item_read p n l.reader r (view v) (omega (arith, l.invariant.1)) going.0 (rw (← going.1) done.ok) in (
+    let turn = item_read p n l.reader r (view v) (omega (arith, l.invariant.1)) going.0 (rw (← going.1) done.ok) in
+    let pushed = c.in_ok-push.ensures.items ∙ ap (λ vs. vs ++ v ∷ []) (done.kept ∙ l.invariant.2.1) ∙ append_assoc c.args.stack.now.items found (v ∷ []) in (
       n - 1,
       omega (arith, l.invariant.1),
-      l.invariant.2 ∙ ap (parse_map (items_before l.found.items)) turn ∙ one_more_item l.found.items v _
-          ∙ ap (λ vs. parse_map (items_before vs) (converted of_items (items p (n - 1) r))) (sym c.in_ok-push.ensures.items),
+      (found ++ v ∷ [], pushed, l.invariant.2.2 ∙ ap (parse_map (items_before found)) turn ∙ one_more_item found v _),
       omega (arith, l.invariant.3),
     )
 
@@ -133,13 +134,22 @@ read_items-returns-clause-ok t c =
     let p = value c.args.depth in
     let l = c.items in
     let n = l.invariant.0 in
+    let found = l.invariant.2.0 in
     let r = c.take_end_array.new.self in
-    l.invariant.2 ∙ ap (parse_map (items_before l.found.items)) (items_over p n l.reader r l.invariant.1 (grind arith)) ∙ ap (λ ds. Some (ds, r)) (items_before-no_items l.found.items ∙ ap items_view (sym (c.in_ok-try_alloc_slice_copy.ensures ∙ c.deref.ensures.value)))
+    let start : c.len-start.result ≡ length c.args.stack.now.items = search rules in
+    let left : c.in_ok-items.items.now ≡ found =
+    c.in_ok-items.ensures ∙ rw (← c.deref.ensures.value) at (above c.args.stack.now.items found l.stack.items c.len-start.result l.invariant.2.1 start) in
+    l.invariant.2.2 ∙ ap (parse_map (items_before found)) (items_over p n l.reader r l.invariant.1 (grind arith)) ∙ ap (λ ds. Some (ds, r)) (items_before-no_items found ∙ ap items_view (sym left))
+
+pub read_items-returns-clause-kept : goal.read_items-returns-clause-kept
+read_items-returns-clause-kept t c =
+    let start : c.len-start.result ≡ length c.args.stack.now.items = search rules in
+    c.truncate.ensures.items ∙ below c.args.stack.now.items c.items.invariant.2.0 c.items.stack.items c.len-start.result c.items.invariant.2.1 start
 
 pub read_members-members-init : goal.read_members-members-init
 read_members-members-init t c =
     let all = members (value c.args.depth) (length c.args.reader.now) c.args.reader.now in
-    (length c.args.reader.now, omega arith, ap (λ es. converted (λ ms. of_members ms (members_view es)) all) (sym c.new-found.ensures.empty), omega arith)
+    (length c.args.reader.now, omega arith, ap (λ es. converted (λ ms. of_members ms (members_view es)) all) (sym c.new-found.ensures.empty), omega arith, refl)
 
 pub read_members-returns-in_err-key-clause-err : goal.read_members-returns-in_err-key-clause-err
 read_members-returns-in_err-key-clause-err t c refused =
@@ -181,6 +191,7 @@ read_members-members-preserved t c =
       l.invariant.2 ∙ member_read p old n k l.reader s r (view v) (omega (arith, l.invariant.1)) named done.ok
           ∙ ap (λ found. converted (λ ms. of_members ms found) (members p (n - 1) r)) (sym inserted),
       omega (arith, l.invariant.3),
+      done.kept ∙ l.invariant.4,
     )
 
 pub read_members-returns-clause-ok : goal.read_members-returns-clause-ok
