@@ -6,10 +6,10 @@ ghost use Rattle.scenario_servers.specs.Openings.{IsGiven};
 use made_openings::{are_apart, are_servers};
 use openings::ServerInit;
 use orch_base::{Rule, ServerNo, Version};
+use scenario_json::{Arena, Value};
 use scenario_openings::opening_in;
 use scenario_servers::{Given, inits_of, known_of, rules_of, servers_in};
 use scenario_values::{FaultCode, ReadFault};
-use scenario_json::{Arena, Value};
 use std::alloc::Global;
 
 const TWO: &str =

@@ -2,11 +2,11 @@
 
 use binlog_coords::Coord;
 use orch_base::Version;
+use scenario_json::{Arena, Value};
 use scenario_values::{
     FaultCode, ReadFault, coord_in, fails, items_in, label_in, name_in, number_in, short_in,
     text_within, under, uuid_in, version_in,
 };
-use scenario_json::{Arena, Value};
 use std::alloc::Global;
 
 const VALUES: &str =
