@@ -4,5 +4,6 @@ pub mod Beginning
 pub mod Begun
 pub mod BegunGtid
 pub mod Numbered
+pub mod ByKept
 pub mod PlansOf
 pub mod PlansOfGtid

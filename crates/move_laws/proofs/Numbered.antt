@@ -19,10 +19,11 @@ use Rattle.command_routes.specs.declared.kinds.CoordsCommand.TheVariants as comm
 use Rattle.moves_gtid.specs.Permits.{row_of as gtid_row_of}
 use Rattle.command_routes.specs.declared.kinds.GtidCommand.{GtidCommand}
 use Rattle.command_routes.specs.declared.kinds.GtidCommand.TheVariants as gtid
-use Rattle.permission.specs.Checks.{Case, are_one, busy, busy_by, errant, errant_by, is_given, of_below, of_lower_version, of_other_cluster, of_same_id, refusal_by, unreached, without_log}
+use Rattle.permission.specs.Checks.{Case, are_one, busy, busy_by, errant, errant_by, is_given, of_below, of_lower_version, of_other_cluster, of_same_id, place_purged, purged_under, refusal_by, set_purged, unreached, without_log}
+use Rattle.operations.specs.Turns.{is_within}
 use Rattle.permission.specs.Errants.{own_missing}
 use Rattle.permission.specs.Lists.{first_about, only_if}
-use Rattle.permission.specs.Views.{attached_of, has_log, is_attached_in, is_below, is_detached_in, is_lower, is_valid, same_id, same_label, set_seen, source_of, uuid_of}
+use Rattle.permission.specs.Views.{attached_of, exec_seen, first_seen, has_log, is_attached_in, is_below, is_detached_in, is_lower, is_valid, purged_seen, same_id, same_label, set_seen, source_of, uuid_of}
 use Rattle.permission.specs.declared.case.Check.{Check}
 use Rattle.permission.specs.declared.case.Check.TheVariants as check
 use Rattle.server_model.specs.Worlds.{World}
@@ -53,6 +54,10 @@ of-errant : (xs : List Interval) (r : Refusal) → errant_by xs ≡ Some r → H
 of-errant [] r h = cc
 of-errant (x ∷ xs) r h = subst (Has 18) (same_Some (refusal.Errant (x ∷ xs)) r h) refl
 
+of-place : (b : BookState) (n : ServerNo) (o : Option ServerNo) (r : Refusal) → purged_under b n o ≡ Some r → Has 30 r
+of-place b n None r h = cc
+of-place b n (Some s) r h = of-test 30 (nat_lt (exec_seen b n).file (first_seen b s)) (refusal.Purged s (first_seen b s)) r refl h
+
 pub check-number : (w : World) (b : BookState) (c : Case) (k : Check) (r : Refusal) → refusal_by w b c k ≡ Some r → Has (check_number k) r
 check-number w b c check.SameInstance r h = of-test 3 (is_given c.i c.to) refusal.SameInstance r refl h
 check-number w b c check.Busy r h = of-list 4 (busy b) c.leased r (λ n s. of-busy n (lease_at b n) s) h
@@ -71,6 +76,10 @@ check-number w b c check.VersionLower r h = of-list 16 (of_lower_version w) c.mo
 check-number w b c check.GtidOff r h = of-test 17 (not w.gtid) refusal.GtidOff r refl h
 check-number w b c check.Errant r h =
     of-list 18 (errant w b) c.moves r (λ m s. of-errant (own_missing (uuid_of w m.no) (set_seen b m.no) (set_seen b m.source)) s) h
+check-number w b c check.PurgedPlace r h = of-list 30 (place_purged b) c.crossed r (λ n s. of-place b n (source_of b n) s) h
+check-number w b c check.PurgedSet r h =
+    of-list 30 (set_purged b) c.moves r
+    (λ m s. of-test 30 (not (is_within (purged_seen b m.source) (set_seen b m.no))) (refusal.Purged m.source (first_seen b m.source)) s refl) h
 
 -- ---- rows
 

@@ -1,7 +1,7 @@
 -- The checks by their numbers.
 use Rattle.std.specs.Prelude.{ℕ, Bool, true, ◌&&◌, nat_lt, List, [], ◌∷◌}
 use Rattle.permission.specs.declared.case.Check.{Check}
-use Rattle.permission.specs.declared.case.Check.TheVariants.{SameInstance, Busy, Unreachable, NoSource, NotDetached, AlreadyDetached, OtherCluster, Below, SourceHasNoSource, NotSibling, NotSameLog, DestNotLogging, SameServerId, VersionLower, GtidOff, Errant}
+use Rattle.permission.specs.declared.case.Check.TheVariants.{SameInstance, Busy, Unreachable, NoSource, NotDetached, AlreadyDetached, OtherCluster, Below, SourceHasNoSource, NotSibling, NotSameLog, DestNotLogging, SameServerId, VersionLower, GtidOff, Errant, PurgedPlace, PurgedSet}
 
 -- a check's number is that of the refusal of one that doesn't pass
 abbrev pub check_number : Check → ℕ
@@ -21,6 +21,8 @@ check_number SameServerId = 15
 check_number VersionLower = 16
 check_number GtidOff = 17
 check_number Errant = 18
+check_number PurgedPlace = 30
+check_number PurgedSet = 30
 
 -- the checks' numbers rise, from above a number on
 abbrev pub rises_from : ℕ → List Check → Bool

@@ -3,12 +3,14 @@
 
 mod begins;
 mod begins_gtid;
+mod kept;
 mod lowest;
 mod planned;
 mod planned_gtid;
 
 pub use begins::permitted_commands_begin;
 pub use begins_gtid::permitted_gtid_commands_begin;
+pub use kept::permitted_moves_go_by_what_is_kept;
 pub use lowest::{gtid_numbers_rise, numbers_rise, rows_answer_the_lowest};
 pub use planned::permitted_moves_have_plans;
 pub use planned_gtid::permitted_gtid_moves_have_plans;

@@ -9,10 +9,10 @@ use Rattle.book_views.specs.Sources.{replicas_of}
 use Rattle.server_model.specs.Worlds.{World}
 use Rattle.permission.specs.Checks.{Case, first_refusal}
 use Rattle.permission.specs.Replicas.{siblings_of}
-use Rattle.permission.specs.Rows.{about, moving, refused, swapping}
+use Rattle.permission.specs.Rows.{about, going_by, moving, refused, swapping}
 use Rattle.permission.specs.Views.{is_auto, source_above, source_of}
 use Rattle.permission.specs.declared.case.Check.{Check}
-use Rattle.permission.specs.declared.case.Check.TheVariants.{SameInstance, Busy, Unreachable, NoSource, NotDetached, AlreadyDetached, OtherCluster, Below, SourceHasNoSource, NotSibling, NotSameLog, DestNotLogging, SameServerId, VersionLower, Errant}
+use Rattle.permission.specs.declared.case.Check.TheVariants.{SameInstance, Busy, Unreachable, NoSource, NotDetached, AlreadyDetached, OtherCluster, Below, SourceHasNoSource, NotSibling, NotSameLog, DestNotLogging, SameServerId, VersionLower, Errant, PurgedPlace, PurgedSet}
 use Rattle.command_routes.specs.declared.kinds.CoordsCommand.{CoordsCommand}
 use Rattle.command_routes.specs.declared.kinds.CoordsCommand.TheVariants as command
 use Rattle.moves_coords.specs.Commands.{coords_command}
@@ -23,8 +23,8 @@ by_gtids w b i = w.gtid && is_auto b i
 
 abbrev pub repoint_row : Bool → List Check
 repoint_row true =
-    SameInstance ∷ Busy ∷ Unreachable ∷ NoSource ∷ AlreadyDetached ∷ OtherCluster ∷ Below ∷ DestNotLogging ∷ SameServerId ∷ VersionLower ∷ Errant ∷ []
-repoint_row false = SameInstance ∷ Busy ∷ Unreachable ∷ NoSource ∷ AlreadyDetached ∷ NotSameLog ∷ []
+    SameInstance ∷ Busy ∷ Unreachable ∷ NoSource ∷ AlreadyDetached ∷ OtherCluster ∷ Below ∷ DestNotLogging ∷ SameServerId ∷ VersionLower ∷ Errant ∷ PurgedSet ∷ []
+repoint_row false = SameInstance ∷ Busy ∷ Unreachable ∷ NoSource ∷ AlreadyDetached ∷ NotSameLog ∷ PurgedPlace ∷ []
 
 -- the checks of an instance that is attached
 abbrev pub attached_row : List Check
@@ -32,14 +32,14 @@ attached_row = Busy ∷ Unreachable ∷ NoSource ∷ AlreadyDetached ∷ []
 
 -- the row of a command, behind the check that its instances are known; a repoint has two
 abbrev pub row_of : Bool → CoordsCommand → List Check
-row_of gtids command.MoveUp = Busy ∷ Unreachable ∷ NoSource ∷ AlreadyDetached ∷ SourceHasNoSource ∷ SameServerId ∷ VersionLower ∷ []
-row_of gtids command.MoveUpReplicas = Busy ∷ Unreachable ∷ NoSource ∷ AlreadyDetached ∷ SameServerId ∷ VersionLower ∷ []
+row_of gtids command.MoveUp = Busy ∷ Unreachable ∷ NoSource ∷ AlreadyDetached ∷ SourceHasNoSource ∷ SameServerId ∷ VersionLower ∷ PurgedPlace ∷ []
+row_of gtids command.MoveUpReplicas = Busy ∷ Unreachable ∷ NoSource ∷ AlreadyDetached ∷ SameServerId ∷ VersionLower ∷ PurgedPlace ∷ []
 row_of gtids command.MoveBelow =
     SameInstance ∷ Busy ∷ Unreachable ∷ NoSource ∷ AlreadyDetached ∷ OtherCluster ∷ Below ∷ NotSibling ∷ DestNotLogging ∷ SameServerId ∷ VersionLower ∷ []
 row_of gtids command.Repoint = repoint_row gtids
 row_of gtids command.TakeSiblings = Busy ∷ Unreachable ∷ NoSource ∷ AlreadyDetached ∷ DestNotLogging ∷ SameServerId ∷ VersionLower ∷ []
 row_of gtids command.TakeMaster =
-    Busy ∷ Unreachable ∷ NoSource ∷ AlreadyDetached ∷ SourceHasNoSource ∷ DestNotLogging ∷ SameServerId ∷ VersionLower ∷ []
+    Busy ∷ Unreachable ∷ NoSource ∷ AlreadyDetached ∷ SourceHasNoSource ∷ DestNotLogging ∷ SameServerId ∷ VersionLower ∷ PurgedPlace ∷ []
 row_of gtids command.DetachReplica = attached_row
 row_of gtids command.ReattachReplica = Busy ∷ Unreachable ∷ NoSource ∷ NotDetached ∷ []
 row_of gtids command.ResetReplica = Busy ∷ Unreachable ∷ NoSource ∷ []
@@ -49,14 +49,15 @@ row_of gtids command.RestartReplica = attached_row
 row_of gtids command.SetReadOnly = Busy ∷ Unreachable ∷ []
 row_of gtids command.SetWriteable = Busy ∷ Unreachable ∷ []
 
--- which servers move to which source, by the destination that is given, and of which the job takes the leases
+-- which servers move to which source, by the destination that is given, of which the job takes the leases, and by whose
+-- coordinates the moves go: a server goes up by that of its source, and goes on or lets its replicas up by its own
 abbrev pub case_of : BookState → CoordsCommand → ServerNo → Option ServerNo → Case
-case_of b command.MoveUp i d = moving i (i ∷ []) (source_above b i) (i ∷ option_to_list (source_of b i))
-case_of b command.MoveUpReplicas i d = moving i (replicas_of b i) (source_of b i) (i ∷ replicas_of b i)
+case_of b command.MoveUp i d = going_by (option_to_list (source_of b i)) (moving i (i ∷ []) (source_above b i) (i ∷ option_to_list (source_of b i)))
+case_of b command.MoveUpReplicas i d = going_by (i ∷ []) (moving i (replicas_of b i) (source_of b i) (i ∷ replicas_of b i))
 case_of b command.MoveBelow i d = moving i (i ∷ []) d (i ∷ option_to_list d)
-case_of b command.Repoint i d = moving i (i ∷ []) (option_or d (source_of b i)) (i ∷ [])
+case_of b command.Repoint i d = going_by (i ∷ []) (moving i (i ∷ []) (option_or d (source_of b i)) (i ∷ []))
 case_of b command.TakeSiblings i d = moving i (siblings_of b i) (Some i) (i ∷ siblings_of b i)
-case_of b command.TakeMaster i d = swapping b i (source_of b i) (source_above b i)
+case_of b command.TakeMaster i d = going_by (option_to_list (source_of b i)) (swapping b i (source_of b i) (source_above b i))
 case_of b command.DetachReplica i d = moving i [] None (i ∷ [])
 case_of b command.ReattachReplica i d = moving i [] None (i ∷ [])
 case_of b command.ResetReplica i d = moving i [] None (i ∷ [])

@@ -16,13 +16,14 @@ use commands::Command;
 use instance_keeper::Book;
 use orch_base::{Moment, ServerNo};
 use permission::{
-    Check, Movers, answered, is_auto, row_refusal, siblings, source, source_above, unknown_in,
+    Check, Movers, answered, is_auto, one_or_none, row_refusal, siblings, source, source_above,
+    unknown_in,
 };
 use server_model::World;
 use std::alloc::Global;
 use topology_tree::Forest;
 
-const MOVE_UP: [Check; 7] = [
+const MOVE_UP: [Check; 8] = [
     Check::Busy,
     Check::Unreachable,
     Check::NoSource,
@@ -30,15 +31,17 @@ const MOVE_UP: [Check; 7] = [
     Check::SourceHasNoSource,
     Check::SameServerId,
     Check::VersionLower,
+    Check::PurgedPlace,
 ];
 
-const MOVE_UP_REPLICAS: [Check; 6] = [
+const MOVE_UP_REPLICAS: [Check; 7] = [
     Check::Busy,
     Check::Unreachable,
     Check::NoSource,
     Check::AlreadyDetached,
     Check::SameServerId,
     Check::VersionLower,
+    Check::PurgedPlace,
 ];
 
 const MOVE_BELOW: [Check; 11] = [
@@ -55,16 +58,17 @@ const MOVE_BELOW: [Check; 11] = [
     Check::VersionLower,
 ];
 
-const REPOINT: [Check; 6] = [
+const REPOINT: [Check; 7] = [
     Check::SameInstance,
     Check::Busy,
     Check::Unreachable,
     Check::NoSource,
     Check::AlreadyDetached,
     Check::NotSameLog,
+    Check::PurgedPlace,
 ];
 
-const REPOINT_BY_GTIDS: [Check; 11] = [
+const REPOINT_BY_GTIDS: [Check; 12] = [
     Check::SameInstance,
     Check::Busy,
     Check::Unreachable,
@@ -76,6 +80,7 @@ const REPOINT_BY_GTIDS: [Check; 11] = [
     Check::SameServerId,
     Check::VersionLower,
     Check::Errant,
+    Check::PurgedSet,
 ];
 
 const TAKE_SIBLINGS: [Check; 7] = [
@@ -88,7 +93,7 @@ const TAKE_SIBLINGS: [Check; 7] = [
     Check::VersionLower,
 ];
 
-const TAKE_MASTER: [Check; 8] = [
+const TAKE_MASTER: [Check; 9] = [
     Check::Busy,
     Check::Unreachable,
     Check::NoSource,
@@ -97,6 +102,7 @@ const TAKE_MASTER: [Check; 8] = [
     Check::DestNotLogging,
     Check::SameServerId,
     Check::VersionLower,
+    Check::PurgedPlace,
 ];
 
 const ATTACHED: [Check; 4] = [
@@ -151,7 +157,7 @@ fn row_of(by_gtids: bool, command: CoordsCommand) -> &'static [Check]
     }
 }
 
-// Which servers move to which source, and beside which.
+// Which servers move to which source, beside which, and by whose coordinates.
 fn movers_of(
     alloc: Global,
     book: &Book,
@@ -163,16 +169,26 @@ fn movers_of(
 {
     let x = source(book, i);
     match command {
-        CoordsCommand::MoveUp => Movers::one(alloc, i, source_above(book, i), x),
+        CoordsCommand::MoveUp => {
+            let movers = Movers::one(alloc, i, source_above(book, i), x)?;
+            Ok(movers.going_by(one_or_none(alloc, x)?))
+        }
         CoordsCommand::MoveUpReplicas => {
-            Ok(Movers::round(alloc, i, x, replicas(alloc, book, i)?))
+            let movers = Movers::round(alloc, i, x, replicas(alloc, book, i)?);
+            Ok(movers.going_by(one_or_none(alloc, Some(i))?))
         }
         CoordsCommand::MoveBelow => Movers::one(alloc, i, d, d),
-        CoordsCommand::Repoint => Movers::one(alloc, i, d.or(x), None),
+        CoordsCommand::Repoint => {
+            let movers = Movers::one(alloc, i, d.or(x), None)?;
+            Ok(movers.going_by(one_or_none(alloc, Some(i))?))
+        }
         CoordsCommand::TakeSiblings => {
             Ok(Movers::round(alloc, i, Some(i), siblings(alloc, book, i)?))
         }
-        CoordsCommand::TakeMaster => Movers::swap(alloc, book, i, x, source_above(book, i)),
+        CoordsCommand::TakeMaster => {
+            let movers = Movers::swap(alloc, book, i, x, source_above(book, i))?;
+            Ok(movers.going_by(one_or_none(alloc, x)?))
+        }
         CoordsCommand::DetachReplica
         | CoordsCommand::ReattachReplica
         | CoordsCommand::ResetReplica

@@ -8,32 +8,32 @@ use Rattle.instance_keeper.specs.Book.{BookState}
 use Rattle.server_model.specs.Worlds.{World}
 use Rattle.permission.specs.Checks.{Case, first_refusal}
 use Rattle.permission.specs.Replicas.{replicas_but}
-use Rattle.permission.specs.Rows.{about, moving, refused}
+use Rattle.permission.specs.Rows.{about, going_by, moving, refused}
 use Rattle.permission.specs.Views.{source_of}
 use Rattle.permission.specs.declared.case.Check.{Check}
-use Rattle.permission.specs.declared.case.Check.TheVariants.{SameInstance, Busy, Unreachable, NoSource, AlreadyDetached, OtherCluster, Below, DestNotLogging, SameServerId, VersionLower, GtidOff, Errant}
+use Rattle.permission.specs.declared.case.Check.TheVariants.{SameInstance, Busy, Unreachable, NoSource, AlreadyDetached, OtherCluster, Below, DestNotLogging, SameServerId, VersionLower, GtidOff, Errant, PurgedPlace, PurgedSet}
 use Rattle.command_routes.specs.declared.kinds.GtidCommand.{GtidCommand}
 use Rattle.command_routes.specs.declared.kinds.GtidCommand.TheVariants as command
 use Rattle.moves_gtid.specs.Commands.{gtid_command}
 
 -- the checks of servers that go below any other
 abbrev pub move_row : List Check
-move_row = SameInstance ∷ Busy ∷ Unreachable ∷ OtherCluster ∷ Below ∷ DestNotLogging ∷ SameServerId ∷ VersionLower ∷ GtidOff ∷ Errant ∷ []
+move_row = SameInstance ∷ Busy ∷ Unreachable ∷ OtherCluster ∷ Below ∷ DestNotLogging ∷ SameServerId ∷ VersionLower ∷ GtidOff ∷ Errant ∷ PurgedSet ∷ []
 
 -- the row of a command, behind the check that its instances are known
 abbrev pub row_of : GtidCommand → List Check
 row_of command.MoveGtid = move_row
 row_of command.MoveReplicasGtid = move_row
-row_of command.EnableGtid = Busy ∷ Unreachable ∷ NoSource ∷ AlreadyDetached ∷ GtidOff ∷ Errant ∷ []
-row_of command.DisableGtid = Busy ∷ Unreachable ∷ NoSource ∷ AlreadyDetached ∷ GtidOff ∷ []
+row_of command.EnableGtid = Busy ∷ Unreachable ∷ NoSource ∷ AlreadyDetached ∷ GtidOff ∷ Errant ∷ PurgedSet ∷ []
+row_of command.DisableGtid = Busy ∷ Unreachable ∷ NoSource ∷ AlreadyDetached ∷ GtidOff ∷ PurgedPlace ∷ []
 
 -- which servers move to which source, by the destination that is given, and of which the job takes the leases; one that
--- finds its place anew keeps its source
+-- finds its place anew keeps its source, and one that goes on by coordinates goes by its own
 abbrev pub case_of : BookState → GtidCommand → ServerNo → Option ServerNo → Case
 case_of b command.MoveGtid i d = moving i (i ∷ []) d (i ∷ option_to_list d)
 case_of b command.MoveReplicasGtid i d = moving i (replicas_but b i d) d (replicas_but b i d ++ option_to_list d)
 case_of b command.EnableGtid i d = moving i (i ∷ []) (source_of b i) (i ∷ option_to_list (source_of b i))
-case_of b command.DisableGtid i d = moving i (i ∷ []) (source_of b i) (i ∷ [])
+case_of b command.DisableGtid i d = going_by (i ∷ []) (moving i (i ∷ []) (source_of b i) (i ∷ []))
 
 -- what refuses a command about an instance
 abbrev pub refusal_about : World → BookState → GtidCommand → ServerNo → Option ServerNo → Option Refusal

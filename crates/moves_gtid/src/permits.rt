@@ -21,7 +21,7 @@ use server_model::World;
 use std::alloc::Global;
 use topology_tree::Forest;
 
-const MOVE: [Check; 10] = [
+const MOVE: [Check; 11] = [
     Check::SameInstance,
     Check::Busy,
     Check::Unreachable,
@@ -32,23 +32,26 @@ const MOVE: [Check; 10] = [
     Check::VersionLower,
     Check::GtidOff,
     Check::Errant,
+    Check::PurgedSet,
 ];
 
-const ENABLE: [Check; 6] = [
+const ENABLE: [Check; 7] = [
     Check::Busy,
     Check::Unreachable,
     Check::NoSource,
     Check::AlreadyDetached,
     Check::GtidOff,
     Check::Errant,
+    Check::PurgedSet,
 ];
 
-const DISABLE: [Check; 5] = [
+const DISABLE: [Check; 6] = [
     Check::Busy,
     Check::Unreachable,
     Check::NoSource,
     Check::AlreadyDetached,
     Check::GtidOff,
+    Check::PurgedPlace,
 ];
 
 // The checks of a command, by rising number, behind the one that its instances are known.
@@ -62,7 +65,7 @@ fn row_of(command: GtidCommand) -> &'static [Check]
     }
 }
 
-// Which servers move to which source, and beside which.
+// Which servers move to which source, beside which, and by whose coordinates.
 fn movers_of(
     alloc: Global,
     book: &Book,
@@ -77,10 +80,13 @@ fn movers_of(
         GtidCommand::MoveGtid => Movers::one(alloc, i, d, d),
         GtidCommand::MoveReplicasGtid => {
             let replicas = replicas_but(alloc, book, i, d)?;
-            Ok(Movers::new(i, d, replicas, one_or_none(alloc, d)?))
+            Ok(Movers::new(alloc, i, d, replicas, one_or_none(alloc, d)?))
         }
         GtidCommand::EnableGtid => Movers::one(alloc, i, x, x),
-        GtidCommand::DisableGtid => Movers::one(alloc, i, x, None),
+        GtidCommand::DisableGtid => {
+            let movers = Movers::one(alloc, i, x, None)?;
+            Ok(movers.going_by(one_or_none(alloc, Some(i))?))
+        }
     }
 }
 

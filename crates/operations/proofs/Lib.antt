@@ -1,4 +1,5 @@
 pub mod Tests
+pub mod Sets
 pub mod Targets
 pub mod Allowing
 pub mod Changing

@@ -19,7 +19,7 @@ use Rattle.permission.specs.Replicas.{replicas_but}
 use Rattle.permission.specs.Rows.{about as about_given, about_one, refused}
 use Rattle.plan_parts.specs.Parts.{autos, following}
 use Rattle.regroup.specs.Commands.{regroup_command}
-use Rattle.regroup.specs.Permits.{case_of, last_refusal, leased_by, list_of, moving_list, passed_by, refusal_about, refusal_of, relocate_row, replicas_row, row_of}
+use Rattle.regroup.specs.Permits.{case_of, leased_by, list_of, moving_list, passed_by, refusal_about, refusal_of, relocate_row, replicas_row, rest_refusal, row_of}
 use Rattle.regroup.specs.Plans.{moved_by, ops_of, plan_of, relocated}
 use Rattle.regroup.specs.declared.command.RegroupCommand.{RegroupCommand}
 use Rattle.regroup.specs.declared.command.RegroupCommand.TheVariants as command
@@ -83,7 +83,7 @@ permitted-begin w b now jobs given id wait h = go (regroup_command given.name) h
     with_i c None h = begins-with w b jobs [] id wait [] refl refl refl
     with_i c (Some i) h =
         about w b now jobs id wait c i given.d
-        (neither (first_refusal w b (case_of w b c i given.d) (row_of w.gtid c)) (last_refusal w b now c i given.d) h).0
+        (neither (first_refusal w b (case_of w b c i given.d) (row_of w.gtid c)) (rest_refusal w b now c i given.d) h).0
 
     go : (c : Option RegroupCommand) → refused b (refusal_about w b now) c given ≡ None
         → Begins w jobs (leases_of b.leases) (about_given [] (list_of w b) c given) (job_with id wait (about_given [] (ops_of w b) c given))

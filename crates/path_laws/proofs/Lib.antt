@@ -4,3 +4,4 @@ pub mod Going
 pub mod Plans
 pub mod PlansOf
 pub mod Begun
+pub mod ByKept

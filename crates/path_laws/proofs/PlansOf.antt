@@ -17,7 +17,7 @@ use Rattle.permission.specs.Lists.{first_about}
 use Rattle.permission.specs.Replicas.{replicas_but}
 use Rattle.plan_parts.specs.Parts.{autos, following}
 use Rattle.server_model.specs.Worlds.{World}
-use Rattle.regroup.specs.Permits.{astray, case_of, last_refusal, refusal_about, refusal_of, row_of, without_path}
+use Rattle.regroup.specs.Permits.{astray, case_of, last_refusal, own_refusal, refusal_about, refusal_of, rest_refusal, row_of, without_path}
 use Rattle.regroup.specs.Plans.{arrived, plan_of, relocated, travelled}
 use Rattle.regroup.specs.Ways.{Path, path_of}
 use Rattle.regroup.specs.declared.command.RegroupCommand.TheVariants as command
@@ -40,7 +40,8 @@ pub plan-path : (w : World) (b : BookState) (now : Moment) (i d : ServerNo) → 
 plan-path w b now i d e h =
     let about = (neither (unknown_in b (given name.Relocate i (Some d))) (refusal_about w b now command.Relocate i (Some d)) h).1 in
     let last =
-    (neither (first_refusal w b (case_of w b command.Relocate i (Some d)) (row_of w.gtid command.Relocate)) (last_refusal w b now command.Relocate i (Some d)) about).1
+    (neither (own_refusal w b now command.Relocate i (Some d)) (last_refusal w b command.Relocate i (Some d))
+    (neither (first_refusal w b (case_of w b command.Relocate i (Some d)) (row_of w.gtid command.Relocate)) (rest_refusal w b now command.Relocate i (Some d)) about).1).0
     in
     let each = by-coordinates w.gtid b (i ∷ []) (Some d) e last in
     let p = given-by (path_of b i d) refusal.NoPath (neither (without_path b (Some d) i) None each).0 in
@@ -56,8 +57,9 @@ pub paths-found : (w : World) (b : BookState) (now : Moment) (i d : ServerNo) �
 paths-found w b now i d e h =
     let about = (neither (unknown_in b (given name.RelocateReplicas i (Some d))) (refusal_about w b now command.RelocateReplicas i (Some d)) h).1 in
     let last =
-    (neither (first_refusal w b (case_of w b command.RelocateReplicas i (Some d)) (row_of w.gtid command.RelocateReplicas)) (last_refusal w b now command.RelocateReplicas i (Some d))
-    about).1
+    (neither (own_refusal w b now command.RelocateReplicas i (Some d)) (last_refusal w b command.RelocateReplicas i (Some d))
+    (neither (first_refusal w b (case_of w b command.RelocateReplicas i (Some d)) (row_of w.gtid command.RelocateReplicas)) (rest_refusal w b now command.RelocateReplicas i (Some d))
+    about).1).0
     in
     found-each b d (replicas_but b i (Some d)) (by-coordinates w.gtid b (replicas_but b i (Some d)) (Some d) e last)
 

@@ -1,5 +1,5 @@
 -- The checks of the permission table: what each is about, and the refusal of one that doesn't pass.
-use Rattle.std.specs.Prelude.{ℕ, Bool, false, ◌==◌, not, List, [], ◌∷◌, Option, Some, None, Result, Ok, Err, is_some}
+use Rattle.std.specs.Prelude.{ℕ, Bool, false, ◌==◌, not, nat_lt, List, [], ◌∷◌, Option, Some, None, Result, Ok, Err, is_some}
 use Rattle.std.specs.Option.{option_and_then}
 use Rattle.gtid_sets.specs.declared.interval.Interval.{Interval}
 use Rattle.orch_base.specs.declared.server.ServerNo.{ServerNo}
@@ -10,6 +10,7 @@ use Rattle.commands.specs.Unknown.{unknown_of}
 use Rattle.instance_keeper.specs.Book.{BookState, instance_at, lease_at}
 use Rattle.server_model.specs.Worlds.{World}
 use Rattle.book_views.specs.Sources.{seen_source, is_instance}
+use Rattle.operations.specs.Turns.{is_within}
 use Rattle.permission.specs.declared.case.Check.{Check}
 use Rattle.permission.specs.declared.case.Check.TheVariants as check
 use Rattle.permission.specs.declared.case.Move.{Move}
@@ -17,10 +18,11 @@ use Rattle.permission.specs.declared.row.PermitFault.{PermitFault}
 use Rattle.permission.specs.declared.row.PermitFault.TheVariants as fault
 use Rattle.permission.specs.Errants.{own_missing}
 use Rattle.permission.specs.Lists.{first_about, only_if}
-use Rattle.permission.specs.Views.{attached_of, has_log, is_attached_in, is_below, is_detached_in, is_lower, is_valid, same_id, same_label, set_seen, source_of, uuid_of}
+use Rattle.permission.specs.Views.{attached_of, exec_seen, first_seen, has_log, is_attached_in, is_below, is_detached_in, is_lower, is_valid, purged_seen, same_id, same_label, set_seen, source_of, uuid_of}
 
 -- What the checks of a command are about: the instance, its new source, the servers of which the job takes the leases,
--- those that must be reached, which servers move to which source, and the new sources, which must log.
+-- those that must be reached, which servers move to which source, the new sources, which must log, and the servers by
+-- whose coordinates under their sources the moves go.
 pub record Case : Type 0 where
   pub i : ServerNo
   pub to : Option ServerNo
@@ -28,6 +30,7 @@ pub record Case : Type 0 where
   pub reached : List ServerNo
   pub moves : List Move
   pub sources : List ServerNo
+  pub crossed : List ServerNo
 
 abbrev pub is_given : ServerNo → Option ServerNo → Bool
 is_given n None = false
@@ -75,6 +78,18 @@ errant_by (s ∷ xs) = Some (refusal.Errant (s ∷ xs))
 abbrev pub errant : World → BookState → Move → Option Refusal
 errant w b m = errant_by (own_missing (uuid_of w m.no) (set_seen b m.no) (set_seen b m.source))
 
+-- a server's source was seen to have purged the file of the coordinate that was seen of the server
+abbrev pub purged_under : BookState → ServerNo → Option ServerNo → Option Refusal
+purged_under b n None = None
+purged_under b n (Some s) = only_if (nat_lt (exec_seen b n).file (first_seen b s)) (refusal.Purged s (first_seen b s))
+
+abbrev pub place_purged : BookState → ServerNo → Option Refusal
+place_purged b n = purged_under b n (source_of b n)
+
+-- the new source was seen to have purged what wasn't seen of the server that moves
+abbrev pub set_purged : BookState → Move → Option Refusal
+set_purged b m = only_if (not (is_within (purged_seen b m.source) (set_seen b m.no))) (refusal.Purged m.source (first_seen b m.source))
+
 -- the refusal of a check, none where it passes; over several servers that of the first
 abbrev pub refusal_by : World → BookState → Case → Check → Option Refusal
 refusal_by w b c check.SameInstance = only_if (is_given c.i c.to) refusal.SameInstance
@@ -93,6 +108,8 @@ refusal_by w b c check.SameServerId = first_about (of_same_id w) c.moves
 refusal_by w b c check.VersionLower = first_about (of_lower_version w) c.moves
 refusal_by w b c check.GtidOff = only_if (not w.gtid) refusal.GtidOff
 refusal_by w b c check.Errant = first_about (errant w b) c.moves
+refusal_by w b c check.PurgedPlace = first_about (place_purged b) c.crossed
+refusal_by w b c check.PurgedSet = first_about (set_purged b) c.moves
 
 -- the refusal of the first check that doesn't pass; a row has its checks by rising number
 abbrev pub first_refusal : World → BookState → Case → List Check → Option Refusal

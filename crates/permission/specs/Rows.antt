@@ -20,6 +20,7 @@ moving i movers to leased = record {
   reached = leased;
   moves = moves_to movers to;
   sources = option_to_list to;
+  crossed = [];
 }
 
 -- moves of which the first are by name before the others, or behind them
@@ -40,7 +41,12 @@ swapping b i x g = record {
   reached = i ∷ option_to_list x;
   moves = in_order (is_first b i x) (moves_to (i ∷ []) g) (moves_to (option_to_list x) (Some i));
   sources = i ∷ option_to_list g;
+  crossed = [];
 }
+
+-- the moves go by these servers' coordinates under their sources
+abbrev pub going_by : List ServerNo → Case → Case
+going_by servers c = record c { crossed = servers }
 
 -- ---- a command of some kind
 

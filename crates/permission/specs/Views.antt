@@ -2,6 +2,7 @@
 use Rattle.std.specs.Prelude.{ℕ, Bool, true, false, ◌==◌, ◌&&◌, ◌||◌, nat_eq, nat_lt, List, [], length, Option, Some, None}
 use Rattle.std.specs.Option.{option_and_then}
 use Rattle.std.specs.Cmp.Lexicographic.{pointwise}
+use Rattle.binlog_coords.specs.declared.Coord.{Coord}
 use Rattle.gtid_sets.specs.declared.interval.Interval.{Interval}
 use Rattle.orch_base.specs.Chains.{is_reached}
 use Rattle.orch_base.specs.declared.server.ServerNo.{ServerNo}
@@ -68,6 +69,30 @@ set_in (Some i) = i.seen.set
 -- the set that was seen of the server
 abbrev pub set_seen : BookState → ServerNo → List Interval
 set_seen b n = set_in (instance_at b n)
+
+-- the executed coordinate that was seen of the server
+abbrev pub exec_in : Option Instance → Coord
+exec_in None = record { file = 1; pos = 4 }
+exec_in (Some i) = i.seen.exec
+
+abbrev pub exec_seen : BookState → ServerNo → Coord
+exec_seen b n = exec_in (instance_at b n)
+
+-- the first file that the server was seen to keep
+abbrev pub first_in : Option Instance → ℕ
+first_in None = 1
+first_in (Some i) = i.seen.first
+
+abbrev pub first_seen : BookState → ServerNo → ℕ
+first_seen b n = first_in (instance_at b n)
+
+-- the set of what the server was seen to have purged
+abbrev pub purged_in : Option Instance → List Interval
+purged_in None = []
+purged_in (Some i) = i.seen.purged
+
+abbrev pub purged_seen : BookState → ServerNo → List Interval
+purged_seen b n = purged_in (instance_at b n)
 
 -- one server comes to another by following parents in the book's forest, which takes fewer steps than there are nodes
 abbrev pub is_below : BookState → ServerNo → ServerNo → Bool

@@ -5,15 +5,17 @@ ghost use Rattle.std.specs.Option.{option_copied};
 ghost use Rattle.instance_keeper.specs.Book.{instance_at, lease_at};
 ghost use Rattle.book_views.specs.Forests.{book_forest, IsBelow};
 ghost use Rattle.book_views.specs.Sources.{is_instance, seen_source};
-ghost use Rattle.permission.specs.Checks.{busy, of_below, unreached};
+ghost use Rattle.permission.specs.Checks.{busy, of_below, place_purged, set_purged, unreached};
 ghost use Rattle.permission.specs.Lists.{first_about};
-ghost use Rattle.permission.specs.Views.{attached_in, attached_of, is_attached_in, is_auto, is_before, is_below, is_detached_in, is_valid, set_seen, source_above, source_of};
+ghost use Rattle.permission.specs.Views.{attached_in, attached_of, exec_seen, first_seen, is_attached_in, is_auto, is_before, is_below, is_detached_in, is_valid, purged_seen, set_seen, source_above, source_of};
 
 use crate::case::Move;
+use binlog_coords::Coord;
 use commands::Refusal;
 use gtid_sets::GtidSet;
 use instance_keeper::{Book, Instance};
 use orch_base::{ServerNo, SourceState};
+use std::alloc::Global;
 use topology_tree::Forest;
 
 fn instance(book: &Book, no: ServerNo) -> Option<&Instance>
@@ -121,6 +123,85 @@ pub(crate) fn set_seen<'a>(book: &'a Book, no: ServerNo, none: &'a GtidSet) -> &
         Some(instance) => &instance.seen.set,
         None => none,
     }
+}
+
+/// The set of what a server was seen to have purged; `none`, the empty set, of one that is no instance.
+fn purged_seen<'a>(book: &'a Book, no: ServerNo, none: &'a GtidSet) -> &'a GtidSet
+    requires { none.now ≡ [] }
+    ensures { result.now ≡ purged_seen book.now no }
+{
+    match instance(book, no) {
+        Some(instance) => &instance.seen.purged,
+        None => none,
+    }
+}
+
+// The first file that a server was seen to keep.
+fn first_seen(book: &Book, no: ServerNo) -> u32
+    ensures { result ≡ first_seen book.now no }
+{
+    match instance(book, no) {
+        Some(instance) => instance.seen.first,
+        None => 1,
+    }
+}
+
+// The executed coordinate that was seen of a server.
+fn exec_seen(book: &Book, no: ServerNo) -> Coord
+    ensures { result ≡ exec_seen book.now no }
+{
+    match instance(book, no) {
+        Some(instance) => instance.seen.exec,
+        None => Coord { file: 1, pos: 4 },
+    }
+}
+
+fn place_purged(book: &Book, no: ServerNo) -> Option<Refusal>
+    ensures { result ≡ place_purged book.now no }
+{
+    let source = source(book, no)?;
+    let first = first_seen(book, source);
+    if exec_seen(book, no).file < first {
+        Some(Refusal::Purged(source, first))
+    } else {
+        None
+    }
+}
+
+/// The first of the servers whose source was seen to have purged the file of the coordinate that was seen of it.
+pub(crate) fn first_place_purged(book: &Book, servers: &[ServerNo]) -> Option<Refusal>
+    ensures { result ≡ first_about (place_purged book.now) servers.now }
+{
+    for no in servers {
+        if let Some(refusal) = place_purged(book, *no) {
+            return Some(refusal);
+        }
+    }
+    None
+}
+
+fn set_purged(alloc: Global, book: &Book, one: Move) -> Option<Refusal>
+    ensures { result ≡ set_purged book.now one }
+{
+    let none = GtidSet::empty(alloc);
+    let purged = purged_seen(book, one.source, &none);
+    if purged.is_subset(set_seen(book, one.no, &none)) {
+        None
+    } else {
+        Some(Refusal::Purged(one.source, first_seen(book, one.source)))
+    }
+}
+
+/// The first new source that was seen to have purged what wasn't seen of the server that moves.
+pub(crate) fn first_set_purged(alloc: Global, book: &Book, moves: &[Move]) -> Option<Refusal>
+    ensures { result ≡ first_about (set_purged book.now) moves.now }
+{
+    for one in moves {
+        if let Some(refusal) = set_purged(alloc, book, *one) {
+            return Some(refusal);
+        }
+    }
+    None
 }
 
 fn lease(book: &Book, no: ServerNo) -> Option<u64>

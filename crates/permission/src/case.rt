@@ -44,6 +44,11 @@ pub enum Check {
     GtidOff,
     /// 18: each server that moves was seen to have executed nothing of its own that wasn't seen of its new source.
     Errant,
+    /// 30: no source was seen to have purged the file of the coordinate that was seen of its replica, where a move goes by
+    /// that coordinate.
+    PurgedPlace,
+    /// 30: no new source was seen to have purged what wasn't seen of the server that moves.
+    PurgedSet,
 }
 
 /// A server that moves, and its new source.
@@ -56,8 +61,8 @@ pub struct Move {
 }
 
 /// What the checks of a command are about: the instance, its new source, the servers of which the job takes the leases,
-/// those that must be reached, which servers move to which source, and the new sources, which must log. Contracts see
-/// it as a `Case` of lists.
+/// those that must be reached, which servers move to which source, the new sources, which must log, and the servers by
+/// whose coordinates under their sources the moves go. Contracts see it as a `Case` of lists.
 #[derive(Drop)]
 pub struct Case {
     pub(crate) i: ServerNo,
@@ -66,6 +71,7 @@ pub struct Case {
     pub(crate) reached: Vec<ServerNo>,
     pub(crate) moves: Vec<Move>,
     pub(crate) sources: Vec<ServerNo>,
+    pub(crate) crossed: Vec<ServerNo>,
 }
 
 impl Model for Case {
@@ -73,7 +79,7 @@ impl Model for Case {
 
     ghost Value = { ACase };
 
-    ghost view = { λ c. record { i = c.i; to = c.to; leased = c.leased.items; reached = c.reached.items; moves = c.moves.items; sources = c.sources.items } };
+    ghost view = { λ c. record { i = c.i; to = c.to; leased = c.leased.items; reached = c.reached.items; moves = c.moves.items; sources = c.sources.items; crossed = c.crossed.items } };
 }
 
 /// The list of one server, where there is one.
@@ -114,6 +120,7 @@ impl Case {
         reached: Vec<ServerNo>,
         moves: Vec<Move>,
         sources: Vec<ServerNo>,
+        crossed: Vec<ServerNo>,
     ) -> Case
         ensures { result ≡ record {
           i = i;
@@ -122,6 +129,7 @@ impl Case {
           reached = reached.items;
           moves = moves.items;
           sources = sources.items;
+          crossed = crossed.items;
         } }
     {
         Case {
@@ -131,6 +139,7 @@ impl Case {
             reached,
             moves,
             sources,
+            crossed,
         }
     }
 }

@@ -2,7 +2,7 @@
 
 ghost use Rattle.std.specs.Prelude.{◌≡◌, ◌∷◌, ◌++◌, IfOk, []};
 ghost use Rattle.std.specs.Option.{option_to_list};
-ghost use Rattle.permission.specs.Rows.{moving, swapping};
+ghost use Rattle.permission.specs.Rows.{going_by, moving, swapping};
 
 use crate::Memory;
 use crate::by_book::is_before;
@@ -13,7 +13,8 @@ use std::alloc::Global;
 use std::marker::Model;
 
 /// The servers that a command is about: its instance, those that move, their new source, and those beside them of which
-/// the job takes the leases too. All that are leased must be reached. Contracts see it as the `Case` of its checks.
+/// the job takes the leases too, and those by whose coordinates the moves go. All that are leased must be reached.
+/// Contracts see it as the `Case` of its checks.
 #[derive(Drop)]
 pub struct Movers {
     i: ServerNo,
@@ -24,6 +25,7 @@ pub struct Movers {
     beside: Vec<ServerNo>,
     // where those beside go below the instance: whether it is the first by name
     swap: Option<bool>,
+    crossed: Vec<ServerNo>,
 }
 
 impl Model for Movers {
@@ -42,12 +44,14 @@ impl Model for Movers {
       reached = leased_with m.before m.movers.items m.beside.items;
       moves = moves_by m.swap (moves_to m.movers.items m.to) (moves_to m.beside.items (Some m.i));
       sources = sources_by m.swap m.i (option_to_list m.to);
+      crossed = m.crossed.items;
     } };
 }
 
 impl Movers {
     /// Servers move to a new source, where there is one, with others beside them. It takes no memory.
     pub fn new(
+        alloc: Global,
         i: ServerNo,
         to: Option<ServerNo>,
         movers: Vec<ServerNo>,
@@ -62,6 +66,7 @@ impl Movers {
             movers,
             beside,
             swap: None,
+            crossed: Vec::new(alloc),
         }
     }
 
@@ -75,7 +80,7 @@ impl Movers {
         ensures { IfOk result (λ m. m ≡ moving i (i ∷ []) to (i ∷ option_to_list beside)) }
     {
         let movers = one_or_none(alloc, Some(i))?;
-        Ok(Movers::new(i, to, movers, one_or_none(alloc, beside)?))
+        Ok(Movers::new(alloc, i, to, movers, one_or_none(alloc, beside)?))
     }
 
     /// Servers move to a new source, where there is one, and the instance stays. It takes no memory.
@@ -89,6 +94,7 @@ impl Movers {
             movers,
             beside: Vec::new(alloc),
             swap: None,
+            crossed: Vec::new(alloc),
         }
     }
 
@@ -113,7 +119,16 @@ impl Movers {
             movers: one_or_none(alloc, Some(i))?,
             beside: one_or_none(alloc, source)?,
             swap: Some(first),
+            crossed: Vec::new(alloc),
         })
+    }
+
+    /// The moves go by these servers' coordinates under their sources. It takes no memory.
+    pub fn going_by(mut self, servers: Vec<ServerNo>) -> Movers
+        ensures { result ≡ going_by servers.items self }
+    {
+        self.crossed = servers;
+        self
     }
 
     /// The servers of which the job takes the leases. `Err` is want of memory.
@@ -164,6 +179,7 @@ impl Movers {
         let reached = leased.to_vec(alloc)?;
         let moves = self.moves(alloc)?;
         let sources = self.sources(alloc)?;
-        Ok(Case::new(self.i, self.to, leased, reached, moves, sources))
+        let crossed = self.crossed.to_vec(alloc)?;
+        Ok(Case::new(self.i, self.to, leased, reached, moves, sources, crossed))
     }
 }

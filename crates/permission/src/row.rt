@@ -11,7 +11,8 @@ ghost use Rattle.permission.specs.Views.{attached_of};
 
 use crate::Memory;
 use crate::by_book::{
-    attached_to, below, busy, is_attached, is_detached, is_instance, set_seen, source, unreached,
+    attached_to, below, busy, first_place_purged, first_set_purged, is_attached, is_detached,
+    is_instance, set_seen, source, unreached,
 };
 use crate::by_settings::{lower_version, not_logging, other_cluster, same_id, uuid};
 use crate::case::{Case, Check, Move};
@@ -172,6 +173,8 @@ fn refusal_by(
         Check::VersionLower => lower_version(world, &case.moves),
         Check::GtidOff => only_if(!world.gtid(), Refusal::GtidOff),
         Check::Errant => first_errant(alloc, book, world, &case.moves)?,
+        Check::PurgedPlace => first_place_purged(book, &case.crossed),
+        Check::PurgedSet => first_set_purged(alloc, book, &case.moves),
     })
 }
 

@@ -27,7 +27,7 @@ recovery_list b f = f ∷ replicas_of b f
 
 -- no server is to move, or must be reached
 abbrev pub case_of : BookState → ServerNo → Case
-case_of b f = record { i = f; to = None; leased = recovery_list b f; reached = []; moves = []; sources = [] }
+case_of b f = record { i = f; to = None; leased = recovery_list b f; reached = []; moves = []; sources = []; crossed = [] }
 
 -- 21 to 23: what keeps a recovery from beginning by itself; by hand it begins in spite of these
 abbrev pub unasked : BookState → Attempt → ServerNo → Bool → Option Refusal

@@ -32,6 +32,7 @@ case_of b i d = record {
   reached = i ∷ d ∷ [];
   moves = moves_to (followers_of b i d) (Some d);
   sources = d ∷ [];
+  crossed = [];
 }
 
 abbrev pub row : List Check

@@ -50,6 +50,7 @@ fn case_of(alloc: Global, book: &Book, failed: ServerNo) -> Result<Case, Memory>
         Vec::new(alloc),
         Vec::new(alloc),
         Vec::new(alloc),
+        Vec::new(alloc),
     ))
 }
 

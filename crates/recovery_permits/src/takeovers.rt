@@ -61,7 +61,8 @@ fn case_of(alloc: Global, book: &Book, i: ServerNo, d: ServerNo) -> Result<Case,
     let moves = moves_to(alloc, &followers_of(alloc, book, i, d)?, Some(d))?;
     let mut sources = Vec::new(alloc);
     sources.push(d)?;
-    Ok(Case::new(i, Some(d), leased, reached, moves, sources))
+    let crossed = Vec::new(alloc);
+    Ok(Case::new(i, Some(d), leased, reached, moves, sources, crossed))
 }
 
 fn takeover_refusal(

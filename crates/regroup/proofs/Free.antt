@@ -11,7 +11,7 @@ use Rattle.permission.proofs.Free.{neither}
 use Rattle.permission.proofs.Rows.{about-free}
 use Rattle.server_model.specs.Worlds.{World}
 use Rattle.regroup.specs.Commands.{regroup_command}
-use Rattle.regroup.specs.Permits.{case_of, last_refusal, leased_by, list_of, refusal_about, refusal_of, relocate_row, replicas_row, row_of, row_refusal}
+use Rattle.regroup.specs.Permits.{case_of, leased_by, list_of, refusal_about, refusal_of, relocate_row, replicas_row, rest_refusal, row_of, row_refusal}
 use Rattle.regroup.specs.declared.command.RegroupCommand.{RegroupCommand}
 use Rattle.regroup.specs.declared.command.RegroupCommand.TheVariants as command
 
@@ -34,4 +34,4 @@ pub leases-free : (w : World) (b : BookState) (now : Moment) (given : Command) �
 leases-free w b now given h = about-free (refusal_about w b now) (list_of w b) b given each (regroup_command given.name) h
   where
     each : (c : RegroupCommand) (i : ServerNo) → refusal_about w b now c i given.d ≡ None → first_about (busy b) (list_of w b c i given.d) ≡ None
-    each c i h = checks-free w b i c given.d (neither (row_refusal w b c i given.d) (last_refusal w b now c i given.d) h).0
+    each c i h = checks-free w b i c given.d (neither (row_refusal w b c i given.d) (rest_refusal w b now c i given.d) h).0

@@ -14,28 +14,38 @@ use Rattle.server_model.specs.Worlds.{World}
 use Rattle.permission.specs.Checks.{Case, first_refusal}
 use Rattle.permission.specs.Lists.{first_about, only_if}
 use Rattle.permission.specs.Replicas.{replicas_but}
-use Rattle.permission.specs.Rows.{about, moving, refused}
+use Rattle.permission.specs.Rows.{about, going_by, moving, refused}
 use Rattle.permission.specs.declared.case.Check.{Check}
-use Rattle.permission.specs.declared.case.Check.TheVariants.{SameInstance, Busy, Unreachable, NoSource, AlreadyDetached, OtherCluster, Below, DestNotLogging, SameServerId, VersionLower, GtidOff, Errant}
+use Rattle.permission.specs.declared.case.Check.TheVariants.{SameInstance, Busy, Unreachable, NoSource, AlreadyDetached, OtherCluster, Below, DestNotLogging, SameServerId, VersionLower, GtidOff, Errant, PurgedPlace, PurgedSet}
 use Rattle.regroup.specs.declared.command.RegroupCommand.{RegroupCommand}
 use Rattle.regroup.specs.declared.command.RegroupCommand.TheVariants as command
 use Rattle.regroup.specs.Commands.{regroup_command}
-use Rattle.regroup.specs.Ways.{passed_in, path_to}
+use Rattle.regroup.specs.Ways.{crossed_in, passed_in, path_to}
 
 abbrev pub relocate_row : Bool → List Check
-relocate_row true = SameInstance ∷ Busy ∷ Unreachable ∷ OtherCluster ∷ Below ∷ DestNotLogging ∷ SameServerId ∷ VersionLower ∷ GtidOff ∷ Errant ∷ []
+relocate_row true = SameInstance ∷ Busy ∷ Unreachable ∷ OtherCluster ∷ Below ∷ DestNotLogging ∷ SameServerId ∷ VersionLower ∷ GtidOff ∷ Errant ∷ PurgedSet ∷ []
 relocate_row false = SameInstance ∷ Busy ∷ Unreachable ∷ NoSource ∷ AlreadyDetached ∷ OtherCluster ∷ Below ∷ DestNotLogging ∷ SameServerId ∷ VersionLower ∷ []
 
 abbrev pub replicas_row : Bool → List Check
-replicas_row true = SameInstance ∷ Busy ∷ Unreachable ∷ OtherCluster ∷ Below ∷ DestNotLogging ∷ SameServerId ∷ VersionLower ∷ Errant ∷ []
+replicas_row true = SameInstance ∷ Busy ∷ Unreachable ∷ OtherCluster ∷ Below ∷ DestNotLogging ∷ SameServerId ∷ VersionLower ∷ Errant ∷ PurgedSet ∷ []
 replicas_row false = SameInstance ∷ Busy ∷ Unreachable ∷ OtherCluster ∷ Below ∷ DestNotLogging ∷ SameServerId ∷ VersionLower ∷ []
 
--- the row of a command, behind the check that its instances are known and before its last one, by whether the servers
--- use GTIDs
+-- the row of a command, behind the check that its instances are known and before its own one, by whether the servers use
+-- GTIDs: then no path is looked for
 abbrev pub row_of : Bool → RegroupCommand → List Check
 row_of gtid command.Relocate = relocate_row gtid
 row_of gtid command.RelocateReplicas = replicas_row gtid
 row_of gtid command.RegroupReplicas = Busy ∷ []
+
+-- the row behind a command's own check
+abbrev pub places_row : Bool → List Check
+places_row true = []
+places_row false = PurgedPlace ∷ []
+
+abbrev pub last_row_of : Bool → RegroupCommand → List Check
+last_row_of gtid command.Relocate = places_row gtid
+last_row_of gtid command.RelocateReplicas = places_row gtid
+last_row_of gtid command.RegroupReplicas = []
 
 -- the servers that move, by name
 abbrev pub movers_of : BookState → RegroupCommand → ServerNo → Option ServerNo → List ServerNo
@@ -48,14 +58,24 @@ abbrev pub passed_by : Bool → BookState → List ServerNo → Option ServerNo 
 passed_by true b movers d = []
 passed_by false b movers d = flat_map (λ n. passed_in (path_to b d n)) movers
 
+-- the servers by whose coordinates the servers go their paths
+abbrev pub crossed_by : Bool → BookState → List ServerNo → Option ServerNo → List ServerNo
+crossed_by true b movers d = []
+crossed_by false b movers d = flat_map (λ n. crossed_in n (path_to b d n)) movers
+
 -- servers that move, their new source, and the sources that they pass
 abbrev pub moving_list : World → BookState → List ServerNo → Option ServerNo → List ServerNo
 moving_list w b movers d = movers ++ (option_to_list d ++ passed_by w.gtid b movers d)
 
--- which servers move to the destination that is given, and the servers of which the job takes the leases
+-- servers go their paths to the destination that is given
+abbrev pub relocating : World → BookState → ServerNo → List ServerNo → Option ServerNo → Case
+relocating w b i movers d = going_by (crossed_by w.gtid b movers d) (moving i movers d (moving_list w b movers d))
+
+-- which servers move to the destination that is given, the servers of which the job takes the leases, and those by whose
+-- coordinates the moves go
 abbrev pub case_of : World → BookState → RegroupCommand → ServerNo → Option ServerNo → Case
-case_of w b command.Relocate i d = moving i (i ∷ []) d (moving_list w b (i ∷ []) d)
-case_of w b command.RelocateReplicas i d = moving i (replicas_but b i d) d (moving_list w b (replicas_but b i d) d)
+case_of w b command.Relocate i d = relocating w b i (i ∷ []) d
+case_of w b command.RelocateReplicas i d = relocating w b i (replicas_but b i d) d
 case_of w b command.RegroupReplicas i d = moving i [] None (i ∷ replicas_of b i)
 
 -- a server has no path to the destination
@@ -69,19 +89,27 @@ astray false b movers d = first_about (without_path b d) movers
 abbrev pub without_candidate : World → BookState → Moment → ServerNo → Option Refusal
 without_candidate w b now i = only_if (not (has_candidate w b now i)) NoCandidate
 
--- the last check of a command: with GTIDs no path is looked for
-abbrev pub last_refusal : World → BookState → Moment → RegroupCommand → ServerNo → Option ServerNo → Option Refusal
-last_refusal w b now command.Relocate i d = astray w.gtid b (i ∷ []) d
-last_refusal w b now command.RelocateReplicas i d = astray w.gtid b (replicas_but b i d) d
-last_refusal w b now command.RegroupReplicas i d = without_candidate w b now i
+-- a command's own check: with GTIDs no path is looked for
+abbrev pub own_refusal : World → BookState → Moment → RegroupCommand → ServerNo → Option ServerNo → Option Refusal
+own_refusal w b now command.Relocate i d = astray w.gtid b (i ∷ []) d
+own_refusal w b now command.RelocateReplicas i d = astray w.gtid b (replicas_but b i d) d
+own_refusal w b now command.RegroupReplicas i d = without_candidate w b now i
 
 -- the first check of a command's row that doesn't pass
 abbrev pub row_refusal : World → BookState → RegroupCommand → ServerNo → Option ServerNo → Option Refusal
 row_refusal w b c i d = first_refusal w b (case_of w b c i d) (row_of w.gtid c)
 
+-- the first check behind a command's own that doesn't pass
+abbrev pub last_refusal : World → BookState → RegroupCommand → ServerNo → Option ServerNo → Option Refusal
+last_refusal w b c i d = first_refusal w b (case_of w b c i d) (last_row_of w.gtid c)
+
+-- what refuses a command behind its row
+abbrev pub rest_refusal : World → BookState → Moment → RegroupCommand → ServerNo → Option ServerNo → Option Refusal
+rest_refusal w b now c i d = option_or (own_refusal w b now c i d) (last_refusal w b c i d)
+
 -- what refuses a command about an instance
 abbrev pub refusal_about : World → BookState → Moment → RegroupCommand → ServerNo → Option ServerNo → Option Refusal
-refusal_about w b now c i d = option_or (row_refusal w b c i d) (last_refusal w b now c i d)
+refusal_about w b now c i d = option_or (row_refusal w b c i d) (rest_refusal w b now c i d)
 
 -- the refusal with the lowest number that applies to one of these commands at a moment
 abbrev pub refusal_of : World → BookState → Moment → Command → Option Refusal

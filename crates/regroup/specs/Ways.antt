@@ -47,6 +47,17 @@ abbrev pub path_to : BookState → Option ServerNo → ServerNo → Option Path
 path_to b None n = None
 path_to b (Some d) n = path_of b n d
 
+-- the servers by whose coordinates under their sources a server goes its path: those that it passes, or where it passes
+-- none and goes on where it is, itself
+abbrev pub crossed_on : ServerNo → Option ServerNo → List ServerNo → List ServerNo
+crossed_on n under (x ∷ xs) = x ∷ xs
+crossed_on n None [] = n ∷ []
+crossed_on n (Some s) [] = []
+
+abbrev pub crossed_in : ServerNo → Option Path → List ServerNo
+crossed_in n None = []
+crossed_in n (Some p) = crossed_on n p.under p.passed
+
 abbrev pub passed_in : Option Path → List ServerNo
 passed_in None = []
 passed_in (Some p) = p.passed

@@ -8,10 +8,10 @@ ghost use Rattle.commands.specs.Turns.{is_within};
 ghost use Rattle.permission.specs.Checks.{permit_fault, permitted};
 ghost use Rattle.permission.specs.Lists.{first_about};
 ghost use Rattle.regroup.specs.Commands.{regroup_command};
-ghost use Rattle.regroup.specs.Permits.{astray, case_of, last_refusal, leased_by, movers_of, passed_by, refusal_about, refusal_of, row_of, without_candidate, without_path};
+ghost use Rattle.regroup.specs.Permits.{astray, case_of, crossed_by, last_row_of, leased_by, movers_of, own_refusal, passed_by, refusal_about, refusal_of, relocating, row_of, without_candidate, without_path};
 
 use crate::command::{RegroupCommand, regroup_command};
-use crate::ways::{path_to, push_passed};
+use crate::ways::{path_to, push_crossed, push_passed};
 use crate::{Memory, PermitFault};
 use book_views::replicas;
 use commands::{Command, Refusal};
@@ -36,7 +36,7 @@ const RELOCATE: [Check; 10] = [
     Check::VersionLower,
 ];
 
-const RELOCATE_BY_GTIDS: [Check; 10] = [
+const RELOCATE_BY_GTIDS: [Check; 11] = [
     Check::SameInstance,
     Check::Busy,
     Check::Unreachable,
@@ -47,6 +47,7 @@ const RELOCATE_BY_GTIDS: [Check; 10] = [
     Check::VersionLower,
     Check::GtidOff,
     Check::Errant,
+    Check::PurgedSet,
 ];
 
 const REPLICAS: [Check; 8] = [
@@ -60,7 +61,7 @@ const REPLICAS: [Check; 8] = [
     Check::VersionLower,
 ];
 
-const REPLICAS_BY_GTIDS: [Check; 9] = [
+const REPLICAS_BY_GTIDS: [Check; 10] = [
     Check::SameInstance,
     Check::Busy,
     Check::Unreachable,
@@ -70,11 +71,12 @@ const REPLICAS_BY_GTIDS: [Check; 9] = [
     Check::SameServerId,
     Check::VersionLower,
     Check::Errant,
+    Check::PurgedSet,
 ];
 
 const REGROUP: [Check; 1] = [Check::Busy];
 
-// The checks of a command, by rising number, between the one that its instances are known and its last one.
+// The checks of a command, by rising number, between the one that its instances are known and its own one.
 fn row_of(gtid: bool, command: RegroupCommand) -> &'static [Check]
     ensures { result.now ≡ row_of gtid command }
 {
@@ -82,6 +84,20 @@ fn row_of(gtid: bool, command: RegroupCommand) -> &'static [Check]
         RegroupCommand::Relocate => { if gtid { &RELOCATE_BY_GTIDS } else { &RELOCATE } }
         RegroupCommand::RelocateReplicas => { if gtid { &REPLICAS_BY_GTIDS } else { &REPLICAS } }
         RegroupCommand::RegroupReplicas => &REGROUP,
+    }
+}
+
+const PLACES: [Check; 1] = [Check::PurgedPlace];
+
+// The checks behind a command's own one.
+fn last_row_of(gtid: bool, command: RegroupCommand) -> &'static [Check]
+    ensures { result.now ≡ last_row_of gtid command }
+{
+    match command {
+        RegroupCommand::Relocate | RegroupCommand::RelocateReplicas => {
+            if gtid { &[] } else { &PLACES }
+        }
+        RegroupCommand::RegroupReplicas => &[],
     }
 }
 
@@ -125,7 +141,47 @@ fn beside_of(
     Ok(list)
 }
 
-// Which servers move to which source, and beside which.
+// The servers by whose coordinates the servers that move go their paths.
+fn crossed_by(
+    alloc: Global,
+    book: &Book,
+    forest: &Forest,
+    gtid: bool,
+    movers: &[ServerNo],
+    d: Option<ServerNo>,
+) -> Result<Vec<ServerNo>, Memory>
+    requires { forest.now ≡ book_forest book.now }
+    ensures { IfOk result (λ list. list.items ≡ crossed_by gtid book.now movers.now d) }
+{
+    let mut list = Vec::new(alloc);
+    if gtid {
+        return Ok(list);
+    }
+    for no in movers {
+        push_crossed(&mut list, *no, path_to(alloc, book, forest, d, *no)?)?;
+    }
+    Ok(list)
+}
+
+// Servers go their paths to a destination.
+fn relocating(
+    alloc: Global,
+    book: &Book,
+    forest: &Forest,
+    world: &World,
+    i: ServerNo,
+    movers: Vec<ServerNo>,
+    d: Option<ServerNo>,
+) -> Result<Movers, Memory>
+    requires { forest.now ≡ book_forest book.now }
+    ensures { IfOk result (λ m. m ≡ relocating world.now book.now i movers.items d) }
+{
+    let beside = beside_of(alloc, book, forest, world.gtid(), &movers, d)?;
+    let crossed = crossed_by(alloc, book, forest, world.gtid(), &movers, d)?;
+    Ok(Movers::new(alloc, i, d, movers, beside).going_by(crossed))
+}
+
+// Which servers move to which source, beside which, and by whose coordinates.
 fn case_of(
     alloc: Global,
     book: &Book,
@@ -141,8 +197,7 @@ fn case_of(
     match command {
         RegroupCommand::Relocate | RegroupCommand::RelocateReplicas => {
             let movers = movers_of(alloc, book, command, i, d)?;
-            let beside = beside_of(alloc, book, forest, world.gtid(), &movers, d)?;
-            Ok(Movers::new(i, d, movers, beside))
+            relocating(alloc, book, forest, world, i, movers, d)
         }
         RegroupCommand::RegroupReplicas => {
             Ok(Movers::round(alloc, i, None, replicas(alloc, book, i)?))
@@ -189,8 +244,8 @@ fn without_candidate(
     }
 }
 
-// The last check of a command.
-fn last_refusal(
+// A command's own check.
+fn own_refusal(
     alloc: Global,
     book: &Book,
     forest: &Forest,
@@ -201,7 +256,7 @@ fn last_refusal(
     now: Moment,
 ) -> Result<Option<Refusal>, Memory>
     requires { forest.now ≡ book_forest book.now }
-    ensures { IfOk result (λ r. r ≡ last_refusal world.now book.now now command i d) }
+    ensures { IfOk result (λ r. r ≡ own_refusal world.now book.now now command i d) }
 {
     match command {
         RegroupCommand::Relocate => astray(alloc, book, forest, world.gtid(), &[i], d),
@@ -231,7 +286,11 @@ fn refusal_about(
     if let Some(refusal) = row_refusal(alloc, book, forest, world, &movers, row)? {
         return Ok(Some(refusal));
     }
-    last_refusal(alloc, book, forest, world, command, i, d, now)
+    if let Some(refusal) = own_refusal(alloc, book, forest, world, command, i, d, now)? {
+        return Ok(Some(refusal));
+    }
+    let last_row = last_row_of(world.gtid(), command);
+    row_refusal(alloc, book, forest, world, &movers, last_row)
 }
 
 /// Refuses one of these commands with the refusal of the lowest number that applies. It goes by the book with its rules

@@ -2,7 +2,7 @@
 
 ghost use Rattle.std.specs.Prelude.{◌≡◌, ◌++◌, IfOk, length, option_map};
 ghost use Rattle.book_views.specs.Forests.{book_forest};
-ghost use Rattle.regroup.specs.Ways.{parent_at, passed_in, path_beside, path_by, path_of, path_to, way_up};
+ghost use Rattle.regroup.specs.Ways.{crossed_in, parent_at, passed_in, path_beside, path_by, path_of, path_to, way_up};
 
 use crate::Memory;
 use book_views::parent;
@@ -157,6 +157,26 @@ pub(crate) fn path_to(
         Some(d) => path_of(alloc, book, forest, no, d),
         None => Ok(None),
     }
+}
+
+/// Puts the servers by whose coordinates a server goes its path behind others: the sources that it passes, or itself where
+/// it goes on where it is.
+pub(crate) fn push_crossed(
+    list: &mut Vec<ServerNo>,
+    no: ServerNo,
+    path: Option<Path>,
+) -> Result<(), Memory>
+    ensures { IfOk result (λ _. list.new.items ≡ list.old.items ++ crossed_in no path) }
+{
+    let Some(path) = path else {
+        return Ok(());
+    };
+    if path.passed.is_empty() && path.under.is_none() {
+        list.push(no)?;
+    } else {
+        list.extend_from_slice(&path.passed)?;
+    }
+    Ok(())
 }
 
 /// Puts the sources that a path passes behind others.

@@ -71,7 +71,7 @@ use Rattle.regroup.specs.Commands.{regroup_command}
 use Rattle.regroup.specs.declared.command.RegroupCommand.{RegroupCommand}
 use Rattle.regroup.specs.declared.command.RegroupCommand.TheVariants as regroups
 use Rattle.regroup.specs.Permits as path_permits
-use Rattle.regroup.specs.Permits.{last_refusal, relocate_row, replicas_row}
+use Rattle.regroup.specs.Permits.{relocate_row, replicas_row, rest_refusal}
 use Rattle.regroup.specs.Plans as path_plans
 use Rattle.regroup.specs.Plans.{arrived, ascended, climbed, moved_by, next_of, relocated, travelled}
 use Rattle.regroup.specs.Ways.{Path, path_of}
@@ -384,7 +384,7 @@ module _ (c : Clusters) (w : World) (trim : IsTrim c w) (b : BookState) (now : M
       with_i k None h = tt
       with_i k (Some i) h =
           paths-planned c w trim b i k given.d
-          (neither (first_refusal w b (path_permits.case_of w b k i given.d) (path_permits.row_of w.gtid k)) (last_refusal w b now k i given.d) h).0
+          (neither (first_refusal w b (path_permits.case_of w b k i given.d) (path_permits.row_of w.gtid k)) (rest_refusal w b now k i given.d) h).0
 
       go : (k : Option RegroupCommand) → refused b (path_permits.refusal_about w b now) k given ≡ None → AreDueWithin c (about_given [] (path_plans.ops_of w b) k given)
       go None h = tt

@@ -1,0 +1,7 @@
+use Rattle.std.proofs.Common.{◌≡◌, drop}
+use Rattle.permission.specs.Checks.{place_purged}
+use Rattle.permission.specs.Lists.{first_about}
+use Rattle.permission.proofs.by_book.first_place_purged.Given as goal
+
+abbrev pub invariant-loop-no : goal.invariant-loop-no
+invariant-loop-no l = first_about (place_purged l.book) (drop l.no-index l.servers) ≡ first_about (place_purged l.book) l.servers
