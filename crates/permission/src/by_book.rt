@@ -5,6 +5,7 @@ ghost use Rattle.std.specs.Option.{option_copied};
 ghost use Rattle.instance_keeper.specs.Book.{instance_at, lease_at};
 ghost use Rattle.book_views.specs.Forests.{book_forest, IsBelow};
 ghost use Rattle.book_views.specs.Sources.{is_instance, seen_source};
+ghost use Rattle.operations.specs.Turns.{is_within};
 ghost use Rattle.permission.specs.Checks.{busy, of_below, place_purged, set_purged, unreached};
 ghost use Rattle.permission.specs.Lists.{first_about};
 ghost use Rattle.permission.specs.Views.{attached_in, attached_of, exec_seen, first_seen, is_attached_in, is_auto, is_before, is_below, is_detached_in, is_valid, purged_seen, set_seen, source_above, source_of};
@@ -180,12 +181,19 @@ pub(crate) fn first_place_purged(book: &Book, servers: &[ServerNo]) -> Option<Re
     None
 }
 
+// Whether each GTID of a set is in another.
+fn is_within(set: &GtidSet, other: &GtidSet) -> bool
+    ensures { result ≡ is_within set.now other.now }
+{
+    set.is_subset(other)
+}
+
 fn set_purged(alloc: Global, book: &Book, one: Move) -> Option<Refusal>
     ensures { result ≡ set_purged book.now one }
 {
     let none = GtidSet::empty(alloc);
     let purged = purged_seen(book, one.source, &none);
-    if purged.is_subset(set_seen(book, one.no, &none)) {
+    if is_within(purged, set_seen(book, one.no, &none)) {
         None
     } else {
         Some(Refusal::Purged(one.source, first_seen(book, one.source)))
