@@ -1,0 +1,5 @@
+pub mod Answering
+pub mod Aiming
+pub mod Taking
+pub mod Stopping
+pub mod Turning
