@@ -3,3 +3,4 @@ pub mod Aiming
 pub mod Taking
 pub mod Stopping
 pub mod Turning
+pub mod Holding
