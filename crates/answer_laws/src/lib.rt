@@ -2,5 +2,7 @@
 #![tactic(auto)]
 
 mod kept;
+mod settings;
 
 pub use kept::{last_blocks_are_told, latest_bridges_are_found};
+pub use settings::{permits_go_by_the_book, plans_go_by_the_book};
