@@ -1,3 +1,4 @@
 pub mod Latest
 pub mod Blocking
 pub mod ByBook
+pub mod Rising
