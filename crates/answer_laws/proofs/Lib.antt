@@ -2,3 +2,4 @@ pub mod Latest
 pub mod Blocking
 pub mod ByBook
 pub mod Rising
+pub mod PlansOf
