@@ -1,8 +1,8 @@
 -- What is asked of servers beside the book are their settings, and whether GTIDs are used.
-use Rattle.std.proofs.Common.{◌≡◌, ℕ, Bool, true, false, not, ◌&&◌, ◌||◌, List, [], ◌∷◌, ◌++◌, map, refl, sym, ◌∙◌, ap, Option, Some, None}
-use Rattle.std.specs.Prelude.{option_map, is_some, ◌==◌, nat_eq}
+use Rattle.std.proofs.Common.{◌≡◌, ℕ, Bool, false, not, ◌&&◌, ◌||◌, List, [], ◌∷◌, ◌++◌, refl, sym, ◌∙◌, ap, Option, Some, None}
+use Rattle.std.specs.Prelude.{option_map, ◌==◌, nat_eq}
 use Rattle.std.specs.Cmp.Lexicographic.{pointwise}
-use Rattle.std.specs.List.{flat_map, list_any}
+use Rattle.std.specs.List.{list_any}
 use Rattle.std.specs.Option.{option_or, option_to_list}
 use Rattle.orch_base.specs.declared.code.Code.{Code}
 use Rattle.orch_base.specs.declared.server.Moment.{Moment}
@@ -11,7 +11,6 @@ use Rattle.orch_base.specs.declared.server.Settings.{Settings}
 use Rattle.orch_base.specs.declared.server.Version.{Version}
 use Rattle.server_model.specs.declared.server.Server.{Server}
 use Rattle.server_model.specs.Worlds.{World, server_at}
-use Rattle.commands.specs.declared.refusal.Refusal.{Refusal}
 use Rattle.commands.specs.declared.refusal.Refusal.TheVariants as refusal
 use Rattle.commands.specs.declared.turn.Command.{Command}
 use Rattle.instance_keeper.specs.Book.{BookState, rule_at}
@@ -22,15 +21,14 @@ use Rattle.failure_analysis.specs.declared.code.Action.{Action}
 use Rattle.failure_analysis.specs.declared.code.Action.TheVariants.{MasterRecovery, IntermediateRecovery, Nothing}
 use Rattle.promotion_candidates.specs.Candidates.{has_candidate, is_candidate}
 use Rattle.promotion_rules.specs.Choice.{is_barred}
-use Rattle.permission.specs.Checks.{Case, errant, errant_by, first_refusal, of_below, of_lower_version, of_other_cluster, of_same_id, refusal_by, unknown_in, without_log}
+use Rattle.permission.specs.Checks.{Case, errant, errant_by, first_refusal, of_lower_version, of_other_cluster, of_same_id, refusal_by, unknown_in, without_log}
 use Rattle.permission.specs.Errants.{own_missing}
-use Rattle.permission.specs.Lists.{first_about, first_of, only_if}
+use Rattle.permission.specs.Lists.{first_about, only_if}
 use Rattle.permission.specs.Replicas.{replicas_but}
 use Rattle.permission.specs.Rows.{about, about_one, moving}
-use Rattle.permission.specs.Views.{has_log, id_in, is_auto, is_lower, is_valid, label_in, logs_in, lower_version, same_id, same_label, set_seen, source_of, uuid_in, uuid_of, version_in}
+use Rattle.permission.specs.Views.{has_log, id_in, is_auto, is_lower, is_valid, label_in, logs_in, lower_version, same_id, same_label, set_seen, source_of, uuid_in, version_in}
 use Rattle.permission.specs.declared.case.Check.{Check}
 use Rattle.permission.specs.declared.case.Check.TheVariants as check
-use Rattle.permission.specs.declared.case.Move.{Move}
 use Rattle.command_routes.specs.declared.kinds.CoordsCommand.{CoordsCommand}
 use Rattle.command_routes.specs.declared.kinds.CoordsCommand.TheVariants as coord
 use Rattle.command_routes.specs.declared.kinds.GtidCommand.{GtidCommand}
@@ -39,7 +37,7 @@ use Rattle.moves_coords.specs.Permits as coords
 use Rattle.moves_coords.specs.Plans as coords_plans
 use Rattle.moves_gtid.specs.Commands.{gtid_command}
 use Rattle.moves_gtid.specs.Permits as gtids
-use Rattle.recovery_permits.specs.Checks.{code_at, can_succeed, has_successor, held_back, no_master, no_replica, without_candidate, without_successor}
+use Rattle.recovery_permits.specs.Checks.{code_at, can_succeed, has_successor, held_back, no_master, no_replica}
 use Rattle.recovery_permits.specs.Recoveries as recovery
 use Rattle.recovery_permits.specs.Takeovers as takeover
 use Rattle.recovery_permits.specs.declared.attempt.Attempt.{Attempt}

@@ -1,5 +1,5 @@
 -- The plans of permitted repoints without a destination.
-use Rattle.std.proofs.Common.{◌≡◌, Bool, true, false, [], ◌∷◌, sym, ◌∙◌, ap, Option, Some, None}
+use Rattle.std.proofs.Common.{◌≡◌, Bool, true, false, [], ◌∷◌, sym, ◌∙◌, ap, Some, None}
 use Rattle.std.specs.Prelude.{map}
 use Rattle.orch_base.specs.declared.server.ServerNo.{ServerNo}
 use Rattle.commands.specs.declared.line.Line.TheVariants.{Follows}

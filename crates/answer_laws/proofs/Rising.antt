@@ -1,5 +1,5 @@
 -- Checks by rising numbers answer the lowest refusal.
-use Rattle.std.proofs.Common.{◌≡◌, ℕ, suc, ◌+◌, ◌≤◌, ◌<◌, Bool, true, false, cond, not, ◌&&◌, List, [], ◌∷◌, ◌++◌, map, refl, sym, ◌∙◌, ap, subst, Option, Some, None, Result, Ok, Err, arith}
+use Rattle.std.proofs.Common.{◌≡◌, ℕ, suc, ◌+◌, ◌≤◌, ◌<◌, Bool, true, false, cond, not, ◌&&◌, List, [], ◌∷◌, ◌++◌, refl, sym, ◌∙◌, ap, subst, Option, Some, None, Result, Ok, Err, arith}
 use Rattle.std.specs.Prelude.{All, Any, is_some, nat_lt, option_map}
 use Rattle.std.specs.Option.{option_or}
 use Rattle.std.proofs.lemmas.Bool.{and_parts, ltb-true}
@@ -9,12 +9,12 @@ use Rattle.orch_base.specs.declared.code.Code.{Code}
 use Rattle.orch_base.specs.declared.server.Moment.{Moment}
 use Rattle.orch_base.specs.declared.server.ServerNo.{ServerNo}
 use Rattle.commands.specs.Refusals.{number_of}
-use Rattle.commands.specs.Unknown.{is_unknown, unknown_of}
+use Rattle.commands.specs.Unknown.{is_unknown}
 use Rattle.commands.specs.declared.refusal.Refusal.{Refusal}
 use Rattle.commands.specs.declared.refusal.Refusal.TheVariants as refusal
 use Rattle.commands.specs.declared.turn.Command.{Command}
 use Rattle.instance_keeper.specs.Book.{BookState, downtime_at}
-use Rattle.book_views.specs.Sources.{is_instance, label_at, replicas_of}
+use Rattle.book_views.specs.Sources.{is_instance, label_at}
 use Rattle.audit_log.specs.Audits.{AuditState, may_begin}
 use Rattle.audit_log.specs.declared.held.Held.{Held}
 use Rattle.audit_log.specs.declared.held.Held.TheVariants as held
@@ -23,8 +23,8 @@ use Rattle.failure_analysis.specs.declared.code.Action.{Action}
 use Rattle.failure_analysis.specs.declared.code.Action.TheVariants.{MasterRecovery, IntermediateRecovery, Nothing}
 use Rattle.move_laws.specs.Numbers.{check_number, rises_from}
 use Rattle.move_laws.proofs.Numbered.{check-number, gtid-rows-rise, rows-rise}
-use Rattle.permission.specs.Checks.{Case, first_refusal, is_given, is_known, refusal_by, unknown_in}
-use Rattle.permission.specs.Lists.{first_about, first_of, only_if}
+use Rattle.permission.specs.Checks.{Case, is_given, is_known, refusal_by, unknown_in}
+use Rattle.permission.specs.Lists.{first_of, only_if}
 use Rattle.permission.specs.Replicas.{replicas_but}
 use Rattle.permission.specs.Rows.{about, about_one}
 use Rattle.permission.specs.Views.{attached_of, source_of}
@@ -47,7 +47,7 @@ use Rattle.regroup.specs.Ways.{path_to}
 use Rattle.regroup.specs.declared.command.RegroupCommand.{RegroupCommand}
 use Rattle.regroup.specs.declared.command.RegroupCommand.TheVariants as path
 use Rattle.server_model.specs.Worlds.{World}
-use Rattle.answer_laws.specs.Lowest.{IsAnswer, IsLowest, IsNoLower, action_checks, code_checks, coords_checks, gtid_checks, own_checks, path_checks, recovery_checks, row_checks, takeover_checks}
+use Rattle.answer_laws.specs.Lowest.{IsAnswer, IsNoLower, action_checks, code_checks, coords_checks, gtid_checks, own_checks, path_checks, recovery_checks, row_checks, takeover_checks}
 
 -- ---- checks whose numbers rise
 
