@@ -1,0 +1,277 @@
+-- What is asked of servers beside the book are their settings, and whether GTIDs are used.
+use Rattle.std.proofs.Common.{◌≡◌, ℕ, Bool, false, not, ◌&&◌, ◌||◌, List, [], ◌∷◌, ◌++◌, refl, sym, ◌∙◌, ap, Option, Some, None}
+use Rattle.std.specs.Prelude.{option_map, ◌==◌, nat_eq}
+use Rattle.std.specs.Cmp.Lexicographic.{pointwise}
+use Rattle.std.specs.List.{list_any}
+use Rattle.std.specs.Option.{option_or, option_to_list}
+use Rattle.orch_base.specs.declared.code.Code.{Code}
+use Rattle.orch_base.specs.declared.server.Moment.{Moment}
+use Rattle.orch_base.specs.declared.server.ServerNo.{ServerNo}
+use Rattle.orch_base.specs.declared.server.Settings.{Settings}
+use Rattle.orch_base.specs.declared.server.Version.{Version}
+use Rattle.server_model.specs.declared.server.Server.{Server}
+use Rattle.server_model.specs.Worlds.{World, server_at}
+use Rattle.commands.specs.declared.refusal.Refusal.TheVariants as refusal
+use Rattle.commands.specs.declared.turn.Command.{Command}
+use Rattle.instance_keeper.specs.Book.{BookState, rule_at}
+use Rattle.book_views.specs.Sources.{is_instance, is_replica_of, replicas_of}
+use Rattle.audit_log.specs.Audits.{AuditState}
+use Rattle.failure_analysis.specs.Table.{action_of}
+use Rattle.failure_analysis.specs.declared.code.Action.{Action}
+use Rattle.failure_analysis.specs.declared.code.Action.TheVariants.{MasterRecovery, IntermediateRecovery, Nothing}
+use Rattle.promotion_candidates.specs.Candidates.{has_candidate, is_candidate}
+use Rattle.promotion_rules.specs.Choice.{is_barred}
+use Rattle.permission.specs.Checks.{Case, errant, errant_by, first_refusal, of_lower_version, of_other_cluster, of_same_id, refusal_by, unknown_in, without_log}
+use Rattle.permission.specs.Errants.{own_missing}
+use Rattle.permission.specs.Lists.{first_about, only_if}
+use Rattle.permission.specs.Replicas.{replicas_but}
+use Rattle.permission.specs.Rows.{about, about_one, moving}
+use Rattle.permission.specs.Views.{has_log, id_in, is_auto, is_lower, is_valid, label_in, logs_in, lower_version, same_id, same_label, set_seen, source_of, uuid_in, version_in}
+use Rattle.permission.specs.declared.case.Check.{Check}
+use Rattle.permission.specs.declared.case.Check.TheVariants as check
+use Rattle.command_routes.specs.declared.kinds.CoordsCommand.{CoordsCommand}
+use Rattle.command_routes.specs.declared.kinds.CoordsCommand.TheVariants as coord
+use Rattle.command_routes.specs.declared.kinds.GtidCommand.{GtidCommand}
+use Rattle.moves_coords.specs.Commands.{coords_command}
+use Rattle.moves_coords.specs.Permits as coords
+use Rattle.moves_coords.specs.Plans as coords_plans
+use Rattle.moves_gtid.specs.Commands.{gtid_command}
+use Rattle.moves_gtid.specs.Permits as gtids
+use Rattle.recovery_permits.specs.Checks.{code_at, can_succeed, has_successor, held_back, no_master, no_replica}
+use Rattle.recovery_permits.specs.Recoveries as recovery
+use Rattle.recovery_permits.specs.Takeovers as takeover
+use Rattle.recovery_permits.specs.declared.attempt.Attempt.{Attempt}
+use Rattle.regroup.specs.Commands.{regroup_command}
+use Rattle.regroup.specs.Permits as paths
+use Rattle.regroup.specs.Plans as path_plans
+use Rattle.regroup.specs.declared.command.RegroupCommand.{RegroupCommand}
+use Rattle.regroup.specs.declared.command.RegroupCommand.TheVariants as path
+use Rattle.answer_laws.specs.Settings.{SameSettings}
+
+-- ---- settings
+
+abbrev settings_in : Option Server → Option Settings
+settings_in o = option_map (λ s. s.settings) o
+
+abbrev label_by : Option Settings → List ℕ
+label_by None = []
+label_by (Some s) = s.cluster
+
+abbrev logs_by : Option Settings → Bool
+logs_by None = false
+logs_by (Some s) = s.logs
+
+abbrev id_by : Option Settings → ℕ
+id_by None = 0
+id_by (Some s) = s.server_id
+
+abbrev version_by : Option Settings → Version
+version_by None = record { major = 0; minor = 0; patch = 0 }
+version_by (Some s) = s.version
+
+abbrev uuid_by : Option Settings → ℕ
+uuid_by None = 0
+uuid_by (Some s) = s.uuid
+
+label-of : (o : Option Server) → label_in o ≡ label_by (settings_in o)
+label-of None = refl
+label-of (Some s) = refl
+
+logs-of : (o : Option Server) → logs_in o ≡ logs_by (settings_in o)
+logs-of None = refl
+logs-of (Some s) = refl
+
+id-of : (o : Option Server) → id_in o ≡ id_by (settings_in o)
+id-of None = refl
+id-of (Some s) = refl
+
+version-of : (o : Option Server) → version_in o ≡ version_by (settings_in o)
+version-of None = refl
+version-of (Some s) = refl
+
+uuid-of : (o : Option Server) → uuid_in o ≡ uuid_by (settings_in o)
+uuid-of None = refl
+uuid-of (Some s) = refl
+
+-- ---- lists and options
+
+about-same : {A B : Type 0} (f g : A → Option B) → ((a : A) → f a ≡ g a) → (xs : List A) → first_about f xs ≡ first_about g xs
+about-same f g same [] = refl
+about-same f g same (x ∷ xs) = ap (λ o. option_or o (first_about f xs)) (same x) ∙ ap (option_or (g x)) (about-same f g same xs)
+
+any-same : {A : Type 0} (f g : A → Bool) → ((a : A) → f a ≡ g a) → (xs : List A) → list_any f xs ≡ list_any g xs
+any-same f g same [] = refl
+any-same f g same (x ∷ xs) = ap (λ b. b || list_any f xs) (same x) ∙ ap (λ b. g x || b) (any-same f g same xs)
+
+kinds-same : {K A : Type 0} (none : A) (f g : K → ServerNo → Option ServerNo → A) → ((c : K) (i : ServerNo) (d : Option ServerNo) → f c i d ≡ g c i d)
+    → (kind : Option K) (given : Command) → about none f kind given ≡ about none g kind given
+kinds-same none f g same None given = refl
+kinds-same none f g same (Some c) given = go given.i
+  where
+    go : (i : Option ServerNo) → about_one none (f c) i given.d ≡ about_one none (g c) i given.d
+    go None = refl
+    go (Some i) = same c i given.d
+
+module _ (w v : World) (same : SameSettings w v) where
+  by-label : (n : ℕ) → label_in (server_at w n) ≡ label_in (server_at v n)
+  by-label n = label-of (server_at w n) ∙ (ap label_by (same.settings n) ∙ sym (label-of (server_at v n)))
+
+  by-logs : (n : ℕ) → logs_in (server_at w n) ≡ logs_in (server_at v n)
+  by-logs n = logs-of (server_at w n) ∙ (ap logs_by (same.settings n) ∙ sym (logs-of (server_at v n)))
+
+  by-id : (n : ℕ) → id_in (server_at w n) ≡ id_in (server_at v n)
+  by-id n = id-of (server_at w n) ∙ (ap id_by (same.settings n) ∙ sym (id-of (server_at v n)))
+
+  by-version : (n : ℕ) → version_in (server_at w n) ≡ version_in (server_at v n)
+  by-version n = version-of (server_at w n) ∙ (ap version_by (same.settings n) ∙ sym (version-of (server_at v n)))
+
+  by-uuid : (n : ℕ) → uuid_in (server_at w n) ≡ uuid_in (server_at v n)
+  by-uuid n = uuid-of (server_at w n) ∙ (ap uuid_by (same.settings n) ∙ sym (uuid-of (server_at v n)))
+
+  labels-same : (m n : ServerNo) → same_label w m n ≡ same_label v m n
+  labels-same m n = ap (λ x. pointwise nat_eq x (label_in (server_at w n.0))) (by-label m.0) ∙ ap (pointwise nat_eq (label_in (server_at v m.0))) (by-label n.0)
+
+  ids-same : (m n : ServerNo) → same_id w m n ≡ same_id v m n
+  ids-same m n = ap (λ x. x == id_in (server_at w n.0)) (by-id m.0) ∙ ap (λ x. id_in (server_at v m.0) == x) (by-id n.0)
+
+  lower-same : (m n : ServerNo) → is_lower w m n ≡ is_lower v m n
+  lower-same m n = ap (λ x. lower_version x (version_in (server_at w n.0))) (by-version m.0) ∙ ap (lower_version (version_in (server_at v m.0))) (by-version n.0)
+
+  -- ---- checks
+
+  check-same : (b : BookState) (c : Case) (k : Check) → refusal_by w b c k ≡ refusal_by v b c k
+  check-same b c check.SameInstance = refl
+  check-same b c check.Busy = refl
+  check-same b c check.Unreachable = refl
+  check-same b c check.NoSource = refl
+  check-same b c check.NotDetached = refl
+  check-same b c check.AlreadyDetached = refl
+  check-same b c check.OtherCluster = about-same (of_other_cluster w) (of_other_cluster v) (λ m. ap (λ x. only_if (not x) refusal.OtherCluster) (labels-same m.no m.source)) c.moves
+  check-same b c check.Below = refl
+  check-same b c check.SourceHasNoSource = refl
+  check-same b c check.NotSibling = refl
+  check-same b c check.NotSameLog = refl
+  check-same b c check.DestNotLogging = about-same (without_log w) (without_log v) (λ n. ap (λ x. only_if (not x) refusal.DestNotLogging) (by-logs n.0)) c.sources
+  check-same b c check.SameServerId = about-same (of_same_id w) (of_same_id v) (λ m. ap (λ x. only_if x (refusal.SameServerId m.no)) (ids-same m.no m.source)) c.moves
+  check-same b c check.VersionLower = about-same (of_lower_version w) (of_lower_version v) (λ m. ap (λ x. only_if x (refusal.VersionLower m.no)) (lower-same m.no m.source)) c.moves
+  check-same b c check.GtidOff = ap (λ x. only_if (not x) refusal.GtidOff) same.gtid
+  check-same b c check.Errant =
+      about-same (errant w b) (errant v b) (λ m. ap (λ x. errant_by (own_missing x (set_seen b m.no) (set_seen b m.source))) (by-uuid m.no.0)) c.moves
+
+  row-same : (b : BookState) (c : Case) (row : List Check) → first_refusal w b c row ≡ first_refusal v b c row
+  row-same b c row = about-same (refusal_by w b c) (refusal_by v b c) (check-same b c) row
+
+  -- ---- by coordinates
+
+  by-gtids : (b : BookState) (i : ServerNo) → coords.by_gtids w b i ≡ coords.by_gtids v b i
+  by-gtids b i = ap (λ g. g && is_auto b i) same.gtid
+
+  pub coords-same : (b : BookState) (given : Command) → coords.refusal_of w b given ≡ coords.refusal_of v b given
+  coords-same b given = ap (option_or (unknown_in b given)) (kinds-same None (coords.refusal_about w b) (coords.refusal_about v b) one (coords_command given.name) given)
+    where
+      one : (c : CoordsCommand) (i : ServerNo) (d : Option ServerNo) → coords.refusal_about w b c i d ≡ coords.refusal_about v b c i d
+      one c i d =
+          row-same b (coords.case_of b c i d) (coords.row_of (coords.by_gtids w b i) c)
+          ∙ ap (λ g. first_refusal v b (coords.case_of b c i d) (coords.row_of g c)) (by-gtids b i)
+
+  ops-same : (b : BookState) (c : CoordsCommand) (i : ServerNo) (d : Option ServerNo) → coords_plans.ops_of w b c i d ≡ coords_plans.ops_of v b c i d
+  ops-same b coord.MoveUp i d = refl
+  ops-same b coord.MoveUpReplicas i d = refl
+  ops-same b coord.MoveBelow i d = refl
+  ops-same b coord.Repoint i d = ap (λ g. coords_plans.repointed_by g i d (source_of b i)) (by-gtids b i)
+  ops-same b coord.TakeSiblings i d = refl
+  ops-same b coord.TakeMaster i d = refl
+  ops-same b coord.DetachReplica i d = refl
+  ops-same b coord.ReattachReplica i d = refl
+  ops-same b coord.ResetReplica i d = refl
+  ops-same b coord.StartReplica i d = refl
+  ops-same b coord.StopReplica i d = refl
+  ops-same b coord.RestartReplica i d = refl
+  ops-same b coord.SetReadOnly i d = refl
+  ops-same b coord.SetWriteable i d = refl
+
+  pub coords-plans-same : (b : BookState) (given : Command) → coords_plans.plan_of w b given ≡ coords_plans.plan_of v b given
+  coords-plans-same b given = kinds-same [] (coords_plans.ops_of w b) (coords_plans.ops_of v b) (ops-same b) (coords_command given.name) given
+
+  -- ---- by GTIDs
+
+  pub gtids-same : (b : BookState) (given : Command) → gtids.refusal_of w b given ≡ gtids.refusal_of v b given
+  gtids-same b given =
+      ap (option_or (unknown_in b given))
+      (kinds-same None (gtids.refusal_about w b) (gtids.refusal_about v b) (λ (c : GtidCommand) i d. row-same b (gtids.case_of b c i d) (gtids.row_of c)) (gtid_command given.name) given)
+
+  -- ---- candidates
+
+  candidates-same : (b : BookState) (now : Moment) (i : ServerNo) → has_candidate w b now i ≡ has_candidate v b now i
+  candidates-same b now i =
+      any-same (is_candidate w b now) (is_candidate v b now) (λ n. ap (λ x. is_valid b n && (x && not (is_barred (rule_at b n now)))) (by-logs n.0)) (replicas_of b i)
+
+  -- ---- by paths
+
+  case-same : (b : BookState) (c : RegroupCommand) (i : ServerNo) (d : Option ServerNo) → paths.case_of w b c i d ≡ paths.case_of v b c i d
+  case-same b path.Relocate i d = ap (λ g. moving i (i ∷ []) d ((i ∷ []) ++ (option_to_list d ++ paths.passed_by g b (i ∷ []) d))) same.gtid
+  case-same b path.RelocateReplicas i d =
+      ap (λ g. moving i (replicas_but b i d) d (replicas_but b i d ++ (option_to_list d ++ paths.passed_by g b (replicas_but b i d) d))) same.gtid
+  case-same b path.RegroupReplicas i d = refl
+
+  last-same : (b : BookState) (now : Moment) (c : RegroupCommand) (i : ServerNo) (d : Option ServerNo) → paths.last_refusal w b now c i d ≡ paths.last_refusal v b now c i d
+  last-same b now path.Relocate i d = ap (λ g. paths.astray g b (i ∷ []) d) same.gtid
+  last-same b now path.RelocateReplicas i d = ap (λ g. paths.astray g b (replicas_but b i d) d) same.gtid
+  last-same b now path.RegroupReplicas i d = ap (λ x. only_if (not x) refusal.NoCandidate) (candidates-same b now i)
+
+  pub paths-same : (b : BookState) (now : Moment) (given : Command) → paths.refusal_of w b now given ≡ paths.refusal_of v b now given
+  paths-same b now given = ap (option_or (unknown_in b given)) (kinds-same None (paths.refusal_about w b now) (paths.refusal_about v b now) one (regroup_command given.name) given)
+    where
+      row : (c : RegroupCommand) (i : ServerNo) (d : Option ServerNo) → paths.row_refusal w b c i d ≡ paths.row_refusal v b c i d
+      row c i d =
+          row-same b (paths.case_of w b c i d) (paths.row_of w.gtid c)
+          ∙ (ap (λ x. first_refusal v b x (paths.row_of w.gtid c)) (case-same b c i d)
+          ∙ ap (λ g. first_refusal v b (paths.case_of v b c i d) (paths.row_of g c)) same.gtid)
+
+      one : (c : RegroupCommand) (i : ServerNo) (d : Option ServerNo) → paths.refusal_about w b now c i d ≡ paths.refusal_about v b now c i d
+      one c i d = ap (λ x. option_or x (paths.last_refusal w b now c i d)) (row c i d) ∙ ap (option_or (paths.row_refusal v b c i d)) (last-same b now c i d)
+
+  pub lists-same : (b : BookState) (given : Command) → paths.leased_by w b given ≡ paths.leased_by v b given
+  lists-same b given =
+      kinds-same [] (paths.list_of w b) (paths.list_of v b) (λ (c : RegroupCommand) i d. ap (λ (x : Case). x.leased) (case-same b c i d)) (regroup_command given.name) given
+
+  path-ops-same : (b : BookState) (c : RegroupCommand) (i : ServerNo) (d : Option ServerNo) → path_plans.ops_of w b c i d ≡ path_plans.ops_of v b c i d
+  path-ops-same b path.Relocate i d = ap (λ g. path_plans.relocated g b (i ∷ []) d) same.gtid
+  path-ops-same b path.RelocateReplicas i d = ap (λ g. path_plans.relocated g b (replicas_but b i d) d) same.gtid
+  path-ops-same b path.RegroupReplicas i d = refl
+
+  pub path-plans-same : (b : BookState) (given : Command) → path_plans.plan_of w b given ≡ path_plans.plan_of v b given
+  path-plans-same b given = kinds-same [] (path_plans.ops_of w b) (path_plans.ops_of v b) (path-ops-same b) (regroup_command given.name) given
+
+  -- ---- recoveries and takeovers
+
+  succeeds-same : (b : BookState) (f s : ServerNo) → can_succeed w b f s ≡ can_succeed v b f s
+  succeeds-same b f s =
+      ap (λ x. is_valid b s && (x && (same_label w s f && not (is_replica_of b f s)))) (by-logs s.0)
+      ∙ ap (λ x. is_valid b s && (has_log v s && (x && not (is_replica_of b f s)))) (labels-same s f)
+
+  successor-same : (b : BookState) (f : ServerNo) (o : Option ServerNo) → has_successor w b f o ≡ has_successor v b f o
+  successor-same b f None = refl
+  successor-same b f (Some s) = succeeds-same b f s
+
+  action-same : (b : BookState) (audit : AuditState) (a : Attempt) (f : ServerNo) (code : Code) (act : Action) → recovery.refusal_for w b audit a f code act ≡ recovery.refusal_for v b audit a f code act
+  action-same b audit a f code Nothing = refl
+  action-same b audit a f code MasterRecovery =
+      ap (λ x. option_or (recovery.held_off b audit a f a.by_master) (only_if (not x) refusal.NoCandidate)) (candidates-same b a.now f)
+  action-same b audit a f code IntermediateRecovery =
+      ap (λ x. option_or (recovery.held_off b audit a f a.by_intermediate) (only_if (not x) refusal.NoCandidate)) (successor-same b f (source_of b f))
+
+  code-same : (b : BookState) (audit : AuditState) (a : Attempt) (f : ServerNo) (o : Option Code) → recovery.refusal_by w b audit a f o ≡ recovery.refusal_by v b audit a f o
+  code-same b audit a f None = refl
+  code-same b audit a f (Some code) =
+      ap (λ x. option_or x (recovery.refusal_for w b audit a f code (action_of code))) (row-same b (recovery.case_of b f) (check.Busy ∷ []))
+      ∙ ap (option_or (first_refusal v b (recovery.case_of b f) (check.Busy ∷ []))) (action-same b audit a f code (action_of code))
+
+  pub recovery-same : (b : BookState) (audit : AuditState) (a : Attempt) (f : ServerNo) → recovery.recovery_refusal w b audit a f ≡ recovery.recovery_refusal v b audit a f
+  recovery-same b audit a f = code-same b audit a f (code_at b f)
+
+  pub takeover-same : (b : BookState) (audit : AuditState) (a : Attempt) (i d : ServerNo) → takeover.takeover_refusal w b audit a i d ≡ takeover.takeover_refusal v b audit a i d
+  takeover-same b audit a i d =
+      ap (λ x. option_or (only_if (not (is_instance b i && is_instance b d)) refusal.UnknownInstance)
+      (option_or x (option_or (held_back b audit a i) (option_or (no_master b i) (option_or (no_replica b i d) None)))))
+      (row-same b (takeover.case_of b i d) takeover.row)

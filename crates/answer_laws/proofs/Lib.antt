@@ -1,0 +1,5 @@
+pub mod Latest
+pub mod Blocking
+pub mod ByBook
+pub mod Rising
+pub mod PlansOf

@@ -1,0 +1,337 @@
+-- Checks by rising numbers answer the lowest refusal.
+use Rattle.std.proofs.Common.{◌≡◌, ℕ, suc, ◌+◌, ◌≤◌, ◌<◌, Bool, true, false, cond, not, ◌&&◌, List, [], ◌∷◌, ◌++◌, refl, sym, ◌∙◌, ap, subst, Option, Some, None, Result, Ok, Err, arith}
+use Rattle.std.specs.Prelude.{All, Any, is_some, nat_lt, option_map}
+use Rattle.std.specs.Option.{option_or}
+use Rattle.std.proofs.lemmas.Bool.{and_parts, ltb-true}
+use Rattle.std.proofs.lemmas.List.Elements.{All-cons, All-nil}
+use Rattle.std.proofs.lemmas.Option.{same_Some}
+use Rattle.orch_base.specs.declared.code.Code.{Code}
+use Rattle.orch_base.specs.declared.server.Moment.{Moment}
+use Rattle.orch_base.specs.declared.server.ServerNo.{ServerNo}
+use Rattle.commands.specs.Refusals.{number_of}
+use Rattle.commands.specs.Unknown.{is_unknown}
+use Rattle.commands.specs.declared.refusal.Refusal.{Refusal}
+use Rattle.commands.specs.declared.refusal.Refusal.TheVariants as refusal
+use Rattle.commands.specs.declared.turn.Command.{Command}
+use Rattle.instance_keeper.specs.Book.{BookState, downtime_at}
+use Rattle.book_views.specs.Sources.{is_instance, label_at}
+use Rattle.audit_log.specs.Audits.{AuditState, may_begin}
+use Rattle.audit_log.specs.declared.held.Held.{Held}
+use Rattle.audit_log.specs.declared.held.Held.TheVariants as held
+use Rattle.failure_analysis.specs.Table.{action_of}
+use Rattle.failure_analysis.specs.declared.code.Action.{Action}
+use Rattle.failure_analysis.specs.declared.code.Action.TheVariants.{MasterRecovery, IntermediateRecovery, Nothing}
+use Rattle.move_laws.specs.Numbers.{check_number, rises_from}
+use Rattle.move_laws.proofs.Numbered.{check-number, gtid-rows-rise, rows-rise}
+use Rattle.permission.specs.Checks.{Case, is_given, is_known, refusal_by, unknown_in}
+use Rattle.permission.specs.Lists.{first_of, only_if}
+use Rattle.permission.specs.Replicas.{replicas_but}
+use Rattle.permission.specs.Rows.{about, about_one}
+use Rattle.permission.specs.Views.{attached_of, source_of}
+use Rattle.permission.specs.declared.case.Check.{Check}
+use Rattle.permission.specs.declared.case.Check.TheVariants as check
+use Rattle.promotion_candidates.specs.Candidates.{has_candidate}
+use Rattle.command_routes.specs.declared.kinds.CoordsCommand.{CoordsCommand}
+use Rattle.command_routes.specs.declared.kinds.GtidCommand.{GtidCommand}
+use Rattle.moves_coords.specs.Commands.{coords_command}
+use Rattle.moves_coords.specs.Permits as coords
+use Rattle.moves_gtid.specs.Commands.{gtid_command}
+use Rattle.moves_gtid.specs.Permits as gtids
+use Rattle.recovery_permits.specs.Checks.{code_at, disabled, downtimed, filtered, has_successor, held_back, held_by, no_master, no_replica, refused_as, without_candidate, without_successor}
+use Rattle.recovery_permits.specs.Recoveries as recovery
+use Rattle.recovery_permits.specs.Takeovers as takeover
+use Rattle.recovery_permits.specs.declared.attempt.Attempt.{Attempt}
+use Rattle.regroup.specs.Commands.{regroup_command}
+use Rattle.regroup.specs.Permits as paths
+use Rattle.regroup.specs.Ways.{path_to}
+use Rattle.regroup.specs.declared.command.RegroupCommand.{RegroupCommand}
+use Rattle.regroup.specs.declared.command.RegroupCommand.TheVariants as path
+use Rattle.server_model.specs.Worlds.{World}
+use Rattle.answer_laws.specs.Lowest.{IsAnswer, IsNoLower, action_checks, code_checks, coords_checks, gtid_checks, own_checks, path_checks, recovery_checks, row_checks, takeover_checks}
+
+-- ---- checks whose numbers rise
+
+-- a check refuses with numbers from the first on and below the second
+abbrev Has : ℕ → ℕ → Option Refusal → Type 0
+Has low high x = (r : Refusal) → x ≡ Some r → (low ≤ number_of r) × (number_of r < high)
+
+-- each refuses with numbers from above those of the ones before it on
+abbrev Rising : ℕ → List (Option Refusal) → Type 0
+Rising n [] = Unit {0}
+Rising n (x ∷ xs) = (high : ℕ) × (n ≤ high) × Has n high x × Rising high xs
+
+rising-from : (m n : ℕ) (xs : List (Option Refusal)) → m ≤ n → Rising n xs → Rising m xs
+rising-from m n [] less h = tt
+rising-from m n (x ∷ xs) less h = (h.0, omega (arith, h.1, less), λ r e. (let p = (h.2 r e).0 in omega (arith, p, less), (h.2 r e).1), h.3)
+
+above-all : (n : ℕ) (xs : List (Option Refusal)) → Rising n xs → (r : Refusal) → number_of r < n + 1 → All (IsNoLower r) xs
+above-all n [] h r less = All-nil (IsNoLower r)
+above-all n (x ∷ xs) h r less =
+    All-cons (IsNoLower r) x xs (λ s e. let p = (h.2 s e).0 in omega (arith, p, less)) (above-all h.0 xs h.3 r (let q = h.1 in omega (arith, q, less)))
+
+any-first : (P : Option Refusal → Type 0) (x : Option Refusal) (xs : List (Option Refusal)) → P x → Any P (x ∷ xs)
+any-first P x xs h = (0, x, omega arith, refl, h)
+
+any-later : (P : Option Refusal → Type 0) (x : Option Refusal) (xs : List (Option Refusal)) → Any P xs → Any P (x ∷ xs)
+any-later P x xs h = (suc h.0, h.1, (let p = h.2 in omega (arith, p)), h.3, h.4)
+
+pub first-lowest : (n : ℕ) (xs : List (Option Refusal)) → Rising n xs → IsAnswer xs (first_of xs)
+first-lowest n [] h = All-nil (λ x. x ≡ None)
+first-lowest n (None ∷ xs) h = go (first_of xs) (first-lowest h.0 xs h.3)
+  where
+    go : (o : Option Refusal) → IsAnswer xs o → IsAnswer (None ∷ xs) o
+    go None all = All-cons (λ x. x ≡ None) None xs refl all
+    go (Some r) l = record { one = any-later (λ x. x ≡ Some r) None xs l.one; lowest = All-cons (IsNoLower r) None xs (λ s e. cc) l.lowest }
+first-lowest n (Some r ∷ xs) h = record {
+  one = any-first (λ x. x ≡ Some r) (Some r) xs refl;
+  lowest = All-cons (IsNoLower r) (Some r) xs (λ s e. let same : number_of r ≡ number_of s = ap number_of (same_Some r s e) in omega (arith, same))
+      (above-all h.0 xs h.3 r (let p = (h.2 r refl).1 in omega (arith, p)));
+}
+
+has-wide : (a b low high : ℕ) (x : Option Refusal) → low ≤ a → b ≤ high → Has a b x → Has low high x
+has-wide a b low high x under over h r e = let p = (h r e).0 in let q = (h r e).1 in (omega (arith, p, under), omega (arith, q, over))
+
+-- a test of one refusal
+has-test : (n : ℕ) (b : Bool) (x : Refusal) → number_of x ≡ n → Has n (n + 1) (only_if b x)
+has-test n true x is r e = let same : number_of x ≡ number_of r = ap number_of (same_Some x r e) in (omega (arith, same, is), omega (arith, same, is))
+has-test n false x is r e = cc
+
+has-some : (n : ℕ) (x : Refusal) → number_of x ≡ n → Has n (n + 1) (Some x)
+has-some n x is r e = let same : number_of x ≡ number_of r = ap number_of (same_Some x r e) in (omega (arith, same, is), omega (arith, same, is))
+
+has-check : (w : World) (b : BookState) (c : Case) (k : Check) → Has (check_number k) (check_number k + 1) (refusal_by w b c k)
+has-check w b c k r e = let is = check-number w b c k r e in (omega (arith, is), omega (arith, is))
+
+-- a row's numbers end at 18
+most : (k : Check) → check_number k ≤ 18
+most check.SameInstance = omega arith
+most check.Busy = omega arith
+most check.Unreachable = omega arith
+most check.NoSource = omega arith
+most check.NotDetached = omega arith
+most check.AlreadyDetached = omega arith
+most check.OtherCluster = omega arith
+most check.Below = omega arith
+most check.SourceHasNoSource = omega arith
+most check.NotSibling = omega arith
+most check.NotSameLog = omega arith
+most check.DestNotLogging = omega arith
+most check.SameServerId = omega arith
+most check.VersionLower = omega arith
+most check.GtidOff = omega arith
+most check.Errant = omega arith
+
+row-rising : (w : World) (b : BookState) (c : Case) (n : ℕ) (row : List Check) (xs : List (Option Refusal)) → n ≤ 18 → rises_from n row ≡ true → Rising 19 xs → Rising (n + 1) (row_checks w b c row ++ xs)
+row-rising w b c n [] xs within up rest = rising-from (n + 1) 19 xs (omega (arith, within)) rest
+row-rising w b c n (k ∷ row) xs within up rest =
+    let parts = and_parts (nat_lt n (check_number k)) (rises_from (check_number k) row) up in
+    let first : n < check_number k = ltb-true n (check_number k) parts.0 in (
+      check_number k + 1,
+      omega (arith, first),
+      λ r e. (let p = (has-check w b c k r e).0 in omega (arith, p, first), (has-check w b c k r e).1),
+      row-rising w b c (check_number k) row xs (most k) parts.1 rest,
+    )
+
+-- ---- what is answered first
+
+or-assoc : (x y z : Option Refusal) → option_or (option_or x y) z ≡ option_or x (option_or y z)
+or-assoc None y z = refl
+or-assoc (Some r) y z = refl
+
+first-append : (xs ys : List (Option Refusal)) → first_of (xs ++ ys) ≡ option_or (first_of xs) (first_of ys)
+first-append [] ys = refl
+first-append (x ∷ xs) ys = ap (option_or x) (first-append xs ys) ∙ sym (or-assoc x (first_of xs) (first_of ys))
+
+or-none : (x : Option Refusal) → option_or x None ≡ x
+or-none None = refl
+or-none (Some r) = refl
+
+about-first : {K : Type 0} (f : K → ServerNo → Option ServerNo → Option Refusal) (g : K → ServerNo → Option ServerNo → List (Option Refusal))
+    → ((c : K) (i : ServerNo) (d : Option ServerNo) → first_of (g c i d) ≡ f c i d) → (kind : Option K) (given : Command) → first_of (about [] g kind given) ≡ about None f kind given
+about-first f g same None given = refl
+about-first f g same (Some c) given = go given.i
+  where
+    go : (i : Option ServerNo) → first_of (about_one [] (g c) i given.d) ≡ about_one None (f c) i given.d
+    go None = refl
+    go (Some i) = same c i given.d
+
+about-rising : {K : Type 0} (n : ℕ) (g : K → ServerNo → Option ServerNo → List (Option Refusal)) → ((c : K) (i : ServerNo) (d : Option ServerNo) → Rising n (g c i d))
+    → (kind : Option K) (given : Command) → Rising n (about [] g kind given)
+about-rising n g all None given = tt
+about-rising n g all (Some c) given = go given.i
+  where
+    go : (i : Option ServerNo) → Rising n (about_one [] (g c) i given.d)
+    go None = tt
+    go (Some i) = all c i given.d
+
+has-unknown : (b : BookState) (given : Command) → Has 2 3 (unknown_in b given)
+has-unknown b given = has-test 2 (is_unknown given (is_known b given.i) (is_known b given.d)) refusal.UnknownInstance refl
+
+answered : (xs : List (Option Refusal)) (o : Option Refusal) (n : ℕ) → first_of xs ≡ o → Rising n xs → IsAnswer xs o
+answered xs o n is h = subst (IsAnswer xs) is (first-lowest n xs h)
+
+append-none : (xs : List (Option Refusal)) → xs ++ [] ≡ xs
+append-none [] = refl
+append-none (x ∷ xs) = ap (λ ys. x ∷ ys) (append-none xs)
+
+row-alone : (w : World) (b : BookState) (c : Case) (row : List Check) → rises_from 2 row ≡ true → Rising 3 (row_checks w b c row)
+row-alone w b c row up = subst (Rising 3) (append-none (row_checks w b c row)) (row-rising w b c 2 row [] (omega arith) up tt)
+
+pub coords-lowest : (w : World) (b : BookState) (given : Command) → IsAnswer (coords_checks w b given) (coords.refusal_of w b given)
+coords-lowest w b given =
+    answered (coords_checks w b given) (coords.refusal_of w b given) 2
+    (ap (option_or (unknown_in b given)) (about-first (coords.refusal_about w b) checks (λ c i d. refl) (coords_command given.name) given))
+    (3, omega arith, has-unknown b given, about-rising 3 checks (λ c i d. row-alone w b (coords.case_of b c i d) (coords.row_of (coords.by_gtids w b i) c) (rows-rise (coords.by_gtids w b i) c)) (coords_command given.name) given)
+  where
+    checks : CoordsCommand → ServerNo → Option ServerNo → List (Option Refusal)
+    checks c i d = row_checks w b (coords.case_of b c i d) (coords.row_of (coords.by_gtids w b i) c)
+
+pub gtid-lowest : (w : World) (b : BookState) (given : Command) → IsAnswer (gtid_checks w b given) (gtids.refusal_of w b given)
+gtid-lowest w b given =
+    answered (gtid_checks w b given) (gtids.refusal_of w b given) 2
+    (ap (option_or (unknown_in b given)) (about-first (gtids.refusal_about w b) (λ (c : GtidCommand) i d. row_checks w b (gtids.case_of b c i d) (gtids.row_of c)) (λ c i d. refl) (gtid_command given.name) given)) (
+      3,
+      omega arith,
+      has-unknown b given,
+      about-rising 3 (λ (c : GtidCommand) i d. row_checks w b (gtids.case_of b c i d) (gtids.row_of c))
+          (λ c i d. row-alone w b (gtids.case_of b c i d) (gtids.row_of c) (gtid-rows-rise c)) (gtid_command given.name) given,
+    )
+
+path-rows-rise : (gtid : Bool) (c : RegroupCommand) → rises_from 2 (paths.row_of gtid c) ≡ true
+path-rows-rise true path.Relocate = refl
+path-rows-rise false path.Relocate = refl
+path-rows-rise true path.RelocateReplicas = refl
+path-rows-rise false path.RelocateReplicas = refl
+path-rows-rise gtid path.RegroupReplicas = refl
+
+-- the last check of a command is for a path, or a candidate
+has-astray : (gtid : Bool) (b : BookState) (movers : List ServerNo) (d : Option ServerNo) → Has 19 27 (paths.astray gtid b movers d)
+has-astray true b movers d r e = cc
+has-astray false b [] d r e = cc
+has-astray false b (n ∷ movers) d r e = go (paths.without_path b d n) refl e (has-astray false b movers d r)
+  where
+    one : (s : Refusal) → paths.without_path b d n ≡ Some s → (19 ≤ number_of s) × (number_of s < 27)
+    one s is = let p = has-test 19 (not (is_some (path_to b d n))) refusal.NoPath refl s is in (p.0, let q = p.1 in omega (arith, q))
+
+    go : (o : Option Refusal) → paths.without_path b d n ≡ o → option_or o (paths.astray false b movers d) ≡ Some r
+        → (paths.astray false b movers d ≡ Some r → (19 ≤ number_of r) × (number_of r < 27)) → (19 ≤ number_of r) × (number_of r < 27)
+    go None is e rest = rest e
+    go (Some s) is e rest = one r (is ∙ e)
+
+has-last : (w : World) (b : BookState) (now : Moment) (c : RegroupCommand) (i : ServerNo) (d : Option ServerNo) → Has 19 27 (paths.last_refusal w b now c i d)
+has-last w b now path.Relocate i d r e = has-astray w.gtid b (i ∷ []) d r e
+has-last w b now path.RelocateReplicas i d r e = has-astray w.gtid b (replicas_but b i d) d r e
+has-last w b now path.RegroupReplicas i d r e = let p = has-test 26 (not (has_candidate w b now i)) refusal.NoCandidate refl r e in (let q = p.0 in omega (arith, q), p.1)
+
+pub path-lowest : (w : World) (b : BookState) (now : Moment) (given : Command) → IsAnswer (path_checks w b now given) (paths.refusal_of w b now given)
+path-lowest w b now given =
+    answered (path_checks w b now given) (paths.refusal_of w b now given) 2
+    (ap (option_or (unknown_in b given)) (about-first (paths.refusal_about w b now) checks first (regroup_command given.name) given)) (
+      3,
+      omega arith,
+      has-unknown b given,
+      about-rising 3 checks
+          (λ c i d. row-rising w b (paths.case_of w b c i d) 2 (paths.row_of w.gtid c) (paths.last_refusal w b now c i d ∷ []) (omega arith) (path-rows-rise w.gtid c) (27, omega arith, has-last w b now c i d, tt))
+          (regroup_command given.name) given,
+    )
+  where
+    checks : RegroupCommand → ServerNo → Option ServerNo → List (Option Refusal)
+    checks c i d = row_checks w b (paths.case_of w b c i d) (paths.row_of w.gtid c) ++ paths.last_refusal w b now c i d ∷ []
+
+    first : (c : RegroupCommand) (i : ServerNo) (d : Option ServerNo) → first_of (checks c i d) ≡ paths.refusal_about w b now c i d
+    first c i d =
+        first-append (row_checks w b (paths.case_of w b c i d) (paths.row_of w.gtid c)) (paths.last_refusal w b now c i d ∷ [])
+        ∙ ap (option_or (paths.row_refusal w b c i d)) (or-none (paths.last_refusal w b now c i d))
+
+-- ---- recoveries and takeovers
+
+has-held : (b : BookState) (audit : AuditState) (a : Attempt) (f : ServerNo) → Has 24 26 (held_back b audit a f)
+has-held b audit a f = go (may_begin audit (label_at b f) a.now.0)
+  where
+    by : (h : Held) (r : Refusal) → Some (refused_as h) ≡ Some r → (24 ≤ number_of r) × (number_of r < 26)
+    by (held.Unended id) r e = let same : 24 ≡ number_of r = ap number_of (same_Some (refusal.OpenRecovery id) r e) in (omega (arith, same), omega (arith, same))
+    by (held.Blocked id until) r e = let same : 25 ≡ number_of r = ap number_of (same_Some (refusal.Blocked id until) r e) in (omega (arith, same), omega (arith, same))
+
+    go : (x : Result ℕ Held) (r : Refusal) → held_by x ≡ Some r → (24 ≤ number_of r) × (number_of r < 26)
+    go (Ok id) r e = cc
+    go (Err h) r e = by h r e
+
+has-downtime : (b : BookState) (a : Attempt) (f : ServerNo) → Has 22 23 (downtimed b a f)
+has-downtime b a f = go (downtime_at b f a.now)
+  where
+    go : (o : Option Moment) (r : Refusal) → option_map refusal.Downtimed o ≡ Some r → (22 ≤ number_of r) × (number_of r < 23)
+    go None r e = cc
+    go (Some until) r e = let same : 22 ≡ number_of r = ap number_of (same_Some (refusal.Downtimed until) r e) in (omega (arith, same), omega (arith, same))
+
+own-rising : (b : BookState) (a : Attempt) (f : ServerNo) (passes by_hand : Bool) (xs : List (Option Refusal)) → Rising 24 xs
+    → Rising 21 (cond by_hand [] (disabled a ∷ downtimed b a f ∷ filtered passes ∷ []) ++ xs)
+own-rising b a f passes true xs rest = rising-from 21 24 xs (omega arith) rest
+own-rising b a f passes false xs rest = (
+  22,
+  omega arith,
+  has-test 21 (not a.enabled) refusal.GloballyDisabled refl,
+  (23, omega arith, has-downtime b a f, (24, omega arith, has-test 23 (not passes) refusal.FilteredOut refl, rest)),
+)
+
+ends-rising : (b : BookState) (audit : AuditState) (a : Attempt) (f : ServerNo) (last : Bool) → Rising 24 (held_back b audit a f ∷ only_if last refusal.NoCandidate ∷ [])
+ends-rising b audit a f last = (26, omega arith, has-held b audit a f, (27, omega arith, has-test 26 last refusal.NoCandidate refl, tt))
+
+action-rising : (w : World) (b : BookState) (audit : AuditState) (a : Attempt) (f : ServerNo) (code : Code) (act : Action) → Rising 5 (action_checks w b audit a f code act)
+action-rising w b audit a f code Nothing = rising-from 5 20 (Some (refusal.NotActionable code) ∷ []) (omega arith) (21, omega arith, has-some 20 (refusal.NotActionable code) refl, tt)
+action-rising w b audit a f code MasterRecovery =
+    rising-from 5 21 (action_checks w b audit a f code MasterRecovery) (omega arith)
+    (own-rising b a f a.by_master a.by_hand (held_back b audit a f ∷ without_candidate w b a f ∷ []) (ends-rising b audit a f (not (has_candidate w b a.now f))))
+action-rising w b audit a f code IntermediateRecovery =
+    rising-from 5 21 (action_checks w b audit a f code IntermediateRecovery) (omega arith)
+    (own-rising b a f a.by_intermediate a.by_hand (held_back b audit a f ∷ without_successor w b f ∷ []) (ends-rising b audit a f (not (has_successor w b f (source_of b f)))))
+
+own-first : (b : BookState) (a : Attempt) (f : ServerNo) (passes by_hand : Bool)
+    → first_of (cond by_hand [] (disabled a ∷ downtimed b a f ∷ filtered passes ∷ [])) ≡ cond by_hand None (first_of (disabled a ∷ downtimed b a f ∷ filtered passes ∷ []))
+own-first b a f passes true = refl
+own-first b a f passes false = refl
+
+held-first : (b : BookState) (audit : AuditState) (a : Attempt) (f : ServerNo) (passes : Bool) (last : Option Refusal)
+    → first_of (own_checks b a f passes ++ held_back b audit a f ∷ last ∷ []) ≡ option_or (recovery.held_off b audit a f passes) last
+held-first b audit a f passes last =
+    first-append (own_checks b a f passes) (held_back b audit a f ∷ last ∷ [])
+    ∙ (ap (λ x. option_or x (option_or (held_back b audit a f) (option_or last None))) (own-first b a f passes a.by_hand)
+    ∙ (ap (λ x. option_or (recovery.unasked b a f passes) (option_or (held_back b audit a f) x)) (or-none last)
+    ∙ sym (or-assoc (recovery.unasked b a f passes) (held_back b audit a f) last)))
+
+action-first : (w : World) (b : BookState) (audit : AuditState) (a : Attempt) (f : ServerNo) (code : Code) (act : Action) → first_of (action_checks w b audit a f code act) ≡ recovery.refusal_for w b audit a f code act
+action-first w b audit a f code Nothing = refl
+action-first w b audit a f code MasterRecovery = held-first b audit a f a.by_master (without_candidate w b a f)
+action-first w b audit a f code IntermediateRecovery = held-first b audit a f a.by_intermediate (without_successor w b f)
+
+code-lowest : (w : World) (b : BookState) (audit : AuditState) (a : Attempt) (f : ServerNo) (o : Option Code) → IsAnswer (code_checks w b audit a f o) (recovery.refusal_by w b audit a f o)
+code-lowest w b audit a f None = first-lowest 2 (Some refusal.UnknownInstance ∷ []) (3, omega arith, has-some 2 refusal.UnknownInstance refl, tt)
+code-lowest w b audit a f (Some code) =
+    answered (code_checks w b audit a f (Some code)) (recovery.refusal_by w b audit a f (Some code)) 4
+    (ap (option_or (refusal_by w b (recovery.case_of b f) check.Busy)) (action-first w b audit a f code (action_of code))
+    ∙ ap (λ x. option_or x (recovery.refusal_for w b audit a f code (action_of code))) (sym (or-none (refusal_by w b (recovery.case_of b f) check.Busy))))
+    (5, omega arith, has-check w b (recovery.case_of b f) check.Busy, action-rising w b audit a f code (action_of code))
+
+pub recovery-lowest : (w : World) (b : BookState) (audit : AuditState) (a : Attempt) (f : ServerNo) → IsAnswer (recovery_checks w b audit a f) (recovery.recovery_refusal w b audit a f)
+recovery-lowest w b audit a f = code-lowest w b audit a f (code_at b f)
+
+pub takeover-lowest : (w : World) (b : BookState) (audit : AuditState) (a : Attempt) (i d : ServerNo) → IsAnswer (takeover_checks w b audit a i d) (takeover.takeover_refusal w b audit a i d)
+takeover-lowest w b audit a i d =
+    answered (takeover_checks w b audit a i d) (takeover.takeover_refusal w b audit a i d) 2
+    (ap (option_or (only_if (not (is_instance b i && is_instance b d)) refusal.UnknownInstance))
+    (first-append (row_checks w b (takeover.case_of b i d) takeover.row) (held_back b audit a i ∷ no_master b i ∷ no_replica b i d ∷ []))) (
+      3,
+      omega arith,
+      has-test 2 (not (is_instance b i && is_instance b d)) refusal.UnknownInstance refl,
+      row-rising w b (takeover.case_of b i d) 2 takeover.row (held_back b audit a i ∷ no_master b i ∷ no_replica b i d ∷ []) (omega arith) refl
+          (rising-from 19 24 (held_back b audit a i ∷ no_master b i ∷ no_replica b i d ∷ []) (omega arith) (
+            27,
+            omega arith,
+            has-wide 24 26 24 27 (held_back b audit a i) (omega arith) (omega arith) (has-held b audit a i),
+            (
+              28,
+              omega arith,
+              has-test 27 (is_some (source_of b i)) refusal.NotMaster refl,
+              (29, omega arith, has-test 28 (not (is_given i (attached_of b d))) refusal.NotReplica refl, tt),
+            ),
+          )),
+    )

@@ -1,0 +1,3 @@
+pub mod Latest
+pub mod Settings
+pub mod Lowest

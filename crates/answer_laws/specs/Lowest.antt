@@ -1,0 +1,84 @@
+-- The lowest number: what the checks of each command refuse, in whatever order they are looked at.
+use Rattle.std.specs.Prelude.{◌≡◌, ◌≤◌, Bool, if◌then◌else◌, not, ◌&&◌, List, [], ◌∷◌, ◌++◌, map, Option, Some, None, All, Any}
+use Rattle.orch_base.specs.declared.code.Code.{Code}
+use Rattle.orch_base.specs.declared.server.Moment.{Moment}
+use Rattle.orch_base.specs.declared.server.ServerNo.{ServerNo}
+use Rattle.commands.specs.Refusals.{number_of}
+use Rattle.commands.specs.declared.refusal.Refusal.{Refusal}
+use Rattle.commands.specs.declared.refusal.Refusal.TheVariants.{NotActionable, UnknownInstance}
+use Rattle.commands.specs.declared.turn.Command.{Command}
+use Rattle.instance_keeper.specs.Book.{BookState}
+use Rattle.book_views.specs.Sources.{is_instance}
+use Rattle.audit_log.specs.Audits.{AuditState}
+use Rattle.failure_analysis.specs.Table.{action_of}
+use Rattle.failure_analysis.specs.declared.code.Action.{Action}
+use Rattle.failure_analysis.specs.declared.code.Action.TheVariants.{MasterRecovery, IntermediateRecovery, Nothing}
+use Rattle.permission.specs.Checks.{Case, refusal_by, unknown_in}
+use Rattle.permission.specs.Lists.{only_if}
+use Rattle.permission.specs.Rows.{about}
+use Rattle.permission.specs.declared.case.Check.{Check}
+use Rattle.permission.specs.declared.case.Check.TheVariants.{Busy}
+use Rattle.moves_coords.specs.Commands.{coords_command}
+use Rattle.moves_coords.specs.Permits as coords
+use Rattle.moves_gtid.specs.Commands.{gtid_command}
+use Rattle.moves_gtid.specs.Permits as gtids
+use Rattle.recovery_permits.specs.Checks.{code_at, disabled, downtimed, filtered, held_back, no_master, no_replica, without_candidate, without_successor}
+use Rattle.recovery_permits.specs.Recoveries as recovery
+use Rattle.recovery_permits.specs.Takeovers as takeover
+use Rattle.recovery_permits.specs.declared.attempt.Attempt.{Attempt}
+use Rattle.regroup.specs.Commands.{regroup_command}
+use Rattle.regroup.specs.Permits as paths
+use Rattle.server_model.specs.Worlds.{World}
+
+-- a check passes, or refuses with no lower number
+abbrev pub IsNoLower : Refusal → Option Refusal → Type 0
+IsNoLower r x = (s : Refusal) → x ≡ Some s → number_of r ≤ number_of s
+
+-- one of these checks refuses so, and none refuses with a lower number
+pub record IsLowest (checks : List (Option Refusal)) (r : Refusal) : Type 0 where
+  pub one : Any (λ x. x ≡ Some r) checks
+  pub lowest : All (IsNoLower r) checks
+
+-- what is answered: nothing exactly where each check passes, else the refusal with the lowest number
+abbrev pub IsAnswer : List (Option Refusal) → Option Refusal → Type 0
+IsAnswer checks None = All (λ x. x ≡ None) checks
+IsAnswer checks (Some r) = IsLowest checks r
+
+-- ---- the checks of each command
+
+-- what each check of a row refuses
+abbrev pub row_checks : World → BookState → Case → List Check → List (Option Refusal)
+row_checks w b c row = map (refusal_by w b c) row
+
+abbrev pub coords_checks : World → BookState → Command → List (Option Refusal)
+coords_checks w b given =
+    unknown_in b given ∷ about [] (λ c i d. row_checks w b (coords.case_of b c i d) (coords.row_of (coords.by_gtids w b i) c)) (coords_command given.name) given
+
+abbrev pub gtid_checks : World → BookState → Command → List (Option Refusal)
+gtid_checks w b given = unknown_in b given ∷ about [] (λ c i d. row_checks w b (gtids.case_of b c i d) (gtids.row_of c)) (gtid_command given.name) given
+
+abbrev pub path_checks : World → BookState → Moment → Command → List (Option Refusal)
+path_checks w b now given =
+    unknown_in b given
+    ∷ about [] (λ c i d. row_checks w b (paths.case_of w b c i d) (paths.row_of w.gtid c) ++ paths.last_refusal w b now c i d ∷ []) (regroup_command given.name) given
+
+-- what keeps a recovery from beginning by itself
+abbrev pub own_checks : BookState → Attempt → ServerNo → Bool → List (Option Refusal)
+own_checks b a f passes = if a.by_hand then [] else disabled a ∷ downtimed b a f ∷ filtered passes ∷ []
+
+abbrev pub action_checks : World → BookState → AuditState → Attempt → ServerNo → Code → Action → List (Option Refusal)
+action_checks w b audit a f code Nothing = Some (NotActionable code) ∷ []
+action_checks w b audit a f code MasterRecovery = own_checks b a f a.by_master ++ held_back b audit a f ∷ without_candidate w b a f ∷ []
+action_checks w b audit a f code IntermediateRecovery = own_checks b a f a.by_intermediate ++ held_back b audit a f ∷ without_successor w b f ∷ []
+
+abbrev pub code_checks : World → BookState → AuditState → Attempt → ServerNo → Option Code → List (Option Refusal)
+code_checks w b audit a f None = Some UnknownInstance ∷ []
+code_checks w b audit a f (Some code) = refusal_by w b (recovery.case_of b f) Busy ∷ action_checks w b audit a f code (action_of code)
+
+abbrev pub recovery_checks : World → BookState → AuditState → Attempt → ServerNo → List (Option Refusal)
+recovery_checks w b audit a f = code_checks w b audit a f (code_at b f)
+
+abbrev pub takeover_checks : World → BookState → AuditState → Attempt → ServerNo → ServerNo → List (Option Refusal)
+takeover_checks w b audit a i d =
+    only_if (not (is_instance b i && is_instance b d)) UnknownInstance
+    ∷ row_checks w b (takeover.case_of b i d) takeover.row ++ held_back b audit a i ∷ no_master b i ∷ no_replica b i d ∷ []

@@ -1,0 +1,33 @@
+//! The refusal with the lowest number.
+
+ghost use Rattle.audit_log.specs.Audits.{AuditState};
+ghost use Rattle.commands.specs.declared.turn.Command.{Command as ACommand};
+ghost use Rattle.instance_keeper.specs.Book.{BookState};
+ghost use Rattle.moves_coords.specs.Permits as coords;
+ghost use Rattle.moves_gtid.specs.Permits as gtids;
+ghost use Rattle.orch_base.specs.declared.server.Moment.{Moment as AMoment};
+ghost use Rattle.orch_base.specs.declared.server.ServerNo.{ServerNo as Number};
+ghost use Rattle.recovery_permits.specs.Recoveries.{recovery_refusal};
+ghost use Rattle.recovery_permits.specs.Takeovers.{takeover_refusal};
+ghost use Rattle.recovery_permits.specs.declared.attempt.Attempt.{Attempt as AnAttempt};
+ghost use Rattle.regroup.specs.Permits as paths;
+ghost use Rattle.server_model.specs.Worlds.{World};
+ghost use Rattle.answer_laws.specs.Lowest.{IsAnswer, coords_checks, gtid_checks, path_checks, recovery_checks, takeover_checks};
+
+/// What refuses a command is what one of its checks refuses, and none of its checks refuses with a lower number;
+/// nothing refuses it exactly where each of its checks passes. So it is of every command that begins a job, of
+/// recoveries and of takeovers, in whatever order the checks are looked at.
+pub fn the_lowest_number_is_answered()
+    ensures coords { (w : World) (b : BookState) (given : ACommand) →
+        IsAnswer (coords_checks w b given) (coords.refusal_of w b given) }
+    ensures gtids { (w : World) (b : BookState) (given : ACommand) →
+        IsAnswer (gtid_checks w b given) (gtids.refusal_of w b given) }
+    ensures paths { (w : World) (b : BookState) (now : AMoment) (given : ACommand) →
+        IsAnswer (path_checks w b now given) (paths.refusal_of w b now given) }
+    ensures recovery { (w : World) (b : BookState) (audit : AuditState) (a : AnAttempt)
+        (f : Number) →
+        IsAnswer (recovery_checks w b audit a f) (recovery_refusal w b audit a f) }
+    ensures takeover { (w : World) (b : BookState) (audit : AuditState) (a : AnAttempt)
+        (i d : Number) →
+        IsAnswer (takeover_checks w b audit a i d) (takeover_refusal w b audit a i d) }
+{}

@@ -1,0 +1,155 @@
+-- What tests of a job say: of a source that was named, of the aims of waits, and of changes of source.
+use Rattle.std.proofs.Common.{◌≡◌, ℕ, zero, suc, ◌+◌, ◌-◌, ◌≤◌, Bool, true, false, not, ◌&&◌, List, [], ◌∷◌, refl, sym, ◌∙◌, ap, subst, ◌⊎◌, inl, inr, Option, Some, None, arith}
+use Rattle.std.specs.Prelude.{nat_lt, nat_le, ◌==◌}
+use Rattle.std.proofs.lemmas.Bool.{and_cases, and_from, and_parts, eq-eqb, eqb-true, false_from_ne_true, false≢true, le-leb, ltb-false, not-false, not-true, not_from_false, not_from_true, or_cases, or_left, or_right}
+use Rattle.std.proofs.lemmas.Option.{same_Some}
+use Rattle.binlog_coords.specs.declared.Coord.{Coord}
+use Rattle.binlog_coords.specs.Log.{same_coord}
+use Rattle.gtid_sets.specs.declared.interval.Interval.{Interval}
+use Rattle.gtid_sets.specs.Sets.{holds, spans}
+use Rattle.orch_base.specs.declared.server.ServerNo.{ServerNo}
+use Rattle.orch_base.specs.declared.server.SourceState.{SourceState}
+use Rattle.orch_base.specs.declared.server.SourceState.TheVariants.{Without, Attached, Detached}
+use Rattle.server_words.specs.declared.status.Status.{Status}
+use Rattle.server_model.specs.Run.{Exchange}
+use Rattle.instance_keeper.specs.declared.bridge.Bridge.{Bridge}
+use Rattle.operations.specs.declared.op.Crossing.{Crossing}
+use Rattle.operations.specs.declared.op.Crossing.TheVariants as cross
+use Rattle.operations.specs.declared.sight.Position.{Position}
+use Rattle.operations.specs.declared.sight.Sight.{Sight}
+use Rattle.operations.specs.Changes.{change_of, server_of}
+use Rattle.operations.specs.Deeds as deed
+use Rattle.operations.specs.Deeds.{Deed}
+use Rattle.operations.specs.Jobs.{Job, seen_of}
+use Rattle.operations.specs.Turns.{attached_anew, bridge_at, by_set, crossed, has_all, has_from, holds_seen, is_moved, is_reached, is_settled, is_within, read_by, same_again, settles}
+use Rattle.job_laws.specs.Held.{attachment_of}
+use Rattle.job_plans.proofs.Sets.{within-holds}
+use Rattle.cause_laws.specs.Events.{IsBefore, LacksSome}
+
+-- ---- a source that was named
+
+pub moved-apart : (from : Option ServerNo) (source : SourceState) → is_moved from source ≡ true → (m : ServerNo) × (from ≡ Some m) × (source ≡ Attached m → ⊥)
+moved-apart None source e = absurd (false≢true e)
+moved-apart (Some m) Without e = (m, refl, λ h. cc)
+moved-apart (Some m) (Attached k) e = (m, refl, λ h. let same : k ≡ m = cc in absurd (false≢true (sym (not_from_true (k.0 == m.0) (eq-eqb k.0 m.0 (ap (λ (x : ServerNo). x.0) same))) ∙ e)))
+moved-apart (Some m) (Detached k) e = (m, refl, λ h. cc)
+
+other-moved : (k m : ServerNo) (b : Bool) → (k.0 == m.0) ≡ b → (Attached k ≡ Attached m → ⊥) → not b ≡ true
+other-moved k m true e apart = absurd (apart (ap Attached (ap (λ (n : ℕ). record { 0 = n }) (eqb-true k.0 m.0 e))))
+other-moved k m false e apart = refl
+
+pub apart-moved : (m : ServerNo) (source : SourceState) → (source ≡ Attached m → ⊥) → is_moved (Some m) source ≡ true
+apart-moved m Without apart = refl
+apart-moved m (Attached k) apart = other-moved k m (k.0 == m.0) refl apart
+apart-moved m (Detached k) apart = refl
+
+-- ---- aims
+
+pub aim-before : (to : Option Coord) (exec : Coord) → is_reached to exec ≡ false → IsBefore to exec
+aim-before None exec e = tt
+aim-before (Some c) exec e = e
+
+pub aim-come : (to : Option Coord) (exec : Coord) → is_reached to exec ≡ true → IsBefore to exec → ⊥
+aim-come None exec e h = false≢true e
+aim-come (Some c) exec e h = false≢true (sym h ∙ e)
+
+pub before-aim : (to : Option Coord) (exec : Coord) → IsBefore to exec → is_reached to exec ≡ false
+before-aim None exec h = refl
+before-aim (Some c) exec h = h
+
+abbrev Lacks : List Interval → List Interval → Type 0
+Lacks xs ys = (uuid : ℕ) × (k : ℕ) × (holds xs uuid k ≡ true) × (holds ys uuid k ≡ false)
+
+-- the first number of some that a set lacks
+from-lacks : (ys : List Interval) (u from k : ℕ) → has_from ys u from k ≡ false → (n : ℕ) × (from ≤ n) × (n + 1 ≤ from + k) × (holds ys u n ≡ false)
+from-lacks ys u from zero h = absurd (false≢true (sym h))
+from-lacks ys u from (suc k) h = go (and_cases (holds ys u from) (has_from ys u (from + 1) k) h) (from-lacks ys u (from + 1) k)
+  where
+    go : (holds ys u from ≡ false) ⊎ (has_from ys u (from + 1) k ≡ false)
+        → (has_from ys u (from + 1) k ≡ false → (n : ℕ) × (from + 1 ≤ n) × (n + 1 ≤ (from + 1) + k) × (holds ys u n ≡ false))
+        → (n : ℕ) × (from ≤ n) × (n + 1 ≤ from + suc k) × (holds ys u n ≡ false)
+    go (inl here) rest = (from, omega arith, omega arith, here)
+    go (inr later) rest = let x = rest later in (x.0, omega (arith, x.1), omega (arith, x.2), x.3)
+
+pub lacks-some : (xs ys : List Interval) → is_within xs ys ≡ false → Lacks xs ys
+lacks-some [] ys h = absurd (false≢true (sym h))
+lacks-some (s ∷ xs) ys h = go (and_cases (has_all ys s) (is_within xs ys) h) (lacks-some xs ys)
+  where
+    go : (has_all ys s ≡ false) ⊎ (is_within xs ys ≡ false) → (is_within xs ys ≡ false → Lacks xs ys) → Lacks (s ∷ xs) ys
+    go (inl here) rest =
+        let x = from-lacks ys s.uuid s.first ((s.last + 1) - s.first) here in
+        let n : ℕ = x.0 in
+        let low : s.first ≤ n = x.1 in
+        let high : n ≤ s.last = omega (arith, x.1, x.2) in
+        let at : spans s.uuid n s ≡ true =
+        and_from ((s.uuid == s.uuid) && nat_le s.first n) (nat_le n s.last) (and_from (s.uuid == s.uuid) (nat_le s.first n) (eq-eqb s.uuid s.uuid refl) (le-leb s.first n low)) (le-leb n s.last high) in
+        (s.uuid, n, or_left (spans s.uuid n s) (holds xs s.uuid n) at, x.3)
+    go (inr later) rest = let x = rest later in (x.0, x.1, or_right (spans x.0 x.1 s) (holds xs x.0 x.1) x.2, x.3)
+
+pub set-lacks : (o : Option Position) (s : Status) → holds_seen o s ≡ false → LacksSome o s
+set-lacks None s e = tt
+set-lacks (Some m) s e = lacks-some m.set s.set e
+
+pub set-come : (o : Option Position) (s : Status) → holds_seen o s ≡ true → LacksSome o s → ⊥
+set-come None s e h = false≢true e
+set-come (Some m) s e h = false≢true (sym h.3 ∙ within-holds m.set s.set e h.0 h.1 h.2)
+
+pub lacks-set : (o : Option Position) (s : Status) → LacksSome o s → holds_seen o s ≡ false
+lacks-set o s h = false_from_ne_true (holds_seen o s) (λ e. set-come o s e h)
+
+pub unsettled : (s : Status) → is_settled s ≡ false → (s.sql ≡ true) × (same_coord s.read s.exec ≡ false)
+unsettled s e = let p = and_parts s.sql (not (same_coord s.read s.exec)) (not-false (s.sql && not (same_coord s.read s.exec)) e) in (p.0, not-true (same_coord s.read s.exec) p.1)
+
+pub settled-not : (s : Status) → (s.sql ≡ true) × (same_coord s.read s.exec ≡ false) → is_settled s ≡ false
+settled-not s h = not_from_true (s.sql && not (same_coord s.read s.exec)) (and_from s.sql (not (same_coord s.read s.exec)) h.0 (not_from_false (same_coord s.read s.exec) h.1))
+
+-- the wait for a settled applier that ends by an unsettled one was the last
+pub has-come : (j : Job) (s : Status) → settles j s ≡ true → (s.sql ≡ true) × (same_coord s.read s.exec ≡ false) → j.wait ≤ j.waited + 1
+has-come j s e miss = go (or_cases (is_settled s) (not (nat_lt (j.waited + 1) j.wait)) e)
+  where
+    go : (is_settled s ≡ true) ⊎ (not (nat_lt (j.waited + 1) j.wait) ≡ true) → j.wait ≤ j.waited + 1
+    go (inl h) = absurd (false≢true (sym (settled-not s miss) ∙ h))
+    go (inr h) = ltb-false (j.waited + 1) j.wait (not-true (nat_lt (j.waited + 1) j.wait) h)
+
+-- ---- changes of source
+
+abbrev IsWith : ServerNo → Option Exchange → Type 0
+IsWith n o = (x : Exchange) → o ≡ Some x → server_of x ≡ n.0
+
+with-one : (n : ServerNo) (x : Exchange) → server_of x ≡ n.0 → IsWith n (Some x)
+with-one n x h y e = subst (λ z. server_of z ≡ n.0) (same_Some x y e) h
+
+crossed-with : (c : Crossing) (a : ServerNo) (o : Option Bridge) → IsWith a (crossed c a o)
+crossed-with c a None x e = cc
+crossed-with cross.Up a (Some b) x e = with-one a _ refl x e
+crossed-with cross.Down a (Some b) x e = with-one a _ refl x e
+crossed-with cross.About a (Some b) x e = with-one a _ refl x e
+crossed-with cross.Back a (Some b) x e = with-one a _ refl x e
+
+anew-with : (n : ServerNo) (exec : Coord) (source : SourceState) → IsWith n (attached_anew n exec source)
+anew-with n exec Without x e = cc
+anew-with n exec (Attached m) x e = with-one n _ refl x e
+anew-with n exec (Detached m) x e = with-one n _ refl x e
+
+again-with : (n : ServerNo) (o : Option Position) → IsWith n (same_again n o)
+again-with n None x e = cc
+again-with n (Some s) x e = anew-with n s.exec s.source x e
+
+set-with : (n m : ServerNo) (o : Option Position) → IsWith n (by_set n m o)
+set-with n m None x e = cc
+set-with n m (Some s) x e = with-one n _ refl x e
+
+of-change : (m n : ServerNo) (o : Option Exchange) → Some m ≡ Some n → IsWith m o → IsWith n o
+of-change m n o e h = subst (λ k. IsWith k o) (same_Some m n e) h
+
+pub attachment-with : (xs : List Sight) (d : Deed) (n : ServerNo) (x : Exchange) → change_of d ≡ Some n → attachment_of xs d ≡ Some x → server_of x ≡ n.0
+attachment-with xs (deed.Look m from) n x h e = cc
+attachment-with xs (deed.Request m a) n x h e = cc
+attachment-with xs (deed.Until m to) n x h e = cc
+attachment-with xs (deed.Await m to) n x h e = cc
+attachment-with xs (deed.AwaitSet m k) n x h e = cc
+attachment-with xs (deed.Settle m) n x h e = cc
+attachment-with xs (deed.Cross c a b) n x h e = of-change a n _ h (crossed-with c a (bridge_at (read_by c a b) (seen_of xs (read_by c a b).0))) x e
+attachment-with xs (deed.Same m) n x h e = of-change m n _ h (again-with m (seen_of xs m.0)) x e
+attachment-with xs (deed.Auto m k) n x h e = of-change m n _ h (set-with m k (seen_of xs k.0)) x e
+attachment-with xs (deed.Finish lines) n x h e = cc

@@ -1,0 +1,6 @@
+pub mod Answering
+pub mod Aiming
+pub mod Taking
+pub mod Stopping
+pub mod Turning
+pub mod Holding

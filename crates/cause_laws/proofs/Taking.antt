@@ -1,0 +1,221 @@
+-- What a turn comes to by the operation that is due.
+use Rattle.std.proofs.Common.{◌≡◌, ℕ, ◌+◌, ◌≤◌, Bool, true, false, cond, not, List, [], ◌∷◌, refl, sym, ◌∙◌, ap, subst, Option, Some, None, Ok, Err, Result}
+use Rattle.std.specs.Prelude.{nat_lt, is_some}
+use Rattle.std.proofs.lemmas.Bool.{false≢true, ltb-false, ltb-true, not-false, or_parts}
+use Rattle.std.proofs.lemmas.Option.{same_Some}
+use Rattle.binlog_coords.specs.declared.Coord.{Coord}
+use Rattle.orch_base.specs.declared.server.Moment.{Moment}
+use Rattle.orch_base.specs.declared.server.ServerNo.{ServerNo}
+use Rattle.kept_rows.specs.declared.observation.Observation.{Observation}
+use Rattle.kept_rows.specs.Seeing.{seen_in}
+use Rattle.server_words.specs.declared.answers.Unreachable.{Unreachable}
+use Rattle.server_words.specs.declared.attach.AttachFault.{AttachFault}
+use Rattle.server_words.specs.declared.attach.AttachFault.TheVariants as attaching
+use Rattle.server_words.specs.declared.changes.Ask.{Ask}
+use Rattle.server_words.specs.declared.changes.Ask.TheVariants as asking
+use Rattle.server_words.specs.declared.status.Status.{Status}
+use Rattle.server_model.specs.Desk.{can_reach, desk_answer}
+use Rattle.server_model.specs.Gtids.{status}
+use Rattle.server_model.specs.Run.{Exchange, Request}
+use Rattle.server_model.specs.Worlds.{World, server_at}
+use Rattle.commands.specs.declared.cause.Cause.{Cause}
+use Rattle.commands.specs.declared.cause.Cause.TheVariants as cause
+use Rattle.operations.specs.declared.op.Aim.{Aim}
+use Rattle.operations.specs.declared.op.Op.{Op}
+use Rattle.operations.specs.Changes.{change_of}
+use Rattle.operations.specs.Deeds as deed
+use Rattle.operations.specs.Deeds.{Deed}
+use Rattle.operations.specs.Jobs.{Job, seen_of}
+use Rattle.operations.specs.Targets.{can_attach}
+use Rattle.operations.specs.Turns.{Attempt, Goes, Stops, settled, next, saw, observed, is_moved, after_status, after_look, after_ask, aim_of, is_reached, until_by, after_until, after_wait_by, after_wait, holds_seen, is_settled, settles, attach_answer_of, cause_by, after_answer, after_attach, by_deed}
+use Rattle.job_laws.specs.Held.{attachment_of}
+use Rattle.cause_laws.specs.Events.{Befell, Done, Ended, IsAnswered, IsShort, IsTaken, Misses, Stopped, Waited, asked_until, changes_by, fails_when_spent, made, only_where, speaks_with, tries}
+use Rattle.cause_laws.proofs.Answering.{answer-memory, answer-unreached, answers-of, unasked, unread}
+use Rattle.cause_laws.proofs.Aiming.{aim-before, aim-come, attachment-with, has-come, moved-apart, set-come, set-lacks, unsettled}
+
+module _ (w : World) (read : ℕ) (now : Moment) (j : Job) (rest : List Op) where
+  abbrev Taken : Deed → Attempt → Type 0
+  Taken d a = IsTaken w j rest d (settled j a)
+
+  halted : (d : Deed) (c : Cause) (o : Option Observation) → Befell w j d c → Taken d (Stops c o)
+  halted d c o h = Stopped (record { cause = c; befell = h; failed = refl; changes = refl })
+
+  -- ---- a status
+
+  taken-look : (n : ServerNo) (from : Option ServerNo) → Taken (deed.Look n from) (by_deed w read now j rest (deed.Look n from))
+  taken-look n from = go (seen_in (status w n.0)) refl
+    where
+      moved : (s : Status) → seen_in (status w n.0) ≡ Some s → (b : Bool) → is_moved from s.source ≡ b → Taken (deed.Look n from) (after_status j rest n from (observed w read now n) s b)
+      moved s is true e =
+          let apart = moved-apart from s.source e in
+          halted (deed.Look n from) (cause.Moved n s.source) (Some (observed w read now n))
+          (record { named = apart.0; look = ap (deed.Look n) apart.1; seen = s; shown = is; is = refl; other = apart.2 })
+      moved s is false e = Done (record { going = refl; left = refl; waited = refl; wait = refl; changes = refl; come = λ k short. absurd short.misses })
+
+      go : (r : Option Status) → seen_in (status w n.0) ≡ r → Taken (deed.Look n from) (after_look j rest n from (observed w read now n) r)
+      go None is = halted (deed.Look n from) (cause.Unreachable n) (Some (observed w read now n)) (record { spoken = refl; away = unread w (server_at w n.0) is })
+      go (Some s) is = moved s is (is_moved from s.source) refl
+
+  -- ---- what is asked
+
+  taken-ask : (d : Deed) (n : ServerNo) (a : Ask) → speaks_with w j d ≡ Some n → changes_by w j d ≡ Request n.0 a ∷ [] → ((s : Status) → Misses j d s → ⊥)
+      → Taken d (after_ask j rest n a (desk_answer (server_at w n.0)))
+  taken-ask d n a spoken changes never = go (desk_answer (server_at w n.0)) refl
+    where
+      go : (r : Result (Unit {0}) Unreachable) → desk_answer (server_at w n.0) ≡ r → Taken d (after_ask j rest n a r)
+      go (Ok t) is = Done (record { going = refl; left = refl; waited = refl; wait = refl; changes = sym changes; come = λ k short. absurd (never short.seen short.misses) })
+      go (Err e) is = halted d (cause.Unreachable n) None (record { spoken = spoken; away = unasked (server_at w n.0) e is })
+
+  taken-until : (n : ServerNo) (to : Aim) → Taken (deed.Until n to) (by_deed w read now j rest (deed.Until n to))
+  taken-until n to = go (until_by (seen_of j.seen n.0) (aim_of j.seen to)) refl
+    where
+      go : (o : Option Coord) → until_by (seen_of j.seen n.0) (aim_of j.seen to) ≡ o → Taken (deed.Until n to) (after_until w j rest n o)
+      go None is = Done (record { going = refl; left = refl; waited = refl; wait = refl; changes = sym (ap (asked_until n) is); come = λ k short. absurd short.misses })
+      go (Some c) is = taken-ask (deed.Until n to) n (asking.StartUntil c) (ap (λ o. only_where (is_some o) n) is) (ap (asked_until n) is) (λ s h. h)
+
+  -- ---- waits
+
+  -- a short server is the one that was read
+  same-short : (d : Deed) (n k : ServerNo) (s : Status) → speaks_with w j d ≡ Some n → seen_in (status w n.0) ≡ Some s → (short : IsShort w j d k) → short.seen ≡ s
+  same-short d n k s spoken is short =
+      let one : n ≡ k = same_Some n k (sym spoken ∙ short.spoken) in
+      let at : seen_in (status w n.0) ≡ Some short.seen = subst (λ (m : ServerNo). seen_in (status w m.0) ≡ Some short.seen) (sym one) short.shown in
+      same_Some short.seen s (sym at ∙ is)
+
+  taken-wait : (d : Deed) (n : ServerNo) (reached : Status → Bool) → speaks_with w j d ≡ Some n → fails_when_spent d ≡ true → changes_by w j d ≡ []
+      → ((s : Status) → reached s ≡ false → Misses j d s) → ((s : Status) → reached s ≡ true → Misses j d s → ⊥) → Taken d (after_wait j rest n reached (seen_in (status w n.0)))
+  taken-wait d n reached spoken fails changes short come = go (seen_in (status w n.0)) refl
+    where
+      more : (s : Status) → seen_in (status w n.0) ≡ Some s → reached s ≡ false → (b : Bool) → nat_lt (j.waited + 1) j.wait ≡ b
+          → Taken d (cond b (Goes None [] (record (saw j n s) { waited = j.waited + 1 })) (Stops (cause.WaitSpent n) None))
+      more s is missed true e = Waited (record {
+        going = refl;
+        left = refl;
+        waited = refl;
+        wait = refl;
+        changes = refl;
+        server = n;
+        short = record { spoken = spoken; seen = s; shown = is; misses = short s missed };
+        more = ltb-true (j.waited + 1) j.wait e;
+      })
+      more s is missed false e = halted d (cause.WaitSpent n) None (record {
+        fails = fails;
+        short = record { spoken = spoken; seen = s; shown = is; misses = short s missed };
+        last = ltb-false (j.waited + 1) j.wait e;
+      })
+
+      by : (s : Status) → seen_in (status w n.0) ≡ Some s → (b : Bool) → reached s ≡ b → Taken d (after_wait_by j rest n s b)
+      by s is true e = Done (record {
+        going = refl;
+        left = refl;
+        waited = refl;
+        wait = refl;
+        changes = sym changes;
+        come = λ k miss. absurd (come s e (subst (Misses j d) (same-short d n k s spoken is miss) miss.misses));
+      })
+      by s is false e = more s is e (nat_lt (j.waited + 1) j.wait) refl
+
+      go : (r : Option Status) → seen_in (status w n.0) ≡ r → Taken d (after_wait j rest n reached r)
+      go None is = halted d (cause.Unreachable n) None (record { spoken = spoken; away = unread w (server_at w n.0) is })
+      go (Some s) is = by s is (reached s) refl
+
+  taken-settle : (n : ServerNo) → Taken (deed.Settle n) (by_deed w read now j rest (deed.Settle n))
+  taken-settle n = go (seen_in (status w n.0)) refl
+    where
+      more : (s : Status) → seen_in (status w n.0) ≡ Some s → settles j s ≡ false → (b : Bool) → nat_lt (j.waited + 1) j.wait ≡ b
+          → Taken (deed.Settle n) (cond b (Goes None [] (record (saw j n s) { waited = j.waited + 1 })) (Stops (cause.WaitSpent n) None))
+      more s is missed true e = Waited (record {
+        going = refl;
+        left = refl;
+        waited = refl;
+        wait = refl;
+        changes = refl;
+        server = n;
+        short = record { spoken = refl; seen = s; shown = is; misses = unsettled s (or_parts (is_settled s) (not (nat_lt (j.waited + 1) j.wait)) missed).0 };
+        more = ltb-true (j.waited + 1) j.wait e;
+      })
+      more s is missed false e =
+          let h : nat_lt (j.waited + 1) j.wait ≡ true = not-false (nat_lt (j.waited + 1) j.wait) (or_parts (is_settled s) (not (nat_lt (j.waited + 1) j.wait)) missed).1 in
+          absurd (false≢true (sym e ∙ h))
+
+      late : (s : Status) → settles j s ≡ true → Misses j (deed.Settle n) s → j.wait ≤ j.waited + 1
+      late s e miss = has-come j s e miss
+
+      by : (s : Status) → seen_in (status w n.0) ≡ Some s → (b : Bool) → settles j s ≡ b → Taken (deed.Settle n) (after_wait_by j rest n s b)
+      by s is true e = Done (record {
+        going = refl;
+        left = refl;
+        waited = refl;
+        wait = refl;
+        changes = refl;
+        come = λ k miss. (refl, late s e (subst (Misses j (deed.Settle n)) (same-short (deed.Settle n) n k s refl is miss) miss.misses));
+      })
+      by s is false e = more s is e (nat_lt (j.waited + 1) j.wait) refl
+
+      go : (r : Option Status) → seen_in (status w n.0) ≡ r → Taken (deed.Settle n) (after_wait j rest n (settles j) r)
+      go None is = halted (deed.Settle n) (cause.Unreachable n) None (record { spoken = refl; away = unread w (server_at w n.0) is })
+      go (Some s) is = by s is (settles j s) refl
+
+  -- ---- changes of source
+
+  module _ (d : Deed) (n : ServerNo) (changed : change_of d ≡ Some n) (spoken : tries w (attachment_of j.seen d) ≡ true → speaks_with w j d ≡ Some n)
+      (changes : changes_by w j d ≡ made w (attachment_of j.seen d)) (never : (s : Status) → Misses j d s → ⊥) where
+    passed-by : attachment_of j.seen d ≡ None → Taken d (Goes None [] (next j rest))
+    passed-by is = Done (record { going = refl; left = refl; waited = refl; wait = refl; changes = sym (changes ∙ ap (made w) is); come = λ k short. absurd (never short.seen short.misses) })
+
+    answered-with : (x : Exchange) (f : AttachFault) → attachment_of j.seen d ≡ Some x → can_attach w x ≡ true → attach_answer_of w x ≡ Err f → IsAnswered w j d n f
+    answered-with x f is can e = record { changed = changed; exchange = x; found = is; can = can; answer = answers-of w x f can e }
+
+    refused-by : (x : Exchange) (f : AttachFault) → attachment_of j.seen d ≡ Some x → can_attach w x ≡ true → attach_answer_of w x ≡ Err f → Befell w j d (cause_by n f)
+    refused-by x attaching.Unreachable is can e = record {
+      spoken = spoken (ap (tries w) is ∙ can);
+      away = subst (λ k. can_reach (server_at w k) ≡ false) (attachment-with j.seen d n x changed is) (answer-unreached w x can e);
+    }
+    refused-by x (attaching.Running at) is can e = (at, answered-with x (attaching.Running at) is can e)
+    refused-by x (attaching.Interfered expected found) is can e = answered-with x (attaching.Interfered expected found) is can e
+    refused-by x attaching.Loop is can e = answered-with x attaching.Loop is can e
+    refused-by x (attaching.Errant set) is can e = answered-with x (attaching.Errant set) is can e
+    refused-by x (attaching.Purged first) is can e = answered-with x (attaching.Purged first) is can e
+    refused-by x attaching.Memory is can e = absurd (answer-memory w x can e)
+
+    taken-attach : (o : Option Exchange) → attachment_of j.seen d ≡ o → Taken d (after_attach w j rest n o)
+    taken-attach None is = passed-by is
+    taken-attach (Some x) is = by (can_attach w x) refl
+      where
+        go : can_attach w x ≡ true → (r : Result (Unit {0}) AttachFault) → attach_answer_of w x ≡ r → Taken d (after_answer j rest n x r)
+        go can (Ok t) e = Done (record {
+          going = refl;
+          left = refl;
+          waited = refl;
+          wait = refl;
+          changes = sym (changes ∙ (ap (made w) is ∙ ap (λ b. cond b (x ∷ []) []) can));
+          come = λ k short. absurd (never short.seen short.misses);
+        })
+        go can (Err f) e = halted d (cause_by n f) None (refused-by x f is can e)
+
+        by : (b : Bool) → can_attach w x ≡ b → Taken d (cond b (after_answer j rest n x (attach_answer_of w x)) (Goes None [] (next j rest)))
+        by true can = go can (attach_answer_of w x) refl
+        by false can = Done (record {
+          going = refl;
+          left = refl;
+          waited = refl;
+          wait = refl;
+          changes = sym (changes ∙ (ap (made w) is ∙ ap (λ b. cond b (x ∷ []) []) can));
+          come = λ k short. absurd (never short.seen short.misses);
+        })
+
+  -- ---- an operation
+
+  pub deed-taken : (d : Deed) → IsTaken w j rest d (settled j (by_deed w read now j rest d))
+  deed-taken (deed.Look n from) = taken-look n from
+  deed-taken (deed.Request n a) = taken-ask (deed.Request n a) n a refl refl (λ s h. h)
+  deed-taken (deed.Until n to) = taken-until n to
+  deed-taken (deed.Await n to) =
+      taken-wait (deed.Await n to) n (λ s. is_reached (aim_of j.seen to) s.exec) refl refl refl (λ s e. aim-before (aim_of j.seen to) s.exec e) (λ s e h. aim-come (aim_of j.seen to) s.exec e h)
+  deed-taken (deed.AwaitSet n m) = taken-wait (deed.AwaitSet n m) n (holds_seen (seen_of j.seen m.0)) refl refl refl (set-lacks (seen_of j.seen m.0)) (set-come (seen_of j.seen m.0))
+  deed-taken (deed.Settle n) = taken-settle n
+  deed-taken (deed.Cross c a b) =
+      taken-attach (deed.Cross c a b) a refl (λ h. ap (λ t. only_where t a) h) refl (λ s h. h) (attachment_of j.seen (deed.Cross c a b)) refl
+  deed-taken (deed.Same n) = taken-attach (deed.Same n) n refl (λ h. ap (λ t. only_where t n) h) refl (λ s h. h) (attachment_of j.seen (deed.Same n)) refl
+  deed-taken (deed.Auto n m) = taken-attach (deed.Auto n m) n refl (λ h. ap (λ t. only_where t n) h) refl (λ s h. h) (attachment_of j.seen (deed.Auto n m)) refl
+  deed-taken (deed.Finish lines) = Ended (record { lines = lines; finish = refl; done = refl; changes = refl })
