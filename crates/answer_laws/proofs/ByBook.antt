@@ -25,7 +25,7 @@ use Rattle.permission.specs.Checks.{Case, errant, errant_by, first_refusal, of_l
 use Rattle.permission.specs.Errants.{own_missing}
 use Rattle.permission.specs.Lists.{first_about, only_if}
 use Rattle.permission.specs.Replicas.{replicas_but}
-use Rattle.permission.specs.Rows.{about, about_one, moving}
+use Rattle.permission.specs.Rows.{about, about_one, going_by, moving}
 use Rattle.permission.specs.Views.{has_log, id_in, is_auto, is_lower, is_valid, label_in, logs_in, lower_version, same_id, same_label, set_seen, source_of, uuid_in, version_in}
 use Rattle.permission.specs.declared.case.Check.{Check}
 use Rattle.permission.specs.declared.case.Check.TheVariants as check
@@ -157,6 +157,8 @@ module _ (w v : World) (same : SameSettings w v) where
   check-same b c check.GtidOff = ap (λ x. only_if (not x) refusal.GtidOff) same.gtid
   check-same b c check.Errant =
       about-same (errant w b) (errant v b) (λ m. ap (λ x. errant_by (own_missing x (set_seen b m.no) (set_seen b m.source))) (by-uuid m.no.0)) c.moves
+  check-same b c check.PurgedPlace = refl
+  check-same b c check.PurgedSet = refl
 
   row-same : (b : BookState) (c : Case) (row : List Check) → first_refusal w b c row ≡ first_refusal v b c row
   row-same b c row = about-same (refusal_by w b c) (refusal_by v b c) (check-same b c) row
@@ -209,15 +211,16 @@ module _ (w v : World) (same : SameSettings w v) where
   -- ---- by paths
 
   case-same : (b : BookState) (c : RegroupCommand) (i : ServerNo) (d : Option ServerNo) → paths.case_of w b c i d ≡ paths.case_of v b c i d
-  case-same b path.Relocate i d = ap (λ g. moving i (i ∷ []) d ((i ∷ []) ++ (option_to_list d ++ paths.passed_by g b (i ∷ []) d))) same.gtid
+  case-same b path.Relocate i d =
+      ap (λ g. going_by (paths.crossed_by g b (i ∷ []) d) (moving i (i ∷ []) d ((i ∷ []) ++ (option_to_list d ++ paths.passed_by g b (i ∷ []) d)))) same.gtid
   case-same b path.RelocateReplicas i d =
-      ap (λ g. moving i (replicas_but b i d) d (replicas_but b i d ++ (option_to_list d ++ paths.passed_by g b (replicas_but b i d) d))) same.gtid
+      ap (λ g. going_by (paths.crossed_by g b (replicas_but b i d) d) (moving i (replicas_but b i d) d (replicas_but b i d ++ (option_to_list d ++ paths.passed_by g b (replicas_but b i d) d)))) same.gtid
   case-same b path.RegroupReplicas i d = refl
 
-  last-same : (b : BookState) (now : Moment) (c : RegroupCommand) (i : ServerNo) (d : Option ServerNo) → paths.last_refusal w b now c i d ≡ paths.last_refusal v b now c i d
-  last-same b now path.Relocate i d = ap (λ g. paths.astray g b (i ∷ []) d) same.gtid
-  last-same b now path.RelocateReplicas i d = ap (λ g. paths.astray g b (replicas_but b i d) d) same.gtid
-  last-same b now path.RegroupReplicas i d = ap (λ x. only_if (not x) refusal.NoCandidate) (candidates-same b now i)
+  own-same : (b : BookState) (now : Moment) (c : RegroupCommand) (i : ServerNo) (d : Option ServerNo) → paths.own_refusal w b now c i d ≡ paths.own_refusal v b now c i d
+  own-same b now path.Relocate i d = ap (λ g. paths.astray g b (i ∷ []) d) same.gtid
+  own-same b now path.RelocateReplicas i d = ap (λ g. paths.astray g b (replicas_but b i d) d) same.gtid
+  own-same b now path.RegroupReplicas i d = ap (λ x. only_if (not x) refusal.NoCandidate) (candidates-same b now i)
 
   pub paths-same : (b : BookState) (now : Moment) (given : Command) → paths.refusal_of w b now given ≡ paths.refusal_of v b now given
   paths-same b now given = ap (option_or (unknown_in b given)) (kinds-same None (paths.refusal_about w b now) (paths.refusal_about v b now) one (regroup_command given.name) given)
@@ -228,8 +231,17 @@ module _ (w v : World) (same : SameSettings w v) where
           ∙ (ap (λ x. first_refusal v b x (paths.row_of w.gtid c)) (case-same b c i d)
           ∙ ap (λ g. first_refusal v b (paths.case_of v b c i d) (paths.row_of g c)) same.gtid)
 
+      last : (c : RegroupCommand) (i : ServerNo) (d : Option ServerNo) → paths.last_refusal w b c i d ≡ paths.last_refusal v b c i d
+      last c i d =
+          row-same b (paths.case_of w b c i d) (paths.last_row_of w.gtid c)
+          ∙ (ap (λ x. first_refusal v b x (paths.last_row_of w.gtid c)) (case-same b c i d)
+          ∙ ap (λ g. first_refusal v b (paths.case_of v b c i d) (paths.last_row_of g c)) same.gtid)
+
       one : (c : RegroupCommand) (i : ServerNo) (d : Option ServerNo) → paths.refusal_about w b now c i d ≡ paths.refusal_about v b now c i d
-      one c i d = ap (λ x. option_or x (paths.last_refusal w b now c i d)) (row c i d) ∙ ap (option_or (paths.row_refusal v b c i d)) (last-same b now c i d)
+      one c i d =
+          ap (λ x. option_or x (paths.rest_refusal w b now c i d)) (row c i d)
+          ∙ (ap (λ x. option_or (paths.row_refusal v b c i d) (option_or x (paths.last_refusal w b c i d))) (own-same b now c i d)
+          ∙ ap (λ x. option_or (paths.row_refusal v b c i d) (option_or (paths.own_refusal v b now c i d) x)) (last c i d))
 
   pub lists-same : (b : BookState) (given : Command) → paths.leased_by w b given ≡ paths.leased_by v b given
   lists-same b given =

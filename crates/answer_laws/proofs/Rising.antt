@@ -1,8 +1,8 @@
 -- Checks by rising numbers answer the lowest refusal.
 use Rattle.std.proofs.Common.{◌≡◌, ℕ, suc, ◌+◌, ◌≤◌, ◌<◌, Bool, true, false, cond, not, ◌&&◌, List, [], ◌∷◌, ◌++◌, refl, sym, ◌∙◌, ap, subst, Option, Some, None, Result, Ok, Err, arith}
-use Rattle.std.specs.Prelude.{All, Any, is_some, nat_lt, option_map}
+use Rattle.std.specs.Prelude.{All, Any, is_some, nat_le, nat_lt, option_map}
 use Rattle.std.specs.Option.{option_or}
-use Rattle.std.proofs.lemmas.Bool.{and_parts, ltb-true}
+use Rattle.std.proofs.lemmas.Bool.{and_parts, leb-true, ltb-true}
 use Rattle.std.proofs.lemmas.List.Elements.{All-cons, All-nil}
 use Rattle.std.proofs.lemmas.Option.{same_Some}
 use Rattle.orch_base.specs.declared.code.Code.{Code}
@@ -102,34 +102,47 @@ has-some n x is r e = let same : number_of x ≡ number_of r = ap number_of (sam
 has-check : (w : World) (b : BookState) (c : Case) (k : Check) → Has (check_number k) (check_number k + 1) (refusal_by w b c k)
 has-check w b c k r e = let is = check-number w b c k r e in (omega (arith, is), omega (arith, is))
 
--- a row's numbers end at 18
-most : (k : Check) → check_number k ≤ 18
-most check.SameInstance = omega arith
-most check.Busy = omega arith
-most check.Unreachable = omega arith
-most check.NoSource = omega arith
-most check.NotDetached = omega arith
-most check.AlreadyDetached = omega arith
-most check.OtherCluster = omega arith
-most check.Below = omega arith
-most check.SourceHasNoSource = omega arith
-most check.NotSibling = omega arith
-most check.NotSameLog = omega arith
-most check.DestNotLogging = omega arith
-most check.SameServerId = omega arith
-most check.VersionLower = omega arith
-most check.GtidOff = omega arith
-most check.Errant = omega arith
+-- the numbers of a row end at one
+abbrev ends_by : ℕ → List Check → Bool
+ends_by top [] = true
+ends_by top (k ∷ row) = nat_le (check_number k) top && ends_by top row
 
-row-rising : (w : World) (b : BookState) (c : Case) (n : ℕ) (row : List Check) (xs : List (Option Refusal)) → n ≤ 18 → rises_from n row ≡ true → Rising 19 xs → Rising (n + 1) (row_checks w b c row ++ xs)
-row-rising w b c n [] xs within up rest = rising-from (n + 1) 19 xs (omega (arith, within)) rest
-row-rising w b c n (k ∷ row) xs within up rest =
+-- all end at 30
+most : (k : Check) → nat_le (check_number k) 30 ≡ true
+most check.SameInstance = refl
+most check.Busy = refl
+most check.Unreachable = refl
+most check.NoSource = refl
+most check.NotDetached = refl
+most check.AlreadyDetached = refl
+most check.OtherCluster = refl
+most check.Below = refl
+most check.SourceHasNoSource = refl
+most check.NotSibling = refl
+most check.NotSameLog = refl
+most check.DestNotLogging = refl
+most check.SameServerId = refl
+most check.VersionLower = refl
+most check.GtidOff = refl
+most check.Errant = refl
+most check.PurgedPlace = refl
+most check.PurgedSet = refl
+
+ends-all : (row : List Check) → ends_by 30 row ≡ true
+ends-all [] = refl
+ends-all (k ∷ row) = ap (λ x. x && ends_by 30 row) (most k) ∙ ends-all row
+
+row-rising : (w : World) (b : BookState) (c : Case) (n top : ℕ) (row : List Check) (xs : List (Option Refusal)) → n ≤ top → rises_from n row ≡ true → ends_by top row ≡ true
+    → Rising (top + 1) xs → Rising (n + 1) (row_checks w b c row ++ xs)
+row-rising w b c n top [] xs within up ends rest = rising-from (n + 1) (top + 1) xs (omega (arith, within)) rest
+row-rising w b c n top (k ∷ row) xs within up ends rest =
     let parts = and_parts (nat_lt n (check_number k)) (rises_from (check_number k) row) up in
-    let first : n < check_number k = ltb-true n (check_number k) parts.0 in (
+    let first : n < check_number k = ltb-true n (check_number k) parts.0 in
+    let under = and_parts (nat_le (check_number k) top) (ends_by top row) ends in (
       check_number k + 1,
       omega (arith, first),
       λ r e. (let p = (has-check w b c k r e).0 in omega (arith, p, first), (has-check w b c k r e).1),
-      row-rising w b c (check_number k) row xs (most k) parts.1 rest,
+      row-rising w b c (check_number k) top row xs (leb-true (check_number k) top under.0) parts.1 under.1 rest,
     )
 
 -- ---- what is answered first
@@ -175,7 +188,7 @@ append-none [] = refl
 append-none (x ∷ xs) = ap (λ ys. x ∷ ys) (append-none xs)
 
 row-alone : (w : World) (b : BookState) (c : Case) (row : List Check) → rises_from 2 row ≡ true → Rising 3 (row_checks w b c row)
-row-alone w b c row up = subst (Rising 3) (append-none (row_checks w b c row)) (row-rising w b c 2 row [] (omega arith) up tt)
+row-alone w b c row up = subst (Rising 3) (append-none (row_checks w b c row)) (row-rising w b c 2 30 row [] (omega arith) up (ends-all row) tt)
 
 pub coords-lowest : (w : World) (b : BookState) (given : Command) → IsAnswer (coords_checks w b given) (coords.refusal_of w b given)
 coords-lowest w b given =
@@ -204,7 +217,7 @@ path-rows-rise true path.RelocateReplicas = refl
 path-rows-rise false path.RelocateReplicas = refl
 path-rows-rise gtid path.RegroupReplicas = refl
 
--- the last check of a command is for a path, or a candidate
+-- a command's own check is for a path, or a candidate
 has-astray : (gtid : Bool) (b : BookState) (movers : List ServerNo) (d : Option ServerNo) → Has 19 27 (paths.astray gtid b movers d)
 has-astray true b movers d r e = cc
 has-astray false b [] d r e = cc
@@ -218,30 +231,44 @@ has-astray false b (n ∷ movers) d r e = go (paths.without_path b d n) refl e (
     go None is e rest = rest e
     go (Some s) is e rest = one r (is ∙ e)
 
-has-last : (w : World) (b : BookState) (now : Moment) (c : RegroupCommand) (i : ServerNo) (d : Option ServerNo) → Has 19 27 (paths.last_refusal w b now c i d)
-has-last w b now path.Relocate i d r e = has-astray w.gtid b (i ∷ []) d r e
-has-last w b now path.RelocateReplicas i d r e = has-astray w.gtid b (replicas_but b i d) d r e
-has-last w b now path.RegroupReplicas i d r e = let p = has-test 26 (not (has_candidate w b now i)) refusal.NoCandidate refl r e in (let q = p.0 in omega (arith, q), p.1)
+module _ (w : World) (b : BookState) where
+  moving-rising : (c : Case) (row : Bool → List Check) (movers : List ServerNo) (d : Option ServerNo) → ((g : Bool) → rises_from 2 (row g) ≡ true) → ends_by 18 (row false) ≡ true
+      → (g : Bool) → Rising 3 (row_checks w b c (row g) ++ paths.astray g b movers d ∷ row_checks w b c (paths.places_row g))
+  moving-rising c row movers d rise ends true =
+      row-rising w b c 2 30 (row true) (None ∷ []) (omega arith) (rise true) (ends-all (row true)) (31, omega arith, λ r e. cc, tt)
+  moving-rising c row movers d rise ends false =
+      row-rising w b c 2 18 (row false) (paths.astray false b movers d ∷ row_checks w b c (paths.places_row false)) (omega arith) (rise false) ends (
+        27,
+        omega arith,
+        has-astray false b movers d,
+        (31, omega arith, has-wide 30 31 27 31 (refusal_by w b c check.PurgedPlace) (omega arith) (omega arith) (has-check w b c check.PurgedPlace), tt),
+      )
+
+  candidate-has : (now : Moment) (i : ServerNo) → Has 19 27 (paths.without_candidate w b now i)
+  candidate-has now i = has-wide 26 27 19 27 (paths.without_candidate w b now i) (omega arith) (omega arith) (has-test 26 (not (has_candidate w b now i)) refusal.NoCandidate refl)
+
+  path-rising : (now : Moment) (c : RegroupCommand) (i : ServerNo) (d : Option ServerNo)
+      → Rising 3 (row_checks w b (paths.case_of w b c i d) (paths.row_of w.gtid c) ++ paths.own_refusal w b now c i d ∷ row_checks w b (paths.case_of w b c i d) (paths.last_row_of w.gtid c))
+  path-rising now path.Relocate i d =
+      moving-rising (paths.case_of w b path.Relocate i d) paths.relocate_row (i ∷ []) d (λ g. path-rows-rise g path.Relocate) refl w.gtid
+  path-rising now path.RelocateReplicas i d =
+      moving-rising (paths.case_of w b path.RelocateReplicas i d) paths.replicas_row (replicas_but b i d) d (λ g. path-rows-rise g path.RelocateReplicas) refl w.gtid
+  path-rising now path.RegroupReplicas i d =
+      row-rising w b (paths.case_of w b path.RegroupReplicas i d) 2 18 (check.Busy ∷ []) (paths.without_candidate w b now i ∷ []) (omega arith) refl refl (27, omega arith, candidate-has now i, tt)
 
 pub path-lowest : (w : World) (b : BookState) (now : Moment) (given : Command) → IsAnswer (path_checks w b now given) (paths.refusal_of w b now given)
 path-lowest w b now given =
     answered (path_checks w b now given) (paths.refusal_of w b now given) 2
-    (ap (option_or (unknown_in b given)) (about-first (paths.refusal_about w b now) checks first (regroup_command given.name) given)) (
-      3,
-      omega arith,
-      has-unknown b given,
-      about-rising 3 checks
-          (λ c i d. row-rising w b (paths.case_of w b c i d) 2 (paths.row_of w.gtid c) (paths.last_refusal w b now c i d ∷ []) (omega arith) (path-rows-rise w.gtid c) (27, omega arith, has-last w b now c i d, tt))
-          (regroup_command given.name) given,
-    )
+    (ap (option_or (unknown_in b given)) (about-first (paths.refusal_about w b now) checks first (regroup_command given.name) given))
+    (3, omega arith, has-unknown b given, about-rising 3 checks (λ c i d. path-rising w b now c i d) (regroup_command given.name) given)
   where
     checks : RegroupCommand → ServerNo → Option ServerNo → List (Option Refusal)
-    checks c i d = row_checks w b (paths.case_of w b c i d) (paths.row_of w.gtid c) ++ paths.last_refusal w b now c i d ∷ []
+    checks c i d = row_checks w b (paths.case_of w b c i d) (paths.row_of w.gtid c) ++ paths.own_refusal w b now c i d ∷ row_checks w b (paths.case_of w b c i d) (paths.last_row_of w.gtid c)
 
     first : (c : RegroupCommand) (i : ServerNo) (d : Option ServerNo) → first_of (checks c i d) ≡ paths.refusal_about w b now c i d
     first c i d =
-        first-append (row_checks w b (paths.case_of w b c i d) (paths.row_of w.gtid c)) (paths.last_refusal w b now c i d ∷ [])
-        ∙ ap (option_or (paths.row_refusal w b c i d)) (or-none (paths.last_refusal w b now c i d))
+        first-append (row_checks w b (paths.case_of w b c i d) (paths.row_of w.gtid c))
+        (paths.own_refusal w b now c i d ∷ row_checks w b (paths.case_of w b c i d) (paths.last_row_of w.gtid c))
 
 -- ---- recoveries and takeovers
 
@@ -322,7 +349,7 @@ takeover-lowest w b audit a i d =
       3,
       omega arith,
       has-test 2 (not (is_instance b i && is_instance b d)) refusal.UnknownInstance refl,
-      row-rising w b (takeover.case_of b i d) 2 takeover.row (held_back b audit a i ∷ no_master b i ∷ no_replica b i d ∷ []) (omega arith) refl
+      row-rising w b (takeover.case_of b i d) 2 18 takeover.row (held_back b audit a i ∷ no_master b i ∷ no_replica b i d ∷ []) (omega arith) refl refl
           (rising-from 19 24 (held_back b audit a i ∷ no_master b i ∷ no_replica b i d ∷ []) (omega arith) (
             27,
             omega arith,
