@@ -5,8 +5,6 @@
 mod backend;
 mod fault;
 mod sql;
-#[cfg(test)]
-mod tests;
 mod texts;
 
 pub use backend::Backend;

@@ -7,7 +7,7 @@ ghost use Rattle.sql_keeper.specs.Counting.{counted};
 
 use crate::fault::SqlFault;
 use crate::texts::{Texts, key_string, row_in, texts_of};
-use kept_rows::{Change, Keeper, KeeperFault, Row, row_map};
+use kept_rows::{Change, Keeper, KeeperFault, Row, last_row_stands, row_map};
 use orch_base::{Name, OwnedText};
 use row_texts::TableNumber;
 use sqlite::{
@@ -99,13 +99,11 @@ fn row_at(alloc: Global, names: &[Name], row: &SqlRow) -> Result<Option<Row>, Sq
     row_in(alloc, names, number, &Texts { key, text })
 }
 
-fn all_rows(
+fn found_rows(
     alloc: Global,
     conn: &mut Connection<Store>,
     names: &[Name],
-) -> Result<Vec<Row>, SqlFault>
-    ensures { IfOk result (λ rows. IsRising rows.items) }
-{
+) -> Result<Vec<Row>, SqlFault> {
     let found = conn.query_all(ALL, &[])?;
     let mut rows = Vec::with_capacity(alloc, found.len())?;
     for row in &found {
@@ -113,6 +111,19 @@ fn all_rows(
             rows.push(row)?;
         }
     }
+    Ok(rows)
+}
+
+// All rows, by table, then key.
+fn all_rows(
+    alloc: Global,
+    conn: &mut Connection<Store>,
+    names: &[Name],
+) -> Result<Vec<Row>, SqlFault>
+    ensures { IfOk result (λ rows. IsRising rows.items) }
+{
+    last_row_stands();
+    let rows = found_rows(alloc, conn, names)?;
     Ok(row_map(alloc, rows)?)
 }
 

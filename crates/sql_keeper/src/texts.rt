@@ -1,6 +1,7 @@
 //! Rows as a database has them: a table's number, a key and a text.
 
 ghost use Rattle.std.specs.Prelude.{◌≡◌, IfOk, IfSome, Some, is_some, length, string_bytes, true};
+ghost use Rattle.std.specs.Bool.{OnTrue};
 ghost use Rattle.orch_base.specs.Gives.{Gives};
 ghost use Rattle.kept_rows.specs.declared.row.Table.{Table};
 ghost use Rattle.kept_rows.specs.Rows.{key_of};
@@ -34,7 +35,7 @@ fn string_of(bytes: Vec<u8>) -> Result<String, SqlFault>
 
 // Whether each server that the row names is one of these.
 fn are_named(names: &[Name], row: &Row) -> bool
-    ensures { result ≡ true → are_known (length names.now) (servers_of row.now) ≡ true }
+    ensures { OnTrue result (are_known (length names.now) (servers_of row.now) ≡ true) }
 {
     names.len() <= 4294967295 && row.are_servers_known(names.len() as u32)
 }
@@ -79,6 +80,7 @@ pub(crate) fn texts_of(alloc: Global, names: &[Name], row: &Row) -> Result<Texts
 }
 
 // The row of a table's number, which is there: none where it names a server that isn't known.
+#[tactic(auto, using(crate::proofs::Unknown::passed_over, crate::proofs::Unknown::passed_on))]
 fn row_of(
     alloc: Global,
     names: &[Name],
@@ -99,6 +101,7 @@ fn row_of(
 
 // What is given in place of a row of servers that aren't known: of a recovery one of no server, so that no other takes its
 // number.
+#[tactic(auto, using(crate::proofs::Unknown::of_none))]
 fn stand_in(alloc: Global, table: Table, key: &str) -> Option<Row>
     ensures { IfSome result (λ r. IsOfNoServer r) }
 {

@@ -1,13 +1,13 @@
 //! A keeper over a real file.
 
-use crate::SqlKeeper;
 use kept_rows::{Candidate, Change, Keeper, KeeperFault, Key, Row, Rule, Table};
 use orch_base::{Memory, Moment, Name, OwnedText, ServerNo};
+use sql_keeper::SqlKeeper;
 use std::alloc::Global;
 use std::fs;
 use std::test::Fail;
 
-const FOLDER: &str = "sql_keeper_test";
+const FOLDER: &str = "keeper_tests_rows";
 
 fn named(alloc: Global, text: &str) -> Result<Name, Memory> {
     match Name::read(alloc, text) {
@@ -68,7 +68,7 @@ fn rows_are_kept_in_a_file(rt: HostRuntime) -> Result<(), Fail> {
     let _ = fs::remove_dir_all(&rt, FOLDER);
     fs::create_dir(&rt, FOLDER)?;
     let names = [named(alloc, "m")?, named(alloc, "b")?, named(alloc, "a")?];
-    let mut keeper = open(&rt, "sql_keeper_test/rows")?;
+    let mut keeper = open(&rt, "keeper_tests_rows/rows")?;
     assert_eq!(rt; keep(&mut keeper, alloc, &names), Ok(()));
     // A server that isn't known: nothing is kept, and the fault is counted.
     let unknown = [Change::Put(candidate(0, 1)), Change::Put(candidate(3, 1))];
@@ -77,7 +77,7 @@ fn rows_are_kept_in_a_file(rt: HostRuntime) -> Result<(), Fail> {
         (Err(KeeperFault::Failed), 1)
     );
     keeper.close();
-    let mut again = open(&rt, "sql_keeper_test/rows")?;
+    let mut again = open(&rt, "keeper_tests_rows/rows")?;
     let rows = given(&mut again, alloc, &names);
     assert_eq!(rt;
         rows.as_ref().map(|rows| rows.as_slice()),
