@@ -7,7 +7,7 @@ ghost use Rattle.sql_keeper.specs.Counting.{counted};
 
 use crate::fault::SqlFault;
 use crate::texts::{Texts, key_string, row_in, texts_of};
-use kept_rows::{Change, Keeper, KeeperFault, Row, last_row_stands, row_map};
+use kept_rows::{Change, Keeper, KeeperFault, Row, row_map};
 use orch_base::{Name, OwnedText};
 use row_texts::TableNumber;
 use sqlite::{
@@ -114,6 +114,14 @@ fn found_rows(
     Ok(rows)
 }
 
+// The rows by table, then key.
+#[tactic(auto, using(crate::proofs::Order::map_rises))]
+fn in_order(alloc: Global, rows: Vec<Row>) -> Result<Vec<Row>, SqlFault>
+    ensures { IfOk result (λ map. IsRising map.items) }
+{
+    Ok(row_map(alloc, rows)?)
+}
+
 // All rows, by table, then key.
 fn all_rows(
     alloc: Global,
@@ -122,9 +130,8 @@ fn all_rows(
 ) -> Result<Vec<Row>, SqlFault>
     ensures { IfOk result (λ rows. IsRising rows.items) }
 {
-    last_row_stands();
     let rows = found_rows(alloc, conn, names)?;
-    Ok(row_map(alloc, rows)?)
+    in_order(alloc, rows)
 }
 
 // The database, opened if this is the first call.
