@@ -20,6 +20,12 @@ fn words_of(rt: &HostRuntime, alloc: Global) -> io::Result<Vec<Vec<u8>>> {
     Ok(words)
 }
 
+// Handles that take the places of standard streams that were closed at the start, so that no file which is opened later
+// stands in one of them. A folder is neither read nor written.
+fn in_closed_places(rt: &HostRuntime) -> [io::Result<File>; 3] {
+    [File::open(rt, "/"), File::open(rt, "/"), File::open(rt, "/")]
+}
+
 // What the scenario is read from: standard input, or the file of this path.
 fn input(rt: &HostRuntime, path: Option<OwnedText>) -> Input {
     let Some(path) = path else {
@@ -46,6 +52,7 @@ fn no_memory<E: Sink>(err: &mut E) -> ExitCode {
 
 fn main(rt: HostRuntime) -> ExitCode {
     let alloc = rt.alloc();
+    let _held = in_closed_places(&rt);
     let mut err = StreamSink::new(rt.stderr());
     let words = match words_of(&rt, alloc) {
         Ok(words) => words,
