@@ -115,7 +115,6 @@ fn found_rows(
 }
 
 // The rows by table, then key.
-#[tactic(auto, using(crate::proofs::Order::map_rises))]
 fn in_order(alloc: Global, rows: Vec<Row>) -> Result<Vec<Row>, SqlFault>
     ensures { IfOk result (λ map. IsRising map.items) }
 {
