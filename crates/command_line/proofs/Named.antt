@@ -138,10 +138,11 @@ texts_have : (rows : List Row) (t : Texts) → texts_in rows ≡ Ok t → AreTex
 unfolding texts_in
 texts_have rows t e =
     let scenario = bind_ok (maybe text_in (first_of (codes "scenario") rows)) _ t e in
-    let reason = bind_ok (maybe (text_within 255) (first_of (codes "reason") rows)) _ t scenario.2 in
+    let db = bind_ok (maybe text_in (first_of (codes "db") rows)) _ t scenario.2 in
+    let reason = bind_ok (maybe (text_within 255) (first_of (codes "reason") rows)) _ t db.2 in
     let owner = bind_ok (maybe (text_within 255) (first_of (codes "owner") rows)) _ t reason.2 in
     let pattern = bind_ok (maybe pattern_in (first_of (codes "pattern") rows)) _ t owner.2 in
-    subst (AreTexts rows) (same_ok (record { scenario = scenario.0; reason = reason.0; owner = owner.0; pattern = pattern.0 }) t pattern.2) (record {
+    subst (AreTexts rows) (same_ok (record { scenario = scenario.0; db = db.0; reason = reason.0; owner = owner.0; pattern = pattern.0 }) t pattern.2) (record {
       reason = has_read (λ text. length text ≤ 255) (text_within 255) (first_of (codes "reason") rows) reason.0 (within_has 255) reason.1;
       owner = has_read (λ text. length text ≤ 255) (text_within 255) (first_of (codes "owner") rows) owner.0 (within_has 255) owner.1;
       pattern = has_read (λ text. is_pattern text ≡ true) pattern_in (first_of (codes "pattern") rows) pattern.0 pattern_has pattern.1;

@@ -31,7 +31,7 @@ with_options app names = fold (λ a name. with_rule a (long_rule name)) app name
 
 -- the options that are given by name, each with one text
 abbrev pub option_names : List Text
-option_names = codes "scenario" ∷ codes "promotion-rule" ∷ codes "duration" ∷ codes "reason" ∷ codes "owner" ∷ codes "pattern"
+option_names = codes "scenario" ∷ codes "db" ∷ codes "promotion-rule" ∷ codes "duration" ∷ codes "reason" ∷ codes "owner" ∷ codes "pattern"
     ∷ codes "pollers" ∷ codes "workers" ∷ codes "wait" ∷ codes "seed" ∷ codes "servers" ∷ codes "turns" ∷ []
 
 -- `-c`, `-i` and `-d`

@@ -31,10 +31,11 @@ instances_in rows = do
 unfoldable pub texts_in : List Row → Result Texts Usage
 texts_in rows = do
   scenario ← maybe text_in (first_of (codes "scenario") rows)
+  db ← maybe text_in (first_of (codes "db") rows)
   reason ← maybe (text_within 255) (first_of (codes "reason") rows)
   owner ← maybe (text_within 255) (first_of (codes "owner") rows)
   pattern ← maybe pattern_in (first_of (codes "pattern") rows)
-  Ok (record { scenario = scenario; reason = reason; owner = owner; pattern = pattern })
+  Ok (record { scenario = scenario; db = db; reason = reason; owner = owner; pattern = pattern })
 
 -- the numbers, each with its range and its default
 unfoldable pub counts_in : List Row → Result Counts Usage
@@ -75,6 +76,7 @@ places_in rows = do
     i = instances.i;
     d = instances.d;
     scenario = texts.scenario;
+    db = texts.db;
     rule = instances.rule;
     duration = instances.duration;
     reason = texts.reason;

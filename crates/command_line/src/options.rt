@@ -13,8 +13,9 @@ use clap::error::ErrorKind;
 use clap::{Arg, ArgAction, ArgMatches, Command};
 use std::alloc::Global;
 
-const OPTIONS: [&str; 12] = [
+const OPTIONS: [&str; 13] = [
     "scenario",
+    "db",
     "promotion-rule",
     "duration",
     "reason",

@@ -30,6 +30,8 @@ pub struct Places {
     pub d: Option<Name>,
     /// `--scenario`: the path of the scenario's file. Without one it is read from standard input.
     pub scenario: Option<OwnedText>,
+    /// `--db`: the path of the database file in which rows are kept. Without one they are kept in memory.
+    pub db: Option<OwnedText>,
     /// `--promotion-rule`: prefer, neutral, prefer_not or must_not.
     pub rule: Option<Rule>,
     /// `--duration`: 1 to 31,536,000 seconds, given as digits and at most one letter of s, m, h, d and w.
@@ -96,6 +98,7 @@ struct Instances {
 #[derive(Drop)]
 struct Texts {
     scenario: Option<OwnedText>,
+    db: Option<OwnedText>,
     reason: Option<OwnedText>,
     owner: Option<OwnedText>,
     pattern: Option<OwnedText>,
@@ -132,11 +135,13 @@ fn texts_in(alloc: Global, matches: &ArgMatches<'_>) -> Result<Texts, Usage>
     ensures { Gives (λ p. p) usage_fault result (texts_in (rows_in matches.now)) }
 {
     let scenario = maybe_text(alloc, text_of(matches, "scenario"))?;
+    let db = maybe_text(alloc, text_of(matches, "db"))?;
     let reason = maybe_text_within(alloc, 255, text_of(matches, "reason"))?;
     let owner = maybe_text_within(alloc, 255, text_of(matches, "owner"))?;
     let pattern = maybe_pattern(alloc, text_of(matches, "pattern"))?;
     Ok(Texts {
         scenario,
+        db,
         reason,
         owner,
         pattern,
@@ -212,6 +217,7 @@ pub(crate) fn places_in(alloc: Global, matches: &ArgMatches<'_>) -> Result<Place
         i: instances.i,
         d: instances.d,
         scenario: texts.scenario,
+        db: texts.db,
         rule: instances.rule,
         duration: instances.duration,
         reason: texts.reason,

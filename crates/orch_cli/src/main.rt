@@ -4,7 +4,8 @@
 use adapters::{FileSource, Input, StreamSink};
 use command_line::{Usage, places};
 use instance_keeper::MemKeeper;
-use orch_base::{OwnedText, Sink};
+use orch_base::{Memory, OwnedText, Sink};
+use sql_keeper::{Backend, SqlKeeper};
 use std::alloc::Global;
 use std::fs::File;
 use std::process::ExitCode;
@@ -19,6 +20,12 @@ fn words_of(rt: &HostRuntime, alloc: Global) -> io::Result<Vec<Vec<u8>>> {
     Ok(words)
 }
 
+// Handles that take the places of standard streams that were closed at the start, so that no file which is opened later
+// stands in one of them. A folder is neither read nor written.
+fn in_closed_places(rt: &HostRuntime) -> [io::Result<File>; 3] {
+    [File::open(rt, "/"), File::open(rt, "/"), File::open(rt, "/")]
+}
+
 // What the scenario is read from: standard input, or the file of this path.
 fn input(rt: &HostRuntime, path: Option<OwnedText>) -> Input {
     let Some(path) = path else {
@@ -30,6 +37,14 @@ fn input(rt: &HostRuntime, path: Option<OwnedText>) -> Input {
     }
 }
 
+// Where rows are kept: in the database file of this path, or in memory.
+fn backend(rt: &HostRuntime, alloc: Global, path: Option<OwnedText>) -> Result<Backend, Memory> {
+    Ok(match path {
+        Some(path) => Backend::File(SqlKeeper::open(rt, path)),
+        None => Backend::Memory(MemKeeper::new(alloc, Vec::new(alloc), Vec::new(alloc))?),
+    })
+}
+
 fn no_memory<E: Sink>(err: &mut E) -> ExitCode {
     close(err, b"out of memory\n");
     ExitCode::from(Way::Memory.status())
@@ -37,6 +52,7 @@ fn no_memory<E: Sink>(err: &mut E) -> ExitCode {
 
 fn main(rt: HostRuntime) -> ExitCode {
     let alloc = rt.alloc();
+    let _held = in_closed_places(&rt);
     let mut err = StreamSink::new(rt.stderr());
     let words = match words_of(&rt, alloc) {
         Ok(words) => words,
@@ -44,16 +60,18 @@ fn main(rt: HostRuntime) -> ExitCode {
         Err(fault) if fault.kind() == io::ErrorKind::InvalidData => Vec::new(alloc),
         Err(_) => return no_memory(&mut err),
     };
-    let path = match places(alloc, &words) {
-        Ok(places) => places.scenario,
-        Err(Usage::BadWords) => None,
+    let (scenario, db) = match places(alloc, &words) {
+        Ok(places) => (places.scenario, places.db),
+        Err(Usage::BadWords) => (None, None),
         Err(Usage::Memory) => return no_memory(&mut err),
     };
-    let mut source = FileSource::new(input(&rt, path));
+    let mut source = FileSource::new(input(&rt, scenario));
     let mut out = StreamSink::new(rt.stdout());
-    let mut keeper = match MemKeeper::new(alloc, Vec::new(alloc), Vec::new(alloc)) {
+    let mut keeper = match backend(&rt, alloc, db) {
         Ok(keeper) => keeper,
         Err(_) => return no_memory(&mut err),
     };
-    ExitCode::from(orch(alloc, &words, &mut source, &mut out, &mut err, &mut keeper))
+    let status = orch(alloc, &words, &mut source, &mut out, &mut err, &mut keeper);
+    keeper.close();
+    ExitCode::from(status)
 }

@@ -1,0 +1,11 @@
+//! A keeper of rows in a database file (orchestrator's documentation, "Backend database"), and the choice between it and
+//! a keeper in memory.
+#![tactic(auto)]
+
+mod backend;
+mod fault;
+mod sql;
+mod texts;
+
+pub use backend::Backend;
+pub use sql::SqlKeeper;
