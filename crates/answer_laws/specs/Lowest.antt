@@ -61,8 +61,8 @@ abbrev pub path_checks : World → BookState → Moment → Command → List (Op
 path_checks w b now given =
     unknown_in b given
     ∷ about []
-      (λ c i d. row_checks w b (paths.case_of w b c i d) (paths.row_of w.gtid c) ++ paths.own_refusal w b now c i d ∷ row_checks w b (paths.case_of w b c i d) (paths.last_row_of w.gtid c))
-      (regroup_command given.name) given
+    (λ c i d. row_checks w b (paths.case_of w b c i d) (paths.row_of w.gtid c) ++ paths.own_refusal w b now c i d ∷ row_checks w b (paths.case_of w b c i d) (paths.last_row_of w.gtid c))
+    (regroup_command given.name) given
 
 -- what keeps a recovery from beginning by itself
 abbrev pub own_checks : BookState → Attempt → ServerNo → Bool → List (Option Refusal)

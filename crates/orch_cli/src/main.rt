@@ -23,7 +23,11 @@ fn words_of(rt: &HostRuntime, alloc: Global) -> io::Result<Vec<Vec<u8>>> {
 // Handles that take the places of standard streams that were closed at the start, so that no file which is opened later
 // stands in one of them. A folder is neither read nor written.
 fn in_closed_places(rt: &HostRuntime) -> [io::Result<File>; 3] {
-    [File::open(rt, "/"), File::open(rt, "/"), File::open(rt, "/")]
+    [
+        File::open(rt, "/"),
+        File::open(rt, "/"),
+        File::open(rt, "/"),
+    ]
 }
 
 // What the scenario is read from: standard input, or the file of this path.
