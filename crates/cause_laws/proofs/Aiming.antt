@@ -23,7 +23,7 @@ use Rattle.operations.specs.Deeds.{Deed}
 use Rattle.operations.specs.Jobs.{Job, seen_of}
 use Rattle.operations.specs.Turns.{attached_anew, bridge_at, by_set, crossed, has_all, has_from, holds_seen, is_moved, is_reached, is_settled, is_within, read_by, same_again, settles}
 use Rattle.job_laws.specs.Held.{attachment_of}
-use Rattle.job_plans.proofs.Sets.{within-holds}
+use Rattle.operations.proofs.Sets.{within-holds}
 use Rattle.cause_laws.specs.Events.{IsBefore, LacksSome}
 
 -- ---- a source that was named
