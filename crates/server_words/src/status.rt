@@ -39,9 +39,12 @@ impl Status {
     ghost use Rattle.std.specs.Prelude.{◌≡◌, ◌↔◌, IfOk, IsTrue};
 
     /// The same once more.
+    #[inline]
     pub fn copy(&self) -> Result<Status, Memory>
         ensures { IfOk result (λ s. s ≡ self.now) }
     {
+        let set = self.set.copy()?;
+        let purged = self.purged.copy()?;
         Ok(Status {
             own_end: self.own_end,
             source: self.source,
@@ -51,9 +54,9 @@ impl Status {
             io: self.io,
             sql: self.sql,
             read_only: self.read_only,
-            set: self.set.copy()?,
+            set,
             first: self.first,
-            purged: self.purged.copy()?,
+            purged,
         })
     }
 
