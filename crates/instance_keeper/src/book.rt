@@ -61,6 +61,7 @@ fn clear_instances(instances: &mut Instances, count: u32)
 }
 
 // Sets a server's place. It takes no memory.
+#[inline(always)]
 fn put_at(instances: &mut Instances, no: u32, instance: Option<Instance>)
     requires keys { CountsUp 0 instances.old.entries }
     requires within { no < length (values instances.old) }
@@ -79,6 +80,7 @@ fn instance_in(instances: &Instances, no: u32) -> Option<&Instance>
 }
 
 // Renews what is known of an instance, where it stands.
+#[inline(always)]
 fn renew_place(place: &mut Option<Instance>, o: Observation)
     ensures { place.new ≡ option_map (λ i. renewed i o) place.old }
 {
@@ -94,6 +96,7 @@ fn renew_place(place: &mut Option<Instance>, o: Observation)
 }
 
 // What is known after a reading, beside what was kept.
+#[inline(always)]
 fn renewed_copy(kept: &Instance, o: &Observation) -> Result<Instance, Memory>
     ensures { IfOk result (λ i. i ≡ renewed kept.now o.now) }
 {
@@ -110,6 +113,7 @@ fn renewed_copy(kept: &Instance, o: &Observation) -> Result<Instance, Memory>
     })
 }
 
+#[inline(always)]
 fn renewal(kept: &Instance, o: &Observation) -> Result<Option<Change>, Memory>
     ensures { IfOk result (λ c. c ≡ renewal kept.now (renewed kept.now o.now)) }
 {
@@ -189,6 +193,7 @@ fn empty_rings(alloc: Global, count: u32) -> Result<Vec<Ring>, Memory>
 }
 
 // The bridge that a reading shows: none where the server wasn't reached.
+#[inline(always)]
 fn bridge_shown(o: &Observation) -> Option<Bridge>
     ensures { result ≡ bridge_in o.now.no o.now.seen }
 {
@@ -393,6 +398,7 @@ impl Book {
     }
 
     // Puts a row, where a book takes it.
+    #[inline(always)]
     fn take(&mut self, row: Row)
         ensures after { self.new ≡ after_row self.old row }
         ensures settings { self.new.settings ≡ self.old.settings }
@@ -416,6 +422,7 @@ impl Book {
         }
     }
 
+    #[inline(always)]
     fn put(&mut self, row: Row)
         requires { row_fits (length self.old.names) row ≡ true }
         ensures after { self.new ≡ after_put self.old row }
@@ -474,6 +481,7 @@ impl Book {
     }
 
     // Renews what is known of an instance.
+    #[inline(always)]
     fn renew(&mut self, o: Observation)
         requires { are_known (length self.old.names) (observed_servers o) ≡ true }
         ensures { self.new ≡ record self.old { instances = slice_set self.old.instances o.no.0 (option_map (λ i. renewed i o) (instance_at self.old o.no)) } }

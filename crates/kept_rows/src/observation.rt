@@ -55,15 +55,17 @@ impl Instance {
     ghost use Rattle.std.specs.Prelude.{◌≡◌, ◌↔◌, IfOk, IsTrue};
 
     /// The same instance once more.
+    #[inline(always)]
     pub fn copy(&self) -> Result<Instance, Memory>
         ensures { IfOk result (λ i. i ≡ self.now) }
     {
+        let seen = self.seen.copy()?;
         Ok(Instance {
             no: self.no,
             read: self.read,
             moment: self.moment,
             valid: self.valid,
-            seen: self.seen.copy()?,
+            seen,
         })
     }
 

@@ -217,6 +217,7 @@ impl Row {
     }
 
     /// The same row once more.
+    #[inline]
     pub fn copy(&self, alloc: Global) -> Result<Row, Memory>
         ensures { IfOk result (λ r. r ≡ self.now) }
     {

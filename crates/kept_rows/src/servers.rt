@@ -52,6 +52,7 @@ fn is_of_book(table: Table) -> bool
 
 impl Row {
     /// Whether each server that the row names is one of so many.
+    #[inline]
     pub fn are_servers_known(&self, count: u32) -> bool
         ensures { result ≡ are_known count (servers_of self.now) }
     {
