@@ -178,6 +178,25 @@ fn copy_changes(alloc: Global, changes: &[Change]) -> Result<Vec<Change>, Memory
     Ok(copies)
 }
 
+// Puts a copy of a row. It changes nothing at want of memory.
+fn put_copy(alloc: Global, rows: &mut Vec<Row>, row: &Row) -> Result<(), Memory>
+    requires rising { IsRising rows.old.items }
+    ensures ok { OnOk result (rows.new.items ≡ put rows.old.items row.now) }
+    ensures err { OnErr result (rows.new.items ≡ rows.old.items) }
+    ensures rising { IsRising rows.new.items }
+{
+    let sort_key = row.sort_key();
+    let index = first_from(rows, sort_key);
+    if is_there(rows, index, sort_key) {
+        rows[index].set_to(alloc, row)?;
+    } else {
+        let row = row.copy(alloc)?;
+        rows.reserve(1)?;
+        put_row(rows, row);
+    }
+    Ok(())
+}
+
 // Makes a change, whose row is copied. It changes nothing at want of memory.
 fn change_one(alloc: Global, rows: &mut Vec<Row>, change: &Change) -> Result<(), Memory>
     requires rising { IsRising rows.old.items }
@@ -186,11 +205,7 @@ fn change_one(alloc: Global, rows: &mut Vec<Row>, change: &Change) -> Result<(),
     ensures rising { IsRising rows.new.items }
 {
     match change {
-        Change::Put(row) => {
-            let row = row.copy(alloc)?;
-            rows.reserve(1)?;
-            put_row(rows, row);
-        }
+        Change::Put(row) => put_copy(alloc, rows, row)?,
         Change::Remove(table, key) => remove_row(
             rows,
             SortKey {
