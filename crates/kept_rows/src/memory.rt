@@ -222,7 +222,11 @@ fn copy_rows(alloc: Global, rows: &[Row]) -> Result<Vec<Row>, Memory>
 {
     let mut copies = Vec::with_capacity(alloc, rows.len())?;
     for row in rows {
-        copies.push_reserved(row.copy(alloc)?);
+        if let Row::Instance(instance) = row {
+            copies.push_reserved(Row::Instance(instance.copy()?));
+        } else {
+            copies.push_reserved(row.copy(alloc)?);
+        }
     }
     Ok(copies)
 }

@@ -67,6 +67,7 @@ impl Row {
 
     /// Whether a book of so many servers takes the row: it isn't of the recovery table nor the claim's, and its servers
     /// are known.
+    #[inline]
     pub fn fits(&self, count: u32) -> bool
         ensures { result ≡ row_fits count self.now }
     {

@@ -39,7 +39,7 @@ impl Status {
     ghost use Rattle.std.specs.Prelude.{◌≡◌, ◌↔◌, IfOk, IsTrue, OnOk, OnErr};
 
     /// The same once more.
-    #[inline]
+    #[inline(always)]
     pub fn copy(&self) -> Result<Status, Memory>
         ensures { IfOk result (λ s. s ≡ self.now) }
     {
