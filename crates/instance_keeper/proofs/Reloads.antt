@@ -47,10 +47,8 @@ first_again (suc k) (suc n) v (x ∷ xs) less = ap (λ ys. x ∷ ys) (first_agai
 
 -- ---- the book with them
 
-pub all_set : (k : ℕ) (b : BookState) → IsBook b → k ≡ length b.names → first_set k b ≡ b
-all_set k b is all =
-    let len = is.instances in
-    ap (λ xs. record b { instances = xs }) (first_all k b.instances (omega (arith, all, len)))
+pub all_set : (k : ℕ) (b : BookState) → k ≡ length b.instances → first_set k b ≡ b
+all_set k b all = ap (λ xs. record b { instances = xs }) (first_all k b.instances (omega (arith, all)))
 
 pub none_set : (b : BookState) → IsBook b → first_set zero (record (empty_book b.settings) { instances = b.instances }) ≡ empty_book b.settings
 none_set b is =

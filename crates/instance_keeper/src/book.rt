@@ -171,13 +171,23 @@ fn empty_places<T: Drop>(alloc: Global, count: u32) -> Result<Vec<Option<T>>, Me
     Ok(places)
 }
 
+// Empties a place, where something is there.
+#[inline(always)]
+fn clear_place<T: Drop>(place: &mut Option<T>)
+    ensures { place.new ≡ None }
+{
+    if place.is_some() {
+        *place = None;
+    }
+}
+
 // Empties all places.
 #[tactic(auto, using(crate::proofs::Cleared::cleared_next, crate::proofs::Cleared::cleared_all))]
 fn clear_places<T: Drop>(places: &mut Vec<Option<T>>)
     ensures { places.new.items ≡ replicate (length places.old.items) None }
 {
     for place in places.iter_mut() {
-        *place = None;
+        clear_place(place);
     }
 }
 
@@ -442,7 +452,7 @@ impl Book {
         ensures after { first_set to self.new ≡ first_set from self.old }
         ensures settings { self.new.settings ≡ self.old.settings }
         ensures names { self.new.names ≡ self.old.names }
-        ensures whole { IsBook self.new }
+        ensures places { length self.new.instances ≡ length self.old.instances }
     {
         for no in from..to {
             self.empty_place(no);

@@ -1,4 +1,5 @@
 use Rattle.std.proofs.Common.{◌≡◌, ◌∙◌, ℕ, suc, List, Option, None, ap, sym, add-one, length, arith}
+use Rattle.std.proofs.lemmas.List.{length-set}
 use Rattle.kept_rows.specs.declared.observation.Instance.{Instance}
 use Rattle.instance_keeper.specs.Book.{BookState}
 use Rattle.instance_keeper.specs.Reloads.{first_set}
@@ -17,6 +18,7 @@ loop-no-preserved c =
       after = ap (λ (k : ℕ). first_set k c.empty_place.new.self) (add-one no) ∙ (emptied ∙ c.loop-no.invariant.after);
       settings = ap (λ (b : BookState). b.settings) c.empty_place.ensures ∙ c.loop-no.invariant.settings;
       names = ap (λ (b : BookState). b.names) c.empty_place.ensures ∙ c.loop-no.invariant.names;
+      places = ap (λ (b : BookState). length b.instances) c.empty_place.ensures ∙ (length-set before.instances no None ∙ c.loop-no.invariant.places);
     }
 
 pub returns-clause-after : goal.returns-clause-after

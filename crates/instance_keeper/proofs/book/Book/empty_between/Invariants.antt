@@ -1,5 +1,4 @@
-use Rattle.std.proofs.Common.{◌≡◌, ◌≤◌}
-use Rattle.instance_keeper.specs.Book.{IsBook}
+use Rattle.std.proofs.Common.{◌≡◌, ◌≤◌, length}
 use Rattle.instance_keeper.specs.Reloads.{first_set}
 use Rattle.instance_keeper.proofs.book.Book.empty_between.Given as goal
 
@@ -9,4 +8,5 @@ invariant-loop-no l = record {
   after : first_set l.no l.self ≡ first_set l.from l.fn.self;
   settings : l.self.settings ≡ l.fn.self.settings;
   names : l.self.names ≡ l.fn.self.names;
+  places : length l.self.instances ≡ length l.fn.self.instances;
 }

@@ -1,4 +1,6 @@
-use Rattle.std.proofs.Common.{◌≡◌, ◌∙◌, ap, sym, length, zero, arith}
+use Rattle.std.proofs.Common.{◌≡◌, ◌∙◌, ap, sym, length, zero, arith, rules}
+use Rattle.std.specs.Prelude.{fold}
+use Rattle.instance_keeper.specs.Book.{after_row, empty_book}
 use Rattle.instance_keeper.specs.Reloads.{first_set}
 use Rattle.instance_keeper.proofs.Reloads.{all_set, none_set}
 use Rattle.instance_keeper.proofs.book.Book.reload.Goals as goal
@@ -14,5 +16,9 @@ rows-init c = record {
 pub returns-clause-made : goal.returns-clause-made
 returns-clause-made c =
     let now = c.empty_between.new.self in
-    sym (all_set c.servers-count.result now c.empty_between.ensures.whole (c.servers-count.ensures.count ∙ ap length (sym c.empty_between.ensures.names)))
-    ∙ (c.empty_between.ensures.after ∙ c.rows.invariant.made)
+    let count = c.servers-count.ensures.count ∙ (sym c.servers-count.ensures.holds.instances ∙ sym c.empty_between.ensures.places) in
+    let read : c.rows.yielded ≡ c.args.rows.items = search rules in
+    sym (all_set c.servers-count.result now count)
+    ∙ (c.empty_between.ensures.after
+    ∙ (c.rows.invariant.made
+    ∙ ap (fold after_row (empty_book c.args.self.now.settings)) read))
