@@ -1,6 +1,6 @@
 //! The book: what orchestrator knows.
 
-ghost use Rattle.std.specs.Prelude.{◌≡◌, ◌<◌, ◌≤◌, ◌^◌, All, None, Some, [], IfOk, OnErr, OnOk, IsTrue, true, length, map, replicate, slice_get, slice_set, slice_index_or, option_map, unwrap_or, nat_lt};
+ghost use Rattle.std.specs.Prelude.{◌≡◌, ◌<◌, ◌≤◌, ◌^◌, All, None, Some, [], IfOk, OnErr, OnOk, IsTrue, true, fold, length, map, replicate, slice_get, slice_set, slice_index_or, option_map, unwrap_or, nat_lt};
 ghost use Rattle.std.specs.Option.{option_copied};
 ghost use Rattle.indexmap.specs.IndexMap.{values};
 ghost use Rattle.name_order.specs.NameOrder.{by_name, rank_of, IsOrder};
@@ -398,12 +398,25 @@ impl Book {
         ensures names { self.new.names ≡ self.old.names }
     {
         self.clear_rest();
+        let next = self.set_all(rows);
+        let count = self.servers();
+        self.empty_between(next, count);
+    }
+
+    // Puts these rows, where a book takes them, while all places of instances are still to be set. It gives the next one
+    // that is to be set then.
+    fn set_all(&mut self, rows: Vec<Row>) -> u32
+        ensures within { result ≤ length self.new.names }
+        ensures after { first_set result self.new ≡
+            fold after_row (first_set 0 self.old) rows.items }
+        ensures settings { self.new.settings ≡ self.old.settings }
+        ensures names { self.new.names ≡ self.old.names }
+    {
         let mut next = 0;
         'rows: for row in rows {
             next = self.set_next(next, row);
         }
-        let count = self.servers();
-        self.empty_between(next, count);
+        next
     }
 
     // Forgets all but the servers and their instances.
