@@ -92,18 +92,22 @@ impl GtidSet {
     }
 
     /// The same set once more.
+    #[inline(always)]
     pub fn copy(&self) -> Result<GtidSet, Memory>
         ensures { IfOk result (λ copy. copy ≡ self.now) }
     {
-        let intervals = Vec::from_slice(*self.intervals.allocator(), &self.intervals)?;
-        Ok(GtidSet { intervals })
+        GtidSet::of_intervals(*self.intervals.allocator(), &self.intervals)
     }
 
-    // The set of these intervals.
+    // The set of these intervals. Of none it takes no memory.
+    #[inline(always)]
     pub(crate) fn of_intervals(alloc: Global, intervals: &[Interval]) -> Result<GtidSet, Memory>
         requires { IsSet intervals.now }
         ensures { IfOk result (λ set. set ≡ intervals.now) }
     {
+        if intervals.is_empty() {
+            return Ok(GtidSet::empty(alloc));
+        }
         let intervals = Vec::from_slice(alloc, intervals)?;
         Ok(GtidSet { intervals })
     }

@@ -11,3 +11,4 @@ pub mod Cleared
 pub mod InstanceRows
 pub mod HadRows
 pub mod NoRecovery
+pub mod Reloads

@@ -4,3 +4,4 @@ pub mod ServerLists
 pub mod Bridges
 pub mod Leases
 pub mod Had
+pub mod Reloads

@@ -1,11 +1,12 @@
 //! The book: what orchestrator knows.
 
-ghost use Rattle.std.specs.Prelude.{◌≡◌, ◌<◌, ◌^◌, All, None, Some, [], IfOk, OnErr, OnOk, IsTrue, true, length, map, replicate, slice_get, slice_set, slice_index_or, option_map, unwrap_or, nat_lt};
+ghost use Rattle.std.specs.Prelude.{◌≡◌, ◌<◌, ◌≤◌, ◌^◌, All, None, Some, [], IfOk, OnErr, OnOk, IsTrue, true, fold, length, map, replicate, slice_get, slice_set, slice_index_or, option_map, unwrap_or, nat_lt};
 ghost use Rattle.std.specs.Option.{option_copied};
 ghost use Rattle.indexmap.specs.IndexMap.{values};
 ghost use Rattle.name_order.specs.NameOrder.{by_name, rank_of, IsOrder};
 ghost use Rattle.instance_keeper.specs.Bridges.{bridge_in, has_exec, has_own, latest_that, ring_at, ringed};
 ghost use Rattle.instance_keeper.specs.Had.{candidate_kept, downtime_kept};
+ghost use Rattle.instance_keeper.specs.Reloads.{first_set, place_from};
 ghost use Rattle.instance_keeper.specs.Leases.{first_busy, given_back, taken};
 ghost use Rattle.instance_keeper.specs.Counts.{CountsUp};
 ghost use Rattle.kept_rows.specs.Servers.{are_known, source_servers, observed_servers, ending_servers, servers_of, key_servers, row_fits, fits};
@@ -47,20 +48,8 @@ fn empty_instances(alloc: Global, count: u32) -> Result<Instances, Memory>
     Ok(instances)
 }
 
-// Empties all places. It takes no memory.
-#[tactic(auto, using(crate::proofs::Cleared::cleared_next, crate::proofs::Cleared::cleared_all))]
-fn clear_instances(instances: &mut Instances, count: u32)
-    requires keys { CountsUp 0 instances.old.entries }
-    requires count { count ≡ length (values instances.old) }
-    ensures keys { CountsUp 0 instances.new.entries }
-    ensures values { values instances.new ≡ replicate count None }
-{
-    for no in 0..count {
-        put_at(instances, no, None);
-    }
-}
-
 // Sets a server's place. It takes no memory.
+#[inline(always)]
 fn put_at(instances: &mut Instances, no: u32, instance: Option<Instance>)
     requires keys { CountsUp 0 instances.old.entries }
     requires within { no < length (values instances.old) }
@@ -78,7 +67,30 @@ fn instance_in(instances: &Instances, no: u32) -> Option<&Instance>
     instances[no as usize].as_ref()
 }
 
+// The place that a row sets, where a book of so many servers takes it and its place doesn't stand before this one.
+#[inline(always)]
+fn place_from(next: u32, count: u32, row: &Row) -> Option<u32>
+    ensures { result ≡ place_from next count row.now }
+{
+    match row {
+        Row::Instance(instance) => {
+            let no = instance.no.0;
+            if next <= no && row.fits(count) {
+                Some(no)
+            } else {
+                None
+            }
+        }
+        Row::Downtime(_)
+        | Row::Candidate(_)
+        | Row::Recovery(_)
+        | Row::Switch(_)
+        | Row::Active { .. } => None,
+    }
+}
+
 // Renews what is known of an instance, where it stands.
+#[inline(always)]
 fn renew_place(place: &mut Option<Instance>, o: Observation)
     ensures { place.new ≡ option_map (λ i. renewed i o) place.old }
 {
@@ -94,6 +106,7 @@ fn renew_place(place: &mut Option<Instance>, o: Observation)
 }
 
 // What is known after a reading, beside what was kept.
+#[inline(always)]
 fn renewed_copy(kept: &Instance, o: &Observation) -> Result<Instance, Memory>
     ensures { IfOk result (λ i. i ≡ renewed kept.now o.now) }
 {
@@ -110,6 +123,7 @@ fn renewed_copy(kept: &Instance, o: &Observation) -> Result<Instance, Memory>
     })
 }
 
+#[inline(always)]
 fn renewal(kept: &Instance, o: &Observation) -> Result<Option<Change>, Memory>
     ensures { IfOk result (λ c. c ≡ renewal kept.now (renewed kept.now o.now)) }
 {
@@ -157,13 +171,23 @@ fn empty_places<T: Drop>(alloc: Global, count: u32) -> Result<Vec<Option<T>>, Me
     Ok(places)
 }
 
+// Empties a place, where something is there.
+#[inline(always)]
+fn clear_place<T: Drop>(place: &mut Option<T>)
+    ensures { place.new ≡ None }
+{
+    if place.is_some() {
+        *place = None;
+    }
+}
+
 // Empties all places.
 #[tactic(auto, using(crate::proofs::Cleared::cleared_next, crate::proofs::Cleared::cleared_all))]
 fn clear_places<T: Drop>(places: &mut Vec<Option<T>>)
     ensures { places.new.items ≡ replicate (length places.old.items) None }
 {
     for place in places.iter_mut() {
-        *place = None;
+        clear_place(place);
     }
 }
 
@@ -189,6 +213,7 @@ fn empty_rings(alloc: Global, count: u32) -> Result<Vec<Ring>, Memory>
 }
 
 // The bridge that a reading shows: none where the server wasn't reached.
+#[inline(always)]
 fn bridge_shown(o: &Observation) -> Option<Bridge>
     ensures { result ≡ bridge_in o.now.no o.now.seen }
 {
@@ -372,24 +397,86 @@ impl Book {
         ensures settings { self.new.settings ≡ self.old.settings }
         ensures names { self.new.names ≡ self.old.names }
     {
-        self.clear();
-        'rows: for row in rows {
-            self.take(row);
-        }
+        self.clear_rest();
+        let next = self.set_all(rows);
+        let count = self.servers();
+        self.empty_between(next, count);
     }
 
-    // Forgets all but the servers.
-    fn clear(&mut self)
-        ensures after { self.new ≡ empty_book self.old.settings }
+    // Puts these rows, where a book takes them, while all places of instances are still to be set. It gives the next one
+    // that is to be set then.
+    fn set_all(&mut self, rows: Vec<Row>) -> u32
+        ensures within { result ≤ length self.new.names }
+        ensures after { first_set result self.new ≡
+            fold after_row (first_set 0 self.old) rows.items }
         ensures settings { self.new.settings ≡ self.old.settings }
         ensures names { self.new.names ≡ self.old.names }
     {
-        clear_instances(&mut self.instances, self.servers.count());
+        let mut next = 0;
+        'rows: for row in rows {
+            next = self.set_next(next, row);
+        }
+        next
+    }
+
+    // Forgets all but the servers and their instances.
+    fn clear_rest(&mut self)
+        ensures after { self.new ≡
+            record (empty_book self.old.settings) { instances = self.old.instances } }
+        ensures settings { self.new.settings ≡ self.old.settings }
+        ensures names { self.new.names ≡ self.old.names }
+        ensures whole { IsBook self.old }
+    {
         clear_places(&mut self.downtimes);
         clear_places(&mut self.candidates);
         self.switch = None;
         clear_rings(&mut self.rings);
         clear_places(&mut self.leases);
+    }
+
+    // Puts a row, where a book takes it, while the places of instances from the next one on are still to be set. It
+    // gives the next one that is to be set then.
+    #[inline(always)]
+    fn set_next(&mut self, next: u32, row: Row) -> u32
+        requires { next ≤ length self.old.names }
+        ensures within { result ≤ length self.new.names }
+        ensures after { first_set result self.new ≡ after_row (first_set next self.old) row }
+        ensures settings { self.new.settings ≡ self.old.settings }
+        ensures names { self.new.names ≡ self.old.names }
+    {
+        match place_from(next, self.servers(), &row) {
+            Some(no) => {
+                self.empty_between(next, no);
+                self.put(row);
+                no + 1
+            }
+            None => {
+                self.take(row);
+                next
+            }
+        }
+    }
+
+    // Empties the places of instances from one on and before another.
+    #[inline(always)]
+    fn empty_between(&mut self, from: u32, to: u32)
+        requires ordered { from ≤ to }
+        requires within { to ≤ length self.old.names }
+        ensures after { first_set to self.new ≡ first_set from self.old }
+        ensures settings { self.new.settings ≡ self.old.settings }
+        ensures names { self.new.names ≡ self.old.names }
+        ensures places { length self.new.instances ≡ length self.old.instances }
+    {
+        for no in from..to {
+            self.empty_place(no);
+        }
+    }
+
+    fn empty_place(&mut self, no: u32)
+        requires { no < length self.old.names }
+        ensures { self.new ≡ record self.old { instances = slice_set self.old.instances no None } }
+    {
+        put_at(&mut self.instances, no, None);
     }
 
     // Puts a row, where a book takes it.
@@ -416,6 +503,7 @@ impl Book {
         }
     }
 
+    #[inline(always)]
     fn put(&mut self, row: Row)
         requires { row_fits (length self.old.names) row ≡ true }
         ensures after { self.new ≡ after_put self.old row }
@@ -474,6 +562,7 @@ impl Book {
     }
 
     // Renews what is known of an instance.
+    #[inline(always)]
     fn renew(&mut self, o: Observation)
         requires { are_known (length self.old.names) (observed_servers o) ≡ true }
         ensures { self.new ≡ record self.old { instances = slice_set self.old.instances o.no.0 (option_map (λ i. renewed i o) (instance_at self.old o.no)) } }

@@ -1,6 +1,6 @@
 //! A keeper in memory, which fails at the calls that are listed.
 
-ghost use Rattle.std.specs.Prelude.{◌≡◌, ◌<◌, ◌≤◌, ◌+◌, ◌↔◌, Some, IfSome, fold, true, IfOk, OnOk, OnErr, Err, length, vec_len, vec_capacity};
+ghost use Rattle.std.specs.Prelude.{◌≡◌, ◌<◌, ◌≤◌, ◌+◌, ◌↔◌, Some, IfSome, fold, true, IfOk, OnOk, OnErr, Err, length, nat_lt, vec_len, vec_capacity};
 ghost use Rattle.std.specs.Bool.{OnTrue, OnFalse};
 ghost use Rattle.std.specs.List.{HoldsAt};
 ghost use Rattle.orch_base.specs.Memory.{fails_next};
@@ -51,6 +51,7 @@ fn next_look(from: usize, to: usize, guess: usize) -> usize
 }
 
 // Whether the row of this index is there, and stands at this sort key.
+#[inline(always)]
 fn stands_at(rows: &[Row], index: usize, sort_key: SortKey) -> bool
     ensures there { OnTrue result (index < length rows.now) }
     ensures at { OnTrue result (HoldsAt (λ r. sort_key_of r ≡ at sort_key) rows.now index) }
@@ -84,6 +85,7 @@ fn first_from(rows: &[Row], sort_key: SortKey) -> usize
 }
 
 // Whether there is a row of this index that doesn't stand behind this sort key.
+#[inline(always)]
 fn is_there(rows: &[Row], index: usize, sort_key: SortKey) -> bool
     ensures there { OnTrue result (index < length rows.now) }
     ensures yes { OnTrue result (HoldsAt (λ r. sort_key_of r ≤ at sort_key) rows.now index) }
@@ -176,6 +178,25 @@ fn copy_changes(alloc: Global, changes: &[Change]) -> Result<Vec<Change>, Memory
     Ok(copies)
 }
 
+// Puts a copy of a row. It changes nothing at want of memory.
+fn put_copy(alloc: Global, rows: &mut Vec<Row>, row: &Row) -> Result<(), Memory>
+    requires rising { IsRising rows.old.items }
+    ensures ok { OnOk result (rows.new.items ≡ put rows.old.items row.now) }
+    ensures err { OnErr result (rows.new.items ≡ rows.old.items) }
+    ensures rising { IsRising rows.new.items }
+{
+    let sort_key = row.sort_key();
+    let index = first_from(rows, sort_key);
+    if is_there(rows, index, sort_key) {
+        rows[index].set_to(alloc, row)?;
+    } else {
+        let row = row.copy(alloc)?;
+        rows.reserve(1)?;
+        put_row(rows, row);
+    }
+    Ok(())
+}
+
 // Makes a change, whose row is copied. It changes nothing at want of memory.
 fn change_one(alloc: Global, rows: &mut Vec<Row>, change: &Change) -> Result<(), Memory>
     requires rising { IsRising rows.old.items }
@@ -184,11 +205,7 @@ fn change_one(alloc: Global, rows: &mut Vec<Row>, change: &Change) -> Result<(),
     ensures rising { IsRising rows.new.items }
 {
     match change {
-        Change::Put(row) => {
-            let row = row.copy(alloc)?;
-            rows.reserve(1)?;
-            put_row(rows, row);
-        }
+        Change::Put(row) => put_copy(alloc, rows, row)?,
         Change::Remove(table, key) => remove_row(
             rows,
             SortKey {
@@ -205,16 +222,31 @@ fn copy_rows(alloc: Global, rows: &[Row]) -> Result<Vec<Row>, Memory>
 {
     let mut copies = Vec::with_capacity(alloc, rows.len())?;
     for row in rows {
-        copies.push(row.copy(alloc)?)?;
+        if let Row::Instance(instance) = row {
+            copies.push_reserved(Row::Instance(instance.copy()?));
+        } else {
+            copies.push_reserved(row.copy(alloc)?);
+        }
     }
     Ok(copies)
+}
+
+// Whether the row stands before the next: of two instances by their servers' numbers alone.
+#[inline(always)]
+fn is_before(row: &Row, next: &Row) -> bool
+    ensures { result ≡ nat_lt (sort_key_of row.now) (sort_key_of next.now) }
+{
+    if let (Row::Instance(row), Row::Instance(next)) = (row, next) {
+        return row.no.0 < next.no.0;
+    }
+    row.sort_key().is_before(next.sort_key())
 }
 
 // Whether each row stands before the next.
 fn is_rising(rows: &[Row]) -> bool
     ensures { OnTrue result (IsRising rows.now) }
 {
-    rows.is_sorted_by(|row, next| row.sort_key().is_before(next.sort_key()))
+    rows.is_sorted_by(|row, next| is_before(row, next))
 }
 
 /// The map of any list of rows, in rising order: of two with one table and key the last stands.

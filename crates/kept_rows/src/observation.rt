@@ -52,19 +52,34 @@ pub struct Instance {
 }
 
 impl Instance {
-    ghost use Rattle.std.specs.Prelude.{◌≡◌, ◌↔◌, IfOk, IsTrue};
+    ghost use Rattle.std.specs.Prelude.{◌≡◌, ◌↔◌, IfOk, IsTrue, OnOk, OnErr};
 
     /// The same instance once more.
+    #[inline(always)]
     pub fn copy(&self) -> Result<Instance, Memory>
         ensures { IfOk result (λ i. i ≡ self.now) }
     {
+        let seen = self.seen.copy()?;
         Ok(Instance {
             no: self.no,
             read: self.read,
             moment: self.moment,
             valid: self.valid,
-            seen: self.seen.copy()?,
+            seen,
         })
+    }
+
+    /// Becomes the same as the other. At want of memory it stays as it was.
+    pub(crate) fn set_to(&mut self, other: &Instance) -> Result<(), Memory>
+        ensures ok { OnOk result (self.new ≡ other.now) }
+        ensures err { OnErr result (self.new ≡ self.old) }
+    {
+        self.seen.set_to(&other.seen)?;
+        self.no = other.no;
+        self.read = other.read;
+        self.moment = other.moment;
+        self.valid = other.valid;
+        Ok(())
     }
 
     /// Whether the instances are equal.

@@ -175,7 +175,7 @@ pub enum Row {
 }
 
 impl Row {
-    ghost use Rattle.std.specs.Prelude.{◌≡◌, ◌↔◌, IfOk, IsTrue};
+    ghost use Rattle.std.specs.Prelude.{◌≡◌, ◌↔◌, IfOk, IsTrue, OnOk, OnErr};
     ghost use Rattle.kept_rows.specs.Rows.{table_of, key_of};
 
     /// The row's table.
@@ -217,6 +217,7 @@ impl Row {
     }
 
     /// The same row once more.
+    #[inline]
     pub fn copy(&self, alloc: Global) -> Result<Row, Memory>
         ensures { IfOk result (λ r. r ≡ self.now) }
     {
@@ -231,6 +232,18 @@ impl Row {
                 until: *until,
             },
         })
+    }
+
+    /// Becomes the same as the other. At want of memory it stays as it was.
+    pub(crate) fn set_to(&mut self, alloc: Global, other: &Row) -> Result<(), Memory>
+        ensures ok { OnOk result (self.new ≡ other.now) }
+        ensures err { OnErr result (self.new ≡ self.old) }
+    {
+        if let (Row::Instance(kept), Row::Instance(instance)) = (&mut *self, other) {
+            return kept.set_to(instance);
+        }
+        *self = other.copy(alloc)?;
+        Ok(())
     }
 
     /// Whether the rows are equal.

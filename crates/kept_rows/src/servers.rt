@@ -52,6 +52,7 @@ fn is_of_book(table: Table) -> bool
 
 impl Row {
     /// Whether each server that the row names is one of so many.
+    #[inline]
     pub fn are_servers_known(&self, count: u32) -> bool
         ensures { result ≡ are_known count (servers_of self.now) }
     {
@@ -66,6 +67,7 @@ impl Row {
 
     /// Whether a book of so many servers takes the row: it isn't of the recovery table nor the claim's, and its servers
     /// are known.
+    #[inline]
     pub fn fits(&self, count: u32) -> bool
         ensures { result ≡ row_fits count self.now }
     {

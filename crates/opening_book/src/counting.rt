@@ -1,8 +1,9 @@
 //! Kept rows that count.
 
-ghost use Rattle.std.specs.Prelude.{◌≡◌, ◌<◌, ◌^◌, IfOk, OnOk, length, map};
+ghost use Rattle.std.specs.Prelude.{◌≡◌, ◌<◌, ◌^◌, IfOk, OnOk, filter, length, map};
 ghost use Rattle.opening_book.specs.Counting.{counts, counted, is_block_in_range, is_end_in_range, is_in_range, last_read, later_read, latest, loaded, raised, end_or, greatest};
 ghost use Rattle.instance_keeper.specs.Book.{book_made};
+ghost use Rattle.kept_rows.specs.Rows.{IsRising};
 ghost use Rattle.kept_rows.specs.declared.row.Row.TheVariants as row;
 
 use crate::Memory;
@@ -62,10 +63,19 @@ fn is_in_range(row: &Row, last: u64) -> bool
 }
 
 // Whether a row counts among so many servers, by the last id that counts.
+#[inline(always)]
 fn counts(row: &Row, servers: u32, last: u64) -> bool
     ensures { result ≡ counts servers last row.now }
 {
     row.are_servers_known(servers) && is_in_range(row, last)
+}
+
+// Those of these rows that count.
+fn counting(servers: u32, last: u64, mut rows: Vec<Row>) -> Vec<Row>
+    ensures { result.items ≡ filter (counts servers last) rows.items }
+{
+    rows.retain(|row| counts(row, servers, last));
+    rows
 }
 
 /// The rows that count, by table, then key: of two with one table and key the last is looked at. A row counts where
@@ -75,9 +85,16 @@ fn counts(row: &Row, servers: u32, last: u64) -> bool
 pub fn counted(alloc: Global, servers: u32, last: u64, rows: Vec<Row>) -> Result<Vec<Row>, Memory>
     ensures { IfOk result (λ counting. counting.items ≡ counted servers last rows.items) }
 {
-    let mut counting = row_map(alloc, rows)?;
-    counting.retain(|row| counts(row, servers, last));
-    Ok(counting)
+    let map = row_map(alloc, rows)?;
+    Ok(counting(servers, last, map))
+}
+
+/// The rows that count, as `counted` gives them, of rows that stand by table, then key, one of each. It takes no memory.
+pub fn counted_in_order(servers: u32, last: u64, rows: Vec<Row>) -> Vec<Row>
+    requires { IsRising rows.items }
+    ensures { result.items ≡ counted servers last rows.items }
+{
+    counting(servers, last, rows)
 }
 
 // The moment, raised to the latest begun or ended moment of the row.

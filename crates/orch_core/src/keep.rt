@@ -1,6 +1,7 @@
 //! What is kept: the changes of rows, which are kept before they are made, and the rows that a keeper hands back.
 
 ghost use Rattle.std.specs.Prelude.{◌≡◌, ◌≢◌, ◌<◌, [], IfOk, IfSome, Err, is_ok, length};
+ghost use Rattle.kept_rows.specs.Rows.{IsRising};
 ghost use Rattle.orch_core.specs.Keeping.{HasTurnCause, kept_if};
 ghost use Rattle.orch_core.specs.Polls.{changes_by};
 
@@ -64,13 +65,14 @@ pub(crate) fn keep_some<K: Keeper>(
     keep(alloc, keeper, names, changes)
 }
 
-/// The rows that the keeper hands back.
+/// The rows that the keeper hands back, in rising order.
 pub(crate) fn given_rows<K: Keeper>(
     alloc: Global,
     keeper: &mut K,
     names: &[Name],
 ) -> Result<Vec<Row>, TurnFault>
     ensures told { IfSome (K.kept keeper.old) (λ rows. IfOk result (λ given. given.items ≡ rows)) }
+    ensures rising { IfOk result (λ given. IsRising given.items) }
     ensures kept { K.kept keeper.new ≡ K.kept keeper.old }
     ensures cause { HasTurnCause (K.faults keeper.old) (K.faults keeper.new) result }
 {

@@ -36,12 +36,15 @@ pub struct Status {
 }
 
 impl Status {
-    ghost use Rattle.std.specs.Prelude.{◌≡◌, ◌↔◌, IfOk, IsTrue};
+    ghost use Rattle.std.specs.Prelude.{◌≡◌, ◌↔◌, IfOk, IsTrue, OnOk, OnErr};
 
     /// The same once more.
+    #[inline(always)]
     pub fn copy(&self) -> Result<Status, Memory>
         ensures { IfOk result (λ s. s ≡ self.now) }
     {
+        let set = self.set.copy()?;
+        let purged = self.purged.copy()?;
         Ok(Status {
             own_end: self.own_end,
             source: self.source,
@@ -51,10 +54,38 @@ impl Status {
             io: self.io,
             sql: self.sql,
             read_only: self.read_only,
-            set: self.set.copy()?,
+            set,
             first: self.first,
-            purged: self.purged.copy()?,
+            purged,
         })
+    }
+
+    /// Becomes the same as the other: sets that are equal already stay as they are. At want of memory it stays whole.
+    pub fn set_to(&mut self, other: &Status) -> Result<(), Memory>
+        ensures ok { OnOk result (self.new ≡ other.now) }
+        ensures err { OnErr result (self.new ≡ self.old) }
+    {
+        if !self.has_same_sets(other) {
+            *self = other.copy()?;
+            return Ok(());
+        }
+        self.own_end = other.own_end;
+        self.source = other.source;
+        self.exec = other.exec;
+        self.read = other.read;
+        self.auto = other.auto;
+        self.io = other.io;
+        self.sql = other.sql;
+        self.read_only = other.read_only;
+        self.first = other.first;
+        Ok(())
+    }
+
+    // Whether its GTIDs are the same.
+    fn has_same_sets(&self, other: &Status) -> bool
+        ensures { IsTrue result ↔ ((self.now.set ≡ other.now.set) × (self.now.purged ≡ other.now.purged)) }
+    {
+        self.set.is_same(&other.set) && self.purged.is_same(&other.purged)
     }
 
     // Whether it replicates in the same way.
@@ -83,7 +114,7 @@ impl Status {
     pub fn is_same(&self, other: &Status) -> bool
         ensures { IsTrue result ↔ (self.now ≡ other.now) }
     {
-        (self.set.is_same(&other.set) && self.purged.is_same(&other.purged))
+        self.has_same_sets(other)
             && (self.has_same_log(other) && self.has_same_source(other))
             && self.has_same_threads(other)
     }

@@ -23,8 +23,8 @@ loaded_audit-requires g c =
     let before = state_of c.self.inside in
     let given = c.in_ok-given.given.items in
     let count : c.servers.result ≡ length before.book.settings = c.servers.ensures.count ∙ c.self.invariant.names ∙ sym c.self.invariant.settings in
-    let items : c.in_ok-rows.rows.items ≡ counted (length before.book.settings) (last_given before) given =
-    c.in_ok-rows.ensures ∙ ap (λ (n : ℕ). counted n (c.next-next.result - 1) given) count ∙ ap (λ (n : ℕ). counted (length before.book.settings) (n - 1) given) c.next-next.ensures in
+    let items : c.counted_in_order-rows.result.items ≡ counted (length before.book.settings) (last_given before) given =
+    c.counted_in_order-rows.ensures ∙ ap (λ (n : ℕ). counted n (c.next-next.result - 1) given) count ∙ ap (λ (n : ℕ). counted (length before.book.settings) (n - 1) given) c.next-next.ensures in
     let small = c.servers.ensures.holds.small in
     let names = c.self.invariant.names in
     let settings = c.self.invariant.settings in
@@ -38,8 +38,8 @@ invariant_of-self g c =
     let before = state_of c.self.inside in
     let given = c.in_ok-given.given.items in
     let count : c.servers.result ≡ length before.book.settings = c.servers.ensures.count ∙ c.self.invariant.names ∙ sym c.self.invariant.settings in
-    let items : c.in_ok-rows.rows.items ≡ counted (length before.book.settings) (last_given before) given =
-    c.in_ok-rows.ensures ∙ ap (λ (n : ℕ). counted n (c.next-next.result - 1) given) count ∙ ap (λ (n : ℕ). counted (length before.book.settings) (n - 1) given) c.next-next.ensures in
+    let items : c.counted_in_order-rows.result.items ≡ counted (length before.book.settings) (last_given before) given =
+    c.counted_in_order-rows.ensures ∙ ap (λ (n : ℕ). counted n (c.next-next.result - 1) given) count ∙ ap (λ (n : ℕ). counted (length before.book.settings) (n - 1) given) c.next-next.ensures in
     let small = c.servers.ensures.holds.small in
     let names = c.self.invariant.names in
     let settings = c.self.invariant.settings in
@@ -65,8 +65,8 @@ returns-clause-ok g c =
     let before = state_of c.self.inside in
     let given = c.in_ok-given.given.items in
     let count : c.servers.result ≡ length before.book.settings = c.servers.ensures.count ∙ c.self.invariant.names ∙ sym c.self.invariant.settings in
-    let items : c.in_ok-rows.rows.items ≡ counted (length before.book.settings) (last_given before) given =
-    c.in_ok-rows.ensures ∙ ap (λ (n : ℕ). counted n (c.next-next.result - 1) given) count ∙ ap (λ (n : ℕ). counted (length before.book.settings) (n - 1) given) c.next-next.ensures in
+    let items : c.counted_in_order-rows.result.items ≡ counted (length before.book.settings) (last_given before) given =
+    c.counted_in_order-rows.ensures ∙ ap (λ (n : ℕ). counted n (c.next-next.result - 1) given) count ∙ ap (λ (n : ℕ). counted (length before.book.settings) (n - 1) given) c.next-next.ensures in
     let small = c.servers.ensures.holds.small in
     let names = c.self.invariant.names in
     let settings = c.self.invariant.settings in
@@ -96,8 +96,8 @@ returns-clause-kept g c =
     let before = state_of c.self.inside in
     let given = c.in_ok-given.given.items in
     let count : c.servers.result ≡ length before.book.settings = c.servers.ensures.count ∙ c.self.invariant.names ∙ sym c.self.invariant.settings in
-    let items : c.in_ok-rows.rows.items ≡ counted (length before.book.settings) (last_given before) given =
-    c.in_ok-rows.ensures ∙ ap (λ (n : ℕ). counted n (c.next-next.result - 1) given) count ∙ ap (λ (n : ℕ). counted (length before.book.settings) (n - 1) given) c.next-next.ensures in
+    let items : c.counted_in_order-rows.result.items ≡ counted (length before.book.settings) (last_given before) given =
+    c.counted_in_order-rows.ensures ∙ ap (λ (n : ℕ). counted n (c.next-next.result - 1) given) count ∙ ap (λ (n : ℕ). counted (length before.book.settings) (n - 1) given) c.next-next.ensures in
     let small = c.servers.ensures.holds.small in
     let names = c.self.invariant.names in
     let settings = c.self.invariant.settings in
