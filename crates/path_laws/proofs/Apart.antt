@@ -6,7 +6,9 @@ use Rattle.std.proofs.lemmas.List.Elements.{All-cons, All-nil, All-weaker}
 use Rattle.std.proofs.lemmas.Option.{same_Some}
 use Rattle.orch_base.specs.declared.server.ServerNo.{ServerNo}
 use Rattle.instance_keeper.specs.Book.{BookState}
-use Rattle.regroup.specs.Ways.{parent_at, passed_in, path_of, way_in, way_on, way_up}
+use Rattle.permission.specs.Checks.{is_given}
+use Rattle.permission.specs.Views.{source_of}
+use Rattle.regroup.specs.Ways.{parent_at, passed_in, path_of, way_above, way_in, way_on, way_up}
 use Rattle.regroup.proofs.Climbing.{passed-of}
 
 -- both are there only where they are equal
@@ -95,7 +97,14 @@ module _ (up : ServerNo → Option ServerNo) (to : ServerNo) where
       there (Some ys) h e = subst AllShorter (same_Some ys xs e) h
 
 pub way-apart : (b : BookState) (n to : ServerNo) (passed : List ServerNo) → way_up b n to ≡ Some passed → All (λ x. (n.0 == x.0) ≡ false) passed
-way-apart b n to passed e = apart (parent_at b) to (length b.names) n passed e
+way-apart b n to passed e = by_source (is_given to (source_of b n)) e
+  where
+    Apart : List ServerNo → Type 0
+    Apart xs = All (λ x. (n.0 == x.0) ≡ false) xs
+
+    by_source : (t : Bool) → (if t then Some [] else way_above b n to) ≡ Some passed → Apart passed
+    by_source true e = subst Apart (same_Some [] passed e) (All-nil (λ (x : ServerNo). (n.0 == x.0) ≡ false))
+    by_source false e = apart (parent_at b) to (length b.names) n passed e
 
 pub path-apart : (b : BookState) (n d : ServerNo) → All (λ x. (n.0 == x.0) ≡ false) (passed_in (path_of b n d))
 path-apart b n d =

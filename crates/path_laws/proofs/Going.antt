@@ -4,6 +4,7 @@ use Rattle.std.specs.Prelude.{◌==◌, ◌&&◌, is_some, nat_lt, option_and_th
 use Rattle.std.specs.Option.{option_or}
 use Rattle.std.proofs.lemmas.Bool.{eq-eqb, eqb-true, false≢true}
 use Rattle.std.proofs.lemmas.Bool.Decides.{nat_tests}
+use Rattle.std.proofs.lemmas.List.{get_or-map}
 use Rattle.std.proofs.lemmas.Option.{same_Some, slice_get-get_or}
 use Rattle.orch_base.specs.Chains.{is_reached, is_reached_on}
 use Rattle.orch_base.specs.declared.server.ServerNo.{ServerNo}
@@ -18,16 +19,26 @@ use Rattle.name_order.proofs.Placing.{place-of_number, rank-of_place}
 use Rattle.topology_tree.specs.Forests.{IsForestOf, above}
 use Rattle.topology_tree.specs.Making.{forest_of}
 use Rattle.topology_tree.proofs.Computed.{IsForestOf-computed}
-use Rattle.book_views.specs.Forests.{book_forest, node_at, parent_of, server_at, source_nodes}
-use Rattle.book_views.specs.Sources.{seen_source}
+use Rattle.book_views.specs.Forests.{book_forest, node_at, node_of, parent_of, server_at, source_node, source_nodes}
+use Rattle.book_views.specs.Sources.{is_instance, seen_source, source_in}
 use Rattle.book_views.proofs.Nodes.{length-forest, length-nodes, nodes-closed}
 use Rattle.book_views.proofs.Reading.{known-below, source-known}
-use Rattle.permission.specs.Views.{attached_in, attached_of, is_below}
-use Rattle.regroup.specs.Ways.{Path, parent_at, path_beside, path_by, path_of, way_in, way_on, way_up}
-use Rattle.path_laws.specs.Ways.{is_below_in, is_on_way}
+use Rattle.permission.specs.Checks.{is_given}
+use Rattle.permission.specs.Views.{attached_in, attached_of, is_below, source_of}
+use Rattle.regroup.specs.Ways.{Path, parent_at, path_beside, path_by, path_of, way_above, way_in, way_on, way_up}
+use Rattle.path_laws.specs.Ways.{is_on_way, is_under, is_under_in}
 
 zeroth : ServerNo
 zeroth = record { 0 = 0 }
+
+-- servers with one number are one
+pub same-server : (a c : ServerNo) → a.0 ≡ c.0 → a ≡ c
+same-server a c e = ap (λ (n : ℕ). let s : ServerNo = record { 0 = n } in s) e
+
+sourced-in : (b : BookState) (s : SourceState) (m : ServerNo) → are_known (length b.names) (source_servers s) ≡ true → source_in s ≡ Some m → m.0 < length b.names
+sourced-in b Without m known e = cc
+sourced-in b (Attached k) m known e = subst (λ (s : ServerNo). s.0 < length b.names) (same_Some k m e) (known-below (length b.names) k.0 known)
+sourced-in b (Detached k) m known e = subst (λ (s : ServerNo). s.0 < length b.names) (same_Some k m e) (known-below (length b.names) k.0 known)
 
 module _ (b : BookState) where
   -- the server at a server's node has its number
@@ -72,6 +83,21 @@ module _ (b : BookState) where
         node = rank-of_place order (IsOrder-by_name b.names) m zeroth short;
       }
 
+  parent-there : (n : ServerNo) → n.0 < length b.names → parent_at b n ≡ parent_of b n
+  parent-there n below = by_test (nat_lt n.0 (length b.names)) (grind (arith, nat_tests))
+    where
+      by_test : (t : Bool) → t ≡ true → (if t then parent_of b n else None) ≡ parent_of b n
+      by_test true e = refl
+      by_test false e = absurd (false≢true e)
+
+  node-in : (n : ServerNo) → n.0 < length b.names → node_at b n < length b.names
+  node-in n below =
+      let order = by_name b.names in
+      let at = place-of_number order (IsOrder-by_name b.names) n.0 (omega (arith, below, length-by_name b.names)) in
+      let same : (get_or order at.0 zeroth).0 ≡ n.0 = at.2 zeroth in
+      let rank : rank_of order n.0 ≡ at.0 = ap (rank_of order) (sym same) ∙ rank-of_place order (IsOrder-by_name b.names) at.0 zeroth at.1 in
+      omega (arith, rank, at.1, length-by_name b.names)
+
   module _ (is : IsBook b) where
     -- a parent is a node
     closed : (n m : ℕ) → n < length b.names → above (book_forest b) n ≡ Some m → m < length b.names
@@ -82,6 +108,44 @@ module _ (b : BookState) where
           | inl gone ↦ (let none : None ≡ Some m = sym gone.1 ∙ e in cc)
           | inr own ↦ (let at : above (source_nodes b) n ≡ Some m = sym own.1 ∙ e in omega (arith, nodes-closed b is n m at, length-nodes b))
         ]
+
+    -- the node of a server's source
+    source-here : (n : ServerNo) (m : ℕ) → n.0 < length b.names → above (book_forest b) (node_at b n) ≡ Some m → source_node b n ≡ Some m
+    unfolding book_forest source_nodes
+    source-here n m n_in e =
+        let order = by_name b.names in
+        let k = node_at b n in
+        let short : k < length order = omega (arith, node-in n n_in, length-by_name b.names) in
+        let forest : IsForestOf (source_nodes b) (forest_of (source_nodes b)) = IsForestOf-computed (source_nodes b) (nodes-closed b is) in
+        elim (forest.parent k (omega (arith, node-in n n_in, length-nodes b))) [
+          | inl gone ↦ (let none : None ≡ Some m = sym gone.1 ∙ e in cc)
+          | inr own ↦
+              (let at : above (source_nodes b) k ≡ Some m = sym own.1 ∙ e in
+              ap (source_node b) (sym (same-server (get_or order k zeroth) n (number-at n n_in)))
+              ∙ sym (get_or-map (source_node b) order k zeroth None short) ∙ at)
+        ]
+
+    -- the parent is the source
+    pub parent-source : (n p : ServerNo) → n.0 < length b.names → parent_at b n ≡ Some p → source_of b n ≡ Some p
+    parent-source n p n_in e = by_node (above (book_forest b) (node_at b n)) refl (sym (parent-there n n_in) ∙ e)
+      where
+        by_known : (s : ServerNo) (m : ℕ) → s.0 < length b.names → (t : Bool) → (if t then Some (node_at b s) else None) ≡ Some m → server_at b m ≡ Some p → s ≡ p
+        by_known s m s_in true at here =
+            let order = by_name b.names in
+            let short : node_at b s < length order = omega (arith, node-in s s_in, length-by_name b.names) in
+            let there : server_at b m ≡ Some (get_or order (node_at b s) zeroth) =
+            ap (server_at b) (sym (same_Some (node_at b s) m at)) ∙ slice_get-get_or order (node_at b s) zeroth short in
+            sym (same-server (get_or order (node_at b s) zeroth) s (number-at s s_in)) ∙ same_Some (get_or order (node_at b s) zeroth) p (sym there ∙ here)
+        by_known s m s_in false at here = cc
+
+        by_source : (o : Option ServerNo) (m : ℕ) → source_of b n ≡ o → option_and_then (node_of b) o ≡ Some m → server_at b m ≡ Some p → source_of b n ≡ Some p
+        by_source None m seen at here = cc
+        by_source (Some s) m seen at here =
+            seen ∙ ap (λ (k : ServerNo). Some k) (by_known s m (sourced-in b (seen_source (instance_at b n)) s (source-known b n is n_in) seen) (is_instance b s) at here)
+
+        by_node : (o : Option ℕ) → above (book_forest b) (node_at b n) ≡ o → option_and_then (server_at b) o ≡ Some p → source_of b n ≡ Some p
+        by_node None at e = cc
+        by_node (Some m) at e = by_source (source_of b n) m refl (source-here n m n_in at) e
 
     module _ (to : ServerNo) (to_in : to.0 < length b.names) where
       abbrev reached : ℕ → ℕ → Bool
@@ -105,21 +169,6 @@ module _ (b : BookState) where
           ∙ ap (λ (t : Bool). node_at b at.server == node_at b to || t) (rest at.server at.within)
           ∙ ap (λ (n : ℕ). n == node_at b to || reached k n) at.node
 
-      parent-there : (n : ServerNo) → n.0 < length b.names → parent_at b n ≡ parent_of b n
-      parent-there n below = by_test (nat_lt n.0 (length b.names)) (grind (arith, nat_tests))
-        where
-          by_test : (t : Bool) → t ≡ true → (if t then parent_of b n else None) ≡ parent_of b n
-          by_test true e = refl
-          by_test false e = absurd (false≢true e)
-
-      node-in : (n : ServerNo) → n.0 < length b.names → node_at b n < length b.names
-      node-in n below =
-          let order = by_name b.names in
-          let at = place-of_number order (IsOrder-by_name b.names) n.0 (omega (arith, below, length-by_name b.names)) in
-          let same : (get_or order at.0 zeroth).0 ≡ n.0 = at.2 zeroth in
-          let rank : rank_of order n.0 ≡ at.0 = ap (rank_of order) (sym same) ∙ rank-of_place order (IsOrder-by_name b.names) at.0 zeroth at.1 in
-          omega (arith, rank, at.1, length-by_name b.names)
-
       goes : (k : ℕ) (n : ServerNo) → n.0 < length b.names → is_some (way_in (parent_at b) to k n) ≡ reached k (node_at b n)
       goes zero n below = refl
       goes (suc k) n below =
@@ -131,12 +180,21 @@ both-in true true r ex ey = refl
 both-in false y r ex ey = absurd (false≢true ex)
 both-in true false r ex ey = absurd (false≢true ey)
 
-pub way-goes : (b : BookState) (n to : ServerNo) → IsBook b → n.0 < length b.names → to.0 < length b.names → is_some (way_up b n to) ≡ is_below b n to
-way-goes b n to is n_in to_in =
+above-goes : (b : BookState) (n to : ServerNo) → IsBook b → n.0 < length b.names → to.0 < length b.names → is_some (way_above b n to) ≡ is_below b n to
+above-goes b n to is n_in to_in =
     goes b is to to_in (length b.names) n n_in
     ∙ ap (λ (k : ℕ). is_reached (above (book_forest b)) k (node_at b to) (node_at b n)) (sym (length-forest b))
     ∙ both-in (nat_lt n.0 (length b.names)) (nat_lt to.0 (length b.names))
     (is_reached (above (book_forest b)) (length (book_forest b)) (node_at b to) (node_at b n)) (grind (arith, nat_tests)) (grind (arith, nat_tests))
+
+here-or : (t : Bool) (o : Option (List ServerNo)) → is_some (if t then Some [] else o) ≡ (t || is_some o)
+here-or true o = refl
+here-or false o = refl
+
+pub way-goes : (b : BookState) (n to : ServerNo) → IsBook b → n.0 < length b.names → to.0 < length b.names → is_some (way_up b n to) ≡ is_under b n to
+way-goes b n to is n_in to_in =
+    here-or (is_given to (source_of b n)) (way_above b n to)
+    ∙ ap (λ (t : Bool). is_given to (source_of b n) || t) (above-goes b n to is n_in to_in)
 
 by-way : (under : Option ServerNo) (o : Option (List ServerNo)) → is_some (path_by under o) ≡ is_some o
 by-way under None = refl
@@ -155,8 +213,8 @@ pub path-goes : (b : BookState) (n d : ServerNo) → IsBook b → n.0 < length b
 path-goes b n d is n_in d_in =
     one-or-other (path_by None (way_up b n d)) (path_beside b n (attached_of b d))
     ∙ ap (λ (t : Bool). t || is_some (path_beside b n (attached_of b d))) (by-way None (way_up b n d) ∙ way-goes b n d is n_in d_in)
-    ∙ ap (λ (t : Bool). is_below b n d || t) (beside (attached_of b d) (λ m e. attached-in b (seen_source (instance_at b d)) m (source-known b d is d_in) e))
+    ∙ ap (λ (t : Bool). is_under b n d || t) (beside (attached_of b d) (λ m e. attached-in b (seen_source (instance_at b d)) m (source-known b d is d_in) e))
   where
-    beside : (o : Option ServerNo) → ((m : ServerNo) → o ≡ Some m → m.0 < length b.names) → is_some (path_beside b n o) ≡ is_below_in b n o
+    beside : (o : Option ServerNo) → ((m : ServerNo) → o ≡ Some m → m.0 < length b.names) → is_some (path_beside b n o) ≡ is_under_in b n o
     beside None known = refl
     beside (Some s) known = by-way (Some s) (way_up b n s) ∙ way-goes b n s is n_in (known s refl)

@@ -16,7 +16,9 @@ use Rattle.name_order.specs.NameOrder.{by_name}
 use Rattle.topology_tree.specs.Forests.{above}
 use Rattle.operations.specs.Named.{are_named}
 use Rattle.operations.specs.Plans.{under, up}
+use Rattle.permission.specs.Checks.{is_given}
 use Rattle.permission.specs.Replicas.{replicas_but}
+use Rattle.permission.specs.Views.{source_of}
 use Rattle.permission.proofs.Rows.{about-is}
 use Rattle.permission.proofs.Within.{AllWithin, Within, but-within, cons-within, given-within, none-within, option-within, replicas-within}
 use Rattle.plan_parts.specs.Parts.{following}
@@ -25,7 +27,7 @@ use Rattle.server_model.specs.Worlds.{World}
 use Rattle.regroup.specs.Commands.{regroup_command}
 use Rattle.regroup.specs.Permits.{leased_by, list_of, moving_list, passed_by}
 use Rattle.regroup.specs.Plans.{arrived, ascended, climbed, moved_by, next_of, ops_of, plan_of, relocated, travelled}
-use Rattle.regroup.specs.Ways.{Path, parent_at, passed_in, path_of, path_to, way_in, way_on, way_up}
+use Rattle.regroup.specs.Ways.{Path, parent_at, passed_in, path_of, path_to, way_above, way_in, way_on, way_up}
 use Rattle.regroup.specs.declared.command.RegroupCommand.{RegroupCommand}
 use Rattle.regroup.specs.declared.command.RegroupCommand.TheVariants as command
 use Rattle.regroup.proofs.Climbing.{passed-to}
@@ -65,11 +67,15 @@ way-within b to (suc n) at = go (parent_at b at) (parent-within b at) (λ p. way
     go (Some p) at_o rest = further b p at_o (p.0 == to.0) (way_in (parent_at b) to n p) (rest p)
 
 known-way : (b : BookState) (n to : ServerNo) (xs : List ServerNo) → way_up b n to ≡ Some xs → AllWithin b xs
-known-way b n to xs e = go (way_up b n to) (way-within b to (length b.names) n) e
+known-way b n to xs e = by_source (is_given to (source_of b n)) e
   where
     go : (o : Option (List ServerNo)) → WayWithin b o → o ≡ Some xs → AllWithin b xs
     go None at e = cc
     go (Some ys) at e = subst (AllWithin b) (same_Some ys xs e) at
+
+    by_source : (t : Bool) → (if t then Some [] else way_above b n to) ≡ Some xs → AllWithin b xs
+    by_source true e = subst (AllWithin b) (same_Some [] xs e) (none-within b)
+    by_source false e = go (way_above b n to) (way-within b to (length b.names) n) e
 
 passed-within : (b : BookState) (d : Option ServerNo) (n : ServerNo) → AllWithin b (passed_in (path_to b d n))
 passed-within b d n = passed-to (AllWithin b) b n (none-within b) (known-way b n) d

@@ -4,7 +4,8 @@ use Rattle.std.specs.Option.{option_or}
 use Rattle.orch_base.specs.declared.server.ServerNo.{ServerNo}
 use Rattle.instance_keeper.specs.Book.{BookState}
 use Rattle.book_views.specs.Forests.{parent_of}
-use Rattle.permission.specs.Views.{attached_of}
+use Rattle.permission.specs.Checks.{is_given}
+use Rattle.permission.specs.Views.{attached_of, source_of}
 
 -- a server's parent in the book's forest; none of a number that no server has
 abbrev pub parent_at : BookState → ServerNo → Option ServerNo
@@ -20,9 +21,14 @@ abbrev pub way_in : (ServerNo → Option ServerNo) → ServerNo → ℕ → Serv
 way_in up to zero n = None
 way_in up to (suc steps) n = way_on (way_in up to steps) to (up n)
 
--- a way takes no more steps than there are servers
+-- the way up the forest: it takes no more steps than there are servers
+abbrev pub way_above : BookState → ServerNo → ServerNo → Option (List ServerNo)
+way_above b n to = way_in (parent_at b) to (length b.names) n
+
+-- a server's own source is next above it, also where the forest hasn't it: where the book doesn't know it, or it comes back
+-- to itself
 abbrev pub way_up : BookState → ServerNo → ServerNo → Option (List ServerNo)
-way_up b n to = way_in (parent_at b) to (length b.names) n
+way_up b n to = if is_given to (source_of b n) then Some [] else way_above b n to
 
 -- A path to a destination: up past these sources, and where a server is given under which both are then, below the
 -- destination from there.
@@ -38,7 +44,7 @@ abbrev pub path_beside : BookState → ServerNo → Option ServerNo → Option P
 path_beside b n None = None
 path_beside b n (Some s) = path_by (Some s) (way_up b n s)
 
--- up to the destination, where the forest has it above the server, else to the source to which it is attached
+-- up to the destination, where it is above the server, else to the source to which it is attached
 abbrev pub path_of : BookState → ServerNo → ServerNo → Option Path
 path_of b n d = option_or (path_by None (way_up b n d)) (path_beside b n (attached_of b d))
 

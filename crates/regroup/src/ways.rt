@@ -8,7 +8,7 @@ use crate::Memory;
 use book_views::parent;
 use instance_keeper::Book;
 use orch_base::ServerNo;
-use permission::attached_to;
+use permission::{attached_to, source};
 use std::alloc::Global;
 use std::marker::Model;
 use topology_tree::Forest;
@@ -62,7 +62,8 @@ fn parent_at(book: &Book, forest: &Forest, no: ServerNo) -> Option<ServerNo>
     }
 }
 
-// The sources that are passed on the way up to another server.
+// The sources that are passed on the way up to another server. A server's own source is reached at once, whatever the
+// book knows of it.
 fn way_up(
     alloc: Global,
     book: &Book,
@@ -74,6 +75,11 @@ fn way_up(
     ensures { IfOk result (λ way. option_map (λ passed. passed.items) way ≡ way_up book.now no to) }
 {
     let mut passed = Vec::new(alloc);
+    if let Some(source) = source(book, no) {
+        if source.0 == to.0 {
+            return Ok(Some(passed));
+        }
+    }
     let mut at = no;
     let mut steps = book.servers();
     'climb: while steps > 0 {
@@ -124,8 +130,9 @@ fn path_beside(
     }
 }
 
-/// The path of a server to a destination: up to it, where the forest has it above the server, else up to the source to
-/// which it is attached, and below it from there. None where neither is above the server. `Err` is want of memory.
+/// The path of a server to a destination: up to it, where it is above the server, else up to the source to which it is
+/// attached, and below it from there. None where neither is above the server. Above a server are its own source and those
+/// that the book's forest has above it. `Err` is want of memory.
 pub(crate) fn path_of(
     alloc: Global,
     book: &Book,
