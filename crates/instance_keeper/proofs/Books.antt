@@ -1,9 +1,8 @@
 -- What keeps a book a book.
-use Rattle.std.proofs.Common.{◌≡◌, ℕ, suc, zero, ◌+◌, ◌<◌, ◌^◌, Bool, true, false, List, [], ◌∷◌, length, get_or, replicate, Option, None, Some, refl, sym, ap, ◌∙◌, subst, All, zero-add, add-zero, arith}
-use Rattle.std.specs.Prelude.{◌&&◌, nat_lt, IfSome, slice_get, slice_set, option_map, unwrap_or}
+use Rattle.std.proofs.Common.{◌≡◌, ℕ, suc, zero, ◌+◌, ◌<◌, ◌^◌, Bool, true, List, [], ◌∷◌, length, get_or, replicate, Option, None, Some, refl, sym, ap, ◌∙◌, subst, All, zero-add, add-zero, arith}
+use Rattle.std.specs.Prelude.{IfSome, slice_get, slice_set, option_map, unwrap_or}
 use Rattle.std.proofs.lemmas.List.{length-set, length-replicate, length-map}
 use Rattle.std.proofs.lemmas.List.Elements.{All-set, All-replicate, All-head, All-tail}
-use Rattle.std.proofs.lemmas.Bool.{ltb-true}
 use Rattle.std.proofs.lemmas.Option.{get_or_from_slice_get}
 use Rattle.orch_base.specs.declared.server.ServerNo.{ServerNo}
 use Rattle.orch_base.specs.declared.server.Settings.{Settings}

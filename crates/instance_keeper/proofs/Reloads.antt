@@ -1,6 +1,6 @@
 -- A book that is loaded anew, place after place.
-use Rattle.std.proofs.Common.{◌≡◌, ◌∙◌, ℕ, zero, suc, ◌+◌, ◌<◌, ◌≤◌, Bool, true, false, List, [], ◌∷◌, length, map, replicate, Option, None, Some, refl, sym, ap, subst, add-one, arith}
-use Rattle.std.specs.Prelude.{◌&&◌, nat_le, nat_lt, if◌then◌else◌, slice_set}
+use Rattle.std.proofs.Common.{◌≡◌, ◌∙◌, ℕ, zero, suc, ◌<◌, ◌≤◌, Bool, true, false, List, [], ◌∷◌, length, replicate, Option, None, Some, refl, sym, ap, subst, arith}
+use Rattle.std.specs.Prelude.{◌&&◌, nat_le, if◌then◌else◌, slice_set}
 use Rattle.std.proofs.lemmas.Bool.{leb-true, leb-false}
 use Rattle.std.proofs.lemmas.List.{length-replicate, length-map}
 use Rattle.kept_rows.specs.declared.observation.Instance.{Instance}
@@ -9,7 +9,7 @@ use Rattle.kept_rows.specs.declared.row.Downtime.{Downtime}
 use Rattle.kept_rows.specs.declared.row.Row.{Row}
 use Rattle.kept_rows.specs.declared.row.Row.TheVariants as row
 use Rattle.kept_rows.specs.Servers.{row_fits, source_servers}
-use Rattle.kept_rows.proofs.Known.{both_true, head_known}
+use Rattle.kept_rows.proofs.Known.{head_known}
 use Rattle.instance_keeper.specs.Book.{BookState, IsBook, IsNumbered, after_put, after_row, empty_book}
 use Rattle.instance_keeper.specs.Reloads.{first_of, first_set, place_from}
 use Rattle.instance_keeper.specs.declared.bridge.Bridge.{Bridge}

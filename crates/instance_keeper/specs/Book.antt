@@ -1,5 +1,5 @@
 -- What orchestrator knows, by the servers' numbers.
-use Rattle.std.specs.Prelude.{◌≡◌, ℕ, ◌+◌, ◌<◌, ◌^◌, nat_lt, Bool, true, false, if◌then◌else◌, List, [], ◌∷◌, ◌++◌, length, map, fold, replicate, filter_map, slice_set, slice_index_or, Option, None, Some, Result, Ok, Err, option_map, unwrap_or, is_some, IfSome, ⊤}
+use Rattle.std.specs.Prelude.{◌≡◌, ℕ, ◌+◌, ◌<◌, ◌^◌, nat_lt, Bool, true, if◌then◌else◌, List, [], ◌∷◌, ◌++◌, length, map, fold, replicate, filter_map, slice_set, slice_index_or, Option, None, Some, Result, Ok, Err, option_map, unwrap_or, is_some, IfSome, ⊤}
 use Rattle.std.specs.List.{All}
 use Rattle.std.specs.Option.{option_to_list}
 use Rattle.orch_base.specs.Names.{HostPort}

@@ -1,5 +1,5 @@
 -- Kept rows follow a book from its loading on, through each change.
-use Rattle.std.proofs.Common.{◌≡◌, ◌∙◌, ℕ, ◌+◌, ◌<◌, ◌^◌, Bool, true, false, List, [], ◌∷◌, length, map, refl, sym, ap, subst, Option, Some, None, zero, suc, arith}
+use Rattle.std.proofs.Common.{◌≡◌, ◌∙◌, ℕ, ◌<◌, ◌^◌, Bool, true, false, List, [], ◌∷◌, length, map, refl, sym, ap, subst, Option, Some, None, zero, suc, arith}
 use Rattle.std.specs.Prelude.{All, ◌&&◌, ◌==◌, filter, filter_map, fold, option_map, replicate, if◌then◌else◌}
 use Rattle.std.proofs.lemmas.Bool.{false≢true}
 use Rattle.std.proofs.lemmas.List.Elements.{All-nil, All-cons, All-head, All-tail}
@@ -19,10 +19,10 @@ use Rattle.kept_rows.specs.declared.row.Change.TheVariants as change
 use Rattle.kept_rows.specs.declared.recovery.Recovery.{Recovery}
 use Rattle.kept_rows.specs.declared.recovery.RecoveryRow.{RecoveryRow}
 use Rattle.instance_keeper.proofs.NoRecovery.{no_recovery}
-use Rattle.kept_rows.specs.Servers.{row_fits, fits, is_of_book, are_known, servers_of}
+use Rattle.kept_rows.specs.Servers.{row_fits, fits, are_known, servers_of}
 use Rattle.instance_keeper.specs.Book.{BookState, IsBook, after_addition, after_put, after_row, after_change, shown_by, book_rows, empty_book}
 use Rattle.kept_rows.specs.Ranges.{IsInRange}
-use Rattle.kept_rows.specs.Rows.{sort_key, sort_key_of, table_of, row_in, row_after, map_of, changed, changed_by, IsRising}
+use Rattle.kept_rows.specs.Rows.{sort_key, sort_key_of, row_in, row_after, map_of, changed, changed_by, IsRising}
 use Rattle.instance_keeper.proofs.BookLaws.{book_change, book_put}
 use Rattle.instance_keeper.proofs.Books.{change_is, empty_is}
 use Rattle.instance_keeper.proofs.Steady.{same-change, same-put}

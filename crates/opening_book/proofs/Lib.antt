@@ -1,3 +1,5 @@
 pub mod Missing
 pub mod Following
 pub mod Recoveries
+mod Whole
+mod Beyond

@@ -1,5 +1,5 @@
 -- The audit of kept rows.
-use Rattle.std.specs.Prelude.{ℕ, ◌+◌, nat_le, if◌then◌else◌, List, fold, max}
+use Rattle.std.specs.Prelude.{ℕ, nat_le, Bool, true, false, if◌then◌else◌, List, fold, max}
 use Rattle.kept_rows.specs.declared.recovery.Recovery.{Recovery}
 use Rattle.kept_rows.specs.declared.row.Row.{Row}
 use Rattle.kept_rows.specs.declared.row.Row.TheVariants as row
@@ -22,6 +22,14 @@ later_id last r = max last (id_in r)
 -- the greatest such id of all rows that are handed back, those that don't count too, or 0
 abbrev pub last_id : List Row → ℕ
 last_id rows = fold later_id 0 rows
+
+abbrev pub is_instance : Row → Bool
+is_instance (row.Instance i) = true
+is_instance (row.Downtime d) = false
+is_instance (row.Candidate c) = false
+is_instance (row.Recovery k) = false
+is_instance (row.Switch enabled) = false
+is_instance (row.Active node until) = false
 
 -- the audit of the rows that count, by the next id, and by the block periods of clusters for rows that have none
 abbrev pub audit_of : (List ℕ → ℕ) → ℕ → List Row → AuditState

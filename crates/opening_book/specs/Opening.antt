@@ -7,7 +7,6 @@ use Rattle.orch_base.specs.declared.rule.Rule.{Rule}
 use Rattle.orch_base.specs.declared.server.Moment.{Moment}
 use Rattle.kept_rows.specs.declared.observation.Instance.{Instance}
 use Rattle.kept_rows.specs.Recoveries.{put_recovery}
-use Rattle.kept_rows.specs.declared.recovery.Recovery.{Recovery}
 use Rattle.kept_rows.specs.declared.row.Candidate.{Candidate}
 use Rattle.kept_rows.specs.declared.row.Row.{Row}
 use Rattle.kept_rows.specs.declared.row.Row.TheVariants as row

@@ -1,8 +1,11 @@
 //! The audit of kept rows.
 
-ghost use Rattle.std.specs.Prelude.{◌≡◌, IfOk};
-ghost use Rattle.audit_log.specs.Audits.{IsAudit};
-ghost use Rattle.opening_book.specs.Audits.{audit_of, id_in, last_id, later_id, latest_recovery, recovery_raised};
+ghost use Rattle.std.specs.Prelude.{◌≡◌, ℕ, List, IfOk, not};
+ghost use Rattle.std.specs.List.{position};
+ghost use Rattle.audit_log.specs.Audits.{AuditState, IsAudit};
+ghost use Rattle.opening_book.specs.Audits.{audit_of, id_in, is_instance, last_id, later_id, latest_recovery, recovery_raised};
+ghost use Rattle.opening_book.specs.Opening.{loading};
+ghost use Rattle.orch_base.specs.declared.server.Moment.{Moment as AMoment};
 
 use crate::Memory;
 use crate::counting::GREATEST_ID;
@@ -40,6 +43,38 @@ pub fn last_id(rows: &[Row]) -> u64
         last = later_id(last, row);
     }
     last
+}
+
+fn is_instance(row: &Row) -> bool
+    ensures { result ≡ is_instance row.now }
+{
+    match row {
+        Row::Instance(_) => true,
+        Row::Downtime(_)
+        | Row::Candidate(_)
+        | Row::Recovery(_)
+        | Row::Switch(_)
+        | Row::Active { .. } => false,
+    }
+}
+
+fn first_other(rows: &[Row]) -> Option<usize>
+    ensures { result ≡ position (λ row. not (is_instance row)) rows.now }
+{
+    rows.iter().position(|row| !is_instance(row))
+}
+
+/// The rows from the first one on that is no instance. What is loaded of recoveries is the same of them as of all.
+pub fn beyond_instances(rows: &[Row]) -> &[Row]
+    ensures audit { (period : List ℕ → ℕ) (next : ℕ) →
+        audit_of period next result.now ≡ audit_of period next rows.now }
+    ensures loading { (period : List ℕ → ℕ) (a : AuditState) (at : AMoment) →
+        loading period result.now a at ≡ loading period rows.now a at }
+{
+    match first_other(rows) {
+        Some(from) => &rows[from..],
+        None => &[],
+    }
 }
 
 /// The audit of the recoveries of these rows, by their clusters' block periods for rows that have none, with the next

@@ -1,6 +1,7 @@
 //! Kept rows that count.
 
 ghost use Rattle.std.specs.Prelude.{◌≡◌, ◌<◌, ◌^◌, IfOk, OnOk, filter, length, map};
+ghost use Rattle.std.specs.List.{list_all};
 ghost use Rattle.opening_book.specs.Counting.{counts, counted, is_block_in_range, is_end_in_range, is_in_range, last_read, later_read, latest, loaded, raised, end_or, greatest};
 ghost use Rattle.instance_keeper.specs.Book.{book_made};
 ghost use Rattle.kept_rows.specs.Rows.{IsRising};
@@ -70,10 +71,20 @@ fn counts(row: &Row, servers: u32, last: u64) -> bool
     row.are_servers_known(servers) && is_in_range(row, last)
 }
 
+// Whether all of these rows count.
+fn do_all_count(servers: u32, last: u64, rows: &[Row]) -> bool
+    ensures { result ≡ list_all (counts servers last) rows.now }
+{
+    rows.iter().all(|row| counts(row, servers, last))
+}
+
 // Those of these rows that count.
 fn counting(servers: u32, last: u64, mut rows: Vec<Row>) -> Vec<Row>
     ensures { result.items ≡ filter (counts servers last) rows.items }
 {
+    if do_all_count(servers, last, &rows) {
+        return rows;
+    }
     rows.retain(|row| counts(row, servers, last));
     rows
 }

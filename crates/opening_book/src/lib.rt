@@ -6,7 +6,7 @@ mod counting;
 mod laws;
 mod opening;
 
-pub use audit::{last_id, latest_recovery, loaded_audit};
+pub use audit::{beyond_instances, last_id, latest_recovery, loaded_audit};
 pub use counting::{GREATEST_ID, counted, counted_in_order, last_read, latest_moment, loaded_book};
 pub use laws::{
     kept_rows_follow_the_audit, kept_rows_follow_the_book, recoveries_are_no_rows_of_the_book,

@@ -1,4 +1,4 @@
-use Rattle.std.proofs.Common.{◌≡◌, ◌∙◌, List, ap}
+use Rattle.std.proofs.Common.{◌∙◌, List, ap}
 use Rattle.std.specs.Prelude.{filter}
 use Rattle.kept_rows.specs.declared.row.Row.{Row}
 use Rattle.opening_book.specs.Counting.{counts}

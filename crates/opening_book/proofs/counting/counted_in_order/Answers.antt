@@ -1,4 +1,4 @@
-use Rattle.std.proofs.Common.{◌≡◌, ◌∙◌, List, ap, sym}
+use Rattle.std.proofs.Common.{◌∙◌, List, ap, sym}
 use Rattle.std.specs.Prelude.{filter}
 use Rattle.kept_rows.proofs.Rising.{map_of-risen}
 use Rattle.kept_rows.specs.declared.row.Row.{Row}

@@ -1,4 +1,4 @@
-use Rattle.std.proofs.Common.{◌++◌, ◌∙◌, ap, sym, take, List, Option}
+use Rattle.std.proofs.Common.{◌++◌, ◌∙◌, ap, sym, take, List}
 use Rattle.std.specs.Option.{option_to_list}
 use Rattle.kept_rows.specs.declared.row.Change.{Change}
 use Rattle.kept_rows.specs.declared.row.Row.{Row}

@@ -1,6 +1,5 @@
 use Rattle.std.proofs.Common.{◌++◌, ◌∙◌, ap, sym, take, List, Option, None, arith, append_assoc}
 use Rattle.std.specs.Option.{option_to_list}
-use Rattle.orch_base.specs.declared.rule.Rule.{Rule}
 use Rattle.kept_rows.specs.declared.row.Change.{Change}
 use Rattle.opening_book.specs.Opening.{registering, registering_from}
 use Rattle.opening_book.proofs.Missing.{from-more}

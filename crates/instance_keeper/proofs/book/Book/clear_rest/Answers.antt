@@ -1,4 +1,4 @@
-use Rattle.std.proofs.Common.{◌≡◌, ◌∙◌, ℕ, List, Option, [], None, length, replicate, ap}
+use Rattle.std.proofs.Common.{◌∙◌, ℕ, List, Option, [], None, length, ap}
 use Rattle.std.proofs.lemmas.List.{length-replicate}
 use Rattle.instance_keeper.specs.declared.bridge.Bridge.{Bridge}
 use Rattle.instance_keeper.proofs.Reloads.{rest_cleared}

@@ -1,4 +1,4 @@
-use Rattle.std.proofs.Common.{◌≡◌, ◌∙◌, ℕ, suc, List, Option, None, ap, sym, add-one, length, arith}
+use Rattle.std.proofs.Common.{◌≡◌, ◌∙◌, ℕ, suc, List, Option, None, ap, add-one, length, arith}
 use Rattle.std.proofs.lemmas.List.{length-set}
 use Rattle.kept_rows.specs.declared.observation.Instance.{Instance}
 use Rattle.instance_keeper.specs.Book.{BookState}

@@ -1,4 +1,4 @@
-use Rattle.std.proofs.Common.{◌≡◌, ◌∙◌, ap, sym, zero}
+use Rattle.std.proofs.Common.{◌∙◌, ap, sym, zero}
 use Rattle.std.specs.Prelude.{fold}
 use Rattle.instance_keeper.specs.Book.{BookState, after_row}
 use Rattle.instance_keeper.specs.Reloads.{first_set}

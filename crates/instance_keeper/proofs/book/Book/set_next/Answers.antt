@@ -1,8 +1,8 @@
-use Rattle.std.proofs.Common.{◌≡◌, ◌∙◌, ◌<◌, ◌^◌, ℕ, suc, Some, None, ap, sym, add-one, length, arith}
+use Rattle.std.proofs.Common.{◌≡◌, ◌∙◌, ℕ, suc, Some, None, ap, sym, add-one, length, arith}
 use Rattle.kept_rows.specs.Servers.{row_fits}
-use Rattle.instance_keeper.specs.Book.{BookState, after_put, after_row}
+use Rattle.instance_keeper.specs.Book.{BookState, after_row}
 use Rattle.instance_keeper.specs.Reloads.{first_set, place_from}
-use Rattle.instance_keeper.proofs.Reloads.{IsPlace, placed, unplaced}
+use Rattle.instance_keeper.proofs.Reloads.{placed, unplaced}
 use Rattle.instance_keeper.proofs.book.Book.set_next.Goals as goal
 
 pub empty_between-requires-clause-ordered : goal.empty_between-requires-clause-ordered

@@ -1,0 +1,11 @@
+-- Rows that all count.
+use Rattle.std.proofs.Common.{◌≡◌, Bool, true, List, [], ◌∷◌, filter, refl}
+use Rattle.std.specs.List.{list_all}
+use Rattle.kept_rows.proofs.Known.{both_true}
+
+pub filter_whole : {X : Type 0} (p : X → Bool) (xs : List X) → list_all p xs ≡ true → filter p xs ≡ xs
+filter_whole p [] all = refl
+filter_whole p (x ∷ xs) all =
+    let both = both_true (p x) (list_all p xs) all in
+    let rest = filter_whole p xs both.1 in
+    rw (both.0, rest) refl

@@ -1,0 +1,37 @@
+use Rattle.std.proofs.Common.{◌∙◌, ◌≤◌, true, not, length, ap, sym, arith}
+use Rattle.std.proofs.Math.Seq.{drop-length}
+use Rattle.std.proofs.lemmas.List.Quantifiers.{position-Some}
+use Rattle.kept_rows.specs.declared.row.Row.{Row}
+use Rattle.kept_rows.specs.declared.row.Row.TheVariants as row
+use Rattle.opening_book.specs.Audits.{audit_of, is_instance}
+use Rattle.opening_book.specs.Opening.{loading}
+use Rattle.opening_book.proofs.Beyond.{before_none, rest_from, same_audit, same_loading}
+use Rattle.opening_book.proofs.audit.beyond_instances.Goals as goal
+
+pub returns-in-Some-clause-audit : goal.returns-in-Some-clause-audit
+returns-in-Some-clause-audit c =
+    let rows = c.args.rows.now in
+    let from = c.in-Some.from in
+    let found = position-Some (λ (r : Row). not (is_instance r)) rows from (row.Switch true) (sym c.first_other.ensures ∙ c.in-Some.is) in
+    let within : from ≤ length rows = let less = found.0 in omega (arith, less) in
+    λ period next. ap (audit_of period next) (rest_from rows from) ∙ same_audit rows from within found.2 period next
+
+pub returns-in-Some-clause-loading : goal.returns-in-Some-clause-loading
+returns-in-Some-clause-loading c =
+    let rows = c.args.rows.now in
+    let from = c.in-Some.from in
+    let found = position-Some (λ (r : Row). not (is_instance r)) rows from (row.Switch true) (sym c.first_other.ensures ∙ c.in-Some.is) in
+    let within : from ≤ length rows = let less = found.0 in omega (arith, less) in
+    λ period a at. ap (λ xs. loading period xs a at) (rest_from rows from) ∙ same_loading rows from within found.2 period a at
+
+pub returns-in-None-clause-audit : goal.returns-in-None-clause-audit
+returns-in-None-clause-audit c =
+    let rows = c.args.rows.now in
+    let before = before_none rows (sym c.first_other.ensures ∙ c.in-None.is) in
+    λ period next. ap (audit_of period next) (sym (drop-length rows)) ∙ same_audit rows (length rows) (omega arith) before period next
+
+pub returns-in-None-clause-loading : goal.returns-in-None-clause-loading
+returns-in-None-clause-loading c =
+    let rows = c.args.rows.now in
+    let before = before_none rows (sym c.first_other.ensures ∙ c.in-None.is) in
+    λ period a at. ap (λ xs. loading period xs a at) (sym (drop-length rows)) ∙ same_loading rows (length rows) (omega arith) before period a at
