@@ -3,3 +3,5 @@ pub mod Blocking
 pub mod ByBook
 pub mod Rising
 pub mod PlansOf
+pub mod EachOnce
+pub mod Trying

@@ -1,3 +1,5 @@
+pub mod Clusters
 pub mod Latest
 pub mod Settings
 pub mod Lowest
+pub mod Tries

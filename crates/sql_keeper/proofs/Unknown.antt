@@ -1,5 +1,5 @@
 -- Rows of servers that aren't known.
-use Rattle.std.proofs.Common.{◌≡◌, ℕ, ◌<◌, ◌^◌, false, [], ◌∷◌, List, Ok, Err, None, Some, Option, Result, refl, arith}
+use Rattle.std.proofs.Common.{◌≡◌, ℕ, ◌<◌, ◌^◌, false, ◌∷◌, List, Ok, Err, None, Result, refl, arith}
 use Rattle.std.specs.Prelude.{MatchOption, ⊤}
 use Rattle.std.proofs.lemmas.Bool.{le-ltb}
 use Rattle.kept_rows.specs.declared.row.Row.{Row}

@@ -1,0 +1,28 @@
+//! The listing of clusters, and the lines of a scan.
+
+ghost use Rattle.std.specs.Prelude.{ℕ};
+ghost use Rattle.asking_commands.specs.Labels.{clusters_of};
+ghost use Rattle.audit_log.specs.Audits.{AuditState};
+ghost use Rattle.instance_keeper.specs.Book.{BookState};
+ghost use Rattle.orch_base.specs.declared.server.ServerNo.{ServerNo as Number};
+ghost use Rattle.recovery_core.specs.Scans.{actionable_in, scanned};
+ghost use Rattle.recovery_permits.specs.declared.attempt.Attempt.{Attempt as AnAttempt};
+ghost use Rattle.server_model.specs.Worlds.{World};
+ghost use Rattle.answer_laws.specs.Clusters.{ListsEachOnce};
+ghost use Rattle.answer_laws.specs.Tries.{AreTries};
+
+/// The clusters of a book are listed by their labels, each once: that of each instance's cluster, and no other.
+pub fn clusters_are_listed_once()
+    ensures { (b : BookState) → ListsEachOnce b (clusters_of b) }
+{}
+
+/// A scan tells a line for each instance whose analysis asks for a recovery, tried on the leases and the audit that
+/// those before it left: it begins exactly where no check of the permission table refuses it, and a refused one is told
+/// the refusal with the lowest number.
+pub fn scans_refuse_by_the_table()
+    ensures { (w : World) (b : BookState) (audit : AuditState) (by : Number → AnAttempt)
+        (wait last : ℕ) →
+        AreTries (record { world = w; book = b; by = by })
+        (record { leases = b.leases; audit = audit; last = last }) (actionable_in b)
+        (scanned w b audit by wait last).begun (scanned w b audit by wait last).lines }
+{}
