@@ -2,11 +2,11 @@
 #![tactic(auto)]
 
 mod act;
-mod copies;
 mod job;
 mod looks;
 mod threads;
 mod turns;
+mod view;
 
 pub use act::{Act, Look};
 pub use commands::{Cause, Command, CommandName, Refusal};
@@ -15,3 +15,5 @@ pub use looks::has_place;
 pub use operations::{Aim, Crossing, JobStep, Op, Position, Sight};
 /// Want of memory.
 pub use orch_base::Memory;
+pub use turns::{change_hands, keep};
+pub use view::JobView;

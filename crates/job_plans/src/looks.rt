@@ -13,6 +13,7 @@ ghost use Rattle.operations.specs.Named.{IsOneOf};
 ghost use Rattle.operations.specs.Targets.{logs_by, places_by};
 ghost use Rattle.operations.specs.Turns.{observed, is_moved, is_reached, after_look, after_ask, after_attach, cause_by, crossed, read_by, holds_seen, is_settled};
 ghost use Rattle.job_plans.specs.Acts.{rest_of, TellsAll};
+ghost use Rattle.job_plans.specs.JobsSeen.{seen_last};
 
 use crate::Look;
 use crate::act::Act;
@@ -38,6 +39,25 @@ pub(crate) fn latest(seen: &[Sight], no: ServerNo) -> Option<&Position>
                 latest(rest, no)
             }
         }
+    }
+}
+
+/// The latest that was seen of a server in what was seen later, if it was seen there.
+pub(crate) fn latest_of_more(more: &[Sight], no: ServerNo) -> Option<&Position>
+    ensures { option_copied result ≡ seen_last more.now no.0 }
+{
+    match more {
+        [] => None,
+        [first, rest @ ..] => match latest_of_more(rest, no) {
+            Some(seen) => Some(seen),
+            None => {
+                if first.no.0 == no.0 {
+                    Some(&first.seen)
+                } else {
+                    None
+                }
+            }
+        },
     }
 }
 

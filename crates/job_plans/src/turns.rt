@@ -12,7 +12,7 @@ use server_model::World;
 use server_words::Ask;
 
 /// This is the latest that was seen of its server.
-pub(crate) fn keep(seen: &mut Vec<Sight>, sight: Sight)
+pub fn keep(seen: &mut Vec<Sight>, sight: Sight)
     requires room { vec_len seen.old < vec_capacity seen.old }
     ensures items { seen.new.items ≡ with_seen seen.old.items sight.no sight.seen }
     ensures len { vec_len seen.new ≤ vec_len seen.old + 1 }
@@ -34,9 +34,10 @@ fn let_go(hands: &mut Vec<ServerNo>, no: ServerNo)
 }
 
 /// The hands after this was asked of a server.
-pub(crate) fn change_hands(hands: &mut Vec<ServerNo>, no: ServerNo, ask: Ask)
+pub fn change_hands(hands: &mut Vec<ServerNo>, no: ServerNo, ask: Ask)
     requires room { vec_len hands.old < vec_capacity hands.old }
     ensures items { hands.new.items ≡ hands_after hands.old.items no ask }
+    ensures capacity { vec_capacity hands.new ≡ vec_capacity hands.old }
 {
     match ask {
         Ask::Stop(_) => {

@@ -12,3 +12,4 @@ pub mod Finishing
 pub mod Entries
 pub mod Joining
 pub mod Closed
+pub mod Closings

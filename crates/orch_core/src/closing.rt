@@ -29,15 +29,15 @@ pub(crate) fn closing_of(job: &Unended, look: &UnendedLook) -> Option<Closing>
     let Unended::Recovery(recovery, Some(id)) = job else {
         return None;
     };
-    let after = match look {
-        UnendedLook::Recovery(look) => look.after(),
-        UnendedLook::Plan(_) => recovery,
+    let promoted = match look {
+        UnendedLook::Recovery(look) => look.promoted(),
+        UnendedLook::Plan(_) => recovery.promoted(),
     };
-    let outcome = ending_of(after, look.step())?;
+    let outcome = ending_of(promoted, look.step())?;
     Some(Closing {
         id: *id,
         outcome,
-        acked: is_acknowledged(after, look.step()),
+        acked: is_acknowledged(recovery.purpose(), look.step()),
     })
 }
 

@@ -26,8 +26,8 @@ use audit_log::Audit;
 use instance_keeper::{Book, Keeper, Observation};
 use jobs_in_flight::{FoundJob, answer, find, others_over, take_turn};
 use opening_book::{
-    GREATEST_ID, counted, counted_in_order, last_id, last_read, latest_moment, latest_recovery,
-    loaded_audit, loaded_book, loading,
+    GREATEST_ID, beyond_instances, counted, counted_in_order, last_id, last_read, latest_moment,
+    latest_recovery, loaded_audit, loaded_book, loading,
 };
 use orch_base::{Memory, Moment, ServerNo};
 use server_model::World;
@@ -182,9 +182,10 @@ impl Engine {
         let next = self.knowledge.audit.next();
         let given = given_rows(alloc, keeper, self.knowledge.book.names())?;
         let rows = counted_in_order(self.knowledge.book.servers(), next - 1, given);
-        let mut audit = loaded_audit(alloc, &self.configuration, &rows, next)?;
+        let others = beyond_instances(&rows);
+        let mut audit = loaded_audit(alloc, &self.configuration, others, next)?;
         let moment = latest_recovery(self.moment, audit.recoveries());
-        let changes = loading(alloc, &self.configuration, &rows, &audit, moment)?;
+        let changes = loading(alloc, &self.configuration, others, &audit, moment)?;
         keep_some(alloc, keeper, self.knowledge.book.names(), &changes)?;
         audit.close(moment);
         self.knowledge.book.reload(rows);

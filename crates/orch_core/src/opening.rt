@@ -1,7 +1,7 @@
 //! What an opening lays out beside the servers: names and settings, the slots of pollers, the configuration, and the
 //! book with what its rows leave open.
 
-ghost use Rattle.std.specs.Prelude.{◌≡◌, ◌≤◌, ◌^◌, All, IfOk, IsTrue, [], is_ok, length, map};
+ghost use Rattle.std.specs.Prelude.{◌≡◌, ◌≤◌, ◌^◌, All, IfOk, IsTrue, None, [], is_ok, length, map};
 ghost use Rattle.opening_book.specs.Opening.{is_opening_change, opened_book, opening_changes};
 ghost use Rattle.orch_core.specs.Keeping.{HasTurnCause, kept_if};
 ghost use Rattle.orch_core.specs.Polls.{empty_slots};
@@ -65,13 +65,22 @@ pub(crate) fn make_slots(alloc: Global) -> Result<Vec<Option<Observation>>, Memo
     Ok(slots)
 }
 
+// Empties a slot, where something is there.
+fn empty_slot(slot: &mut Option<Observation>)
+    ensures { slot.new ≡ None }
+{
+    if slot.is_some() {
+        *slot = None;
+    }
+}
+
 /// Empties all slots.
 pub(crate) fn empty_slots(slots: &mut Vec<Option<Observation>>)
     requires { length slots.old.items ≡ pollers }
     ensures { slots.new.items ≡ empty_slots }
 {
     for poller in 0..POLLERS {
-        slots[poller as usize] = None;
+        empty_slot(&mut slots[poller as usize]);
     }
 }
 

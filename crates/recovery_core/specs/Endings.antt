@@ -17,10 +17,13 @@ done_with None = ending.Failed named.NoCandidate
 done_with (Some n) = ending.Promoted n
 
 -- the end of a recovery's entry after a turn: none while the recovery goes on
+abbrev pub ending_with : Option ServerNo → JobStep → Option Ending
+ending_with promoted step.Going = None
+ending_with promoted (step.Done lines) = Some (done_with promoted)
+ending_with promoted (step.Failed c lines) = Some (ending.Failed (cause_name c))
+
 abbrev pub ending_of : Recovery → JobStep → Option Ending
-ending_of r step.Going = None
-ending_of r (step.Done lines) = Some (done_with r.outcome.promoted)
-ending_of r (step.Failed c lines) = Some (ending.Failed (cause_name c))
+ending_of r s = ending_with r.outcome.promoted s
 
 abbrev pub is_takeover : Purpose → Bool
 is_takeover purpose.Regroup = false
@@ -29,7 +32,10 @@ is_takeover (purpose.Intermediate s) = false
 is_takeover (purpose.Takeover d) = true
 
 -- a takeover that is done is acknowledged in the same turn
+abbrev pub is_acknowledged_for : Purpose → JobStep → Bool
+is_acknowledged_for u step.Going = false
+is_acknowledged_for u (step.Done lines) = is_takeover u
+is_acknowledged_for u (step.Failed c lines) = false
+
 abbrev pub is_acknowledged : Recovery → JobStep → Bool
-is_acknowledged r step.Going = false
-is_acknowledged r (step.Done lines) = is_takeover r.purpose
-is_acknowledged r (step.Failed c lines) = false
+is_acknowledged r s = is_acknowledged_for r.purpose s

@@ -1,12 +1,11 @@
 //! How a recovery's entry in the audit ends.
 
 ghost use Rattle.std.specs.Prelude.{◌≡◌};
-ghost use Rattle.recovery_core.specs.Endings.{done_with, ending_of, is_acknowledged, is_takeover};
+ghost use Rattle.recovery_core.specs.Endings.{done_with, ending_with, is_acknowledged_for, is_takeover};
 
 use operations::JobStep;
 use orch_base::{CauseName, Ending, ServerNo};
 use recovery_plans::Purpose;
-use recovery_turns::RecoveryJob;
 
 fn done_with(promoted: Option<ServerNo>) -> Ending
     ensures { result ≡ done_with promoted }
@@ -17,15 +16,15 @@ fn done_with(promoted: Option<ServerNo>) -> Ending
     }
 }
 
-/// How the entry of a recovery ends after a turn that came to this step: not while the recovery goes on; with the
-/// promoted server where it is done, and as without a candidate where none was promoted; and by the cause's name where
-/// it failed. It takes no memory.
-pub fn ending_of(job: &RecoveryJob, step: &JobStep) -> Option<Ending>
-    ensures { result ≡ ending_of job.now step.now }
+/// How the entry of a recovery with this promoted server ends after a turn that came to this step: not while the
+/// recovery goes on; with the promoted server where it is done, and as without a candidate where none was promoted; and
+/// by the cause's name where it failed. It takes no memory.
+pub fn ending_of(promoted: Option<ServerNo>, step: &JobStep) -> Option<Ending>
+    ensures { result ≡ ending_with promoted step.now }
 {
     match step {
         JobStep::Going => None,
-        JobStep::Done(_) => Some(done_with(job.outcome().promoted())),
+        JobStep::Done(_) => Some(done_with(promoted)),
         JobStep::Failed(cause, _) => Some(Ending::Failed(cause.name())),
     }
 }
@@ -39,13 +38,13 @@ fn is_takeover(purpose: Purpose) -> bool
     }
 }
 
-/// Whether the entry of a recovery is acknowledged in the turn that came to this step, as that of a takeover is which
-/// is done. It takes no memory.
-pub fn is_acknowledged(job: &RecoveryJob, step: &JobStep) -> bool
-    ensures { result ≡ is_acknowledged job.now step.now }
+/// Whether the entry of a recovery of this purpose is acknowledged in the turn that came to this step, as that of a
+/// takeover is which is done. It takes no memory.
+pub fn is_acknowledged(purpose: Purpose, step: &JobStep) -> bool
+    ensures { result ≡ is_acknowledged_for purpose step.now }
 {
     match step {
         JobStep::Going | JobStep::Failed(_, _) => false,
-        JobStep::Done(_) => is_takeover(job.purpose()),
+        JobStep::Done(_) => is_takeover(purpose),
     }
 }

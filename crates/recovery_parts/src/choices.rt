@@ -10,7 +10,7 @@ ghost use Rattle.recovery_parts.specs.Lots.{by_lot};
 use binlog_coords::Coord;
 use commands::Lost;
 use instance_keeper::{Book, Bridge};
-use job_plans::Job;
+use job_plans::JobView;
 use orch_base::{Memory, Moment, Rule, ServerNo};
 use promotion_rules::{Drained, better, most_advanced};
 use recovery_plans::{Follower, LostReplica, Purpose, Stopped, Way};
@@ -220,7 +220,7 @@ pub(crate) fn unfit(world: &World, replica: &Stopped) -> LostReplica
 /// How a drained replica of a server goes below the successor, as the job has seen it.
 pub fn way_below(
     by: &Ground<'_>,
-    job: &Job,
+    job: &JobView<'_>,
     failed: ServerNo,
     successor: ServerNo,
     replica: &Stopped,

@@ -9,7 +9,7 @@ ghost use Rattle.recovery_parts.specs.Doings.{exchange_of, exchanges_of, takes_m
 
 use binlog_coords::Coord;
 use gtid_sets::GtidSet;
-use job_plans::{Act, Job};
+use job_plans::{Act, JobView};
 use orch_base::{Memory, ServerNo};
 use server_model::World;
 use server_words::{Ask, AttachFault, Spot};
@@ -66,12 +66,12 @@ pub fn then_starts(
 }
 
 /// What the act of a job does to servers.
-pub fn doing_of(alloc: Global, job: &Job, act: &Act) -> Result<Doing, Memory>
+pub fn doing_of(alloc: Global, job: &JobView<'_>, act: &Act) -> Result<Doing, Memory>
     ensures exchanges { IfOk result (λ d. exchanges_of d ≡ made_by job.now act.now) }
     ensures memory { IfOk result (λ d. takes_memory d ≡ true → wants_memory act.now ≡ true) }
 {
     Ok(match act {
-        Act::Fail => Doing::Each(starts(alloc, job.hands())?),
+        Act::Fail => Doing::Each(starts(alloc, job.hands)?),
         Act::End | Act::Pass | Act::Keep(_) | Act::Wait(_) => Doing::Each(Vec::new(alloc)),
         Act::Ask(no, ask) => Doing::Each(only(alloc, Change::Ask(*no, *ask))?),
         Act::Attach(no, expect, to, at) => {

@@ -3,7 +3,6 @@
 #![tactic(auto)]
 
 mod choices;
-mod copies;
 mod dividing;
 mod doing;
 mod fates;
@@ -12,11 +11,10 @@ mod stages;
 mod threads;
 
 pub use choices::{Ground, better_of, chosen_of, expels, lot_of, releases, way_below};
-pub use copies::copy_stage;
 pub use dividing::{divide, leaders, lose_all, without};
 pub use doing::{Change, Doing, doing_of, only, perform, then_starts};
 pub use fates::{Fate, fate_of, spot_seen};
-pub use ops::{drain, level, moving, one, shut, sight_of, trail, two};
+pub use ops::{drain, level, moving, one, room, shut, sight_of, three, trail, two};
 /// Want of memory.
 pub use orch_base::Memory;
 pub use stages::{ends, leaver, moved};

@@ -1,6 +1,6 @@
 //! The operations of stages.
 
-ghost use Rattle.std.specs.Prelude.{◌≡◌, ◌∷◌, [], IfOk, true};
+ghost use Rattle.std.specs.Prelude.{◌≡◌, ◌≤◌, ◌∷◌, [], IfOk, true, vec_capacity};
 ghost use Rattle.recovery_plans.specs.Recoveries.{sight_of};
 ghost use Rattle.recovery_plans.specs.Stages.{drain, gather, level, move, target, trail};
 
@@ -11,73 +11,104 @@ use orch_base::{Memory, ServerNo, SourceState};
 use recovery_plans::Way;
 use std::alloc::Global;
 
-/// One operation.
-pub fn one(alloc: Global, op: Op) -> Result<Vec<Op>, Memory>
-    ensures { IfOk result (λ ops. ops.items ≡ op ∷ []) }
+/// Room for the operations of a stage.
+pub fn room(alloc: Global) -> Result<Vec<Op>, Memory>
+    ensures items { IfOk result (λ ops. ops.items ≡ []) }
+    ensures room { IfOk result (λ ops. 8 ≤ vec_capacity ops) }
 {
-    Ok(vec![in alloc; op]?)
+    Ok(Vec::with_capacity(alloc, 8)?)
+}
+
+/// One operation, in this room.
+pub fn one(mut ops: Vec<Op>, op: Op) -> Vec<Op>
+    requires { 8 ≤ vec_capacity ops }
+    ensures { result.items ≡ op ∷ [] }
+{
+    ops.clear();
+    ops.push_reserved(op);
+    ops
 }
 
 /// Two operations.
-pub fn two(alloc: Global, first: Op, second: Op) -> Result<Vec<Op>, Memory>
-    ensures { IfOk result (λ ops. ops.items ≡ first ∷ second ∷ []) }
+pub fn two(mut ops: Vec<Op>, first: Op, second: Op) -> Vec<Op>
+    requires { 8 ≤ vec_capacity ops }
+    ensures { result.items ≡ first ∷ second ∷ [] }
 {
-    Ok(vec![in alloc; first, second]?)
+    ops.clear();
+    ops.push_reserved(first);
+    ops.push_reserved(second);
+    ops
+}
+
+/// Three operations.
+pub fn three(mut ops: Vec<Op>, first: Op, second: Op, third: Op) -> Vec<Op>
+    requires { 8 ≤ vec_capacity ops }
+    ensures { result.items ≡ first ∷ second ∷ third ∷ [] }
+{
+    ops.clear();
+    ops.push_reserved(first);
+    ops.push_reserved(second);
+    ops.push_reserved(third);
+    ops
 }
 
 /// A replica is stopped once it has executed what it has received.
-pub fn drain(alloc: Global, no: ServerNo) -> Result<Vec<Op>, Memory>
-    ensures { IfOk result (λ ops. ops.items ≡ drain no) }
+pub fn drain(mut ops: Vec<Op>, no: ServerNo) -> Vec<Op>
+    requires { 8 ≤ vec_capacity ops }
+    ensures { result.items ≡ drain no }
 {
-    Ok(vec![in alloc;
-        Op::StopReceiver(no),
-        Op::Settle(no),
-        Op::Stop(no),
-        Op::Status(no, None),
-    ]?)
+    ops.clear();
+    ops.push_reserved(Op::StopReceiver(no));
+    ops.push_reserved(Op::Settle(no));
+    ops.push_reserved(Op::Stop(no));
+    ops.push_reserved(Op::Status(no, None));
+    ops
 }
 
 /// The follower `q` comes to the end of its source's log and loses the source, which goes below it.
-pub fn level(alloc: Global, p: ServerNo, q: ServerNo) -> Result<Vec<Op>, Memory>
-    ensures { IfOk result (λ ops. ops.items ≡ level p q) }
+pub fn level(mut ops: Vec<Op>, p: ServerNo, q: ServerNo) -> Vec<Op>
+    requires { 8 ≤ vec_capacity ops }
+    ensures { result.items ≡ level p q }
 {
-    Ok(vec![in alloc;
-        Op::Status(p, None),
-        Op::Status(q, Some(p)),
-        Op::Until(q, Aim::EndOf(p)),
-        Op::Await(q, Aim::EndOf(p)),
-        Op::Stop(q),
-        Op::Status(q, Some(p)),
-        Op::Reset(q),
-        Op::Cross(Crossing::About, p, q),
-    ]?)
+    ops.clear();
+    ops.push_reserved(Op::Status(p, None));
+    ops.push_reserved(Op::Status(q, Some(p)));
+    ops.push_reserved(Op::Until(q, Aim::EndOf(p)));
+    ops.push_reserved(Op::Await(q, Aim::EndOf(p)));
+    ops.push_reserved(Op::Stop(q));
+    ops.push_reserved(Op::Status(q, Some(p)));
+    ops.push_reserved(Op::Reset(q));
+    ops.push_reserved(Op::Cross(Crossing::About, p, q));
+    ops
 }
 
 /// The master `m` refuses writes, and its replica `d` comes to the end of its log.
-pub fn shut(alloc: Global, m: ServerNo, d: ServerNo) -> Result<Vec<Op>, Memory>
-    ensures { IfOk result (λ ops. ops.items ≡ Op.ReadOnly m true ∷ gather m d) }
+pub fn shut(mut ops: Vec<Op>, m: ServerNo, d: ServerNo) -> Vec<Op>
+    requires { 8 ≤ vec_capacity ops }
+    ensures { result.items ≡ Op.ReadOnly m true ∷ gather m d }
 {
-    Ok(vec![in alloc;
-        Op::ReadOnly(m, true),
-        Op::Status(m, None),
-        Op::Status(d, Some(m)),
-        Op::Until(d, Aim::EndOf(m)),
-        Op::Await(d, Aim::EndOf(m)),
-        Op::Stop(d),
-        Op::Status(d, Some(m)),
-    ]?)
+    ops.clear();
+    ops.push_reserved(Op::ReadOnly(m, true));
+    ops.push_reserved(Op::Status(m, None));
+    ops.push_reserved(Op::Status(d, Some(m)));
+    ops.push_reserved(Op::Until(d, Aim::EndOf(m)));
+    ops.push_reserved(Op::Await(d, Aim::EndOf(m)));
+    ops.push_reserved(Op::Stop(d));
+    ops.push_reserved(Op::Status(d, Some(m)));
+    ops
 }
 
 /// A replica comes to where another was seen.
-pub fn trail(alloc: Global, no: ServerNo, d: ServerNo) -> Result<Vec<Op>, Memory>
-    ensures { IfOk result (λ ops. ops.items ≡ trail no d) }
+pub fn trail(mut ops: Vec<Op>, no: ServerNo, d: ServerNo) -> Vec<Op>
+    requires { 8 ≤ vec_capacity ops }
+    ensures { result.items ≡ trail no d }
 {
-    Ok(vec![in alloc;
-        Op::Until(no, Aim::ExecOf(d)),
-        Op::Await(no, Aim::ExecOf(d)),
-        Op::Stop(no),
-        Op::Status(no, None),
-    ]?)
+    ops.clear();
+    ops.push_reserved(Op::Until(no, Aim::ExecOf(d)));
+    ops.push_reserved(Op::Await(no, Aim::ExecOf(d)));
+    ops.push_reserved(Op::Stop(no));
+    ops.push_reserved(Op::Status(no, None));
+    ops
 }
 
 fn going(way: Way, no: ServerNo) -> Op
@@ -91,10 +122,11 @@ fn going(way: Way, no: ServerNo) -> Op
 }
 
 /// A replica goes a way, and is started.
-pub fn moving(alloc: Global, no: ServerNo, way: Way) -> Result<Vec<Op>, Memory>
-    ensures { IfOk result (λ ops. ops.items ≡ move way no ∷ Op.Start no ∷ []) }
+pub fn moving(ops: Vec<Op>, no: ServerNo, way: Way) -> Vec<Op>
+    requires { 8 ≤ vec_capacity ops }
+    ensures { result.items ≡ move way no ∷ Op.Start no ∷ [] }
 {
-    two(alloc, going(way, no), Op::Start(no))
+    two(ops, going(way, no), Op::Start(no))
 }
 
 /// The new source to which a way goes.

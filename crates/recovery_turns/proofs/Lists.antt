@@ -1,9 +1,9 @@
 -- Lists of what a function gives of each of a list.
-use Rattle.std.proofs.Common.{◌≡◌, ℕ, ◌+◌, ◌<◌, List, [], ◌∷◌, ◌++◌, take, length, get_or, refl, sym, ◌∙◌, ap, Option, Some, None}
-use Rattle.std.specs.Prelude.{filter_map}
+use Rattle.std.proofs.Common.{◌≡◌, ℕ, ◌+◌, ◌<◌, Bool, true, false, cond, List, [], ◌∷◌, ◌++◌, take, length, get_or, map, refl, sym, ◌∙◌, ap, Option, Some, None}
+use Rattle.std.specs.Prelude.{filter, filter_map}
 use Rattle.std.specs.Option.{option_to_list}
-use Rattle.std.proofs.lemmas.List.{take_more, append_assoc}
-use Rattle.std.proofs.lemmas.List.Elements.{filter_map-append}
+use Rattle.std.proofs.lemmas.List.{take_more, append_assoc, map-append}
+use Rattle.std.proofs.lemmas.List.Elements.{filter_map-append, filter_more}
 
 cons-list : {Y : Type 0} (o : Option Y) → Rattle.std.specs.List.cons_option o [] ≡ option_to_list o
 cons-list None = refl
@@ -26,3 +26,18 @@ given-onto h before xs k d ys zs o within so_far more given =
     ∙ ap (λ v. (before ++ filter_map h (take k xs)) ++ option_to_list v) given
     ∙ append_assoc before (filter_map h (take k xs)) (option_to_list (h (get_or xs k d)))
     ∙ ap (λ us. before ++ us) (given-more h xs k d within)
+
+-- what is made of each that passes a test, with one more
+pub passing-onto : {X Y : Type 0} (f : X → Y) (p : X → Bool) (xs : List X) (k : ℕ) (d : X) (ys zs : List Y) (b : Bool) → k < length xs
+    → ys ≡ map f (filter p (take k xs)) → zs ≡ ys ++ cond b (f (get_or xs k d) ∷ []) [] → b ≡ p (get_or xs k d) → zs ≡ map f (filter p (take (k + 1) xs))
+passing-onto f p xs k d ys zs b within so_far more is =
+    more
+    ∙ ap (λ us. us ++ cond b (f (get_or xs k d) ∷ []) []) so_far
+    ∙ ap (λ (c : Bool). map f (filter p (take k xs)) ++ cond c (f (get_or xs k d) ∷ []) []) is
+    ∙ ap (λ us. map f (filter p (take k xs)) ++ us) (either (p (get_or xs k d)))
+    ∙ sym (map-append f (filter p (take k xs)) (cond (p (get_or xs k d)) (get_or xs k d ∷ []) []))
+    ∙ ap (map f) (sym (filter_more p xs k d within))
+  where
+    either : (c : Bool) → cond c (f (get_or xs k d) ∷ []) [] ≡ map f (cond c (get_or xs k d ∷ []) [])
+    either true = refl
+    either false = refl

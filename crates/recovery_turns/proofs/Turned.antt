@@ -1,11 +1,12 @@
 -- What a look at a recovery's job tells of the recovery.
 use Rattle.std.proofs.Common.{◌≡◌, ℕ, ◌<◌, Bool, true, false, cond, List, [], ◌∷◌, length, Option, Some, None, IfSome, refl, sym, ◌∙◌, ap, subst}
-use Rattle.std.specs.Prelude.{Result, Ok, Err, IfOk}
+use Rattle.std.specs.Prelude.{is_some, unwrap_or}
 use Rattle.std.specs.List.{All}
-use Rattle.std.proofs.lemmas.Bool.{lt-ltb}
+use Rattle.std.proofs.lemmas.Bool.{false≢true, lt-ltb}
 use Rattle.std.proofs.lemmas.List.Elements.{All-head, All-tail}
 use Rattle.orch_base.specs.declared.server.Moment.{Moment}
 use Rattle.commands.specs.declared.cause.Cause.{Cause}
+use Rattle.commands.specs.declared.cause.Cause.TheVariants as cause
 use Rattle.server_model.specs.Worlds.{World}
 use Rattle.operations.specs.declared.op.Op.{Op}
 use Rattle.operations.specs.Deeds as deed
@@ -24,13 +25,14 @@ use Rattle.recovery_plans.specs.Deciding.{decided, once}
 use Rattle.recovery_plans.specs.Named.{IsNamedRecovery, IsOpOf, IsTaskOf, spoken_to}
 use Rattle.recovery_plans.specs.Recoveries.{Recovery}
 use Rattle.recovery_plans.specs.Stages.{ends, moved}
-use Rattle.recovery_plans.specs.Taking.{acted, at_end, attempted, barred_by, entered, goes_on, is_waiting, on_going, progressed, settled, taken, Taken}
+use Rattle.recovery_plans.specs.Taking.{acted, at_end, attempted, barred_by, entered, fails, goes_on, is_waiting, on_going, progressed, settled, taken, Taken}
 use Rattle.recovery_plans.proofs.Allowed.{taken-allowed}
 use Rattle.recovery_plans.proofs.Naming.{decided-of, once-of, renumbered, taken-of}
 use Rattle.recovery_turns.specs.declared.look.RecoveryLook.{RecoveryLook}
-use Rattle.recovery_turns.specs.Looks.{CanTake, IsSpare, foretold as look_told}
+use Rattle.recovery_turns.specs.Deciding.{Fits, decided_on}
+use Rattle.recovery_turns.specs.Looks.{CanEnd, CanTake, IsSpare, foretold as look_told}
 use Rattle.recovery_turns.specs.Steps.{progressed_by, stepped_by}
-use Rattle.recovery_turns.specs.Turnings.{going_unless, looked_by, turned_by}
+use Rattle.recovery_turns.specs.Turnings.{ending_at, going_unless, looked_by, turned_by}
 
 progress-is : (r : Recovery) (o : Op) (b : Bool) → progressed_by r (ends r.stage (deed_of o)) b ≡ progressed r o b
 progress-is r o true = refl
@@ -114,16 +116,32 @@ begun-named n r s t ts queue same has = subst (λ (x : Recovery). IsNamedRecover
 })
 
 -- a turn that was looked up may be taken
-pub can-take : (w : World) (b : BookState) (read : ℕ) (now : Moment) (r : Recovery) (l : RecoveryLook) → look_told l ≡ taken w b read now r → IsNamedRecovery (length w.servers) r → IsSpare l → CanTake w l
-can-take w b read now r l told named spare = record {
+pub can-take : (w : World) (b : BookState) (read : ℕ) (now : Moment) (r : Recovery) (l : RecoveryLook) → look_told r l ≡ taken w b read now r → IsNamedRecovery (length w.servers) r
+    → IsSpare l → Fits r l.decided → CanEnd (decided_on r l.decided) l.then → CanTake w r l
+can-take w b read now r l told named spare fits ends = record {
   servers =
       subst (λ (t : Taken). All (λ e. server_of e < length w.servers) t.exchanges) (sym told)
       (taken-of (λ n. n < length w.servers) (λ n. n < length w.servers) r.core.id (λ n h. h) w b read now r named).exchanges;
   allowed = subst (λ (t : Taken). AllAllowed w t.exchanges) (sym told) (taken-allowed w b read now r);
   spare = spare;
+  fits = fits;
+  ends = ends;
 }
 
--- what follows of a value from two facts of it
-pub both-ok : {X Y : Type 0} (r : Result X Y) (P Q R : X → Type 0) → ((x : X) → P x → Q x → R x) → IfOk r P → IfOk r Q → IfOk r R
-both-ok (Ok x) P Q R f p q = f x p q
-both-ok (Err e) P Q R f p q = q
+-- what the look tells, where an operation is due that ends the stage or doesn't
+pub look-ends : (w : World) (read : ℕ) (now : Moment) (r : Recovery) (e : Bool) (l : Look) → ending_at r r.core.ops ≡ Some e → foretold r.core l ≡ turned w read now r.core
+    → looked_by w r e l ≡ settled w read now r
+look-ends w read now r e l due told = go r.core.ops refl due
+  where
+    go : (ops : List Op) → r.core.ops ≡ ops → ending_at r ops ≡ Some e → looked_by w r e l ≡ settled w read now r
+    go [] is h = absurd (false≢true (ap is_some h))
+    go (o ∷ rest) is h =
+        ap (λ (b : Bool). looked_by w r b l) (sym (ap (λ (x : Option Bool). unwrap_or x e) h)) ∙ look-is w read now r o rest l is told
+
+-- and where none is due
+pub none-ends : (w : World) (read : ℕ) (now : Moment) (r : Recovery) → ending_at r r.core.ops ≡ None → fails w r cause.NoCandidate None ≡ settled w read now r
+none-ends w read now r due = go r.core.ops refl due
+  where
+    go : (ops : List Op) → r.core.ops ≡ ops → ending_at r ops ≡ None → fails w r cause.NoCandidate None ≡ settled w read now r
+    go [] is h = sym (ap (acted w read now r) is)
+    go (o ∷ rest) is h = absurd (false≢true (sym (ap is_some h)))

@@ -1,6 +1,7 @@
+pub mod Cores
+pub mod Deciding
 pub mod Lines
 pub mod Looks
-pub mod Outcomes
 pub mod RecoveriesBy
 pub mod Steps
 pub mod Turnings

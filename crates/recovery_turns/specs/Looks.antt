@@ -1,23 +1,58 @@
 -- What a turn is to do, as it was looked up before it.
-use Rattle.std.specs.Prelude.{◌≡◌, ◌<◌, length, All, true, None}
+use Rattle.std.specs.Prelude.{◌≡◌, ◌<◌, ◌≤◌, length, All, true, Option, Some, None, vec_capacity}
+use Rattle.orch_base.specs.declared.server.ServerNo.{ServerNo}
 use Rattle.server_model.specs.Run.{AllAllowed}
 use Rattle.server_model.specs.Worlds.{World}
 use Rattle.operations.specs.Changes.{server_of}
-use Rattle.operations.specs.declared.step.JobStep.TheVariants.{Going}
+use Rattle.operations.specs.declared.step.JobStep.{JobStep}
+use Rattle.operations.specs.declared.step.JobStep.TheVariants as step
+use Rattle.operations.specs.Turns.{ended}
+use Rattle.job_plans.specs.Acts.{CanFollow, job_after}
+use Rattle.recovery_plans.specs.declared.stage.Stage.TheVariants as stage
+use Rattle.recovery_plans.specs.Recoveries.{Recovery}
+use Rattle.recovery_plans.specs.Stages.{moved}
 use Rattle.recovery_plans.specs.Taking.{Taken}
 use Rattle.recovery_parts.specs.Doings.{exchanges_of, takes_memory}
+use Rattle.recovery_parts.specs.Fates.{fate_told}
 use Rattle.recovery_turns.specs.declared.look.RecoveryLook.{RecoveryLook}
+use Rattle.recovery_turns.specs.declared.look.Then.{Then}
+use Rattle.recovery_turns.specs.declared.look.Then.TheVariants as then
+use Rattle.recovery_turns.specs.Deciding.{Fits, decided_on}
+use Rattle.recovery_turns.specs.Steps.{IsTold, borne, followed}
 
--- the turn that a look tells
-abbrev pub foretold : RecoveryLook → Taken
-foretold l = record { step = l.step; observation = l.observation; exchanges = exchanges_of l.doing; recovery = l.after }
+-- the recovery after what comes behind its decisions, where it goes on
+abbrev pub after_then : Recovery → Option Then → Recovery
+after_then r None = r
+after_then r (Some (then.Follow act ending ops lines)) = followed r ending (job_after r.core act)
+after_then r (Some (then.Bear fate ops)) = borne r (fate_told fate)
+
+-- and where it comes to this step
+abbrev pub after_step : Recovery → JobStep → Option Then → Recovery
+after_step r step.Going then = after_then r then
+after_step r (step.Done lines) then = record r { core = ended r.core }
+after_step r (step.Failed c lines) then = record r { core = ended r.core }
+
+-- the turn that a look tells of a recovery
+abbrev pub foretold : Recovery → RecoveryLook → Taken
+foretold r l = record { step = l.step; observation = l.observation; exchanges = exchanges_of l.doing; recovery = after_step (decided_on r l.decided) l.step l.then }
+
+-- what comes behind the decisions can be done: an operation is due, there is room for a stage's operations, and the
+-- lines that may be told then are there
+abbrev pub CanEnd : Recovery → Option Then → Type 0
+CanEnd r None = Unit {0}
+CanEnd r (Some (then.Follow act ending ops lines)) =
+    CanFollow r.core act × (8 ≤ vec_capacity ops) × ((n : ServerNo) → moved r.stage ≡ stage.Opened n → IsTold r lines)
+CanEnd r (Some (then.Bear fate ops)) = 8 ≤ vec_capacity ops
 
 -- memory may be wanted only where the recovery goes on and nothing is observed
 abbrev pub IsSpare : RecoveryLook → Type 0
-IsSpare l = takes_memory l.doing ≡ true → (l.step ≡ Going) × (l.observation ≡ None)
+IsSpare l = takes_memory l.doing ≡ true → (l.step ≡ step.Going) × (l.observation ≡ None)
 
--- a turn may do what was looked up, on this world: its servers are there, and what an attachment goes by has its place
-pub record CanTake (w : World) (l : RecoveryLook) : Type 0 where
+-- a turn may do what was looked up, on this world and this recovery: its servers are there, what an attachment goes by
+-- has its place, and there is room
+pub record CanTake (w : World) (r : Recovery) (l : RecoveryLook) : Type 0 where
   pub servers : All (λ e. server_of e < length w.servers) (exchanges_of l.doing)
   pub allowed : AllAllowed w (exchanges_of l.doing)
   pub spare : IsSpare l
+  pub fits : Fits r l.decided
+  pub ends : CanEnd (decided_on r l.decided) l.then

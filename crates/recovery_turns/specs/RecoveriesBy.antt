@@ -1,12 +1,15 @@
+use Rattle.std.specs.Prelude.{ℕ, ◌+◌, ◌≤◌, ◌<◌, List, drop, length, vec_capacity}
+use Rattle.orch_base.specs.declared.server.ServerNo.{ServerNo}
 use Rattle.recovery_plans.specs.Recoveries.{Recovery}
 use Rattle.recovery_turns.specs.declared.recovery.RecoveryJob.TheInside.{Inside}
+use Rattle.recovery_turns.specs.Cores.{core_of}
 
 abbrev pub recovery_of : Inside → Recovery
 recovery_of a = record {
   purpose = a.purpose;
-  core = a.core;
+  core = core_of a.core;
   stage = a.stage;
-  queue = a.queue.items;
+  queue = drop a.begun a.queue.items;
   failed = a.failed;
   replicas = a.replicas.items;
   order = a.order.items;
@@ -15,5 +18,26 @@ recovery_of a = record {
   lead = a.lead;
   eligible = a.eligible.items;
   swaps = a.swaps;
-  outcome = a.outcome;
+  outcome = record { promoted = a.promoted; followers = a.followers.items; lost = a.lost.items };
 }
+
+-- one entry for each replica, and some for the servers beside them
+abbrev pub room_for : List ServerNo → ℕ
+room_for replicas = length replicas + 8
+
+-- each list has that room, and what is begun or done is of what was to do
+pub record HasRoom (a : Inside) : Type 0 where
+  pub begun : a.begun ≤ length a.queue.items
+  pub within : a.core.done ≤ length a.core.ops.items
+  pub seen : room_for a.replicas.items ≤ vec_capacity a.core.seen
+  pub hands : room_for a.replicas.items ≤ vec_capacity a.core.hands
+  pub drained : room_for a.replicas.items ≤ vec_capacity a.drained
+  pub followers : room_for a.replicas.items ≤ vec_capacity a.followers
+  pub lost : room_for a.replicas.items ≤ vec_capacity a.lost
+
+-- the lists that a stage's end makes longer are shorter than that, the sights by so many
+pub record IsRoomy (more : ℕ) (r : Recovery) : Type 0 where
+  pub seen : length r.core.seen + more ≤ room_for r.replicas
+  pub drained : length r.drained < room_for r.replicas
+  pub followers : length r.outcome.followers < room_for r.replicas
+  pub lost : length r.outcome.lost < room_for r.replicas

@@ -1,9 +1,11 @@
 -- A turn after which a recovery goes on, by whether its operation ended the stage.
-use Rattle.std.specs.Prelude.{Bool, true, false, []}
+use Rattle.std.specs.Prelude.{◌≡◌, Bool, true, false, [], Option, Some, None}
 use Rattle.operations.specs.Jobs.{Job}
 use Rattle.recovery_plans.specs.declared.stage.Stage.TheVariants as stage
 use Rattle.recovery_plans.specs.Recoveries.{Recovery, loses, working}
 use Rattle.recovery_plans.specs.Stages.{moved}
+use Rattle.recovery_plans.specs.Telling.{told}
+use Rattle.recovery_turns.specs.declared.progress.LastLines.{LastLines}
 use Rattle.recovery_plans.specs.Taking.{Fate, Fails, Drops, Loses, Frees, Goes, at_end, entered, frees, is_waiting}
 
 abbrev pub stepped_by : Recovery → Bool → Recovery
@@ -25,3 +27,8 @@ borne r Drops = working r stage.Idle []
 borne r (Loses n why) = working (loses r n why) stage.Idle []
 borne r (Frees n why) = frees r n why
 borne r (Goes s ops) = working r s ops
+
+-- the lines are what a recovery tells
+abbrev pub IsTold : Recovery → Option LastLines → Type 0
+IsTold r None = ⊥
+IsTold r (Some l) = (l.stage ≡ told r) × (l.told ≡ told r)

@@ -1,16 +1,19 @@
 -- What a recovery makes of its job's turn.
-use Rattle.std.specs.Prelude.{Bool, [], List, Option, Some, None}
+use Rattle.std.specs.Prelude.{Bool, [], ◌∷◌, List, Option, Some, None}
 use Rattle.kept_rows.specs.declared.observation.Observation.{Observation}
 use Rattle.server_model.specs.Run.{Exchange}
 use Rattle.server_model.specs.Worlds.{World}
 use Rattle.commands.specs.declared.cause.Cause.{Cause}
 use Rattle.operations.specs.declared.step.JobStep.{JobStep}
 use Rattle.operations.specs.declared.step.JobStep.TheVariants as step
+use Rattle.operations.specs.declared.op.Op.{Op}
+use Rattle.operations.specs.Deeds.{deed_of}
 use Rattle.operations.specs.Jobs.{Job}
 use Rattle.operations.specs.Turns.{Turned, ended}
 use Rattle.job_plans.specs.declared.act.Look.{Look}
 use Rattle.job_plans.specs.Acts.{foretold}
 use Rattle.recovery_plans.specs.Recoveries.{Recovery}
+use Rattle.recovery_plans.specs.Stages.{ends}
 use Rattle.recovery_plans.specs.Taking.{Taken, barred_by, fails, fate, goes_on, met}
 use Rattle.recovery_turns.specs.Steps.{followed}
 
@@ -33,3 +36,8 @@ turned_by w r ending t = stepped_to w r ending t t.step
 -- as its job's look tells
 abbrev pub looked_by : World → Recovery → Bool → Look → Taken
 looked_by w r ending l = turned_by w r ending (foretold r.core l)
+
+-- whether the operation that is due ends the stage
+abbrev pub ending_at : Recovery → List Op → Option Bool
+ending_at r [] = None
+ending_at r (o ∷ rest) = Some (ends r.stage (deed_of o))

@@ -1,14 +1,15 @@
 //! Recoveries that begin.
 
-ghost use Rattle.std.specs.Prelude.{◌≡◌, ◌++◌, IfOk, OnOk, map};
-ghost use Rattle.recovery_plans.specs.Beginning.{begun_recovery, but, first_ops, first_source, first_stage, first_tasks};
+ghost use Rattle.std.specs.Prelude.{◌≡◌, ◌≤◌, ◌++◌, IfOk, OnOk, length, map, vec_capacity};
+ghost use Rattle.operations.specs.Jobs.{job_with};
+ghost use Rattle.recovery_plans.specs.Beginning.{begun_recovery, but, first_ops, first_source, first_stage, first_tasks, is_master};
 ghost use Rattle.recovery_plans.specs.declared.task.Task.{Task as ATask};
+ghost use Rattle.recovery_turns.specs.Cores.{core_of};
 
-use crate::{Outcome, RecoveryJob};
-use job_plans::Job;
+use crate::RecoveryJob;
+use crate::job_parts::JobParts;
 use operations::Op;
 use orch_base::{Memory, ServerNo};
-use recovery_parts::one;
 use recovery_plans::{Purpose, Stage, Task};
 use std::alloc::Global;
 
@@ -28,7 +29,7 @@ fn first_ops(alloc: Global, purpose: Purpose, failed: ServerNo) -> Result<Vec<Op
     match purpose {
         Purpose::Regroup => Ok(Vec::new(alloc)),
         Purpose::Master | Purpose::Intermediate(_) | Purpose::Takeover(_) => {
-            one(alloc, Op::Status(failed, None))
+            Ok(vec![in alloc; Op::Status(failed, None)]?)
         }
     }
 }
@@ -40,6 +41,16 @@ fn first_source(purpose: Purpose) -> Option<ServerNo>
     match purpose {
         Purpose::Regroup | Purpose::Master => None,
         Purpose::Intermediate(no) | Purpose::Takeover(no) => Some(no),
+    }
+}
+
+// Only after a master a better one is looked for.
+fn is_master(purpose: Purpose) -> bool
+    ensures { result ≡ is_master purpose }
+{
+    match purpose {
+        Purpose::Master => true,
+        Purpose::Regroup | Purpose::Intermediate(_) | Purpose::Takeover(_) => false,
     }
 }
 
@@ -91,6 +102,31 @@ fn first_tasks(alloc: Global, purpose: Purpose, replicas: &[ServerNo]) -> Result
     Ok(tasks)
 }
 
+// The job of a recovery that begins, with room for so many sights and servers in its hands.
+fn first_job(
+    alloc: Global,
+    purpose: Purpose,
+    id: u64,
+    wait: u32,
+    failed: ServerNo,
+    room: usize,
+) -> Result<JobParts, Memory>
+    ensures core { IfOk result (λ c. core_of c ≡ job_with id wait (first_ops purpose failed)) }
+    ensures within { IfOk result (λ c. c.done ≤ length c.ops.items) }
+    ensures seen { IfOk result (λ c. vec_capacity c.seen ≡ room) }
+    ensures hands { IfOk result (λ c. vec_capacity c.hands ≡ room) }
+{
+    Ok(JobParts {
+        id,
+        wait,
+        ops: first_ops(alloc, purpose, failed)?,
+        done: 0,
+        waited: 0,
+        seen: Vec::with_capacity(alloc, room)?,
+        hands: Vec::with_capacity(alloc, room)?,
+    })
+}
+
 impl RecoveryJob {
     /// A recovery begins, as the job of this number, whose operations may wait so often each: of this server, with
     /// these replicas, and telling of those, both in name order.
@@ -106,22 +142,25 @@ impl RecoveryJob {
         ensures { IfOk result (λ r. r
             ≡ begun_recovery purpose id wait failed replicas.items order.items) }
     {
-        let ops = first_ops(alloc, purpose, failed)?;
+        let room = replicas.len() + 8;
         let chosen = first_source(purpose);
         Ok(RecoveryJob {
             purpose,
-            core: Job::make(alloc, id, ops, wait)?,
+            core: first_job(alloc, purpose, id, wait, failed, room)?,
             stage: first_stage(purpose, failed),
             queue: first_tasks(alloc, purpose, &replicas)?,
+            begun: 0,
             failed,
             replicas,
             order,
-            drained: Vec::new(alloc),
+            drained: Vec::with_capacity(alloc, room)?,
             chosen,
             lead: None,
             eligible: Vec::new(alloc),
-            swaps: purpose == Purpose::Master,
-            outcome: Outcome::new(alloc, chosen),
+            swaps: is_master(purpose),
+            promoted: chosen,
+            followers: Vec::with_capacity(alloc, room)?,
+            lost: Vec::with_capacity(alloc, room)?,
         })
     }
 }

@@ -1,43 +1,63 @@
-//! Single changes of a recovery.
+//! Single changes of a recovery, for each of which there is room.
 
-ghost use Rattle.std.specs.Prelude.{◌≡◌, ◌∷◌, ◌++◌, [], OnOk};
+ghost use Rattle.std.specs.Prelude.{◌≡◌, ◌<◌, ◌∷◌, ◌++◌, [], length, map, vec_capacity};
+ghost use Rattle.operations.specs.Turns.{ended, saw_at};
+ghost use Rattle.job_plans.specs.Acts.{CanFollow, job_after};
 ghost use Rattle.recovery_plans.specs.Recoveries.{follows, follows_no_more, loses, without_follower, working};
-ghost use Rattle.recovery_plans.specs.Stages.{with_bridge, with_way};
-ghost use Rattle.recovery_plans.specs.Taking.{idle};
+ghost use Rattle.recovery_plans.specs.Taking.{expelled, idle, marked};
+ghost use Rattle.recovery_turns.specs.RecoveriesBy.{room_for};
 
 use crate::RecoveryJob;
 use commands::Lost;
-use instance_keeper::Bridge;
-use operations::Op;
-use orch_base::{Memory, ServerNo};
-use recovery_parts::{one, sight_of};
-use recovery_plans::{Follower, LostReplica, Stage, Way};
-use std::alloc::Global;
+use job_plans::Act;
+use operations::{Op, Sight};
+use orch_base::ServerNo;
+use recovery_plans::{Follower, LostReplica, Stage, Stopped};
 
 // A replica follows no more.
 fn let_go(followers: &mut Vec<Follower>, no: ServerNo)
-    ensures { followers.new.items ≡ without_follower followers.old.items no }
+    ensures items { followers.new.items ≡ without_follower followers.old.items no }
+    ensures capacity { vec_capacity followers.new ≡ vec_capacity followers.old }
 {
     let number = no.0;
     followers.retain(|x| !(x.no.0 == number));
 }
 
+fn mark(replica: &mut LostReplica, no: ServerNo)
+    ensures { replica.new ≡ marked no replica.old }
+{
+    if replica.no.0 == no.0 {
+        replica.detached = true;
+    }
+}
+
+// This one of the lost is detached.
+#[tactic(auto, using(crate::proofs::Marked::mapped_step, crate::proofs::Marked::mapped_all))]
+fn mark_all(lost: &mut Vec<LostReplica>, no: ServerNo)
+    ensures items { lost.new.items ≡ map (marked no) lost.old.items }
+    ensures capacity { vec_capacity lost.new ≡ vec_capacity lost.old }
+{
+    for replica in lost.iter_mut() {
+        mark(replica, no);
+    }
+}
+
 impl RecoveryJob {
     // A stage begins, with its operations.
-    pub(crate) fn work(&mut self, stage: Stage, ops: Vec<Op>) -> Result<(), Memory>
-        ensures { OnOk result (self.new ≡ working self.old stage ops.items) }
+    pub(crate) fn work(&mut self, stage: Stage, ops: Vec<Op>)
+        ensures { self.new ≡ working self.old stage ops.items }
     {
-        self.core.begin(ops)?;
+        self.core.ops = ops;
+        self.core.done = 0;
+        self.core.waited = 0;
         self.stage = stage;
-        Ok(())
     }
 
-    // A stage of one operation begins.
-    pub(crate) fn work_one(&mut self, alloc: Global, stage: Stage, op: Op) -> Result<(), Memory>
-        ensures { OnOk result (self.new ≡ working self.old stage (op ∷ [])) }
+    // The stage is another one.
+    pub(crate) fn enter(&mut self, stage: Stage)
+        ensures { self.new ≡ record self.old { stage = stage } }
     {
-        let ops = one(alloc, op)?;
-        self.work(stage, ops)
+        self.stage = stage;
     }
 
     pub(crate) fn idle(&mut self)
@@ -46,25 +66,59 @@ impl RecoveryJob {
         self.stage = Stage::Idle;
     }
 
+    // Its job follows what was looked up on it.
+    pub(crate) fn go_on(&mut self, act: Act)
+        requires can { CanFollow self.old.core act }
+        requires seen { length self.old.core.seen < room_for self.old.replicas }
+        requires hands { length self.old.core.hands < room_for self.old.replicas }
+        ensures { self.new ≡ record self.old { core = job_after self.old.core act } }
+    {
+        self.core.follow(act);
+    }
+
+    // Its job ends.
+    pub(crate) fn end_job(&mut self)
+        ensures { self.new ≡ record self.old { core = ended self.old.core } }
+    {
+        self.core.end();
+    }
+
+    // This is the latest that was seen of a server.
+    pub(crate) fn see(&mut self, sight: Sight)
+        requires { length self.old.core.seen < room_for self.old.replicas }
+        ensures { self.new ≡ record self.old
+            { core = saw_at self.old.core sight.no sight.seen } }
+    {
+        self.core.see(sight);
+    }
+
+    // A replica is drained.
+    pub(crate) fn drain(&mut self, stopped: Stopped)
+        requires { length self.old.drained < room_for self.old.replicas }
+        ensures { self.new ≡ record self.old { drained = self.old.drained ++ stopped ∷ [] } }
+    {
+        self.drained.push_reserved(stopped);
+    }
+
     // A replica is left.
-    pub(crate) fn lose(&mut self, no: ServerNo, why: Lost) -> Result<(), Memory>
-        ensures { OnOk result (self.new ≡ loses self.old no why) }
+    pub(crate) fn lose(&mut self, no: ServerNo, why: Lost)
+        requires { length self.old.outcome.lost < room_for self.old.replicas }
+        ensures { self.new ≡ loses self.old no why }
     {
         let replica = LostReplica {
             no,
             why,
             detached: false,
         };
-        self.outcome.lost.push(replica)?;
-        Ok(())
+        self.lost.push_reserved(replica);
     }
 
     // A replica is below a source.
-    pub(crate) fn follow(&mut self, no: ServerNo, source: ServerNo) -> Result<(), Memory>
-        ensures { OnOk result (self.new ≡ follows self.old no source) }
+    pub(crate) fn follow(&mut self, no: ServerNo, source: ServerNo)
+        requires { length self.old.outcome.followers < room_for self.old.replicas }
+        ensures { self.new ≡ follows self.old no source }
     {
-        self.outcome.followers.push(Follower { no, source })?;
-        Ok(())
+        self.followers.push_reserved(Follower { no, source });
     }
 
     // A replica has lost its source.
@@ -73,28 +127,14 @@ impl RecoveryJob {
     {
         match no {
             None => {}
-            Some(no) => let_go(&mut self.outcome.followers, no),
+            Some(no) => let_go(&mut self.followers, no),
         }
     }
 
-    // The latest that was seen of a bridge's server is what was seen when the bridge was taken.
-    pub(crate) fn see_bridge(&mut self, alloc: Global, bridge: Bridge) -> Result<(), Memory>
-        ensures { OnOk result (self.new ≡ record self.old
-            { core = record self.old.core { seen = with_bridge self.old.core.seen bridge } }) }
+    // A lost one is detached.
+    pub(crate) fn mark(&mut self, no: ServerNo)
+        ensures { self.new ≡ expelled self.old no }
     {
-        self.core.see(sight_of(alloc, bridge))?;
-        Ok(())
-    }
-
-    // That by which a way goes was seen.
-    pub(crate) fn see_way(&mut self, alloc: Global, way: Way) -> Result<(), Memory>
-        ensures { OnOk result (self.new ≡ record self.old
-            { core = record self.old.core { seen = with_way self.old.core.seen way } }) }
-    {
-        match way {
-            Way::Down(bridge) | Way::Up(bridge) => self.see_bridge(alloc, bridge)?,
-            Way::Auto { to: _, exec: _ } => {}
-        }
-        Ok(())
+        mark_all(&mut self.lost, no);
     }
 }

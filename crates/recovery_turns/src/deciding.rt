@@ -1,166 +1,226 @@
 //! What is decided at the beginning of a turn.
 
-ghost use Rattle.std.specs.Prelude.{◌≡◌, ◌<◌, All, IfOk, None, OnOk, Some, filter, length, map};
-ghost use Rattle.recovery_plans.specs.Deciding.{choose, chosen_of, closing, expels, hand, hand_over, moving, releases, sort, why_of};
+ghost use Rattle.std.specs.Prelude.{◌≡◌, ◌<◌, ◌∷◌, ◌++◌, [], if◌then◌else◌, All, IfOk, IfSome, None, OnOk, Some, drop, filter, length, map};
+ghost use Rattle.recovery_plans.specs.Deciding.{by_task, choose, chosen_of, closing, expels, hand, hand_over, releases, sort, why_of};
 ghost use Rattle.recovery_plans.specs.declared.task.Task.{Task as ATask};
+ghost use Rattle.recovery_turns.specs.Deciding.{IsBusy, decided_on};
 
 use crate::RecoveryJob;
+use crate::decided::Decided;
 use commands::Lost;
 use operations::Op;
 use orch_base::{Memory, ServerNo};
 use recovery_parts::{
-    Ground, chosen_of, divide, expels, leaders, lose_all, moving, releases, way_below, without,
+    Ground, chosen_of, divide, expels, leaders, lose_all, releases, way_below, without,
 };
-use recovery_plans::{Stage, Stopped, Task, Way};
+use recovery_plans::{Stage, Stopped, Task};
 use std::alloc::Global;
 
-impl RecoveryJob {
+fn push_if(tasks: &mut Vec<Task>, given: bool, task: Task) -> Result<(), Memory>
+    ensures { OnOk result (tasks.new.items
+        ≡ tasks.old.items ++ (if given then task ∷ [] else [])) }
+{
+    if given {
+        tasks.push(task)?;
+    }
+    Ok(())
+}
+
+impl Decided {
     // The chosen one is promoted, and the others go below it or are lost.
-    fn promote(&mut self, alloc: Global, by: &Ground<'_>, chosen: Stopped) -> Result<(), Memory>
+    fn promote(
+        &mut self,
+        alloc: Global,
+        of: &RecoveryJob,
+        by: &Ground<'_>,
+        drained: &[Stopped],
+        chosen: Stopped,
+    ) -> Result<(), Memory>
+        requires idle { self.old.work ≡ None }
         requires chosen { chosen.no.0 < length by.now.book.now.names }
-        requires drained { All (λ s. s.no.0 < length by.now.book.now.names) self.old.drained }
-        ensures { OnOk result (self.new ≡ choose by.now.world.now by.now.book.now by.now.moment
-            self.old (Some chosen)) }
+        requires drained { All (λ s. s.no.0 < length by.now.book.now.names) drained.now }
+        requires same { drained.now ≡ (decided_on of.now self.old).drained }
+        ensures value { OnOk result (decided_on of.now self.new ≡ choose by.now.world.now
+            by.now.book.now by.now.moment (decided_on of.now self.old) (Some chosen)) }
+        ensures idle { self.new.work ≡ None }
     {
-        let others = without(alloc, &self.drained, chosen.no)?;
-        let lost = &mut self.outcome.lost;
-        let mut queue = divide(alloc, by, self.failed, &chosen, &others, lost)?;
-        queue.append(&mut self.queue)?;
-        self.queue = queue;
-        self.eligible = leaders(alloc, by, &self.drained)?;
-        self.drained = Vec::new(alloc);
+        let others = without(alloc, drained, chosen.no)?;
+        let mut queue = divide(alloc, by, of.failed, &chosen, &others, &mut self.lost)?;
+        queue.extend_from_slice(self.tasks(of))?;
+        self.eligible = Some(leaders(alloc, by, drained)?);
+        self.queue = Some(queue);
+        self.begun = 0;
+        self.handed = of.drained.len();
         self.chosen = Some(chosen.no);
-        self.outcome.promoted = Some(chosen.no);
+        self.promoted = Some(chosen.no);
         Ok(())
     }
 
     // None may be promoted, and each drained one is lost.
-    fn leave(&mut self, alloc: Global, by: &Ground<'_>) -> Result<(), Memory>
-        ensures { OnOk result (self.new ≡ choose by.now.world.now by.now.book.now by.now.moment
-            self.old None) }
+    fn leave(
+        &mut self,
+        alloc: Global,
+        of: &RecoveryJob,
+        by: &Ground<'_>,
+        drained: &[Stopped],
+    ) -> Result<(), Memory>
+        requires idle { self.old.work ≡ None }
+        requires same { drained.now ≡ (decided_on of.now self.old).drained }
+        ensures value { OnOk result (decided_on of.now self.new ≡ choose by.now.world.now
+            by.now.book.now by.now.moment (decided_on of.now self.old) None) }
+        ensures idle { self.new.work ≡ None }
     {
-        lose_all(by.world, &self.drained, &mut self.outcome.lost)?;
-        self.outcome.promoted = None;
-        self.drained = Vec::new(alloc);
-        self.queue = Vec::new(alloc);
+        lose_all(by.world, drained, &mut self.lost)?;
+        self.queue = Some(Vec::new(alloc));
+        self.begun = 0;
+        self.handed = of.drained.len();
         self.chosen = None;
+        self.promoted = None;
         Ok(())
     }
 
     // Which of the drained ones is promoted.
-    pub(crate) fn choose(&mut self, alloc: Global, by: &Ground<'_>) -> Result<(), Memory>
-        requires { All (λ s. s.no.0 < length by.now.book.now.names) self.old.drained }
-        ensures { OnOk result (self.new ≡ choose by.now.world.now by.now.book.now by.now.moment
-            self.old (chosen_of by.now.world.now by.now.book.now by.now.moment self.old.failed
-            self.old.drained)) }
+    pub(crate) fn choose(
+        &mut self,
+        alloc: Global,
+        of: &RecoveryJob,
+        by: &Ground<'_>,
+    ) -> Result<(), Memory>
+        requires idle { self.old.work ≡ None }
+        requires drained { All (λ s. s.no.0 < length by.now.book.now.names)
+            (decided_on of.now self.old).drained }
+        ensures value { OnOk result (decided_on of.now self.new ≡ choose by.now.world.now
+            by.now.book.now by.now.moment (decided_on of.now self.old) (chosen_of
+            by.now.world.now by.now.book.now by.now.moment of.now.failed
+            (decided_on of.now self.old).drained)) }
+        ensures idle { self.new.work ≡ None }
     {
-        match chosen_of(alloc, by, self.failed, &self.drained)? {
-            None => self.leave(alloc, by),
-            Some(chosen) => self.promote(alloc, by, chosen),
+        let drained = self.drained(of);
+        match chosen_of(alloc, by, of.failed, drained)? {
+            None => self.leave(alloc, of, by, drained),
+            Some(chosen) => self.promote(alloc, of, by, drained, chosen),
         }
     }
 
-    // A replica goes its way.
-    pub(crate) fn go(&mut self, alloc: Global, no: ServerNo, way: Way) -> Result<(), Memory>
-        ensures { OnOk result (self.new ≡ moving self.old no way) }
-    {
-        self.see_way(alloc, way)?;
-        self.work(Stage::Move(no, way), moving(alloc, no, way)?)
-    }
-
-    // The next of these drained replicas that has a way below the successor goes there; those before it are lost.
+    // The next of the drained replicas that has a way below the successor goes there; those before it are lost.
     fn hand(
         &mut self,
         alloc: Global,
+        of: &RecoveryJob,
         by: &Ground<'_>,
         successor: ServerNo,
-        list: &[Stopped],
     ) -> Result<(), Memory>
-        requires { self.old.failed.0 < length by.now.book.now.names }
-        ensures { OnOk result (self.new ≡ hand by.now.world.now by.now.book.now successor
-            self.old list.now) }
+        requires idle { self.old.work ≡ None }
+        requires known { of.now.failed.0 < length by.now.book.now.names }
+        requires task { (decided_on of.now self.old).queue
+            ≡ Task.Handing ∷ drop 1 (decided_on of.now self.old).queue }
+        ensures value { OnOk result (decided_on of.now self.new ≡ hand by.now.world.now
+            by.now.book.now successor (record (decided_on of.now self.old)
+            { queue = drop 1 (decided_on of.now self.old).queue })
+            (decided_on of.now self.old).drained) }
+        ensures busy { OnOk result (IsBusy self.new.work) }
     {
-        match list {
-            [] => {
-                self.drained = Vec::new(alloc);
-                Ok(())
-            }
-            [first, rest @ ..] => {
-                let Some(way) = way_below(by, &self.core, self.failed, successor, first) else {
-                    self.lose(first.no, Lost::Behind(first.exec))?;
-                    return self.hand(alloc, by, successor, rest);
-                };
-                self.queue.insert(0, Task::Handing)?;
-                self.drained = rest.to_vec(alloc)?;
-                self.go(alloc, first.no, way)
+        let Some(first) = self.drained(of).first().copied() else {
+            return self.pop(of);
+        };
+        self.handed = self.handed.checked_add(1).ok_or(Memory)?;
+        let way = way_below(by, &self.job(of), of.failed, successor, &first);
+        match way {
+            Some(way) => self.go(alloc, of, first.no, way),
+            None => {
+                self.lose(of, first.no, Lost::Behind(first.exec))?;
+                self.hand(alloc, of, by, successor)
             }
         }
     }
 
-    pub(crate) fn hand_over(&mut self, alloc: Global, by: &Ground<'_>) -> Result<(), Memory>
-        requires { self.old.failed.0 < length by.now.book.now.names }
-        ensures { OnOk result (self.new ≡ hand_over by.now.world.now by.now.book.now self.old
-            self.old.chosen) }
+    // The drained ones go below the successor, one after another.
+    pub(crate) fn hand_over(
+        &mut self,
+        alloc: Global,
+        of: &RecoveryJob,
+        by: &Ground<'_>,
+    ) -> Result<(), Memory>
+        requires idle { self.old.work ≡ None }
+        requires known { of.now.failed.0 < length by.now.book.now.names }
+        requires task { (decided_on of.now self.old).queue
+            ≡ Task.Handing ∷ drop 1 (decided_on of.now self.old).queue }
+        ensures value { OnOk result (decided_on of.now self.new ≡ by_task by.now.world.now
+            by.now.book.now by.now.moment (record (decided_on of.now self.old)
+            { queue = drop 1 (decided_on of.now self.old).queue }) Task.Handing) }
+        ensures busy { OnOk result (IsBusy self.new.work) }
     {
-        let Some(successor) = self.chosen else {
-            return Ok(());
-        };
-        let list = self.drained.to_vec(alloc)?;
-        self.hand(alloc, by, successor, &list)
+        match self.chosen {
+            None => self.pop(of),
+            Some(successor) => self.hand(alloc, of, by, successor),
+        }
     }
 
     // Why a replica is lost.
-    fn why_of(&self, no: ServerNo) -> Option<Lost>
-        ensures { result ≡ why_of self.now.outcome.lost no }
+    fn why_of(&self, of: &RecoveryJob, no: ServerNo) -> Option<Lost>
+        ensures { result ≡ why_of (decided_on of.now self.now).outcome.lost no }
     {
-        let replica = self.outcome.lost.iter().find(|l| l.no.0 == no.0)?;
+        let replica = self.lost_one(of, no)?;
         Some(replica.why)
     }
 
-    fn expelling(&self, alloc: Global) -> Result<Vec<Task>, Memory>
-        ensures { IfOk result (λ v. v.items ≡ map ATask.Expelling (filter
-            (λ n. expels self.now.purpose (why_of self.now.outcome.lost n)) self.now.replicas)) }
+    fn expelling(&self, alloc: Global, of: &RecoveryJob) -> Result<Vec<Task>, Memory>
+        ensures { IfOk result (λ v. v.items ≡ map ATask.Expelling (filter (λ n. expels
+            of.now.purpose (why_of (decided_on of.now self.now).outcome.lost n))
+            of.now.replicas)) }
     {
         let mut tasks = Vec::new(alloc);
-        for no in &self.replicas {
-            if expels(self.purpose, self.why_of(*no)) {
-                tasks.push(Task::Expelling(*no))?;
-            }
+        for no in &of.replicas {
+            let given = expels(of.purpose, self.why_of(of, *no));
+            push_if(&mut tasks, given, Task::Expelling(*no))?;
         }
         Ok(tasks)
     }
 
-    fn releasing(&self, alloc: Global) -> Result<Vec<Task>, Memory>
-        ensures { IfOk result (λ v. v.items ≡ map ATask.Releasing (filter
-            (λ n. releases self.now.purpose (why_of self.now.outcome.lost n)) self.now.replicas)) }
+    fn releasing(&self, alloc: Global, of: &RecoveryJob) -> Result<Vec<Task>, Memory>
+        ensures { IfOk result (λ v. v.items ≡ map ATask.Releasing (filter (λ n. releases
+            of.now.purpose (why_of (decided_on of.now self.now).outcome.lost n))
+            of.now.replicas)) }
     {
         let mut tasks = Vec::new(alloc);
-        for no in &self.replicas {
-            if releases(self.purpose, self.why_of(*no)) {
-                tasks.push(Task::Releasing(*no))?;
-            }
+        for no in &of.replicas {
+            let given = releases(of.purpose, self.why_of(of, *no));
+            push_if(&mut tasks, given, Task::Releasing(*no))?;
         }
         Ok(tasks)
     }
 
     // What is done with the lost.
-    pub(crate) fn sort(&mut self, alloc: Global) -> Result<(), Memory>
-        ensures { OnOk result (self.new ≡ sort self.old) }
+    pub(crate) fn sort(&mut self, alloc: Global, of: &RecoveryJob) -> Result<(), Memory>
+        requires idle { self.old.work ≡ None }
+        ensures value { OnOk result (decided_on of.now self.new
+            ≡ sort (decided_on of.now self.old)) }
+        ensures idle { self.new.work ≡ None }
     {
-        let mut queue = self.expelling(alloc)?;
-        let mut released = self.releasing(alloc)?;
+        let mut queue = self.expelling(alloc, of)?;
+        let mut released = self.releasing(alloc, of)?;
         queue.append(&mut released)?;
-        queue.append(&mut self.queue)?;
-        self.queue = queue;
+        queue.extend_from_slice(self.tasks(of))?;
+        self.queue = Some(queue);
+        self.begun = 0;
         Ok(())
     }
 
-    // Nothing more is changed: these operations, and the lines.
-    pub(crate) fn close(&mut self, alloc: Global, mut ops: Vec<Op>) -> Result<(), Memory>
-        ensures { OnOk result (self.new ≡ closing self.old ops.items) }
+    // Nothing more is changed: this operation, if there is one, and the lines.
+    pub(crate) fn close(
+        &mut self,
+        alloc: Global,
+        of: &RecoveryJob,
+        mut ops: Vec<Op>,
+    ) -> Result<(), Memory>
+        requires idle { self.old.work ≡ None }
+        ensures value { OnOk result (decided_on of.now self.new
+            ≡ closing (decided_on of.now self.old) ops.items) }
+        ensures busy { OnOk result (IsBusy self.new.work) }
     {
-        let lines = self.told(alloc)?;
+        let lines = self.told(alloc, of)?;
         ops.push(Op::Finish(lines.copy(alloc)?))?;
-        self.work(Stage::Close(lines), ops)
+        self.begin(of, Stage::Close(lines), ops);
+        Ok(())
     }
 }

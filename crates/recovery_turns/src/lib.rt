@@ -3,10 +3,11 @@
 
 mod beginning;
 mod changes;
+mod decided;
 mod deciding;
+mod job_parts;
 mod look;
 mod next;
-mod outcome;
 mod progress;
 mod recovery;
 mod telling;
@@ -14,7 +15,6 @@ mod threads;
 mod turn;
 
 pub use look::RecoveryLook;
-pub use outcome::Outcome;
 pub use recovery::RecoveryJob;
 /// Want of memory.
 pub use orch_base::Memory;

@@ -1,20 +1,34 @@
-//! A stage that is done.
+//! A stage that is done, or whose operation failed.
 
-ghost use Rattle.std.specs.Prelude.{◌≡◌, IfOk, OnOk, map};
+ghost use Rattle.std.specs.Prelude.{◌≡◌, ◌≤◌, vec_capacity};
+ghost use Rattle.orch_base.specs.declared.server.ServerNo.{ServerNo as Number};
 ghost use Rattle.operations.specs.Jobs.{seen_of};
-ghost use Rattle.recovery_plans.specs.Taking.{completed, frees, gathered, halted, idle, is_below, last_looks, lead_under, looked, marked, swapped};
-ghost use Rattle.recovery_plans.specs.Deciding.{closing};
+ghost use Rattle.recovery_plans.specs.Deciding.{closing, moving};
+ghost use Rattle.recovery_plans.specs.Stages.{moved};
+ghost use Rattle.recovery_plans.specs.Taking.{completed, frees, gathered, halted, idle, is_below, last_looks, lead_under, looked, swapped};
 ghost use Rattle.recovery_plans.specs.Recoveries.{follows};
-ghost use Rattle.recovery_turns.specs.Steps.{progressed_by, stepped_by};
+ghost use Rattle.recovery_parts.specs.Fates.{fate_told};
+ghost use Rattle.recovery_turns.specs.Deciding.{seen_by};
+ghost use Rattle.recovery_turns.specs.RecoveriesBy.{IsRoomy};
+ghost use Rattle.recovery_turns.specs.Steps.{IsTold, borne, progressed_by, stepped_by};
 
 use crate::RecoveryJob;
-use commands::Lost;
+use commands::{Lines, Lost};
 use instance_keeper::Bridge;
-use operations::{Op, Position};
-use orch_base::{Memory, ServerNo, SourceState};
-use recovery_parts::{leaver, moved, one, shut, spot_seen, trail, two};
-use recovery_plans::{LostReplica, Purpose, Stage, Stopped, Way};
+use operations::{Crossing, Op, Position};
+use orch_base::{ServerNo, SourceState};
+use recovery_parts::{
+    Fate, leaver, moved, moving, one, shut, sight_of, spot_seen, three, trail, two,
+};
+use recovery_plans::{Purpose, Stage, Stopped, Way};
 use std::alloc::Global;
+
+/// The lines of a recovery that is done, twice: for its stage and its last operation.
+#[derive(Drop)]
+pub(crate) struct LastLines {
+    pub(crate) stage: Lines,
+    pub(crate) told: Lines,
+}
 
 // Whether a server was seen with this source.
 fn is_below(seen: &Position, failed: ServerNo) -> bool
@@ -34,182 +48,180 @@ fn lead_under(master: ServerNo, bridge: Option<Bridge>) -> Option<Bridge>
     (bridge.source.0 == master.0).then_some(bridge)
 }
 
-fn mark(no: ServerNo, replica: LostReplica) -> LostReplica
-    ensures { result ≡ marked no replica }
-{
-    if replica.no.0 == no.0 {
-        LostReplica {
-            detached: true,
-            ..replica
-        }
-    } else {
-        replica
-    }
-}
-
-// The lost ones, of whom this one is detached.
-fn marked(alloc: Global, lost: &[LostReplica], no: ServerNo) -> Result<Vec<LostReplica>, Memory>
-    ensures { IfOk result (λ v. v.items ≡ map (marked no) lost.now) }
-{
-    let mut all = Vec::with_capacity(alloc, lost.len())?;
-    for replica in lost {
-        all.push(mark(no, *replica))?;
-    }
-    Ok(all)
-}
-
 impl RecoveryJob {
     // A replica that was stopped is drained where its source is the failed server, and is lost else.
-    fn judge(&mut self, no: ServerNo) -> Result<(), Memory>
-        ensures { OnOk result (self.new ≡ completed self.old (Stage.Judged no)) }
+    fn judge(&mut self, no: ServerNo)
+        requires { IsRoomy 1 self.old }
+        ensures { self.new ≡ completed self.old (Stage.Judged no) }
     {
-        let Some(seen) = self.core.sight(no) else {
-            self.idle();
-            return self.lose(no, Lost::Unreachable);
+        let Some(seen) = self.sight(no) else {
+            self.lose(no, Lost::Unreachable);
+            return self.idle();
         };
-        let (exec, own_end) = (seen.exec, seen.own_end);
+        let (exec, own_end, source) = (seen.exec, seen.own_end, seen.source);
         if is_below(seen, self.failed) {
-            self.drained.push(Stopped { no, exec, own_end })?;
-            self.idle();
-            return Ok(());
+            self.drain(Stopped { no, exec, own_end });
+        } else {
+            self.lose(no, Lost::Moved(spot_seen(source, exec)));
         }
-        let spot = spot_seen(seen.source, exec);
         self.idle();
-        self.lose(no, Lost::Moved(spot))
     }
 
     // A replica is below its source.
-    fn join(&mut self, no: ServerNo, source: ServerNo) -> Result<(), Memory>
-        ensures { OnOk result (self.new ≡ idle (follows self.old no source)) }
+    fn join(&mut self, no: ServerNo, source: ServerNo)
+        requires { IsRoomy 1 self.old }
+        ensures { self.new ≡ idle (follows self.old no source) }
     {
-        self.follow(no, source)?;
+        self.follow(no, source);
         self.idle();
-        Ok(())
     }
 
     // A lost one is detached.
-    fn expel(&mut self, alloc: Global, no: ServerNo) -> Result<(), Memory>
-        ensures { OnOk result (self.new ≡ completed self.old (Stage.Expelled no)) }
+    fn expel(&mut self, no: ServerNo)
+        ensures { self.new ≡ completed self.old (Stage.Expelled no) }
     {
-        self.outcome.lost = marked(alloc, &self.outcome.lost, no)?;
+        self.mark(no);
         self.idle();
-        Ok(())
     }
 
     // The better one takes the promoted one's place.
-    fn swap_places(&mut self, p: ServerNo, q: ServerNo) -> Result<(), Memory>
-        ensures { OnOk result (self.new ≡ swapped self.old p q) }
+    fn swap_places(&mut self, p: ServerNo, q: ServerNo)
+        requires { IsRoomy 1 self.old }
+        ensures { self.new ≡ swapped self.old p q }
     {
-        self.follow(p, q)?;
-        self.outcome.promoted = Some(q);
-        Ok(())
+        self.follow(p, q);
+        self.promoted = Some(q);
     }
 
     // Where the designated replica stopped.
     fn gather(&mut self, d: ServerNo)
         ensures { self.new ≡ idle (gathered self.old d) }
     {
-        self.lead = lead_under(self.failed, self.core.bridge(d));
+        self.lead = lead_under(self.failed, self.job().bridge(d));
         self.idle();
+    }
+
+    // What was seen of a bridge's server is what was seen when the bridge was taken.
+    fn see_bridge(&mut self, alloc: Global, bridge: Bridge)
+        requires { IsRoomy 1 self.old }
+        ensures { self.new ≡ seen_by self.old bridge }
+    {
+        self.see(sight_of(alloc, bridge));
+    }
+
+    // A replica goes below the server of a bridge.
+    fn go_down(&mut self, alloc: Global, no: ServerNo, bridge: Bridge, ops: Vec<Op>)
+        requires room { IsRoomy 1 self.old }
+        requires ops { 8 ≤ vec_capacity ops }
+        ensures { self.new ≡ moving self.old no (Way.Down bridge) }
+    {
+        self.see_bridge(alloc, bridge);
+        let way = Way::Down(bridge);
+        self.work(Stage::Move(no, way), moving(ops, no, way));
     }
 
     // A lost one is started at once.
-    pub(crate) fn free(&mut self, alloc: Global, no: ServerNo, why: Lost) -> Result<(), Memory>
-        ensures { OnOk result (self.new ≡ frees self.old no why) }
+    fn free(&mut self, no: ServerNo, why: Lost, ops: Vec<Op>)
+        requires room { IsRoomy 1 self.old }
+        requires ops { 8 ≤ vec_capacity ops }
+        ensures { self.new ≡ frees self.old no why }
     {
-        self.lose(no, why)?;
-        self.work_one(alloc, Stage::Release(no), Op::Start(no))
+        self.lose(no, why);
+        self.work(Stage::Release(no), one(ops, Op::Start(no)));
     }
 
     // A replica of the master goes to where the designated one stopped; one that stands elsewhere is lost.
-    fn pass_look(&mut self, alloc: Global, no: ServerNo, lead: Bridge) -> Result<(), Memory>
-        ensures { OnOk result (self.new
-            ≡ looked self.old no lead (seen_of self.old.core.seen no.0)) }
+    fn pass_look(&mut self, alloc: Global, no: ServerNo, lead: Bridge, ops: Vec<Op>)
+        requires room { IsRoomy 1 self.old }
+        requires ops { 8 ≤ vec_capacity ops }
+        ensures { self.new ≡ looked self.old no lead (seen_of self.old.core.seen no.0) }
     {
-        let lost = match self.core.sight(no) {
-            None => Lost::Unreachable,
-            Some(seen) => {
-                if is_below(seen, self.failed) {
-                    self.see_bridge(alloc, lead)?;
-                    let ops = trail(alloc, no, lead.no)?;
-                    return self.work(Stage::Trail(no, lead), ops);
-                }
-                Lost::Moved(spot_seen(seen.source, seen.exec))
-            }
+        let Some(seen) = self.sight(no) else {
+            self.lose(no, Lost::Unreachable);
+            return self.idle();
         };
-        self.lose(no, lost)?;
-        self.idle();
-        Ok(())
-    }
-
-    // A replica that stands with the designated one goes below it; another is behind.
-    fn halt(&mut self, alloc: Global, no: ServerNo, lead: Bridge) -> Result<(), Memory>
-        ensures { OnOk result (self.new
-            ≡ halted self.old no lead (seen_of self.old.core.seen no.0)) }
-    {
-        let lost = match self.core.sight(no) {
-            None => Lost::Unreachable,
-            Some(seen) => {
-                if seen.exec == lead.exec {
-                    return self.go(alloc, no, Way::Down(lead));
-                }
-                Lost::Behind(seen.exec)
-            }
-        };
-        self.free(alloc, no, lost)
-    }
-
-    // The last readings, before the lines.
-    fn last_looks(&self, alloc: Global, no: ServerNo) -> Result<Vec<Op>, Memory>
-        ensures { IfOk result (λ v. v.items ≡ last_looks self.now self.now.purpose no) }
-    {
-        match self.purpose {
-            Purpose::Regroup | Purpose::Master | Purpose::Intermediate(_) => {
-                one(alloc, Op::Status(no, None))
-            }
-            Purpose::Takeover(_) => {
-                two(alloc, Op::Status(self.failed, None), Op::Status(no, None))
-            }
+        let spot = spot_seen(seen.source, seen.exec);
+        if is_below(seen, self.failed) {
+            self.see_bridge(alloc, lead);
+            self.work(Stage::Trail(no, lead), trail(ops, no, lead.no));
+        } else {
+            self.lose(no, Lost::Moved(spot));
+            self.idle();
         }
     }
 
-    // The new source takes writes: nothing more is changed.
-    fn pass_open(&mut self, alloc: Global, no: ServerNo) -> Result<(), Memory>
-        ensures { OnOk result (self.new ≡ closing self.old
-            (last_looks self.old self.old.purpose no)) }
+    // A replica that stands with the designated one goes below it; another is behind.
+    fn halt(&mut self, alloc: Global, no: ServerNo, lead: Bridge, ops: Vec<Op>)
+        requires room { IsRoomy 1 self.old }
+        requires ops { 8 ≤ vec_capacity ops }
+        ensures { self.new ≡ halted self.old no lead (seen_of self.old.core.seen no.0) }
     {
-        let ops = self.last_looks(alloc, no)?;
-        self.close(alloc, ops)
+        let Some(seen) = self.sight(no) else {
+            return self.free(no, Lost::Unreachable, ops);
+        };
+        let exec = seen.exec;
+        if exec == lead.exec {
+            self.go_down(alloc, no, lead, ops);
+        } else {
+            self.free(no, Lost::Behind(exec), ops);
+        }
     }
 
-    // The master is made to refuse writes.
-    fn pass_meet(&mut self, alloc: Global, m: ServerNo, d: ServerNo) -> Result<(), Memory>
-        ensures { OnOk result (self.new ≡ completed self.old (Stage.Meet m d)) }
+    // The new source takes writes: nothing more is changed, and the lines are told after the last readings.
+    fn pass_open(&mut self, no: ServerNo, ops: Vec<Op>, lines: Option<LastLines>)
+        requires ops { 8 ≤ vec_capacity ops }
+        requires told { IsTold self.old lines }
+        ensures { self.new ≡ closing self.old (last_looks self.old self.old.purpose no) }
     {
-        let ops = shut(alloc, m, d)?;
-        self.work(Stage::Shut(m, d), ops)
+        let Some(LastLines { stage, told }) = lines else {
+            unreachable!();
+        };
+        let last = Op::Finish(told);
+        let ops = match self.purpose {
+            Purpose::Regroup | Purpose::Master | Purpose::Intermediate(_) => {
+                two(ops, Op::Status(no, None), last)
+            }
+            Purpose::Takeover(_) => {
+                three(
+                    ops,
+                    Op::Status(self.failed, None),
+                    Op::Status(no, None),
+                    last,
+                )
+            }
+        };
+        self.work(Stage::Close(stage), ops);
     }
 
     // The better one, which has the promoted one's place, takes writes.
-    fn pass_swap(&mut self, alloc: Global, p: ServerNo, q: ServerNo) -> Result<(), Memory>
-        ensures { OnOk result (self.new ≡ completed self.old (Stage.Swapped p q)) }
+    fn pass_swap(&mut self, p: ServerNo, q: ServerNo, ops: Vec<Op>)
+        requires room { IsRoomy 1 self.old }
+        requires ops { 8 ≤ vec_capacity ops }
+        ensures { self.new ≡ completed self.old (Stage.Swapped p q) }
     {
-        self.swap_places(p, q)?;
-        let ops = two(alloc, Op::Start(p), Op::ReadOnly(q, false))?;
-        self.work(Stage::Open(q), ops)
+        self.swap_places(p, q);
+        self.work(
+            Stage::Open(q),
+            two(ops, Op::Start(p), Op::ReadOnly(q, false)),
+        );
     }
 
     // The designated replica, below which its master is, takes writes.
-    fn pass_switch(&mut self, alloc: Global, m: ServerNo, d: ServerNo) -> Result<(), Memory>
-        ensures { OnOk result (self.new ≡ completed self.old (Stage.Switched m d)) }
+    fn pass_switch(&mut self, m: ServerNo, d: ServerNo, ops: Vec<Op>)
+        requires room { IsRoomy 1 self.old }
+        requires ops { 8 ≤ vec_capacity ops }
+        ensures { self.new ≡ completed self.old (Stage.Switched m d) }
     {
-        self.follow(m, d)?;
-        self.work_one(alloc, Stage::Open(d), Op::ReadOnly(d, false))
+        self.follow(m, d);
+        self.work(Stage::Open(d), one(ops, Op::ReadOnly(d, false)));
     }
 
     // What comes after the last operation of a stage.
-    fn complete(&mut self, alloc: Global) -> Result<(), Memory>
-        ensures { OnOk result (self.new ≡ completed self.old self.old.stage) }
+    fn complete(&mut self, alloc: Global, ops: Vec<Op>, lines: Option<LastLines>)
+        requires room { IsRoomy 1 self.old }
+        requires ops { 8 ≤ vec_capacity ops }
+        requires told { (n : Number) → self.old.stage ≡ Stage.Opened n → IsTold self.old lines }
+        ensures { self.new ≡ completed self.old self.old.stage }
     {
         match &self.stage {
             Stage::Judged(n) => {
@@ -222,36 +234,35 @@ impl RecoveryJob {
             }
             Stage::Expelled(n) => {
                 let n = *n;
-                self.expel(alloc, n)
+                self.expel(n)
             }
             Stage::Gather(_, d) => {
                 let d = *d;
-                self.gather(d);
-                Ok(())
+                self.gather(d)
             }
             Stage::Swapped(p, q) => {
                 let (p, q) = (*p, *q);
-                self.pass_swap(alloc, p, q)
+                self.pass_swap(p, q, ops)
             }
             Stage::Opened(n) => {
                 let n = *n;
-                self.pass_open(alloc, n)
+                self.pass_open(n, ops, lines)
             }
             Stage::Meet(m, d) => {
                 let (m, d) = (*m, *d);
-                self.pass_meet(alloc, m, d)
+                self.work(Stage::Shut(m, d), shut(ops, m, d))
             }
             Stage::Looked(n, lead) => {
                 let (n, lead) = (*n, *lead);
-                self.pass_look(alloc, n, lead)
+                self.pass_look(alloc, n, lead, ops)
             }
             Stage::Halted(n, lead) => {
                 let (n, lead) = (*n, *lead);
-                self.halt(alloc, n, lead)
+                self.halt(alloc, n, lead, ops)
             }
             Stage::Switched(m, d) => {
                 let (m, d) = (*m, *d);
-                self.pass_switch(alloc, m, d)
+                self.pass_switch(m, d, ops)
             }
             Stage::Idle
             | Stage::Check
@@ -270,10 +281,7 @@ impl RecoveryJob {
             | Stage::Trail(_, _)
             | Stage::Yield(_, _)
             | Stage::Switch(_, _)
-            | Stage::Close(_) => {
-                self.idle();
-                Ok(())
-            }
+            | Stage::Close(_) => self.idle(),
         }
     }
 
@@ -284,7 +292,7 @@ impl RecoveryJob {
         if ending {
             let stage = moved(&self.stage);
             self.follow_no_more(leaver(&stage));
-            self.stage = stage;
+            self.enter(stage);
         }
     }
 
@@ -294,17 +302,43 @@ impl RecoveryJob {
         alloc: Global,
         ending: bool,
         waiting: bool,
-    ) -> Result<(), Memory>
-        ensures { OnOk result (self.new ≡ progressed_by self.old ending waiting) }
+        ops: Vec<Op>,
+        lines: Option<LastLines>,
+    )
+        requires room { IsRoomy 1 self.old }
+        requires ops { 8 ≤ vec_capacity ops }
+        requires told { (n : Number) → moved self.old.stage ≡ Stage.Opened n
+            → IsTold self.old lines }
+        ensures { self.new ≡ progressed_by self.old ending waiting }
     {
         if waiting {
-            return Ok(());
+            return;
         }
         self.step(ending);
-        if self.core.is_ended() {
-            self.complete(alloc)
-        } else {
-            Ok(())
+        if self.core.done == self.core.ops.len() {
+            self.complete(alloc, ops, lines);
+        }
+    }
+
+    // What becomes of it where an operation fails and it goes on.
+    pub(crate) fn bear(&mut self, alloc: Global, fate: Fate, ops: Vec<Op>)
+        requires room { IsRoomy 1 self.old }
+        requires ops { 8 ≤ vec_capacity ops }
+        ensures { self.new ≡ borne self.old (fate_told fate) }
+    {
+        match fate {
+            Fate::Fails => {}
+            Fate::Drops => self.work(Stage::Idle, Vec::new(alloc)),
+            Fate::Loses(no, why) => {
+                self.lose(no, why);
+                self.work(Stage::Idle, Vec::new(alloc));
+            }
+            Fate::Frees(no, why) => self.free(no, why, ops),
+            Fate::Releases(q) => self.work(Stage::Release(q), one(ops, Op::Start(q))),
+            Fate::Returns(p, q) => {
+                let back = Op::Cross(Crossing::Back, q, p);
+                self.work(Stage::Return(p, q), two(ops, back, Op::Start(q)));
+            }
         }
     }
 }

@@ -1,14 +1,15 @@
 //! A recovery as a job.
 
-ghost use Rattle.std.specs.Prelude.{◌≡◌, IfOk, OnOk};
+ghost use Rattle.std.specs.Prelude.{◌≡◌};
+ghost use Rattle.std.specs.Option.{option_copied};
+ghost use Rattle.operations.specs.Jobs.{seen_of};
 
-use crate::Outcome;
+use crate::job_parts::JobParts;
 use instance_keeper::Bridge;
-use job_plans::Job;
-use orch_base::{Memory, ServerNo};
-use recovery_parts::copy_stage;
-use recovery_plans::{Purpose, Stage, Stopped, Task};
-use std::alloc::Global;
+use job_plans::JobView;
+use operations::Position;
+use orch_base::ServerNo;
+use recovery_plans::{Follower, LostReplica, Purpose, Stage, Stopped, Task};
 use std::marker::Model;
 
 /// What is done with the replicas of a server that failed, or that gives up its place.
@@ -16,10 +17,11 @@ use std::marker::Model;
 pub struct RecoveryJob {
     pub(crate) purpose: Purpose,
     // Its operations are those that are left of the stage.
-    pub(crate) core: Job,
+    pub(crate) core: JobParts,
     pub(crate) stage: Stage,
-    // What is still to do, in order.
+    // What is to do, in order, and how many of these tasks are begun.
     pub(crate) queue: Vec<Task>,
+    pub(crate) begun: usize,
     // The server that failed, or gives up its place.
     pub(crate) failed: ServerNo,
     // Its replicas, and those of whom the lines tell, both in name order.
@@ -35,7 +37,11 @@ pub struct RecoveryJob {
     pub(crate) eligible: Vec<Stopped>,
     // Whether a better one is still to be looked for.
     pub(crate) swaps: bool,
-    pub(crate) outcome: Outcome,
+    // What it comes to so far: which server is promoted, who follows in the order in which they came there, and who is
+    // lost.
+    pub(crate) promoted: Option<ServerNo>,
+    pub(crate) followers: Vec<Follower>,
+    pub(crate) lost: Vec<LostReplica>,
 }
 
 impl Model for RecoveryJob {
@@ -43,64 +49,14 @@ impl Model for RecoveryJob {
 
     ghost Value = { Recovery };
 
-    ghost use Rattle.recovery_turns.specs.RecoveriesBy.{recovery_of};
+    ghost use Rattle.recovery_turns.specs.RecoveriesBy.{HasRoom, recovery_of};
 
     ghost view = { recovery_of };
+
+    ghost invariant = { HasRoom };
 }
 
 impl RecoveryJob {
-    // All that another holds in lists.
-    fn copy_lists(&mut self, alloc: Global, other: &RecoveryJob) -> Result<(), Memory>
-        ensures { OnOk result (self.new ≡ record self.old {
-          stage = other.now.stage;
-          queue = other.now.queue;
-          replicas = other.now.replicas;
-          order = other.now.order;
-          drained = other.now.drained;
-          eligible = other.now.eligible;
-          outcome = other.now.outcome;
-        }) }
-    {
-        self.stage = copy_stage(alloc, &other.stage)?;
-        self.queue = other.queue.to_vec(alloc)?;
-        self.replicas = other.replicas.to_vec(alloc)?;
-        self.order = other.order.to_vec(alloc)?;
-        self.drained = other.drained.to_vec(alloc)?;
-        self.eligible = other.eligible.to_vec(alloc)?;
-        self.outcome = other.outcome.copy(alloc)?;
-        Ok(())
-    }
-
-    /// The same recovery once more.
-    pub fn copy(&self, alloc: Global) -> Result<RecoveryJob, Memory>
-        ensures { IfOk result (λ r. r ≡ self.now) }
-    {
-        let mut copy = RecoveryJob {
-            purpose: self.purpose,
-            core: self.core.copy(alloc)?,
-            stage: Stage::Idle,
-            queue: Vec::new(alloc),
-            failed: self.failed,
-            replicas: Vec::new(alloc),
-            order: Vec::new(alloc),
-            drained: Vec::new(alloc),
-            chosen: self.chosen,
-            lead: self.lead,
-            eligible: Vec::new(alloc),
-            swaps: self.swaps,
-            outcome: Outcome::new(alloc, None),
-        };
-        copy.copy_lists(alloc, self)?;
-        Ok(copy)
-    }
-
-    /// Its job, whose operations are those that are left of the present stage.
-    pub fn job(&self) -> &Job
-        ensures { result.now ≡ self.now.core }
-    {
-        &self.core
-    }
-
     /// What it is for.
     pub fn purpose(&self) -> Purpose
         ensures { result ≡ self.now.purpose }
@@ -108,24 +64,39 @@ impl RecoveryJob {
         self.purpose
     }
 
-    /// The server that failed, or gives up its place.
-    pub fn failed(&self) -> ServerNo
-        ensures { result ≡ self.now.failed }
+    /// The new source: none where none is known.
+    pub fn promoted(&self) -> Option<ServerNo>
+        ensures { result ≡ self.now.outcome.promoted }
     {
-        self.failed
+        self.promoted
     }
 
     /// The number of its job.
     pub fn id(&self) -> u64
         ensures { result ≡ self.now.core.id }
     {
-        self.core.id()
+        self.core.id
     }
 
-    /// What it comes to so far.
-    pub fn outcome(&self) -> &Outcome
-        ensures { result.now ≡ self.now.outcome }
+    // Its job as its turn is looked up.
+    pub(crate) fn job(&self) -> JobView<'_>
+        ensures { result ≡ self.now.core }
     {
-        &self.outcome
+        JobView {
+            id: self.core.id,
+            wait: self.core.wait,
+            waited: self.core.waited,
+            ops: &self.core.ops[self.core.done..],
+            seen: &self.core.seen,
+            more: &[],
+            hands: &self.core.hands,
+        }
+    }
+
+    // The latest that was seen of a server.
+    pub(crate) fn sight(&self, no: ServerNo) -> Option<&Position>
+        ensures { option_copied result ≡ seen_of self.now.core.seen no.0 }
+    {
+        self.job().sight(no)
     }
 }

@@ -1,11 +1,10 @@
 //! The types of this crate can be moved between threads, and shared by them.
 
-use crate::{Outcome, RecoveryJob, RecoveryLook};
+use crate::{RecoveryJob, RecoveryLook};
 
 fn crosses_threads<T: Send + Sync>() {}
 
 fn all_cross_threads() {
-    crosses_threads::<Outcome>();
     crosses_threads::<RecoveryJob>();
     crosses_threads::<RecoveryLook>();
 }

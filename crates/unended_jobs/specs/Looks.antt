@@ -22,13 +22,13 @@ observation_of (look.Recovery l) = l.observation
 -- the turn that a look of the job's own kind tells; by another kind's nothing is done
 abbrev pub foretold : Unended → UnendedLook → Flown
 foretold (unended.Plan j) (look.Plan l) = by_plan (plan_foretold j l)
-foretold (unended.Recovery r entry) (look.Recovery l) = by_recovery entry (recovery_foretold l)
+foretold (unended.Recovery r entry) (look.Recovery l) = by_recovery entry (recovery_foretold r l)
 foretold (unended.Plan j) (look.Recovery l) = record { step = l.step; observation = l.observation; exchanges = []; next = unended.Plan j }
 foretold (unended.Recovery r entry) (look.Plan l) = record { step = l.step; observation = l.observation; exchanges = []; next = unended.Recovery r entry }
 
 -- a turn may do what was looked up, on this world
 abbrev pub CanGo : World → Unended → UnendedLook → Type 0
 CanGo w (unended.Plan j) (look.Plan l) = CanTurn w j l
-CanGo w (unended.Recovery r entry) (look.Recovery l) = CanTake w l
+CanGo w (unended.Recovery r entry) (look.Recovery l) = CanTake w r l
 CanGo w (unended.Plan j) (look.Recovery l) = ⊥
 CanGo w (unended.Recovery r entry) (look.Plan l) = ⊥

@@ -13,9 +13,10 @@ loop-poller-preserved c =
     let here = c.loop-poller-test.true in
     let all = c.requires in
     record {
-      len = length-set before k None ∙ c.loop-poller.invariant.len;
-      slots = ap (λ (xs : List (Option Observation)). slice_set xs k None) c.loop-poller.invariant.slots
-          ∙ (cleared_next None k first (omega (arith, here, all)) ∙ ap (λ (n : ℕ). cleared None n first) (sym (add-one k)));
+      len = length-set before k c.empty_slot.new.slot ∙ c.loop-poller.invariant.len;
+      slots = ap (λ (slot : Option Observation). slice_set before k slot) c.empty_slot.ensures
+          ∙ (ap (λ (xs : List (Option Observation)). slice_set xs k None) c.loop-poller.invariant.slots
+          ∙ (cleared_next None k first (omega (arith, here, all)) ∙ ap (λ (n : ℕ). cleared None n first) (sym (add-one k))));
     }
 
 pub returns : goal.returns

@@ -29,8 +29,9 @@ loaded_audit-requires g c =
     let names = c.self.invariant.names in
     let settings = c.self.invariant.settings in
     let few : length before.book.settings ≤ 2 ^ 32 = omega (arith, small, names, settings) in
-    let same : audit_of (period_by before.configuration) c.next-next.result c.deref.result.now ≡ reloaded_audit given before =
-    ap (λ (n : ℕ). audit_of (period_by before.configuration) n c.deref.result.now) c.next-next.ensures ∙ ap (audit_of (period_by before.configuration) before.audit.next) (c.deref.ensures.value ∙ items) in
+    let same : audit_of (period_by before.configuration) c.next-next.result c.beyond_instances-others.result.now ≡ reloaded_audit given before =
+    c.beyond_instances-others.ensures.audit (period_by before.configuration) c.next-next.result
+    ∙ ap (λ (n : ℕ). audit_of (period_by before.configuration) n c.deref.result.now) c.next-next.ensures ∙ ap (audit_of (period_by before.configuration) before.audit.next) (c.deref.ensures.value ∙ items) in
     subst IsAudit (sym same) (reloaded-is given before c.self.invariant few)
 
 pub invariant_of-self : goal.invariant_of-self
@@ -45,7 +46,8 @@ invariant_of-self g c =
     let settings = c.self.invariant.settings in
     let few : length before.book.settings ≤ 2 ^ 32 = omega (arith, small, names, settings) in
     let audited : c.in_ok-audit.audit.audit ≡ reloaded_audit given before =
-    c.in_ok-audit.ensures ∙ ap (λ (n : ℕ). audit_of (period_by before.configuration) n c.deref.result.now) c.next-next.ensures ∙ ap (audit_of (period_by before.configuration) before.audit.next) (c.deref.ensures.value ∙ items) in
+    c.in_ok-audit.ensures ∙ c.beyond_instances-others.ensures.audit (period_by before.configuration) c.next-next.result
+    ∙ ap (λ (n : ℕ). audit_of (period_by before.configuration) n c.deref.result.now) c.next-next.ensures ∙ ap (audit_of (period_by before.configuration) before.audit.next) (c.deref.ensures.value ∙ items) in
     let moment = c.latest_recovery-moment.result in
     let closes : c.close.new.self.audit ≡ closed c.in_ok-audit.audit.audit moment = search rules in
     let latest : moment.0 ≡ reloaded_moment given before =
@@ -72,7 +74,8 @@ returns-clause-ok g c =
     let settings = c.self.invariant.settings in
     let few : length before.book.settings ≤ 2 ^ 32 = omega (arith, small, names, settings) in
     let audited : c.in_ok-audit.audit.audit ≡ reloaded_audit given before =
-    c.in_ok-audit.ensures ∙ ap (λ (n : ℕ). audit_of (period_by before.configuration) n c.deref.result.now) c.next-next.ensures ∙ ap (audit_of (period_by before.configuration) before.audit.next) (c.deref.ensures.value ∙ items) in
+    c.in_ok-audit.ensures ∙ c.beyond_instances-others.ensures.audit (period_by before.configuration) c.next-next.result
+    ∙ ap (λ (n : ℕ). audit_of (period_by before.configuration) n c.deref.result.now) c.next-next.ensures ∙ ap (audit_of (period_by before.configuration) before.audit.next) (c.deref.ensures.value ∙ items) in
     let moment = c.latest_recovery-moment.result in
     let closes : c.close.new.self.audit ≡ closed c.in_ok-audit.audit.audit moment = search rules in
     let latest : moment.0 ≡ reloaded_moment given before =
@@ -103,7 +106,8 @@ returns-clause-kept g c =
     let settings = c.self.invariant.settings in
     let few : length before.book.settings ≤ 2 ^ 32 = omega (arith, small, names, settings) in
     let audited : c.in_ok-audit.audit.audit ≡ reloaded_audit given before =
-    c.in_ok-audit.ensures ∙ ap (λ (n : ℕ). audit_of (period_by before.configuration) n c.deref.result.now) c.next-next.ensures ∙ ap (audit_of (period_by before.configuration) before.audit.next) (c.deref.ensures.value ∙ items) in
+    c.in_ok-audit.ensures ∙ c.beyond_instances-others.ensures.audit (period_by before.configuration) c.next-next.result
+    ∙ ap (λ (n : ℕ). audit_of (period_by before.configuration) n c.deref.result.now) c.next-next.ensures ∙ ap (audit_of (period_by before.configuration) before.audit.next) (c.deref.ensures.value ∙ items) in
     let moment = c.latest_recovery-moment.result in
     let closes : c.close.new.self.audit ≡ closed c.in_ok-audit.audit.audit moment = search rules in
     let latest : moment.0 ≡ reloaded_moment given before =
@@ -111,10 +115,11 @@ returns-clause-kept g c =
     let when : moment ≡ interrupted_at given before = ap (λ (n : ℕ). record { 0 = n }) latest in
     let kept = g.K.Keeper.kept c.args.keeper.now in
     let period = period_by before.configuration in
-    let changes : c.deref-3.result.now ≡ restart_changes given before =
-    c.deref-3.ensures.value ∙ c.in_ok-changes.ensures ∙ ap (λ (xs : List Row). loading period xs c.in_ok-audit.audit.audit moment) (c.deref-2.ensures.value ∙ items)
+    let changes : c.deref-2.result.now ≡ restart_changes given before =
+    c.deref-2.ensures.value ∙ c.in_ok-changes.ensures ∙ c.beyond_instances-others.ensures.loading period c.in_ok-audit.audit.audit moment
+    ∙ ap (λ (xs : List Row). loading period xs c.in_ok-audit.audit.audit moment) (c.deref.ensures.value ∙ items)
     ∙ ap (λ (a : AuditState). loading period (reloaded_rows given before) a moment) audited
     ∙ ap (λ (m : Moment). loading period (reloaded_rows given before) (reloaded_audit given before) m) when in
-    c.in_ok-keep_some.ensures.kept ∙ ap (λ (k : Option (List Row)). kept_if true k c.deref-3.result.now) c.in_ok-given.ensures.kept
+    c.in_ok-keep_some.ensures.kept ∙ ap (λ (k : Option (List Row)). kept_if true k c.deref-2.result.now) c.in_ok-given.ensures.kept
     ∙ ap (λ (cs : List Change). kept_if true kept cs) changes ∙ kept_given kept given before (turn.Act act.Restart) c.in_ok-given.ensures.told
     ∙ ap (λ (s : State). kept_by engine true kept s (turn.Act act.Restart)) c.self.view_is

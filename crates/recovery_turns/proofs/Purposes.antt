@@ -1,0 +1,22 @@
+-- That a recovery's purpose stays.
+use Rattle.std.proofs.Common.{◌≡◌, ◌∙◌, List, Option, Some, None, refl, ap}
+use Rattle.commands.specs.declared.line.Line.{Line}
+use Rattle.operations.specs.declared.step.JobStep.{JobStep}
+use Rattle.operations.specs.declared.step.JobStep.TheVariants as step
+use Rattle.recovery_plans.specs.Recoveries.{Recovery}
+use Rattle.recovery_turns.specs.declared.decided.Decided.{Decided}
+use Rattle.recovery_turns.specs.declared.decided.Work.{Work}
+use Rattle.recovery_turns.specs.declared.look.RecoveryLook.{RecoveryLook}
+use Rattle.recovery_turns.specs.Deciding.{decided_on, settled_on, working_on}
+use Rattle.recovery_turns.specs.Looks.{after_step, foretold}
+
+pub decided-purpose : (r : Recovery) (d : Decided) → (decided_on r d).purpose ≡ r.purpose
+decided-purpose r d = go d.work
+  where
+    go : (o : Option Work) → (working_on (settled_on r d) o).purpose ≡ r.purpose
+    go None = refl
+    go (Some w) = refl
+
+-- where a turn is the last one
+pub done-purpose : (r : Recovery) (l : RecoveryLook) (lines : List Line) → l.step ≡ step.Done lines → (foretold r l).recovery.purpose ≡ r.purpose
+done-purpose r l lines is = ap (λ (s : JobStep). (after_step (decided_on r l.decided) s l.then).purpose) is ∙ decided-purpose r l.decided

@@ -1,0 +1,6 @@
+use Rattle.std.proofs.Common.{length}
+use Rattle.recovery_turns.specs.Deciding.{decided_on}
+use Rattle.recovery_turns.proofs.decided.Decided.+hand.Given as goal
+
+abbrev pub decreases-hand : goal.decreases-hand
+decreases-hand l = length (decided_on l.of.now l.self.now).drained

@@ -1,0 +1,9 @@
+use Rattle.std.proofs.Common.{◌≡◌, map, take}
+use Rattle.std.specs.Prelude.{filter}
+use Rattle.recovery_plans.specs.Deciding.{releases, why_of}
+use Rattle.recovery_plans.specs.declared.task.Task.TheVariants as task
+use Rattle.recovery_turns.specs.Deciding.{decided_on}
+use Rattle.recovery_turns.proofs.decided.Decided.releasing.Given as goal
+
+abbrev pub invariant-loop-no : goal.invariant-loop-no
+invariant-loop-no l = l.tasks.items ≡ map task.Releasing (filter (λ n. releases l.of.purpose (why_of (decided_on l.of l.self).outcome.lost n)) (take l.no-index l.of.replicas))

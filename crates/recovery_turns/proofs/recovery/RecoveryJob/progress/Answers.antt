@@ -1,0 +1,18 @@
+use Rattle.std.proofs.Common.{◌≡◌, ◌-◌, ◌<◌, drop, length, length-drop, sym, ap, subst, ◌∙◌, arith}
+use Rattle.recovery_plans.specs.Recoveries.{Recovery}
+use Rattle.recovery_turns.specs.RecoveriesBy.{IsRoomy}
+use Rattle.recovery_turns.specs.Steps.{progressed_by}
+use Rattle.recovery_turns.proofs.Rooms.{roomy_stepped}
+use Rattle.recovery_turns.proofs.Stepped.{stays}
+use Rattle.recovery_turns.proofs.recovery.RecoveryJob.progress.Goals as goal
+
+pub complete-requires-clause-room : goal.complete-requires-clause-room
+complete-requires-clause-room c = subst (λ (x : Recovery). IsRoomy 1 x) (sym c.step.ensures) (roomy_stepped c.args.self.now c.args.ending c.requires.room)
+
+pub returns-else-self-len : goal.returns-else-self-len
+returns-else-self-len c =
+    let a = c.self.inside in
+    let long : length (drop a.core.done a.core.ops.items) ≡ length a.core.ops.items - a.core.done = length-drop a.core.done a.core.ops.items in
+    let due : 0 < length (drop a.core.done a.core.ops.items) = omega arith in
+    stays c.args.self.now c.step.new.self c.args.ending c.step.ensures (subst (λ (x : Recovery). 0 < length x.core.ops) c.self.view_is due)
+    ∙ ap (progressed_by c.args.self.now c.args.ending) (sym c.if-waiting.false)

@@ -1,7 +1,0 @@
-use Rattle.std.proofs.Common.{◌≡◌, ◌++◌, take}
-use Rattle.std.specs.Prelude.{filter_map}
-use Rattle.recovery_plans.specs.Telling.{follower_line}
-use Rattle.recovery_turns.proofs.telling.add_followers.Given as goal
-
-abbrev pub invariant-loop-no : goal.invariant-loop-no
-invariant-loop-no l = l.lines.items ≡ l.initial.lines.items ++ filter_map (follower_line l.outcome) (take l.no-index l.order)
