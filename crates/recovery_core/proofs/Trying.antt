@@ -118,3 +118,8 @@ entry-may b audit a what f r free short is = subst (MayBegin audit) (sym is) (re
 pub none-there : {A : Type 0} (o : Option A) → ((x : A) → o ≡ Some x → ⊥) → o ≡ None
 none-there None never = refl
 none-there (Some x) never = absurd (never x refl)
+
+-- what isn't refused begins
+pub passed-try : (o : Option Refusal) (x y : Begins) → permitted o ≡ Ok tt → y ≡ x → unless_refused o x ≡ Ok y
+passed-try None x y e same = ap (λ (z : Begins). let made : Result Begins Refusal = Ok z in made) (sym same)
+passed-try (Some r) x y e same = cc
