@@ -1,7 +1,7 @@
 -- Each run of the turns that words take: its states are safe, its commands answer by the permission table, and its
 -- recoveries begin apart and finish well.
 use Rattle.std.proofs.Common.{◌≡◌, ℕ, zero, suc, ◌<◌, Bool, true, false, cond, List, [], ◌∷◌, ◌++◌, length, Option, Some, None, ◌∙◌, refl, sym, ap, subst, take, inl, inr}
-use Rattle.std.specs.Prelude.{IfSome, All}
+use Rattle.std.specs.Prelude.{All}
 use Rattle.std.proofs.Math.Seq.{take-length}
 use Rattle.std.proofs.lemmas.List.{length-map}
 use Rattle.std.proofs.lemmas.List.Elements.{All-append, All-cons, All-nil, All-take}
@@ -195,28 +195,23 @@ module _ (words : List (List ℕ)) (bytes : List ℕ) (w : Work) (run : Recorded
   on_each (inl at) = in_turns words bytes w run is (λ ts. Q) each at
   on_each (inr at) = in_rounds words bytes w run is (λ ts. Q) each at
 
-pub safe_run : (words : List (List ℕ)) (left : Option (List ℕ)) → IfSome left (λ bytes. IsSafeRun words bytes)
-safe_run words None = tt
-safe_run words (Some bytes) = λ w run is on. on_each words bytes w run is (IsSafeState run.state) (λ ts kept scenario all comes. holds w ts kept run scenario all comes) on
+pub safe_run : (words : List (List ℕ)) (bytes : List ℕ) → IsSafeRun words bytes
+safe_run words bytes = λ w run is on. on_each words bytes w run is (IsSafeState run.state) (λ ts kept scenario all comes. holds w ts kept run scenario all comes) on
 
-pub begin_apart : (words : List (List ℕ)) (left : Option (List ℕ)) → IfSome left (λ bytes. BeginApart words bytes)
-begin_apart words None = tt
-begin_apart words (Some bytes) = λ w run rows t is on.
+pub begin_apart : (words : List (List ℕ)) (bytes : List ℕ) → BeginApart words bytes
+begin_apart words bytes = λ w run rows t is on.
     on_each words bytes w run is (BeginsApart (period_of w.scenario) rows run.state t) (λ ts kept scenario all comes. begins w ts kept run scenario all comes rows t) on
 
-pub finish_well : (words : List (List ℕ)) (left : Option (List ℕ)) → IfSome left (λ bytes. FinishWell words bytes)
-finish_well words None = tt
-finish_well words (Some bytes) = λ w run ts rows id r entry lines is on done.
+pub finish_well : (words : List (List ℕ)) (bytes : List ℕ) → FinishWell words bytes
+finish_well words bytes = λ w run ts rows id r entry lines is on done.
     so_far words bytes w run is (λ us. Finishes w us rows run.state id r entry lines) (λ us kept scenario all comes. finishes w us kept run scenario all comes rows id r entry lines done) ts on
 
-pub lose_truly : (words : List (List ℕ)) (left : Option (List ℕ)) → IfSome left (λ bytes. LoseTruly words bytes)
-lose_truly words None = tt
-lose_truly words (Some bytes) = λ w run ts id r entry is on at.
+pub lose_truly : (words : List (List ℕ)) (bytes : List ℕ) → LoseTruly words bytes
+lose_truly words bytes = λ w run ts id r entry is on at.
     so_far words bytes w run is (λ us. LosesTruly w us run.state id r entry) (λ us kept scenario all comes. loses w us kept run scenario all comes id r entry at) ts on
 
-pub obeys : (words : List (List ℕ)) (left : Option (List ℕ)) → IfSome left (λ bytes. ObeysTable words bytes)
-obeys words None = tt
-obeys words (Some bytes) = λ w k kept run rows c is comes here. record {
+pub obeys : (words : List (List ℕ)) (bytes : List ℕ) → ObeysTable words bytes
+obeys words bytes = λ w k kept run rows c is comes here. record {
   answer = answers_by_table run.state c;
   refused = refused_changes_nothing rows run.state c;
   begun = λ job begins.

@@ -1,6 +1,6 @@
 //! The top call.
 
-ghost use Rattle.std.specs.Prelude.{◌≡◌, ◌≤◌, ◌⊎◌, [], codes, map, IfSome, Option, Some};
+ghost use Rattle.std.specs.Prelude.{◌≡◌, ◌≤◌, ◌⊎◌, ℕ, List, [], codes, map, IfSome, Option, Some};
 ghost use Rattle.std.specs.Io.KnownBytes.{Consumes};
 ghost use Rattle.command_line.specs.Places.{drawing_of};
 ghost use Rattle.command_line.specs.Taken.{IsDrawn};
@@ -306,23 +306,19 @@ pub fn orch<S: Source, O: Sink, E: Sink, K: Keeper>(
         (across (E.written err.old) (E.faults err.old) (E.written err.new) (E.faults err.new))
         → IsComplete result) }
 
-    // Every state of each run of these turns, of the report's too, is held with its jobs in flight, its recoveries are
-    // apart, and every quiet one is sound and so safe, whatever rows the keeper hands back; and every command turn of
-    // such a run answers by the permission table, a refused one changing nothing.
-    ensures safe { IfSome (S.left scenario.old)
-        (λ bytes. IsSafeRun (map (λ w. w.items) words.now) bytes) }
-    ensures commands { IfSome (S.left scenario.old)
-        (λ bytes. ObeysTable (map (λ w. w.items) words.now) bytes) }
+    // Whatever bytes the source has, also where it doesn't tell them: every state of each run of the words' turns over
+    // the scenario that they are, of the report's too, is held with its jobs in flight, its recoveries are apart, and
+    // every quiet one is sound and so safe, whatever rows the keeper hands back; and every command turn of such a run
+    // answers by the permission table, a refused one changing nothing.
+    ensures safe { (bytes : List ℕ) → IsSafeRun (map (λ w. w.items) words.now) bytes }
+    ensures commands { (bytes : List ℕ) → ObeysTable (map (λ w. w.items) words.now) bytes }
 
     // In every such state recoveries begin apart by their block periods, and one that is done, by whatever turns it
     // came so far, leaves each replica that the book had attached to the failed server when it began promoted,
     // following or lost for a true reason.
-    ensures begins { IfSome (S.left scenario.old)
-        (λ bytes. BeginApart (map (λ w. w.items) words.now) bytes) }
-    ensures finishes { IfSome (S.left scenario.old)
-        (λ bytes. FinishWell (map (λ w. w.items) words.now) bytes) }
-    ensures losses { IfSome (S.left scenario.old)
-        (λ bytes. LoseTruly (map (λ w. w.items) words.now) bytes) }
+    ensures begins { (bytes : List ℕ) → BeginApart (map (λ w. w.items) words.now) bytes }
+    ensures finishes { (bytes : List ℕ) → FinishWell (map (λ w. w.items) words.now) bytes }
+    ensures losses { (bytes : List ℕ) → LoseTruly (map (λ w. w.items) words.now) bytes }
 {
     match places(alloc, words) {
         Ok(places) => respond(alloc, &places, scenario, out, err, keeper).status(),

@@ -60,19 +60,19 @@ returns-in-Ok-clause-complete g c =
     (c.respond.ensures.ends words c.in-Ok.ensures)
 
 pub returns-in-Ok-clause-safe : goal.returns-in-Ok-clause-safe
-returns-in-Ok-clause-safe g c = safe_run (map (λ w. w.items) c.args.words.now) _
+returns-in-Ok-clause-safe g c = safe_run (map (λ w. w.items) c.args.words.now)
 
 pub returns-in-Ok-clause-commands : goal.returns-in-Ok-clause-commands
-returns-in-Ok-clause-commands g c = obeys (map (λ w. w.items) c.args.words.now) _
+returns-in-Ok-clause-commands g c = obeys (map (λ w. w.items) c.args.words.now)
 
 pub returns-in-Ok-clause-begins : goal.returns-in-Ok-clause-begins
-returns-in-Ok-clause-begins g c = begin_apart (map (λ w. w.items) c.args.words.now) _
+returns-in-Ok-clause-begins g c = begin_apart (map (λ w. w.items) c.args.words.now)
 
 pub returns-in-Ok-clause-finishes : goal.returns-in-Ok-clause-finishes
-returns-in-Ok-clause-finishes g c = finish_well (map (λ w. w.items) c.args.words.now) _
+returns-in-Ok-clause-finishes g c = finish_well (map (λ w. w.items) c.args.words.now)
 
 pub returns-in-Ok-clause-losses : goal.returns-in-Ok-clause-losses
-returns-in-Ok-clause-losses g c = lose_truly (map (λ w. w.items) c.args.words.now) _
+returns-in-Ok-clause-losses g c = lose_truly (map (λ w. w.items) c.args.words.now)
 
 -- ---- they aren't, or memory ran out
 
@@ -96,20 +96,35 @@ returns-in-Err-Memory-clause-drawn g c = λ d ask.
     let err : End = between (taken (g.E.Sink.written c.args.err.now) (g.E.Sink.faults c.args.err.now)) (taken (g.E.Sink.written c.close-in-Err-Memory.new.err) (g.E.Sink.faults c.close-in-Err-Memory.new.err)) in
     subst (λ (n : ℕ). DrawEnds d n (between out out) err) (sym c.status-in-Err-Memory.ensures) (undrawn d out err c.close-in-Err-Memory.ensures.took)
 
+pub returns-in-Err-BadWords-clause-safe : goal.returns-in-Err-BadWords-clause-safe
+returns-in-Err-BadWords-clause-safe g c = safe_run (map (λ w. w.items) c.args.words.now)
+
+pub returns-in-Err-BadWords-clause-commands : goal.returns-in-Err-BadWords-clause-commands
+returns-in-Err-BadWords-clause-commands g c = obeys (map (λ w. w.items) c.args.words.now)
+
+pub returns-in-Err-BadWords-clause-begins : goal.returns-in-Err-BadWords-clause-begins
+returns-in-Err-BadWords-clause-begins g c = begin_apart (map (λ w. w.items) c.args.words.now)
+
+pub returns-in-Err-BadWords-clause-finishes : goal.returns-in-Err-BadWords-clause-finishes
+returns-in-Err-BadWords-clause-finishes g c = finish_well (map (λ w. w.items) c.args.words.now)
+
+pub returns-in-Err-BadWords-clause-losses : goal.returns-in-Err-BadWords-clause-losses
+returns-in-Err-BadWords-clause-losses g c = lose_truly (map (λ w. w.items) c.args.words.now)
+
 pub returns-in-Err-Memory-clause-safe : goal.returns-in-Err-Memory-clause-safe
-returns-in-Err-Memory-clause-safe g c = safe_run (map (λ w. w.items) c.args.words.now) _
+returns-in-Err-Memory-clause-safe g c = safe_run (map (λ w. w.items) c.args.words.now)
 
 pub returns-in-Err-Memory-clause-commands : goal.returns-in-Err-Memory-clause-commands
-returns-in-Err-Memory-clause-commands g c = obeys (map (λ w. w.items) c.args.words.now) _
+returns-in-Err-Memory-clause-commands g c = obeys (map (λ w. w.items) c.args.words.now)
 
 pub returns-in-Err-Memory-clause-begins : goal.returns-in-Err-Memory-clause-begins
-returns-in-Err-Memory-clause-begins g c = begin_apart (map (λ w. w.items) c.args.words.now) _
+returns-in-Err-Memory-clause-begins g c = begin_apart (map (λ w. w.items) c.args.words.now)
 
 pub returns-in-Err-Memory-clause-finishes : goal.returns-in-Err-Memory-clause-finishes
-returns-in-Err-Memory-clause-finishes g c = finish_well (map (λ w. w.items) c.args.words.now) _
+returns-in-Err-Memory-clause-finishes g c = finish_well (map (λ w. w.items) c.args.words.now)
 
 pub returns-in-Err-Memory-clause-losses : goal.returns-in-Err-Memory-clause-losses
-returns-in-Err-Memory-clause-losses g c = lose_truly (map (λ w. w.items) c.args.words.now) _
+returns-in-Err-Memory-clause-losses g c = lose_truly (map (λ w. w.items) c.args.words.now)
 
 -- ---- against the report
 
