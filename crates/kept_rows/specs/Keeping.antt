@@ -1,7 +1,6 @@
 -- What a keeper does with its rows.
-use Rattle.std.specs.Prelude.{◌≡◌, ◌≤◌, ℕ, List, Option, Result, Err, MatchResult, if◌then◌else◌}
+use Rattle.std.specs.Prelude.{◌≡◌, ◌≤◌, ℕ, List, Option, Result, Err, MatchResult, OnOk, if◌then◌else◌}
 use Rattle.std.specs.Option.{option_map}
-use Rattle.orch_base.specs.Causes.{Rose}
 use Rattle.orch_base.specs.Memory.{next_count, fails_next}
 use Rattle.kept_rows.specs.declared.row.Row.{Row}
 use Rattle.kept_rows.specs.declared.row.Change.{Change}
@@ -13,10 +12,12 @@ use Rattle.kept_rows.specs.Rows.{changed}
 abbrev pub KeepsAll : Option (List Row) → Option (List Row) → List Change → {A : Type 0} → Result A KeeperFault → Type 0
 KeepsAll before now changes result = MatchResult result (λ _. now ≡ option_map (λ rows. changed rows changes) before) (λ _. now ≡ before)
 
--- the count never falls, and the keeper fails only where it rose
+-- a failure is counted, once, and nothing else is; the count never falls
 pub record HasKeeperCause {A : Type 0} (before now : ℕ) (result : Result A KeeperFault) : Type 0 where
   pub later : before ≤ now
-  pub failed : result ≡ Err fault.Failed → Rose before now
+  pub ok : OnOk result (now ≡ before)
+  pub failed : result ≡ Err fault.Failed → now ≡ next_count before
+  pub memory : result ≡ Err fault.Memory → now ≡ before
 
 -- the rows, the calls so far, the numbers of those that fail, and how many failed
 pub record Kept : Type 0 where

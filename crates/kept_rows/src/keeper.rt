@@ -47,13 +47,13 @@ pub trait Keeper {
     ghost faults: { Self → ℕ };
 
     /// Makes all the changes, one after another, or, at a fault, none. The names are those of the servers by number.
-    /// `Failed` comes only where the count of faults rose.
+    /// `Failed` is counted as one fault, and nothing else is.
     fn keep(&mut self, alloc: Global, names: &[Name], changes: &[Change]) -> Result<(), KeeperFault>
         ensures kept { KeepsAll (kept self.old) (kept self.new) changes.now result }
         ensures cause { HasKeeperCause (faults self.old) (faults self.new) result };
 
     /// Gives all rows, in rising order by table, then key, one of each, and changes none. The names are those of the
-    /// servers by number. `Failed` comes only where the count of faults rose.
+    /// servers by number. `Failed` is counted as one fault, and nothing else is.
     fn rows(&mut self, alloc: Global, names: &[Name]) -> Result<Vec<Row>, KeeperFault>
         ensures told { IfSome (kept self.old) (λ rows. IfOk result (λ given. given.items ≡ rows)) }
         ensures rising { IfOk result (λ given. IsRising given.items) }

@@ -3,7 +3,7 @@
 ghost use Rattle.std.specs.Prelude.{◌≡◌, ◌<◌, ◌≤◌, ◌+◌, ◌↔◌, Some, IfSome, fold, true, IfOk, OnOk, OnErr, Err, length, nat_lt, vec_len, vec_capacity};
 ghost use Rattle.std.specs.Bool.{OnTrue, OnFalse};
 ghost use Rattle.std.specs.List.{HoldsAt};
-ghost use Rattle.orch_base.specs.Memory.{fails_next};
+ghost use Rattle.orch_base.specs.Memory.{fails_next, next_count};
 ghost use Rattle.kept_rows.specs.Keeping.{KeepsAll, HasKeeperCause, after_call};
 ghost use Rattle.kept_rows.specs.SortKeys.{at, IsFirstFrom};
 ghost use Rattle.kept_rows.specs.Rows.{changed, changed_by, map_of, sort_key_of, put, remove, IsRising};
@@ -289,6 +289,8 @@ impl MemKeeper {
         ensures fails { result ≡ fails_next self.old.fail_at self.old.calls }
         ensures after { self.new ≡ after_call self.old }
         ensures later { self.old.faults ≤ self.new.faults }
+        ensures counted { OnTrue result (self.new.faults ≡ next_count self.old.faults) }
+        ensures others { OnFalse result (self.new.faults ≡ self.old.faults) }
     {
         self.calls = self.calls.saturating_add(1);
         if self.fail_at.contains(&self.calls) {

@@ -1,7 +1,7 @@
 -- What a run does with its keeper.
-use Rattle.std.specs.Prelude.{◌≡◌, ◌≢◌, ◌≤◌, ◌<◌, ◌⊎◌, ℕ, Bool, true, false, List, [], length, take, slice_get, Option, Some, None, Result, Err, if◌then◌else◌}
+use Rattle.std.specs.Prelude.{◌≡◌, ◌≢◌, ◌≤◌, ◌<◌, ◌⊎◌, ℕ, Bool, true, false, List, [], length, take, slice_get, Option, Some, None, Result, Err, OnOk, if◌then◌else◌}
 use Rattle.std.specs.Option.{option_map}
-use Rattle.orch_base.specs.Causes.{Rose}
+use Rattle.orch_base.specs.Memory.{next_count}
 use Rattle.kept_rows.specs.declared.row.Row.{Row}
 use Rattle.kept_rows.specs.declared.row.Change.{Change}
 use Rattle.kept_rows.specs.Rows.{changed}
@@ -60,7 +60,9 @@ pub record WasCutOff {A : Type 0} (m : Machine A) (kept : Option (List Row)) (s 
   pub ran : Ran m kept s (take k ts) kept' now
   pub calls : why ≡ fault.Keeper → (t : Turn) → slice_get ts k ≡ Some t → Calls m now t
 
--- the count never falls, and Keeper comes only where it rose
+-- at Keeper the count rose once, in the call that failed, and elsewhere it didn't; it never falls
 pub record HasTurnCause {A : Type 0} (before now : ℕ) (result : Result A TurnFault) : Type 0 where
   pub later : before ≤ now
-  pub failed : result ≡ Err fault.Keeper → Rose before now
+  pub ok : OnOk result (now ≡ before)
+  pub failed : result ≡ Err fault.Keeper → now ≡ next_count before
+  pub memory : result ≡ Err fault.Memory → now ≡ before

@@ -1,6 +1,5 @@
--- Which faults of a database are counted, and which rows of it are passed over.
+-- Which faults of a database are failures of the keeper, and which rows of it are passed over.
 use Rattle.std.specs.Prelude.{◌≡◌, ◌<◌, ◌^◌, ℕ, false, Option, None, Some, Result, Ok, Err}
-use Rattle.orch_base.specs.Memory.{next_count}
 use Rattle.kept_rows.specs.declared.keeper.KeeperFault.{KeeperFault}
 use Rattle.kept_rows.specs.declared.keeper.KeeperFault.TheVariants as keeper
 use Rattle.kept_rows.specs.declared.row.Row.{Row}
@@ -17,12 +16,6 @@ kind sql.Table = keeper.Failed
 kind (sql.Row f) = keeper.Failed
 kind sql.Unwritten = keeper.Failed
 kind sql.Memory = keeper.Memory
-
--- the count of faults after a call with this result: a failure is counted, and want of memory isn't
-abbrev pub counted : {A : Type 0} → ℕ → Result A KeeperFault → ℕ
-counted n (Ok x) = n
-counted n (Err keeper.Failed) = next_count n
-counted n (Err keeper.Memory) = n
 
 -- a row that reads but for a server that isn't known is passed over
 abbrev pub unless_unknown : Result Row RowFault → Result (Option Row) RowFault

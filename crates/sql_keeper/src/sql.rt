@@ -3,7 +3,6 @@
 ghost use Rattle.std.specs.Prelude.{◌≡◌, None, Ok, IfOk};
 ghost use Rattle.kept_rows.specs.Keeping.{HasKeeperCause, KeepsAll};
 ghost use Rattle.kept_rows.specs.Rows.{IsRising};
-ghost use Rattle.sql_keeper.specs.Counting.{counted};
 
 use crate::fault::SqlFault;
 use crate::texts::{Texts, key_string, row_in, texts_of};
@@ -183,7 +182,6 @@ impl SqlKeeper {
     fn counted<T>(&mut self, done: Result<T, KeeperFault>) -> Result<T, KeeperFault>
         ensures same { result ≡ done }
         ensures cause { HasKeeperCause self.old.faults self.new.faults result }
-        ensures counts { self.new.faults ≡ counted self.old.faults result }
     {
         if let Err(KeeperFault::Failed) = done {
             self.faults = self.faults.saturating_add(1);
@@ -210,7 +208,6 @@ impl Keeper for SqlKeeper {
     fn keep(&mut self, alloc: Global, names: &[Name], changes: &[Change]) -> Result<(), KeeperFault>
         ensures kept { KeepsAll None None changes.now result }
         ensures cause { HasKeeperCause self.old.faults self.new.faults result }
-        ensures counts { self.new.faults ≡ counted self.old.faults result }
     {
         let done = match opened(&self.rt, self.path.as_str(), &mut self.store) {
             Ok(conn) => told(make_all(alloc, conn, names, changes)),
@@ -223,7 +220,6 @@ impl Keeper for SqlKeeper {
     fn rows(&mut self, alloc: Global, names: &[Name]) -> Result<Vec<Row>, KeeperFault>
         ensures rising { IfOk result (λ given. IsRising given.items) }
         ensures cause { HasKeeperCause self.old.faults self.new.faults result }
-        ensures counts { self.new.faults ≡ counted self.old.faults result }
     {
         let done = match opened(&self.rt, self.path.as_str(), &mut self.store) {
             Ok(conn) => told(all_rows(alloc, conn, names)),

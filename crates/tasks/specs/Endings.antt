@@ -1,7 +1,7 @@
 -- How a task ends, and what has been written and kept then.
 use Rattle.std.specs.Prelude.{◌≡◌, ℕ, ◌≤◌, ◌⊎◌, Bool, List, [], length, take, Option}
 use Rattle.kept_rows.specs.declared.row.Row.{Row}
-use Rattle.orch_base.specs.Causes.{Rose}
+use Rattle.orch_base.specs.Memory.{next_count}
 use Rattle.orch_base.specs.Names.{HostPort}
 use Rattle.scenarios.specs.declared.scenario.Scenario.{Scenario}
 use Rattle.scenarios.specs.Scenarios.{names_of}
@@ -133,7 +133,11 @@ course_of w = record { task = w.task; names = names_of w.scenario; scenario = w.
 abbrev pub Tells : Work → End → End → Ending → Type 0
 Tells w out err ending = NeverBegan w out err ending ⊎ Stands (course_of w) out err ending
 
--- the count of the keeper's faults never falls, and it stops a task only where it rose
+-- The keeper's first fault stops a task: its count rose once then, and elsewhere it didn't, but for a run whose replies
+-- so far couldn't be written; it never falls.
 pub record HasKeepersCause (before now : ℕ) (result : Ending) : Type 0 where
   pub later : before ≤ now
-  pub failed : result ≡ ends.Keeper → Rose before now
+  pub written : (refused : Bool) → result ≡ ends.Written refused → now ≡ before
+  pub unwritten : result ≡ ends.Unwritten → (now ≡ before) ⊎ (now ≡ next_count before)
+  pub failed : result ≡ ends.Keeper → now ≡ next_count before
+  pub memory : result ≡ ends.Memory → now ≡ before

@@ -1,9 +1,10 @@
 -- How calls end.
-use Rattle.std.proofs.Common.{◌≡◌, ◌∙◌, ℕ, ◌≤◌, true, false, List, Option, Some, None, Ok, Err, refl, sym, subst, arith, ◌⊎◌, inl, inr}
+use Rattle.std.proofs.Common.{◌≡◌, ◌∙◌, ℕ, ◌≤◌, true, false, List, Option, Some, None, Ok, Err, refl, sym, ap, subst, arith, ◌⊎◌, inl, inr}
 use Rattle.std.specs.Prelude.{IfSome, codes, Result}
 use Rattle.std.specs.Io.KnownBytes.{Consumes}
 use Rattle.std.proofs.lemmas.Option.{same_Some}
 use Rattle.orch_base.specs.Causes.{Rose}
+use Rattle.orch_base.specs.Memory.{next_count}
 use Rattle.orch_base.specs.Gives.{Gives}
 use Rattle.kept_rows.specs.declared.row.Row.{Row}
 use Rattle.scenarios.specs.declared.scenario.Scenario.{Scenario}
@@ -21,13 +22,13 @@ use Rattle.command_line.proofs.Named.{taken_have}
 use Rattle.tasks.specs.declared.ending.Ending.{Ending}
 use Rattle.tasks.specs.declared.ending.Ending.TheVariants as ends
 use Rattle.tasks.specs.Asked.{AskOfRead, IsTaken, task_of}
-use Rattle.tasks.specs.Endings.{Tells}
+use Rattle.tasks.specs.Endings.{HasKeepersCause, Tells}
 use Rattle.tasks.specs.Sinks.{End, Taken, TakesLine, between, taken}
 use Rattle.tasks.specs.Works.{Work}
 use Rattle.tasks.proofs.Sends.{nothing_is_front, takes_nothing}
 use Rattle.top_call.specs.declared.way.Way.{Way}
 use Rattle.top_call.specs.declared.way.Way.TheVariants as way
-use Rattle.top_call.specs.Ends.{AskARead, Asks, AskToDraw, Call, Closes, DrawEnds, Ends, FaultsAs, FaultsFor, Idles, IsComplete, IsGood, IsReported, IsUsage, NoneRose, ReadsWhole, call, drawn_text, status_of}
+use Rattle.top_call.specs.Ends.{AskARead, Asks, AskToDraw, Call, Closes, DrawEnds, Ends, FaultsAs, FaultsFor, Idles, IsComplete, IsGood, IsReported, IsUsage, NoneRose, ReadsWhole, StopsAtFirst, call, drawn_text, status_of}
 use Rattle.top_call.specs.Faults.{fault_text}
 
 -- ---- where the bytes are known
@@ -162,6 +163,48 @@ module _ where
   of_done way.Keeper (inr e) = absurd (omega (arith, e))
   of_done way.Memory (inl e) = absurd (omega (arith, e))
   of_done way.Memory (inr e) = absurd (omega (arith, e))
+
+-- ---- the keeper's count
+
+pub unmoved : (before now : ℕ) (w : Way) → (w ≡ way.Keeper → ⊥) → now ≡ before → StopsAtFirst before now (status_of w)
+unmoved before now w other same = record {
+  later = omega (arith, same);
+  failed = λ five. absurd (other (of_five w five));
+  sink = λ four. inl same;
+  others = λ not_four not_five. same;
+}
+
+pub told_of_faults : (w : Way) (P Q : Type 0) → ((w ≡ way.Fault) × P) ⊎ ((w ≡ way.Memory) × Q) → w ≡ way.Keeper → ⊥
+told_of_faults w P Q (inl x) is = let at = x.0 in absurd cc
+told_of_faults w P Q (inr x) is = let at = x.0 in absurd cc
+
+-- by the way that each ending of a task leads to
+abbrev pub way_of : Ending → Way
+way_of (ends.Written refused) = way.Reported refused
+way_of ends.Unwritten = way.Sink
+way_of ends.Keeper = way.Keeper
+way_of ends.Memory = way.Memory
+
+pub counted : (before now : ℕ) (e : Ending) → HasKeepersCause before now e → StopsAtFirst before now (status_of (way_of e))
+counted before now (ends.Written refused) cause = unmoved before now (way.Reported refused) (λ is. absurd cc) (cause.written refused refl)
+counted before now ends.Unwritten cause = record {
+  later = cause.later;
+  failed = λ five. absurd (omega (arith, five));
+  sink = λ four. cause.unwritten refl;
+  others = λ not_four not_five. absurd (not_four refl);
+}
+counted before now ends.Keeper cause = record {
+  later = cause.later;
+  failed = λ five. cause.failed refl;
+  sink = λ four. absurd (omega (arith, four));
+  others = λ not_four not_five. absurd (not_five refl);
+}
+counted before now ends.Memory cause = unmoved before now way.Memory (λ is. absurd cc) (cause.memory refl)
+
+pub keeper_rose : (before now : ℕ) (w : Way) → StopsAtFirst before now (status_of w) → w ≡ way.Keeper → Rose before now
+keeper_rose before now w stops is =
+    let same : now ≡ next_count before = stops.failed (ap status_of is) in
+    subst (λ (n : ℕ). next_count before ≤ n) (sym same) (omega arith)
 
 -- ---- what words ask
 

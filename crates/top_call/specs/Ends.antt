@@ -1,8 +1,9 @@
 -- How a call ends.
-use Rattle.std.specs.Prelude.{◌≡◌, ℕ, ◌≤◌, ◌⊎◌, ⊤, Bool, List, [], codes, if◌then◌else◌, IfSome, Option, Some, None, Result, Ok, Err}
+use Rattle.std.specs.Prelude.{◌≡◌, ◌≢◌, ℕ, ◌≤◌, ◌⊎◌, ⊤, Bool, List, [], codes, if◌then◌else◌, IfSome, Option, Some, None, Result, Ok, Err}
 use Rattle.std.specs.Io.KnownBytes.{Consumes}
 use Rattle.kept_rows.specs.declared.row.Row.{Row}
 use Rattle.orch_base.specs.Causes.{Rose}
+use Rattle.orch_base.specs.Memory.{next_count}
 use Rattle.scenarios.specs.declared.scenario.Scenario.{Scenario}
 use Rattle.scenarios.specs.Scenarios.{names_of}
 use Rattle.scenario_values.specs.declared.fault.Fault.{Fault}
@@ -171,6 +172,14 @@ FaultsAs (Err usage) bytes status = status ≡ 2 → ⊥
 -- so it is of words over the bytes that the source had, where they are known
 abbrev pub FaultsOf : List (List ℕ) → Option (List ℕ) → ℕ → Type 0
 FaultsOf words left status = IfSome left (λ bytes. FaultsAs (places_of words) bytes status)
+
+-- The keeper's first fault ends the call: its count rose once at 5, so not before the turn that met the fault, nor after
+-- it; perhaps at 4, where what was left of the report couldn't be written; and with any other status it didn't rise.
+pub record StopsAtFirst (before now status : ℕ) : Type 0 where
+  pub later : before ≤ now
+  pub failed : status ≡ 5 → now ≡ next_count before
+  pub sink : status ≡ 4 → (now ≡ before) ⊎ (now ≡ next_count before)
+  pub others : status ≢ 4 → status ≢ 5 → now ≡ before
 
 -- no count of faults rose: of the source, of the keeper, of out or of err
 pub record NoneRose (source_before source_after keeper_before keeper_after : ℕ) (out err : End) : Type 0 where

@@ -10,7 +10,7 @@ ghost use Rattle.scenarios.specs.Scenarios.{IsScenario, names_of};
 ghost use Rattle.tasks.specs.Asked.{AskOfRead, IsTaken, task_of};
 ghost use Rattle.tasks.specs.Endings.{HasKeepersCause, Tells};
 ghost use Rattle.tasks.specs.Sinks.{FailsIn, Takes, TakesFront, TakesLine, across};
-ghost use Rattle.top_call.specs.Ends.{AskToDraw, DrawEnds, EndsBy, EndsOf, EndsOver, FaultsOf, IsComplete, IsGood, IsReported, IsUsage, NoneRose, ReadsWhole, call, drawn_text, status_of};
+ghost use Rattle.top_call.specs.Ends.{AskToDraw, DrawEnds, EndsBy, EndsOf, EndsOver, FaultsOf, IsComplete, IsGood, IsReported, IsUsage, NoneRose, ReadsWhole, StopsAtFirst, call, drawn_text, status_of};
 ghost use Rattle.top_call.specs.Faults.{fault_text};
 ghost use Rattle.top_call.specs.Report.{ByReport, EndsAs, KeepsRows, WritesErr, WritesOut};
 ghost use Rattle.top_call.specs.Runs.{BeginApart, FinishWell, IsSafeRun, LoseTruly, ObeysTable};
@@ -91,7 +91,7 @@ fn report<O: Sink, E: Sink, K: Keeper>(
         result }
     ensures sink { result ≡ Way.Sink → Rose (O.faults out.old) (O.faults out.new)
         ⊎ Rose (E.faults err.old) (E.faults err.new) }
-    ensures keeper { result ≡ Way.Keeper → Rose (K.faults keeper.old) (K.faults keeper.new) }
+    ensures keeper { StopsAtFirst (K.faults keeper.old) (K.faults keeper.new) (status_of result) }
     ensures not_source { result ≡ Way.Source → ⊥ }
     ensures not_usage { result ≡ Way.Usage → ⊥ }
 {
@@ -152,7 +152,7 @@ fn answer<S: Source, O: Sink, E: Sink, K: Keeper>(
     ensures source { result ≡ Way.Source → Rose (S.faults source.old) (S.faults source.new) }
     ensures sink { result ≡ Way.Sink → Rose (O.faults out.old) (O.faults out.new)
         ⊎ Rose (E.faults err.old) (E.faults err.new) }
-    ensures keeper { result ≡ Way.Keeper → Rose (K.faults keeper.old) (K.faults keeper.new) }
+    ensures keeper { StopsAtFirst (K.faults keeper.old) (K.faults keeper.new) (status_of result) }
     ensures read { IsReported result
         → IfSome (S.left source.old)
         (λ bytes. Consumes (S.left source.old) (S.left source.new) bytes) }
@@ -210,7 +210,7 @@ fn respond<S: Source, O: Sink, E: Sink, K: Keeper>(
     ensures source { result ≡ Way.Source → Rose (S.faults source.old) (S.faults source.new) }
     ensures sink { result ≡ Way.Sink → Rose (O.faults out.old) (O.faults out.new)
         ⊎ Rose (E.faults err.old) (E.faults err.new) }
-    ensures keeper { result ≡ Way.Keeper → Rose (K.faults keeper.old) (K.faults keeper.new) }
+    ensures keeper { StopsAtFirst (K.faults keeper.old) (K.faults keeper.new) (status_of result) }
     ensures read { IsReported result
         → IfSome (S.left source.old)
         (λ bytes. Consumes (S.left source.old) (S.left source.new) bytes) }
@@ -258,12 +258,12 @@ pub fn orch<S: Source, O: Sink, E: Sink, K: Keeper>(
     ensures usage { IsUsage (map (λ w. w.items) words.now) result }
     ensures fault { FaultsOf (map (λ w. w.items) words.now) (S.left scenario.old) result }
 
-    // 3, 4 and 5 only where a count of faults rose, and 0 and 7 only where the source was read to its end, or the words
-    // ask to draw a scenario.
+    // 3, 4 and 5 only where a count of faults rose, 5 only where the keeper's rose in its last call, and 0 and 7 only
+    // where it didn't, and where the source was read to its end, or the words ask to draw a scenario.
     ensures source { result ≡ 3 → Rose (S.faults scenario.old) (S.faults scenario.new) }
     ensures sink { result ≡ 4 → Rose (O.faults out.old) (O.faults out.new)
         ⊎ Rose (E.faults err.old) (E.faults err.new) }
-    ensures keeper { result ≡ 5 → Rose (K.faults keeper.old) (K.faults keeper.new) }
+    ensures keeper { StopsAtFirst (K.faults keeper.old) (K.faults keeper.new) result }
     ensures read { IfSome (S.left scenario.old) (λ bytes. ReadsWhole
         (map (λ w. w.items) words.now) bytes result (S.left scenario.old) (S.left scenario.new)) }
 

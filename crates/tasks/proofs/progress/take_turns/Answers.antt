@@ -12,7 +12,7 @@ use Rattle.tasks.proofs.progress.take_turns.Goals as goal
 pub loop-i-init : goal.loop-i-init
 loop-i-init g c = record {
   follows = Follows-nil c.args.names.now (point (g.K.Keeper.kept c.args.keeper.now) c.args.engine.now) c.args.turns.now (taken (g.O.Sink.written c.args.out.now) (g.O.Sink.faults c.args.out.now)) c.args.progress.now c.requires.fresh;
-  later = omega arith;
+  same = refl;
   servers = refl;
 }
 
@@ -42,6 +42,6 @@ loop-i-preserved g c = record {
       (subst (λ (t : Turn). g.K.Keeper.kept c.turn.new.keeper ≡ kept_by engine true (g.K.Keeper.kept c.loop-i.keeper) c.loop-i.engine t) c.index-turns-i.is c.in_ok-reply.ensures.kept)
       (subst (λ (t : Turn). c.in_ok-reply.reply ≡ reply_of c.loop-i.engine t) c.index-turns-i.is c.in_ok-reply.ensures.reply)
       (subst (λ (t : Turn). Adds c.args.names.now (c.loop-i.i + 1) t c.in_ok-reply.reply c.loop-i.progress c.add.new.self (taken (g.O.Sink.written c.loop-i.out) (g.O.Sink.faults c.loop-i.out)) (taken (g.O.Sink.written c.add.new.out) (g.O.Sink.faults c.add.new.out))) c.index-turns-i.is c.in_ok-add.ensures.ok);
-  later = omega (arith, c.loop-i.invariant.later, c.turn.ensures.cause.later);
+  same = c.in_ok-reply.ensures.cause.ok ∙ c.loop-i.invariant.same;
   servers = c.turn.ensures.servers ∙ c.loop-i.invariant.servers;
 }

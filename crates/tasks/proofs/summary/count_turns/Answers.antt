@@ -12,7 +12,7 @@ use Rattle.tasks.proofs.summary.count_turns.Goals as goal
 pub loop-t-init : goal.loop-t-init
 loop-t-init g c = record {
   tallies = Tallies-nil (point (g.K.Keeper.kept c.args.keeper.now) c.args.engine.now) c.args.turns.now;
-  later = omega arith;
+  same = refl;
   servers = refl;
 }
 
@@ -41,6 +41,6 @@ loop-t-preserved g c = record {
       c.loop-t.invariant.tallies (subst (λ (t : Turn). StepsTo engine (g.K.Keeper.kept c.loop-t.keeper) c.loop-t.engine t c.turn.new.self) c.t-item.is c.in_ok-reply.ensures.ok)
       (subst (λ (t : Turn). g.K.Keeper.kept c.turn.new.keeper ≡ kept_by engine true (g.K.Keeper.kept c.loop-t.keeper) c.loop-t.engine t) c.t-item.is c.in_ok-reply.ensures.kept)
       (subst (λ (t : Turn). c.in_ok-reply.reply ≡ reply_of c.loop-t.engine t) c.t-item.is c.in_ok-reply.ensures.reply) c.with_reply-tally.ensures;
-  later = omega (arith, c.loop-t.invariant.later, c.turn.ensures.cause.later);
+  same = c.in_ok-reply.ensures.cause.ok ∙ c.loop-t.invariant.same;
   servers = c.turn.ensures.servers ∙ c.loop-t.invariant.servers;
 }

@@ -1,5 +1,16 @@
-use Rattle.top_call.proofs.Ends.{each, idles}
+use Rattle.std.proofs.Common.{refl}
+use Rattle.top_call.specs.declared.way.Way.TheVariants as way
+use Rattle.top_call.proofs.Ends.{each, idles, told_of_faults, unmoved}
 use Rattle.top_call.proofs.top.answer.Goals as goal
 
 pub returns-in-Err-Source-clause-ends : goal.returns-in-Err-Source-clause-ends
 returns-in-Err-Source-clause-ends g c = λ words t. each (g.S.Source.left c.args.source.now) _ (λ bytes. ((c.args.places.now, t, c.requires.asks), idles words bytes _ _ _ _ c.close-in-Err-Source.ensures.took))
+
+pub returns-in-Err-Memory-clause-keeper : goal.returns-in-Err-Memory-clause-keeper
+returns-in-Err-Memory-clause-keeper g c = unmoved _ _ way.Memory (λ is. absurd cc) refl
+
+pub returns-in-Err-Source-clause-keeper : goal.returns-in-Err-Source-clause-keeper
+returns-in-Err-Source-clause-keeper g c = unmoved _ _ way.Source (λ is. absurd cc) refl
+
+pub returns-in-Err-Fault-clause-keeper : goal.returns-in-Err-Fault-clause-keeper
+returns-in-Err-Fault-clause-keeper g c = unmoved _ _ c.close_fault.result (told_of_faults c.close_fault.result _ _ c.close_fault.ensures) refl

@@ -1,9 +1,9 @@
-use Rattle.std.proofs.Common.{◌∙◌, ℕ, List, inl, map, subst, sym}
+use Rattle.std.proofs.Common.{◌∙◌, ℕ, List, inl, map, refl, subst, sym}
 use Rattle.command_line.specs.Places.{places_of}
 use Rattle.tasks.specs.Sinks.{End, between, taken}
 use Rattle.top_call.specs.declared.way.Way.TheVariants as way
-use Rattle.top_call.specs.Ends.{DrawEnds, FaultsAs, IsComplete, IsUsage, call}
-use Rattle.top_call.proofs.Ends.{bad_words, complete, draws_at, each, faults, idles, lifted, no_usage, not_asked, of_five, of_four, of_three, read_whole, undrawn}
+use Rattle.top_call.specs.Ends.{DrawEnds, FaultsAs, IsComplete, IsUsage, StopsAtFirst, call}
+use Rattle.top_call.proofs.Ends.{bad_words, complete, draws_at, each, faults, idles, lifted, keeper_rose, no_usage, not_asked, of_four, of_three, read_whole, undrawn, unmoved}
 use Rattle.top_call.proofs.Reports.{both, err_by, kept_by_report, out_by, status_told}
 use Rattle.top_call.proofs.Runs.{begin_apart, finish_well, lose_truly, obeys, safe_run}
 use Rattle.top_call.proofs.top.orch.Goals as goal
@@ -28,7 +28,7 @@ pub returns-in-Ok-clause-sink : goal.returns-in-Ok-clause-sink
 returns-in-Ok-clause-sink g c = λ four. c.respond.ensures.sink (of_four c.respond.result (sym c.status.ensures ∙ four))
 
 pub returns-in-Ok-clause-keeper : goal.returns-in-Ok-clause-keeper
-returns-in-Ok-clause-keeper g c = λ five. c.respond.ensures.keeper (of_five c.respond.result (sym c.status.ensures ∙ five))
+returns-in-Ok-clause-keeper g c = subst (λ (n : ℕ). StopsAtFirst (g.K.Keeper.faults c.args.keeper.now) (g.K.Keeper.faults c.respond.new.keeper) n) (sym c.status.ensures) c.respond.ensures.keeper
 
 pub returns-in-Ok-clause-read : goal.returns-in-Ok-clause-read
 returns-in-Ok-clause-read g c =
@@ -56,7 +56,7 @@ pub returns-in-Ok-clause-complete : goal.returns-in-Ok-clause-complete
 returns-in-Ok-clause-complete g c =
     let words : List (List ℕ) = map (λ w. w.items) c.args.words.now in
     lifted (g.S.Source.left c.args.scenario.now) _ _
-    (λ bytes e good none. subst IsComplete (sym c.status.ensures) (complete (call words bytes _ _ _ _) c.respond.result _ _ _ _ c.respond.ensures.source c.respond.ensures.sink c.respond.ensures.keeper e good none))
+    (λ bytes e good none. subst IsComplete (sym c.status.ensures) (complete (call words bytes _ _ _ _) c.respond.result _ _ _ _ c.respond.ensures.source c.respond.ensures.sink (keeper_rose _ _ c.respond.result c.respond.ensures.keeper) e good none))
     (c.respond.ensures.ends words c.in-Ok.ensures)
 
 pub returns-in-Ok-clause-safe : goal.returns-in-Ok-clause-safe
@@ -75,6 +75,14 @@ pub returns-in-Ok-clause-losses : goal.returns-in-Ok-clause-losses
 returns-in-Ok-clause-losses g c = lose_truly (map (λ w. w.items) c.args.words.now)
 
 -- ---- they aren't, or memory ran out
+
+pub returns-in-Err-BadWords-clause-keeper : goal.returns-in-Err-BadWords-clause-keeper
+returns-in-Err-BadWords-clause-keeper g c =
+    subst (λ (n : ℕ). StopsAtFirst (g.K.Keeper.faults c.args.keeper.now) (g.K.Keeper.faults c.args.keeper.now) n) (sym c.status-in-Err-BadWords.ensures) (unmoved _ _ way.Usage (λ is. absurd cc) refl)
+
+pub returns-in-Err-Memory-clause-keeper : goal.returns-in-Err-Memory-clause-keeper
+returns-in-Err-Memory-clause-keeper g c =
+    subst (λ (n : ℕ). StopsAtFirst (g.K.Keeper.faults c.args.keeper.now) (g.K.Keeper.faults c.args.keeper.now) n) (sym c.status-in-Err-Memory.ensures) (unmoved _ _ way.Memory (λ is. absurd cc) refl)
 
 pub returns-in-Err-BadWords-clause-ends : goal.returns-in-Err-BadWords-clause-ends
 returns-in-Err-BadWords-clause-ends g c =

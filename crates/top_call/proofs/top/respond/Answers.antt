@@ -1,9 +1,9 @@
-use Rattle.std.proofs.Common.{inl, sym}
+use Rattle.std.proofs.Common.{inl, refl, sym}
 use Rattle.command_line.specs.declared.parts.Drawing.{Drawing}
 use Rattle.command_line.specs.Places.{drawing_of}
 use Rattle.tasks.specs.Sinks.{End, between, taken}
 use Rattle.top_call.specs.Ends.{DrawEnds, status_of}
-use Rattle.top_call.proofs.Ends.{draw_rose, draw_way, drawing_sound, drawn_once, drew, each, none_or_some}
+use Rattle.top_call.proofs.Ends.{draw_rose, draw_way, drawing_sound, drawn_once, drew, each, none_or_some, unmoved}
 use Rattle.top_call.proofs.top.respond.Goals as goal
 
 pub draw-requires : goal.draw-requires
@@ -23,7 +23,7 @@ pub returns-in-Some-clause-sink : goal.returns-in-Some-clause-sink
 returns-in-Some-clause-sink g c = λ is. inl (draw_rose c.in-Some.drawing c.draw.result _ _ c.draw.ensures.ends is)
 
 pub returns-in-Some-clause-keeper : goal.returns-in-Some-clause-keeper
-returns-in-Some-clause-keeper g c = λ is. absurd ((draw_way c.draw.result c.draw.ensures.way).not_keeper is)
+returns-in-Some-clause-keeper g c = unmoved _ _ c.draw.result (draw_way c.draw.result c.draw.ensures.way).not_keeper refl
 
 pub returns-in-Some-clause-read : goal.returns-in-Some-clause-read
 returns-in-Some-clause-read g c = λ is. absurd ((draw_way c.draw.result c.draw.ensures.way).not_reported is)

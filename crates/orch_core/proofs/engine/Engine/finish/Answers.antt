@@ -30,7 +30,7 @@ rounds-preserved g c =
         Rounds-more engine (λ (s : State). s) (λ rows a t. refl) (g.K.Keeper.kept c.args.keeper.now) (g.K.Keeper.kept c.rounds.keeper) (g.K.Keeper.kept c.round.new.keeper) c.args.self.now c.rounds.self c.round.new.self c.args.job before.0 c.shows_state-in-rounds.ensures before.1 opened ran,
         told-more c.args.self.now c.rounds.self c.args.job before.0 _ before.1.here c.in-Ok-round.ensures.reply,
       );
-      later = omega (arith, c.rounds.invariant.later, c.round.ensures.cause.later);
+      same = c.in-Ok-round.ensures.cause.ok ∙ c.rounds.invariant.same;
       servers = c.round.ensures.servers ∙ c.rounds.invariant.servers;
     }
 

@@ -1,4 +1,4 @@
-use Rattle.std.proofs.Common.{ℕ, ◌≡◌, ◌≤◌, length}
+use Rattle.std.proofs.Common.{ℕ, ◌≡◌, length}
 use Rattle.jobs_in_flight.specs.Jobs.{most_turns}
 use Rattle.orch_core.specs.Rounds.{told_in}
 use Rattle.orch_core.specs.Runs.{engine}
@@ -11,6 +11,6 @@ decreases-rounds g l = most_turns l.self.jobs l.job
 abbrev pub invariant-rounds : goal.invariant-rounds
 invariant-rounds g l = record {
   rounds : (k : ℕ) × Rounds engine (λ s. s) (g.K.Keeper.kept l.fn.keeper) l.fn.self l.job (g.K.Keeper.kept l.keeper) l.self k × (l.told ≡ told_in l.fn.self l.job k);
-  later : g.K.Keeper.faults l.fn.keeper ≤ g.K.Keeper.faults l.keeper;
+  same : g.K.Keeper.faults l.keeper ≡ g.K.Keeper.faults l.fn.keeper;
   servers : length l.self.world.servers ≡ length l.fn.self.world.servers;
 }

@@ -10,6 +10,6 @@ loop-t-preserved g c = record {
   ran = Ran-next engine _ _ _ _ _ _ c.args.turns.now c.loop-t.t-index c.t-item.result (omega arith) c.loop-t.invariant.ran
       (subst (λ (t : Turn). StepsTo engine (g.K.Keeper.kept c.loop-t.keeper) c.loop-t.self t c.turn.new.self) c.t-item.is c.in_ok-turn.ensures.ok)
       (subst (λ (t : Turn). g.K.Keeper.kept c.turn.new.keeper ≡ kept_by engine true (g.K.Keeper.kept c.loop-t.keeper) c.loop-t.self t) c.t-item.is c.in_ok-turn.ensures.kept);
-  later = omega (arith, c.loop-t.invariant.later, c.turn.ensures.cause.later);
+  same = c.in_ok-turn.ensures.cause.ok ∙ c.loop-t.invariant.same;
   servers = c.turn.ensures.servers ∙ c.loop-t.invariant.servers;
 }

@@ -25,7 +25,7 @@ rounds-preserved g c =
         before.0 + 1,
         Rounds-more recorder (λ (r : Recorded). r.state) (λ rows a t. refl) (g.K.Keeper.kept c.args.keeper.now) (g.K.Keeper.kept c.rounds.keeper) (g.K.Keeper.kept c.run.new.keeper) c.args.self.now c.rounds.self c.run.new.self c.args.job before.0 c.shows_state-in-rounds.ensures before.1 opened ran,
       );
-      later = omega (arith, c.rounds.invariant.later, c.run.ensures.cause.later);
+      same = c.in_default-run.ensures.cause.ok ∙ c.rounds.invariant.same;
       servers = c.run.ensures.servers ∙ c.rounds.invariant.servers;
     }
 

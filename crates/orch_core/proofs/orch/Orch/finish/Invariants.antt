@@ -1,4 +1,4 @@
-use Rattle.std.proofs.Common.{ℕ, ◌≡◌, ◌≤◌, length}
+use Rattle.std.proofs.Common.{ℕ, ◌≡◌, length}
 use Rattle.jobs_in_flight.specs.Jobs.{most_turns}
 use Rattle.orch_core.specs.Runs.{recorder}
 use Rattle.orch_core.proofs.Finishing.{Rounds}
@@ -10,6 +10,6 @@ decreases-rounds g l = most_turns l.self.state.jobs l.job
 abbrev pub invariant-rounds : goal.invariant-rounds
 invariant-rounds g l = record {
   rounds : (k : ℕ) × Rounds recorder (λ r. r.state) (g.K.Keeper.kept l.fn.keeper) l.fn.self l.job (g.K.Keeper.kept l.keeper) l.self k;
-  later : g.K.Keeper.faults l.fn.keeper ≤ g.K.Keeper.faults l.keeper;
+  same : g.K.Keeper.faults l.keeper ≡ g.K.Keeper.faults l.fn.keeper;
   servers : length l.self.state.world.servers ≡ length l.fn.self.state.world.servers;
 }
