@@ -1,5 +1,5 @@
 -- How calls end.
-use Rattle.std.proofs.Common.{◌≡◌, ◌∙◌, ℕ, ◌≤◌, true, false, List, Option, Some, None, Ok, Err, refl, sym, ap, subst, arith, ◌⊎◌, inl, inr}
+use Rattle.std.proofs.Common.{◌≡◌, ◌∙◌, ℕ, ◌≤◌, true, false, List, [], Option, Some, None, Ok, Err, refl, sym, ap, subst, arith, ◌⊎◌, inl, inr}
 use Rattle.std.specs.Prelude.{IfSome, codes, Result}
 use Rattle.std.specs.Io.KnownBytes.{Consumes}
 use Rattle.std.proofs.lemmas.Option.{same_Some}
@@ -30,16 +30,22 @@ use Rattle.top_call.specs.declared.way.Way.{Way}
 use Rattle.top_call.specs.declared.way.Way.TheVariants as way
 use Rattle.top_call.specs.Ends.{AskARead, Asks, AskToDraw, Call, Closes, DrawEnds, Ends, FaultsAs, FaultsFor, Idles, IsComplete, IsGood, IsReported, IsUsage, NoneRose, ReadsWhole, StopsAtFirst, call, drawn_text, status_of}
 use Rattle.top_call.specs.Faults.{fault_text}
+use Rattle.top_call.specs.Reads.{OfRead}
 
--- ---- where the bytes are known
+-- ---- of the bytes that were read
 
-pub each : (left : Option (List ℕ)) (P : List ℕ → Type 0) → ((bytes : List ℕ) → P bytes) → IfSome left P
-each None P f = tt
+pub each : (left : Option (List ℕ)) (P : List ℕ → Type 0) → ((bytes : List ℕ) → P bytes) → OfRead left P
+each None P f = ([], f [])
 each (Some bytes) P f = f bytes
 
-pub lifted : (left : Option (List ℕ)) (P Q : List ℕ → Type 0) → ((bytes : List ℕ) → P bytes → Q bytes) → IfSome left P → IfSome left Q
-lifted None P Q f h = tt
+pub lifted : (left : Option (List ℕ)) (P Q : List ℕ → Type 0) → ((bytes : List ℕ) → P bytes → Q bytes) → OfRead left P → OfRead left Q
+lifted None P Q f h = (h.0, f h.0 h.1)
 lifted (Some bytes) P Q f h = f bytes h
+
+-- where they are known
+pub known : (left : Option (List ℕ)) (P Q : List ℕ → Type 0) → ((bytes : List ℕ) → P bytes → Q bytes) → OfRead left P → IfSome left Q
+known None P Q f h = tt
+known (Some bytes) P Q f h = f bytes h
 
 -- ---- the task
 
@@ -291,7 +297,7 @@ undrawn d out err took = inr (inr (refl, nothing_is_front out.bytes out.bytes (d
 
 -- the source was read to its end where the words ask of it
 pub read_whole : (words : List (List ℕ)) (left left_now : Option (List ℕ)) (kept kept_now : Option (List Row)) (out err : End) (w : Way) (status : ℕ) → status ≡ status_of w → (IsReported w → IfSome left (λ bytes. Consumes left left_now bytes))
-    → IfSome left (λ bytes. Ends (call words bytes kept kept_now out err) w) → IfSome left (λ bytes. ReadsWhole words bytes status left left_now)
+    → OfRead left (λ bytes. Ends (call words bytes kept kept_now out err) w) → IfSome left (λ bytes. ReadsWhole words bytes status left left_now)
 read_whole words None left_now kept kept_now out err w status is read ended = tt
 read_whole words (Some bytes) left_now kept kept_now out err w status is read ended = λ ask done. go ask (of_done w (subst (λ (n : ℕ). (n ≡ 0) ⊎ (n ≡ 7)) is done))
   where

@@ -1,5 +1,5 @@
 -- A source with more bytes than a scenario may have.
-use Rattle.std.proofs.Common.{◌≡◌, ◌∙◌, ℕ, Bool, true, false, List, [], length, Option, Some, None, Ok, Err, refl, sym, ap, subst, cond, arith, nat_lt, nat_le}
+use Rattle.std.proofs.Common.{◌≡◌, ◌∙◌, ℕ, ◌+◌, zero, suc, Bool, true, false, List, [], ◌∷◌, length, Option, Some, None, Ok, Err, refl, sym, ap, subst, cond, arith, nat_lt, nat_le}
 use Rattle.std.specs.Prelude.{IfSome, Result}
 use Rattle.std.proofs.lemmas.Bool.Decides.{nat_tests}
 use Rattle.std.proofs.lemmas.Option.{same_Some}
@@ -8,6 +8,7 @@ use Rattle.orch_base.specs.declared.failed.NotRead.{NotRead}
 use Rattle.orch_base.specs.declared.failed.NotRead.TheVariants as not_read
 use Rattle.orch_base.specs.Gives.{Gives}
 use Rattle.orch_base.specs.Whole.{whole, length_fault}
+use Rattle.scenarios.specs.declared.scenario.Scenario.{Scenario}
 use Rattle.scenario_values.specs.declared.fault.Fault.{Fault}
 use Rattle.scenario_values.specs.declared.fault.FaultCode.TheVariants.{TooLong}
 use Rattle.scenario_values.specs.declared.fault.ReadFault.{ReadFault}
@@ -16,7 +17,7 @@ use Rattle.scenario_values.specs.Faults.{fault_of}
 use Rattle.scenario_reader.specs.Scenarios.{scenario_in}
 use Rattle.top_call.specs.declared.reading.Stop.{Stop}
 use Rattle.top_call.specs.declared.reading.Stop.TheVariants as stops
-use Rattle.top_call.specs.Reads.{ReadsAs, stop_by}
+use Rattle.top_call.specs.Reads.{OfRead, ReadsAs, stop_by}
 
 abbrev too_long_fault : Fault
 too_long_fault = record { code = TooLong; path = [] }
@@ -42,7 +43,31 @@ stop_of_long : (fault : ReadFault) → fault_of fault ≡ Some too_long_fault �
 stop_of_long reading.Memory h = absurd cc
 stop_of_long (reading.Fault f) h = ap stops.Fault (same_Some f too_long_fault h)
 
+-- there is such a text
+text_of : (n : ℕ) → (bytes : List ℕ) × (length bytes ≡ n)
+text_of zero = ([], refl)
+text_of (suc n) = let rest = text_of n in (0 ∷ rest.0, ap (λ (k : ℕ). suc k) rest.1)
+
+long_text : (bytes : List ℕ) × (nat_lt MAX_SCENARIO_LEN (length bytes) ≡ true)
+long_text = go (text_of (MAX_SCENARIO_LEN + 1))
+  where
+    go : (bytes : List ℕ) × (length bytes ≡ MAX_SCENARIO_LEN + 1) → (bytes : List ℕ) × (nat_lt MAX_SCENARIO_LEN (length bytes) ≡ true)
+    go x = (x.0, subst (λ (n : ℕ). nat_lt MAX_SCENARIO_LEN n ≡ true) (sym x.1) refl)
+
 pub too_long_read : (left : Option (List ℕ)) (e : NotRead) (fault : ReadFault) (stop : Stop) → e ≡ not_read.TooLong → fault_of fault ≡ Some too_long_fault → stop ≡ stop_by fault
-    → IfSome left (λ bytes. Gives {X = List ℕ} {Y = List ℕ} (λ v. v) length_fault (Err e) (whole bytes)) → IfSome left (λ bytes. ReadsAs bytes (Err stop))
-too_long_read None e fault stop is long by h = tt
+    → IfSome left (λ bytes. Gives {X = List ℕ} {Y = List ℕ} (λ v. v) length_fault (Err e) (whole bytes)) → OfRead left (λ bytes. ReadsAs bytes (Err stop))
+too_long_read None e fault stop is long by h = go long_text
+  where
+    go : (bytes : List ℕ) × (nat_lt MAX_SCENARIO_LEN (length bytes) ≡ true) → OfRead None (λ bytes. ReadsAs bytes (Err stop))
+    go x = (x.0, subst (λ y. ReadsAs x.0 (Err y)) (sym (by ∙ stop_of_long fault long)) (scenario_in_too_long x.0 x.1))
 too_long_read (Some bytes) e fault stop is long by h = subst (λ x. ReadsAs bytes (Err x)) (sym (by ∙ stop_of_long fault long)) (long_at bytes e is h)
+
+-- ---- bytes that were read
+
+is_whole : (b : Bool) (bytes v : List ℕ) → cond {A = Result (List ℕ) NotRead} b (Err not_read.TooLong) (Ok bytes) ≡ Ok v → v ≡ bytes
+is_whole true bytes v h = absurd cc
+is_whole false bytes v h = cc
+
+pub of_read : (left : Option (List ℕ)) (v : List ℕ) (r : Result Scenario Stop) → IfSome left (λ bytes. whole bytes ≡ Ok v) → ReadsAs v r → OfRead left (λ bytes. ReadsAs bytes r)
+of_read None v r told reads = (v, reads)
+of_read (Some bytes) v r told reads = subst (λ (x : List ℕ). ReadsAs x r) (is_whole (nat_lt MAX_SCENARIO_LEN (length bytes)) bytes v told) reads

@@ -25,12 +25,13 @@ use Rattle.tasks.proofs.Sends.{front_more, front_of_longer, nothing_is_front, ro
 use Rattle.top_call.specs.declared.way.Way.{Way}
 use Rattle.top_call.specs.declared.way.Way.TheVariants as way
 use Rattle.top_call.specs.Ends.{AskARead, Asks, AskToDraw, Call, Closes, Ends, EndsBy, IsReported, call, drawn_text, status_of}
+use Rattle.top_call.specs.Reads.{OfRead}
 use Rattle.top_call.specs.Report.{EndsAs, IsToWrite, KeepsRows, Report, TakesBehind, WritesErr, WritesOut, drawn_report, read_report, report, taken_report, task_report, words_report, written_status}
 use Rattle.top_call.proofs.Ends.{asks_of, of_done, of_five, of_four, of_one, of_six, of_three, of_two}
 
 -- ---- where the bytes and the rows are known
 
-pub both : (left : Option (List ℕ)) (kept : Option (List Row)) (E : List ℕ → Type 0) (P : List ℕ → List Row → Type 0) → ((bytes : List ℕ) (rows : List Row) → kept ≡ Some rows → E bytes → P bytes rows) → IfSome left E → IfSome left (λ bytes. IfSome kept (P bytes))
+pub both : (left : Option (List ℕ)) (kept : Option (List Row)) (E : List ℕ → Type 0) (P : List ℕ → List Row → Type 0) → ((bytes : List ℕ) (rows : List Row) → kept ≡ Some rows → E bytes → P bytes rows) → OfRead left E → IfSome left (λ bytes. IfSome kept (P bytes))
 both None kept E P f h = tt
 both (Some bytes) None E P f h = tt
 both (Some bytes) (Some rows) E P f h = f bytes rows refl h
@@ -338,7 +339,7 @@ module _ (c : Call) (rows : List Row) (known : c.kept ≡ Some rows) where
 pub status_by : (c : Call) (rows : List Row) (status : ℕ) → c.kept ≡ Some rows → EndsBy c status → EndsAs (report c.words c.bytes rows) status
 status_by c rows status known by = subst (EndsAs (report c.words c.bytes rows)) (sym by.1) (ends_as c rows known by.0 by.2)
 
-pub status_told : (left : Option (List ℕ)) (kept kept_now : Option (List Row)) (words : List (List ℕ)) (out err : End) (status : ℕ) → IfSome left (λ bytes. EndsBy (call words bytes kept kept_now out err) status) → IfSome left (λ bytes. IfSome kept (λ rows. EndsAs (report words bytes rows) status))
+pub status_told : (left : Option (List ℕ)) (kept kept_now : Option (List Row)) (words : List (List ℕ)) (out err : End) (status : ℕ) → OfRead left (λ bytes. EndsBy (call words bytes kept kept_now out err) status) → IfSome left (λ bytes. IfSome kept (λ rows. EndsAs (report words bytes rows) status))
 status_told left kept kept_now words out err status ended =
     both left kept (λ bytes. EndsBy (call words bytes kept kept_now out err) status) (λ bytes rows. EndsAs (report words bytes rows) status) (λ bytes rows known by. status_by (call words bytes kept kept_now out err) rows status known by) ended
 

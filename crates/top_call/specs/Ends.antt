@@ -21,6 +21,7 @@ use Rattle.tasks.specs.Endings.{IsWritten, Tells, course_of}
 use Rattle.tasks.specs.Sinks.{End, Fails, FailsIn, Taken, Takes, TakesFront, TakesLine, between}
 use Rattle.tasks.specs.Works.{Work}
 use Rattle.top_call.specs.Faults.{fault_text}
+use Rattle.top_call.specs.Reads.{OfRead}
 use Rattle.top_call.specs.declared.way.Way.{Way}
 use Rattle.top_call.specs.declared.way.Way.TheVariants as way
 
@@ -124,9 +125,9 @@ DrawEnds d status out err =
     ⊎ ((status ≡ 4) × FailsIn out (drawn_text d) × TakesLine err (codes "write fault\n"))
     ⊎ ((status ≡ 6) × TakesFront out (drawn_text d) × TakesLine err (codes "out of memory\n"))
 
--- so ends a call of any words that these places are, over the bytes that the source had, where they are known
+-- so ends a call of any words that these places are, over the bytes that were read
 abbrev pub EndsOf : Places → Option (List ℕ) → Option (List Row) → Option (List Row) → End → End → Way → Type 0
-EndsOf p left kept kept_now out err w = (words : List (List ℕ)) → places_of words ≡ Ok p → IfSome left (λ bytes. Ends (call words bytes kept kept_now out err) w)
+EndsOf p left kept kept_now out err w = (words : List (List ℕ)) → places_of words ≡ Ok p → OfRead left (λ bytes. Ends (call words bytes kept kept_now out err) w)
 
 -- over any bytes that are this scenario
 abbrev pub EndsOver : Places → Scenario → Option (List Row) → Option (List Row) → End → End → Way → Type 0

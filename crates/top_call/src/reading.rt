@@ -4,7 +4,7 @@ ghost use Rattle.std.specs.Prelude.{◌≡◌, IfOk, IfSome, Err};
 ghost use Rattle.std.specs.Io.KnownBytes.{Consumes};
 ghost use Rattle.orch_base.specs.Causes.{Rose};
 ghost use Rattle.scenarios.specs.Scenarios.{IsScenario};
-ghost use Rattle.top_call.specs.Reads.{ReadsAs, stop_by};
+ghost use Rattle.top_call.specs.Reads.{OfRead, ReadsAs, stop_by};
 
 use orch_base::{NotRead, Source, read_all};
 use scenario_reader::{Fault, ReadFault, read, too_long};
@@ -43,7 +43,7 @@ fn scenario_in(alloc: Global, bytes: &[u8]) -> Result<Scenario, Stop>
 
 /// Reads the source to its end: the scenario that its bytes are, or their fault.
 pub(crate) fn scenario_from<S: Source>(alloc: Global, source: &mut S) -> Result<Scenario, Stop>
-    ensures read { IfSome (S.left source.old) (λ bytes. ReadsAs bytes result) }
+    ensures read { OfRead (S.left source.old) (λ bytes. ReadsAs bytes result) }
     ensures sound { IfOk result IsScenario }
     ensures consumed { IfOk result (λ _.
         IfSome (S.left source.old) (λ bytes.

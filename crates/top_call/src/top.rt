@@ -12,6 +12,7 @@ ghost use Rattle.tasks.specs.Endings.{HasKeepersCause, Tells};
 ghost use Rattle.tasks.specs.Sinks.{FailsIn, Takes, TakesFront, TakesLine, across};
 ghost use Rattle.top_call.specs.Ends.{AskToDraw, DrawEnds, EndsBy, EndsOf, EndsOver, FaultsOf, IsComplete, IsGood, IsReported, IsUsage, NoneRose, ReadsWhole, StopsAtFirst, call, drawn_text, status_of};
 ghost use Rattle.top_call.specs.Faults.{fault_text};
+ghost use Rattle.top_call.specs.Reads.{OfRead};
 ghost use Rattle.top_call.specs.Report.{ByReport, EndsAs, KeepsRows, WritesErr, WritesOut};
 ghost use Rattle.top_call.specs.Runs.{BeginApart, FinishWell, IsSafeRun, LoseTruly, ObeysTable};
 
@@ -277,8 +278,9 @@ pub fn orch<S: Source, O: Sink, E: Sink, K: Keeper>(
     ensures unkept { (d : Drawing) → AskToDraw (map (λ w. w.items) words.now) d
         → keeper.new ≡ keeper.old }
 
-    // What out and err took and what the keeper has, by the status: exactly, whether the keeper tells its rows or not.
-    ensures ends { IfSome (S.left scenario.old) (λ bytes.
+    // What out and err took and what the keeper has, by the status: exactly, whether the keeper tells its rows or not,
+    // and of the bytes that were read, whether the source tells them or not.
+    ensures ends { OfRead (S.left scenario.old) (λ bytes.
         EndsBy (call (map (λ w. w.items) words.now) bytes (K.kept keeper.old) (K.kept keeper.new)
         (across (O.written out.old) (O.faults out.old) (O.written out.new) (O.faults out.new))
         (across (E.written err.old) (E.faults err.old) (E.written err.new) (E.faults err.new)))

@@ -1,6 +1,6 @@
-use Rattle.std.proofs.Common.{refl}
+use Rattle.std.proofs.Common.{inl, refl}
 use Rattle.top_call.specs.declared.way.Way.TheVariants as way
-use Rattle.top_call.proofs.Ends.{each, idles, told_of_faults, unmoved}
+use Rattle.top_call.proofs.Ends.{each, faulty, idles, lifted, told_of_faults, unmoved}
 use Rattle.top_call.proofs.top.answer.Goals as goal
 
 pub returns-in-Err-Source-clause-ends : goal.returns-in-Err-Source-clause-ends
@@ -14,3 +14,14 @@ returns-in-Err-Source-clause-keeper g c = unmoved _ _ way.Source (λ is. absurd 
 
 pub returns-in-Err-Fault-clause-keeper : goal.returns-in-Err-Fault-clause-keeper
 returns-in-Err-Fault-clause-keeper g c = unmoved _ _ c.close_fault.result (told_of_faults c.close_fault.result _ _ c.close_fault.ensures) refl
+
+pub returns-in-Ok-clause-ends : goal.returns-in-Ok-clause-ends
+returns-in-Ok-clause-ends g c = λ words t. lifted (g.S.Source.left c.args.source.now) _ _ (λ bytes r. c.report.ensures.ends words bytes t r) c.in-Ok.ensures.read
+
+pub returns-in-Err-Memory-clause-ends : goal.returns-in-Err-Memory-clause-ends
+returns-in-Err-Memory-clause-ends g c = λ words t. each (g.S.Source.left c.args.source.now) _ (λ bytes. inl (idles words bytes _ _ _ _ c.close.ensures.took))
+
+pub returns-in-Err-Fault-clause-ends : goal.returns-in-Err-Fault-clause-ends
+returns-in-Err-Fault-clause-ends g c = λ words t.
+    lifted (g.S.Source.left c.args.source.now) _ _
+    (λ bytes r. faulty words bytes c.args.places.now _ _ _ _ c.close_fault.result t c.requires.asks r c.close_fault.ensures) c.in-Err-Fault.ensures.read

@@ -3,7 +3,7 @@ use Rattle.command_line.specs.Places.{places_of}
 use Rattle.tasks.specs.Sinks.{End, between, taken}
 use Rattle.top_call.specs.declared.way.Way.TheVariants as way
 use Rattle.top_call.specs.Ends.{DrawEnds, FaultsAs, IsComplete, IsUsage, StopsAtFirst, call}
-use Rattle.top_call.proofs.Ends.{bad_words, complete, draws_at, each, faults, idles, lifted, keeper_rose, no_usage, not_asked, of_four, of_three, read_whole, undrawn, unmoved}
+use Rattle.top_call.proofs.Ends.{bad_words, complete, draws_at, each, faults, idles, lifted, keeper_rose, known, no_usage, not_asked, of_four, of_three, read_whole, undrawn, unmoved}
 use Rattle.top_call.proofs.Reports.{both, err_by, kept_by_report, out_by, status_told}
 use Rattle.top_call.proofs.Runs.{begin_apart, finish_well, lose_truly, obeys, safe_run}
 use Rattle.top_call.proofs.top.orch.Goals as goal
@@ -18,7 +18,7 @@ returns-in-Ok-clause-usage g c =
 pub returns-in-Ok-clause-fault : goal.returns-in-Ok-clause-fault
 returns-in-Ok-clause-fault g c =
     let words : List (List ℕ) = map (λ w. w.items) c.args.words.now in
-    lifted (g.S.Source.left c.args.scenario.now) _ _
+    known (g.S.Source.left c.args.scenario.now) _ _
     (λ bytes e. subst (λ (n : ℕ). FaultsAs (places_of words) bytes n) (sym c.status.ensures) (faults (call words bytes _ _ _ _) c.in-Ok.places c.in-Ok.ensures c.respond.result e)) (c.respond.ensures.ends words c.in-Ok.ensures)
 
 pub returns-in-Ok-clause-source : goal.returns-in-Ok-clause-source
@@ -55,7 +55,7 @@ returns-in-Ok-clause-ends g c =
 pub returns-in-Ok-clause-complete : goal.returns-in-Ok-clause-complete
 returns-in-Ok-clause-complete g c =
     let words : List (List ℕ) = map (λ w. w.items) c.args.words.now in
-    lifted (g.S.Source.left c.args.scenario.now) _ _
+    known (g.S.Source.left c.args.scenario.now) _ _
     (λ bytes e good none. subst IsComplete (sym c.status.ensures) (complete (call words bytes _ _ _ _) c.respond.result _ _ _ _ c.respond.ensures.source c.respond.ensures.sink (keeper_rose _ _ c.respond.result c.respond.ensures.keeper) e good none))
     (c.respond.ensures.ends words c.in-Ok.ensures)
 
