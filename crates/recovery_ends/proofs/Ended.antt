@@ -42,7 +42,7 @@ use Rattle.recovery_plans.specs.Taking.{Fate, is_below, judged, idle, frees, loo
 use Rattle.recovery_ends.specs.Shapes.{Fits}
 use Rattle.recovery_ends.specs.Ends.{ops_after, ops_of_task, ops_of_queue, closes, ops_of_crown, ops_last, ops_at_end, ops_to_come, turns_to_end, IsCalm, IsShaped}
 use Rattle.recovery_ends.proofs.Shapes.{Went, deed-went, fits-step, moved-fits, same-head}
-use Rattle.recovery_ends.proofs.Fitting.{acted-fits, begun-fits, decided-fits, stepped-fits}
+use Rattle.recovery_ends.proofs.Fitting.{begun-fits, decided-fits, stepped-fits, taken-fits}
 
 -- the operations that are left, and may come
 abbrev ops_in : Recovery → ℕ
@@ -717,7 +717,7 @@ pub taken-shaped : (w : World) (b : BookState) (read : ℕ) (now : Moment) (r : 
 taken-shaped w b read now r shaped g =
     let fits = decided-fits w b now r shaped.fits in
     record {
-      fits = acted-fits w read now (decided w b now r) fits (decided w b now r).core.ops refl g;
+      fits = taken-fits w b read now r shaped.fits g;
       calm = (acted-ends w read now (decided w b now r) fits (decided-ends w b now r shaped.calm).calm (decided w b now r).core.ops refl g).calm;
     }
 

@@ -23,7 +23,6 @@ use Rattle.job_laws.specs.Held.{Spans}
 use Rattle.job_laws.proofs.Lists.{All-at}
 use Rattle.job_laws.proofs.Sights.{seen-at}
 use Rattle.recovery_plans.specs.declared.outcome.Stopped.{Stopped}
-use Rattle.recovery_plans.specs.declared.purpose.Purpose.{Purpose}
 use Rattle.recovery_plans.specs.declared.purpose.Purpose.TheVariants as purpose
 use Rattle.recovery_plans.specs.declared.stage.Stage.{Stage}
 use Rattle.recovery_plans.specs.declared.stage.Stage.TheVariants as stage
@@ -31,12 +30,15 @@ use Rattle.recovery_plans.specs.declared.task.Task.{Task}
 use Rattle.recovery_plans.specs.declared.task.Task.TheVariants as task
 use Rattle.recovery_plans.specs.declared.task.Way.{Way}
 use Rattle.recovery_plans.specs.declared.task.Way.TheVariants as way
-use Rattle.recovery_plans.specs.Recoveries.{Recovery, loses, sight_of, working}
+use Rattle.recovery_plans.specs.Recoveries.{Recovery, sight_of, working}
 use Rattle.recovery_plans.specs.Stages.{drain, level, move, with_bridge, with_way}
 use Rattle.recovery_plans.specs.Telling.{told}
-use Rattle.recovery_plans.specs.Deciding.{logs_at, chosen_of, better_of, lot_of, moves_in, without_stopped, choose, stuck, moving, way_below, way_by_set, hand_by, hand, hand_over, why_of, expels, releases, sort, swap_by, swap, crown, swap_or_crown, rejoin, at_last, look_at, yield, by_task, by_queue, once, decided}
+use Rattle.recovery_plans.specs.Deciding.{logs_at, chosen_of, better_of, lot_of, moves_in, without_stopped, choose, moving, way_below, way_by_set, why_of, expels, releases, sort, once, decided}
 use Rattle.recovery_laws.specs.Rings.{HeldRings}
 use Rattle.recovery_ends.specs.Shapes.{Fits}
+use Rattle.recovery_plans.specs.Moves as by
+use Rattle.recovery_plans.specs.Moves.{Decision, IsHanding, IsNext, MayDecide, decided_by}
+use Rattle.recovery_plans.proofs.Walking.{decided-walks, decisions-keep, once-walks}
 use Rattle.recovery_laws.specs.HeldRecoveries.{IsReadyWay, IsReady, IsReadyStage, IsStopped, IsLead, HeldRecovery}
 use Rattle.recovery_laws.proofs.Choosing.{self, All-latest, moves-ready, lot-ready}
 use Rattle.recovery_plans.proofs.Choices.{All-chosen, All-better, chosen-logs}
@@ -103,32 +105,6 @@ module _ (w : World) where
   }
 
 module _ (w : World) (b : BookState) (now : Moment) (rings : HeldRings w b.rings) where
-  choose-held : (r : Recovery) → HeldRecovery w r → HeldRecovery w (choose w b now r (chosen_of w b now r.failed r.drained))
-  choose-held r held = go (chosen_of w b now r.failed r.drained) refl
-    where
-      go : (o : Option Stopped) → chosen_of w b now r.failed r.drained ≡ o → HeldRecovery w (choose w b now r o)
-      go None e = record {
-        core = held.core;
-        stage = held.stage;
-        fits = held.fits;
-        queue = All-nil (IsReady w r.core.seen);
-        drained = All-nil (IsStopped w r.core.seen r.failed);
-        lead = held.lead;
-      }
-      go (Some p) e =
-          let one = All-chosen w b now r.failed (IsStopped w r.core.seen r.failed) r.drained p held.drained e in
-          let logs = chosen-logs w b now r.failed r.drained p e in
-          record {
-            core = held.core;
-            stage = held.stage;
-            fits = held.fits;
-            queue =
-                All-append (IsReady w r.core.seen) (moves_in (lot_of w b r.failed p) (without_stopped r.drained p.no)) r.queue
-                (moves-ready w r.core.seen (lot_of w b r.failed p) (without_stopped r.drained p.no) (lot-ready w r.core.seen b r.failed p rings one logs)) held.queue;
-            drained = All-nil (IsStopped w r.core.seen r.failed);
-            lead = held.lead;
-          }
-
   -- a successor that can be gone to by GTIDs was read, and logs
   below-ready : (seen : List Sight) (x s : ServerNo) (d : Stopped) (o : Option Way) → way_below w b seen x s d ≡ o → IfSome o (IsReadyWay w seen)
   below-ready seen x s d o e = subst (λ (y : Option Way). IfSome y (IsReadyWay w seen)) e (go w.gtid refl)
@@ -146,160 +122,102 @@ module _ (w : World) (b : BookState) (now : Moment) (rings : HeldRings w b.rings
       go true g = by-set (is_some (seen_of seen s.0) && logs_at w s) g refl
       go false g = by-log (latest_that (has_own s d.exec) (ring_at b.rings x)) refl
 
-  hand-held : (s : ServerNo) (ds : List Stopped) (r : Recovery) → HeldRecovery w r → All (IsStopped w r.core.seen r.failed) ds → HeldRecovery w (hand w b s r ds)
-  hand-held s [] r held all = record {
-    core = held.core;
-    stage = held.stage;
-    fits = held.fits;
-    queue = held.queue;
-    drained = All-nil (IsStopped w r.core.seen r.failed);
-    lead = held.lead;
-  }
-  hand-held s (d ∷ ds) r held all =
-      go (way_below w b r.core.seen r.failed s d) (below-ready r.core.seen r.failed s d (way_below w b r.core.seen r.failed s d) refl)
-      (hand-held s ds (loses r d.no (lost.Behind d.exec)) held (All-tail (IsStopped w r.core.seen r.failed) d ds all))
-    where
-      go : (o : Option Way) → IfSome o (IsReadyWay w r.core.seen) → HeldRecovery w (hand w b s (loses r d.no (lost.Behind d.exec)) ds)
-          → HeldRecovery w (hand_by r d ds o (hand w b s (loses r d.no (lost.Behind d.exec)) ds))
-      go None h rest = rest
-      go (Some by) h rest =
-          moving-held w (record r { queue = task.Handing ∷ r.queue; drained = ds }) d.no by
-          (record {
-            core = held.core;
-            stage = held.stage;
-            fits = held.fits;
-            queue = All-cons (IsReady w r.core.seen) task.Handing r.queue tt held.queue;
-            drained = All-tail (IsStopped w r.core.seen r.failed) d ds all;
-            lead = held.lead;
-          }) h
-
-  over-held : (r : Recovery) (o : Option ServerNo) → HeldRecovery w r → HeldRecovery w (hand_over w b r o)
-  over-held r None held = held
-  over-held r (Some s) held = hand-held s r.drained r held held.drained
-
   ready-map : (seen : List Sight) (t : ServerNo → Task) (ns : List ServerNo) → ((n : ServerNo) → IsReady w seen (t n)) → All (IsReady w seen) (map t ns)
   ready-map seen t [] each = All-nil (IsReady w seen)
   ready-map seen t (n ∷ ns) each = All-cons (IsReady w seen) (t n) (map t ns) (each n) (ready-map seen t ns each)
+
+  -- with another queue and other drained ones
+  queued-held : (r : Recovery) (ts : List Task) (ds : List Stopped) → HeldRecovery w r → All (IsReady w r.core.seen) ts → All (IsStopped w r.core.seen r.failed) ds
+      → HeldRecovery w (record r { queue = ts; drained = ds })
+  queued-held r ts ds held queue drained = record {
+    core = held.core;
+    stage = held.stage;
+    fits = held.fits;
+    queue = queue;
+    drained = drained;
+    lead = held.lead;
+  }
+
+  next-held : (r : Recovery) (t : Task) (ts : List Task) → IsNext r t ts → HeldRecovery w r → IsReady w r.core.seen t × HeldRecovery w (record r { queue = ts })
+  next-held r t ts next held =
+      let all = subst (λ (q : List Task). All (IsReady w r.core.seen) q) next.queue held.queue in
+      (All-head (IsReady w r.core.seen) t ts all, queued-held r ts r.drained held (All-tail (IsReady w r.core.seen) t ts all) held.drained)
+
+  handed-held : (r : Recovery) (d : Stopped) (ds : List Stopped) (o : Option Way) (ts : List Task) → IsHanding w b r d ds o ts → HeldRecovery w r → HeldRecovery w (record r { drained = ds })
+  handed-held r d ds o ts g held =
+      queued-held r r.queue ds held held.queue
+      (All-tail (IsStopped w r.core.seen r.failed) d ds (subst (λ (xs : List Stopped). All (IsStopped w r.core.seen r.failed) xs) g.drained held.drained))
+
+  lead-of : (r : Recovery) (x : Bridge) → r.lead ≡ Some x → HeldRecovery w r → IsLead w r.failed x
+  lead-of r x is held = subst (λ (o : Option Bridge). IfSome o (IsLead w r.failed)) is held.lead
+
+  chooses-held : (r : Recovery) (p : Stopped) → HeldRecovery w r → chosen_of w b now r.failed r.drained ≡ Some p → HeldRecovery w (choose w b now r (Some p))
+  chooses-held r p held e =
+      let one = All-chosen w b now r.failed (IsStopped w r.core.seen r.failed) r.drained p held.drained e in
+      let logs = chosen-logs w b now r.failed r.drained p e in
+      queued-held r (moves_in (lot_of w b r.failed p) (without_stopped r.drained p.no) ++ r.queue) [] held
+      (All-append (IsReady w r.core.seen) (moves_in (lot_of w b r.failed p) (without_stopped r.drained p.no)) r.queue
+      (moves-ready w r.core.seen (lot_of w b r.failed p) (without_stopped r.drained p.no) (lot-ready w r.core.seen b r.failed p rings one logs)) held.queue)
+      (All-nil (IsStopped w r.core.seen r.failed))
 
   sort-held : (r : Recovery) → HeldRecovery w r → HeldRecovery w (sort r)
   sort-held r held =
       let out = filter (λ n. expels r.purpose (why_of r.outcome.lost n)) r.replicas in
       let free = filter (λ n. releases r.purpose (why_of r.outcome.lost n)) r.replicas in
+      queued-held r (map task.Expelling out ++ (map task.Releasing free ++ r.queue)) r.drained held
+      (All-append (IsReady w r.core.seen) (map task.Expelling out) (map task.Releasing free ++ r.queue) (ready-map r.core.seen task.Expelling out (λ n. tt))
+      (All-append (IsReady w r.core.seen) (map task.Releasing free) r.queue (ready-map r.core.seen task.Releasing free (λ n. tt)) held.queue)) held.drained
+
+  better-logs : (r : Recovery) (p q : ServerNo) → better_of w b now r.failed p (map (λ x. x.no) r.outcome.followers) ≡ Some q → logs_at w q ≡ true
+  better-logs r p q e = (All-better w b now r.failed (λ (k : ServerNo). Unit {0}) p (map (λ x. x.no) r.outcome.followers) q (units (map (λ x. x.no) r.outcome.followers)) e).1
+    where
+      units : (ks : List ServerNo) → All (λ (k : ServerNo). Unit {0}) ks
+      units [] = All-nil (λ (k : ServerNo). Unit {0})
+      units (k ∷ ks) = All-cons (λ (x : ServerNo). Unit {0}) k ks tt (units ks)
+
+  pub decides-held : (r : Recovery) (d : Decision) → MayDecide w b now r d → HeldRecovery w r → HeldRecovery w (decided_by w b now r d)
+  decides-held r (by.Reads n ts) next held =
+      working-held w (record r { queue = ts }) (stage.Read n) (op.Status n None ∷ []) (next-held r (task.Reading n) ts next held).1 tt refl (front-fits (stage.Read n) (op.Status n None ∷ []) refl refl refl)
+  decides-held r (by.Drains n ts) next held =
+      working-held w (record r { queue = ts }) (stage.Drain n) (drain n) (next-held r (task.Draining n) ts next held).1 tt refl
+      (record { front = op.StopReceiver n ∷ op.Settle n ∷ op.Stop n ∷ []; still = refl; is = refl; due = λ h. cc })
+  decides-held r (by.Sends n way ts) next held = let h = next-held r (task.Moving n way) ts next held in moving-held w (record r { queue = ts }) n way h.1 h.0
+  decides-held r (by.Expels n ts) next held = working-held w (record r { queue = ts }) (stage.Expel n) _ (next-held r (task.Expelling n) ts next held).1 tt refl (tail-fits (stage.Expel n))
+  decides-held r (by.Releases n ts) next held =
+      working-held w (record r { queue = ts }) (stage.Release n) (op.Start n ∷ []) (next-held r (task.Releasing n) ts next held).1 tt refl (front-fits (stage.Release n) (op.Start n ∷ []) refl refl refl)
+  decides-held r (by.Looks n x ts) (next, e) held =
+      working-held w (record r { queue = ts }) (stage.Look n x) (op.Status n None ∷ []) (next-held r (task.Trailing n) ts next held).1 (lead-of r x e held).spans refl (tail-fits (stage.Look n x))
+  decides-held r (by.Yields x ts) (next, e) held =
+      let h = (next-held r task.Yielding ts next held).1 in
+      let lead = lead-of r x e held in
       record {
-        core = held.core;
-        stage = held.stage;
-        fits = held.fits;
-        queue =
-            All-append (IsReady w r.core.seen) (map task.Expelling out) (map task.Releasing free ++ r.queue) (ready-map r.core.seen task.Expelling out (λ n. tt))
-            (All-append (IsReady w r.core.seen) (map task.Releasing free) r.queue (ready-map r.core.seen task.Releasing free (λ n. tt)) held.queue);
-        drained = held.drained;
+        core = record { left = about-held w r.core.seen r.failed x lead; shown = bridge-shown w r.core.seen x held.core.shown lead.spans };
+        stage = tt;
+        fits = tail-fits (stage.Yield r.failed x.no);
+        queue = queue-more w r.core.seen (with_bridge r.core.seen x) (saw-read r.core.seen x.no (sight_of x)) ts h.queue;
+        drained = stopped-more w r.core.seen (with_bridge r.core.seen x) (saw-read r.core.seen x.no (sight_of x)) r.failed r.drained held.drained;
         lead = held.lead;
       }
-
-  swap-held : (r : Recovery) (o : Option ServerNo) → HeldRecovery w r → HeldRecovery w (swap w b now r o)
-  swap-held r None held = held
-  swap-held r (Some p) held = go (better_of w b now r.failed p (map (λ x. x.no) r.outcome.followers)) refl
-    where
-      go : (o : Option ServerNo) → better_of w b now r.failed p (map (λ x. x.no) r.outcome.followers) ≡ o → HeldRecovery w (swap_by r p o)
-      go None e = held
-      go (Some q) e =
-          let logs = (All-better w b now r.failed (λ (k : ServerNo). Unit {0}) p (map (λ x. x.no) r.outcome.followers) q (units (map (λ x. x.no) r.outcome.followers)) e).1 in
-          working-held w r (stage.Level p q) (level p q) held tt (level-held (footing w r.core.seen) p q logs)
-          (record {
-            front = op.Status p None ∷ op.Status q (Some p) ∷ op.Until q _ ∷ op.Await q _ ∷ op.Stop q ∷ op.Status q (Some p) ∷ [];
-            still = refl;
-            is = refl;
-            due = λ h. cc;
-          })
-        where
-          units : (ks : List ServerNo) → All (λ (k : ServerNo). Unit {0}) ks
-          units [] = All-nil (λ (k : ServerNo). Unit {0})
-          units (k ∷ ks) = All-cons (λ (x : ServerNo). Unit {0}) k ks tt (units ks)
-
-  crown-held : (r : Recovery) (o : Option ServerNo) → HeldRecovery w r → HeldRecovery w (crown r o)
-  crown-held r None held = held
-  crown-held r (Some p) held = working-held w r (stage.Crown p) _ held tt refl (tail-fits (stage.Crown p))
-
-  rejoin-held : (r : Recovery) (o : Option ServerNo) → HeldRecovery w r → HeldRecovery w (rejoin r o)
-  rejoin-held r None held = held
-  rejoin-held r (Some p) held =
-      working-held w r (stage.Close (told r)) (op.Start p ∷ op.Finish (told r) ∷ []) held tt refl
-      (record { front = op.Start p ∷ []; still = refl; is = refl; due = λ h. cc })
-
-  last-held : (r : Recovery) (u : Purpose) → HeldRecovery w r → HeldRecovery w (at_last w b now r u)
-  last-held r purpose.Regroup held = rejoin-held r r.chosen held
-  last-held r purpose.Master held = go r.swaps
-    where
-      go : (s : Bool) → HeldRecovery w (swap_or_crown w b now r s)
-      go true = swap-held (record r { swaps = false }) r.chosen held
-      go false = crown-held r r.chosen held
-  last-held r (purpose.Intermediate s) held =
-      working-held w r (stage.Close (told r)) (op.Finish (told r) ∷ []) held tt refl (tail-fits (stage.Close (told r)))
-  last-held r (purpose.Takeover d) held = held
-
-  stuck-held : (r : Recovery) → HeldRecovery w r → HeldRecovery w (stuck r)
-  stuck-held r held = record {
-    core = held.core;
-    stage = held.stage;
-    fits = held.fits;
-    queue = All-nil (IsReady w r.core.seen);
-    drained = held.drained;
-    lead = held.lead;
-  }
-
-  look-held : (r : Recovery) (n : ServerNo) (o : Option Bridge) → IfSome o (IsLead w r.failed) → HeldRecovery w r → HeldRecovery w (look_at r n o)
-  look-held r n None lead held = stuck-held r held
-  look-held r n (Some x) lead held = working-held w r (stage.Look n x) (op.Status n None ∷ []) held lead.spans refl (tail-fits (stage.Look n x))
-
-  yield-held : (r : Recovery) (o : Option Bridge) → IfSome o (IsLead w r.failed) → HeldRecovery w r → HeldRecovery w (yield r o)
-  yield-held r None lead held = stuck-held r held
-  yield-held r (Some x) lead held = record {
-    core = record { left = about-held w r.core.seen r.failed x lead; shown = bridge-shown w r.core.seen x held.core.shown lead.spans };
-    stage = tt;
-    fits = tail-fits (stage.Yield r.failed x.no);
-    queue = queue-more w r.core.seen (with_bridge r.core.seen x) (saw-read r.core.seen x.no (sight_of x)) r.queue held.queue;
-    drained = stopped-more w r.core.seen (with_bridge r.core.seen x) (saw-read r.core.seen x.no (sight_of x)) r.failed r.drained held.drained;
-    lead = held.lead;
-  }
-
-  task-held : (r : Recovery) (t : Task) → HeldRecovery w r → IsReady w r.core.seen t → HeldRecovery w (by_task w b now r t)
-  task-held r (task.Reading n) held ready = working-held w r (stage.Read n) (op.Status n None ∷ []) held tt refl (front-fits (stage.Read n) (op.Status n None ∷ []) refl refl refl)
-  task-held r (task.Draining n) held ready =
-      working-held w r (stage.Drain n) (drain n) held tt refl
-      (record { front = op.StopReceiver n ∷ op.Settle n ∷ op.Stop n ∷ []; still = refl; is = refl; due = λ h. cc })
-  task-held r task.Choosing held ready = choose-held r held
-  task-held r task.Handing held ready = over-held r r.chosen held
-  task-held r (task.Moving n by) held ready = moving-held w r n by held ready
-  task-held r task.Sorting held ready = sort-held r held
-  task-held r (task.Expelling n) held ready = working-held w r (stage.Expel n) _ held tt refl (tail-fits (stage.Expel n))
-  task-held r (task.Releasing n) held ready =
-      working-held w r (stage.Release n) (op.Start n ∷ []) held tt refl (front-fits (stage.Release n) (op.Start n ∷ []) refl refl refl)
-  task-held r (task.Trailing n) held ready = look-held r n r.lead held.lead held
-  task-held r task.Yielding held ready = yield-held r r.lead held.lead held
+  decides-held r (by.Sticks t ts) g held = queued-held r [] r.drained held (All-nil (IsReady w r.core.seen)) held.drained
+  decides-held r (by.Chooses p ts) (next, e) held = chooses-held (record r { queue = ts }) p (next-held r task.Choosing ts next held).1 e
+  decides-held r (by.ChoosesNobody ts) g held = queued-held r [] [] held (All-nil (IsReady w r.core.seen)) (All-nil (IsStopped w r.core.seen r.failed))
+  decides-held r (by.Hands d ds way ts) g held =
+      moving-held w (record r { drained = ds }) d.no way (handed-held r d ds (Some way) ts g held) (below-ready r.core.seen r.failed g.source d (Some way) g.way)
+  decides-held r (by.Leaves d ds ts) g held = handed-held r d ds None ts g held
+  decides-held r (by.HandedOver ts) g held = queued-held r ts [] held (next-held r task.Handing ts g.0 held).1.queue (All-nil (IsStopped w r.core.seen r.failed))
+  decides-held r (by.Passes ts) g held = (next-held r task.Handing ts g.0 held).1
+  decides-held r (by.Sorts ts) next held = sort-held (record r { queue = ts }) (next-held r task.Sorting ts next held).1
+  decides-held r (by.Levels p q) g held =
+      working-held w (record r { swaps = false }) (stage.Level p q) (level p q) held tt (level-held (footing w r.core.seen) p q (better-logs r p q g.3))
+      (record { front = op.Status p None ∷ op.Status q (Some p) ∷ op.Until q _ ∷ op.Await q _ ∷ op.Stop q ∷ op.Status q (Some p) ∷ []; still = refl; is = refl; due = λ h. cc })
+  decides-held r by.Remains g held = held
+  decides-held r (by.Crowns p) g held = working-held w r (stage.Crown p) _ held tt refl (tail-fits (stage.Crown p))
+  decides-held r (by.Rejoins p) g held =
+      working-held w r (stage.Close (told r)) (op.Start p ∷ op.Finish (told r) ∷ []) held tt refl (record { front = op.Start p ∷ []; still = refl; is = refl; due = λ h. cc })
+  decides-held r by.Closes g held = working-held w r (stage.Close (told r)) (op.Finish (told r) ∷ []) held tt refl (tail-fits (stage.Close (told r)))
 
   pub once-held : (r : Recovery) → HeldRecovery w r → HeldRecovery w (once w b now r)
-  once-held r held = go r.core.ops r.queue held.queue
-    where
-      go : (ops : List Op) (ts : List Task) → All (IsReady w r.core.seen) ts → HeldRecovery w (by_queue w b now r ops ts)
-      go (x ∷ xs) ts all = held
-      go [] [] all = last-held r r.purpose held
-      go [] (t ∷ ts) all =
-          task-held (record r { queue = ts }) t
-          (record {
-            core = held.core;
-            stage = held.stage;
-            fits = held.fits;
-            queue = All-tail (IsReady w r.core.seen) t ts all;
-            drained = held.drained;
-            lead = held.lead;
-          }) (All-head (IsReady w r.core.seen) t ts all)
-
-  all-decided : (r : Recovery) → HeldRecovery w r → HeldRecovery w (decided w b now r)
-  all-decided r held =
-      let a = once w b now r in
-      let c = once w b now a in
-      let d = once w b now c in
-      once-held d (once-held c (once-held a (once-held r held)))
+  once-held r held = decisions-keep w b now (HeldRecovery w) decides-held (once-walks w b now r) held
 
 pub decided-held : (w : World) (b : BookState) (now : Moment) (r : Recovery) → HeldRings w b.rings → HeldRecovery w r → HeldRecovery w (decided w b now r)
-decided-held w b now r rings held = all-decided w b now rings r held
+decided-held w b now r rings held = decisions-keep w b now (HeldRecovery w) (decides-held w b now rings) (decided-walks w b now r) held

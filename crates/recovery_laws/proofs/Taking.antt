@@ -3,13 +3,11 @@ use Rattle.std.proofs.Common.{◌≡◌, ℕ, Bool, true, false, cond, List, [],
 use Rattle.std.specs.Prelude.{◌==◌, IfSome, is_some}
 use Rattle.std.proofs.lemmas.Bool.{false≢true, eqb-true}
 use Rattle.std.proofs.lemmas.List.Elements.{All-push}
-use Rattle.binlog_coords.specs.Log.{same_coord}
 use Rattle.orch_base.specs.declared.server.Moment.{Moment}
 use Rattle.orch_base.specs.declared.server.ServerNo.{ServerNo}
 use Rattle.server_model.specs.Run.{Exchange, run, AllAllowed}
 use Rattle.server_model.specs.Safe.{Placed}
 use Rattle.server_model.specs.Worlds.{World, source_no}
-use Rattle.commands.specs.declared.cause.Cause.{Cause}
 use Rattle.commands.specs.declared.cause.Cause.TheVariants as cause
 use Rattle.commands.specs.declared.line.Lost.{Lost}
 use Rattle.commands.specs.declared.line.Lost.TheVariants as lost
@@ -24,7 +22,7 @@ use Rattle.operations.specs.declared.sight.Sight.{Sight}
 use Rattle.operations.specs.Deeds.{deed_of}
 use Rattle.operations.specs.Jobs.{Job, seen_of}
 use Rattle.operations.specs.Turns as attempt
-use Rattle.operations.specs.Turns.{bridge_at, Attempt, by_deed, crossing_of, going, is_going, restarts}
+use Rattle.operations.specs.Turns.{bridge_at, Attempt, going}
 use Rattle.operations.proofs.Tests.{both}
 use Rattle.job_laws.specs.Footing.{Footing, footing, finds, are_held}
 use Rattle.job_laws.specs.Held.{HeldJob, KeepsHeld, IsDue, Spans}
@@ -35,20 +33,22 @@ use Rattle.recovery_plans.specs.declared.purpose.Purpose.{Purpose}
 use Rattle.recovery_plans.specs.declared.purpose.Purpose.TheVariants as purpose
 use Rattle.recovery_plans.specs.declared.stage.Stage.{Stage}
 use Rattle.recovery_plans.specs.declared.stage.Stage.TheVariants as stage
-use Rattle.recovery_plans.specs.declared.task.Way.{Way}
 use Rattle.recovery_plans.specs.declared.task.Way.TheVariants as way
 use Rattle.recovery_plans.specs.Recoveries.{Recovery, follows, follows_no_more, loses, sight_of, working}
 use Rattle.recovery_plans.specs.Stages.{ends, gather, leaver, moved, tail_of, trail, with_bridge}
 use Rattle.recovery_plans.specs.Telling.{told}
-use Rattle.recovery_plans.specs.Deciding.{closing, decided, moving}
+use Rattle.recovery_plans.specs.Deciding.{closing}
 use Rattle.recovery_plans.specs.Taking as taking
-use Rattle.recovery_plans.specs.Taking.{Taken, Fate, is_source, is_below, judged, swapped, lead_under, gathered, idle, frees, looked, halted, last_looks, completed, entered, stepped, at_end, progressed, fate_of_drain, fate_of_trail, lost_on_way, fate_of_errant, fate_of_move, fate, that_can, takes_writes, goes_back, way_back, undone, last_exchanges, fails, met, is_waiting, barred_by, on_going, attempted, acted, taken}
-use Rattle.recovery_plans.proofs.Allowed.{last-allowed}
+use Rattle.recovery_plans.specs.Taking.{is_source, is_below, swapped, lead_under, idle, frees, last_looks, entered, stepped, is_waiting, taken}
+use Rattle.recovery_plans.proofs.Allowed.{taken-allowed}
+use Rattle.recovery_plans.specs.Moves as by
+use Rattle.recovery_plans.specs.Moves.{Bearing, Does, Ending, MayBear, MayEnd, borne, ended_by, fate_of, stray}
+use Rattle.recovery_plans.proofs.Walking.{Keeps, kept-along}
 use Rattle.recovery_laws.specs.Rings.{HeldRings}
 use Rattle.recovery_ends.specs.Shapes.{Fits}
 use Rattle.recovery_laws.specs.HeldRecoveries.{IsReadyStage, IsStopped, IsLead, HeldRecovery, KeepsRecovery}
 use Rattle.recovery_laws.proofs.Choosing.{self}
-use Rattle.recovery_laws.proofs.Deciding.{decided-held, moving-held, working-held}
+use Rattle.recovery_laws.proofs.Deciding.{decides-held, moving-held, working-held}
 use Rattle.recovery_laws.proofs.Ready.{bridge-shown, queue-more, stopped-more, queue-run, stopped-run, lead-run, stage-run}
 use Rattle.recovery_ends.proofs.Shapes.{Went, WentOn, deed-went, same-head, fits-step, moved-fits, front-fits, tail-fits}
 use Rattle.recovery_laws.proofs.StaysRead.{Reads, StaysRead, deed-reads, saw-read}
@@ -107,27 +107,6 @@ module _ (w : World) where
         spans = λ own end. record { own = shown.own own end; exec = shown.under r.failed.0 (source-is (source_no s.source) r.failed f) };
       }
 
-  judged-held : (r : Recovery) (n : ServerNo) → HeldRecovery w r → r.core.ops ≡ [] → HeldRecovery w (idle (judged r n (seen_of r.core.seen n.0)))
-  judged-held r n held none = go (seen_of r.core.seen n.0) refl
-    where
-      go : (o : Option Position) → seen_of r.core.seen n.0 ≡ o → HeldRecovery w (idle (judged r n o))
-      go None e = idle-held r held none
-      go (Some s) e = at (is_below s r.failed) refl
-        where
-          at : (b : Bool) → is_below s r.failed ≡ b
-              → HeldRecovery w (idle (cond b (record r { drained = r.drained ++ record { no = n; exec = s.exec; own_end = s.own_end } ∷ [] }) (loses r n (lost.Moved (taking.spot_seen s.source s.exec)))))
-          at true f =
-              let idled = idle-held r held none in
-              record {
-                core = idled.core;
-                stage = tt;
-                fits = idled.fits;
-                queue = held.queue;
-                drained = All-push (IsStopped w r.core.seen r.failed) r.drained _ held.drained (stopped-by r n s held e f);
-                lead = held.lead;
-              }
-          at false f = idle-held r held none
-
   frees-held : (r : Recovery) (n : ServerNo) (why : Lost) → HeldRecovery w r → HeldRecovery w (frees r n why)
   frees-held r n why held = working-held w (loses r n why) (stage.Release n) (op.Start n ∷ []) held tt refl (front-fits (stage.Release n) (op.Start n ∷ []) refl refl refl)
 
@@ -143,36 +122,16 @@ module _ (w : World) where
           at true f = record { spans = seen-spans w r.core.seen d b held.core.shown e; below = eqb-true b.source.0 r.failed.0 f }
           at false f = tt
 
-  trail-held : (r : Recovery) (n : ServerNo) (b : Bridge) (s : Position) → HeldRecovery w r → Spans w b → seen_of r.core.seen n.0 ≡ Some s
+  trail-held : (r : Recovery) (n : ServerNo) (b : Bridge) → HeldRecovery w r → Spans w b → is_some (seen_of r.core.seen n.0) ≡ true
       → HeldRecovery w (working (record r { core = record r.core { seen = with_bridge r.core.seen b } }) (stage.Trail n b) (trail n b.no))
-  trail-held r n b s held spans e = record {
-    core = record { left = trail-left (footing w (with_bridge r.core.seen b)) n b.no (saw-read r.core.seen b.no (sight_of b) n.0 (ap is_some e)) (bridge-read r.core.seen b); shown = bridge-shown w r.core.seen b held.core.shown spans };
+  trail-held r n b held spans e = record {
+    core = record { left = trail-left (footing w (with_bridge r.core.seen b)) n b.no (saw-read r.core.seen b.no (sight_of b) n.0 e) (bridge-read r.core.seen b); shown = bridge-shown w r.core.seen b held.core.shown spans };
     stage = spans;
     fits = record { front = op.Until n _ ∷ op.Await n _ ∷ op.Stop n ∷ []; still = refl; is = refl; due = λ h. cc };
     queue = queue-more w r.core.seen (with_bridge r.core.seen b) (saw-read r.core.seen b.no (sight_of b)) r.queue held.queue;
     drained = stopped-more w r.core.seen (with_bridge r.core.seen b) (saw-read r.core.seen b.no (sight_of b)) r.failed r.drained held.drained;
     lead = held.lead;
   }
-
-  looked-held : (r : Recovery) (n : ServerNo) (b : Bridge) → HeldRecovery w r → Spans w b → r.core.ops ≡ [] → HeldRecovery w (looked r n b (seen_of r.core.seen n.0))
-  looked-held r n b held spans none = go (seen_of r.core.seen n.0) refl
-    where
-      go : (o : Option Position) → seen_of r.core.seen n.0 ≡ o → HeldRecovery w (looked r n b o)
-      go None e = idle-held r held none
-      go (Some s) e = at (is_below s r.failed)
-        where
-          at : (a : Bool) → HeldRecovery w (cond a (working (record r { core = record r.core { seen = with_bridge r.core.seen b } }) (stage.Trail n b) (trail n b.no))
-              (idle (loses r n (lost.Moved (taking.spot_seen s.source s.exec)))))
-          at true = trail-held r n b s held spans e
-          at false = idle-held r held none
-
-  halted-held : (r : Recovery) (n : ServerNo) (b : Bridge) (o : Option Position) → HeldRecovery w r → Spans w b → HeldRecovery w (halted r n b o)
-  halted-held r n b None held spans = frees-held r n lost.Unreachable held
-  halted-held r n b (Some s) held spans = at (same_coord s.exec b.exec)
-    where
-      at : (a : Bool) → HeldRecovery w (cond a (moving r n (way.Down b)) (frees r n (lost.Behind s.exec)))
-      at true = moving-held w r n (way.Down b) held spans
-      at false = frees-held r n (lost.Behind s.exec) held
 
   close-held : (r : Recovery) (u : Purpose) (n : ServerNo) → HeldRecovery w r → HeldRecovery w (closing r (last_looks r u n))
   close-held r purpose.Regroup n held = working-held w r (stage.Close (told r)) _ held tt refl (record { front = op.Status n None ∷ []; still = refl; is = refl; due = λ h. cc })
@@ -181,24 +140,38 @@ module _ (w : World) where
   close-held r (purpose.Takeover d) n held =
       working-held w r (stage.Close (told r)) _ held tt refl (record { front = op.Status r.failed None ∷ op.Status n None ∷ []; still = refl; is = refl; due = λ h. cc })
 
-  completed-held : (r : Recovery) → HeldRecovery w r → r.core.ops ≡ [] → HeldRecovery w (completed r r.stage)
-  completed-held r held none = go r.stage held.stage
-    where
-      go : (s : Stage) → IsReadyStage w s → HeldRecovery w (completed r s)
-      go (stage.Judged n) ready = judged-held r n held none
-      go (stage.Join n p) ready = idle-held (follows r n p) held none
-      go (stage.Resume p q) ready = idle-held (follows r q p) held none
-      go (stage.Swapped p q) ready =
-          working-held w (swapped r p q) (stage.Open q) _ held tt refl (record { front = op.Start p ∷ []; still = refl; is = refl; due = λ h. cc })
-      go (stage.Opened n) ready = close-held r r.purpose n held
-      go (stage.Meet m d) ready = working-held w r (stage.Shut m d) _ held tt (gather-held (footing w r.core.seen) m d) (tail-fits (stage.Shut m d))
-      go (stage.Gather m d) ready =
-          let i = idle-held r held none in record { core = i.core; stage = tt; fits = i.fits; queue = i.queue; drained = i.drained; lead = lead-held r d held }
-      go (stage.Looked n b) ready = looked-held r n b held ready none
-      go (stage.Halted n b) ready = halted-held r n b (seen_of r.core.seen n.0) held ready
-      go (stage.Switched m d) ready =
-          working-held w (follows r m d) (stage.Open d) _ held tt refl (tail-fits (stage.Open d))
-      go s ready = idle-held r held none
+  ready-of : (r : Recovery) (s : Stage) → r.stage ≡ s → HeldRecovery w r → IsReadyStage w s
+  ready-of r s is held = subst (λ (x : Stage). IsReadyStage w x) is held.stage
+
+  was-seen : (f : ServerNo) (o : Option Position) → stray f o ≡ None → is_some o ≡ true
+  was-seen f None h = cc
+  was-seen f (Some s) h = refl
+
+  completes-held : (r : Recovery) (e : Ending) → r.core.ops ≡ [] → MayEnd r e → HeldRecovery w r → HeldRecovery w (ended_by r e)
+  completes-held r by.Rests none may held = idle-held r held none
+  completes-held r (by.Stays n s) none may held =
+      let idled = idle-held r held none in
+      record {
+        core = idled.core;
+        stage = tt;
+        fits = idled.fits;
+        queue = held.queue;
+        drained = All-push (IsStopped w r.core.seen r.failed) r.drained _ held.drained (stopped-by r n s held may.1 may.2);
+        lead = held.lead;
+      }
+  completes-held r (by.Loses n why) none may held = idle-held (loses r n why) held none
+  completes-held r (by.Frees n why) none may held = frees-held r n why held
+  completes-held r (by.Follows n p) none may held = idle-held (follows r n p) held none
+  completes-held r (by.Marks n) none may held = idle-held r held none
+  completes-held r (by.Leads d) none may held =
+      let i = idle-held r held none in record { core = i.core; stage = tt; fits = i.fits; queue = i.queue; drained = i.drained; lead = lead-held r d held }
+  completes-held r (by.Trails n x) none may held = trail-held r n x held (ready-of r (stage.Looked n x) may.0 held) (was-seen r.failed (seen_of r.core.seen n.0) may.1)
+  completes-held r (by.Joins n x) none may held = moving-held w r n (way.Down x) held (ready-of r (stage.Halted n x) may.0 held)
+  completes-held r (by.Swaps p q) none may held =
+      working-held w (swapped r p q) (stage.Open q) _ held tt refl (record { front = op.Start p ∷ []; still = refl; is = refl; due = λ h. cc })
+  completes-held r (by.Switches m d) none may held = working-held w (follows r m d) (stage.Open d) _ held tt refl (tail-fits (stage.Open d))
+  completes-held r (by.Shuts m d) none may held = working-held w r (stage.Shut m d) _ held tt (gather-held (footing w r.core.seen) m d) (tail-fits (stage.Shut m d))
+  completes-held r (by.Ends n) none may held = close-held r r.purpose n held
 
   entered-held : (r : Recovery) (s : Stage) → HeldRecovery w (record r { stage = s }) → HeldRecovery w (entered r s)
   entered-held r s held = go (leaver s)
@@ -206,10 +179,6 @@ module _ (w : World) where
       go : (o : Option ServerNo) → HeldRecovery w (record (follows_no_more r o) { stage = s })
       go None = held
       go (Some n) = held
-
-  at-end-held : (r : Recovery) (ops : List Op) → r.core.ops ≡ ops → HeldRecovery w r → HeldRecovery w (at_end r ops)
-  at-end-held r [] is held = completed-held r held is
-  at-end-held r (x ∷ xs) is held = held
 
 -- ---- a turn
 
@@ -219,9 +188,6 @@ module _ (w : World) (read : ℕ) (now : Moment) (r : Recovery) (o : Op) (rest :
 
   pub fits : Fits r.stage (o ∷ rest)
   fits = subst (λ (ops : List Op). Fits r.stage ops) is held.fits
-
-  fails-kept : (c : Cause) (ob : Option Observation) → KeepsRecovery w (fails w r c ob)
-  fails-kept c ob = record { allowed = last-allowed w r; held = λ h. absurd (false≢true h) }
 
   -- ---- it goes on
 
@@ -262,85 +228,53 @@ module _ (w : World) (read : ℕ) (now : Moment) (r : Recovery) (o : Op) (rest :
             (entered-held (run w es) later (moved r.stage)
             (later-held (moved r.stage) (moved-ready r.stage held.stage) (subst (λ (ops : List Op). Fits (moved r.stage) ops) (sym left) m.1)))
 
-    progressed-held : (b : Bool) → is_waiting j ≡ b → HeldRecovery (run w es) (progressed later o b)
-    progressed-held true e = later-held r.stage held.stage (subst (λ (ops : List Op). Fits r.stage ops) (sym (went.waits e).0) held.fits)
-    progressed-held false e = at-end-held (run w es) (stepped later o) (stepped later o).core.ops refl (stepped-held (went.done e))
-
-    goes-kept : (ob : Option Observation) (c : Option Cause) → KeepsRecovery w (on_going w r o ob es j c)
-    goes-kept ob None = record { allowed = allowed; held = λ h. progressed-held (is_waiting j) refl }
-    goes-kept ob (Some c) = fails-kept c ob
-
   -- ---- it stops
 
-  abbrev IsFine : Fate → Type 0
-  IsFine taking.Fails = Unit {0}
-  IsFine taking.Drops = Unit {0}
-  IsFine (taking.Loses n why) = Unit {0}
-  IsFine (taking.Frees n why) = Unit {0}
-  IsFine (taking.Goes s ops) = (are_held (footing w r.core.seen) ops ≡ true) × Fits s ops × IsReadyStage w s
-
-  met-kept : (c : Cause) (ob : Option Observation) (x : Fate) → IsFine x → KeepsRecovery w (met w r c ob x)
-  met-kept c ob taking.Fails fine = fails-kept c ob
-  met-kept c ob taking.Drops fine = record { allowed = tt; held = λ h. working-held w r stage.Idle [] held tt refl (tail-fits stage.Idle) }
-  met-kept c ob (taking.Loses n why) fine = record { allowed = tt; held = λ h. working-held w (loses r n why) stage.Idle [] held tt refl (tail-fits stage.Idle) }
-  met-kept c ob (taking.Frees n why) fine = record { allowed = tt; held = λ h. frees-held w r n why held }
-  met-kept c ob (taking.Goes s ops) fine = record { allowed = tt; held = λ h. working-held w r s ops held fine.2 fine.0 fine.1 }
-
-  drain-fine : (n : ServerNo) (c : Cause) → IsFine (fate_of_drain n c)
-  drain-fine n (cause.Unreachable m) = tt
-  drain-fine n (cause.WaitSpent m) = tt
-  drain-fine n c = tt
-
-  trail-fine : (n : ServerNo) (c : Cause) → IsFine (fate_of_trail w n c)
-  trail-fine n (cause.Unreachable m) = tt
-  trail-fine n (cause.WaitSpent m) = tt
-  trail-fine n c = tt
-
-  lost-fine : (u : Purpose) (n : ServerNo) (why : Lost) → IsFine (lost_on_way u n why)
-  lost-fine purpose.Regroup n why = tt
-  lost-fine purpose.Master n why = tt
-  lost-fine (purpose.Intermediate s) n why = tt
-  lost-fine (purpose.Takeover d) n why = tt
-
-  errant-fine : (u : Purpose) (n : ServerNo) (by : Way) → IsFine (fate_of_errant u n by)
-  errant-fine u n (way.Auto to exec) = lost-fine u n (lost.Ahead exec)
-  errant-fine u n (way.Down b) = tt
-  errant-fine u n (way.Up b) = tt
-
-  move-fine : (u : Purpose) (n : ServerNo) (by : Way) (c : Cause) → IsFine (fate_of_move w u n by c)
-  move-fine u n by (cause.Unreachable m) = lost-fine u n lost.Unreachable
-  move-fine u n by (cause.Running m) = lost-fine u n _
-  move-fine u n by (cause.Interfered m expected found) = lost-fine u n (lost.Moved found)
-  move-fine u n by (cause.Errant m set) = errant-fine u n by
-  move-fine u n by c = tt
-
   -- the better one goes back by the reading by which the promoted one was to go below it
-  swap-fine : (p q : ServerNo) → r.stage ≡ stage.Swap p q → IsFine (taking.Goes (stage.Return p q) (op.Cross cross.Back q p ∷ op.Start q ∷ []))
-  swap-fine p q at =
+  back-found : (p q : ServerNo) → r.stage ≡ stage.Swap p q → are_held (footing w r.core.seen) (op.Cross cross.Back q p ∷ op.Start q ∷ []) ≡ true
+  back-found p q at =
       let f : Fits (stage.Swap p q) (o ∷ rest) = subst (λ (s : Stage). Fits s (o ∷ rest)) at fits in
       let same : o ≡ op.Cross cross.About p q = same-head o _ rest [] (f.is ∙ ap (λ xs. xs ++ tail_of (stage.Swap p q)) (f.due refl)) in
       let found : finds (footing w r.core.seen) (deed_of (op.Cross cross.About p q)) ≡ true = ap (λ x. finds (footing w r.core.seen) (deed_of x)) (sym same) ∙ due.found in
-      (both (finds (footing w r.core.seen) (deed_of (op.Cross cross.Back q p))) true found refl, tail-fits (stage.Return p q), tt)
+      both (finds (footing w r.core.seen) (deed_of (op.Cross cross.Back q p))) true found refl
 
-  fate-fine : (s : Stage) → r.stage ≡ s → (c : Cause) → IsFine (fate w r.purpose s c)
-  fate-fine (stage.Drain n) at c = drain-fine n c
-  fate-fine (stage.Move n by) at c = move-fine r.purpose n by c
-  fate-fine (stage.Look n b) at c = trail-fine n c
-  fate-fine (stage.Trail n b) at c = trail-fine n c
-  fate-fine (stage.Level p q) at c = (refl, front-fits (stage.Release q) (op.Start q ∷ []) refl refl refl, tt)
-  fate-fine (stage.Swap p q) at c = swap-fine p q at
-  fate-fine s at c = tt
+  bears-held : (e : Bearing) → MayBear r.stage e → HeldRecovery w (borne r (fate_of e))
+  bears-held by.Drops may = working-held w r stage.Idle [] held tt refl (tail-fits stage.Idle)
+  bears-held (by.Misses n why) may = working-held w (loses r n why) stage.Idle [] held tt refl (tail-fits stage.Idle)
+  bears-held (by.Lets n why) may = frees-held w r n why held
+  bears-held (by.Restarts p q) may = working-held w r (stage.Release q) (op.Start q ∷ []) held tt refl (front-fits (stage.Release q) (op.Start q ∷ []) refl refl refl)
+  bears-held (by.Returns p q) may = working-held w r (stage.Return p q) _ held tt (back-found p q may) (tail-fits (stage.Return p q))
 
-  attempted-kept : (a : Attempt) → KeepsHeld w (attempt.settled r.core a) → Went r.core rest a → Reads r.core a → KeepsRecovery w (attempted w r o a)
-  attempted-kept (attempt.Goes ob es j) kept went reads = goes-kept es j kept.allowed kept.held went reads ob (barred_by r.stage r.failed j.seen)
-  attempted-kept (attempt.Stops c ob) kept went reads = met-kept c ob (fate w r.purpose r.stage c) (fate-fine r.stage refl c)
-  attempted-kept (attempt.Ends lines) kept went reads = record { allowed = tt; held = λ h. absurd (false≢true h) }
+  -- ---- an operation is done, or is one more wait
 
-acted-kept : (w : World) (read : ℕ) (now : Moment) (r : Recovery) → Placed w → HeldRecovery w r → (ops : List Op) → r.core.ops ≡ ops → KeepsRecovery w (acted w read now r ops)
-acted-kept w read now r placed held [] is = record { allowed = last-allowed w r; held = λ h. absurd (false≢true h) }
-acted-kept w read now r placed held (o ∷ rest) is =
-    attempted-kept w read now r o rest placed held is (by_deed w read now r.core rest (deed_of o))
-    (deed-kept w read now r.core rest (deed_of o) placed held.core.shown (due w read now r o rest placed held is)) (deed-went r.core rest w read now (deed_of o)) (deed-reads r.core rest w read now (deed_of o))
+  module _ (ob : Option Observation) (es : List Exchange) (j : Job) (did : Does w read now r o rest ob es j) where
+    kept : KeepsHeld w (going ob es j)
+    kept = subst (λ (a : Attempt). KeepsHeld w (attempt.settled r.core a)) did.goes (deed-kept w read now r.core rest (deed_of o) placed held.core.shown due)
+
+    went : WentOn r.core rest es j
+    went = subst (λ (a : Attempt). Went r.core rest a) did.goes (deed-went r.core rest w read now (deed_of o))
+
+    reads : StaysRead r.core.seen j.seen
+    reads = subst (λ (a : Attempt). Reads r.core a) did.goes (deed-reads r.core rest w read now (deed_of o))
+
+    waits-held : is_waiting j ≡ true → HeldRecovery (run w es) (record r { core = j })
+    waits-held e = later-held es j kept.allowed kept.held went reads r.stage held.stage (subst (λ (ops : List Op). Fits r.stage ops) (sym (went.waits e).0) held.fits)
+
+    acts-held : is_waiting j ≡ false → HeldRecovery (run w es) (stepped (record r { core = j }) o)
+    acts-held e = stepped-held es j kept.allowed kept.held went reads (went.done e)
+
+keeps-held : (w : World) (b : BookState) (read : ℕ) (now : Moment) → Placed w → HeldRings w b.rings → Keeps w b read now (HeldRecovery w) (λ v r. HeldRecovery v r) (λ v r. HeldRecovery v r)
+keeps-held w b read now placed rings = record {
+  decides = decides-held w b now rings;
+  waits = λ r o rest ob es j did e held. waits-held w read now r o rest placed held did.ops ob es j did e;
+  acts = λ r o rest ob es j did e held. acts-held w read now r o rest placed held did.ops ob es j did e;
+  continues = λ v r x xs is held. held;
+  completes = completes-held;
+  bears = λ r o rest c ob e stops is may held. bears-held w read now r o rest placed held stops.ops e may;
+}
 
 pub taken-held : (w : World) (b : BookState) (read : ℕ) (now : Moment) (r : Recovery) → Placed w → HeldRings w b.rings → HeldRecovery w r → KeepsRecovery w (taken w b read now r)
-taken-held w b read now r placed rings held = acted-kept w read now (decided w b now r) placed (decided-held w b now r rings held) (decided w b now r).core.ops refl
+taken-held w b read now r placed rings held = record {
+  allowed = taken-allowed w b read now r;
+  held = kept-along w b read now (HeldRecovery w) (λ v s. HeldRecovery v s) (λ v s. HeldRecovery v s) (keeps-held w b read now placed rings) r held;
+}

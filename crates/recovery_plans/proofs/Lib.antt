@@ -5,3 +5,5 @@ pub mod Begun
 pub mod Worlds
 pub mod Masters
 pub mod Others
+pub mod Walking
+pub mod Promoting

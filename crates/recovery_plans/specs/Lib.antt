@@ -5,3 +5,4 @@ pub mod Deciding
 pub mod Taking
 pub mod Beginning
 pub mod Named
+pub mod Moves

@@ -8,6 +8,7 @@ ghost use Rattle.operations.specs.Turns.{is_going};
 ghost use Rattle.server_model.specs.Run.{AllAllowed};
 ghost use Rattle.server_model.specs.Worlds.{World};
 ghost use Rattle.recovery_plans.specs.Beginning.{begun_recovery};
+ghost use Rattle.recovery_plans.specs.Moves.{Turning};
 ghost use Rattle.recovery_plans.specs.Named.{IsListOf, IsNamedRecovery};
 ghost use Rattle.recovery_plans.specs.Recoveries.{Recovery};
 ghost use Rattle.recovery_plans.specs.Taking.{taken};
@@ -35,4 +36,11 @@ pub fn recoveries_stay_named()
 pub fn recoveries_are_allowed()
     ensures { (w : World) (b : BookState) (read : ℕ) (now : AMoment) (r : Recovery) →
         AllAllowed w (taken w b read now r).exchanges }
+{}
+
+/// Each turn of a recovery is a walk: decisions, each under its guard; then at most one operation, in the same world;
+/// and in the world behind its exchanges what its end makes of the recovery.
+pub fn turns_are_walks()
+    ensures { (w : World) (b : BookState) (read : ℕ) (now : AMoment) (r : Recovery) →
+        Turning w b read now r (taken w b read now r) }
 {}

@@ -9,7 +9,7 @@ mod stage;
 mod task;
 mod threads;
 
-pub use laws::{recoveries_are_allowed, recoveries_stay_named};
+pub use laws::{recoveries_are_allowed, recoveries_stay_named, turns_are_walks};
 pub use outcome::{Follower, LostReplica, Stopped};
 pub use purpose::Purpose;
 pub use stage::Stage;

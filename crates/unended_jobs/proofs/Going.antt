@@ -17,7 +17,7 @@ use Rattle.recovery_ends.proofs.Ended.{taken-ends, taken-shaped}
 use Rattle.unended_jobs.specs.declared.unended.Unended.{Unended}
 use Rattle.unended_jobs.specs.declared.unended.Unended.TheVariants as unended
 use Rattle.unended_jobs.specs.Unended.{IsReady, IsReadyRecovery, IsUnended, flown, number_of, turns_of}
-use Rattle.unended_jobs.proofs.Promoting.{taken-leads}
+use Rattle.recovery_plans.proofs.Promoting.{taken-leads}
 use Rattle.unended_jobs.proofs.Seeing.{IsSightOf, plan-sees, recovery-sees}
 
 pub flown-allowed : (w : World) (b : BookState) (read : ℕ) (now : Moment) (u : Unended) → AllAllowed w (flown w b read now u).exchanges

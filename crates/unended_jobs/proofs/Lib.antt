@@ -1,4 +1,3 @@
 pub mod Seeing
 pub mod Looking
-pub mod Promoting
 pub mod Going

@@ -1,4 +1,4 @@
-use Rattle.std.proofs.Common.{ℕ, ◌<◌, ◌≡◌, refl}
+use Rattle.std.proofs.Common.{◌<◌}
 use Rattle.recovery_plans.specs.Taking.{taken}
 use Rattle.recovery_plans.proofs.Begun.{begun-of}
 use Rattle.recovery_plans.proofs.Naming.{taken-of, renumbered}
