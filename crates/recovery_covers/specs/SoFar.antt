@@ -15,6 +15,7 @@ use Rattle.recovery_plans.specs.Beginning.{first_source, is_master}
 use Rattle.recovery_plans.specs.Deciding.{expels}
 use Rattle.recovery_plans.specs.Recoveries.{Recovery}
 use Rattle.recovery_plans.specs.Stages.{tail_of, target}
+use Rattle.recovery_plans.specs.Table.{info}
 use Rattle.recovery_plans.specs.Telling.{told}
 use Rattle.standing_laws.specs.Standing.{IsUnder, IsSourced, IsApart, IsFree, IsRuling, IsSourcedAsSeen, Reads}
 use Rattle.recovery_covers.specs.Covers.{times, follower_nos, lost_nos, owed, leader, crowns, AreReplicas, HasSwapped}
@@ -43,35 +44,7 @@ of_queue f (t ∷ ts) = of_task f t ++ of_queue f ts
 
 -- the server that a stage is placing
 abbrev pub of_stage : Stage → List ServerNo
-of_stage (stage.Drain n) = n ∷ []
-of_stage (stage.Judged n) = n ∷ []
-of_stage (stage.Move n by) = n ∷ []
-of_stage (stage.Join n p) = n ∷ []
-of_stage (stage.Look n b) = n ∷ []
-of_stage (stage.Looked n b) = n ∷ []
-of_stage (stage.Trail n b) = n ∷ []
-of_stage (stage.Halted n b) = n ∷ []
-of_stage (stage.Swap p q) = q ∷ []
-of_stage (stage.Swapped p q) = q ∷ []
-of_stage (stage.Return p q) = q ∷ []
-of_stage (stage.Resume p q) = q ∷ []
-of_stage (stage.Yield m d) = m ∷ []
-of_stage (stage.Switch m d) = m ∷ []
-of_stage (stage.Switched m d) = m ∷ []
-of_stage stage.Idle = []
-of_stage stage.Check = []
-of_stage (stage.Read n) = []
-of_stage (stage.Expel n) = []
-of_stage (stage.Expelled n) = []
-of_stage (stage.Release n) = []
-of_stage (stage.Level p q) = []
-of_stage (stage.Crown n) = []
-of_stage (stage.Open n) = []
-of_stage (stage.Opened n) = []
-of_stage (stage.Meet m d) = []
-of_stage (stage.Shut m d) = []
-of_stage (stage.Gather m d) = []
-of_stage (stage.Close lines) = []
+of_stage s = (info s).places
 
 -- how often a server is being placed by the stage, to be placed, drained, promoted, a follower and lost
 abbrev pub total : ℕ → Recovery → Stage → ℕ
@@ -154,35 +127,7 @@ is_intermediate (purpose.Takeover d) = false
 
 -- the stages behind a swap
 abbrev pub is_late : Stage → Bool
-is_late (stage.Open n) = true
-is_late (stage.Opened n) = true
-is_late (stage.Close lines) = true
-is_late stage.Idle = false
-is_late stage.Check = false
-is_late (stage.Read n) = false
-is_late (stage.Drain n) = false
-is_late (stage.Judged n) = false
-is_late (stage.Move n by) = false
-is_late (stage.Join n p) = false
-is_late (stage.Expel n) = false
-is_late (stage.Expelled n) = false
-is_late (stage.Release n) = false
-is_late (stage.Level p q) = false
-is_late (stage.Swap p q) = false
-is_late (stage.Swapped p q) = false
-is_late (stage.Return p q) = false
-is_late (stage.Resume p q) = false
-is_late (stage.Crown n) = false
-is_late (stage.Meet m d) = false
-is_late (stage.Shut m d) = false
-is_late (stage.Gather m d) = false
-is_late (stage.Look n b) = false
-is_late (stage.Looked n b) = false
-is_late (stage.Trail n b) = false
-is_late (stage.Halted n b) = false
-is_late (stage.Yield m d) = false
-is_late (stage.Switch m d) = false
-is_late (stage.Switched m d) = false
+is_late s = (info s).late
 
 -- the chosen one is promoted, or was
 abbrev pub Leads : Recovery → Stage → Type 0

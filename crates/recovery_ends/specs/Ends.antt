@@ -5,43 +5,15 @@ use Rattle.operations.specs.Ending.{turns_left}
 use Rattle.recovery_plans.specs.declared.purpose.Purpose.{Purpose}
 use Rattle.recovery_plans.specs.declared.purpose.Purpose.TheVariants as purpose
 use Rattle.recovery_plans.specs.declared.stage.Stage.{Stage}
-use Rattle.recovery_plans.specs.declared.stage.Stage.TheVariants as stage
 use Rattle.recovery_plans.specs.declared.task.Task.{Task}
 use Rattle.recovery_plans.specs.declared.task.Task.TheVariants as task
 use Rattle.recovery_plans.specs.Recoveries.{Recovery}
+use Rattle.recovery_plans.specs.Table.{info}
 use Rattle.recovery_ends.specs.Shapes.{Fits}
 
 -- so many operations may come after a stage's own, for the same task
 abbrev pub ops_after : Stage → ℕ
-ops_after (stage.Drain n) = 3
-ops_after (stage.Judged n) = 3
-ops_after (stage.Move n by) = 1
-ops_after (stage.Level p q) = 5
-ops_after (stage.Swap p q) = 5
-ops_after (stage.Swapped p q) = 5
-ops_after (stage.Crown n) = 3
-ops_after (stage.Open n) = 3
-ops_after (stage.Opened n) = 3
-ops_after (stage.Meet m d) = 7
-ops_after (stage.Look n b) = 7
-ops_after (stage.Looked n b) = 7
-ops_after (stage.Trail n b) = 3
-ops_after (stage.Halted n b) = 3
-ops_after (stage.Yield m d) = 4
-ops_after (stage.Switch m d) = 4
-ops_after (stage.Switched m d) = 4
-ops_after stage.Idle = 0
-ops_after stage.Check = 0
-ops_after (stage.Read n) = 0
-ops_after (stage.Join n p) = 0
-ops_after (stage.Expel n) = 0
-ops_after (stage.Expelled n) = 0
-ops_after (stage.Release n) = 0
-ops_after (stage.Return p q) = 0
-ops_after (stage.Resume p q) = 0
-ops_after (stage.Shut m d) = 0
-ops_after (stage.Gather m d) = 0
-ops_after (stage.Close lines) = 0
+ops_after s = (info s).more
 
 -- so many operations a task may take, where there are these replicas
 abbrev pub ops_of_task : List ServerNo → Task → ℕ
@@ -62,35 +34,7 @@ ops_of_queue ns (t ∷ ts) = ops_of_task ns t + ops_of_queue ns ts
 
 -- nothing comes after the stages' own operations and those behind them
 abbrev pub closes : Stage → Bool
-closes (stage.Crown n) = true
-closes (stage.Open n) = true
-closes (stage.Opened n) = true
-closes (stage.Close lines) = true
-closes stage.Idle = false
-closes stage.Check = false
-closes (stage.Read n) = false
-closes (stage.Drain n) = false
-closes (stage.Judged n) = false
-closes (stage.Move n by) = false
-closes (stage.Join n p) = false
-closes (stage.Expel n) = false
-closes (stage.Expelled n) = false
-closes (stage.Release n) = false
-closes (stage.Level p q) = false
-closes (stage.Swap p q) = false
-closes (stage.Swapped p q) = false
-closes (stage.Return p q) = false
-closes (stage.Resume p q) = false
-closes (stage.Meet m d) = false
-closes (stage.Shut m d) = false
-closes (stage.Gather m d) = false
-closes (stage.Look n b) = false
-closes (stage.Looked n b) = false
-closes (stage.Trail n b) = false
-closes (stage.Halted n b) = false
-closes (stage.Yield m d) = false
-closes (stage.Switch m d) = false
-closes (stage.Switched m d) = false
+closes s = (info s).closes
 
 -- with the swap, or without it
 abbrev pub ops_of_crown : Bool → ℕ

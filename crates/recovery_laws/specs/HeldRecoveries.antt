@@ -13,12 +13,12 @@ use Rattle.job_laws.specs.Footing.{logs_at}
 use Rattle.job_laws.specs.Held.{HeldJob, Spans}
 use Rattle.recovery_plans.specs.declared.outcome.Stopped.{Stopped}
 use Rattle.recovery_plans.specs.declared.stage.Stage.{Stage}
-use Rattle.recovery_plans.specs.declared.stage.Stage.TheVariants as stage
 use Rattle.recovery_plans.specs.declared.task.Task.{Task}
 use Rattle.recovery_plans.specs.declared.task.Task.TheVariants as task
 use Rattle.recovery_plans.specs.declared.task.Way.{Way}
 use Rattle.recovery_plans.specs.declared.task.Way.TheVariants as way
 use Rattle.recovery_plans.specs.Recoveries.{Recovery}
+use Rattle.recovery_plans.specs.Table.{info}
 use Rattle.recovery_plans.specs.Taking.{Taken}
 use Rattle.recovery_ends.specs.Shapes.{Fits}
 
@@ -66,35 +66,7 @@ pub record IsLead (w : World) (f : ServerNo) (b : Bridge) : Type 0 where
 
 -- the bridge by which a stage goes has places
 abbrev pub IsReadyStage : World → Stage → Type 0
-IsReadyStage w (stage.Look n b) = Spans w b
-IsReadyStage w (stage.Looked n b) = Spans w b
-IsReadyStage w (stage.Trail n b) = Spans w b
-IsReadyStage w (stage.Halted n b) = Spans w b
-IsReadyStage w stage.Idle = Unit {0}
-IsReadyStage w stage.Check = Unit {0}
-IsReadyStage w (stage.Read n) = Unit {0}
-IsReadyStage w (stage.Drain n) = Unit {0}
-IsReadyStage w (stage.Judged n) = Unit {0}
-IsReadyStage w (stage.Move n by) = Unit {0}
-IsReadyStage w (stage.Join n p) = Unit {0}
-IsReadyStage w (stage.Expel n) = Unit {0}
-IsReadyStage w (stage.Expelled n) = Unit {0}
-IsReadyStage w (stage.Release n) = Unit {0}
-IsReadyStage w (stage.Level p q) = Unit {0}
-IsReadyStage w (stage.Swap p q) = Unit {0}
-IsReadyStage w (stage.Swapped p q) = Unit {0}
-IsReadyStage w (stage.Return p q) = Unit {0}
-IsReadyStage w (stage.Resume p q) = Unit {0}
-IsReadyStage w (stage.Crown n) = Unit {0}
-IsReadyStage w (stage.Open n) = Unit {0}
-IsReadyStage w (stage.Opened n) = Unit {0}
-IsReadyStage w (stage.Meet m d) = Unit {0}
-IsReadyStage w (stage.Shut m d) = Unit {0}
-IsReadyStage w (stage.Gather m d) = Unit {0}
-IsReadyStage w (stage.Yield m d) = Unit {0}
-IsReadyStage w (stage.Switch m d) = Unit {0}
-IsReadyStage w (stage.Switched m d) = Unit {0}
-IsReadyStage w (stage.Close lines) = Unit {0}
+IsReadyStage w s = IfSome (info s).lead (Spans w)
 
 -- of a job at a stage, with what is still to do of a failed server, what is drained, and where a replica stopped: the
 -- operations that are left are held and are the stage's, and what is gone by later has places

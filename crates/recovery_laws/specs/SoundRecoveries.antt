@@ -11,12 +11,12 @@ use Rattle.job_laws.specs.Flights.{StandsIn}
 use Rattle.job_laws.specs.Sound.{AllBridged}
 use Rattle.recovery_plans.specs.declared.outcome.Stopped.{Stopped}
 use Rattle.recovery_plans.specs.declared.stage.Stage.{Stage}
-use Rattle.recovery_plans.specs.declared.stage.Stage.TheVariants as stage
 use Rattle.recovery_plans.specs.declared.task.Task.{Task}
 use Rattle.recovery_plans.specs.declared.task.Task.TheVariants as task
 use Rattle.recovery_plans.specs.declared.task.Way.{Way}
 use Rattle.recovery_plans.specs.declared.task.Way.TheVariants as way
 use Rattle.recovery_plans.specs.Recoveries.{Recovery}
+use Rattle.recovery_plans.specs.Table.{info}
 use Rattle.recovery_plans.specs.Taking.{Taken}
 use Rattle.recovery_laws.specs.HeldRecoveries.{stopped_bridge}
 
@@ -43,35 +43,7 @@ IsSoundStop w f s = (own : Coord) → s.own_end ≡ Some own → StandsIn w (sto
 
 -- the bridge by which a stage goes stands
 abbrev pub IsSoundStage : World → Stage → Type 0
-IsSoundStage w (stage.Look n b) = StandsIn w b
-IsSoundStage w (stage.Looked n b) = StandsIn w b
-IsSoundStage w (stage.Trail n b) = StandsIn w b
-IsSoundStage w (stage.Halted n b) = StandsIn w b
-IsSoundStage w stage.Idle = Unit {0}
-IsSoundStage w stage.Check = Unit {0}
-IsSoundStage w (stage.Read n) = Unit {0}
-IsSoundStage w (stage.Drain n) = Unit {0}
-IsSoundStage w (stage.Judged n) = Unit {0}
-IsSoundStage w (stage.Move n by) = Unit {0}
-IsSoundStage w (stage.Join n p) = Unit {0}
-IsSoundStage w (stage.Expel n) = Unit {0}
-IsSoundStage w (stage.Expelled n) = Unit {0}
-IsSoundStage w (stage.Release n) = Unit {0}
-IsSoundStage w (stage.Level p q) = Unit {0}
-IsSoundStage w (stage.Swap p q) = Unit {0}
-IsSoundStage w (stage.Swapped p q) = Unit {0}
-IsSoundStage w (stage.Return p q) = Unit {0}
-IsSoundStage w (stage.Resume p q) = Unit {0}
-IsSoundStage w (stage.Crown n) = Unit {0}
-IsSoundStage w (stage.Open n) = Unit {0}
-IsSoundStage w (stage.Opened n) = Unit {0}
-IsSoundStage w (stage.Meet m d) = Unit {0}
-IsSoundStage w (stage.Shut m d) = Unit {0}
-IsSoundStage w (stage.Gather m d) = Unit {0}
-IsSoundStage w (stage.Yield m d) = Unit {0}
-IsSoundStage w (stage.Switch m d) = Unit {0}
-IsSoundStage w (stage.Switched m d) = Unit {0}
-IsSoundStage w (stage.Close lines) = Unit {0}
+IsSoundStage w s = IfSome (info s).lead (StandsIn w)
 
 -- each reading and bridge that is gone by, now or later, shows one point of two logs
 pub record SoundParts (w : World) (seen : List Sight) (s : Stage) (ts : List Task) (f : ServerNo) (ds : List Stopped) (o : Option Bridge) : Type 0 where

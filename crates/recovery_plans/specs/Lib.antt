@@ -1,4 +1,5 @@
 pub mod Recoveries
+pub mod Table
 pub mod Stages
 pub mod Telling
 pub mod Deciding

@@ -1,5 +1,5 @@
 -- Which servers a recovery changes and reads, now or later.
-use Rattle.std.specs.Prelude.{◌≡◌, ℕ, ◌<◌, true, List, [], ◌∷◌, Option, Some, None, IfSome, All}
+use Rattle.std.specs.Prelude.{◌≡◌, ℕ, ◌<◌, true, List, Option, Some, None, IfSome, All}
 use Rattle.orch_base.specs.declared.server.ServerNo.{ServerNo}
 use Rattle.operations.specs.declared.op.Op.{Op}
 use Rattle.operations.specs.Changes.{change_of, server_of}
@@ -12,11 +12,11 @@ use Rattle.recovery_plans.specs.declared.outcome.Stopped.{Stopped}
 use Rattle.recovery_plans.specs.declared.purpose.Purpose.{Purpose}
 use Rattle.recovery_plans.specs.declared.purpose.Purpose.TheVariants as purpose
 use Rattle.recovery_plans.specs.declared.stage.Stage.{Stage}
-use Rattle.recovery_plans.specs.declared.stage.Stage.TheVariants as stage
 use Rattle.recovery_plans.specs.declared.task.Task.{Task}
 use Rattle.recovery_plans.specs.declared.task.Task.TheVariants as task
 use Rattle.operations.specs.Turns.{is_going}
 use Rattle.recovery_plans.specs.Recoveries.{Recovery}
+use Rattle.recovery_plans.specs.Table.{info}
 use Rattle.recovery_plans.specs.Taking.{Taken}
 
 -- the server that an operation speaks with
@@ -34,35 +34,7 @@ spoken_to (deed.Finish lines) = None
 
 -- the servers that a stage may change
 abbrev pub changed_by : Stage → List ServerNo
-changed_by stage.Idle = []
-changed_by stage.Check = []
-changed_by (stage.Read n) = []
-changed_by (stage.Drain n) = n ∷ []
-changed_by (stage.Judged n) = n ∷ []
-changed_by (stage.Move n by) = n ∷ []
-changed_by (stage.Join n p) = n ∷ []
-changed_by (stage.Expel n) = n ∷ []
-changed_by (stage.Expelled n) = n ∷ []
-changed_by (stage.Release n) = n ∷ []
-changed_by (stage.Level p q) = p ∷ q ∷ []
-changed_by (stage.Swap p q) = p ∷ q ∷ []
-changed_by (stage.Swapped p q) = p ∷ q ∷ []
-changed_by (stage.Return p q) = p ∷ q ∷ []
-changed_by (stage.Resume p q) = p ∷ q ∷ []
-changed_by (stage.Crown n) = n ∷ []
-changed_by (stage.Open n) = n ∷ []
-changed_by (stage.Opened n) = n ∷ []
-changed_by (stage.Meet m d) = m ∷ d ∷ []
-changed_by (stage.Shut m d) = m ∷ d ∷ []
-changed_by (stage.Gather m d) = m ∷ d ∷ []
-changed_by (stage.Look n b) = n ∷ []
-changed_by (stage.Looked n b) = n ∷ []
-changed_by (stage.Trail n b) = n ∷ []
-changed_by (stage.Halted n b) = n ∷ []
-changed_by (stage.Yield m d) = m ∷ d ∷ []
-changed_by (stage.Switch m d) = m ∷ d ∷ []
-changed_by (stage.Switched m d) = m ∷ d ∷ []
-changed_by (stage.Close lines) = []
+changed_by s = (info s).changes
 
 -- P holds of what an operation may change, and Q of the server that it speaks with
 abbrev pub IsOpOf : (ℕ → Type 0) → (ℕ → Type 0) → Op → Type 0

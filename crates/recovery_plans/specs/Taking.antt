@@ -1,6 +1,5 @@
 -- The turn of a recovery, as a function.
 use Rattle.std.specs.Prelude.{ℕ, Bool, true, false, ◌==◌, not, if◌then◌else◌, List, [], ◌∷◌, ◌++◌, map, Option, Some, None}
-use Rattle.std.specs.Option.{option_to_list}
 use Rattle.binlog_coords.specs.declared.Coord.{Coord}
 use Rattle.binlog_coords.specs.Log.{same_coord}
 use Rattle.orch_base.specs.declared.server.Moment.{Moment}
@@ -42,6 +41,8 @@ use Rattle.recovery_plans.specs.declared.task.Way.{Way}
 use Rattle.recovery_plans.specs.declared.task.Way.TheVariants as way
 use Rattle.recovery_plans.specs.Recoveries.{Recovery, follows, follows_no_more, loses, working}
 use Rattle.recovery_plans.specs.Stages.{ends, gather, leaver, moved, trail, with_bridge}
+use Rattle.recovery_plans.specs.Table as table
+use Rattle.recovery_plans.specs.Table.{Back, Bar, Failing, Made, info}
 use Rattle.recovery_plans.specs.Deciding.{closing, decided, moving}
 
 -- What a turn comes to, what it observed for the book, the exchanges that changed servers, and the recovery after it.
@@ -130,36 +131,22 @@ last_looks r purpose.Master n = op.Status n None ∷ []
 last_looks r (purpose.Intermediate s) n = op.Status n None ∷ []
 last_looks r (purpose.Takeover d) n = op.Status r.failed None ∷ op.Status n None ∷ []
 
+abbrev pub made_of : Recovery → Made → Recovery
+made_of r table.Nothing = idle r
+made_of r (table.Judged n) = idle (judged r n (seen_of r.core.seen n.0))
+made_of r (table.Follows n p) = idle (follows r n p)
+made_of r (table.Marked n) = idle (expelled r n)
+made_of r (table.Gathered d) = idle (gathered r d)
+made_of r (table.Swapped p q) = working (swapped r p q) (stage.Open q) (op.Start p ∷ op.ReadOnly q false ∷ [])
+made_of r (table.Opened n) = closing r (last_looks r r.purpose n)
+made_of r (table.Met m d) = working r (stage.Shut m d) (op.ReadOnly m true ∷ gather m d)
+made_of r (table.Looked n b) = looked r n b (seen_of r.core.seen n.0)
+made_of r (table.Halted n b) = halted r n b (seen_of r.core.seen n.0)
+made_of r (table.Switched m d) = working (follows r m d) (stage.Open d) (op.ReadOnly d false ∷ [])
+
+-- what the end of a stage makes
 abbrev pub completed : Recovery → Stage → Recovery
-completed r stage.Idle = idle r
-completed r stage.Check = idle r
-completed r (stage.Read n) = idle r
-completed r (stage.Drain n) = idle r
-completed r (stage.Judged n) = idle (judged r n (seen_of r.core.seen n.0))
-completed r (stage.Move n by) = idle r
-completed r (stage.Join n p) = idle (follows r n p)
-completed r (stage.Expel n) = idle r
-completed r (stage.Expelled n) = idle (expelled r n)
-completed r (stage.Release n) = idle r
-completed r (stage.Level p q) = idle r
-completed r (stage.Swap p q) = idle r
-completed r (stage.Swapped p q) = working (swapped r p q) (stage.Open q) (op.Start p ∷ op.ReadOnly q false ∷ [])
-completed r (stage.Return p q) = idle r
-completed r (stage.Resume p q) = idle (follows r q p)
-completed r (stage.Crown n) = idle r
-completed r (stage.Open n) = idle r
-completed r (stage.Opened n) = closing r (last_looks r r.purpose n)
-completed r (stage.Meet m d) = working r (stage.Shut m d) (op.ReadOnly m true ∷ gather m d)
-completed r (stage.Shut m d) = idle r
-completed r (stage.Gather m d) = idle (gathered r d)
-completed r (stage.Look n b) = idle r
-completed r (stage.Looked n b) = looked r n b (seen_of r.core.seen n.0)
-completed r (stage.Trail n b) = idle r
-completed r (stage.Halted n b) = halted r n b (seen_of r.core.seen n.0)
-completed r (stage.Yield m d) = idle r
-completed r (stage.Switch m d) = idle r
-completed r (stage.Switched m d) = working (follows r m d) (stage.Open d) (op.ReadOnly d false ∷ [])
-completed r (stage.Close lines) = idle r
+completed r s = made_of r (info s).made
 
 abbrev pub entered : Recovery → Stage → Recovery
 entered r s = record (follows_no_more r (leaver s)) { stage = s }
@@ -248,36 +235,17 @@ fate_of_move w u n by (cause.NoMark m) = Fails
 fate_of_move w u n by (cause.Mismatch m entry) = Fails
 fate_of_move w u n by (cause.HookFailed number exit) = Fails
 
+abbrev pub fate_by : World → Purpose → Failing → Cause → Fate
+fate_by w u table.All c = Fails
+fate_by w u table.Passes c = Drops
+fate_by w u (table.Drains n) c = fate_of_drain n c
+fate_by w u (table.Moves n by) c = fate_of_move w u n by c
+fate_by w u (table.Joins n) c = Loses n lost.Unreachable
+fate_by w u (table.Trails n) c = fate_of_trail w n c
+fate_by w u (table.Instead s ops) c = Goes s ops
+
 abbrev pub fate : World → Purpose → Stage → Cause → Fate
-fate w u (stage.Drain n) c = fate_of_drain n c
-fate w u (stage.Move n by) c = fate_of_move w u n by c
-fate w u (stage.Join n p) c = Loses n lost.Unreachable
-fate w u (stage.Look n b) c = fate_of_trail w n c
-fate w u (stage.Trail n b) c = fate_of_trail w n c
-fate w u stage.Check c = Drops
-fate w u (stage.Expel n) c = Drops
-fate w u (stage.Release n) c = Drops
-fate w u (stage.Level p q) c = Goes (stage.Release q) (op.Start q ∷ [])
-fate w u (stage.Swap p q) c = Goes (stage.Return p q) (op.Cross cross.Back q p ∷ op.Start q ∷ [])
-fate w u stage.Idle c = Fails
-fate w u (stage.Read n) c = Fails
-fate w u (stage.Judged n) c = Fails
-fate w u (stage.Expelled n) c = Fails
-fate w u (stage.Swapped p q) c = Fails
-fate w u (stage.Return p q) c = Fails
-fate w u (stage.Resume p q) c = Fails
-fate w u (stage.Crown n) c = Fails
-fate w u (stage.Open n) c = Fails
-fate w u (stage.Opened n) c = Fails
-fate w u (stage.Meet m d) c = Fails
-fate w u (stage.Shut m d) c = Fails
-fate w u (stage.Gather m d) c = Fails
-fate w u (stage.Looked n b) c = Fails
-fate w u (stage.Halted n b) c = Fails
-fate w u (stage.Yield m d) c = Fails
-fate w u (stage.Switch m d) c = Fails
-fate w u (stage.Switched m d) c = Fails
-fate w u (stage.Close lines) c = Fails
+fate w u s c = fate_by w u (info s).failing c
 
 -- ---- the way back of a takeover that fails
 
@@ -294,36 +262,13 @@ abbrev pub goes_back : World → List Sight → ServerNo → ServerNo → List E
 goes_back w seen m d = that_can w (crossing_of seen cross.Back d m) ++ (Request d.0 asking.Start ∷ takes_writes m)
 
 -- a master that was made to refuse writes takes them again, until its replica is to take its place
+abbrev pub back_by : World → List Sight → ServerNo → Back → List Exchange
+back_by w seen m table.Nowhere = []
+back_by w seen m table.Writes = takes_writes m
+back_by w seen m (table.Whole k d) = goes_back w seen k d
+
 abbrev pub way_back : World → List Sight → ServerNo → Stage → List Exchange
-way_back w seen m (stage.Meet k d) = []
-way_back w seen m (stage.Shut k d) = []
-way_back w seen m (stage.Switch k d) = goes_back w seen k d
-way_back w seen m (stage.Switched k d) = []
-way_back w seen m (stage.Open n) = []
-way_back w seen m (stage.Opened n) = []
-way_back w seen m (stage.Close lines) = []
-way_back w seen m stage.Idle = takes_writes m
-way_back w seen m stage.Check = takes_writes m
-way_back w seen m (stage.Read n) = takes_writes m
-way_back w seen m (stage.Drain n) = takes_writes m
-way_back w seen m (stage.Judged n) = takes_writes m
-way_back w seen m (stage.Move n by) = takes_writes m
-way_back w seen m (stage.Join n p) = takes_writes m
-way_back w seen m (stage.Expel n) = takes_writes m
-way_back w seen m (stage.Expelled n) = takes_writes m
-way_back w seen m (stage.Release n) = takes_writes m
-way_back w seen m (stage.Level p q) = takes_writes m
-way_back w seen m (stage.Swap p q) = takes_writes m
-way_back w seen m (stage.Swapped p q) = takes_writes m
-way_back w seen m (stage.Return p q) = takes_writes m
-way_back w seen m (stage.Resume p q) = takes_writes m
-way_back w seen m (stage.Crown n) = takes_writes m
-way_back w seen m (stage.Gather k d) = takes_writes m
-way_back w seen m (stage.Look n b) = takes_writes m
-way_back w seen m (stage.Looked n b) = takes_writes m
-way_back w seen m (stage.Trail n b) = takes_writes m
-way_back w seen m (stage.Halted n b) = takes_writes m
-way_back w seen m (stage.Yield k d) = takes_writes m
+way_back w seen m s = back_by w seen m (info s).back
 
 abbrev pub undone : World → Purpose → List Sight → ServerNo → Stage → List Exchange
 undone w purpose.Regroup seen f s = []
@@ -359,36 +304,13 @@ source_cause m None = None
 source_cause m (Some s) = if has_source s.source then Some (cause.Moved m s.source) else None
 
 -- what is seen may end the recovery: a failed server that is reached hasn't failed
+abbrev pub bar_by : Bar → ServerNo → List Sight → Option Cause
+bar_by table.Never f seen = None
+bar_by table.Reached f seen = Some (cause.Reachable f)
+bar_by (table.Sourced m) f seen = source_cause m (seen_of seen m.0)
+
 abbrev pub barred_by : Stage → ServerNo → List Sight → Option Cause
-barred_by stage.Check f seen = Some (cause.Reachable f)
-barred_by (stage.Meet m d) f seen = source_cause m (seen_of seen m.0)
-barred_by stage.Idle f seen = None
-barred_by (stage.Read n) f seen = None
-barred_by (stage.Drain n) f seen = None
-barred_by (stage.Judged n) f seen = None
-barred_by (stage.Move n by) f seen = None
-barred_by (stage.Join n p) f seen = None
-barred_by (stage.Expel n) f seen = None
-barred_by (stage.Expelled n) f seen = None
-barred_by (stage.Release n) f seen = None
-barred_by (stage.Level p q) f seen = None
-barred_by (stage.Swap p q) f seen = None
-barred_by (stage.Swapped p q) f seen = None
-barred_by (stage.Return p q) f seen = None
-barred_by (stage.Resume p q) f seen = None
-barred_by (stage.Crown n) f seen = None
-barred_by (stage.Open n) f seen = None
-barred_by (stage.Opened n) f seen = None
-barred_by (stage.Shut m d) f seen = None
-barred_by (stage.Gather m d) f seen = None
-barred_by (stage.Look n b) f seen = None
-barred_by (stage.Looked n b) f seen = None
-barred_by (stage.Trail n b) f seen = None
-barred_by (stage.Halted n b) f seen = None
-barred_by (stage.Yield m d) f seen = None
-barred_by (stage.Switch m d) f seen = None
-barred_by (stage.Switched m d) f seen = None
-barred_by (stage.Close lines) f seen = None
+barred_by s f seen = bar_by (info s).bar f seen
 
 abbrev pub on_going : World → Recovery → Op → Option Observation → List Exchange → Job → Option Cause → Taken
 on_going w r o ob es j None = goes_on ob es (progressed (record r { core = j }) o (is_waiting j))

@@ -30,6 +30,7 @@ use Rattle.recovery_plans.specs.Stages.{is_look}
 use Rattle.recovery_plans.specs.Deciding.{logs_at}
 use Rattle.recovery_plans.specs.Named.{spoken_to}
 use Rattle.recovery_plans.specs.Recoveries.{Recovery}
+use Rattle.recovery_plans.specs.Table.{info}
 use Rattle.recovery_plans.specs.Taking.{is_below, spot_by, spot_seen}
 use Rattle.recovery_reasons.specs.Causes.{IsRunning, IsTrueOf, IsUnreached}
 
@@ -66,67 +67,11 @@ AllLost P xs = All (λ l. P l.no l.why ≡ true) xs
 
 -- the replica of which a stage's failing operation makes an entry
 abbrev pub speaks_of : Stage → Option ServerNo
-speaks_of (stage.Drain n) = Some n
-speaks_of (stage.Move n by) = Some n
-speaks_of (stage.Join n p) = Some n
-speaks_of (stage.Look n b) = Some n
-speaks_of (stage.Trail n b) = Some n
-speaks_of stage.Idle = None
-speaks_of stage.Check = None
-speaks_of (stage.Read n) = None
-speaks_of (stage.Judged n) = None
-speaks_of (stage.Expel n) = None
-speaks_of (stage.Expelled n) = None
-speaks_of (stage.Release n) = None
-speaks_of (stage.Level p q) = None
-speaks_of (stage.Swap p q) = None
-speaks_of (stage.Swapped p q) = None
-speaks_of (stage.Return p q) = None
-speaks_of (stage.Resume p q) = None
-speaks_of (stage.Crown n) = None
-speaks_of (stage.Open n) = None
-speaks_of (stage.Opened n) = None
-speaks_of (stage.Meet m d) = None
-speaks_of (stage.Shut m d) = None
-speaks_of (stage.Gather m d) = None
-speaks_of (stage.Looked n b) = None
-speaks_of (stage.Halted n b) = None
-speaks_of (stage.Yield m d) = None
-speaks_of (stage.Switch m d) = None
-speaks_of (stage.Switched m d) = None
-speaks_of (stage.Close lines) = None
+speaks_of s = (info s).speaks
 
 -- the bridge by which a stage's replica goes where the designated one stopped
 abbrev pub lead_of : Stage → Option Bridge
-lead_of (stage.Look n b) = Some b
-lead_of (stage.Looked n b) = Some b
-lead_of (stage.Trail n b) = Some b
-lead_of (stage.Halted n b) = Some b
-lead_of stage.Idle = None
-lead_of stage.Check = None
-lead_of (stage.Read n) = None
-lead_of (stage.Drain n) = None
-lead_of (stage.Judged n) = None
-lead_of (stage.Move n by) = None
-lead_of (stage.Join n p) = None
-lead_of (stage.Expel n) = None
-lead_of (stage.Expelled n) = None
-lead_of (stage.Release n) = None
-lead_of (stage.Level p q) = None
-lead_of (stage.Swap p q) = None
-lead_of (stage.Swapped p q) = None
-lead_of (stage.Return p q) = None
-lead_of (stage.Resume p q) = None
-lead_of (stage.Crown n) = None
-lead_of (stage.Open n) = None
-lead_of (stage.Opened n) = None
-lead_of (stage.Meet m d) = None
-lead_of (stage.Shut m d) = None
-lead_of (stage.Gather m d) = None
-lead_of (stage.Yield m d) = None
-lead_of (stage.Switch m d) = None
-lead_of (stage.Switched m d) = None
-lead_of (stage.Close lines) = None
+lead_of s = (info s).lead
 
 -- while a replica goes where the designated one stopped, it waits for that alone
 abbrev pub WaitsFor : Bridge → Deed → Type 0

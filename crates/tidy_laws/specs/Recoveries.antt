@@ -7,12 +7,12 @@ use Rattle.operations.specs.Jobs.{Job}
 use Rattle.operations.specs.Turns.{is_going}
 use Rattle.recovery_plans.specs.declared.outcome.Stopped.{Stopped}
 use Rattle.recovery_plans.specs.declared.stage.Stage.{Stage}
-use Rattle.recovery_plans.specs.declared.stage.Stage.TheVariants as stage
 use Rattle.recovery_plans.specs.declared.task.Task.{Task}
 use Rattle.recovery_plans.specs.declared.task.Task.TheVariants as task
 use Rattle.recovery_plans.specs.declared.task.Way.{Way}
 use Rattle.recovery_plans.specs.declared.task.Way.TheVariants as way
 use Rattle.recovery_plans.specs.Recoveries.{Recovery}
+use Rattle.recovery_plans.specs.Table.{info}
 use Rattle.recovery_plans.specs.Taking.{Taken}
 use Rattle.unended_jobs.specs.declared.unended.Unended.{Unended}
 use Rattle.unended_jobs.specs.declared.unended.Unended.TheVariants as unended
@@ -41,35 +41,7 @@ IsTaskWithin c f chosen task.Yielding = Unit {0}
 
 -- the bridge by which a stage goes
 abbrev pub IsStageWithin : Clusters → Stage → Type 0
-IsStageWithin c (stage.Look n b) = IsWithinCluster c b
-IsStageWithin c (stage.Looked n b) = IsWithinCluster c b
-IsStageWithin c (stage.Trail n b) = IsWithinCluster c b
-IsStageWithin c (stage.Halted n b) = IsWithinCluster c b
-IsStageWithin c stage.Idle = Unit {0}
-IsStageWithin c stage.Check = Unit {0}
-IsStageWithin c (stage.Read n) = Unit {0}
-IsStageWithin c (stage.Drain n) = Unit {0}
-IsStageWithin c (stage.Judged n) = Unit {0}
-IsStageWithin c (stage.Move n by) = Unit {0}
-IsStageWithin c (stage.Join n p) = Unit {0}
-IsStageWithin c (stage.Expel n) = Unit {0}
-IsStageWithin c (stage.Expelled n) = Unit {0}
-IsStageWithin c (stage.Release n) = Unit {0}
-IsStageWithin c (stage.Level p q) = Unit {0}
-IsStageWithin c (stage.Swap p q) = Unit {0}
-IsStageWithin c (stage.Swapped p q) = Unit {0}
-IsStageWithin c (stage.Return p q) = Unit {0}
-IsStageWithin c (stage.Resume p q) = Unit {0}
-IsStageWithin c (stage.Crown n) = Unit {0}
-IsStageWithin c (stage.Open n) = Unit {0}
-IsStageWithin c (stage.Opened n) = Unit {0}
-IsStageWithin c (stage.Meet m d) = Unit {0}
-IsStageWithin c (stage.Shut m d) = Unit {0}
-IsStageWithin c (stage.Gather m d) = Unit {0}
-IsStageWithin c (stage.Yield m d) = Unit {0}
-IsStageWithin c (stage.Switch m d) = Unit {0}
-IsStageWithin c (stage.Switched m d) = Unit {0}
-IsStageWithin c (stage.Close lines) = Unit {0}
+IsStageWithin c s = IfSome (info s).lead (IsWithinCluster c)
 
 -- of a job at a stage, with what is still to do of a failed server, what is drained, the new source, and where a replica
 -- stopped

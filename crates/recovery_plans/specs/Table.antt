@@ -1,0 +1,182 @@
+-- The table of stages: what each is, in one place.
+use Rattle.std.specs.Prelude.{ℕ, Bool, true, false, List, [], ◌∷◌, Option, Some, None}
+use Rattle.orch_base.specs.declared.server.ServerNo.{ServerNo}
+use Rattle.instance_keeper.specs.declared.bridge.Bridge.{Bridge}
+use Rattle.operations.specs.declared.op.Aim.TheVariants.{EndOf, ExecOf}
+use Rattle.operations.specs.declared.op.Crossing.TheVariants as cross
+use Rattle.operations.specs.declared.op.Op.{Op}
+use Rattle.operations.specs.declared.op.Op.TheVariants as op
+use Rattle.recovery_plans.specs.declared.stage.Stage.{Stage}
+use Rattle.recovery_plans.specs.declared.stage.Stage.TheVariants as stage
+use Rattle.recovery_plans.specs.declared.task.Way.{Way}
+use Rattle.recovery_plans.specs.declared.task.Way.TheVariants as way
+
+-- ---- ways
+
+-- the new source
+abbrev pub target : Way → ServerNo
+target (way.Down b) = b.no
+target (way.Up b) = b.source
+target (way.Auto to exec) = to
+
+-- the operation that goes a way
+abbrev pub move : Way → ServerNo → Op
+move (way.Down b) n = op.Cross cross.Down n b.no
+move (way.Up b) n = op.Cross cross.Up n b.no
+move (way.Auto to exec) n = op.Auto n to
+
+-- ---- operations
+
+-- a replica is stopped once it has executed what it has received
+abbrev pub drain : ServerNo → List Op
+drain n = op.StopReceiver n ∷ op.Settle n ∷ op.Stop n ∷ op.Status n None ∷ []
+
+-- a follower q comes to the end of its source's log and loses the source, which goes below it
+abbrev pub level : ServerNo → ServerNo → List Op
+level p q =
+    op.Status p None ∷ op.Status q (Some p) ∷ op.Until q (EndOf p) ∷ op.Await q (EndOf p) ∷ op.Stop q ∷ op.Status q (Some p)
+    ∷ op.Reset q ∷ op.Cross cross.About p q ∷ []
+
+-- a replica d comes to the end of its master's log, which takes no writes
+abbrev pub gather : ServerNo → ServerNo → List Op
+gather m d =
+    op.Status m None ∷ op.Status d (Some m) ∷ op.Until d (EndOf m) ∷ op.Await d (EndOf m) ∷ op.Stop d ∷ op.Status d (Some m) ∷ []
+
+-- a replica comes to where another was seen
+abbrev pub trail : ServerNo → ServerNo → List Op
+trail n d = op.Until n (ExecOf d) ∷ op.Await n (ExecOf d) ∷ op.Stop n ∷ op.Status n None ∷ []
+
+-- ---- what a stage is
+
+-- what is seen in a stage may end the recovery: nothing does; that the failed server is reached; that a master has a
+-- source
+pub data Bar : Type 0 where
+  Never : Bar
+  Reached : Bar
+  Sourced : (m : ServerNo) → Bar
+
+-- the way back of a takeover that fails in a stage: none; the master takes writes again; its replica goes back below it
+-- before
+pub data Back : Type 0 where
+  Nowhere : Back
+  Writes : Back
+  Whole : (m d : ServerNo) → Back
+
+-- where an operation of a stage fails: the recovery does; nothing more is done with the server; a replica may be lost,
+-- which was to be drained, to go some way, to be started below its new source, or to come to where another stopped; or
+-- another stage takes its place
+pub data Failing : Type 0 where
+  All : Failing
+  Passes : Failing
+  Drains : (n : ServerNo) → Failing
+  Moves : (n : ServerNo) (by : Way) → Failing
+  Joins : (n : ServerNo) → Failing
+  Trails : (n : ServerNo) → Failing
+  Instead : (s : Stage) (ops : List Op) → Failing
+
+-- what the end of a stage makes: nothing; a replica is drained or lost; it follows; it is marked as detached; the
+-- designated one was seen to stop; the second takes the first one's place; the new source takes writes, and nothing
+-- more is changed; a master is to refuse writes; a replica was read, or has stopped; a master is below its replica
+pub data Made : Type 0 where
+  Nothing : Made
+  Judged : (n : ServerNo) → Made
+  Follows : (n p : ServerNo) → Made
+  Marked : (n : ServerNo) → Made
+  Gathered : (d : ServerNo) → Made
+  Swapped : (p q : ServerNo) → Made
+  Opened : (n : ServerNo) → Made
+  Met : (m d : ServerNo) → Made
+  Looked : (n : ServerNo) (b : Bridge) → Made
+  Halted : (n : ServerNo) (b : Bridge) → Made
+  Switched : (m d : ServerNo) → Made
+
+pub record Info : Type 0 where
+  -- the operation that ends the stage, and those behind it
+  pub tail : List Op
+  -- the stage once that operation is done
+  pub next : Stage
+  -- that operation is the reading of the stage's replica
+  pub reads : Bool
+  -- nothing is left of the stage but that
+  pub due : Bool
+  -- a follower that has lost its source as the stage begins
+  pub leaves : Option ServerNo
+  -- the servers that it may change
+  pub changes : List ServerNo
+  -- the server that it is placing
+  pub places : List ServerNo
+  -- the replica that its operations speak with, and that is lost where one of them fails
+  pub speaks : Option ServerNo
+  -- the bridge by which its replica goes where the designated one stopped
+  pub lead : Option Bridge
+  -- so many operations may come after its own, for the same task
+  pub more : ℕ
+  -- nothing comes after its own operations and those behind them
+  pub closes : Bool
+  -- it comes behind a swap
+  pub late : Bool
+  pub bar : Bar
+  pub back : Back
+  pub failing : Failing
+  pub made : Made
+
+-- a stage that ends by itself, of which nothing else is to be told
+abbrev pub plain : Stage → List ServerNo → Info
+plain s ns = record {
+  tail = [];
+  next = s;
+  reads = false;
+  due = false;
+  leaves = None;
+  changes = ns;
+  places = [];
+  speaks = None;
+  lead = None;
+  more = 0;
+  closes = false;
+  late = false;
+  bar = Never;
+  back = Writes;
+  failing = All;
+  made = Nothing;
+}
+
+abbrev pub info : Stage → Info
+info stage.Idle = plain stage.Idle []
+info stage.Check = record (plain stage.Check []) { bar = Reached; failing = Passes }
+info (stage.Read n) = plain (stage.Read n) []
+info (stage.Drain n) = record (plain (stage.Judged n) (n ∷ [])) {
+  tail = op.Status n None ∷ []; reads = true; places = n ∷ []; speaks = Some n; more = 3; failing = Drains n }
+info (stage.Judged n) = record (plain (stage.Judged n) (n ∷ [])) { due = true; places = n ∷ []; more = 3; made = Judged n }
+info (stage.Move n by) = record (plain (stage.Join n (target by)) (n ∷ [])) {
+  tail = move by n ∷ op.Start n ∷ []; places = n ∷ []; speaks = Some n; more = 1; failing = Moves n by }
+info (stage.Join n p) = record (plain (stage.Join n p) (n ∷ [])) { places = n ∷ []; speaks = Some n; failing = Joins n; made = Follows n p }
+info (stage.Expel n) = record (plain (stage.Expelled n) (n ∷ [])) { tail = op.Detach n ∷ []; failing = Passes }
+info (stage.Expelled n) = record (plain (stage.Expelled n) (n ∷ [])) { made = Marked n }
+info (stage.Release n) = record (plain (stage.Release n) (n ∷ [])) { failing = Passes }
+info (stage.Level p q) = record (plain (stage.Swap p q) (p ∷ q ∷ [])) {
+  tail = op.Reset q ∷ op.Cross cross.About p q ∷ []; more = 5; failing = Instead (stage.Release q) (op.Start q ∷ []) }
+info (stage.Swap p q) = record (plain (stage.Swapped p q) (p ∷ q ∷ [])) {
+  tail = op.Cross cross.About p q ∷ []; due = true; leaves = Some q; places = q ∷ []; more = 5;
+  failing = Instead (stage.Return p q) (op.Cross cross.Back q p ∷ op.Start q ∷ []) }
+info (stage.Swapped p q) = record (plain (stage.Swapped p q) (p ∷ q ∷ [])) { places = q ∷ []; more = 5; made = Swapped p q }
+info (stage.Return p q) = record (plain (stage.Resume p q) (p ∷ q ∷ [])) { tail = op.Cross cross.Back q p ∷ op.Start q ∷ []; places = q ∷ [] }
+info (stage.Resume p q) = record (plain (stage.Resume p q) (p ∷ q ∷ [])) { places = q ∷ []; made = Follows q p }
+info (stage.Crown n) = record (plain (stage.Open n) (n ∷ [])) { tail = op.Reset n ∷ op.ReadOnly n false ∷ []; more = 3; closes = true }
+info (stage.Open n) = record (plain (stage.Opened n) (n ∷ [])) { tail = op.ReadOnly n false ∷ []; more = 3; closes = true; late = true; back = Nowhere }
+info (stage.Opened n) = record (plain (stage.Opened n) (n ∷ [])) { more = 3; closes = true; late = true; back = Nowhere; made = Opened n }
+info (stage.Meet m d) = record (plain (stage.Meet m d) (m ∷ d ∷ [])) { more = 7; bar = Sourced m; back = Nowhere; made = Met m d }
+info (stage.Shut m d) = record (plain (stage.Gather m d) (m ∷ d ∷ [])) { tail = op.ReadOnly m true ∷ gather m d; back = Nowhere }
+info (stage.Gather m d) = record (plain (stage.Gather m d) (m ∷ d ∷ [])) { made = Gathered d }
+info (stage.Look n b) = record (plain (stage.Looked n b) (n ∷ [])) {
+  tail = op.Status n None ∷ []; reads = true; places = n ∷ []; speaks = Some n; lead = Some b; more = 7; failing = Trails n }
+info (stage.Looked n b) = record (plain (stage.Looked n b) (n ∷ [])) { due = true; places = n ∷ []; lead = Some b; more = 7; made = Looked n b }
+info (stage.Trail n b) = record (plain (stage.Halted n b) (n ∷ [])) {
+  tail = op.Status n None ∷ []; reads = true; places = n ∷ []; speaks = Some n; lead = Some b; more = 3; failing = Trails n }
+info (stage.Halted n b) = record (plain (stage.Halted n b) (n ∷ [])) { due = true; places = n ∷ []; lead = Some b; more = 3; made = Halted n b }
+info (stage.Yield m d) = record (plain (stage.Switch m d) (m ∷ d ∷ [])) {
+  tail = op.Reset d ∷ op.Cross cross.About m d ∷ []; places = m ∷ []; more = 4 }
+info (stage.Switch m d) = record (plain (stage.Switched m d) (m ∷ d ∷ [])) {
+  tail = op.Cross cross.About m d ∷ []; due = true; places = m ∷ []; more = 4; back = Whole m d }
+info (stage.Switched m d) = record (plain (stage.Switched m d) (m ∷ d ∷ [])) { places = m ∷ []; more = 4; back = Nowhere; made = Switched m d }
+info (stage.Close lines) = record (plain stage.Idle []) { tail = op.Finish lines ∷ []; closes = true; late = true; back = Nowhere }
