@@ -25,7 +25,7 @@ use Rattle.recovery_plans.specs.Beginning.{first_source}
 use Rattle.recovery_plans.specs.Recoveries.{Recovery}
 use Rattle.recovery_plans.specs.Stages.{target}
 use Rattle.recovery_plans.specs.Deciding as deciding
-use Rattle.recovery_plans.specs.Deciding.{Lot, chosen_of, lot_by_group, lot_of, move_of, loss_of, moves_in, losses_in, own_end_of, without_stopped, choose, expels}
+use Rattle.recovery_plans.specs.Deciding.{Lot, chosen_of, lot_by_group, lot_of, move_of, stay_of, moves_in, losses_in, own_end_of, without_stopped, choose, expels}
 use Rattle.recovery_plans.proofs.Choices.{All-chosen}
 use Rattle.standing_laws.specs.Standing.{IsSourced, IsApart}
 use Rattle.recovery_covers.specs.Covers.{times, lost_nos, listed, owed, leader}
@@ -90,7 +90,7 @@ module _ (f : ServerNo) (lot : Stopped → Lot) where
   lots-times n (s ∷ ss) = go (lot s) (lots-times n ss)
     where
       go : (x : Lot) → times n (of_queue f (moves_in lot ss)) + times n (lost_nos (losses_in lot ss)) ≡ times n (stopped_nos ss)
-          → times n (of_queue f (move_of s x ++ moves_in lot ss)) + times n (lost_nos (loss_of s x ++ losses_in lot ss)) ≡ one n s.no + times n (stopped_nos ss)
+          → times n (of_queue f (move_of s x ++ moves_in lot ss)) + times n (lost_nos (stay_of s x ++ losses_in lot ss)) ≡ one n s.no + times n (stopped_nos ss)
       go (deciding.Goes by) h = omega (arith, h)
       go (deciding.Stays why) h = omega (arith, h)
 
@@ -134,7 +134,7 @@ module _ (f : ServerNo) (lot : Stopped → Lot) where
         go (lot s) (All-head (λ (x : Stopped). IsSourced w x.no.0) s ss all) (losses-sourced u ss (All-tail (λ (x : Stopped). IsSourced w x.no.0) s ss all))
       where
         go : (x : Lot) → IsSourced w s.no.0 → All (λ l. expels u (Some l.why) ≡ true → IsSourced w l.no.0) (losses_in lot ss)
-            → All (λ l. expels u (Some l.why) ≡ true → IsSourced w l.no.0) (loss_of s x ++ losses_in lot ss)
+            → All (λ l. expels u (Some l.why) ≡ true → IsSourced w l.no.0) (stay_of s x ++ losses_in lot ss)
         go (deciding.Goes by) sourced rest = rest
         go (deciding.Stays why) sourced rest =
             All-cons (λ (l : LostReplica). expels u (Some l.why) ≡ true → IsSourced w l.no.0) (record { no = s.no; why = why; detached = false }) (losses_in lot ss) (λ e. sourced) rest
@@ -143,7 +143,7 @@ module _ (f : ServerNo) (lot : Stopped → Lot) where
     losses-apart [] = All-nil (λ (l : LostReplica). l.detached ≡ true → IsApart w l.no.0)
     losses-apart (s ∷ ss) = go (lot s) (losses-apart ss)
       where
-        go : (x : Lot) → All (λ l. l.detached ≡ true → IsApart w l.no.0) (losses_in lot ss) → All (λ l. l.detached ≡ true → IsApart w l.no.0) (loss_of s x ++ losses_in lot ss)
+        go : (x : Lot) → All (λ l. l.detached ≡ true → IsApart w l.no.0) (losses_in lot ss) → All (λ l. l.detached ≡ true → IsApart w l.no.0) (stay_of s x ++ losses_in lot ss)
         go (deciding.Goes by) rest = rest
         go (deciding.Stays why) rest =
             All-cons (λ (l : LostReplica). l.detached ≡ true → IsApart w l.no.0) (record { no = s.no; why = why; detached = false }) (losses_in lot ss) (λ e. absurd (false≢true e)) rest

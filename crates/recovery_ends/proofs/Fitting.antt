@@ -56,7 +56,7 @@ release-fits n = front-fits (stage.Release n) (op.Start n ∷ []) refl refl refl
 
 -- ---- what is decided
 
-decides-fits : (w : World) (b : BookState) (now : Moment) (r : Recovery) (d : Decision) → MayDecide w b now r d → IsFit r → IsFit (decided_by w b now r d)
+pub decides-fits : (w : World) (b : BookState) (now : Moment) (r : Recovery) (d : Decision) → MayDecide w b now r d → IsFit r → IsFit (decided_by w b now r d)
 decides-fits w b now r (by.Reads n ts) may fits = front-fits (stage.Read n) (op.Status n None ∷ []) refl refl refl
 decides-fits w b now r (by.Drains n ts) may fits = drain-fits n
 decides-fits w b now r (by.Sends n way ts) may fits = tail-fits (stage.Move n way)
@@ -128,7 +128,7 @@ bears-fits r (by.Returns p q) = tail-fits (stage.Return p q)
 
 -- ---- a turn
 
-went-of : (w : World) (read : ℕ) (now : Moment) (r : Recovery) (o : Op) (rest : List Op) (ob : Option Observation) (es : List Exchange) (j : Job) → Does w read now r o rest ob es j → WentOn r.core rest es j
+pub went-of : (w : World) (read : ℕ) (now : Moment) (r : Recovery) (o : Op) (rest : List Op) (ob : Option Observation) (es : List Exchange) (j : Job) → Does w read now r o rest ob es j → WentOn r.core rest es j
 went-of w read now r o rest ob es j did = subst (λ (a : Attempt). Went r.core rest a) did.goes (deed-went r.core rest w read now (deed_of o))
 
 keeps-fits : (w : World) (b : BookState) (read : ℕ) (now : Moment) → Keeps w b read now IsFit (λ v r. IsFit r) (λ v r. IsFit r)

@@ -1,5 +1,5 @@
 -- What each that might have been chosen had when it was drained is a beginning of what the promoted server has.
-use Rattle.std.proofs.Common.{◌≡◌, ℕ, ◌≤◌, true, List, [], ◌∷◌, ◌++◌, length, take, drop, get_or, refl, sym, ◌∙◌, ap, subst, Option, Some, None, ◌⊎◌, inl, inr, arith}
+use Rattle.std.proofs.Common.{◌≡◌, ℕ, ◌≤◌, Bool, true, false, cond, List, [], ◌∷◌, ◌++◌, length, take, drop, get_or, refl, sym, ◌∙◌, ap, subst, Option, Some, None, ◌⊎◌, inl, inr, arith}
 use Rattle.std.specs.Prelude.{filter, not}
 use Rattle.std.specs.List.{All}
 use Rattle.std.proofs.lemmas.Bool.{and_parts}
@@ -22,35 +22,37 @@ use Rattle.server_model.specs.Worlds.{World, source_no}
 use Rattle.replication_laws.specs.Growth.{Grows}
 use Rattle.replication_laws.proofs.Runs.{Grows-run}
 use Rattle.commands.specs.declared.line.Line.{Line}
-use Rattle.instance_keeper.specs.declared.bridge.Bridge.{Bridge}
 use Rattle.instance_keeper.specs.Book.{BookState, rule_at}
 use Rattle.operations.specs.Targets.{logs_by}
 use Rattle.operations.specs.declared.op.Op.{Op}
+use Rattle.operations.specs.Deeds.{deed_of}
 use Rattle.promotion_rules.specs.Choice.{is_barred}
 use Rattle.recovery_plans.specs.declared.outcome.Follower.{Follower}
 use Rattle.recovery_plans.specs.declared.outcome.Stopped.{Stopped}
 use Rattle.recovery_plans.specs.declared.purpose.Purpose.{Purpose}
 use Rattle.recovery_plans.specs.declared.purpose.Purpose.TheVariants as purpose
-use Rattle.recovery_plans.specs.declared.task.Task.{Task}
-use Rattle.recovery_plans.specs.declared.task.Task.TheVariants as task
+use Rattle.recovery_plans.specs.declared.stage.Stage.{Stage}
 use Rattle.recovery_plans.specs.Beginning.{begun_recovery}
-use Rattle.recovery_plans.specs.Recoveries.{Recovery}
-use Rattle.recovery_plans.specs.Deciding.{logs_at, chosen_of, may_lead, choose, look_at, yield, at_last, by_task, by_queue, once, decided}
-use Rattle.recovery_plans.specs.Taking.{taken}
+use Rattle.recovery_plans.specs.Recoveries.{Recovery, follows_no_more}
+use Rattle.recovery_plans.specs.Stages.{ends, leaver, moved}
+use Rattle.recovery_plans.specs.Deciding.{logs_at, chosen_of, may_lead}
+use Rattle.recovery_plans.specs.Taking.{entered, stepped, taken}
+use Rattle.recovery_plans.specs.Moves as by
+use Rattle.recovery_plans.specs.Moves.{Bearing, Decision, Ending, MayDecide, borne, decided_by, ended_by, fate_of}
+use Rattle.recovery_plans.proofs.Walking as walk
+use Rattle.recovery_plans.proofs.Walking.{kept-whole}
 use Rattle.recovery_plans.proofs.Choices.{All-chosen, chosen-logs}
-use Rattle.recovery_laws.specs.HeldRecoveries.{IsReady, IsStopped, HeldRecovery}
+use Rattle.recovery_laws.specs.HeldRecoveries.{IsStopped, HeldRecovery}
 use Rattle.recovery_laws.specs.Rings.{HeldRings, SoundRings}
-use Rattle.recovery_laws.specs.SoundRecoveries.{IsSoundTask, IsSoundStop, SoundRecovery}
-use Rattle.recovery_laws.proofs.Deciding.{once-held}
-use Rattle.recovery_laws.proofs.Sounding.{once-sound}
+use Rattle.recovery_laws.specs.SoundRecoveries.{IsSoundStop, SoundRecovery}
+use Rattle.recovery_laws.proofs.Deciding.{decides-held}
+use Rattle.recovery_laws.proofs.Sounding.{decides-sound}
 use Rattle.recovery_laws.proofs.Taking.{taken-held}
 use Rattle.recovery_covers.specs.Covers.{times, HasSwapped, IsAsNamed, IsTold}
 use Rattle.standing_laws.specs.Standing.{attached_no, IsUnder}
 use Rattle.recovery_covers.specs.SoFar.{stopped_nos, CoversSoFar}
-use Rattle.recovery_covers.proofs.Decided.{IsStuck, once-covers}
 use Rattle.recovery_histories.specs.Kept.{Keeps, KeptByChosen, IsBeginning}
 use Rattle.recovery_histories.proofs.Ordering.{chosen-most}
-use Rattle.recovery_histories.proofs.Staying.{SameChoice, acted-choice, last-choice, over-choice}
 
 -- ---- beginnings
 
@@ -139,11 +141,6 @@ module _ (w : World) (b : BookState) (now : Moment) (r : Recovery) (held : HeldR
 
 -- ---- a turn keeps the choice
 
-kept-by : (w : World) (r r' : Recovery) → SameChoice r r' → KeptByChosen w r → KeptByChosen w r'
-kept-by w r r' same kept p is =
-    subst (λ (f : ServerNo). All (λ s. Keeps w f.0 s.exec p.0) r'.eligible) (sym same.aim.failed)
-    (subst (λ (xs : List Stopped). All (λ s. Keeps w r.failed.0 s.exec p.0) xs) (sym same.eligible) (kept p (sym same.chosen ∙ is)))
-
 pub kept-run : (w : World) (es : List Exchange) (r : Recovery) → Placed w → AllAllowed w es → KeptByChosen w r → KeptByChosen (run w es) r
 kept-run w es r placed allowed kept p is =
     All-weaker (λ (s : Stopped). Keeps w r.failed.0 s.exec p.0) (λ (s : Stopped). Keeps (run w es) r.failed.0 s.exec p.0)
@@ -152,83 +149,87 @@ kept-run w es r placed allowed kept p is =
 pub begun-kept : (w : World) (u : Purpose) (id wait : ℕ) (f : ServerNo) (ns order : List ServerNo) → KeptByChosen w (begun_recovery u id wait f ns order)
 begun-kept w u id wait f ns order p h = All-nil (λ (s : Stopped). Keeps w f.0 s.exec p.0)
 
-module _ (w : World) (b : BookState) (now : Moment) where
-  choice-kept : (r : Recovery) → HeldRecovery w r → SoundRecovery w r → ((n : ℕ) → times n (stopped_nos r.drained) ≤ 1) → (o : Option Stopped) → chosen_of w b now r.failed r.drained ≡ o → KeptByChosen w (choose w b now r o)
-  choice-kept r held sound once None e p is = cc
-  choice-kept r held sound once (Some x) e p is =
-      subst (λ (n : ServerNo). All (λ s. Keeps w r.failed.0 s.exec n.0) (filter (may_lead w b now) r.drained)) (same_Some x.no p is) (chosen-keeps w b now r held sound once x e)
+-- nobody is drained twice
+abbrev IsDrainedOnce : Recovery → Type 0
+IsDrainedOnce r = (n : ℕ) → times n (stopped_nos r.drained) ≤ 1
 
-  look-kept : (r : Recovery) (n : ServerNo) (o : Option Bridge) → KeptByChosen w r → KeptByChosen w (look_at r n o)
-  look-kept r n None kept p is = cc
-  look-kept r n (Some x) kept p is = kept p is
+-- held, sound and kept, with nobody drained twice
+record KeepsChoice (w : World) (r : Recovery) : Type 0 where
+  pub held : HeldRecovery w r
+  pub sound : SoundRecovery w r
+  pub once : IsDrainedOnce r
+  pub kept : KeptByChosen w r
 
-  yield-kept : (r : Recovery) (o : Option Bridge) → KeptByChosen w r → KeptByChosen w (yield r o)
-  yield-kept r None kept p is = cc
-  yield-kept r (Some x) kept p is = kept p is
+drained-once : (w : World) (r : Recovery) → CoversSoFar w r → IsDrainedOnce r
+drained-once w r c n = let e = c.at.once n in let most = c.at.replicas.distinct n in omega (arith, e, most)
 
-  task-kept : (r : Recovery) (t : Task) → HeldRecovery w r → SoundRecovery w r → ((n : ℕ) → times n (stopped_nos r.drained) ≤ 1) → KeptByChosen w r → KeptByChosen w (by_task w b now r t)
-  task-kept r task.Choosing held sound once kept = choice-kept r held sound once (chosen_of w b now r.failed r.drained) refl
-  task-kept r task.Handing held sound once kept = kept-by w r (by_task w b now r task.Handing) (over-choice w b now r r.chosen) kept
-  task-kept r (task.Trailing n) held sound once kept = look-kept r n r.lead kept
-  task-kept r task.Yielding held sound once kept = yield-kept r r.lead kept
-  task-kept r (task.Reading n) held sound once kept = kept
-  task-kept r (task.Draining n) held sound once kept = kept
-  task-kept r (task.Moving n by) held sound once kept = kept
-  task-kept r task.Sorting held sound once kept = kept
-  task-kept r (task.Expelling n) held sound once kept = kept
-  task-kept r (task.Releasing n) held sound once kept = kept
+others-once : (r : Recovery) (d : Stopped) (ds : List Stopped) → r.drained ≡ d ∷ ds → IsDrainedOnce r → (n : ℕ) → times n (stopped_nos ds) ≤ 1
+others-once r d ds is once n =
+    let e : times n (stopped_nos r.drained) ≡ times n (stopped_nos (d ∷ ds)) = ap (λ (xs : List Stopped). times n (stopped_nos xs)) is in
+    let most = once n in omega (arith, e, most)
 
-  -- nobody is drained twice
-  drained-once : (r : Recovery) → CoversSoFar w r → (n : ℕ) → times n (stopped_nos r.drained) ≤ 1
-  drained-once r c n = let e = c.at.once n in let most = c.at.replicas.distinct n in omega (arith, e, most)
+module _ (w : World) (b : BookState) (read : ℕ) (now : Moment) (rings : HeldRings w b.rings) (stand : SoundRings w b.rings) where
+  decides-once : (r : Recovery) (d : Decision) → MayDecide w b now r d → IsDrainedOnce r → IsDrainedOnce (decided_by w b now r d)
+  decides-once r (by.Chooses p ts) may once n = let none : 0 ≤ 1 = omega arith in none
+  decides-once r (by.ChoosesNobody ts) may once n = let none : 0 ≤ 1 = omega arith in none
+  decides-once r (by.HandedOver ts) may once n = let none : 0 ≤ 1 = omega arith in none
+  decides-once r (by.Hands d ds way ts) may once n = others-once r d ds may.drained once n
+  decides-once r (by.Leaves d ds ts) may once n = others-once r d ds may.drained once n
+  decides-once r d may once n = once n
 
-  once-kept : (r : Recovery) → HeldRecovery w r → SoundRecovery w r → CoversSoFar w r ⊎ IsStuck r → KeptByChosen w r → KeptByChosen w (once w b now r)
-  once-kept r held sound fine kept = go r.core.ops r.queue refl held.queue sound.queue
+  decides-kept : (r : Recovery) (d : Decision) → MayDecide w b now r d → KeepsChoice w r → KeptByChosen w (decided_by w b now r d)
+  decides-kept r (by.Chooses x ts) may h p is =
+      subst (λ (n : ServerNo). All (λ s. Keeps w r.failed.0 s.exec n.0) (filter (may_lead w b now) r.drained)) (same_Some x.no p is)
+      (chosen-keeps w b now r h.held h.sound h.once x may.1)
+  decides-kept r (by.ChoosesNobody ts) may h p is = cc
+  decides-kept r (by.Sticks t ts) may h p is = cc
+  decides-kept r d may h p is = h.kept p is
+
+  decides-all : (r : Recovery) (d : Decision) → MayDecide w b now r d → KeepsChoice w r → KeepsChoice w (decided_by w b now r d)
+  decides-all r d may h = record {
+    held = decides-held w b now rings r d may h.held;
+    sound = decides-sound w b now rings stand r d may h.held h.sound;
+    once = decides-once r d may h.once;
+    kept = decides-kept r d may h;
+  }
+
+  stepped-kept : (r : Recovery) (o : Op) → KeptByChosen w r → KeptByChosen w (stepped r o)
+  stepped-kept r o kept = go (ends r.stage (deed_of o))
     where
-      go : (ops : List Op) (ts : List Task) → r.queue ≡ ts → All (IsReady w r.core.seen) ts → All (IsSoundTask w) ts → KeptByChosen w (by_queue w b now r ops ts)
-      go (x ∷ xs) ts q hs ss = kept
-      go [] [] q hs ss = kept-by w r (at_last w b now r r.purpose) (last-choice w b now r r.purpose) kept
-      go [] (t ∷ ts) q hs ss =
-          task-kept (record r { queue = ts }) t
-          (record {
-            core = held.core;
-            stage = held.stage;
-            fits = held.fits;
-            queue = All-tail (IsReady w r.core.seen) t ts hs;
-            drained = held.drained;
-            lead = held.lead;
-          })
-          (record { core = sound.core; stage = sound.stage; queue = All-tail (IsSoundTask w) t ts ss; drained = sound.drained; lead = sound.lead }) (distinct fine) kept
-        where
-          distinct : CoversSoFar w r ⊎ IsStuck r → (n : ℕ) → times n (stopped_nos r.drained) ≤ 1
-          distinct (inl c) = drained-once r c
-          distinct (inr x) = let bad : t ∷ ts ≡ [] = sym q ∙ x.queue in cc
+      enter : (k : Option ServerNo) → KeptByChosen w (record (follows_no_more r k) { stage = moved r.stage })
+      enter None p is = kept p is
+      enter (Some n) p is = kept p is
 
-  -- held, sound, covered and kept together, over the decisions
-  decided-kept : (r : Recovery) → HeldRings w b.rings → SoundRings w b.rings → HeldRecovery w r → SoundRecovery w r → CoversSoFar w r → KeptByChosen w r → KeptByChosen w (decided w b now r)
-  decided-kept r rings stand held sound covers kept =
-      let a = once w b now r in
-      let d = once w b now a in
-      let e = once w b now d in
-      let ha = once-held w b now rings r held in
-      let sa = once-sound w b now rings stand r held sound in
-      let ca = once-covers w b now r (inl covers) in
-      let hd = once-held w b now rings a ha in
-      let sd = once-sound w b now rings stand a ha sa in
-      let cd = once-covers w b now a ca in
-      let he = once-held w b now rings d hd in
-      let se = once-sound w b now rings stand d hd sd in
-      let ce = once-covers w b now d cd in
-      once-kept e he se ce (once-kept d hd sd cd (once-kept a ha sa ca (once-kept r held sound (inl covers) kept)))
+      go : (c : Bool) → KeptByChosen w (cond c (entered r (moved r.stage)) r)
+      go true = enter (leaver (moved r.stage))
+      go false = kept
 
--- ---- a turn
+  completes-kept : (r : Recovery) (e : Ending) → KeptByChosen w r → KeptByChosen w (ended_by r e)
+  completes-kept r by.Rests kept p is = kept p is
+  completes-kept r e kept p is = kept p is
+
+  bears-kept : (r : Recovery) (e : Bearing) → KeptByChosen w r → KeptByChosen w (borne r (fate_of e))
+  bears-kept r by.Drops kept p is = kept p is
+  bears-kept r e kept p is = kept p is
+
+  -- of the world before the turn's exchanges
+  keeps-kept : walk.Keeps w b read now (KeepsChoice w) (λ v r. KeptByChosen w r) (λ v r. KeptByChosen w r)
+  keeps-kept = record {
+    decides = decides-all;
+    waits = λ r o rest ob es j did e h p is. h.kept p is;
+    acts = λ r o rest ob es j did e h. stepped-kept (record r { core = j }) o (λ p is. h.kept p is);
+    continues = λ v r x xs is kept. kept;
+    completes = λ v r e none may kept. completes-kept r e kept;
+    bears = λ r o rest c ob e stops is may h. bears-kept r e h.kept;
+  }
 
 pub taken-kept : (w : World) (b : BookState) (read : ℕ) (now : Moment) (r : Recovery) → Placed w → HeldRings w b.rings → SoundRings w b.rings → HeldRecovery w r → SoundRecovery w r → CoversSoFar w r
     → KeptByChosen w r → KeptByChosen (run w (taken w b read now r).exchanges) (taken w b read now r).recovery
 taken-kept w b read now r placed rings stand held sound covers kept =
     kept-run w (taken w b read now r).exchanges (taken w b read now r).recovery placed (taken-held w b read now r placed rings held).allowed
-    (kept-by w (decided w b now r) (taken w b read now r).recovery (acted-choice w read now (decided w b now r) (decided w b now r).core.ops)
-    (decided-kept w b now r rings stand held sound covers kept))
+    (kept-whole w b read now (KeepsChoice w) (λ v s. KeptByChosen w s) (λ v s. KeptByChosen w s) (keeps-kept w b read now rings stand)
+    (record { fails = λ s c ob why h p is. h.kept p is; finishes = λ s o rest lines is e h p at. h.kept p at }) r
+    (record { held = held; sound = sound; once = drained-once w r covers; kept = kept }))
 
 -- ---- the promoted one
 

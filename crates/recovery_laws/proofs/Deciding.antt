@@ -216,8 +216,5 @@ module _ (w : World) (b : BookState) (now : Moment) (rings : HeldRings w b.rings
       working-held w r (stage.Close (told r)) (op.Start p ∷ op.Finish (told r) ∷ []) held tt refl (record { front = op.Start p ∷ []; still = refl; is = refl; due = λ h. cc })
   decides-held r by.Closes g held = working-held w r (stage.Close (told r)) (op.Finish (told r) ∷ []) held tt refl (tail-fits (stage.Close (told r)))
 
-  pub once-held : (r : Recovery) → HeldRecovery w r → HeldRecovery w (once w b now r)
-  once-held r held = decisions-keep w b now (HeldRecovery w) decides-held (once-walks w b now r) held
-
 pub decided-held : (w : World) (b : BookState) (now : Moment) (r : Recovery) → HeldRings w b.rings → HeldRecovery w r → HeldRecovery w (decided w b now r)
 decided-held w b now r rings held = decisions-keep w b now (HeldRecovery w) (decides-held w b now rings) (decided-walks w b now r) held

@@ -33,15 +33,13 @@ use Rattle.operations.specs.declared.sight.Sight.{Sight}
 use Rattle.operations.specs.Deeds.{deed_of}
 use Rattle.operations.specs.Jobs.{Job, seen_of}
 use Rattle.operations.specs.Targets.{can_attach}
-use Rattle.operations.specs.Turns as attempt
-use Rattle.operations.specs.Turns.{bridge_at, Attempt, by_deed, crossing_of, restarts}
+use Rattle.operations.specs.Turns.{bridge_at, crossing_of, going, restarts}
 use Rattle.job_laws.specs.Flights.{StandsIn}
 use Rattle.job_laws.specs.Footing.{footing, finds, are_held}
-use Rattle.job_laws.specs.Held.{KeepsHeld}
 use Rattle.job_laws.specs.Sound.{IsBridged, AllBridged, KeepsSound}
 use Rattle.job_laws.proofs.Bridging.{crossing-joins, stands-at}
 use Rattle.job_laws.proofs.Lists.{All-at}
-use Rattle.job_laws.proofs.Turns.{with-one, deed-kept, deed-sound, restarts-join, AllBridged-run}
+use Rattle.job_laws.proofs.Turns.{with-one, goes-kept, goes-sound, restarts-join, AllBridged-run}
 use Rattle.replica_groups.specs.declared.groups.Group.TheVariants as group
 use Rattle.replica_groups.specs.Groups.{by_bridge, group_of}
 use Rattle.recovery_plans.specs.declared.outcome.Stopped.{Stopped}
@@ -54,19 +52,21 @@ use Rattle.recovery_plans.specs.declared.task.Task.TheVariants as task
 use Rattle.recovery_plans.specs.declared.task.Way.{Way}
 use Rattle.recovery_plans.specs.declared.task.Way.TheVariants as way
 use Rattle.recovery_plans.specs.Recoveries.{Recovery, follows, follows_no_more, loses, sight_of, working}
-use Rattle.recovery_plans.specs.Stages.{drain, ends, leaver, level, moved, trail, with_bridge, with_way}
+use Rattle.recovery_plans.specs.Stages.{drain, ends, gather, leaver, level, moved, with_bridge, with_way}
 use Rattle.recovery_plans.specs.Telling.{told}
 use Rattle.recovery_plans.specs.Deciding as deciding
-use Rattle.recovery_plans.specs.Deciding.{Lot, chosen_of, better_of, lot_by_group, own_end_of, lot_of, move_of, moves_in, without_stopped, choose, moving, way_below, way_by_set, hand_by, hand, hand_over, why_of, expels, releases, sort, swap_by, swap, crown, swap_or_crown, rejoin, at_last, look_at, yield, logs_at, by_task, by_queue, once, decided}
-use Rattle.recovery_plans.specs.Taking as taking
-use Rattle.recovery_plans.specs.Taking.{Fate, is_below, judged, lead_under, idle, frees, looked, halted, completed, entered, stepped, at_end, progressed, fate_of_drain, fate_of_trail, lost_on_way, fate_of_errant, fate_of_move, fate, that_can, takes_writes, goes_back, way_back, undone, last_exchanges, met, is_waiting, barred_by, on_going, attempted, acted, taken}
+use Rattle.recovery_plans.specs.Deciding.{Lot, chosen_of, lot_by_group, own_end_of, lot_of, move_of, moves_in, without_stopped, choose, moving, way_below, way_by_set, why_of, expels, releases, sort, logs_at}
+use Rattle.recovery_plans.specs.Taking.{lead_under, idle, entered, stepped, swapped, that_can, takes_writes, goes_back, way_back, undone, last_looks, last_exchanges, taken}
+use Rattle.recovery_plans.specs.Moves as by
+use Rattle.recovery_plans.specs.Moves.{Bearing, Decision, Does, Ending, IsHanding, IsNext, MayDecide, MayEnd, borne, decided_by, ended_by, fate_of}
+use Rattle.recovery_plans.proofs.Walking.{Keeps, kept-along, made-along}
 use Rattle.recovery_laws.specs.Rings.{HeldRings, SoundRings}
 use Rattle.recovery_ends.specs.Shapes.{Fits}
 use Rattle.recovery_laws.specs.HeldRecoveries.{IsReady, IsStopped, stopped_bridge, HeldRecovery}
 use Rattle.recovery_laws.specs.SoundRecoveries.{IsSoundWay, IsSoundTask, IsSoundStop, IsSoundStage, SoundRecovery, KeepsSoundRecovery}
 use Rattle.recovery_laws.proofs.Choosing.{All-latest, own-is}
 use Rattle.recovery_plans.proofs.Choices.{All-chosen, chosen-logs}
-use Rattle.recovery_laws.proofs.Deciding.{decided-held, once-held}
+use Rattle.recovery_laws.proofs.Deciding.{decides-held}
 use Rattle.recovery_laws.proofs.Taking.{due, source-is}
 
 -- ---- a bridge as a reading
@@ -82,6 +82,21 @@ way-bridged : (w : World) (xs : List Sight) (by : Way) → AllBridged w xs → I
 way-bridged w xs (way.Down b) all s = seen-bridged w xs b all s
 way-bridged w xs (way.Up b) all s = seen-bridged w xs b all s
 way-bridged w xs (way.Auto to exec) all s = all
+
+-- ---- a stage begins
+
+module _ (w : World) where
+  begun-sound : (r : Recovery) (x : Stage) (ops : List Op) → SoundRecovery w r → IsSoundStage w x → SoundRecovery w (working r x ops)
+  begun-sound r x ops s h = record { core = s.core; stage = h; queue = s.queue; drained = s.drained; lead = s.lead }
+
+  moving-sound : (r : Recovery) (n : ServerNo) (by : Way) → SoundRecovery w r → IsSoundWay w by → SoundRecovery w (moving r n by)
+  moving-sound r n by s h = record { core = way-bridged w r.core.seen by s.core h; stage = tt; queue = s.queue; drained = s.drained; lead = s.lead }
+
+  idle-sound : (r : Recovery) → SoundRecovery w r → SoundRecovery w (idle r)
+  idle-sound r s = record { core = s.core; stage = tt; queue = s.queue; drained = s.drained; lead = s.lead }
+
+abbrev IsHeldAndSound : World → Recovery → Type 0
+IsHeldAndSound w r = HeldRecovery w r × SoundRecovery w r
 
 -- ---- what is decided
 
@@ -127,30 +142,32 @@ module _ (w : World) (b : BookState) (now : Moment) (rings : HeldRings w b.rings
       go true = tt
       go false = level (same_coord s.exec p.exec) refl
 
-  moving-sound : (r : Recovery) (n : ServerNo) (by : Way) → SoundRecovery w r → IsSoundWay w by → SoundRecovery w (moving r n by)
-  moving-sound r n by s h = record { core = way-bridged w r.core.seen by s.core h; stage = tt; queue = s.queue; drained = s.drained; lead = s.lead }
+  -- with another queue and other drained ones
+  queued-sound : (r : Recovery) (ts : List Task) (ds : List Stopped) → SoundRecovery w r → All (IsSoundTask w) ts → All (IsSoundStop w r.failed) ds
+      → SoundRecovery w (record r { queue = ts; drained = ds })
+  queued-sound r ts ds s queue drained = record { core = s.core; stage = s.stage; queue = queue; drained = drained; lead = s.lead }
 
-  -- a stage begins
-  working-sound : (r : Recovery) (x : Stage) (ops : List Op) → SoundRecovery w r → IsSoundStage w x → SoundRecovery w (working r x ops)
-  working-sound r x ops s h = record { core = s.core; stage = h; queue = s.queue; drained = s.drained; lead = s.lead }
+  next-sound : (r : Recovery) (t : Task) (ts : List Task) → IsNext r t ts → SoundRecovery w r → IsSoundTask w t × SoundRecovery w (record r { queue = ts })
+  next-sound r t ts next s =
+      let all = subst (λ (q : List Task). All (IsSoundTask w) q) next.queue s.queue in
+      (All-head (IsSoundTask w) t ts all, queued-sound r ts r.drained s (All-tail (IsSoundTask w) t ts all) s.drained)
 
-  choose-sound : (r : Recovery) → HeldRecovery w r → SoundRecovery w r → SoundRecovery w (choose w b now r (chosen_of w b now r.failed r.drained))
-  choose-sound r held s = go (chosen_of w b now r.failed r.drained) refl
-    where
-      go : (o : Option Stopped) → chosen_of w b now r.failed r.drained ≡ o → SoundRecovery w (choose w b now r o)
-      go None e = record { core = s.core; stage = s.stage; queue = All-nil (IsSoundTask w); drained = All-nil (IsSoundStop w r.failed); lead = s.lead }
-      go (Some p) e =
-          let one = All-chosen w b now r.failed (IsStopped w r.core.seen r.failed) r.drained p held.drained e in
-          let stop = All-chosen w b now r.failed (IsSoundStop w r.failed) r.drained p s.drained e in
-          record {
-            core = s.core;
-            stage = s.stage;
-            queue =
-                All-append (IsSoundTask w) (moves_in (lot_of w b r.failed p) (without_stopped r.drained p.no)) r.queue
-                (moves-sound (lot_of w b r.failed p) (without_stopped r.drained p.no) (lot-sound r.core.seen r.failed p one (chosen-logs w b now r.failed r.drained p e) stop)) s.queue;
-            drained = All-nil (IsSoundStop w r.failed);
-            lead = s.lead;
-          }
+  handed-sound : (r : Recovery) (d : Stopped) (ds : List Stopped) (o : Option Way) (ts : List Task) → IsHanding w b r d ds o ts → SoundRecovery w r → SoundRecovery w (record r { drained = ds })
+  handed-sound r d ds o ts g s =
+      queued-sound r r.queue ds s s.queue (All-tail (IsSoundStop w r.failed) d ds (subst (λ (xs : List Stopped). All (IsSoundStop w r.failed) xs) g.drained s.drained))
+
+  lead-of : (r : Recovery) (x : Bridge) → r.lead ≡ Some x → SoundRecovery w r → StandsIn w x
+  lead-of r x is s = subst (λ (o : Option Bridge). IfSome o (StandsIn w)) is s.lead
+
+  chooses-sound : (r : Recovery) (p : Stopped) → All (IsStopped w r.core.seen r.failed) r.drained → SoundRecovery w r → chosen_of w b now r.failed r.drained ≡ Some p
+      → SoundRecovery w (choose w b now r (Some p))
+  chooses-sound r p stopped s e =
+      let one = All-chosen w b now r.failed (IsStopped w r.core.seen r.failed) r.drained p stopped e in
+      let stop = All-chosen w b now r.failed (IsSoundStop w r.failed) r.drained p s.drained e in
+      queued-sound r (moves_in (lot_of w b r.failed p) (without_stopped r.drained p.no) ++ r.queue) [] s
+      (All-append (IsSoundTask w) (moves_in (lot_of w b r.failed p) (without_stopped r.drained p.no)) r.queue
+      (moves-sound (lot_of w b r.failed p) (without_stopped r.drained p.no) (lot-sound r.core.seen r.failed p one (chosen-logs w b now r.failed r.drained p e) stop)) s.queue)
+      (All-nil (IsSoundStop w r.failed))
 
   below-sound : (seen : List Sight) (x k : ServerNo) (d : Stopped) (o : Option Way) → way_below w b seen x k d ≡ o → IfSome o (IsSoundWay w)
   below-sound seen x k d o e = subst (λ (y : Option Way). IfSome y (IsSoundWay w)) e (go w.gtid)
@@ -167,29 +184,6 @@ module _ (w : World) (b : BookState) (now : Moment) (rings : HeldRings w b.rings
       go : (g : Bool) → IfSome (cond g (way_by_set w seen k d) (option_map way.Up (latest_that (has_own k d.exec) (ring_at b.rings x)))) (IsSoundWay w)
       go true = by-set _
       go false = by-log (latest_that (has_own k d.exec) (ring_at b.rings x)) refl
-
-  hand-sound : (k : ServerNo) (ds : List Stopped) (r : Recovery) → SoundRecovery w r → All (IsSoundStop w r.failed) ds → SoundRecovery w (hand w b k r ds)
-  hand-sound k [] r s all = record { core = s.core; stage = s.stage; queue = s.queue; drained = All-nil (IsSoundStop w r.failed); lead = s.lead }
-  hand-sound k (d ∷ ds) r s all =
-      go (way_below w b r.core.seen r.failed k d) (below-sound r.core.seen r.failed k d (way_below w b r.core.seen r.failed k d) refl)
-      (hand-sound k ds (loses r d.no (lost.Behind d.exec)) s (All-tail (IsSoundStop w r.failed) d ds all))
-    where
-      go : (o : Option Way) → IfSome o (IsSoundWay w) → SoundRecovery w (hand w b k (loses r d.no (lost.Behind d.exec)) ds)
-          → SoundRecovery w (hand_by r d ds o (hand w b k (loses r d.no (lost.Behind d.exec)) ds))
-      go None h rest = rest
-      go (Some by) h rest =
-          moving-sound (record r { queue = task.Handing ∷ r.queue; drained = ds }) d.no by
-          (record {
-            core = s.core;
-            stage = s.stage;
-            queue = All-cons (IsSoundTask w) task.Handing r.queue tt s.queue;
-            drained = All-tail (IsSoundStop w r.failed) d ds all;
-            lead = s.lead;
-          }) h
-
-  over-sound : (r : Recovery) (o : Option ServerNo) → SoundRecovery w r → SoundRecovery w (hand_over w b r o)
-  over-sound r None s = s
-  over-sound r (Some k) s = hand-sound k r.drained r s s.drained
 
   sound-map : (t : ServerNo → Task) (ns : List ServerNo) → ((n : ServerNo) → IsSoundTask w (t n)) → All (IsSoundTask w) (map t ns)
   sound-map t [] each = All-nil (IsSoundTask w)
@@ -209,82 +203,34 @@ module _ (w : World) (b : BookState) (now : Moment) (rings : HeldRings w b.rings
         lead = s.lead;
       }
 
-  last-sound : (r : Recovery) (u : Purpose) → SoundRecovery w r → SoundRecovery w (at_last w b now r u)
-  last-sound r purpose.Regroup s = go r.chosen
-    where
-      go : (o : Option ServerNo) → SoundRecovery w (rejoin r o)
-      go None = s
-      go (Some p) = working-sound r (stage.Close (told r)) (op.Start p ∷ op.Finish (told r) ∷ []) s tt
-  last-sound r purpose.Master s = all r.swaps
-    where
-      swapping : (p : ServerNo) (o : Option ServerNo) → SoundRecovery w (swap_by (record r { swaps = false }) p o)
-      swapping p None = s
-      swapping p (Some q) = working-sound (record r { swaps = false }) (stage.Level p q) (level p q) s tt
+  pub decides-sound : (r : Recovery) (d : Decision) → MayDecide w b now r d → HeldRecovery w r → SoundRecovery w r → SoundRecovery w (decided_by w b now r d)
+  decides-sound r (by.Reads n ts) next held s = begun-sound w (record r { queue = ts }) (stage.Read n) (op.Status n None ∷ []) (next-sound r (task.Reading n) ts next s).1 tt
+  decides-sound r (by.Drains n ts) next held s = begun-sound w (record r { queue = ts }) (stage.Drain n) (drain n) (next-sound r (task.Draining n) ts next s).1 tt
+  decides-sound r (by.Sends n way ts) next held s = let h = next-sound r (task.Moving n way) ts next s in moving-sound w (record r { queue = ts }) n way h.1 h.0
+  decides-sound r (by.Expels n ts) next held s = begun-sound w (record r { queue = ts }) (stage.Expel n) (op.Detach n ∷ []) (next-sound r (task.Expelling n) ts next s).1 tt
+  decides-sound r (by.Releases n ts) next held s = begun-sound w (record r { queue = ts }) (stage.Release n) (op.Start n ∷ []) (next-sound r (task.Releasing n) ts next s).1 tt
+  decides-sound r (by.Looks n x ts) (next, e) held s =
+      begun-sound w (record r { queue = ts }) (stage.Look n x) (op.Status n None ∷ []) (next-sound r (task.Trailing n) ts next s).1 (lead-of r x e s)
+  decides-sound r (by.Yields x ts) (next, e) held s =
+      let h = (next-sound r task.Yielding ts next s).1 in
+      record { core = seen-bridged w r.core.seen x s.core (lead-of r x e s); stage = tt; queue = h.queue; drained = s.drained; lead = s.lead }
+  decides-sound r (by.Sticks t ts) g held s = queued-sound r [] r.drained s (All-nil (IsSoundTask w)) s.drained
+  decides-sound r (by.Chooses p ts) (next, e) held s = chooses-sound (record r { queue = ts }) p held.drained (next-sound r task.Choosing ts next s).1 e
+  decides-sound r (by.ChoosesNobody ts) g held s = queued-sound r [] [] s (All-nil (IsSoundTask w)) (All-nil (IsSoundStop w r.failed))
+  decides-sound r (by.Hands d ds way ts) g held s =
+      moving-sound w (record r { drained = ds }) d.no way (handed-sound r d ds (Some way) ts g s) (below-sound r.core.seen r.failed g.source d (Some way) g.way)
+  decides-sound r (by.Leaves d ds ts) g held s = handed-sound r d ds None ts g s
+  decides-sound r (by.HandedOver ts) g held s = queued-sound r ts [] s (next-sound r task.Handing ts g.0 s).1.queue (All-nil (IsSoundStop w r.failed))
+  decides-sound r (by.Passes ts) g held s = (next-sound r task.Handing ts g.0 s).1
+  decides-sound r (by.Sorts ts) next held s = sort-sound (record r { queue = ts }) (next-sound r task.Sorting ts next s).1
+  decides-sound r (by.Levels p q) g held s = begun-sound w (record r { swaps = false }) (stage.Level p q) (level p q) s tt
+  decides-sound r by.Remains g held s = s
+  decides-sound r (by.Crowns p) g held s = begun-sound w r (stage.Crown p) (op.Reset p ∷ op.ReadOnly p false ∷ []) s tt
+  decides-sound r (by.Rejoins p) g held s = begun-sound w r (stage.Close (told r)) (op.Start p ∷ op.Finish (told r) ∷ []) s tt
+  decides-sound r by.Closes g held s = begun-sound w r (stage.Close (told r)) (op.Finish (told r) ∷ []) s tt
 
-      swaps : (o : Option ServerNo) → SoundRecovery w (swap w b now (record r { swaps = false }) o)
-      swaps None = s
-      swaps (Some p) = swapping p (better_of w b now r.failed p (map (λ x. x.no) r.outcome.followers))
-
-      crowns : (o : Option ServerNo) → SoundRecovery w (crown r o)
-      crowns None = s
-      crowns (Some p) = working-sound r (stage.Crown p) (op.Reset p ∷ op.ReadOnly p false ∷ []) s tt
-
-      all : (a : Bool) → SoundRecovery w (swap_or_crown w b now r a)
-      all true = swaps r.chosen
-      all false = crowns r.chosen
-  last-sound r (purpose.Intermediate k) s = working-sound r (stage.Close (told r)) (op.Finish (told r) ∷ []) s tt
-  last-sound r (purpose.Takeover d) s = s
-
-  stuck-sound : (r : Recovery) → SoundRecovery w r → SoundRecovery w (deciding.stuck r)
-  stuck-sound r s = record { core = s.core; stage = s.stage; queue = All-nil (IsSoundTask w); drained = s.drained; lead = s.lead }
-
-  look-sound : (r : Recovery) (n : ServerNo) (o : Option Bridge) → IfSome o (StandsIn w) → SoundRecovery w r → SoundRecovery w (look_at r n o)
-  look-sound r n None lead s = stuck-sound r s
-  look-sound r n (Some x) lead s = working-sound r (stage.Look n x) (op.Status n None ∷ []) s lead
-
-  yield-sound : (r : Recovery) (o : Option Bridge) → IfSome o (StandsIn w) → SoundRecovery w r → SoundRecovery w (yield r o)
-  yield-sound r None lead s = stuck-sound r s
-  yield-sound r (Some x) lead s = record { core = seen-bridged w r.core.seen x s.core lead; stage = tt; queue = s.queue; drained = s.drained; lead = s.lead }
-
-  task-sound : (r : Recovery) (t : Task) → HeldRecovery w r → SoundRecovery w r → IsSoundTask w t → SoundRecovery w (by_task w b now r t)
-  task-sound r (task.Reading n) held s h = working-sound r (stage.Read n) (op.Status n None ∷ []) s tt
-  task-sound r (task.Draining n) held s h = working-sound r (stage.Drain n) (drain n) s tt
-  task-sound r task.Choosing held s h = choose-sound r held s
-  task-sound r task.Handing held s h = over-sound r r.chosen s
-  task-sound r (task.Moving n by) held s h = moving-sound r n by s h
-  task-sound r task.Sorting held s h = sort-sound r s
-  task-sound r (task.Expelling n) held s h = working-sound r (stage.Expel n) (op.Detach n ∷ []) s tt
-  task-sound r (task.Releasing n) held s h = working-sound r (stage.Release n) (op.Start n ∷ []) s tt
-  task-sound r (task.Trailing n) held s h = look-sound r n r.lead s.lead s
-  task-sound r task.Yielding held s h = yield-sound r r.lead s.lead s
-
-  pub once-sound : (r : Recovery) → HeldRecovery w r → SoundRecovery w r → SoundRecovery w (once w b now r)
-  once-sound r held s = go r.core.ops r.queue held.queue s.queue
-    where
-      go : (ops : List Op) (ts : List Task) → All (IsReady w r.core.seen) ts → All (IsSoundTask w) ts → SoundRecovery w (by_queue w b now r ops ts)
-      go (x ∷ xs) ts ready all = s
-      go [] [] ready all = last-sound r r.purpose s
-      go [] (t ∷ ts) ready all =
-          task-sound (record r { queue = ts }) t
-          (record {
-            core = held.core;
-            stage = held.stage;
-            fits = held.fits;
-            queue = All-tail (IsReady w r.core.seen) t ts ready;
-            drained = held.drained;
-            lead = held.lead;
-          })
-          (record { core = s.core; stage = s.stage; queue = All-tail (IsSoundTask w) t ts all; drained = s.drained; lead = s.lead }) (All-head (IsSoundTask w) t ts all)
-
-  pub decided-sound : (r : Recovery) → HeldRecovery w r → SoundRecovery w r → SoundRecovery w (decided w b now r)
-  decided-sound r held s =
-      let a = once w b now r in
-      let c = once w b now a in
-      let d = once w b now c in
-      let ha = once-held w b now rings r held in
-      let hc = once-held w b now rings a ha in
-      let hd = once-held w b now rings c hc in
-      once-sound d hd (once-sound c hc (once-sound a ha (once-sound r held s)))
+  decides-both : (r : Recovery) (d : Decision) → MayDecide w b now r d → IsHeldAndSound w r → IsHeldAndSound w (decided_by w b now r d)
+  decides-both r d may h = (decides-held w b now rings r d may h.0, decides-sound r d may h.0 h.1)
 
 -- ---- what others do
 
@@ -333,30 +279,6 @@ module _ (w : World) (es : List Exchange) (placed : Placed w) (allowed : AllAllo
 -- ---- a stage that is done
 
 module _ (w : World) where
-  idle-sound : (r : Recovery) → SoundRecovery w r → SoundRecovery w (idle r)
-  idle-sound r s = record { core = s.core; stage = tt; queue = s.queue; drained = s.drained; lead = s.lead }
-
-  begun-sound : (r : Recovery) (x : Stage) (ops : List Op) → SoundRecovery w r → IsSoundStage w x → SoundRecovery w (working r x ops)
-  begun-sound r x ops s h = record { core = s.core; stage = h; queue = s.queue; drained = s.drained; lead = s.lead }
-
-  judged-sound : (r : Recovery) (n : ServerNo) → SoundRecovery w r → SoundRecovery w (idle (judged r n (seen_of r.core.seen n.0)))
-  judged-sound r n s = go (seen_of r.core.seen n.0) refl
-    where
-      go : (o : Option Position) → seen_of r.core.seen n.0 ≡ o → SoundRecovery w (idle (judged r n o))
-      go None e = idle-sound r s
-      go (Some x) e = at (is_below x r.failed) refl
-        where
-          at : (a : Bool) → is_below x r.failed ≡ a
-              → SoundRecovery w (idle (cond a (record r { drained = r.drained ++ record { no = n; exec = x.exec; own_end = x.own_end } ∷ [] }) (loses r n (lost.Moved (taking.spot_seen x.source x.exec)))))
-          at true f = record {
-            core = s.core;
-            stage = tt;
-            queue = s.queue;
-            drained = All-push (IsSoundStop w r.failed) r.drained _ s.drained (λ own end. s.core n.0 x e r.failed.0 own (source-is (source_no x.source) r.failed f) end);
-            lead = s.lead;
-          }
-          at false f = idle-sound r s
-
   lead-sound : (r : Recovery) (d : ServerNo) → SoundRecovery w r → IfSome (lead_under r.failed (bridge_at d (seen_of r.core.seen d.0))) (StandsIn w)
   lead-sound r d s = go (bridge_at d (seen_of r.core.seen d.0)) refl
     where
@@ -368,46 +290,44 @@ module _ (w : World) where
           at true = stands-at w d (seen_of r.core.seen d.0) x (s.core d.0) e
           at false = tt
 
-  looked-sound : (r : Recovery) (n : ServerNo) (b : Bridge) (o : Option Position) → SoundRecovery w r → StandsIn w b → SoundRecovery w (looked r n b o)
-  looked-sound r n b None s h = idle-sound r s
-  looked-sound r n b (Some x) s h = at (is_below x r.failed)
-    where
-      at : (a : Bool) → SoundRecovery w (cond a (working (record r { core = record r.core { seen = with_bridge r.core.seen b } }) (stage.Trail n b) (trail n b.no))
-          (idle (loses r n (lost.Moved (taking.spot_seen x.source x.exec)))))
-      at true = record { core = seen-bridged w r.core.seen b s.core h; stage = h; queue = s.queue; drained = s.drained; lead = s.lead }
-      at false = idle-sound r s
+  stage-of : (r : Recovery) (x : Stage) → r.stage ≡ x → SoundRecovery w r → IsSoundStage w x
+  stage-of r x is s = subst (λ (y : Stage). IsSoundStage w y) is s.stage
 
-  halted-sound : (r : Recovery) (n : ServerNo) (b : Bridge) (o : Option Position) → SoundRecovery w r → StandsIn w b → SoundRecovery w (halted r n b o)
-  halted-sound r n b None s h = begun-sound (loses r n lost.Unreachable) (stage.Release n) (op.Start n ∷ []) s tt
-  halted-sound r n b (Some x) s h = at (same_coord x.exec b.exec)
-    where
-      at : (a : Bool) → SoundRecovery w (cond a (moving r n (way.Down b)) (frees r n (lost.Behind x.exec)))
-      at true = record { core = seen-bridged w r.core.seen b s.core h; stage = tt; queue = s.queue; drained = s.drained; lead = s.lead }
-      at false = begun-sound (loses r n (lost.Behind x.exec)) (stage.Release n) (op.Start n ∷ []) s tt
+  completes-sound : (r : Recovery) (e : Ending) → MayEnd r e → SoundRecovery w r → SoundRecovery w (ended_by r e)
+  completes-sound r by.Rests may s = idle-sound w r s
+  completes-sound r (by.Stays n x) may s = record {
+    core = s.core;
+    stage = tt;
+    queue = s.queue;
+    drained = All-push (IsSoundStop w r.failed) r.drained _ s.drained (λ own end. s.core n.0 x may.1 r.failed.0 own (source-is (source_no x.source) r.failed may.2) end);
+    lead = s.lead;
+  }
+  completes-sound r (by.Loses n why) may s = idle-sound w (loses r n why) s
+  completes-sound r (by.Frees n why) may s = begun-sound w (loses r n why) (stage.Release n) (op.Start n ∷ []) s tt
+  completes-sound r (by.Follows n p) may s = idle-sound w (follows r n p) s
+  completes-sound r (by.Marks n) may s = idle-sound w r s
+  completes-sound r (by.Leads d) may s = record { core = s.core; stage = tt; queue = s.queue; drained = s.drained; lead = lead-sound r d s }
+  completes-sound r (by.Trails n x) may s =
+      let h = stage-of r (stage.Looked n x) may.0 s in
+      record { core = seen-bridged w r.core.seen x s.core h; stage = h; queue = s.queue; drained = s.drained; lead = s.lead }
+  completes-sound r (by.Joins n x) may s = moving-sound w r n (way.Down x) s (stage-of r (stage.Halted n x) may.0 s)
+  completes-sound r (by.Swaps p q) may s = begun-sound w (swapped r p q) (stage.Open q) (op.Start p ∷ op.ReadOnly q false ∷ []) s tt
+  completes-sound r (by.Switches m d) may s = begun-sound w (follows r m d) (stage.Open d) (op.ReadOnly d false ∷ []) s tt
+  completes-sound r (by.Shuts m d) may s = begun-sound w r (stage.Shut m d) (op.ReadOnly m true ∷ gather m d) s tt
+  completes-sound r (by.Ends n) may s = begun-sound w r (stage.Close (told r)) (last_looks r r.purpose n ++ op.Finish (told r) ∷ []) s tt
 
-  completed-sound : (r : Recovery) → SoundRecovery w r → SoundRecovery w (completed r r.stage)
-  completed-sound r s = go r.stage s.stage
-    where
-      go : (x : Stage) → IsSoundStage w x → SoundRecovery w (completed r x)
-      go (stage.Judged n) h = judged-sound r n s
-      go (stage.Gather m d) h = record { core = s.core; stage = tt; queue = s.queue; drained = s.drained; lead = lead-sound r d s }
-      go (stage.Looked n b) h = looked-sound r n b (seen_of r.core.seen n.0) s h
-      go (stage.Halted n b) h = halted-sound r n b (seen_of r.core.seen n.0) s h
-      go (stage.Join n p) h = idle-sound (follows r n p) s
-      go x h = record { core = s.core; stage = tt; queue = s.queue; drained = s.drained; lead = s.lead }
+  -- the bridge of a stage is that of the next
+  moved-sound : (x : Stage) → IsSoundStage w x → IsSoundStage w (moved x)
+  moved-sound (stage.Look n b) h = h
+  moved-sound (stage.Trail n b) h = h
+  moved-sound (stage.Looked n b) h = h
+  moved-sound (stage.Halted n b) h = h
+  moved-sound (stage.Move n by) h = tt
+  moved-sound x h = tt
 
-  progressed-sound : (r : Recovery) (o : Op) (a : Bool) → SoundRecovery w r → SoundRecovery w (progressed r o a)
-  progressed-sound r o true s = s
-  progressed-sound r o false s = end (stepped r o) (stepped r o).core.ops (go (ends r.stage (deed_of o)))
+  stepped-sound : (r : Recovery) (o : Op) → SoundRecovery w r → SoundRecovery w (stepped r o)
+  stepped-sound r o s = go (ends r.stage (deed_of o))
     where
-      moved-sound : (x : Stage) → IsSoundStage w x → IsSoundStage w (moved x)
-      moved-sound (stage.Look n b) h = h
-      moved-sound (stage.Trail n b) h = h
-      moved-sound (stage.Looked n b) h = h
-      moved-sound (stage.Halted n b) h = h
-      moved-sound (stage.Move n by) h = tt
-      moved-sound x h = tt
-
       enter : (k : Option ServerNo) → SoundRecovery w (record (follows_no_more r k) { stage = moved r.stage })
       enter None = record { core = s.core; stage = moved-sound r.stage s.stage; queue = s.queue; drained = s.drained; lead = s.lead }
       enter (Some n) = record { core = s.core; stage = moved-sound r.stage s.stage; queue = s.queue; drained = s.drained; lead = s.lead }
@@ -416,9 +336,13 @@ module _ (w : World) where
       go true = enter (leaver (moved r.stage))
       go false = s
 
-      end : (x : Recovery) (ops : List Op) → SoundRecovery w x → SoundRecovery w (at_end x ops)
-      end x [] y = completed-sound x y
-      end x (z ∷ zs) y = y
+  -- no stage that takes another's place goes by a bridge
+  bears-sound : (r : Recovery) (e : Bearing) → SoundRecovery w r → SoundRecovery w (borne r (fate_of e))
+  bears-sound r by.Drops s = begun-sound w r stage.Idle [] s tt
+  bears-sound r (by.Misses n why) s = begun-sound w (loses r n why) stage.Idle [] s tt
+  bears-sound r (by.Lets n why) s = begun-sound w (loses r n why) (stage.Release n) (op.Start n ∷ []) s tt
+  bears-sound r (by.Restarts p q) s = begun-sound w r (stage.Release q) (op.Start q ∷ []) s tt
+  bears-sound r (by.Returns p q) s = begun-sound w r (stage.Return p q) (op.Cross cross.Back q p ∷ op.Start q ∷ []) s tt
 
 -- ---- exchanges of a turn that fails
 
@@ -465,83 +389,36 @@ last-joins w r safe held all =
 
 -- ---- a turn
 
-module _ (w : World) (r : Recovery) (safe : Safe w) (placed : Placed w) (held : HeldRecovery w r) (s : SoundRecovery w r) where
-  fails-sound : (c : Cause) (ob : Option Observation) → KeepsSoundRecovery w (taking.fails w r c ob)
-  fails-sound c ob = record { joins = last-joins w r safe held s.core; sound = λ h. absurd (false≢true h) }
+module _ (w : World) (b : BookState) (read : ℕ) (now : Moment) (safe : Safe w) (placed : Placed w) (rings : HeldRings w b.rings) (stand : SoundRings w b.rings) where
+  module _ (r : Recovery) (o : Op) (rest : List Op) (ob : Option Observation) (es : List Exchange) (j : Job) (did : Does w read now r o rest ob es j) (h : IsHeldAndSound w r) where
+    well : KeepsSound w (going ob es j)
+    well = goes-sound w read now r.core j rest (deed_of o) ob es safe placed h.0.core.shown h.1.core (due w read now r o rest placed h.0 did.ops) did.goes
 
-  abbrev IsSoundFate : Fate → Type 0
-  IsSoundFate taking.Fails = Unit {0}
-  IsSoundFate taking.Drops = Unit {0}
-  IsSoundFate (taking.Loses n why) = Unit {0}
-  IsSoundFate (taking.Frees n why) = Unit {0}
-  IsSoundFate (taking.Goes x ops) = IsSoundStage w x
+    does-sound : SoundRecovery (run w es) (record r { core = j })
+    does-sound =
+        let kept = goes-kept w read now r.core j rest (deed_of o) ob es placed h.0.core.shown (due w read now r o rest placed h.0 did.ops) did.goes in
+        let on = others-sound w es placed kept.allowed r h.1 in
+        record { core = well.bridged; stage = on.stage; queue = on.queue; drained = on.drained; lead = on.lead }
 
-  drain-sound : (n : ServerNo) (c : Cause) → IsSoundFate (fate_of_drain n c)
-  drain-sound n (cause.Unreachable m) = tt
-  drain-sound n (cause.WaitSpent m) = tt
-  drain-sound n c = tt
-
-  trail-sound : (n : ServerNo) (c : Cause) → IsSoundFate (fate_of_trail w n c)
-  trail-sound n (cause.Unreachable m) = tt
-  trail-sound n (cause.WaitSpent m) = tt
-  trail-sound n c = tt
-
-  lost-sound : (u : Purpose) (n : ServerNo) (why : Lost) → IsSoundFate (lost_on_way u n why)
-  lost-sound purpose.Regroup n why = tt
-  lost-sound purpose.Master n why = tt
-  lost-sound (purpose.Intermediate k) n why = tt
-  lost-sound (purpose.Takeover d) n why = tt
-
-  errant-sound : (u : Purpose) (n : ServerNo) (by : Way) → IsSoundFate (fate_of_errant u n by)
-  errant-sound u n (way.Auto to exec) = lost-sound u n (lost.Ahead exec)
-  errant-sound u n (way.Down b) = tt
-  errant-sound u n (way.Up b) = tt
-
-  move-sound : (u : Purpose) (n : ServerNo) (by : Way) (c : Cause) → IsSoundFate (fate_of_move w u n by c)
-  move-sound u n by (cause.Unreachable m) = lost-sound u n lost.Unreachable
-  move-sound u n by (cause.Running m) = lost-sound u n _
-  move-sound u n by (cause.Interfered m expected found) = lost-sound u n (lost.Moved found)
-  move-sound u n by (cause.Errant m set) = errant-sound u n by
-  move-sound u n by c = tt
-
-  -- no stage that takes another's place goes by a bridge
-  fate-sound : (u : Purpose) (x : Stage) (c : Cause) → IsSoundFate (fate w u x c)
-  fate-sound u (stage.Drain n) c = drain-sound n c
-  fate-sound u (stage.Move n by) c = move-sound u n by c
-  fate-sound u (stage.Look n b) c = trail-sound n c
-  fate-sound u (stage.Trail n b) c = trail-sound n c
-  fate-sound u x c = tt
-
-  met-sound : (c : Cause) (ob : Option Observation) (f : Fate) → IsSoundFate f → KeepsSoundRecovery w (met w r c ob f)
-  met-sound c ob taking.Fails fine = fails-sound c ob
-  met-sound c ob taking.Drops fine = record { joins = tt; sound = λ h. begun-sound w r stage.Idle [] s tt }
-  met-sound c ob (taking.Loses n why) fine = record { joins = tt; sound = λ h. begun-sound w (loses r n why) stage.Idle [] s tt }
-  met-sound c ob (taking.Frees n why) fine = record { joins = tt; sound = λ h. begun-sound w (loses r n why) (stage.Release n) (op.Start n ∷ []) s tt }
-  met-sound c ob (taking.Goes x ops) fine = record { joins = tt; sound = λ h. begun-sound w r x ops s fine }
-
-  attempted-sound : (o : Op) (rest : List Op) (a : Attempt) → KeepsHeld w (attempt.settled r.core a) → KeepsSound w (attempt.settled r.core a) → KeepsSoundRecovery w (attempted w r o a)
-  attempted-sound o rest (attempt.Goes ob es j) kept sound = go (barred_by r.stage r.failed j.seen)
-    where
-      later : SoundRecovery (run w es) (record r { core = j })
-      later = let on = others-sound w es placed kept.allowed r s in record { core = sound.bridged; stage = on.stage; queue = on.queue; drained = on.drained; lead = on.lead }
-
-      go : (c : Option Cause) → KeepsSoundRecovery w (on_going w r o ob es j c)
-      go None = record { joins = sound.joins; sound = λ h. progressed-sound (run w es) (record r { core = j }) o (is_waiting j) later }
-      go (Some c) = fails-sound c ob
-  attempted-sound o rest (attempt.Stops c ob) kept sound = met-sound c ob (fate w r.purpose r.stage c) (fate-sound r.purpose r.stage c)
-  attempted-sound o rest (attempt.Ends lines) kept sound = record { joins = tt; sound = λ h. absurd (false≢true h) }
-
-acted-sound : (w : World) (read : ℕ) (now : Moment) (r : Recovery) → Safe w → Placed w → HeldRecovery w r → SoundRecovery w r → (ops : List Op) → r.core.ops ≡ ops → KeepsSoundRecovery w (acted w read now r ops)
-acted-sound w read now r safe placed held s [] is = record { joins = last-joins w r safe held s.core; sound = λ h. absurd (false≢true h) }
-acted-sound w read now r safe placed held s (o ∷ rest) is =
-    let next = due w read now r o rest placed held is in
-    attempted-sound w r safe placed held s o rest (by_deed w read now r.core rest (deed_of o))
-    (deed-kept w read now r.core rest (deed_of o) placed held.core.shown next) (deed-sound w read now r.core rest (deed_of o) safe placed held.core.shown s.core next)
+  keeps-sound : Keeps w b read now (IsHeldAndSound w) (λ v r. SoundRecovery v r) (λ v r. SoundRecovery v r)
+  keeps-sound = record {
+    decides = decides-both w b now rings stand;
+    waits = λ r o rest ob es j did e h. does-sound r o rest ob es j did h;
+    acts = λ r o rest ob es j did e h. stepped-sound (run w es) (record r { core = j }) o (does-sound r o rest ob es j did h);
+    continues = λ v r x xs is s. s;
+    completes = λ v r e none may s. completes-sound v r e may s;
+    bears = λ r o rest c ob e stops is may h. bears-sound w r e h.1;
+  }
 
 pub taken-sound : (w : World) (b : BookState) (read : ℕ) (now : Moment) (r : Recovery) → Safe w → Placed w → HeldRings w b.rings → SoundRings w b.rings → HeldRecovery w r → SoundRecovery w r
     → KeepsSoundRecovery w (taken w b read now r)
-taken-sound w b read now r safe placed rings stand held s =
-    acted-sound w read now (decided w b now r) safe placed (decided-held w b now r rings held) (decided-sound w b now rings stand r held s) (decided w b now r).core.ops refl
+taken-sound w b read now r safe placed rings stand held s = record {
+  joins =
+      made-along w b read now (IsHeldAndSound w) (AllJoinWell w) tt (decides-both w b now rings stand)
+      (λ x o rest ob es j did h. (well w b read now safe placed rings stand x o rest ob es j did h).joins) (λ x c ob why h. last-joins w x safe h.0 h.1.core) r (held, s);
+  sound =
+      kept-along w b read now (IsHeldAndSound w) (λ v x. SoundRecovery v x) (λ v x. SoundRecovery v x) (keeps-sound w b read now safe placed rings stand) r (held, s);
+}
 
 pub run-sound : (w : World) (es : List Exchange) (r : Recovery) → Placed w → AllAllowed w es → SoundRecovery w r → SoundRecovery (run w es) r
 run-sound w es r placed allowed s = others-sound w es placed allowed r s

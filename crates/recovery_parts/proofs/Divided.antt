@@ -4,7 +4,7 @@ use Rattle.std.specs.Prelude.{is_ok}
 use Rattle.std.proofs.lemmas.Bool.{false≢true}
 use Rattle.std.proofs.lemmas.List.{take_more, append_assoc, append-nil}
 use Rattle.commands.specs.declared.line.Lost.{Lost}
-use Rattle.recovery_plans.specs.Deciding.{Lot, Goes, Stays, loss_of, losses_in, move_of, moves_in}
+use Rattle.recovery_plans.specs.Deciding.{Lot, Goes, Stays, stay_of, losses_in, move_of, moves_in}
 use Rattle.recovery_plans.specs.declared.outcome.LostReplica.{LostReplica}
 use Rattle.recovery_plans.specs.declared.outcome.Stopped.{Stopped}
 use Rattle.recovery_plans.specs.declared.task.Task.{Task}
@@ -29,7 +29,7 @@ moves-apart lot (x ∷ xs) ys = ap (λ ts. move_of x (lot x) ++ ts) (moves-apart
 
 losses-apart : (lot : Stopped → Lot) (xs ys : List Stopped) → losses_in lot (xs ++ ys) ≡ losses_in lot xs ++ losses_in lot ys
 losses-apart lot [] ys = refl
-losses-apart lot (x ∷ xs) ys = ap (λ ts. loss_of x (lot x) ++ ts) (losses-apart lot xs ys) ∙ sym (append_assoc (loss_of x (lot x)) (losses_in lot xs) (losses_in lot ys))
+losses-apart lot (x ∷ xs) ys = ap (λ ts. stay_of x (lot x) ++ ts) (losses-apart lot xs ys) ∙ sym (append_assoc (stay_of x (lot x)) (losses_in lot xs) (losses_in lot ys))
 
 moves-more : (lot : Stopped → Lot) (xs : List Stopped) (k : ℕ) → k < length xs
     → moves_in lot (take (k + 1) xs) ≡ moves_in lot (take k xs) ++ move_of (get_or xs k none) (lot (get_or xs k none))
@@ -38,10 +38,10 @@ moves-more lot xs k within =
     ∙ ap (λ ts. moves_in lot (take k xs) ++ ts) (append-nil (move_of (get_or xs k none) (lot (get_or xs k none))))
 
 losses-more : (lot : Stopped → Lot) (xs : List Stopped) (k : ℕ) → k < length xs
-    → losses_in lot (take (k + 1) xs) ≡ losses_in lot (take k xs) ++ loss_of (get_or xs k none) (lot (get_or xs k none))
+    → losses_in lot (take (k + 1) xs) ≡ losses_in lot (take k xs) ++ stay_of (get_or xs k none) (lot (get_or xs k none))
 losses-more lot xs k within =
     ap (losses_in lot) (take_more xs k none within) ∙ losses-apart lot (take k xs) (get_or xs k none ∷ [])
-    ∙ ap (λ ts. losses_in lot (take k xs) ++ ts) (append-nil (loss_of (get_or xs k none) (lot (get_or xs k none))))
+    ∙ ap (λ ts. losses_in lot (take k xs) ++ ts) (append-nil (stay_of (get_or xs k none) (lot (get_or xs k none))))
 
 -- the moves and the losses so far
 pub record Divided (lot : Stopped → Lot) (before : List LostReplica) (xs : List Stopped) (ts : List Task) (ls : List LostReplica) : Type 0 where
@@ -50,13 +50,13 @@ pub record Divided (lot : Stopped → Lot) (before : List LostReplica) (xs : Lis
 
 next : (lot : Stopped → Lot) (before : List LostReplica) (xs : List Stopped) (k : ℕ) (ts us : List Task) (ls ms : List LostReplica) → k < length xs
     → Divided lot before (take k xs) ts ls
-    → us ≡ ts ++ move_of (get_or xs k none) (lot (get_or xs k none)) → ms ≡ ls ++ loss_of (get_or xs k none) (lot (get_or xs k none))
+    → us ≡ ts ++ move_of (get_or xs k none) (lot (get_or xs k none)) → ms ≡ ls ++ stay_of (get_or xs k none) (lot (get_or xs k none))
     → Divided lot before (take (k + 1) xs) us ms
 next lot before xs k ts us ls ms within so_far moves lost = record {
   moves = moves ∙ ap (λ vs. vs ++ move_of (get_or xs k none) (lot (get_or xs k none))) so_far.moves ∙ sym (moves-more lot xs k within);
   lost =
-      lost ∙ ap (λ vs. vs ++ loss_of (get_or xs k none) (lot (get_or xs k none))) so_far.lost
-      ∙ append_assoc before (losses_in lot (take k xs)) (loss_of (get_or xs k none) (lot (get_or xs k none)))
+      lost ∙ ap (λ vs. vs ++ stay_of (get_or xs k none) (lot (get_or xs k none))) so_far.lost
+      ∙ append_assoc before (losses_in lot (take k xs)) (stay_of (get_or xs k none) (lot (get_or xs k none)))
       ∙ ap (λ vs. before ++ vs) (sym (losses-more lot xs k within));
 }
 
@@ -76,7 +76,7 @@ one-goes lot before xs k ts us ls ms by within so_far goes moves lost = next lot
     made (Goes way) h = ap (λ (w : Way). task.Moving s.no w ∷ []) (sym (ap (way_or by) h))
     made (Stays why) h = absurd (false≢true (ap is_ok h))
 
-    unmade : (l : Lot) → by_lot l ≡ Ok by → [] ≡ loss_of s l
+    unmade : (l : Lot) → by_lot l ≡ Ok by → [] ≡ stay_of s l
     unmade (Goes way) h = refl
     unmade (Stays why) h = absurd (false≢true (ap is_ok h))
 
@@ -92,7 +92,7 @@ one-stays lot before xs k ts us ls ms why within so_far stays moves lost = next 
     s : Stopped
     s = get_or xs k none
 
-    made : (l : Lot) → by_lot l ≡ Err why → record { no = s.no; why = why; detached = false } ∷ [] ≡ loss_of s l
+    made : (l : Lot) → by_lot l ≡ Err why → record { no = s.no; why = why; detached = false } ∷ [] ≡ stay_of s l
     made (Stays other) h = ap (λ (l : Lost). record { no = s.no; why = l; detached = false } ∷ []) (sym (ap (why_or why) h))
     made (Goes way) h = absurd (false≢true (sym (ap is_ok h)))
 

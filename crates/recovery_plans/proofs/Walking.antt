@@ -284,6 +284,19 @@ taken-walks w b read now r = acted-walks w b read now r (decided w b now r) (dec
 
 -- ---- what is kept
 
+-- no operation is left where something is decided
+pub decides-idle : (w : World) (b : BookState) (now : Moment) (r : Recovery) (d : Decision) → MayDecide w b now r d → r.core.ops ≡ []
+decides-idle w b now r (move.Reads n ts) may = may.rests
+decides-idle w b now r (move.Drains n ts) may = may.rests
+decides-idle w b now r (move.Sends n by ts) may = may.rests
+decides-idle w b now r (move.Expels n ts) may = may.rests
+decides-idle w b now r (move.Releases n ts) may = may.rests
+decides-idle w b now r (move.Sorts ts) may = may.rests
+decides-idle w b now r (move.Hands d ds by ts) may = may.next.rests
+decides-idle w b now r (move.Leaves d ds ts) may = may.next.rests
+decides-idle w b now r move.Closes may = may.1.rests
+decides-idle w b now r d may = may.0.rests
+
 -- what each decision keeps
 pub decisions-keep : (w : World) (b : BookState) (now : Moment) (P : Recovery → Type 0) → ((r : Recovery) (d : Decision) → MayDecide w b now r d → P r → P (decided_by w b now r d))
     → {r s : Recovery} → Decisions w b now r s → P r → P s

@@ -110,9 +110,9 @@ abbrev pub move_of : Stopped → Lot → List Task
 move_of s (Goes by) = task.Moving s.no by ∷ []
 move_of s (Stays why) = []
 
-abbrev pub loss_of : Stopped → Lot → List LostReplica
-loss_of s (Goes by) = []
-loss_of s (Stays why) = record { no = s.no; why = why; detached = false } ∷ []
+abbrev pub stay_of : Stopped → Lot → List LostReplica
+stay_of s (Goes by) = []
+stay_of s (Stays why) = record { no = s.no; why = why; detached = false } ∷ []
 
 abbrev pub moves_in : (Stopped → Lot) → List Stopped → List Task
 moves_in lot [] = []
@@ -120,7 +120,7 @@ moves_in lot (s ∷ ss) = move_of s (lot s) ++ moves_in lot ss
 
 abbrev pub losses_in : (Stopped → Lot) → List Stopped → List LostReplica
 losses_in lot [] = []
-losses_in lot (s ∷ ss) = loss_of s (lot s) ++ losses_in lot ss
+losses_in lot (s ∷ ss) = stay_of s (lot s) ++ losses_in lot ss
 
 abbrev pub without_stopped : List Stopped → ServerNo → List Stopped
 without_stopped xs p = filter (λ s. not (s.no.0 == p.0)) xs
@@ -182,38 +182,33 @@ hand_over w b r (Some s) = hand w b s r r.drained
 abbrev pub why_of : List LostReplica → ServerNo → Option Lost
 why_of xs n = option_map (λ l. l.why) (find (λ l. l.no.0 == n.0) xs)
 
--- a lost one that executed what the new source didn't, or less, or whose place the new source has purged
+-- What a reason tells of a lost one: whether it executed what the new source didn't, or less, or its place is purged
+-- there; whether it stands elsewhere; whether it was reached.
+pub record Care : Type 0 where
+  pub apart : Bool
+  pub elsewhere : Bool
+  pub reached : Bool
+
+abbrev pub care_of : Lost → Care
+care_of (lost.Ahead c) = record { apart = true; elsewhere = false; reached = true }
+care_of (lost.Behind c) = record { apart = true; elsewhere = false; reached = true }
+care_of (lost.Purged c) = record { apart = true; elsewhere = false; reached = true }
+care_of lost.Unreachable = record { apart = false; elsewhere = false; reached = false }
+care_of (lost.Moved s) = record { apart = false; elsewhere = true; reached = true }
+care_of lost.NotLogging = record { apart = false; elsewhere = false; reached = true }
+care_of lost.MustNot = record { apart = false; elsewhere = false; reached = true }
+
 abbrev pub is_apart : Option Lost → Bool
 is_apart None = false
-is_apart (Some (lost.Ahead c)) = true
-is_apart (Some (lost.Behind c)) = true
-is_apart (Some (lost.Purged c)) = true
-is_apart (Some lost.Unreachable) = false
-is_apart (Some (lost.Moved s)) = false
-is_apart (Some lost.NotLogging) = false
-is_apart (Some lost.MustNot) = false
+is_apart (Some why) = (care_of why).apart
 
--- a lost one that stands elsewhere
 abbrev pub is_elsewhere : Option Lost → Bool
 is_elsewhere None = false
-is_elsewhere (Some (lost.Ahead c)) = false
-is_elsewhere (Some (lost.Behind c)) = false
-is_elsewhere (Some (lost.Purged c)) = false
-is_elsewhere (Some lost.Unreachable) = false
-is_elsewhere (Some (lost.Moved s)) = true
-is_elsewhere (Some lost.NotLogging) = false
-is_elsewhere (Some lost.MustNot) = false
+is_elsewhere (Some why) = (care_of why).elsewhere
 
--- a lost one that was reached
 abbrev pub is_reached : Option Lost → Bool
 is_reached None = false
-is_reached (Some (lost.Ahead c)) = true
-is_reached (Some (lost.Behind c)) = true
-is_reached (Some (lost.Purged c)) = true
-is_reached (Some lost.Unreachable) = false
-is_reached (Some (lost.Moved s)) = true
-is_reached (Some lost.NotLogging) = true
-is_reached (Some lost.MustNot) = true
+is_reached (Some why) = (care_of why).reached
 
 abbrev pub expels : Purpose → Option Lost → Bool
 expels purpose.Regroup why = false

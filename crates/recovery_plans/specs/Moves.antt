@@ -33,6 +33,7 @@ use Rattle.recovery_plans.specs.declared.task.Task.TheVariants as task
 use Rattle.recovery_plans.specs.declared.task.Way.{Way}
 use Rattle.recovery_plans.specs.declared.task.Way.TheVariants as way
 use Rattle.recovery_plans.specs.Recoveries.{Recovery, follows, loses, working}
+use Rattle.recovery_plans.specs.Table.{info, is_nothing}
 use Rattle.recovery_plans.specs.Stages.{drain, gather, level, trail, with_bridge}
 use Rattle.recovery_plans.specs.Deciding.{better_of, choose, chosen_of, closing, crown, look_at, moving, rejoin, sort, stuck, way_below, yield}
 use Rattle.recovery_plans.specs.Taking as taking
@@ -219,35 +220,7 @@ ended_by r (Ends n) = closing r (last_looks r r.purpose n)
 
 -- stages whose end makes nothing
 abbrev pub rests : Stage → Bool
-rests stage.Idle = true
-rests stage.Check = true
-rests (stage.Read n) = true
-rests (stage.Drain n) = true
-rests (stage.Move n by) = true
-rests (stage.Expel n) = true
-rests (stage.Release n) = true
-rests (stage.Level p q) = true
-rests (stage.Swap p q) = true
-rests (stage.Return p q) = true
-rests (stage.Crown n) = true
-rests (stage.Open n) = true
-rests (stage.Shut m d) = true
-rests (stage.Look n x) = true
-rests (stage.Trail n x) = true
-rests (stage.Yield m d) = true
-rests (stage.Switch m d) = true
-rests (stage.Close lines) = true
-rests (stage.Judged n) = false
-rests (stage.Join n p) = false
-rests (stage.Expelled n) = false
-rests (stage.Swapped p q) = false
-rests (stage.Resume p q) = false
-rests (stage.Opened n) = false
-rests (stage.Meet m d) = false
-rests (stage.Gather m d) = false
-rests (stage.Looked n x) = false
-rests (stage.Halted n x) = false
-rests (stage.Switched m d) = false
+rests s = is_nothing (info s).made
 
 -- a replica that was read: that wasn't reached, or stands elsewhere
 abbrev pub stray : ServerNo → Option Position → Option Lost

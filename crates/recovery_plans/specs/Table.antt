@@ -90,6 +90,19 @@ pub data Made : Type 0 where
   Halted : (n : ServerNo) (b : Bridge) → Made
   Switched : (m d : ServerNo) → Made
 
+abbrev pub is_nothing : Made → Bool
+is_nothing Nothing = true
+is_nothing (Judged n) = false
+is_nothing (Follows n p) = false
+is_nothing (Marked n) = false
+is_nothing (Gathered d) = false
+is_nothing (Swapped p q) = false
+is_nothing (Opened n) = false
+is_nothing (Met m d) = false
+is_nothing (Looked n b) = false
+is_nothing (Halted n b) = false
+is_nothing (Switched m d) = false
+
 pub record Info : Type 0 where
   -- the operation that ends the stage, and those behind it
   pub tail : List Op

@@ -176,36 +176,53 @@ pub data Fate : Type 0 where
   -- another stage takes its place
   Goes : (s : Stage) (ops : List Op) → Fate
 
+-- What a failing operation tells of the replica that it speaks with: it isn't reached; it took too long; it stands
+-- where it does, or at this spot; it has transactions of its own.
+pub data Loss : Type 0 where
+  OutOfReach : Loss
+  Spent : Loss
+  Runs : Loss
+  Stands : (found : Spot) → Loss
+  Differs : Loss
+
+-- and nothing, where the recovery fails
+abbrev pub loss_of : Cause → Option Loss
+loss_of (cause.Unreachable n) = Some OutOfReach
+loss_of (cause.WaitSpent n) = Some Spent
+loss_of (cause.Running n) = Some Runs
+loss_of (cause.Interfered n expected found) = Some (Stands found)
+loss_of (cause.Errant n set) = Some Differs
+loss_of (cause.Loop n) = None
+loss_of (cause.Moved n source) = None
+loss_of (cause.Reachable n) = None
+loss_of cause.NoCandidate = None
+loss_of (cause.Purged n first) = None
+loss_of (cause.NoMark n) = None
+loss_of (cause.Mismatch n entry) = None
+loss_of (cause.HookFailed number exit) = None
+
+abbrev pub drain_fate : ServerNo → Option Loss → Fate
+drain_fate n None = Fails
+drain_fate n (Some OutOfReach) = Loses n lost.Unreachable
+drain_fate n (Some Spent) = Fails
+drain_fate n (Some Runs) = Fails
+drain_fate n (Some (Stands found)) = Fails
+drain_fate n (Some Differs) = Fails
+
 abbrev pub fate_of_drain : ServerNo → Cause → Fate
-fate_of_drain n (cause.Unreachable m) = Loses n lost.Unreachable
-fate_of_drain n (cause.WaitSpent m) = Fails
-fate_of_drain n (cause.Interfered m expected found) = Fails
-fate_of_drain n (cause.Running m) = Fails
-fate_of_drain n (cause.Loop m) = Fails
-fate_of_drain n (cause.Errant m set) = Fails
-fate_of_drain n (cause.Moved m source) = Fails
-fate_of_drain n (cause.Reachable m) = Fails
-fate_of_drain n cause.NoCandidate = Fails
-fate_of_drain n (cause.Purged m first) = Fails
-fate_of_drain n (cause.NoMark m) = Fails
-fate_of_drain n (cause.Mismatch m entry) = Fails
-fate_of_drain n (cause.HookFailed number exit) = Fails
+fate_of_drain n c = drain_fate n (loss_of c)
 
 -- a replica that comes to where another stopped: one that takes too long is behind, where it stands
+abbrev pub trail_fate : World → ServerNo → Option Loss → Fate
+trail_fate w n None = Fails
+trail_fate w n (Some OutOfReach) = Frees n lost.Unreachable
+trail_fate w n (Some Spent) = Frees n (lost.Behind (exec_by (server_at w n.0)))
+trail_fate w n (Some Runs) = Fails
+trail_fate w n (Some (Stands found)) = Fails
+trail_fate w n (Some Differs) = Fails
+
 abbrev pub fate_of_trail : World → ServerNo → Cause → Fate
-fate_of_trail w n (cause.Unreachable m) = Frees n lost.Unreachable
-fate_of_trail w n (cause.WaitSpent m) = Frees n (lost.Behind (exec_by (server_at w n.0)))
-fate_of_trail w n (cause.Interfered m expected found) = Fails
-fate_of_trail w n (cause.Running m) = Fails
-fate_of_trail w n (cause.Loop m) = Fails
-fate_of_trail w n (cause.Errant m set) = Fails
-fate_of_trail w n (cause.Moved m source) = Fails
-fate_of_trail w n (cause.Reachable m) = Fails
-fate_of_trail w n cause.NoCandidate = Fails
-fate_of_trail w n (cause.Purged m first) = Fails
-fate_of_trail w n (cause.NoMark m) = Fails
-fate_of_trail w n (cause.Mismatch m entry) = Fails
-fate_of_trail w n (cause.HookFailed number exit) = Fails
+fate_of_trail w n c = trail_fate w n (loss_of c)
 
 -- a replica that is lost on its way is started at once in a takeover, and is looked after later else
 abbrev pub lost_on_way : Purpose → ServerNo → Lost → Fate
@@ -220,20 +237,16 @@ fate_of_errant u n (way.Auto to exec) = lost_on_way u n (lost.Ahead exec)
 fate_of_errant u n (way.Down b) = Fails
 fate_of_errant u n (way.Up b) = Fails
 
+abbrev pub move_fate : World → Purpose → ServerNo → Way → Option Loss → Fate
+move_fate w u n by None = Fails
+move_fate w u n by (Some OutOfReach) = lost_on_way u n lost.Unreachable
+move_fate w u n by (Some Spent) = Fails
+move_fate w u n by (Some Runs) = lost_on_way u n (lost.Moved (spot_by (server_at w n.0)))
+move_fate w u n by (Some (Stands found)) = lost_on_way u n (lost.Moved found)
+move_fate w u n by (Some Differs) = fate_of_errant u n by
+
 abbrev pub fate_of_move : World → Purpose → ServerNo → Way → Cause → Fate
-fate_of_move w u n by (cause.Unreachable m) = lost_on_way u n lost.Unreachable
-fate_of_move w u n by (cause.Running m) = lost_on_way u n (lost.Moved (spot_by (server_at w n.0)))
-fate_of_move w u n by (cause.Interfered m expected found) = lost_on_way u n (lost.Moved found)
-fate_of_move w u n by (cause.Errant m set) = fate_of_errant u n by
-fate_of_move w u n by (cause.WaitSpent m) = Fails
-fate_of_move w u n by (cause.Loop m) = Fails
-fate_of_move w u n by (cause.Moved m source) = Fails
-fate_of_move w u n by (cause.Reachable m) = Fails
-fate_of_move w u n by cause.NoCandidate = Fails
-fate_of_move w u n by (cause.Purged m first) = Fails
-fate_of_move w u n by (cause.NoMark m) = Fails
-fate_of_move w u n by (cause.Mismatch m entry) = Fails
-fate_of_move w u n by (cause.HookFailed number exit) = Fails
+fate_of_move w u n by c = move_fate w u n by (loss_of c)
 
 abbrev pub fate_by : World → Purpose → Failing → Cause → Fate
 fate_by w u table.All c = Fails

@@ -61,21 +61,26 @@ use Rattle.recovery_plans.specs.declared.task.Task.{Task}
 use Rattle.recovery_plans.specs.declared.task.Task.TheVariants as task
 use Rattle.recovery_plans.specs.declared.task.Way.{Way}
 use Rattle.recovery_plans.specs.declared.task.Way.TheVariants as way
-use Rattle.recovery_plans.specs.Recoveries.{Recovery, follows_no_more, loses, working}
-use Rattle.recovery_plans.specs.Stages.{ends, leaver, moved, tail_of, trail, with_bridge, is_look}
+use Rattle.recovery_plans.specs.Recoveries.{Recovery, follows_no_more, loses}
+use Rattle.recovery_plans.specs.Stages.{ends, leaver, moved, tail_of, is_look}
 use Rattle.recovery_plans.specs.Deciding as deciding
-use Rattle.recovery_plans.specs.Deciding.{Lot, logs_at, drained_of, may_lead, stopped_in, chosen_of, better_of, lot_by_group, own_end_of, lot_of, loss_of, losses_in, without_stopped, unfit, choose, moving, way_by_set, way_below, hand_by, hand, hand_over, swap_by, swap, crown, swap_or_crown, rejoin, at_last, look_at, yield, by_task, by_queue, once, decided}
-use Rattle.recovery_plans.specs.Taking.{Fate, spot_seen, is_below, marked, judged, idle, frees, looked, halted, completed, entered, stepped, at_end, progressed, fate_of_drain, fate_of_trail, lost_on_way, fate_of_errant, fate_of_move, fate, met, is_waiting, barred_by, on_going, attempted, acted, taken, exec_by, spot_by}
+use Rattle.recovery_plans.specs.Deciding.{Lot, logs_at, drained_of, may_lead, stopped_in, chosen_of, lot_by_group, own_end_of, lot_of, stay_of, losses_in, without_stopped, unfit, way_by_set, way_below}
+use Rattle.recovery_plans.specs.Taking as taking
+use Rattle.recovery_plans.specs.Taking.{Fate, spot_seen, is_below, marked, entered, stepped, fate_of_drain, fate_of_trail, lost_on_way, fate_of_errant, fate_of_move, fate, met, taken, exec_by, spot_by}
+use Rattle.recovery_plans.specs.Moves as by
+use Rattle.recovery_plans.specs.Moves.{Decision, Ending, MayDecide, MayEnd, WasRead, borne, decided_by, ended_by, fate_of}
+use Rattle.recovery_plans.proofs.Walking.{Keeps, kept-whole}
 use Rattle.recovery_laws.specs.HeldRecoveries.{HeldRecovery}
 use Rattle.recovery_laws.specs.Rings.{HeldRings}
 use Rattle.recovery_ends.specs.Shapes.{Fits}
-use Rattle.recovery_laws.proofs.Deciding.{decided-held}
-use Rattle.recovery_ends.proofs.Shapes.{Went, WentOn, deed-went, same-head, fits-step, moved-fits}
+use Rattle.recovery_laws.proofs.Deciding.{decides-held}
+use Rattle.recovery_ends.proofs.Fitting.{went-of}
+use Rattle.recovery_ends.proofs.Shapes.{WentOn, same-head, fits-step, moved-fits}
 use Rattle.recovery_reasons.specs.Causes.{IsTrueOf, IsUnreached}
 use Rattle.recovery_reasons.specs.Reasons.{BelowSuccessor, AllLost, speaks_of, lead_of, Speaks, ExplainsTruly, WaitsFor, IsAsked, AimsAt}
 use Rattle.recovery_reasons.proofs.Causing.{StopsTruly, deed-true}
 use Rattle.recovery_reasons.proofs.Coordinates.{before-other}
-use Rattle.recovery_reasons.proofs.Speaking.{entered-core, decided-speaks, due-speaks, stepped-speaks, due-waits, due-asked, due-looks}
+use Rattle.recovery_reasons.proofs.Speaking.{decides-speaks, entered-core, due-speaks, stepped-speaks, due-waits, due-asked, due-looks}
 
 -- ---- readings of this turn
 
@@ -335,7 +340,7 @@ module _ (w : World) (b : BookState) (now : Moment) (r : Recovery) (P : ServerNo
   losses-explained lot [] each = All-nil Each
   losses-explained lot (s ∷ ss) each = go (lot s) (each s) (losses-explained lot ss each)
     where
-      go : (x : Lot) → IsExplained s x → All Each (losses_in lot ss) → All Each (loss_of s x ++ losses_in lot ss)
+      go : (x : Lot) → IsExplained s x → All Each (losses_in lot ss) → All Each (stay_of s x ++ losses_in lot ss)
       go (deciding.Goes by) h rest = rest
       go (deciding.Stays y) h rest = All-cons Each (record { no = s.no; why = y; detached = false }) (losses_in lot ss) h rest
 
@@ -380,19 +385,6 @@ module _ (w : World) (b : BookState) (now : Moment) (r : Recovery) (P : ServerNo
       go true e h = why.without s lost.MustNot (e, barred (is_barred (rule_at b s.no now)) h)
       go false e h = why.without s lost.NotLogging e
 
-  choose-explained : (x : Recovery) → Fine x → Fine (choose w b now x (chosen_of w b now x.failed x.drained))
-  choose-explained x fine = go (chosen_of w b now x.failed x.drained) refl
-    where
-      go : (o : Option Stopped) → chosen_of w b now x.failed x.drained ≡ o → Fine (choose w b now x o)
-      go None e = (fine.0, fine.1, fine.2, All-append Each x.outcome.lost (map (unfit w) x.drained) fine.3 (unfit-explained x.drained (none-may x.failed x.drained e)))
-      go (Some p) e = (
-        fine.0,
-        fine.1,
-        fine.2,
-        All-append Each x.outcome.lost (losses_in (lot_of w b x.failed p) (without_stopped x.drained p.no)) fine.3
-            (losses-explained (lot_of w b x.failed p) (without_stopped x.drained p.no) (λ s. subst (λ (f : ServerNo). IsExplained s (lot_of w b f p s)) (sym fine.0) (lot-explained p s))),
-      )
-
   -- a drained one that doesn't go below the successor
   below-of : (seen : List Sight) (n : ServerNo) (s : Stopped) → way_below w b seen r.failed n s ≡ None → BelowSuccessor w b seen r.failed n s
   below-of seen n s h = go w.gtid refl h
@@ -409,84 +401,24 @@ module _ (w : World) (b : BookState) (now : Moment) (r : Recovery) (P : ServerNo
       go true e f = inr (e, by-set (is_some (seen_of seen n.0) && logs_at w n) f)
       go false e f = inl (e, by-log (latest_that (has_own n s.exec) (ring_at b.rings r.failed)) f)
 
-  hand-explained : (n : ServerNo) (ds : List Stopped) (x : Recovery) → Fine x → Fine (hand w b n x ds)
-  hand-explained n [] x fine = fine
-  hand-explained n (d ∷ ds) x fine = go (way_below w b x.core.seen x.failed n d) refl (hand-explained n ds (loses x d.no (lost.Behind d.exec)))
-    where
-      go : (o : Option Way) → way_below w b x.core.seen x.failed n d ≡ o
-          → (Fine (loses x d.no (lost.Behind d.exec)) → Fine (hand w b n (loses x d.no (lost.Behind d.exec)) ds)) → Fine (hand_by x d ds o (hand w b n (loses x d.no (lost.Behind d.exec)) ds))
-      go None e rest = rest (
-        fine.0,
-        fine.1,
-        fine.2,
-        All-push Each x.outcome.lost _ fine.3 (why.below x.core.seen n d (below-of x.core.seen n d (ap (λ (f : ServerNo). way_below w b x.core.seen f n d) (sym fine.0) ∙ e))),
-      )
-      go (Some by) e rest = fine
-
-  task-explained : (x : Recovery) (t : Task) → Fine x → Fine (by_task w b now x t)
-  task-explained x task.Choosing fine = choose-explained x fine
-  task-explained x task.Handing fine = go x.chosen
-    where
-      go : (o : Option ServerNo) → Fine (hand_over w b x o)
-      go None = fine
-      go (Some n) = hand-explained n x.drained x fine
-  task-explained x (task.Trailing n) fine = go x.lead
-    where
-      go : (o : Option Bridge) → Fine (look_at x n o)
-      go None = fine
-      go (Some y) = fine
-  task-explained x task.Yielding fine = go x.lead
-    where
-      go : (o : Option Bridge) → Fine (yield x o)
-      go None = fine
-      go (Some y) = fine
-  task-explained x (task.Reading n) fine = fine
-  task-explained x (task.Draining n) fine = fine
-  task-explained x (task.Moving n by) fine = fine
-  task-explained x task.Sorting fine = fine
-  task-explained x (task.Expelling n) fine = fine
-  task-explained x (task.Releasing n) fine = fine
-
-  last-explained : (x : Recovery) (u : Purpose) → Fine x → Fine (at_last w b now x u)
-  last-explained x u fine = go u
-    where
-      rejoined : (o : Option ServerNo) → Fine (rejoin x o)
-      rejoined None = fine
-      rejoined (Some p) = fine
-
-      swapping : (p : ServerNo) (o : Option ServerNo) → Fine (swap_by (record x { swaps = false }) p o)
-      swapping p None = fine
-      swapping p (Some q) = fine
-
-      swapped : (o : Option ServerNo) → Fine (swap w b now (record x { swaps = false }) o)
-      swapped None = fine
-      swapped (Some p) = swapping p (better_of w b now x.failed p (map (λ y. y.no) x.outcome.followers))
-
-      crowned : (o : Option ServerNo) → Fine (crown x o)
-      crowned None = fine
-      crowned (Some p) = fine
-
-      by : (s : Bool) → Fine (swap_or_crown w b now x s)
-      by true = swapped x.chosen
-      by false = crowned x.chosen
-
-      go : (v : Purpose) → Fine (at_last w b now x v)
-      go purpose.Regroup = rejoined x.chosen
-      go purpose.Master = by x.swaps
-      go (purpose.Intermediate n) = fine
-      go (purpose.Takeover d) = fine
-
-  once-explained : (x : Recovery) → Fine x → Fine (once w b now x)
-  once-explained x fine = go x.core.ops x.queue
-    where
-      go : (ops : List Op) (ts : List Task) → Fine (by_queue w b now x ops ts)
-      go (y ∷ ys) ts = fine
-      go [] [] = last-explained x x.purpose fine
-      go [] (t ∷ ts) = task-explained (record x { queue = ts }) t fine
-
-  decided-explained : (x : Recovery) → Fine x → Fine (decided w b now x)
-  decided-explained x fine =
-      once-explained (once w b now (once w b now (once w b now x))) (once-explained (once w b now (once w b now x)) (once-explained (once w b now x) (once-explained x fine)))
+  decides-explained : (x : Recovery) (d : Decision) → MayDecide w b now x d → Fine x → Fine (decided_by w b now x d)
+  decides-explained x (by.Chooses p ts) may fine = (
+    fine.0,
+    fine.1,
+    fine.2,
+    All-append Each x.outcome.lost (losses_in (lot_of w b x.failed p) (without_stopped x.drained p.no)) fine.3
+        (losses-explained (lot_of w b x.failed p) (without_stopped x.drained p.no) (λ s. subst (λ (f : ServerNo). IsExplained s (lot_of w b f p s)) (sym fine.0) (lot-explained p s))),
+  )
+  decides-explained x (by.ChoosesNobody ts) may fine =
+      (fine.0, fine.1, fine.2, All-append Each x.outcome.lost (map (unfit w) x.drained) fine.3 (unfit-explained x.drained (none-may x.failed x.drained may.1)))
+  decides-explained x (by.Leaves d ds ts) may fine = (
+    fine.0,
+    fine.1,
+    fine.2,
+    All-push Each x.outcome.lost _ fine.3
+        (why.below x.core.seen may.source d (below-of x.core.seen may.source d (ap (λ (f : ServerNo). way_below w b x.core.seen f may.source d) (sym fine.0) ∙ may.way))),
+  )
+  decides-explained x d may fine = fine
 
   -- ---- a stage that is done
 
@@ -496,27 +428,23 @@ module _ (w : World) (b : BookState) (now : Moment) (r : Recovery) (P : ServerNo
   moved-away : (x : Recovery) → Fine x → (n : ServerNo) (s : Status) → seen_in (status w n.0) ≡ Some s → is_below (position_of s) x.failed ≡ false → Each (record { no = n; why = lost.Moved (spot_seen s.source s.exec); detached = false })
   moved-away x fine n s is e = why.moved n s is (ap (is_below (position_of s)) (sym fine.0) ∙ e)
 
-  judged-good : (x : Recovery) (n : ServerNo) (s : Status) → seen_in (status w n.0) ≡ Some s → Fine x → Good (judged x n (Some (position_of s)))
-  judged-good x n s is fine = go (is_below (position_of s) x.failed) refl
-    where
-      go : (a : Bool) → is_below (position_of s) x.failed ≡ a → Good (cond a (record x { drained = x.drained ++ record { no = n; exec = s.exec; own_end = s.own_end } ∷ [] }) (loses x n (lost.Moved (spot_seen s.source s.exec))))
-      go true e = fine.3
-      go false e = All-push Each x.outcome.lost _ fine.3 (moved-away x fine n s is e)
+  -- with what this turn has shown of the replica that the stage has just read
+  abbrev Whole : Recovery → Type 0
+  Whole x = Fine x × ((n : ServerNo) → reader_of x.stage ≡ Some n → ShowsNow w x.core.seen n)
 
-  looked-good : (x : Recovery) (n : ServerNo) (y : Bridge) (s : Status) → seen_in (status w n.0) ≡ Some s → Fine x → Good (looked x n y (Some (position_of s)))
-  looked-good x n y s is fine = go (is_below (position_of s) x.failed) refl
+  stray-good : (x : Recovery) (n : ServerNo) (y : Lost) → Fine x → ShowsNow w x.core.seen n → by.stray x.failed (seen_of x.core.seen n.0) ≡ Some y → P n y ≡ true
+  stray-good x n y fine shown h = go (is_below (position_of shown.0) x.failed) refl (ap (by.stray x.failed) (sym shown.2) ∙ h)
     where
-      go : (a : Bool) → is_below (position_of s) x.failed ≡ a
-          → Good (cond a (working (record x { core = record x.core { seen = with_bridge x.core.seen y } }) (stage.Trail n y) (trail n y.no)) (idle (loses x n (lost.Moved (spot_seen s.source s.exec)))))
-      go true e = fine.3
-      go false e = All-push Each x.outcome.lost _ fine.3 (moved-away x fine n s is e)
+      go : (a : Bool) → is_below (position_of shown.0) x.failed ≡ a → cond a None (Some (lost.Moved (spot_seen shown.0.source shown.0.exec))) ≡ Some y → P n y ≡ true
+      go true e f = cc
+      go false e f = subst (λ (z : Lost). P n z ≡ true) (same_Some (lost.Moved (spot_seen shown.0.source shown.0.exec)) y f) (moved-away x fine n shown.0 shown.1 e)
 
-  halted-good : (x : Recovery) (n : ServerNo) (y : Bridge) (s : Status) → x.lead ≡ Some y → seen_in (status w n.0) ≡ Some s → Fine x → Good (halted x n y (Some (position_of s)))
-  halted-good x n y s lead is fine = go (same_coord s.exec y.exec) refl
+  late-good : (x : Recovery) (n : ServerNo) (z : Bridge) (y : Lost) → Fine x → x.lead ≡ Some z → ShowsNow w x.core.seen n → by.late z (seen_of x.core.seen n.0) ≡ Some y → P n y ≡ true
+  late-good x n z y fine lead shown h = go (same_coord shown.0.exec z.exec) refl (ap (by.late z) (sym shown.2) ∙ h)
     where
-      go : (a : Bool) → same_coord s.exec y.exec ≡ a → Good (cond a (moving x n (way.Down y)) (frees x n (lost.Behind s.exec)))
-      go true e = fine.3
-      go false e = All-push Each x.outcome.lost _ fine.3 (why.halted n y s (sym fine.2 ∙ lead) is e)
+      go : (a : Bool) → same_coord shown.0.exec z.exec ≡ a → cond a None (Some (lost.Behind shown.0.exec)) ≡ Some y → P n y ≡ true
+      go true e f = cc
+      go false e f = subst (λ (q : Lost). P n q ≡ true) (same_Some (lost.Behind shown.0.exec) y f) (why.halted n z shown.0 (sym fine.2 ∙ lead) shown.1 e)
 
   marked-good : (n : ServerNo) (xs : List LostReplica) → All Each xs → All Each (map (marked n) xs)
   marked-good n [] all = All-nil Each
@@ -526,13 +454,16 @@ module _ (w : World) (b : BookState) (now : Moment) (r : Recovery) (P : ServerNo
       go true = All-head Each l ls all
       go false = All-head Each l ls all
 
-  completed-good : (x : Recovery) (s : Stage) → ((y : Bridge) → lead_of s ≡ Some y → x.lead ≡ Some y) → ((n : ServerNo) → reader_of s ≡ Some n → ShowsNow w x.core.seen n) → Fine x → Good (completed x s)
-  completed-good x (stage.Judged n) lead reads fine = let y = reads n refl in subst (λ (o : Option Position). Good (idle (judged x n o))) (sym y.2) (judged-good x n y.0 y.1 fine)
-  completed-good x (stage.Looked n b) lead reads fine = let y = reads n refl in subst (λ (o : Option Position). Good (looked x n b o)) (sym y.2) (looked-good x n b y.0 y.1 fine)
-  completed-good x (stage.Halted n b) lead reads fine =
-      let y = reads n refl in subst (λ (o : Option Position). Good (halted x n b o)) (sym y.2) (halted-good x n b y.0 (lead b refl) y.1 fine)
-  completed-good x (stage.Expelled n) lead reads fine = marked-good n x.outcome.lost fine.3
-  completed-good x s lead reads fine = fine.3
+  completes-good : (x : Recovery) (e : Ending) → MayEnd x e → Speaks x → Whole x → Good (ended_by x e)
+  completes-good x (by.Loses n y) may speaks whole = All-push Each x.outcome.lost _ whole.0.3 (stray-good x n y whole.0 (whole.1 n (read-at may.0)) may.1)
+    where
+      read-at : WasRead x.stage n → reader_of x.stage ≡ Some n
+      read-at (inl is) = ap reader_of is
+      read-at (inr (z, is)) = ap reader_of is
+  completes-good x (by.Frees n y) may speaks whole =
+      All-push Each x.outcome.lost _ whole.0.3 (late-good x n may.0 y whole.0 (speaks.lead may.0 (ap lead_of may.1)) (whole.1 n (ap reader_of may.1)) may.2)
+  completes-good x (by.Marks n) may speaks whole = marked-good n x.outcome.lost whole.0.3
+  completes-good x e may speaks whole = whole.0.3
 
   -- ---- a turn
 
@@ -547,9 +478,6 @@ module _ (w : World) (b : BookState) (now : Moment) (r : Recovery) (P : ServerNo
     module _ (ob : Option Observation) (es : List Exchange) (k : Job) (e : by_deed w read now x.core rest (deed_of o) ≡ attempt.Goes ob es k) (went : WentOn x.core rest es k) where
       abbrev later : Recovery
       later = record x { core = k }
-
-      abbrev Whole : Recovery → Type 0
-      Whole y = Fine y × ((n : ServerNo) → reader_of y.stage ≡ Some n → ShowsNow w y.core.seen n)
 
       stepped-whole : Whole (stepped later o)
       stepped-whole = go (fits-step x.stage o rest fits)
@@ -567,14 +495,6 @@ module _ (w : World) (b : BookState) (now : Moment) (r : Recovery) (P : ServerNo
                     subst (λ (a : Attempt). ReadsNow w n a) e (subst (λ (y : Op). ReadsNow w n (by_deed w read now x.core rest (deed_of y))) (sym same) (read-now w read now x.core rest n)) in
                     subst (λ (j : Job). ShowsNow w j.seen n) (sym (entered-core later (moved x.stage))) now-read,
               )
-
-      end-good : (y : Recovery) (ops : List Op) → Speaks y → Whole y → Good (at_end y ops)
-      end-good y [] s whole = completed-good y y.stage s.lead whole.1 whole.0
-      end-good y (z ∷ zs) s whole = whole.0.3
-
-      progressed-good : (a : Bool) → is_waiting k ≡ a → Good (progressed later o a)
-      progressed-good true waits = fine.3
-      progressed-good false done = end-good (stepped later o) (stepped later o).core.ops (stepped-speaks w read now x o rest fits speaks is ob es k e went done) stepped-whole
 
     -- one more is lost for a true reason, and is started or not
     module _ (c : Cause) (ob : Option Observation) (e : by_deed w read now x.core rest (deed_of o) ≡ attempt.Stops c ob) where
@@ -648,22 +568,36 @@ module _ (w : World) (b : BookState) (now : Moment) (r : Recovery) (P : ServerNo
           look-met n c (truth n (ap speaks_of at)) (subst (λ (a : Attempt). StopsUnspent a) e (look-unspent w read now x.core rest (deed_of o) (due-looks w read now x o rest fits speaks is n z at)))
       stage-met s at = fine.3
 
-    attempted-good : (a : Attempt) → by_deed w read now x.core rest (deed_of o) ≡ a → Went x.core rest a → Good (attempted w x o a).recovery
-    attempted-good (attempt.Goes ob es k) e went = go (barred_by x.stage x.failed k.seen)
-      where
-        go : (c : Option Cause) → Good (on_going w x o ob es k c).recovery
-        go None = progressed-good ob es k e went (is_waiting k) refl
-        go (Some c) = fine.3
-    attempted-good (attempt.Stops c ob) e went = stage-met c ob e x.stage refl
-    attempted-good (attempt.Ends lines) e went = fine.3
+  fits-of : (x : Recovery) (o : Op) (rest : List Op) → x.core.ops ≡ o ∷ rest → HeldRecovery w x → Fits x.stage (o ∷ rest)
+  fits-of x o rest is held = subst (λ (xs : List Op). Fits x.stage xs) is held.fits
 
-  acted-good : (read : ℕ) (x : Recovery) → HeldRecovery w x → Speaks x → Fine x → (ops : List Op) → x.core.ops ≡ ops → Good (acted w read now x ops).recovery
-  acted-good read x held speaks fine [] is = fine.3
-  acted-good read x held speaks fine (o ∷ rest) is =
-      attempted-good read x o rest (subst (λ (xs : List Op). Fits x.stage xs) is held.fits) speaks is fine (by_deed w read now x.core rest (deed_of o)) refl (deed-went x.core rest w read now (deed_of o))
+  borne-good : (x : Recovery) (c : Cause) (ob : Option Observation) (f : Fate) → Good (met w x c ob f).recovery → Good (borne x f)
+  borne-good x c ob taking.Fails h = h
+  borne-good x c ob f h = h
+
+  abbrev Before : Recovery → Type 0
+  Before x = HeldRecovery w x × Speaks x × Fine x
+
+  keeps-good : (read : ℕ) → HeldRings w b.rings → Keeps w b read now Before (λ v x. Speaks x × Whole x) (λ v x. Good x)
+  keeps-good read rings = record {
+    decides = λ x d may h. (decides-held w b now rings x d may h.0, decides-speaks w b now x d may h.1, decides-explained x d may h.2);
+    waits = λ x o rest ob es j did e h. h.2.3;
+    acts = λ x o rest ob es j did e h.
+        let fits = fits-of x o rest did.ops h.0 in
+        let on = went-of w read now x o rest ob es j did in
+        (
+          stepped-speaks w read now x o rest fits h.1 did.ops ob es j did.goes on e,
+          stepped-whole read x o rest fits h.1 did.ops h.2 ob es j did.goes on,
+        );
+    continues = λ v x y ys is whole. whole.1.0.3;
+    completes = λ v x e none may whole. completes-good x e may whole.0 whole.1;
+    bears = λ x o rest c ob e stops is may h.
+        borne-good x c ob (fate_of e)
+        (subst (λ (f : Fate). Good (met w x c ob f).recovery) is (stage-met read x o rest (fits-of x o rest stops.ops h.0) h.1 stops.ops h.2 c ob stops.stops x.stage refl));
+  }
 
 pub taken-explained : (w : World) (b : BookState) (read : ℕ) (now : Moment) (r : Recovery) (P : ServerNo → Lost → Bool) → HeldRings w b.rings → HeldRecovery w r → Speaks r → ExplainsTruly w b now r P
     → AllLost P r.outcome.lost → AllLost P (taken w b read now r).recovery.outcome.lost
 taken-explained w b read now r P rings held speaks why all =
-    acted-good w b now r P why read (decided w b now r) (decided-held w b now r rings held) (decided-speaks w b now r speaks)
-    (decided-explained w b now r P why r (refl, refl, refl, all)) (decided w b now r).core.ops refl
+    kept-whole w b read now (Before w b now r P why) (λ v x. Speaks x × Whole w b now r P why x) (λ v x. AllLost P x.outcome.lost) (keeps-good w b now r P why read rings)
+    (record { fails = λ x c ob f h. h.2.3; finishes = λ x o rest lines is e h. h.2.3 }) r (held, speaks, (refl, refl, refl, all))

@@ -7,15 +7,10 @@ use Rattle.std.specs.List.{All}
 use Rattle.std.proofs.lemmas.Bool.{false≢true, eq-eqb}
 use Rattle.std.proofs.lemmas.Option.{same_Some}
 use Rattle.std.proofs.lemmas.List.Elements.{All-nil, All-cons, All-head, All-tail}
-use Rattle.binlog_coords.specs.Log.{same_coord}
 use Rattle.orch_base.specs.declared.server.Moment.{Moment}
 use Rattle.orch_base.specs.declared.server.ServerNo.{ServerNo}
 use Rattle.server_model.specs.Run.{Exchange}
 use Rattle.server_model.specs.Worlds.{World}
-use Rattle.commands.specs.declared.cause.Cause.{Cause}
-use Rattle.commands.specs.declared.cause.Cause.TheVariants as cause
-use Rattle.commands.specs.declared.line.Lost.{Lost}
-use Rattle.commands.specs.declared.line.Lost.TheVariants as lost
 use Rattle.instance_keeper.specs.declared.bridge.Bridge.{Bridge}
 use Rattle.kept_rows.specs.declared.observation.Observation.{Observation}
 use Rattle.instance_keeper.specs.Book.{BookState}
@@ -25,27 +20,27 @@ use Rattle.operations.specs.Deeds.{deed_of}
 use Rattle.operations.specs.Jobs.{Job, seen_of}
 use Rattle.operations.specs.Turns as attempt
 use Rattle.operations.specs.Turns.{Attempt, by_deed, is_going}
-use Rattle.recovery_plans.specs.declared.outcome.Stopped.{Stopped}
 use Rattle.recovery_plans.specs.declared.purpose.Purpose.{Purpose}
 use Rattle.recovery_plans.specs.declared.purpose.Purpose.TheVariants as purpose
 use Rattle.recovery_plans.specs.declared.stage.Stage.{Stage}
 use Rattle.recovery_plans.specs.declared.stage.Stage.TheVariants as stage
-use Rattle.recovery_plans.specs.declared.task.Task.{Task}
-use Rattle.recovery_plans.specs.declared.task.Task.TheVariants as task
 use Rattle.recovery_plans.specs.declared.task.Way.{Way}
 use Rattle.recovery_plans.specs.declared.task.Way.TheVariants as way
 use Rattle.recovery_plans.specs.Beginning.{begun_recovery}
 use Rattle.recovery_plans.specs.Named.{spoken_to}
-use Rattle.recovery_plans.specs.Recoveries.{Recovery, follows_no_more, loses, working, sight_of}
+use Rattle.recovery_plans.specs.Recoveries.{Recovery, follows_no_more, sight_of}
 use Rattle.recovery_plans.specs.Stages.{drain, ends, leaver, move, moved, trail, with_bridge, is_look, tail_of}
-use Rattle.recovery_plans.specs.Deciding.{chosen_of, better_of, choose, moving, way_below, hand_by, hand, hand_over, swap_by, swap, crown, swap_or_crown, rejoin, at_last, look_at, yield, by_task, by_queue, once, decided}
-use Rattle.recovery_plans.specs.Taking as taking
-use Rattle.recovery_plans.specs.Taking.{Fate, spot_seen, is_below, judged, idle, frees, looked, halted, completed, entered, stepped, at_end, progressed, fate_of_drain, fate_of_trail, lost_on_way, fate_of_errant, fate_of_move, fate, met, is_waiting, barred_by, on_going, attempted, acted, taken}
+use Rattle.recovery_plans.specs.Deciding.{moving}
+use Rattle.recovery_plans.specs.Taking.{entered, stepped, is_waiting, taken}
+use Rattle.recovery_plans.specs.Moves as by
+use Rattle.recovery_plans.specs.Moves.{Bearing, Decision, Does, Ending, MayDecide, MayEnd, borne, decided_by, ended_by, fate_of}
+use Rattle.recovery_plans.proofs.Walking.{Keeps, kept-along}
 use Rattle.recovery_laws.specs.HeldRecoveries.{HeldRecovery}
 use Rattle.recovery_laws.specs.Rings.{HeldRings}
 use Rattle.recovery_ends.specs.Shapes.{Fits}
-use Rattle.recovery_laws.proofs.Deciding.{decided-held}
-use Rattle.recovery_ends.proofs.Shapes.{Went, WentOn, deed-went, fits-step, moved-fits, same-tail}
+use Rattle.recovery_laws.proofs.Deciding.{decides-held}
+use Rattle.recovery_ends.proofs.Fitting.{went-of}
+use Rattle.recovery_ends.proofs.Shapes.{WentOn, fits-step, moved-fits, same-tail}
 use Rattle.recovery_reasons.specs.Reasons.{speaks_of, lead_of, WaitsFor, IsAsked, AimsAt, Speaks}
 use Rattle.recovery_reasons.proofs.Sights.{SeesOnly, deed-sees}
 
@@ -126,106 +121,37 @@ moving-speaks : (r : Recovery) (n : ServerNo) (by : Way) → Speaks (moving r n 
 moving-speaks r n by =
     speaking (moving r n by) n refl (All-cons (With n) (move by n) (op.Start n ∷ []) (way-speaks by n) (All-cons (With n) (op.Start n) [] refl (All-nil (With n)))) refl (λ m p e. cc)
 
--- ---- decisions
+-- ---- what is decided
 
 module _ (w : World) (b : BookState) (now : Moment) where
-  hand-speaks : (s : ServerNo) (ds : List Stopped) (r : Recovery) → Speaks r → Speaks (hand w b s r ds)
-  hand-speaks s [] r h = alike r _ refl refl refl h
-  hand-speaks s (d ∷ ds) r h = go (way_below w b r.core.seen r.failed s d) (hand-speaks s ds (loses r d.no (lost.Behind d.exec)) (alike r _ refl refl refl h))
-    where
-      go : (o : Option Way) → Speaks (hand w b s (loses r d.no (lost.Behind d.exec)) ds) → Speaks (hand_by r d ds o (hand w b s (loses r d.no (lost.Behind d.exec)) ds))
-      go None rest = rest
-      go (Some by) rest = moving-speaks (record r { queue = task.Handing ∷ r.queue; drained = ds }) d.no by
+  pub decides-speaks : (r : Recovery) (d : Decision) → MayDecide w b now r d → Speaks r → Speaks (decided_by w b now r d)
+  decides-speaks r (by.Reads n ts) may s = silent _ refl refl
+  decides-speaks r (by.Drains n ts) may s = speaking _ n refl (drain-speaks n) refl (λ m p e. cc)
+  decides-speaks r (by.Sends n way ts) may s = moving-speaks (record r { queue = ts }) n way
+  decides-speaks r (by.Expels n ts) may s = silent _ refl refl
+  decides-speaks r (by.Releases n ts) may s = silent _ refl refl
+  decides-speaks r (by.Looks n x ts) may s = record {
+    ops = λ m f. subst (λ (k : ServerNo). All (With k) (op.Status n None ∷ [])) (same_Some n m f) (All-cons (With n) (op.Status n None) [] refl (All-nil (With n)));
+    lead = λ y f. may.1 ∙ f;
+    waits = λ y f. All-cons (Waits y) (op.Status n None) [] tt (All-nil (Waits y));
+    aims = λ m y f. cc;
+    asked = λ m p f. cc;
+    looks = λ m y f. All-cons Looks (op.Status n None) [] refl (All-nil Looks);
+  }
+  decides-speaks r (by.Yields x ts) may s = silent _ refl refl
+  decides-speaks r (by.Hands d ds way ts) may s = moving-speaks (record r { drained = ds }) d.no way
+  decides-speaks r (by.Levels p q) may s = silent _ refl refl
+  decides-speaks r (by.Crowns p) may s = silent _ refl refl
+  decides-speaks r (by.Rejoins p) may s = silent _ refl refl
+  decides-speaks r by.Closes may s = silent _ refl refl
+  decides-speaks r d may s = alike r _ refl refl refl s
 
-  task-speaks : (r : Recovery) (t : Task) → Speaks r → Speaks (by_task w b now r t)
-  task-speaks r (task.Reading n) s = silent (by_task w b now r (task.Reading n)) refl refl
-  task-speaks r (task.Draining n) s = speaking (by_task w b now r (task.Draining n)) n refl (drain-speaks n) refl (λ m p e. cc)
-  task-speaks r task.Choosing s = go (chosen_of w b now r.failed r.drained)
-    where
-      go : (o : Option Stopped) → Speaks (choose w b now r o)
-      go None = alike r _ refl refl refl s
-      go (Some p) = alike r _ refl refl refl s
-  task-speaks r task.Handing s = go r.chosen
-    where
-      go : (o : Option ServerNo) → Speaks (hand_over w b r o)
-      go None = s
-      go (Some n) = hand-speaks n r.drained r s
-  task-speaks r (task.Moving n by) s = moving-speaks r n by
-  task-speaks r task.Sorting s = alike r _ refl refl refl s
-  task-speaks r (task.Expelling n) s = silent (by_task w b now r (task.Expelling n)) refl refl
-  task-speaks r (task.Releasing n) s = silent (by_task w b now r (task.Releasing n)) refl refl
-  task-speaks r (task.Trailing n) s = go r.lead refl
-    where
-      go : (o : Option Bridge) → r.lead ≡ o → Speaks (look_at r n o)
-      go None e = alike r _ refl refl refl s
-      go (Some x) e = record {
-        ops = λ m f. subst (λ (k : ServerNo). All (With k) (op.Status n None ∷ [])) (same_Some n m f) (All-cons (With n) (op.Status n None) [] refl (All-nil (With n)));
-        lead = λ y f. e ∙ f;
-        waits = λ y f. All-cons (Waits y) (op.Status n None) [] tt (All-nil (Waits y));
-        aims = λ m y f. cc;
-        asked = λ m p f. cc;
-        looks = λ m y f. All-cons Looks (op.Status n None) [] refl (All-nil Looks);
-      }
-  task-speaks r task.Yielding s = go r.lead
-    where
-      go : (o : Option Bridge) → Speaks (yield r o)
-      go None = alike r _ refl refl refl s
-      go (Some x) = silent (yield r (Some x)) refl refl
+-- ---- the end of a stage
 
-  last-speaks : (r : Recovery) (u : Purpose) → Speaks r → Speaks (at_last w b now r u)
-  last-speaks r u s = go u
-    where
-      rejoined : (o : Option ServerNo) → Speaks (rejoin r o)
-      rejoined None = s
-      rejoined (Some p) = silent (rejoin r (Some p)) refl refl
-
-      swapping : (p : ServerNo) (o : Option ServerNo) → Speaks (swap_by (record r { swaps = false }) p o)
-      swapping p None = alike r _ refl refl refl s
-      swapping p (Some q) = silent (swap_by (record r { swaps = false }) p (Some q)) refl refl
-
-      swapped : (o : Option ServerNo) → Speaks (swap w b now (record r { swaps = false }) o)
-      swapped None = alike r _ refl refl refl s
-      swapped (Some p) = swapping p (better_of w b now r.failed p (map (λ x. x.no) r.outcome.followers))
-
-      crowned : (o : Option ServerNo) → Speaks (crown r o)
-      crowned None = s
-      crowned (Some p) = silent (crown r (Some p)) refl refl
-
-      by : (x : Bool) → Speaks (swap_or_crown w b now r x)
-      by true = swapped r.chosen
-      by false = crowned r.chosen
-
-      go : (v : Purpose) → Speaks (at_last w b now r v)
-      go purpose.Regroup = rejoined r.chosen
-      go purpose.Master = by r.swaps
-      go (purpose.Intermediate n) = silent (at_last w b now r (purpose.Intermediate n)) refl refl
-      go (purpose.Takeover d) = s
-
-  pub once-speaks : (r : Recovery) → Speaks r → Speaks (once w b now r)
-  once-speaks r s = go r.core.ops r.queue
-    where
-      go : (ops : List Op) (ts : List Task) → Speaks (by_queue w b now r ops ts)
-      go (x ∷ xs) ts = s
-      go [] [] = last-speaks r r.purpose s
-      go [] (t ∷ ts) = task-speaks (record r { queue = ts }) t (alike r _ refl refl refl s)
-
-  pub decided-speaks : (r : Recovery) → Speaks r → Speaks (decided w b now r)
-  decided-speaks r s = once-speaks (once w b now (once w b now (once w b now r))) (once-speaks (once w b now (once w b now r)) (once-speaks (once w b now r) (once-speaks r s)))
-
--- ---- a turn
-
-idle-speaks : (r : Recovery) → Speaks (idle r)
-idle-speaks r = silent (idle r) refl refl
-
-frees-speaks : (r : Recovery) (n : ServerNo) (why : Lost) → Speaks (frees r n why)
-frees-speaks r n why = silent (frees r n why) refl refl
-
-looked-speaks : (r : Recovery) (n : ServerNo) (b : Bridge) → r.lead ≡ Some b → (o : Option Position) → Speaks (looked r n b o)
-looked-speaks r n b lead None = idle-speaks (loses r n lost.Unreachable)
-looked-speaks r n b lead (Some s) = go (is_below s r.failed)
-  where
-    go : (a : Bool) → Speaks (cond a (working (record r { core = record r.core { seen = with_bridge r.core.seen b } }) (stage.Trail n b) (trail n b.no)) (idle (loses r n (lost.Moved (spot_seen s.source s.exec)))))
-    go true = record {
+completes-speaks : (r : Recovery) (e : Ending) → MayEnd r e → Speaks r → Speaks (ended_by r e)
+completes-speaks r (by.Trails n b) may s =
+    let lead = s.lead b (ap lead_of may.0) in
+    record {
       ops = λ m e. subst (λ (k : ServerNo). All (With k) (trail n b.no)) (same_Some n m e) (trail-speaks n b.no);
       lead = λ x e. lead ∙ e;
       waits = λ x e. subst (λ (y : Bridge). All (Waits y) (trail n b.no)) (same_Some b x e) (trail-waits n b);
@@ -233,20 +159,12 @@ looked-speaks r n b lead (Some s) = go (is_below s r.failed)
       asked = λ m p e. cc;
       looks = λ m x e. cc;
     }
-    go false = idle-speaks (loses r n (lost.Moved (spot_seen s.source s.exec)))
+completes-speaks r (by.Joins n b) may s = moving-speaks r n (way.Down b)
+completes-speaks r e may s = silent _ refl refl
 
-halted-speaks : (r : Recovery) (n : ServerNo) (b : Bridge) (o : Option Position) → Speaks (halted r n b o)
-halted-speaks r n b None = frees-speaks r n lost.Unreachable
-halted-speaks r n b (Some s) = go (same_coord s.exec b.exec)
-  where
-    go : (a : Bool) → Speaks (cond a (moving r n (way.Down b)) (frees r n (lost.Behind s.exec)))
-    go true = moving-speaks r n (way.Down b)
-    go false = frees-speaks r n (lost.Behind s.exec)
-
-completed-speaks : (r : Recovery) (s : Stage) → ((x : Bridge) → lead_of s ≡ Some x → r.lead ≡ Some x) → Speaks (completed r s)
-completed-speaks r (stage.Looked n b) lead = looked-speaks r n b (lead b refl) (seen_of r.core.seen n.0)
-completed-speaks r (stage.Halted n b) lead = halted-speaks r n b (seen_of r.core.seen n.0)
-completed-speaks r s lead = silent (completed r s) refl refl
+bears-speaks : (r : Recovery) (e : Bearing) → Speaks (borne r (fate_of e))
+bears-speaks r by.Drops = silent _ refl refl
+bears-speaks r e = silent _ refl refl
 
 moved-speaks : (s : Stage) (n : ServerNo) → speaks_of (moved s) ≡ Some n → speaks_of s ≡ Some n
 moved-speaks (stage.Move m by) n e = e
@@ -348,81 +266,27 @@ module _ (w : World) (read : ℕ) (now : Moment) (r : Recovery) (o : Op) (rest :
               looks = λ n x h. absurd (moved-looks r.stage n x h);
             })
 
-    end-speaks : (x : Recovery) (ops : List Op) → Speaks x → Speaks (at_end x ops)
-    end-speaks x [] h = completed-speaks x x.stage h.lead
-    end-speaks x (y ∷ ys) h = h
+module _ (w : World) (b : BookState) (read : ℕ) (now : Moment) (rings : HeldRings w b.rings) where
+  fits-of : (r : Recovery) (o : Op) (rest : List Op) → r.core.ops ≡ o ∷ rest → HeldRecovery w r → Fits r.stage (o ∷ rest)
+  fits-of r o rest is held = subst (λ (xs : List Op). Fits r.stage xs) is held.fits
 
-    progressed-speaks : (x : Bool) → is_waiting k ≡ x → Speaks (progressed later o x)
-    progressed-speaks true waits = same-speaks r.core.ops (went.waits waits).0 (λ Q all. all)
-    progressed-speaks false done = end-speaks (stepped later o) (stepped later o).core.ops (stepped-speaks done)
-
-  abbrev IsSilent : Fate → Type 0
-  IsSilent taking.Fails = Unit {0}
-  IsSilent taking.Drops = Unit {0}
-  IsSilent (taking.Loses n why) = Unit {0}
-  IsSilent (taking.Frees n why) = Unit {0}
-  IsSilent (taking.Goes y ops) = (speaks_of y ≡ None) × (lead_of y ≡ None)
-
-  met-speaks : (x : Cause) (ob : Option Observation) (f : Fate) → IsSilent f → is_going (met w r x ob f).step ≡ true → Speaks (met w r x ob f).recovery
-  met-speaks x ob taking.Fails h g = absurd (false≢true g)
-  met-speaks x ob taking.Drops h g = silent (working r stage.Idle []) refl refl
-  met-speaks x ob (taking.Loses m why) h g = silent (working (loses r m why) stage.Idle []) refl refl
-  met-speaks x ob (taking.Frees m why) h g = frees-speaks r m why
-  met-speaks x ob (taking.Goes y ops) h g = silent (working r y ops) h.0 h.1
-
-  drain-silent : (m : ServerNo) (x : Cause) → IsSilent (fate_of_drain m x)
-  drain-silent m (cause.Unreachable y) = tt
-  drain-silent m x = tt
-
-  trail-silent : (m : ServerNo) (x : Cause) → IsSilent (fate_of_trail w m x)
-  trail-silent m (cause.Unreachable y) = tt
-  trail-silent m (cause.WaitSpent y) = tt
-  trail-silent m x = tt
-
-  lost-silent : (u : Purpose) (m : ServerNo) (why : Lost) → IsSilent (lost_on_way u m why)
-  lost-silent purpose.Regroup m why = tt
-  lost-silent purpose.Master m why = tt
-  lost-silent (purpose.Intermediate n) m why = tt
-  lost-silent (purpose.Takeover d) m why = tt
-
-  errant-silent : (u : Purpose) (m : ServerNo) (by : Way) → IsSilent (fate_of_errant u m by)
-  errant-silent u m (way.Auto to exec) = lost-silent u m (lost.Ahead exec)
-  errant-silent u m (way.Down b) = tt
-  errant-silent u m (way.Up b) = tt
-
-  move-silent : (u : Purpose) (m : ServerNo) (by : Way) (x : Cause) → IsSilent (fate_of_move w u m by x)
-  move-silent u m by (cause.Unreachable y) = lost-silent u m lost.Unreachable
-  move-silent u m by (cause.Running y) = lost-silent u m _
-  move-silent u m by (cause.Interfered y expected found) = lost-silent u m (lost.Moved found)
-  move-silent u m by (cause.Errant y set) = errant-silent u m by
-  move-silent u m by x = tt
-
-  fate-silent : (y : Stage) (x : Cause) → IsSilent (fate w r.purpose y x)
-  fate-silent (stage.Drain m) x = drain-silent m x
-  fate-silent (stage.Move m by) x = move-silent r.purpose m by x
-  fate-silent (stage.Look m b) x = trail-silent m x
-  fate-silent (stage.Trail m b) x = trail-silent m x
-  fate-silent (stage.Level p q) x = (refl, refl)
-  fate-silent (stage.Swap p q) x = (refl, refl)
-  fate-silent y x = tt
-
-  attempted-speaks : (a : Attempt) → by_deed w read now r.core rest (deed_of o) ≡ a → Went r.core rest a → is_going (attempted w r o a).step ≡ true → Speaks (attempted w r o a).recovery
-  attempted-speaks (attempt.Goes ob es k) e went g = go (barred_by r.stage r.failed k.seen) g
-    where
-      go : (x : Option Cause) → is_going (on_going w r o ob es k x).step ≡ true → Speaks (on_going w r o ob es k x).recovery
-      go None h = progressed-speaks ob es k e went (is_waiting k) refl
-      go (Some x) h = absurd (false≢true h)
-  attempted-speaks (attempt.Stops x ob) e went g = met-speaks x ob (fate w r.purpose r.stage x) (fate-silent r.stage x) g
-  attempted-speaks (attempt.Ends lines) e went g = absurd (false≢true g)
-
-acted-speaks : (w : World) (read : ℕ) (now : Moment) (r : Recovery) → HeldRecovery w r → Speaks r → (ops : List Op) → r.core.ops ≡ ops → is_going (acted w read now r ops).step ≡ true → Speaks (acted w read now r ops).recovery
-acted-speaks w read now r held s [] is g = absurd (false≢true g)
-acted-speaks w read now r held s (o ∷ rest) is g =
-    attempted-speaks w read now r o rest (subst (λ (xs : List Op). Fits r.stage xs) is held.fits) s is (by_deed w read now r.core rest (deed_of o)) refl (deed-went r.core rest w read now (deed_of o)) g
+  keeps-speaks : Keeps w b read now (λ r. HeldRecovery w r × Speaks r) (λ v r. Speaks r) (λ v r. Speaks r)
+  keeps-speaks = record {
+    decides = λ r d may h. (decides-held w b now rings r d may h.0, decides-speaks w b now r d may h.1);
+    waits = λ r o rest ob es j did e h.
+        let on = went-of w read now r o rest ob es j did in
+        same-speaks w read now r o rest (fits-of r o rest did.ops h.0) h.1 did.ops ob es j did.goes on r.core.ops (on.waits e).0 (λ Q all. all);
+    acts = λ r o rest ob es j did e h.
+        stepped-speaks w read now r o rest (fits-of r o rest did.ops h.0) h.1 did.ops ob es j did.goes (went-of w read now r o rest ob es j did) e;
+    continues = λ v r x xs is s. s;
+    completes = λ v r e none may s. completes-speaks r e may s;
+    bears = λ r o rest c ob e stops is may h. bears-speaks r e;
+  }
 
 pub taken-speaks : (w : World) (b : BookState) (read : ℕ) (now : Moment) (r : Recovery) → HeldRings w b.rings → HeldRecovery w r → Speaks r → is_going (taken w b read now r).step ≡ true
     → Speaks (taken w b read now r).recovery
-taken-speaks w b read now r rings held s g = acted-speaks w read now (decided w b now r) (decided-held w b now r rings held) (decided-speaks w b now r s) (decided w b now r).core.ops refl g
+taken-speaks w b read now r rings held s =
+    kept-along w b read now (λ x. HeldRecovery w x × Speaks x) (λ v x. Speaks x) (λ v x. Speaks x) (keeps-speaks w b read now rings) r (held, s)
 
 pub begun-speaks : (u : Purpose) (id wait : ℕ) (f : ServerNo) (ns order : List ServerNo) → Speaks (begun_recovery u id wait f ns order)
 begun-speaks purpose.Regroup id wait f ns order = silent (begun_recovery purpose.Regroup id wait f ns order) refl refl

@@ -8,7 +8,7 @@ use Rattle.kept_rows.specs.declared.row.Row.{Row}
 use Rattle.job_laws.proofs.Lists.{All-find}
 use Rattle.jobs_in_flight.specs.Jobs.{job_at, jobs_turned}
 use Rattle.operations.specs.Turns.{is_going}
-use Rattle.recovery_histories.proofs.Staying.{same-choice, taken-aim}
+use Rattle.recovery_histories.proofs.Staying.{same-aim, taken-aim}
 use Rattle.turns.specs.declared.turn.Act.{Act}
 use Rattle.turns.specs.declared.turn.Act.TheVariants as act
 use Rattle.turns.specs.declared.turn.Turn.{Turn}
@@ -31,7 +31,7 @@ use Rattle.recovery_runs.proofs.Joining.{command-joins, joined, scan-joins}
 
 of-itself : (us : List Unended) (u : Unended) → Contains us u → ComesOf us u
 of-itself us (unended.Plan j) among = tt
-of-itself us (unended.Recovery r entry) among = record { was = r; among = among; number = refl; aim = (same-choice r).aim }
+of-itself us (unended.Recovery r entry) among = record { was = r; among = among; number = refl; aim = same-aim r }
 
 module _ (us vs : List Unended) where
   all-stay : All (ComesOf (us ++ vs)) us
