@@ -159,19 +159,38 @@ info stage.Idle = plain stage.Idle []
 info stage.Check = record (plain stage.Check []) { bar = Reached; failing = Passes }
 info (stage.Read n) = plain (stage.Read n) []
 info (stage.Drain n) = record (plain (stage.Judged n) (n ∷ [])) {
-  tail = op.Status n None ∷ []; reads = true; places = n ∷ []; speaks = Some n; more = 3; failing = Drains n }
+  tail = op.Status n None ∷ [];
+  reads = true;
+  places = n ∷ [];
+  speaks = Some n;
+  more = 3;
+  failing = Drains n;
+}
 info (stage.Judged n) = record (plain (stage.Judged n) (n ∷ [])) { due = true; places = n ∷ []; more = 3; made = Judged n }
 info (stage.Move n by) = record (plain (stage.Join n (target by)) (n ∷ [])) {
-  tail = move by n ∷ op.Start n ∷ []; places = n ∷ []; speaks = Some n; more = 1; failing = Moves n by }
+  tail = move by n ∷ op.Start n ∷ [];
+  places = n ∷ [];
+  speaks = Some n;
+  more = 1;
+  failing = Moves n by;
+}
 info (stage.Join n p) = record (plain (stage.Join n p) (n ∷ [])) { places = n ∷ []; speaks = Some n; failing = Joins n; made = Follows n p }
 info (stage.Expel n) = record (plain (stage.Expelled n) (n ∷ [])) { tail = op.Detach n ∷ []; failing = Passes }
 info (stage.Expelled n) = record (plain (stage.Expelled n) (n ∷ [])) { made = Marked n }
 info (stage.Release n) = record (plain (stage.Release n) (n ∷ [])) { failing = Passes }
 info (stage.Level p q) = record (plain (stage.Swap p q) (p ∷ q ∷ [])) {
-  tail = op.Reset q ∷ op.Cross cross.About p q ∷ []; more = 5; failing = Instead (stage.Release q) (op.Start q ∷ []) }
+  tail = op.Reset q ∷ op.Cross cross.About p q ∷ [];
+  more = 5;
+  failing = Instead (stage.Release q) (op.Start q ∷ []);
+}
 info (stage.Swap p q) = record (plain (stage.Swapped p q) (p ∷ q ∷ [])) {
-  tail = op.Cross cross.About p q ∷ []; due = true; leaves = Some q; places = q ∷ []; more = 5;
-  failing = Instead (stage.Return p q) (op.Cross cross.Back q p ∷ op.Start q ∷ []) }
+  tail = op.Cross cross.About p q ∷ [];
+  due = true;
+  leaves = Some q;
+  places = q ∷ [];
+  more = 5;
+  failing = Instead (stage.Return p q) (op.Cross cross.Back q p ∷ op.Start q ∷ []);
+}
 info (stage.Swapped p q) = record (plain (stage.Swapped p q) (p ∷ q ∷ [])) { places = q ∷ []; more = 5; made = Swapped p q }
 info (stage.Return p q) = record (plain (stage.Resume p q) (p ∷ q ∷ [])) { tail = op.Cross cross.Back q p ∷ op.Start q ∷ []; places = q ∷ [] }
 info (stage.Resume p q) = record (plain (stage.Resume p q) (p ∷ q ∷ [])) { places = q ∷ []; made = Follows q p }
@@ -182,14 +201,36 @@ info (stage.Meet m d) = record (plain (stage.Meet m d) (m ∷ d ∷ [])) { more 
 info (stage.Shut m d) = record (plain (stage.Gather m d) (m ∷ d ∷ [])) { tail = op.ReadOnly m true ∷ gather m d; back = Nowhere }
 info (stage.Gather m d) = record (plain (stage.Gather m d) (m ∷ d ∷ [])) { made = Gathered d }
 info (stage.Look n b) = record (plain (stage.Looked n b) (n ∷ [])) {
-  tail = op.Status n None ∷ []; reads = true; places = n ∷ []; speaks = Some n; lead = Some b; more = 7; failing = Trails n }
+  tail = op.Status n None ∷ [];
+  reads = true;
+  places = n ∷ [];
+  speaks = Some n;
+  lead = Some b;
+  more = 7;
+  failing = Trails n;
+}
 info (stage.Looked n b) = record (plain (stage.Looked n b) (n ∷ [])) { due = true; places = n ∷ []; lead = Some b; more = 7; made = Looked n b }
 info (stage.Trail n b) = record (plain (stage.Halted n b) (n ∷ [])) {
-  tail = op.Status n None ∷ []; reads = true; places = n ∷ []; speaks = Some n; lead = Some b; more = 3; failing = Trails n }
+  tail = op.Status n None ∷ [];
+  reads = true;
+  places = n ∷ [];
+  speaks = Some n;
+  lead = Some b;
+  more = 3;
+  failing = Trails n;
+}
 info (stage.Halted n b) = record (plain (stage.Halted n b) (n ∷ [])) { due = true; places = n ∷ []; lead = Some b; more = 3; made = Halted n b }
 info (stage.Yield m d) = record (plain (stage.Switch m d) (m ∷ d ∷ [])) {
-  tail = op.Reset d ∷ op.Cross cross.About m d ∷ []; places = m ∷ []; more = 4 }
+  tail = op.Reset d ∷ op.Cross cross.About m d ∷ [];
+  places = m ∷ [];
+  more = 4;
+}
 info (stage.Switch m d) = record (plain (stage.Switched m d) (m ∷ d ∷ [])) {
-  tail = op.Cross cross.About m d ∷ []; due = true; places = m ∷ []; more = 4; back = Whole m d }
+  tail = op.Cross cross.About m d ∷ [];
+  due = true;
+  places = m ∷ [];
+  more = 4;
+  back = Whole m d;
+}
 info (stage.Switched m d) = record (plain (stage.Switched m d) (m ∷ d ∷ [])) { places = m ∷ []; more = 4; back = Nowhere; made = Switched m d }
 info (stage.Close lines) = record (plain stage.Idle []) { tail = op.Finish lines ∷ []; closes = true; late = true; back = Nowhere }
