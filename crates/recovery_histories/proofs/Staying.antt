@@ -1,5 +1,5 @@
 -- A turn leaves a recovery its aim.
-use Rattle.std.proofs.Common.{◌≡◌, ℕ, refl, ◌∙◌, Option, Some, None}
+use Rattle.std.proofs.Common.{ℕ, refl, ◌∙◌, Option, Some, None}
 use Rattle.orch_base.specs.declared.server.Moment.{Moment}
 use Rattle.orch_base.specs.declared.server.ServerNo.{ServerNo}
 use Rattle.server_model.specs.Worlds.{World}

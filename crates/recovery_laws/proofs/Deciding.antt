@@ -7,7 +7,6 @@ use Rattle.std.proofs.lemmas.List.Elements.{All-nil, All-cons, All-head, All-tai
 use Rattle.orch_base.specs.declared.server.Moment.{Moment}
 use Rattle.orch_base.specs.declared.server.ServerNo.{ServerNo}
 use Rattle.server_model.specs.Worlds.{World}
-use Rattle.commands.specs.declared.line.Lost.TheVariants as lost
 use Rattle.instance_keeper.specs.declared.bridge.Bridge.{Bridge}
 use Rattle.instance_keeper.specs.Book.{BookState}
 use Rattle.instance_keeper.specs.Bridges.{has_own, latest_that, ring_at}
@@ -23,7 +22,6 @@ use Rattle.job_laws.specs.Held.{Spans}
 use Rattle.job_laws.proofs.Lists.{All-at}
 use Rattle.job_laws.proofs.Sights.{seen-at}
 use Rattle.recovery_plans.specs.declared.outcome.Stopped.{Stopped}
-use Rattle.recovery_plans.specs.declared.purpose.Purpose.TheVariants as purpose
 use Rattle.recovery_plans.specs.declared.stage.Stage.{Stage}
 use Rattle.recovery_plans.specs.declared.stage.Stage.TheVariants as stage
 use Rattle.recovery_plans.specs.declared.task.Task.{Task}
@@ -33,12 +31,12 @@ use Rattle.recovery_plans.specs.declared.task.Way.TheVariants as way
 use Rattle.recovery_plans.specs.Recoveries.{Recovery, sight_of, working}
 use Rattle.recovery_plans.specs.Stages.{drain, level, move, with_bridge, with_way}
 use Rattle.recovery_plans.specs.Telling.{told}
-use Rattle.recovery_plans.specs.Deciding.{logs_at, chosen_of, better_of, lot_of, moves_in, without_stopped, choose, moving, way_below, way_by_set, why_of, expels, releases, sort, once, decided}
+use Rattle.recovery_plans.specs.Deciding.{logs_at, chosen_of, better_of, lot_of, moves_in, without_stopped, choose, moving, way_below, way_by_set, why_of, expels, releases, sort, decided}
 use Rattle.recovery_laws.specs.Rings.{HeldRings}
 use Rattle.recovery_ends.specs.Shapes.{Fits}
 use Rattle.recovery_plans.specs.Moves as by
 use Rattle.recovery_plans.specs.Moves.{Decision, IsHanding, IsNext, MayDecide, decided_by}
-use Rattle.recovery_plans.proofs.Walking.{decided-walks, decisions-keep, once-walks}
+use Rattle.recovery_plans.proofs.Walking.{decided-walks, decisions-keep}
 use Rattle.recovery_laws.specs.HeldRecoveries.{IsReadyWay, IsReady, IsReadyStage, IsStopped, IsLead, HeldRecovery}
 use Rattle.recovery_laws.proofs.Choosing.{self, All-latest, moves-ready, lot-ready}
 use Rattle.recovery_plans.proofs.Choices.{All-chosen, All-better, chosen-logs}

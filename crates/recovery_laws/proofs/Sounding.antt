@@ -2,7 +2,7 @@
 use Rattle.std.proofs.Common.{◌≡◌, ℕ, Bool, true, false, cond, List, [], ◌∷◌, ◌++◌, map, refl, sym, ◌∙◌, ap, subst, Option, Some, None}
 use Rattle.std.specs.Prelude.{◌==◌, IfSome, filter, option_map}
 use Rattle.std.specs.List.{All}
-use Rattle.std.proofs.lemmas.Bool.{false≢true, and_parts, eqb-true}
+use Rattle.std.proofs.lemmas.Bool.{and_parts, eqb-true}
 use Rattle.std.proofs.lemmas.Option.{same_Some}
 use Rattle.std.proofs.lemmas.List.Elements.{All-nil, All-cons, All-head, All-tail, All-append, All-push, All-weaker}
 use Rattle.binlog_coords.specs.declared.Coord.{Coord}
@@ -17,10 +17,6 @@ use Rattle.server_model.specs.Safe.{Safe, Placed}
 use Rattle.server_model.specs.Worlds.{World, source_no}
 use Rattle.replication_laws.proofs.BridgeLaws.{Stands-grows}
 use Rattle.replication_laws.proofs.Runs.{Grows-run}
-use Rattle.commands.specs.declared.cause.Cause.{Cause}
-use Rattle.commands.specs.declared.cause.Cause.TheVariants as cause
-use Rattle.commands.specs.declared.line.Lost.{Lost}
-use Rattle.commands.specs.declared.line.Lost.TheVariants as lost
 use Rattle.instance_keeper.specs.declared.bridge.Bridge.{Bridge}
 use Rattle.kept_rows.specs.declared.observation.Observation.{Observation}
 use Rattle.instance_keeper.specs.Book.{BookState}
@@ -28,7 +24,6 @@ use Rattle.instance_keeper.specs.Bridges.{has_exec, has_own, latest_that, ring_a
 use Rattle.operations.specs.declared.op.Crossing.TheVariants as cross
 use Rattle.operations.specs.declared.op.Op.{Op}
 use Rattle.operations.specs.declared.op.Op.TheVariants as op
-use Rattle.operations.specs.declared.sight.Position.{Position}
 use Rattle.operations.specs.declared.sight.Sight.{Sight}
 use Rattle.operations.specs.Deeds.{deed_of}
 use Rattle.operations.specs.Jobs.{Job, seen_of}
@@ -62,7 +57,7 @@ use Rattle.recovery_plans.specs.Moves.{Bearing, Decision, Does, Ending, IsHandin
 use Rattle.recovery_plans.proofs.Walking.{Keeps, kept-along, made-along}
 use Rattle.recovery_laws.specs.Rings.{HeldRings, SoundRings}
 use Rattle.recovery_ends.specs.Shapes.{Fits}
-use Rattle.recovery_laws.specs.HeldRecoveries.{IsReady, IsStopped, stopped_bridge, HeldRecovery}
+use Rattle.recovery_laws.specs.HeldRecoveries.{IsStopped, stopped_bridge, HeldRecovery}
 use Rattle.recovery_laws.specs.SoundRecoveries.{IsSoundWay, IsSoundTask, IsSoundStop, IsSoundStage, SoundRecovery, KeepsSoundRecovery}
 use Rattle.recovery_laws.proofs.Choosing.{All-latest, own-is}
 use Rattle.recovery_plans.proofs.Choices.{All-chosen, chosen-logs}

@@ -8,9 +8,7 @@ use Rattle.orch_base.specs.declared.server.ServerNo.{ServerNo}
 use Rattle.server_model.specs.Run.{Exchange, run, AllAllowed}
 use Rattle.server_model.specs.Safe.{Placed}
 use Rattle.server_model.specs.Worlds.{World, source_no}
-use Rattle.commands.specs.declared.cause.Cause.TheVariants as cause
 use Rattle.commands.specs.declared.line.Lost.{Lost}
-use Rattle.commands.specs.declared.line.Lost.TheVariants as lost
 use Rattle.instance_keeper.specs.declared.bridge.Bridge.{Bridge}
 use Rattle.kept_rows.specs.declared.observation.Observation.{Observation}
 use Rattle.instance_keeper.specs.Book.{BookState}
@@ -38,7 +36,6 @@ use Rattle.recovery_plans.specs.Recoveries.{Recovery, follows, follows_no_more, 
 use Rattle.recovery_plans.specs.Stages.{ends, gather, leaver, moved, tail_of, trail, with_bridge}
 use Rattle.recovery_plans.specs.Telling.{told}
 use Rattle.recovery_plans.specs.Deciding.{closing}
-use Rattle.recovery_plans.specs.Taking as taking
 use Rattle.recovery_plans.specs.Taking.{is_source, is_below, swapped, lead_under, idle, frees, last_looks, entered, stepped, is_waiting, taken}
 use Rattle.recovery_plans.proofs.Allowed.{taken-allowed}
 use Rattle.recovery_plans.specs.Moves as by

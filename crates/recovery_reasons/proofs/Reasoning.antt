@@ -1,5 +1,4 @@
 -- Each entry of the lost was there before, or has its reason in this turn.
-use Rattle.operations.specs.declared.sight.Position.{Position}
 use Rattle.recovery_plans.specs.Named.{spoken_to}
 use Rattle.server_model.specs.Desk.{desk_answer}
 use Rattle.server_model.specs.declared.server.Server.{Server}
@@ -57,8 +56,6 @@ use Rattle.recovery_plans.specs.declared.purpose.Purpose.{Purpose}
 use Rattle.recovery_plans.specs.declared.purpose.Purpose.TheVariants as purpose
 use Rattle.recovery_plans.specs.declared.stage.Stage.{Stage}
 use Rattle.recovery_plans.specs.declared.stage.Stage.TheVariants as stage
-use Rattle.recovery_plans.specs.declared.task.Task.{Task}
-use Rattle.recovery_plans.specs.declared.task.Task.TheVariants as task
 use Rattle.recovery_plans.specs.declared.task.Way.{Way}
 use Rattle.recovery_plans.specs.declared.task.Way.TheVariants as way
 use Rattle.recovery_plans.specs.Recoveries.{Recovery, follows_no_more, loses}
@@ -584,8 +581,7 @@ module _ (w : World) (b : BookState) (now : Moment) (r : Recovery) (P : ServerNo
     waits = λ x o rest ob es j did e h. h.2.3;
     acts = λ x o rest ob es j did e h.
         let fits = fits-of x o rest did.ops h.0 in
-        let on = went-of w read now x o rest ob es j did in
-        (
+        let on = went-of w read now x o rest ob es j did in (
           stepped-speaks w read now x o rest fits h.1 did.ops ob es j did.goes on e,
           stepped-whole read x o rest fits h.1 did.ops h.2 ob es j did.goes on,
         );
