@@ -62,7 +62,7 @@ use Rattle.recovery_plans.specs.declared.task.Way.TheVariants as way
 use Rattle.recovery_plans.specs.Recoveries.{Recovery, follows_no_more, loses}
 use Rattle.recovery_plans.specs.Stages.{ends, leaver, moved, tail_of, is_look, reads_last}
 use Rattle.recovery_plans.specs.Deciding as deciding
-use Rattle.recovery_plans.specs.Deciding.{Lot, logs_at, drained_of, may_lead, stopped_in, chosen_of, lot_by_group, own_end_of, lot_of, stay_of, losses_in, without_stopped, unfit, way_by_set, way_below}
+use Rattle.recovery_plans.specs.Deciding.{Lot, logs_at, drained_of, may_lead, stopped_in, chosen_of, lot_by_group, own_end_of, lot_of, stay_of, losses_in, without_stopped, unfit, way_by_set, way_below, stay_of}
 use Rattle.recovery_plans.specs.Taking as taking
 use Rattle.recovery_plans.specs.Taking.{Fate, spot_seen, is_below, marked, entered, stepped, fate_of_drain, fate_of_trail, lost_on_way, fate_of_errant, fate_of_move, fate, met, taken, exec_by, spot_by, place_on}
 use Rattle.recovery_plans.specs.Moves as by
@@ -73,12 +73,12 @@ use Rattle.recovery_laws.specs.Rings.{HeldRings}
 use Rattle.recovery_ends.specs.Shapes.{Fits}
 use Rattle.recovery_laws.proofs.Deciding.{decides-held}
 use Rattle.recovery_ends.proofs.Fitting.{went-of}
-use Rattle.recovery_ends.proofs.Shapes.{WentOn, same-head, fits-step, moved-fits}
+use Rattle.recovery_ends.proofs.Shapes.{same-head, fits-step, moved-fits}
 use Rattle.recovery_reasons.specs.Causes.{IsTrueOf, IsUnreached}
 use Rattle.recovery_reasons.specs.Reasons.{BelowSuccessor, AllLost, speaks_of, lead_of, Speaks, ExplainsTruly, WaitsFor, IsAsked, AimsAt, IsDue, IsTrailing, Reason, IsRefusedOn, Beside, Without, Below, Unreached, Running, Interfered, Errant, Purged, Strayed, Halted, Late}
 use Rattle.recovery_reasons.proofs.Causing.{StopsTruly, deed-true}
 use Rattle.recovery_reasons.proofs.Coordinates.{before-other}
-use Rattle.recovery_reasons.proofs.Speaking.{decides-speaks, entered-core, due-speaks, stepped-speaks, due-waits, due-asked, due-looks, due-goes, move-refused, moved-leads}
+use Rattle.recovery_reasons.proofs.Speaking.{decides-speaks, due-speaks, stepped-speaks, due-waits, due-asked, due-looks, due-goes, move-refused, moved-leads}
 
 -- ---- readings of this turn
 
@@ -371,7 +371,7 @@ module _ (w : World) (b : BookState) (now : Moment) (r : Recovery) (P : ServerNo
   losses-explained lot (s ∷ ss) each =
       go (lot s) (All-head (λ (x : Stopped). IsExplained x (lot x)) s ss each) (losses-explained lot ss (All-tail (λ (x : Stopped). IsExplained x (lot x)) s ss each))
     where
-      go : (x : Lot) → IsExplained s x → All Each (losses_in lot ss) → All Each (loss_of s x ++ losses_in lot ss)
+      go : (x : Lot) → IsExplained s x → All Each (losses_in lot ss) → All Each (stay_of s x ++ losses_in lot ss)
       go (deciding.Goes by) h rest = rest
       go (deciding.Stays y) h rest = All-cons Each (record { no = s.no; why = y; detached = false }) (losses_in lot ss) h rest
 
@@ -526,8 +526,8 @@ module _ (w : World) (b : BookState) (now : Moment) (r : Recovery) (P : ServerNo
           go (inr t) =
               subst (λ (a : Bool). Behind (cond a (entered later (moved x.stage)) later)) (sym (moved-fits x.stage o rest t).0)
               (entered-behind (moved x.stage) (moved-leads x.stage) (λ n h. moved-reads x.stage o rest n t h) (λ n h.
-                let same = moved-reader x.stage o rest n t h in
-                subst (λ (a : Attempt). ReadsNow w n a) e (subst (λ (y : Op). ReadsNow w n (by_deed w read now x.core rest (deed_of y))) (sym same) (read-now w read now x.core rest n))))
+              let same = moved-reader x.stage o rest n t h in
+              subst (λ (a : Attempt). ReadsNow w n a) e (subst (λ (y : Op). ReadsNow w n (by_deed w read now x.core rest (deed_of y))) (sym same) (read-now w read now x.core rest n))))
 
     -- it goes where the designated one stopped
     trailing : (n : ServerNo) (y : Bridge) → speaks_of x.stage ≡ Some n → lead_of x.stage ≡ Some y → IsTrailing x n y

@@ -4,7 +4,7 @@ use Rattle.operations.specs.declared.sight.Position.{Position}
 use Rattle.operations.specs.declared.sight.Sight.{Sight}
 use Rattle.std.proofs.Common.{◌≡◌, ℕ, Bool, true, false, cond, List, [], ◌∷◌, refl, sym, ◌∙◌, ap, subst, Option, Some, None, option_map, ◌⊎◌, inl, inr, Ok, Err, Result}
 use Rattle.std.specs.List.{All}
-use Rattle.std.proofs.lemmas.Bool.{eq-eqb}
+use Rattle.std.proofs.lemmas.Bool.{eq-eqb, false≢true}
 use Rattle.std.proofs.lemmas.Option.{same_Some}
 use Rattle.std.proofs.lemmas.List.Elements.{All-nil, All-cons, All-head, All-tail}
 use Rattle.orch_base.specs.declared.server.Moment.{Moment}

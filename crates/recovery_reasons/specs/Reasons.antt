@@ -14,7 +14,6 @@ use Rattle.server_words.specs.declared.status.Status.{Status}
 use Rattle.server_model.specs.Gtids.{status}
 use Rattle.server_model.specs.Run.{Attach, AttachAuto}
 use Rattle.server_model.specs.Worlds.{World, server_at}
-use Rattle.commands.specs.declared.cause.Cause.TheVariants as cause
 use Rattle.commands.specs.declared.line.Lost.{Lost}
 use Rattle.commands.specs.declared.line.Lost.TheVariants as lost
 use Rattle.instance_keeper.specs.declared.bridge.Bridge.{Bridge}
@@ -44,7 +43,7 @@ use Rattle.recovery_plans.specs.Named.{spoken_to}
 use Rattle.recovery_plans.specs.Recoveries.{Recovery, sight_of}
 use Rattle.recovery_plans.specs.Table.{info}
 use Rattle.recovery_plans.specs.Taking.{is_below, place_on, spot_by, spot_seen}
-use Rattle.recovery_reasons.specs.Causes.{IsRunning, IsTrueOf, IsUnreached}
+use Rattle.recovery_reasons.specs.Causes.{IsRunning, IsUnreached}
 
 -- where one is chosen: a drained one that executed more than the chosen one; or that executed less, where the book
 -- keeps no bridge of the chosen one below the failed server at that coordinate
