@@ -75,62 +75,11 @@ use Rattle.recovery_laws.proofs.Deciding.{decides-held}
 use Rattle.recovery_ends.proofs.Fitting.{went-of}
 use Rattle.recovery_ends.proofs.Shapes.{same-head, fits-step, moved-fits}
 use Rattle.recovery_reasons.specs.Causes.{IsTrueOf, IsUnreached}
-use Rattle.recovery_reasons.specs.Reasons.{BelowSuccessor, AllLost, speaks_of, lead_of, Speaks, ExplainsTruly, WaitsFor, IsAsked, AimsAt, IsDue, IsTrailing, Reason, IsRefusedOn, Beside, Without, Below, Unreached, Running, Interfered, Errant, Purged, Strayed, Halted, Late}
+use Rattle.recovery_reasons.specs.Reasons.{BelowSuccessor, AllLost, speaks_of, lead_of, Speaks, ExplainsTruly, WaitsFor, IsAsked, AimsAt, IsDue, IsTrailing, Reason, IsRefusedOn, Beside, Without, Below, Unreached, Running, Interfered, Errant, Purged, Strayed, Halted, Late, Fact, IsLost, Loses}
 use Rattle.recovery_reasons.proofs.Causing.{StopsTruly, deed-true}
 use Rattle.recovery_reasons.proofs.Coordinates.{before-other}
+use Rattle.recovery_reasons.proofs.Readings.{Reading, ShowsNow, fits-of, reader_of, stepped-reading}
 use Rattle.recovery_reasons.proofs.Speaking.{decides-speaks, due-speaks, stepped-speaks, due-waits, due-asked, due-looks, due-goes, move-refused, moved-leads}
-
--- ---- readings of this turn
-
--- the replica whose reading a stage has just made
-abbrev reader_of : Stage → Option ServerNo
-reader_of (stage.Judged n) = Some n
-reader_of (stage.Looked n b) = Some n
-reader_of (stage.Halted n b) = Some n
-reader_of s = None
-
--- only a reading leads there
-moved-reader : (s : Stage) (o : Op) (rest : List Op) (n : ServerNo) → o ∷ rest ≡ tail_of s → reader_of (moved s) ≡ Some n → o ≡ op.Status n None
-moved-reader (stage.Drain m) o rest n e h = same-head o (op.Status m None) rest [] e ∙ ap (λ (x : ServerNo). op.Status x None) (same_Some m n h)
-moved-reader (stage.Look m b) o rest n e h = same-head o (op.Status m None) rest [] e ∙ ap (λ (x : ServerNo). op.Status x None) (same_Some m n h)
-moved-reader (stage.Trail m b) o rest n e h = same-head o (op.Status m None) rest [] e ∙ ap (λ (x : ServerNo). op.Status x None) (same_Some m n h)
-moved-reader (stage.Judged m) o rest n e h = cc
-moved-reader (stage.Looked m b) o rest n e h = cc
-moved-reader (stage.Halted m b) o rest n e h = cc
-moved-reader s o rest n e h = cc
-
--- the reading of the replica that its operations speak with
-moved-reads : (s : Stage) (o : Op) (rest : List Op) (n : ServerNo) → o ∷ rest ≡ tail_of s → reader_of (moved s) ≡ Some n → (speaks_of s ≡ Some n) × (reads_last s ≡ true)
-moved-reads (stage.Drain m) o rest n e h = (h, refl)
-moved-reads (stage.Look m b) o rest n e h = (h, refl)
-moved-reads (stage.Trail m b) o rest n e h = (h, refl)
-moved-reads (stage.Judged m) o rest n e h = cc
-moved-reads (stage.Looked m b) o rest n e h = cc
-moved-reads (stage.Halted m b) o rest n e h = cc
-moved-reads s o rest n e h = cc
-
--- with an operation left a stage's reading is still to come
-unread : (s : Stage) (o : Op) (rest : List Op) (n : ServerNo) → Fits s (o ∷ rest) → reader_of s ≡ Some n → ⊥
-unread (stage.Judged m) o rest n f h = let e : o ∷ rest ≡ [] = f.is ∙ ap (λ xs. xs ++ []) (f.due refl) in cc
-unread (stage.Looked m b) o rest n f h = let e : o ∷ rest ≡ [] = f.is ∙ ap (λ xs. xs ++ []) (f.due refl) in cc
-unread (stage.Halted m b) o rest n f h = let e : o ∷ rest ≡ [] = f.is ∙ ap (λ xs. xs ++ []) (f.due refl) in cc
-unread s o rest n f h = cc
-
--- what a status of this turn showed
-abbrev ShowsNow : World → List Sight → ServerNo → Type 0
-ShowsNow w seen n = (s : Status) × (seen_in (status w n.0) ≡ Some s) × (seen_of seen n.0 ≡ Some (position_of s))
-
-abbrev ReadsNow : World → ServerNo → Attempt → Type 0
-ReadsNow w n (attempt.Goes o es k) = ShowsNow w k.seen n
-ReadsNow w n (attempt.Stops c o) = Unit {0}
-ReadsNow w n (attempt.Ends lines) = Unit {0}
-
-read-now : (w : World) (read : ℕ) (now : Moment) (j : Job) (rest : List Op) (n : ServerNo) → ReadsNow w n (by_deed w read now j rest (deed_of (op.Status n None)))
-read-now w read now j rest n = go (seen_in (status w n.0)) refl
-  where
-    go : (x : Option Status) → seen_in (status w n.0) ≡ x → ReadsNow w n (after_look j rest n None (observed w read now n) x)
-    go None e = tt
-    go (Some s) e = (s, e, seen-at j.seen n (position_of s) n.0 ∙ ap (λ b. cond b (Some (position_of s)) (seen_of j.seen n.0)) (eq-eqb n.0 n.0 refl))
 
 -- ---- waits that are spent
 
@@ -355,58 +304,58 @@ module _ (w : World) (b : BookState) (now : Moment) where
       go true e f' = inr (e, by-set (is_some (seen_of seen n.0) && logs_at w n) f')
       go false e f' = inl (e, by-log (latest_that (has_own n s.exec) (ring_at b.rings f)) f')
 
-module _ (w : World) (b : BookState) (now : Moment) (r : Recovery) (P : ServerNo → Lost → Bool) (why : ExplainsTruly w b now r P) where
+module _ (w : World) (b : BookState) (now : Moment) (r : Recovery) (P : Fact → Bool) (why : ExplainsTruly w b now r P) where
   abbrev Each : LostReplica → Type 0
-  Each l = P l.no l.why ≡ true
+  Each l = P (IsLost l.no l.why) ≡ true
 
   abbrev Good : Recovery → Type 0
   Good x = AllLost P x.outcome.lost
 
-  abbrev IsExplained : Stopped → Lot → Type 0
-  IsExplained s (deciding.Goes by) = Unit {0}
-  IsExplained s (deciding.Stays y) = P s.no y ≡ true
+  abbrev MayStay : Stopped → Lot → Type 0
+  MayStay s (deciding.Goes by) = Unit {0}
+  MayStay s (deciding.Stays y) = P (IsLost s.no y) ≡ true
 
-  losses-explained : (lot : Stopped → Lot) (ss : List Stopped) → All (λ s. IsExplained s (lot s)) ss → All Each (losses_in lot ss)
+  losses-explained : (lot : Stopped → Lot) (ss : List Stopped) → All (λ s. MayStay s (lot s)) ss → All Each (losses_in lot ss)
   losses-explained lot [] each = All-nil Each
   losses-explained lot (s ∷ ss) each =
-      go (lot s) (All-head (λ (x : Stopped). IsExplained x (lot x)) s ss each) (losses-explained lot ss (All-tail (λ (x : Stopped). IsExplained x (lot x)) s ss each))
+      go (lot s) (All-head (λ (x : Stopped). MayStay x (lot x)) s ss each) (losses-explained lot ss (All-tail (λ (x : Stopped). MayStay x (lot x)) s ss each))
     where
-      go : (x : Lot) → IsExplained s x → All Each (losses_in lot ss) → All Each (stay_of s x ++ losses_in lot ss)
+      go : (x : Lot) → MayStay s x → All Each (losses_in lot ss) → All Each (stay_of s x ++ losses_in lot ss)
       go (deciding.Goes by) h rest = rest
       go (deciding.Stays y) h rest = All-cons Each (record { no = s.no; why = y; detached = false }) (losses_in lot ss) h rest
 
   -- one decision more
   module _ (x : Recovery) (so : Decisions w b now r x) where
-    because : (n : ServerNo) (y : Lost) → Reason w b now x n y → P n y ≡ true
-    because n y h = why x n y so h
+    because : (n : ServerNo) (y : Lost) → Reason w b now x n y → P (IsLost n y) ≡ true
+    because n y h = why x (IsLost n y) so (Loses h)
 
-    lot-explained : (p s : Stopped) → IsDue task.Choosing x → chosen_of w b now x.failed x.drained ≡ Some p → Contains x.drained s → IsExplained s (lot_of w b x.failed p s)
+    lot-explained : (p s : Stopped) → IsDue task.Choosing x → chosen_of w b now x.failed x.drained ≡ Some p → Contains x.drained s → MayStay s (lot_of w b x.failed p s)
     lot-explained p s due is there = go w.gtid
       where
         kept : same_coord s.exec p.exec ≡ false → is_before p.exec s.exec ≡ false → (o : Option Bridge) → latest_that (has_exec x.failed s.exec) (ring_at b.rings p.no) ≡ o
-            → IsExplained s (lot_by_group p.no x.failed s (by_bridge o))
+            → MayStay s (lot_by_group p.no x.failed s (by_bridge o))
         kept other later None e = because s.no (lost.Behind s.exec) (Beside p s due is there (refl, before-other s.exec p.exec later other, e))
         kept other later (Some y) e = tt
 
         later : same_coord s.exec p.exec ≡ false → (a : Bool) → is_before p.exec s.exec ≡ a
-            → IsExplained s (lot_by_group p.no x.failed s (cond a group.Ahead (by_bridge (latest_that (has_exec x.failed s.exec) (ring_at b.rings p.no)))))
+            → MayStay s (lot_by_group p.no x.failed s (cond a group.Ahead (by_bridge (latest_that (has_exec x.failed s.exec) (ring_at b.rings p.no)))))
         later other true e = because s.no (lost.Ahead s.exec) (Beside p s due is there (refl, e))
         later other false e = kept other e (latest_that (has_exec x.failed s.exec) (ring_at b.rings p.no)) refl
 
         level : (a : Bool) → same_coord s.exec p.exec ≡ a
-            → IsExplained s (lot_by_group p.no x.failed s (cond a (group.Follow (own_end_of p)) (cond (is_before p.exec s.exec) group.Ahead (by_bridge (latest_that (has_exec x.failed s.exec) (ring_at b.rings p.no))))))
+            → MayStay s (lot_by_group p.no x.failed s (cond a (group.Follow (own_end_of p)) (cond (is_before p.exec s.exec) group.Ahead (by_bridge (latest_that (has_exec x.failed s.exec) (ring_at b.rings p.no))))))
         level true e = tt
         level false e = later e (is_before p.exec s.exec) refl
 
-        go : (g : Bool) → IsExplained s (cond g (deciding.Goes (way.Auto p.no s.exec)) (lot_by_group p.no x.failed s (group_of b.rings p.no (own_end_of p) p.exec x.failed s.exec)))
+        go : (g : Bool) → MayStay s (cond g (deciding.Goes (way.Auto p.no s.exec)) (lot_by_group p.no x.failed s (group_of b.rings p.no (own_end_of p) p.exec x.failed s.exec)))
         go true = tt
         go false = level (same_coord s.exec p.exec) refl
 
     lots-explained : (p : Stopped) (ss : List Stopped) → IsDue task.Choosing x → chosen_of w b now x.failed x.drained ≡ Some p → All (Contains x.drained) ss
-        → All (λ s. IsExplained s (lot_of w b x.failed p s)) ss
-    lots-explained p [] due is there = All-nil (λ (s : Stopped). IsExplained s (lot_of w b x.failed p s))
+        → All (λ s. MayStay s (lot_of w b x.failed p s)) ss
+    lots-explained p [] due is there = All-nil (λ (s : Stopped). MayStay s (lot_of w b x.failed p s))
     lots-explained p (s ∷ ss) due is there =
-        All-cons (λ (y : Stopped). IsExplained y (lot_of w b x.failed p y)) s ss (lot-explained p s due is (All-head (Contains x.drained) s ss there))
+        All-cons (λ (y : Stopped). MayStay y (lot_of w b x.failed p y)) s ss (lot-explained p s due is (All-head (Contains x.drained) s ss there))
         (lots-explained p ss due is (All-tail (Contains x.drained) s ss there))
 
     unfit-explained : (ss : List Stopped) → IsDue task.Choosing x → chosen_of w b now x.failed x.drained ≡ None → All (Contains x.drained) ss
@@ -423,7 +372,7 @@ module _ (w : World) (b : BookState) (now : Moment) (r : Recovery) (P : ServerNo
         mine : Contains x.drained s
         mine = All-head (Contains x.drained) s ss there
 
-        go : (a : Bool) → logs_at w s.no ≡ a → (a && not (is_barred (rule_at b s.no now))) ≡ false → P s.no (cond a lost.MustNot lost.NotLogging) ≡ true
+        go : (a : Bool) → logs_at w s.no ≡ a → (a && not (is_barred (rule_at b s.no now))) ≡ false → P (IsLost s.no (cond a lost.MustNot lost.NotLogging)) ≡ true
         go true e h = because s.no lost.MustNot (Without s due is mine (e, barred (is_barred (rule_at b s.no now)) h))
         go false e h = because s.no lost.NotLogging (Without s due is mine e)
 
@@ -450,85 +399,38 @@ module _ (w : World) (b : BookState) (now : Moment) (r : Recovery) (P : ServerNo
       go true = All-head Each l ls all
       go false = All-head Each l ls all
 
-  -- the recovery once its operation is done, from what was decided on; the replica of the stage's reading was read in
-  -- this turn
-  record Behind (z : Recovery) : Type 0 where
-    first : Recovery
-    so : Decisions w b now r first
-    failed : z.failed ≡ first.failed
-    lead : z.lead ≡ first.lead
-    led : lead_of z.stage ≡ lead_of first.stage
-    told : (n : ServerNo) → reader_of z.stage ≡ Some n → speaks_of first.stage ≡ Some n
-    reads : (n : ServerNo) → reader_of z.stage ≡ Some n → reads_last first.stage ≡ true
-    shows : (n : ServerNo) → reader_of z.stage ≡ Some n → ShowsNow w z.core.seen n
-    fine : Good z
-
-  strayed : (z : Recovery) (n : ServerNo) (y : Lost) → Behind z → reader_of z.stage ≡ Some n → by.stray z.failed (seen_of z.core.seen n.0) ≡ Some y → P n y ≡ true
+  strayed : (z : Recovery) (n : ServerNo) (y : Lost) → Reading w b now r z → reader_of z.stage ≡ Some n → by.stray z.failed (seen_of z.core.seen n.0) ≡ Some y → P (IsLost n y) ≡ true
   strayed z n y h on lost-so = let s = h.shows n on in go s.0 s.1 (is_below (position_of s.0) z.failed) refl (ap (by.stray z.failed) (sym s.2) ∙ lost-so)
     where
-      go : (s : Status) → seen_in (status w n.0) ≡ Some s → (a : Bool) → is_below (position_of s) z.failed ≡ a → cond a None (Some (lost.Moved (spot_seen s.source s.exec))) ≡ Some y → P n y ≡ true
+      go : (s : Status) → seen_in (status w n.0) ≡ Some s → (a : Bool) → is_below (position_of s) z.failed ≡ a → cond a None (Some (lost.Moved (spot_seen s.source s.exec))) ≡ Some y → P (IsLost n y) ≡ true
       go s is true e f = cc
       go s is false e f =
-          subst (λ (q : Lost). P n q ≡ true) (same_Some (lost.Moved (spot_seen s.source s.exec)) y f)
+          subst (λ (q : Lost). P (IsLost n q) ≡ true) (same_Some (lost.Moved (spot_seen s.source s.exec)) y f)
           (because h.first h.so n (lost.Moved (spot_seen s.source s.exec)) (Strayed s (h.told n on) (h.reads n on) is (ap (is_below (position_of s)) (sym h.failed) ∙ e)))
 
-  halts : (z : Recovery) (n : ServerNo) (x : Bridge) (y : Lost) → Behind z → reader_of z.stage ≡ Some n → lead_of z.stage ≡ Some x → z.lead ≡ Some x → by.late x (seen_of z.core.seen n.0) ≡ Some y → P n y ≡ true
+  halts : (z : Recovery) (n : ServerNo) (x : Bridge) (y : Lost) → Reading w b now r z → reader_of z.stage ≡ Some n → lead_of z.stage ≡ Some x → z.lead ≡ Some x → by.late x (seen_of z.core.seen n.0) ≡ Some y → P (IsLost n y) ≡ true
   halts z n x y h on led lead late-so = let s = h.shows n on in go s.0 s.1 (same_coord s.0.exec x.exec) refl (ap (by.late x) (sym s.2) ∙ late-so)
     where
-      go : (s : Status) → seen_in (status w n.0) ≡ Some s → (a : Bool) → same_coord s.exec x.exec ≡ a → cond a None (Some (lost.Behind s.exec)) ≡ Some y → P n y ≡ true
+      go : (s : Status) → seen_in (status w n.0) ≡ Some s → (a : Bool) → same_coord s.exec x.exec ≡ a → cond a None (Some (lost.Behind s.exec)) ≡ Some y → P (IsLost n y) ≡ true
       go s is true e f = cc
       go s is false e f =
-          subst (λ (q : Lost). P n q ≡ true) (same_Some (lost.Behind s.exec) y f)
+          subst (λ (q : Lost). P (IsLost n q) ≡ true) (same_Some (lost.Behind s.exec) y f)
           (because h.first h.so n (lost.Behind s.exec)
           (Halted x s (record { speaks = h.told n on; leads = sym h.led ∙ led; lead = sym h.lead ∙ lead }) (h.reads n on) is e))
 
-  completes-good : (z : Recovery) (e : Ending) → MayEnd z e → Speaks z → Behind z → Good (ended_by z e)
-  completes-good z (by.Loses n y) may speaks h = All-push Each z.outcome.lost _ h.fine (strayed z n y h (read-at may.0) may.1)
+  completes-good : (z : Recovery) (e : Ending) → MayEnd z e → Speaks z → Reading w b now r z → Good z → Good (ended_by z e)
+  completes-good z (by.Loses n y) may speaks h good = All-push Each z.outcome.lost _ good (strayed z n y h (read-at may.0) may.1)
     where
       read-at : WasRead z.stage n → reader_of z.stage ≡ Some n
       read-at (inl is) = ap reader_of is
       read-at (inr (x, is)) = ap reader_of is
-  completes-good z (by.Frees n y) may speaks h =
-      All-push Each z.outcome.lost _ h.fine
+  completes-good z (by.Frees n y) may speaks h good =
+      All-push Each z.outcome.lost _ good
       (halts z n may.0 y h (ap reader_of may.1) (ap lead_of may.1) (speaks.lead may.0 (ap lead_of may.1)) may.2)
-  completes-good z (by.Marks n) may speaks h = marked-good n z.outcome.lost h.fine
-  completes-good z e may speaks h = h.fine
+  completes-good z (by.Marks n) may speaks h good = marked-good n z.outcome.lost good
+  completes-good z e may speaks h good = good
 
   module _ (read : ℕ) (x : Recovery) (so : Decisions w b now r x) (o : Op) (rest : List Op) (fits : Fits x.stage (o ∷ rest)) (speaks : Speaks x) (is : x.core.ops ≡ o ∷ rest) (good : Good x) where
-    module _ (ob : Option Observation) (es : List Exchange) (k : Job) (e : by_deed w read now x.core rest (deed_of o) ≡ attempt.Goes ob es k) where
-      abbrev later : Recovery
-      later = record x { core = k }
-
-      entered-behind : (s : Stage) → lead_of s ≡ lead_of x.stage → ((n : ServerNo) → reader_of s ≡ Some n → (speaks_of x.stage ≡ Some n) × (reads_last x.stage ≡ true)) → ((n : ServerNo) → reader_of s ≡ Some n → ShowsNow w k.seen n) → Behind (entered later s)
-      entered-behind s led reads shows = go (leaver s)
-        where
-          go : (q : Option ServerNo) → Behind (record (follows_no_more later q) { stage = s })
-          go None = record { first = x; so = so; failed = refl; lead = refl; led = led; told = λ n h. (reads n h).0; reads = λ n h. (reads n h).1; shows = shows; fine = good }
-          go (Some m) = record { first = x; so = so; failed = refl; lead = refl; led = led; told = λ n h. (reads n h).0; reads = λ n h. (reads n h).1; shows = shows; fine = good }
-
-      stepped-behind : Behind (stepped later o)
-      stepped-behind = go (fits-step x.stage o rest fits)
-        where
-          go : ((ends x.stage (deed_of o) ≡ false) × Fits x.stage rest) ⊎ (o ∷ rest ≡ tail_of x.stage) → Behind (stepped later o)
-          go (inl p) =
-              subst (λ (a : Bool). Behind (cond a (entered later (moved x.stage)) later)) (sym p.0)
-              (record {
-                first = x;
-                so = so;
-                failed = refl;
-                lead = refl;
-                led = refl;
-                told = λ n h. absurd (unread x.stage o rest n fits h);
-                reads = λ n h. absurd (unread x.stage o rest n fits h);
-                shows = λ n h. absurd (unread x.stage o rest n fits h);
-                fine = good;
-              })
-          go (inr t) =
-              subst (λ (a : Bool). Behind (cond a (entered later (moved x.stage)) later)) (sym (moved-fits x.stage o rest t).0)
-              (entered-behind (moved x.stage) (moved-leads x.stage) (λ n h. moved-reads x.stage o rest n t h) (λ n h.
-              let same = moved-reader x.stage o rest n t h in
-              subst (λ (a : Attempt). ReadsNow w n a) e (subst (λ (y : Op). ReadsNow w n (by_deed w read now x.core rest (deed_of y))) (sym same) (read-now w read now x.core rest n))))
-
     -- it goes where the designated one stopped
     trailing : (n : ServerNo) (y : Bridge) → speaks_of x.stage ≡ Some n → lead_of x.stage ≡ Some y → IsTrailing x n y
     trailing n y on led = record { speaks = on; leads = led; lead = speaks.lead y led }
@@ -612,8 +514,16 @@ module _ (w : World) (b : BookState) (now : Moment) (r : Recovery) (P : ServerNo
           look-met n (ap speaks_of at) c (truth n (ap speaks_of at)) (subst (λ (a : Attempt). StopsUnspent a) e (look-unspent w read now x.core rest (deed_of o) (due-looks w read now x o rest fits speaks is n z at)))
       stage-met s at = good
 
-  fits-of : (x : Recovery) (o : Op) (rest : List Op) → x.core.ops ≡ o ∷ rest → HeldRecovery w x → Fits x.stage (o ∷ rest)
-  fits-of x o rest is held = subst (λ (xs : List Op). Fits x.stage xs) is held.fits
+  stepped-good : (x : Recovery) (o : Op) → Good x → Good (stepped x o)
+  stepped-good x o good = by-end (ends x.stage (deed_of o))
+    where
+      left : (q : Option ServerNo) → Good (record (follows_no_more x q) { stage = moved x.stage })
+      left None = good
+      left (Some m) = good
+
+      by-end : (a : Bool) → Good (cond a (entered x (moved x.stage)) x)
+      by-end true = left (leaver (moved x.stage))
+      by-end false = good
 
   borne-good : (x : Recovery) (c : Cause) (ob : Option Observation) (f : Fate) → Good (met w x c ob f).recovery → Good (borne x f)
   borne-good x c ob taking.Fails h = h
@@ -622,7 +532,7 @@ module _ (w : World) (b : BookState) (now : Moment) (r : Recovery) (P : ServerNo
   abbrev Before : Recovery → Type 0
   Before x = HeldRecovery w x × Speaks x × (Decisions w b now r x × Good x)
 
-  keeps-good : (read : ℕ) → HeldRings w b.rings → Keeps w b read now Before (λ v x. Speaks x × Behind x) (λ v x. Good x)
+  keeps-good : (read : ℕ) → HeldRings w b.rings → Keeps w b read now Before (λ v x. Speaks x × (Reading w b now r x × Good x)) (λ v x. Good x)
   keeps-good read rings = record {
     decides = λ x d may h. (
       decides-held w b now rings x d may h.0,
@@ -631,20 +541,20 @@ module _ (w : World) (b : BookState) (now : Moment) (r : Recovery) (P : ServerNo
     );
     waits = λ x o rest ob es j did e h. h.2.1;
     acts = λ x o rest ob es j did e h.
-        let fits = fits-of x o rest did.ops h.0 in
+        let fits = fits-of w x o rest did.ops h.0 in
         let on = went-of w read now x o rest ob es j did in (
           stepped-speaks w read now x o rest fits h.1 did.ops ob es j did.goes on e,
-          stepped-behind read x h.2.0 o rest fits h.1 did.ops h.2.1 ob es j did.goes,
+          (stepped-reading w b now r read x h.2.0 o rest fits ob es j did.goes, stepped-good (record x { core = j }) o h.2.1),
         );
-    continues = λ v x y ys is whole. whole.1.fine;
-    completes = λ v x e none may whole. completes-good x e may whole.0 whole.1;
+    continues = λ v x y ys is whole. whole.1.1;
+    completes = λ v x e none may whole. completes-good x e may whole.0 whole.1.0 whole.1.1;
     bears = λ x o rest c ob e stops is may h.
         borne-good x c ob (fate_of e)
-        (subst (λ (f : Fate). Good (met w x c ob f).recovery) is (stage-met read x h.2.0 o rest (fits-of x o rest stops.ops h.0) h.1 stops.ops h.2.1 c ob stops.stops x.stage refl));
+        (subst (λ (f : Fate). Good (met w x c ob f).recovery) is (stage-met read x h.2.0 o rest (fits-of w x o rest stops.ops h.0) h.1 stops.ops h.2.1 c ob stops.stops x.stage refl));
   }
 
-pub taken-explained : (w : World) (b : BookState) (read : ℕ) (now : Moment) (r : Recovery) (P : ServerNo → Lost → Bool) → HeldRings w b.rings → HeldRecovery w r → Speaks r → ExplainsTruly w b now r P
+pub taken-lost : (w : World) (b : BookState) (read : ℕ) (now : Moment) (r : Recovery) (P : Fact → Bool) → HeldRings w b.rings → HeldRecovery w r → Speaks r → ExplainsTruly w b now r P
     → AllLost P r.outcome.lost → AllLost P (taken w b read now r).recovery.outcome.lost
-taken-explained w b read now r P rings held speaks why all =
-    kept-whole w b read now (Before w b now r P why) (λ v x. Speaks x × Behind w b now r P why x) (λ v x. AllLost P x.outcome.lost) (keeps-good w b now r P why read rings)
+taken-lost w b read now r P rings held speaks why all =
+    kept-whole w b read now (Before w b now r P why) (λ v x. Speaks x × (Reading w b now r x × AllLost P x.outcome.lost)) (λ v x. AllLost P x.outcome.lost) (keeps-good w b now r P why read rings)
     (record { fails = λ x c ob f h. h.2.1; finishes = λ x o rest lines is e h. h.2.1 }) r (held, speaks, (by.Still, all))

@@ -1,5 +1,5 @@
 -- Why a replica is lost.
-use Rattle.std.specs.Prelude.{◌≡◌, ℕ, Bool, true, false, ◌&&◌, List, [], ◌∷◌, Option, Some, None, Err, All, is_some, option_map, ◌⊎◌}
+use Rattle.std.specs.Prelude.{◌≡◌, ℕ, Bool, true, false, ◌&&◌, List, [], ◌∷◌, Option, Some, None, Err, All, is_some, option_map, ◌⊎◌, filter, map}
 use Rattle.binlog_coords.specs.declared.Coord.{Coord}
 use Rattle.binlog_coords.specs.Log.{is_at_or_before, is_before, same_coord}
 use Rattle.gtid_sets.specs.declared.interval.Interval.{Interval}
@@ -30,6 +30,8 @@ use Rattle.operations.specs.Turns.{attach_answer_of}
 use Rattle.promotion_rules.specs.Choice.{is_barred}
 use Rattle.recovery_plans.specs.declared.outcome.LostReplica.{LostReplica}
 use Rattle.recovery_plans.specs.declared.outcome.Stopped.{Stopped}
+use Rattle.recovery_plans.specs.declared.purpose.Purpose.{Purpose}
+use Rattle.recovery_plans.specs.declared.purpose.Purpose.TheVariants as purpose
 use Rattle.recovery_plans.specs.declared.stage.Stage.{Stage}
 use Rattle.recovery_plans.specs.declared.stage.Stage.TheVariants as stage
 use Rattle.recovery_plans.specs.declared.task.Task.{Task}
@@ -37,8 +39,8 @@ use Rattle.recovery_plans.specs.declared.task.Task.TheVariants as task
 use Rattle.recovery_plans.specs.declared.task.Way.{Way}
 use Rattle.recovery_plans.specs.declared.task.Way.TheVariants as way
 use Rattle.recovery_plans.specs.Stages.{is_look, move, reads_last}
-use Rattle.recovery_plans.specs.Deciding.{logs_at, chosen_of}
-use Rattle.recovery_plans.specs.Moves.{Decisions, IsNext}
+use Rattle.recovery_plans.specs.Deciding.{logs_at, chosen_of, better_of, may_lead}
+use Rattle.recovery_plans.specs.Moves.{Decisions, IsNext, stopped_at}
 use Rattle.recovery_plans.specs.Named.{spoken_to}
 use Rattle.recovery_plans.specs.Recoveries.{Recovery, sight_of}
 use Rattle.recovery_plans.specs.Table.{info}
@@ -72,9 +74,6 @@ abbrev pub BelowSuccessor : World → BookState → List Sight → ServerNo → 
 BelowSuccessor w b seen f n s =
     ((w.gtid ≡ false) × (latest_that (has_own n s.exec) (ring_at b.rings f) ≡ None))
     ⊎ ((w.gtid ≡ true) × ((is_some (seen_of seen n.0) && logs_at w n) ≡ false))
-
-abbrev pub AllLost : (ServerNo → Lost → Bool) → List LostReplica → Type 0
-AllLost P xs = All (λ l. P l.no l.why ≡ true) xs
 
 -- the replica of which a stage's failing operation makes an entry
 abbrev pub speaks_of : Stage → Option ServerNo
@@ -182,6 +181,58 @@ pub data Reason (w : World) (b : BookState) (now : Moment) (r : Recovery) : Serv
   Late : {n : ServerNo} (x : Bridge) (s : Status) → IsTrailing r n x → seen_in (status w n.0) ≡ Some s
       → (n.0 ≡ x.no.0) ⊎ (is_at_or_before x.exec s.exec ≡ false) → Reason w b now r n (lost.Behind s.exec)
 
--- Each entry that a turn may make for a reason counts: that of one decision or another of the turn, or of its operation.
-abbrev pub ExplainsTruly : World → BookState → Moment → Recovery → (ServerNo → Lost → Bool) → Type 0
-ExplainsTruly w b now r P = (d : Recovery) (n : ServerNo) (why : Lost) → Decisions w b now r d → Reason w b now d n why → P n why ≡ true
+-- What a turn may tell: that a server is lost; that a replica was stopped, and where it stood; that one is chosen among
+-- those that might be; that another is to take its place.
+pub data Fact : Type 0 where
+  IsLost : (n : ServerNo) (why : Lost) → Fact
+  IsDrained : (s : Stopped) → Fact
+  IsChosen : (n : ServerNo) (among : List Stopped) → Fact
+  IsBetter : (p q : ServerNo) → Fact
+
+-- Which of them are true of a turn, of the recovery as it was decided so far.
+pub data IsTrue (w : World) (b : BookState) (now : Moment) (r : Recovery) : Fact → Type 0 where
+  Loses : {n : ServerNo} {why : Lost} → Reason w b now r n why → IsTrue w b now r (IsLost n why)
+  -- the stage's replica was read below the failed server
+  Drains : {n : ServerNo} (s : Status) → speaks_of r.stage ≡ Some n → reads_last r.stage ≡ true → seen_in (status w n.0) ≡ Some s
+      → is_below (position_of s) r.failed ≡ true → IsTrue w b now r (IsDrained (stopped_at n (position_of s)))
+  -- the first of the drained that log and aren't barred, by the book of this turn
+  Chooses : (p : Stopped) → IsDue task.Choosing r → chosen_of w b now r.failed r.drained ≡ Some p
+      → IsTrue w b now r (IsChosen p.no (filter (may_lead w b now) r.drained))
+  -- a follower of a strictly better rule than the chosen one, by the book of this turn
+  Betters : {p q : ServerNo} → r.chosen ≡ Some p → better_of w b now r.failed p (map (λ x. x.no) r.outcome.followers) ≡ Some q
+      → IsTrue w b now r (IsBetter p q)
+
+-- Each fact counts that is true of the turn, of what is decided in it so far or of its operation.
+abbrev pub ExplainsTruly : World → BookState → Moment → Recovery → (Fact → Bool) → Type 0
+ExplainsTruly w b now r P = (d : Recovery) (x : Fact) → Decisions w b now r d → IsTrue w b now d x → P x ≡ true
+
+abbrev pub AllLost : (Fact → Bool) → List LostReplica → Type 0
+AllLost P xs = All (λ l. P (IsLost l.no l.why) ≡ true) xs
+
+abbrev pub AllDrained : (Fact → Bool) → List Stopped → Type 0
+AllDrained P xs = All (λ s. P (IsDrained s) ≡ true) xs
+
+-- recoveries that choose their new source
+abbrev pub chooses : Purpose → Bool
+chooses purpose.Regroup = true
+chooses purpose.Master = true
+chooses (purpose.Intermediate s) = false
+chooses (purpose.Takeover d) = false
+
+-- the second is to take the first one's place
+abbrev pub IsSwapping : Stage → ServerNo → ServerNo → Type 0
+IsSwapping s p q = (s ≡ stage.Level p q) ⊎ ((s ≡ stage.Swap p q) ⊎ (s ≡ stage.Swapped p q))
+
+-- the promoted one was chosen; or one was, and this one is better
+abbrev pub IsPromoted : (Fact → Bool) → List Stopped → ServerNo → Type 0
+IsPromoted P among n = (P (IsChosen n among) ≡ true) ⊎ ((p : ServerNo) × (P (IsChosen p among) ≡ true) × (P (IsBetter p n) ≡ true))
+
+-- What a recovery came to so far has facts that count: those that it has lost, drained and chosen, among whom, and whom
+-- it has promoted.
+pub record IsExplained (P : Fact → Bool) (r : Recovery) : Type 0 where
+  pub lost : AllLost P r.outcome.lost
+  pub drained : AllDrained P r.drained
+  pub among : AllDrained P r.eligible
+  pub chosen : (n : ServerNo) → chooses r.purpose ≡ true → r.chosen ≡ Some n → P (IsChosen n r.eligible) ≡ true
+  pub promoted : (n : ServerNo) → chooses r.purpose ≡ true → r.outcome.promoted ≡ Some n → IsPromoted P r.eligible n
+  pub swaps : (p q : ServerNo) → IsSwapping r.stage p q → (r.core.ops ≡ [] → ⊥) → (P (IsChosen p r.eligible) ≡ true) × (P (IsBetter p q) ≡ true)

@@ -1,8 +1,8 @@
-//! Why recoveries fail, and why replicas are lost.
+//! Why recoveries fail, why replicas are lost, and who is chosen.
 #![tactic(auto)]
 
 mod causes;
 mod losses;
 
 pub use causes::causes_are_true;
-pub use losses::losses_are_true;
+pub use losses::recoveries_tell_the_truth;
