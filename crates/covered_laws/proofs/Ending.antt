@@ -27,8 +27,8 @@ use Rattle.recovery_outcomes.proofs.Placing.{replica-placed}
 use Rattle.recovery_histories.specs.Kept.{IsBeginning, Keeps, KeptByChosen, SameAim}
 use Rattle.recovery_histories.proofs.Keeping.{old-begins, promoted-keeps, taken-kept}
 use Rattle.recovery_histories.proofs.Staying.{taken-aim, then-aim}
-use Rattle.recovery_reasons.specs.Reasons.{AllLost, ExplainsTruly}
-use Rattle.recovery_reasons.proofs.Reasoning.{taken-explained}
+use Rattle.recovery_reasons.specs.Reasons.{ExplainsTruly, Fact, IsExplained}
+use Rattle.recovery_reasons.proofs.Facts.{taken-explained}
 use Rattle.unended_jobs.specs.declared.unended.Unended.{Unended}
 use Rattle.unended_jobs.specs.declared.unended.Unended.TheVariants as unended
 use Rattle.jobs_in_flight.proofs.Numbers.{found-number}
@@ -129,7 +129,7 @@ module _ (f : Flight) (us : List Unended) (t : RecoveryTurn f us) where
     mine : HeldRecovery f.world t.recovery
     mine = (here (IsHeldBeside f.world f.leases) held.jobs).0
 
-    pub turn-explained : (P : ServerNo → Lost → Bool) → SpeakingJobs us → ExplainsTruly f.world t.book t.at_moment t.recovery P → AllLost P t.recovery.outcome.lost → AllLost P (outcome_then f us t).lost
+    pub turn-explained : (P : Fact → Bool) → SpeakingJobs us → ExplainsTruly f.world t.book t.at_moment t.recovery P → IsExplained P t.recovery → IsExplained P (recovery_then f us t)
     turn-explained P speaking explains lost = taken-explained f.world t.book t.at_read t.at_moment t.recovery P rings mine (here IsSpeakingBeside speaking.jobs) explains lost
 
     module _ (covered : CoveredJobs f us) where

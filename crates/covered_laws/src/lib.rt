@@ -11,6 +11,6 @@ mod others;
 pub use aims::aims_stay_in_flight;
 pub use begins::{covered_jobs_begin, recoveries_begin_covered_beside};
 pub use ends::{finished_recoveries_cover, finished_recoveries_keep_histories};
-pub use losses::losses_in_flight_are_true;
+pub use losses::facts_in_flight_are_true;
 pub use numbers::covered_jobs_take_turns;
 pub use others::{covered_jobs_stay, restarts_leave_none_covered};

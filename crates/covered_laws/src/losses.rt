@@ -1,22 +1,20 @@
-//! Why replicas are lost by recoveries in flight.
+//! Why recoveries in flight lose replicas, and whom they choose.
 
 ghost use Rattle.std.specs.Prelude.{Bool, List};
-ghost use Rattle.orch_base.specs.declared.server.ServerNo.{ServerNo as Number};
-ghost use Rattle.commands.specs.declared.line.Lost.{Lost as Why};
 ghost use Rattle.job_laws.specs.Flights.{Flight};
-ghost use Rattle.recovery_reasons.specs.Reasons.{AllLost, ExplainsTruly};
+ghost use Rattle.recovery_reasons.specs.Reasons.{ExplainsTruly, Fact, IsExplained};
 ghost use Rattle.unended_jobs.specs.declared.unended.Unended.{Unended as AnUnended};
 ghost use Rattle.unended_laws.specs.Flights.{HeldJobs};
 ghost use Rattle.covered_laws.specs.Flights.{SpeakingJobs};
-ghost use Rattle.covered_laws.specs.Turns.{RecoveryTurn, outcome_then};
+ghost use Rattle.covered_laws.specs.Turns.{RecoveryTurn, recovery_then};
 
-/// Each entry of the lost was there before the turn, or is true of the world and the book of the turn that makes it:
-/// what holds of those that were there and of each that has a true reason in this turn holds of all afterwards, whether
-/// the recovery goes on, is done or fails.
-pub fn losses_in_flight_are_true()
+/// What a recovery in flight came to was true before the turn, or is true of the world and the book of the turn that
+/// tells it: what holds of what was so and of each fact that is true in this turn holds of all afterwards, whether the
+/// recovery goes on, is done or fails.
+pub fn facts_in_flight_are_true()
     ensures { (f : Flight) (us : List AnUnended) (t : RecoveryTurn f us)
-        (P : Number → Why → Bool) →
+        (P : Fact → Bool) →
         HeldJobs f us → SpeakingJobs us →
         ExplainsTruly f.world t.book t.at_moment t.recovery P →
-        AllLost P t.recovery.outcome.lost → AllLost P (outcome_then f us t).lost }
+        IsExplained P t.recovery → IsExplained P (recovery_then f us t) }
 {}

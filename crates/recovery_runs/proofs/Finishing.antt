@@ -17,7 +17,7 @@ use Rattle.recovery_covers.specs.Covers.{IsTold}
 use Rattle.recovery_histories.specs.Kept.{IsBeginning, Keeps, SameAim}
 use Rattle.recovery_plans.specs.Named.{IsNamedRecovery}
 use Rattle.recovery_plans.specs.Recoveries.{Recovery}
-use Rattle.recovery_reasons.specs.Reasons.{AllLost, ExplainsTruly}
+use Rattle.recovery_reasons.specs.Reasons.{ExplainsTruly, Fact, IsExplained}
 use Rattle.turns.specs.declared.reply.Reply.TheVariants as answered
 use Rattle.turns.specs.declared.turn.Act.TheVariants as act
 use Rattle.turns.specs.declared.turn.Turn.TheVariants as turn
@@ -51,9 +51,9 @@ module _ (s : State) (id : ℕ) (r : Recovery) (entry : Option ℕ) where
     pub aim-at : SameAim r (recovery_after s r)
     aim-at = turn-aim (flight_of s) s.jobs turn_in
 
-    pub losses-true : (P : ServerNo → Lost → Bool) → HeldState s → SpeakingState s → ExplainsTruly s.world s.book (moment_at s) r P → AllLost P r.outcome.lost
-        → AllLost P (recovery_after s r).outcome.lost
-    losses-true P held speaking explains lost = turn-explained (flight_of s) s.jobs turn_in held P speaking explains lost
+    pub facts-true : (P : Fact → Bool) → HeldState s → SpeakingState s → ExplainsTruly s.world s.book (moment_at s) r P → IsExplained P r
+        → IsExplained P (recovery_after s r)
+    facts-true P held speaking explains lost = turn-explained (flight_of s) s.jobs turn_in held P speaking explains lost
 
   module _ (lines : List Line) (is : IsFinish s id r entry lines) where
     pub reply-told : reply_of s (turn.Act (act.Job id)) ≡ answered.Told lines

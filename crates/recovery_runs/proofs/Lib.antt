@@ -4,6 +4,6 @@ pub mod Covering
 pub mod Coming
 pub mod Finishing
 pub mod Entries
-pub mod Losses
+pub mod Facts
 pub mod Origins
 pub mod Tending

@@ -13,7 +13,7 @@ use Rattle.job_laws.proofs.Lists.{All-find}
 use Rattle.jobs_in_flight.specs.Jobs.{job_at}
 use Rattle.jobs_in_flight.proofs.Numbers.{found-number}
 use Rattle.recovery_plans.specs.Recoveries.{Recovery}
-use Rattle.recovery_reasons.specs.Reasons.{AllLost}
+use Rattle.recovery_reasons.specs.Reasons.{Fact, IsExplained}
 use Rattle.server_model.specs.Safe.{IsQuiet}
 use Rattle.replication_laws.proofs.Runs as exchanges
 use Rattle.scenarios.specs.Turns.{IsTurn}
@@ -32,10 +32,10 @@ use Rattle.orch_core.specs.Turns.{exchanges_at}
 use Rattle.run_laws.specs.Flights.{moment_at}
 use Rattle.covered_laws.proofs.Beside.{none-speak}
 use Rattle.recovery_runs.specs.Finishes.{IsFinish, finished_so, recovery_after}
-use Rattle.recovery_runs.specs.Losses.{ExplainedState, ExplainsTurn, HasReasons}
+use Rattle.recovery_runs.specs.Facts.{ExplainedState, ExplainsTurn, HasFacts}
 use Rattle.recovery_runs.proofs.Entries.{audit-ends}
 use Rattle.recovery_runs.proofs.Finishing.{keeps-histories, owes-nothing, reply-told}
-use Rattle.recovery_runs.proofs.Losses.{explained-start, explained-step, last-explained}
+use Rattle.recovery_runs.proofs.Facts.{explained-start, explained-step, last-explained}
 use Rattle.recovery_runs.specs.States.{CoveredState, KeptState, SpeakingState}
 use Rattle.recovery_runs.proofs.Covering.{covered-start, covered-step, kept-start, kept-step, speaking-step}
 use Rattle.run_laws.specs.Runs.{ComesTo}
@@ -94,7 +94,7 @@ module _ (count : ℕ) (from : State) where
       subst (λ (zs : List Step). Tends zs (run_turns engine (step y.0 s y.1) ys)) (append_assoc xs (y ∷ []) ys)
       (tends-run (xs ++ y ∷ []) ys (step y.0 s y.1) (All-tail (IsTurn count) y.1 (turns_of ys) all) (tends-step xs s y (All-head (IsTurn count) y.1 (turns_of ys) all) t))
 
-  module _ (P : ServerNo → Lost → Bool) (id : ℕ) where
+  module _ (P : Fact → Bool) (id : ℕ) where
     -- a turn of such a run
     explains-at : (xs ys : List Step) (x : Step) (s : State) → s ≡ run_turns engine from xs → ExplainsAlong P id from (xs ++ x ∷ ys) → ExplainsTurn P id s x.1
     explains-at xs ys x s here explains =
@@ -130,21 +130,21 @@ module _ (s : Scenario) (xs : List Step) (now : State) (comes : ComesTo s xs now
   pub began-comes : (id : ℕ) (r : Recovery) (entry : Option ℕ) → job_at now.jobs id ≡ Some (unended.Recovery r entry) → Began begun xs r entry
   began-comes id r entry at = All-find (HasOrigin begun xs) (λ (k : Unended). number_of k == id) now.jobs (unended.Recovery r entry) tends-comes.origins at
 
-  explained-comes : (P : ServerNo → Lost → Bool) (id : ℕ) → ExplainsAlong P id begun xs → ExplainedState P id now
+  explained-comes : (P : Fact → Bool) (id : ℕ) → ExplainsAlong P id begun xs → ExplainedState P id now
   explained-comes P id explains =
       subst (ExplainedState P id) (sym comes.state)
       (explained-run (length s.opening.servers) begun P id [] xs begun comes.turns explains opened (explained-start P id s comes.wait comes.rows))
 
   -- each of its lost has a reason that counts
-  pub lost-comes : (P : ServerNo → Lost → Bool) (id : ℕ) (r : Recovery) (entry : Option ℕ) → ExplainsAlong P id begun xs → job_at now.jobs id ≡ Some (unended.Recovery r entry) → AllLost P r.outcome.lost
-  lost-comes P id r entry explains at =
-      All-find (λ (u : Unended). number_of u ≡ id → HasReasons P u) (λ (k : Unended). number_of k == id) now.jobs (unended.Recovery r entry) (explained-comes P id explains) at
+  pub told-comes : (P : Fact → Bool) (id : ℕ) (r : Recovery) (entry : Option ℕ) → ExplainsAlong P id begun xs → job_at now.jobs id ≡ Some (unended.Recovery r entry) → IsExplained P r
+  told-comes P id r entry explains at =
+      All-find (λ (u : Unended). number_of u ≡ id → HasFacts P u) (λ (k : Unended). number_of k == id) now.jobs (unended.Recovery r entry) (explained-comes P id explains) at
       (found-number now.jobs id (unended.Recovery r entry) at)
 
   -- and so has each that its next turn makes
-  pub lost-next : (P : ServerNo → Lost → Bool) (id : ℕ) (r : Recovery) (entry : Option ℕ) → ExplainsAlong P id begun xs → ExplainsTurn P id now (turn.Act (act.Job id)) → job_at now.jobs id ≡ Some (unended.Recovery r entry)
-      → AllLost P (recovery_after now r).outcome.lost
-  lost-next P id r entry explains here at =
+  pub told-next : (P : Fact → Bool) (id : ℕ) (r : Recovery) (entry : Option ℕ) → ExplainsAlong P id begun xs → ExplainsTurn P id now (turn.Act (act.Job id)) → job_at now.jobs id ≡ Some (unended.Recovery r entry)
+      → IsExplained P (recovery_after now r)
+  told-next P id r entry explains here at =
       let t = tends-comes in
       last-explained P id now r entry at t.goes.held t.cares.speaking (here refl r entry at) (explained-comes P id explains)
 
@@ -161,7 +161,7 @@ module _ (s : Scenario) (xs : List Step) (now : State) (comes : ComesTo s xs now
             let before = exchanges.quiet-run now.world (exchanges_at now (turn.Act (act.Job id))) q in
             keeps-histories now id r entry lines is rows goes.held (goes.sound before) t.cares.covered (t.cares.kept before)
             ((Goes-step (length s.opening.servers) rows now (turn.Act (act.Job id)) tt goes).sound q).flight.safe;
-        lost = λ P explains here. lost-next P id r entry explains here is.found;
+        told = λ P explains here. told-next P id r entry explains here is.found;
         ends = λ e n same promoted. ended rows id r entry lines is e n same promoted;
       }
     where

@@ -16,7 +16,7 @@ use Rattle.orch_core.specs.Scenarios.{start}
 use Rattle.orch_core.specs.States.{State}
 use Rattle.recovery_histories.specs.Kept.{SameAim}
 use Rattle.recovery_plans.specs.Recoveries.{Recovery}
-use Rattle.recovery_reasons.specs.Reasons.{AllLost, ExplainsTruly}
+use Rattle.recovery_reasons.specs.Reasons.{ExplainsTruly, Fact, IsExplained}
 use Rattle.scenarios.specs.declared.scenario.Scenario.{Scenario}
 use Rattle.scenarios.specs.Turns.{IsTurn}
 use Rattle.server_model.specs.Safe.{Safe}
@@ -29,7 +29,7 @@ use Rattle.run_laws.specs.Flights.{moment_at}
 use Rattle.run_laws.specs.Ready.{Ready}
 use Rattle.run_laws.specs.States.{HeldState, SoundState}
 use Rattle.recovery_runs.specs.Finishes.{IsFinish, KeepsHistories, OwesNothing, finished_so, recovery_after}
-use Rattle.recovery_runs.specs.Losses.{ExplainedState, ExplainsTurn}
+use Rattle.recovery_runs.specs.Facts.{ExplainedState, ExplainsTurn}
 use Rattle.recovery_runs.specs.States.{AimedState, CoveredState, KeptState, SpeakingState}
 
 -- ---- the turn
@@ -65,21 +65,21 @@ abbrev pub FinishedKeepEntries : Type 0
 FinishedKeepEntries = (had : List Row) (s : State) (id e : ℕ) (r : Recovery) (lines : List Line) (n : ServerNo) (k : KeptRecovery) → IsFinish s id r (Some e) lines → (recovery_after s r).outcome.promoted ≡ Some n
     → recovery_at s.audit e ≡ Some k → Contains (changes_of had s (turn.Act (act.Job id))) (put_recovery (finished_so (moment_at s) r.purpose n k))
 
--- ---- the lost
+-- ---- what it tells
 
--- where each reason that is true in a turn counts, and each of those lost before it has one that counts, so has each
--- after it
-abbrev pub LossesAreTrue : Type 0
-LossesAreTrue = (s : State) (id : ℕ) (r : Recovery) (entry : Option ℕ) (P : ServerNo → Lost → Bool) → job_at s.jobs id ≡ Some (unended.Recovery r entry) → HeldState s → SpeakingState s
-    → ExplainsTruly s.world s.book (moment_at s) r P → AllLost P r.outcome.lost → AllLost P (recovery_after s r).outcome.lost
+-- where each fact that is true in a turn counts, and what the recovery came to before it has facts that count, so has
+-- what it comes to
+abbrev pub FactsAreTrue : Type 0
+FactsAreTrue = (s : State) (id : ℕ) (r : Recovery) (entry : Option ℕ) (P : Fact → Bool) → job_at s.jobs id ≡ Some (unended.Recovery r entry) → HeldState s → SpeakingState s
+    → ExplainsTruly s.world s.book (moment_at s) r P → IsExplained P r → IsExplained P (recovery_after s r)
 
 abbrev pub OpeningsAreExplained : Type 0
-OpeningsAreExplained = (P : ServerNo → Lost → Bool) (id : ℕ) (s : Scenario) (wait : ℕ) (rows : List Row) → ExplainedState P id (start s wait rows)
+OpeningsAreExplained = (P : Fact → Bool) (id : ℕ) (s : Scenario) (wait : ℕ) (rows : List Row) → ExplainedState P id (start s wait rows)
 
 abbrev pub TurnsStayExplained : Type 0
-TurnsStayExplained = (P : ServerNo → Lost → Bool) (id count : ℕ) (rows : List Row) (s : State) (t : Turn) → Ready count s → IsTurn count t → HeldState s → SpeakingState s → ExplainsTurn P id s t
+TurnsStayExplained = (P : Fact → Bool) (id count : ℕ) (rows : List Row) (s : State) (t : Turn) → Ready count s → IsTurn count t → HeldState s → SpeakingState s → ExplainsTurn P id s t
     → ExplainedState P id s → ExplainedState P id (step rows s t)
 
-abbrev pub LastLossesAreTrue : Type 0
-LastLossesAreTrue = (P : ServerNo → Lost → Bool) (s : State) (id : ℕ) (r : Recovery) (entry : Option ℕ) → job_at s.jobs id ≡ Some (unended.Recovery r entry) → HeldState s → SpeakingState s
-    → ExplainsTruly s.world s.book (moment_at s) r P → ExplainedState P id s → AllLost P (recovery_after s r).outcome.lost
+abbrev pub LastFactsAreTrue : Type 0
+LastFactsAreTrue = (P : Fact → Bool) (s : State) (id : ℕ) (r : Recovery) (entry : Option ℕ) → job_at s.jobs id ≡ Some (unended.Recovery r entry) → HeldState s → SpeakingState s
+    → ExplainsTruly s.world s.book (moment_at s) r P → ExplainedState P id s → IsExplained P (recovery_after s r)

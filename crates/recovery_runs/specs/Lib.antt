@@ -2,7 +2,7 @@ pub mod States
 pub mod Begun
 pub mod Turns
 pub mod Finishes
-pub mod Losses
+pub mod Facts
 pub mod Finished
 pub mod Origins
 pub mod RunFinishes

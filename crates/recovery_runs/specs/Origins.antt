@@ -1,4 +1,5 @@
--- Where the recoveries of a run began, and which reasons were true in its turns.
+-- Where the recoveries of a run began, and which facts were true in its turns.
+use Rattle.recovery_reasons.specs.Reasons.{Fact}
 use Rattle.std.specs.Prelude.{◌≡◌, ℕ, Bool, List, Option, Some, Contains, slice_get, take}
 use Rattle.orch_base.specs.declared.server.ServerNo.{ServerNo}
 use Rattle.book_views.specs.Sources.{replicas_of}
@@ -10,7 +11,7 @@ use Rattle.turns.specs.declared.turn.Turn.{Turn}
 use Rattle.unended_jobs.specs.declared.unended.Unended.TheVariants as unended
 use Rattle.orch_core.specs.Runs.{engine, run_turns}
 use Rattle.orch_core.specs.States.{State}
-use Rattle.recovery_runs.specs.Losses.{ExplainsTurn}
+use Rattle.recovery_runs.specs.Facts.{ExplainsTurn}
 use Rattle.recovery_runs.specs.Begun.{jobs_begun}
 
 -- A recovery is what one has become that began in a turn of this state, with this entry in the audit, if it has one: it
@@ -29,6 +30,6 @@ pub record Began (from : State) (xs : List (List Row × Turn)) (r : Recovery) (e
   pub taken : slice_get xs place ≡ Some turn
   pub begins : BeganIn (run_turns engine from (take place xs)) turn.1 r entry
 
--- in each of these turns each reason that is true in it, if it is one of the job of this number, counts
-abbrev pub ExplainsAlong : (ServerNo → Lost → Bool) → ℕ → State → List (List Row × Turn) → Type 0
+-- in each of these turns each fact that is true in it, if it is one of the job of this number, counts
+abbrev pub ExplainsAlong : (Fact → Bool) → ℕ → State → List (List Row × Turn) → Type 0
 ExplainsAlong P id from xs = (k : ℕ) (x : List Row × Turn) → slice_get xs k ≡ Some x → ExplainsTurn P id (run_turns engine from (take k xs)) x.1

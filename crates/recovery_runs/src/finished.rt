@@ -1,6 +1,6 @@
 //! Laws of the turns of recoveries in states of runs.
 
-ghost use Rattle.recovery_runs.specs.Finished.{FinishedEndEntries, FinishedKeepAims, FinishedKeepEntries, FinishedKeepHistories, FinishedOweNothing, FinishedTellLines, LastLossesAreTrue, LossesAreTrue, OpeningsAreExplained, TurnsStayExplained};
+ghost use Rattle.recovery_runs.specs.Finished.{FinishedEndEntries, FinishedKeepAims, FinishedKeepEntries, FinishedKeepHistories, FinishedOweNothing, FinishedTellLines, LastFactsAreTrue, FactsAreTrue, OpeningsAreExplained, TurnsStayExplained};
 
 /// The turn in which a recovery is done answers its lines, and leaves nothing owed to its replicas; where the servers
 /// are safe afterwards, histories are kept, too. What the recovery is about is what it began with.
@@ -17,13 +17,13 @@ pub fn finished_recoveries_end_their_entries()
     ensures kept { FinishedKeepEntries }
 {}
 
-/// Of each turn of a recovery, whether it goes on, is done or fails: each entry of the lost was there before, or has a
-/// reason that is true of the servers and the book of that turn. So each has a reason that was true in some turn, from
-/// the recovery's beginning to its last turn: where each that is true in a turn of its number counts, all have one that
-/// counts.
-pub fn losses_are_true()
-    ensures turn { LossesAreTrue }
+/// Of each turn of a recovery, whether it goes on, is done or fails: the reasons of its lost, what it drained, whom it
+/// chose and promoted were so before, or are true of the servers and the book of that turn. So each was true in some
+/// turn, from the recovery's beginning to its last turn: where each fact that is true in a turn of its number counts,
+/// all of them count.
+pub fn facts_are_true()
+    ensures turn { FactsAreTrue }
     ensures opening { OpeningsAreExplained }
     ensures stay { TurnsStayExplained }
-    ensures last { LastLossesAreTrue }
+    ensures last { LastFactsAreTrue }
 {}

@@ -33,7 +33,7 @@ use Rattle.run_laws.proofs.Entries.{more-after}
 use Rattle.run_laws.proofs.Parts.{apart-in-turn, periods-in-turn}
 use Rattle.run_laws.proofs.Permissions.{answers_by_table, begun_joins, begun_kept, begun_leased, begun_logged, begun_number, begun_there, refused_changes_nothing}
 use Rattle.recovery_plans.specs.Recoveries.{Recovery}
-use Rattle.recovery_runs.proofs.Tending.{began-comes, finish-comes, lost-next}
+use Rattle.recovery_runs.proofs.Tending.{began-comes, finish-comes, told-next}
 use Rattle.run_laws.proofs.RunLaws.{Goes, Goes-comes}
 use Rattle.scenario_reader.proofs.Sound.{scenario_in_sound}
 use Rattle.tasks.specs.declared.asked.Asked.{Asked}
@@ -47,7 +47,7 @@ use Rattle.tasks.proofs.Courses.{run_state}
 use Rattle.tasks.proofs.Words.{asked_is}
 use Rattle.unended_jobs.specs.declared.unended.Unended.TheVariants as unended
 use Rattle.top_call.specs.Ends.{IsTask}
-use Rattle.top_call.specs.Runs.{BeginApart, BeginsApart, Finishes, FinishWell, IsSafeRun, IsSafeState, LoseTruly, LosesTruly, ObeysTable, AreSoFar, Through}
+use Rattle.top_call.specs.Runs.{BeginApart, BeginsApart, Finishes, FinishWell, IsSafeRun, IsSafeState, TellTruly, TellsTruly, ObeysTable, AreSoFar, Through}
 
 -- ---- the turns
 
@@ -133,12 +133,12 @@ module _ (w : Work) (ts : List Turn) (kept : Option (List Row)) (run : Recorded)
   unfolding comes_to
   finishes rows id r entry lines is = record { through = found; well = finish-comes w.scenario found.xs run.state comes_to rows id r entry lines is }
 
-  loses : (id : ℕ) (r : Recovery) (entry : Option ℕ) → job_at run.state.jobs id ≡ Some (unended.Recovery r entry) → LosesTruly w ts run.state id r entry
+  loses : (id : ℕ) (r : Recovery) (entry : Option ℕ) → job_at run.state.jobs id ≡ Some (unended.Recovery r entry) → TellsTruly w ts run.state id r entry
   unfolding comes_to
   loses id r entry at = record {
     through = found;
     began = began-comes w.scenario found.xs run.state comes_to id r entry at;
-    lost = λ P explains here. lost-next w.scenario found.xs run.state comes_to P id r entry explains here at;
+    told = λ P explains here. told-next w.scenario found.xs run.state comes_to P id r entry explains here at;
   }
 
 -- the turns of rounds are turns over the servers
@@ -206,9 +206,9 @@ pub finish_well : (words : List (List ℕ)) (bytes : List ℕ) → FinishWell wo
 finish_well words bytes = λ w run ts rows id r entry lines is on done.
     so_far words bytes w run is (λ us. Finishes w us rows run.state id r entry lines) (λ us kept scenario all comes. finishes w us kept run scenario all comes rows id r entry lines done) ts on
 
-pub lose_truly : (words : List (List ℕ)) (bytes : List ℕ) → LoseTruly words bytes
-lose_truly words bytes = λ w run ts id r entry is on at.
-    so_far words bytes w run is (λ us. LosesTruly w us run.state id r entry) (λ us kept scenario all comes. loses w us kept run scenario all comes id r entry at) ts on
+pub tell_truly : (words : List (List ℕ)) (bytes : List ℕ) → TellTruly words bytes
+tell_truly words bytes = λ w run ts id r entry is on at.
+    so_far words bytes w run is (λ us. TellsTruly w us run.state id r entry) (λ us kept scenario all comes. loses w us kept run scenario all comes id r entry at) ts on
 
 pub obeys : (words : List (List ℕ)) (bytes : List ℕ) → ObeysTable words bytes
 obeys words bytes = λ w k kept run rows c is comes here. record {

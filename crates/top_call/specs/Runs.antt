@@ -17,7 +17,7 @@ use Rattle.turns.specs.declared.turn.Turn.{Turn}
 use Rattle.turns.specs.declared.turn.Act.TheVariants as act
 use Rattle.turns.specs.declared.turn.Turn.TheVariants as turn
 use Rattle.recovery_runs.specs.Finishes.{IsFinish, recovery_after}
-use Rattle.recovery_runs.specs.Losses.{ExplainsTurn}
+use Rattle.recovery_runs.specs.Facts.{ExplainsTurn}
 use Rattle.run_laws.specs.Flights.{moment_at}
 use Rattle.run_laws.specs.States.{HeldState, SoundState}
 use Rattle.instance_keeper.specs.Leases.{taken}
@@ -34,7 +34,7 @@ use Rattle.orch_core.specs.Scenarios.{start}
 use Rattle.orch_core.specs.States.{State}
 use Rattle.orch_base.specs.declared.server.ServerNo.{ServerNo}
 use Rattle.recovery_plans.specs.Recoveries.{Recovery}
-use Rattle.recovery_reasons.specs.Reasons.{AllLost}
+use Rattle.recovery_reasons.specs.Reasons.{Fact, IsExplained}
 use Rattle.recovery_runs.specs.RunFinishes.{FinishesWell}
 use Rattle.recovery_runs.specs.Origins.{Began, ExplainsAlong}
 use Rattle.tasks.specs.Closing.{closing}
@@ -132,17 +132,17 @@ abbrev pub FinishWell : List (List ℕ) → List ℕ → Type 0
 FinishWell words bytes = (w : Work) (run : Recorded) (ts : List Turn) (rows : List Row) (id : ℕ) (r : Recovery) (entry : Option ℕ) (lines : List Line) → IsTask words bytes w → AreSoFar w run ts
     → IsFinish run.state id r entry lines → Finishes w ts rows run.state id r entry lines
 
--- ---- why replicas are lost
+-- ---- why replicas are lost, and who is chosen
 
--- Each of those that a recovery in flight has lost after its next turn, whether it goes on, is done or fails, has a
--- reason that was true of the servers and the book in one of its turns, from the one on in which it began: where each
--- that was true counts, all have one that counts.
-pub record LosesTruly (w : Work) (ts : List Turn) (s : State) (id : ℕ) (r : Recovery) (entry : Option ℕ) : Type 0 where
+-- The reasons of those that a recovery in flight has lost after its next turn, whether it goes on, is done or fails, and
+-- what it drained, whom it chose and among whom, and whom it promoted, are facts that were true of the servers and the
+-- book in one of its turns, from the one on in which it began: where each that was true counts, all of them count.
+pub record TellsTruly (w : Work) (ts : List Turn) (s : State) (id : ℕ) (r : Recovery) (entry : Option ℕ) : Type 0 where
   pub through : Through w.scenario w.task.waits ts s
   pub began : Began (start w.scenario w.task.waits through.rows) through.xs r entry
-  pub lost : (P : ServerNo → Lost → Bool) → ExplainsAlong P id (start w.scenario w.task.waits through.rows) through.xs → ExplainsTurn P id s (turn.Act (act.Job id)) → AllLost P (recovery_after s r).outcome.lost
+  pub told : (P : Fact → Bool) → ExplainsAlong P id (start w.scenario w.task.waits through.rows) through.xs → ExplainsTurn P id s (turn.Act (act.Job id)) → IsExplained P (recovery_after s r)
 
 -- so each does, in the scenario's turns and in the rounds
-abbrev pub LoseTruly : List (List ℕ) → List ℕ → Type 0
-LoseTruly words bytes = (w : Work) (run : Recorded) (ts : List Turn) (id : ℕ) (r : Recovery) (entry : Option ℕ) → IsTask words bytes w → AreSoFar w run ts
-    → job_at run.state.jobs id ≡ Some (unended.Recovery r entry) → LosesTruly w ts run.state id r entry
+abbrev pub TellTruly : List (List ℕ) → List ℕ → Type 0
+TellTruly words bytes = (w : Work) (run : Recorded) (ts : List Turn) (id : ℕ) (r : Recovery) (entry : Option ℕ) → IsTask words bytes w → AreSoFar w run ts
+    → job_at run.state.jobs id ≡ Some (unended.Recovery r entry) → TellsTruly w ts run.state id r entry

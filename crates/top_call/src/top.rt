@@ -14,7 +14,7 @@ ghost use Rattle.top_call.specs.Ends.{AskToDraw, DrawEnds, EndsBy, EndsOf, EndsO
 ghost use Rattle.top_call.specs.Faults.{fault_text};
 ghost use Rattle.top_call.specs.Reads.{OfRead};
 ghost use Rattle.top_call.specs.Report.{ByReport, EndsAs, KeepsRows, WritesErr, WritesOut};
-ghost use Rattle.top_call.specs.Runs.{BeginApart, FinishWell, IsSafeRun, LoseTruly, ObeysTable};
+ghost use Rattle.top_call.specs.Runs.{BeginApart, FinishWell, IsSafeRun, TellTruly, ObeysTable};
 
 use crate::fault::fault_line;
 use crate::reading::{Stop, scenario_from};
@@ -317,10 +317,11 @@ pub fn orch<S: Source, O: Sink, E: Sink, K: Keeper>(
 
     // In every such state recoveries begin apart by their block periods, and one that is done, by whatever turns it
     // came so far, leaves each replica that the book had attached to the failed server when it began promoted,
-    // following or lost for a true reason.
+    // following or lost for a true reason; whom it drained, chose and promoted is so by what its turns showed and by
+    // the book that they had.
     ensures begins { (bytes : List ℕ) → BeginApart (map (λ w. w.items) words.now) bytes }
     ensures finishes { (bytes : List ℕ) → FinishWell (map (λ w. w.items) words.now) bytes }
-    ensures losses { (bytes : List ℕ) → LoseTruly (map (λ w. w.items) words.now) bytes }
+    ensures losses { (bytes : List ℕ) → TellTruly (map (λ w. w.items) words.now) bytes }
 {
     match places(alloc, words) {
         Ok(places) => respond(alloc, &places, scenario, out, err, keeper).status(),

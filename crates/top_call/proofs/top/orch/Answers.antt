@@ -5,7 +5,7 @@ use Rattle.top_call.specs.declared.way.Way.TheVariants as way
 use Rattle.top_call.specs.Ends.{DrawEnds, FaultsAs, IsComplete, IsUsage, StopsAtFirst, call}
 use Rattle.top_call.proofs.Ends.{bad_words, complete, draws_at, each, faults, idles, lifted, keeper_rose, known, no_usage, not_asked, of_four, of_three, read_whole, undrawn, unmoved}
 use Rattle.top_call.proofs.Reports.{both, err_by, kept_by_report, out_by, status_told}
-use Rattle.top_call.proofs.Runs.{begin_apart, finish_well, lose_truly, obeys, safe_run}
+use Rattle.top_call.proofs.Runs.{begin_apart, finish_well, tell_truly, obeys, safe_run}
 use Rattle.top_call.proofs.top.orch.Goals as goal
 
 -- ---- the words are taken
@@ -72,7 +72,7 @@ pub returns-in-Ok-clause-finishes : goal.returns-in-Ok-clause-finishes
 returns-in-Ok-clause-finishes g c = finish_well (map (λ w. w.items) c.args.words.now)
 
 pub returns-in-Ok-clause-losses : goal.returns-in-Ok-clause-losses
-returns-in-Ok-clause-losses g c = lose_truly (map (λ w. w.items) c.args.words.now)
+returns-in-Ok-clause-losses g c = tell_truly (map (λ w. w.items) c.args.words.now)
 
 -- ---- they aren't, or memory ran out
 
@@ -117,7 +117,7 @@ pub returns-in-Err-BadWords-clause-finishes : goal.returns-in-Err-BadWords-claus
 returns-in-Err-BadWords-clause-finishes g c = finish_well (map (λ w. w.items) c.args.words.now)
 
 pub returns-in-Err-BadWords-clause-losses : goal.returns-in-Err-BadWords-clause-losses
-returns-in-Err-BadWords-clause-losses g c = lose_truly (map (λ w. w.items) c.args.words.now)
+returns-in-Err-BadWords-clause-losses g c = tell_truly (map (λ w. w.items) c.args.words.now)
 
 pub returns-in-Err-Memory-clause-safe : goal.returns-in-Err-Memory-clause-safe
 returns-in-Err-Memory-clause-safe g c = safe_run (map (λ w. w.items) c.args.words.now)
@@ -132,7 +132,7 @@ pub returns-in-Err-Memory-clause-finishes : goal.returns-in-Err-Memory-clause-fi
 returns-in-Err-Memory-clause-finishes g c = finish_well (map (λ w. w.items) c.args.words.now)
 
 pub returns-in-Err-Memory-clause-losses : goal.returns-in-Err-Memory-clause-losses
-returns-in-Err-Memory-clause-losses g c = lose_truly (map (λ w. w.items) c.args.words.now)
+returns-in-Err-Memory-clause-losses g c = tell_truly (map (λ w. w.items) c.args.words.now)
 
 -- ---- against the report
 

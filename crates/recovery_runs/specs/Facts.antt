@@ -1,4 +1,4 @@
--- That the lost of a recovery have reasons, from its beginning on.
+-- That what a recovery tells is true, from its beginning on.
 use Rattle.std.specs.Prelude.{◌≡◌, ℕ, Bool, All, Option, Some}
 use Rattle.orch_base.specs.declared.server.ServerNo.{ServerNo}
 use Rattle.commands.specs.declared.line.Lost.{Lost}
@@ -6,7 +6,7 @@ use Rattle.run_laws.specs.Flights.{moment_at}
 use Rattle.jobs_in_flight.specs.Jobs.{job_at}
 use Rattle.orch_core.specs.States.{State}
 use Rattle.recovery_plans.specs.Recoveries.{Recovery}
-use Rattle.recovery_reasons.specs.Reasons.{AllLost, ExplainsTruly}
+use Rattle.recovery_reasons.specs.Reasons.{ExplainsTruly, Fact, IsExplained}
 use Rattle.turns.specs.declared.turn.Act.{Act}
 use Rattle.turns.specs.declared.turn.Act.TheVariants as act
 use Rattle.turns.specs.declared.turn.Turn.{Turn}
@@ -15,17 +15,17 @@ use Rattle.unended_jobs.specs.declared.unended.Unended.{Unended}
 use Rattle.unended_jobs.specs.declared.unended.Unended.TheVariants as unended
 use Rattle.unended_jobs.specs.Unended.{number_of}
 
--- each of the lost of a recovery has a reason that counts
-abbrev pub HasReasons : (ServerNo → Lost → Bool) → Unended → Type 0
-HasReasons P (unended.Plan j) = Unit {0}
-HasReasons P (unended.Recovery r entry) = AllLost P r.outcome.lost
+-- what a recovery came to so far has facts that count
+abbrev pub HasFacts : (Fact → Bool) → Unended → Type 0
+HasFacts P (unended.Plan j) = Unit {0}
+HasFacts P (unended.Recovery r entry) = IsExplained P r
 
 -- of the job of this number
-abbrev pub ExplainedState : (ServerNo → Lost → Bool) → ℕ → State → Type 0
-ExplainedState P id s = All (λ u. number_of u ≡ id → HasReasons P u) s.jobs
+abbrev pub ExplainedState : (Fact → Bool) → ℕ → State → Type 0
+ExplainedState P id s = All (λ u. number_of u ≡ id → HasFacts P u) s.jobs
 
--- each reason that is true in the turn of that job counts
-abbrev pub ExplainsAct : (ServerNo → Lost → Bool) → ℕ → State → Act → Type 0
+-- each fact that is true in the turn of that job counts
+abbrev pub ExplainsAct : (Fact → Bool) → ℕ → State → Act → Type 0
 ExplainsAct P id s (act.PollRead p n) = Unit {0}
 ExplainsAct P id s (act.PollStore p) = Unit {0}
 ExplainsAct P id s (act.Command c) = Unit {0}
@@ -34,7 +34,7 @@ ExplainsAct P id s (act.Job job) =
 ExplainsAct P id s act.Scan = Unit {0}
 ExplainsAct P id s act.Restart = Unit {0}
 
-abbrev pub ExplainsTurn : (ServerNo → Lost → Bool) → ℕ → State → Turn → Type 0
+abbrev pub ExplainsTurn : (Fact → Bool) → ℕ → State → Turn → Type 0
 ExplainsTurn P id s (turn.Step x) = Unit {0}
 ExplainsTurn P id s (turn.Tick seconds) = Unit {0}
 ExplainsTurn P id s (turn.Act a) = ExplainsAct P id s a

@@ -14,7 +14,8 @@ use Rattle.jobs_in_flight.proofs.Numbers.{found-number}
 use Rattle.operations.specs.Turns.{is_going}
 use Rattle.recovery_plans.specs.declared.outcome.LostReplica.{LostReplica}
 use Rattle.recovery_plans.specs.Recoveries.{Recovery}
-use Rattle.recovery_reasons.specs.Reasons.{AllLost, ExplainsTruly}
+use Rattle.recovery_reasons.proofs.Facts.{begun-explained}
+use Rattle.recovery_reasons.specs.Reasons.{ExplainsTruly, Fact, IsExplained}
 use Rattle.scenarios.specs.Turns.{IsAct, IsTurn}
 use Rattle.scenarios.specs.declared.scenario.Scenario.{Scenario}
 use Rattle.turns.specs.declared.turn.Act.{Act}
@@ -41,26 +42,26 @@ use Rattle.recovery_runs.specs.States.{SpeakingState}
 use Rattle.recovery_runs.proofs.Begun.{command-once, scan-once}
 use Rattle.recovery_runs.proofs.Joining.{command-joins, joined, scan-joins}
 use Rattle.recovery_runs.specs.Finishes.{recovery_after}
-use Rattle.recovery_runs.specs.Losses.{ExplainedState, ExplainsAct, ExplainsTurn, HasReasons}
-use Rattle.recovery_runs.proofs.Finishing.{losses-true}
+use Rattle.recovery_runs.specs.Facts.{ExplainedState, ExplainsAct, ExplainsTurn, HasFacts}
+use Rattle.recovery_runs.proofs.Finishing.{facts-true}
 
-module _ (P : ServerNo → Lost → Bool) (id : ℕ) where
+module _ (P : Fact → Bool) (id : ℕ) where
   abbrev Explained : Unended → Type 0
-  Explained u = number_of u ≡ id → HasReasons P u
+  Explained u = number_of u ≡ id → HasFacts P u
 
-  -- what begins has lost nothing yet
+  -- what begins tells nothing yet
   once-explained : (b : BookState) (u : Unended) → BeginsOnce b u → Explained u
   once-explained b (unended.Plan j) once e = tt
   once-explained b (unended.Recovery r entry) once e =
-      subst (λ (x : Recovery). AllLost P x.outcome.lost) (sym once.fresh) (All-nil (λ (l : LostReplica). P l.no l.why ≡ true))
+      subst (IsExplained P) (sym once.fresh) (begun-explained P r.purpose r.core.id r.core.wait r.failed r.replicas r.order)
 
   with-begun : (s : State) (vs ws : List Unended) → ws ≡ s.jobs ++ vs → All (BeginsOnce s.book) vs → ExplainedState P id s → All Explained ws
   with-begun s vs ws is once explained = joined Explained s.jobs vs ws is explained (All-weaker (BeginsOnce s.book) Explained (once-explained s.book) vs once)
 
   pub last-explained : (s : State) (r : Recovery) (entry : Option ℕ) → job_at s.jobs id ≡ Some (unended.Recovery r entry) → HeldState s → SpeakingState s
-      → ExplainsTruly s.world s.book (moment_at s) r P → ExplainedState P id s → AllLost P (recovery_after s r).outcome.lost
+      → ExplainsTruly s.world s.book (moment_at s) r P → ExplainedState P id s → IsExplained P (recovery_after s r)
   last-explained s r entry found held speaking explains explained =
-      losses-true s id r entry found P held speaking explains
+      facts-true s id r entry found P held speaking explains
       (All-find Explained (λ (k : Unended). number_of k == id) s.jobs (unended.Recovery r entry) explained found (found-number s.jobs id (unended.Recovery r entry) found))
 
   -- ---- a job's turn
