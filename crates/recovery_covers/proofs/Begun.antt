@@ -1,5 +1,5 @@
 -- Recoveries that begin, and others' exchanges.
-use Rattle.std.proofs.Common.{◌≡◌, ℕ, ◌+◌, ◌<◌, Bool, true, false, cond, List, [], ◌∷◌, ◌++◌, map, refl, sym, ◌∙◌, ap, subst, Option, Some, None, ◌&&◌, ◌⊎◌, inl, inr, arith}
+use Rattle.std.proofs.Common.{◌≡◌, ℕ, ◌+◌, ◌<◌, Bool, true, false, cond, List, [], ◌∷◌, ◌++◌, map, refl, sym, ◌∙◌, ap, subst, Option, Some, None, ◌&&◌, inl, arith}
 use Rattle.std.specs.Prelude.{◌==◌}
 use Rattle.std.specs.List.{All}
 use Rattle.std.proofs.lemmas.Bool.{false≢true, eqb-true}
@@ -19,7 +19,7 @@ use Rattle.recovery_plans.specs.declared.purpose.Purpose.TheVariants as purpose
 use Rattle.recovery_plans.specs.declared.task.Task.{Task}
 use Rattle.recovery_plans.specs.declared.task.Task.TheVariants as task
 use Rattle.recovery_plans.specs.Beginning.{but, begun_recovery}
-use Rattle.recovery_plans.specs.Deciding.{decided, expels}
+use Rattle.recovery_plans.specs.Deciding.{expels}
 use Rattle.recovery_plans.specs.Named.{AreSourcesOf}
 use Rattle.recovery_plans.specs.Recoveries.{Recovery}
 use Rattle.recovery_laws.specs.LeasedRecoveries.{IsAny, LeasedRecovery}

@@ -253,6 +253,11 @@ pub turn-done : (w : World) (b : BookState) (read : ℕ) (now : Moment) (r : Rec
     → IsTold (run w (taken w b read now r).exchanges) (taken w b read now r).recovery lines
 turn-done w b read now r placed rings held c lines = go (taken w b read now r) (taken-walks w b read now r)
   where
+    lines-in : JobStep → List Line
+    lines-in step.Going = []
+    lines-in (step.Done xs) = xs
+    lines-in (step.Failed x ls) = []
+
     go : (t : Taken) → Turning w b read now r t → t.step ≡ step.Done lines → IsTold (run w t.exchanges) t.recovery lines
     go t (move.Waits ds o rest ob es j did e) h = cc
     go t (move.Acts ds o rest ob es j did e end) h = cc
@@ -261,8 +266,3 @@ turn-done w b read now r placed rings held c lines = go (taken w b read now r) (
     go t (move.Finishes {d} ds o rest ls is e) h =
         let before = decisions-keep w b now (λ x. HeldRecovery w x × (CoversSoFar w x ⊎ IsStuck x)) (decides-before w b read now placed rings) ds (held, inl c) in
         done-told w read now d o rest placed before.0 (covered w b read now placed rings d o rest is before.1) is lines (e ∙ ap attempt.Ends (ap lines-in h))
-
-    lines-in : JobStep → List Line
-    lines-in step.Going = []
-    lines-in (step.Done xs) = xs
-    lines-in (step.Failed x ls) = []
