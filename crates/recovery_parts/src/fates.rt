@@ -2,7 +2,7 @@
 
 ghost use Rattle.std.specs.Prelude.{◌≡◌};
 ghost use Rattle.server_model.specs.Worlds.{server_at};
-ghost use Rattle.recovery_plans.specs.Taking.{exec_by, fate, fate_of_drain, fate_of_move, fate_of_trail, lost_on_way, spot_by, spot_seen};
+ghost use Rattle.recovery_plans.specs.Taking.{exec_by, fate, fate_of_drain, fate_of_move, fate_of_trail, lost_on_way, place_on, spot_by, spot_seen};
 ghost use Rattle.recovery_parts.specs.Fates.{fate_told};
 
 use binlog_coords::Coord;
@@ -110,6 +110,17 @@ fn on_way(purpose: Purpose, no: ServerNo, why: Lost) -> Fate
     }
 }
 
+// Where a replica was to be attached; by GTIDs, where it stands.
+fn place_on(way: Way) -> Coord
+    ensures { result ≡ place_on way }
+{
+    match way {
+        Way::Down(bridge) => bridge.own,
+        Way::Up(bridge) => bridge.exec,
+        Way::Auto { exec, .. } => exec,
+    }
+}
+
 fn of_move(world: &World, purpose: Purpose, no: ServerNo, way: Way, cause: &Cause) -> Fate
     ensures { fate_told result ≡ fate_of_move world.now purpose no way cause.now }
 {
@@ -121,12 +132,12 @@ fn of_move(world: &World, purpose: Purpose, no: ServerNo, way: Way, cause: &Caus
             Way::Auto { exec, .. } => on_way(purpose, no, Lost::Ahead(exec)),
             Way::Down(_) | Way::Up(_) => Fate::Fails,
         },
+        Cause::Purged(_, _) => on_way(purpose, no, Lost::Purged(place_on(way))),
         Cause::WaitSpent(_)
         | Cause::Loop(_)
         | Cause::Moved(_, _)
         | Cause::Reachable(_)
         | Cause::NoCandidate
-        | Cause::Purged(_, _)
         | Cause::NoMark(_)
         | Cause::Mismatch(_, _)
         | Cause::HookFailed { .. } => Fate::Fails,

@@ -34,7 +34,7 @@ use Rattle.recovery_plans.specs.Recoveries.{Recovery, loses, working}
 use Rattle.recovery_plans.specs.Stages.{ends, moved, trail, with_bridge}
 use Rattle.recovery_plans.specs.Deciding.{better_of, by_queue, by_task, at_last, choose, chosen_of, crown, decided, hand, hand_by, hand_over, look_at, moving, once, rejoin, swap, swap_by, swap_or_crown, way_below, yield}
 use Rattle.recovery_plans.specs.Taking as taking
-use Rattle.recovery_plans.specs.Taking.{Fate, Taken, acted, at_end, attempted, barred_by, completed, entered, exec_by, fate, fate_of_drain, fate_of_errant, fate_of_move, fate_of_trail, frees, goes_on, halted, idle, is_below, is_waiting, judged, last_exchanges, looked, lost_on_way, met, on_going, progressed, spot_by, spot_seen, stepped, taken}
+use Rattle.recovery_plans.specs.Taking.{Fate, Taken, acted, at_end, attempted, barred_by, completed, entered, exec_by, fate, fate_of_drain, fate_of_errant, fate_of_move, fate_of_trail, frees, goes_on, halted, idle, is_below, is_waiting, judged, last_exchanges, looked, lost_on_way, met, on_going, progressed, spot_by, spot_seen, stepped, taken, place_on}
 use Rattle.recovery_plans.specs.Moves as move
 use Rattle.recovery_plans.specs.Moves.{AtEnd, Decision, Decisions, Does, Ending, FailsFor, HasNoBetter, IsHanding, IsNext, IsOver, MayDecide, MayEnd, Stops, Turning, MayBear, Bearing, borne, decided_by, ended_by, fate_of, late, rests, stray}
 
@@ -234,6 +234,7 @@ move-fated w u n by (cause.Unreachable m) = lost-fated u n by lost.Unreachable
 move-fated w u n by (cause.Running m) = lost-fated u n by (lost.Moved (spot_by (server_at w n.0)))
 move-fated w u n by (cause.Interfered m expected found) = lost-fated u n by (lost.Moved found)
 move-fated w u n by (cause.Errant m set) = errant-fated u n by
+move-fated w u n by (cause.Purged m first) = lost-fated u n by (lost.Purged (place_on by))
 move-fated w u n by c = Fatal
 
 fated : (w : World) (u : Purpose) (s : Stage) (c : Cause) → Fated s (fate w u s c)

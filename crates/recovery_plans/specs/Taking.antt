@@ -177,13 +177,14 @@ pub data Fate : Type 0 where
   Goes : (s : Stage) (ops : List Op) → Fate
 
 -- What a failing operation tells of the replica that it speaks with: it isn't reached; it took too long; it stands
--- where it does, or at this spot; it has transactions of its own.
+-- where it does, or at this spot; it has transactions of its own; what comes where it was to be attached is purged.
 pub data Loss : Type 0 where
   OutOfReach : Loss
   Spent : Loss
   Runs : Loss
   Stands : (found : Spot) → Loss
   Differs : Loss
+  Gone : Loss
 
 -- and nothing, where the recovery fails
 abbrev pub loss_of : Cause → Option Loss
@@ -192,11 +193,11 @@ loss_of (cause.WaitSpent n) = Some Spent
 loss_of (cause.Running n) = Some Runs
 loss_of (cause.Interfered n expected found) = Some (Stands found)
 loss_of (cause.Errant n set) = Some Differs
+loss_of (cause.Purged n first) = Some Gone
 loss_of (cause.Loop n) = None
 loss_of (cause.Moved n source) = None
 loss_of (cause.Reachable n) = None
 loss_of cause.NoCandidate = None
-loss_of (cause.Purged n first) = None
 loss_of (cause.NoMark n) = None
 loss_of (cause.Mismatch n entry) = None
 loss_of (cause.HookFailed number exit) = None
@@ -208,6 +209,7 @@ drain_fate n (Some Spent) = Fails
 drain_fate n (Some Runs) = Fails
 drain_fate n (Some (Stands found)) = Fails
 drain_fate n (Some Differs) = Fails
+drain_fate n (Some Gone) = Fails
 
 abbrev pub fate_of_drain : ServerNo → Cause → Fate
 fate_of_drain n c = drain_fate n (loss_of c)
@@ -220,6 +222,7 @@ trail_fate w n (Some Spent) = Frees n (lost.Behind (exec_by (server_at w n.0)))
 trail_fate w n (Some Runs) = Fails
 trail_fate w n (Some (Stands found)) = Fails
 trail_fate w n (Some Differs) = Fails
+trail_fate w n (Some Gone) = Fails
 
 abbrev pub fate_of_trail : World → ServerNo → Cause → Fate
 fate_of_trail w n c = trail_fate w n (loss_of c)
@@ -237,6 +240,12 @@ fate_of_errant u n (way.Auto to exec) = lost_on_way u n (lost.Ahead exec)
 fate_of_errant u n (way.Down b) = Fails
 fate_of_errant u n (way.Up b) = Fails
 
+-- where a replica was to be attached; by GTIDs, where it stands
+abbrev pub place_on : Way → Coord
+place_on (way.Down b) = b.own
+place_on (way.Up b) = b.exec
+place_on (way.Auto to exec) = exec
+
 abbrev pub move_fate : World → Purpose → ServerNo → Way → Option Loss → Fate
 move_fate w u n by None = Fails
 move_fate w u n by (Some OutOfReach) = lost_on_way u n lost.Unreachable
@@ -244,6 +253,7 @@ move_fate w u n by (Some Spent) = Fails
 move_fate w u n by (Some Runs) = lost_on_way u n (lost.Moved (spot_by (server_at w n.0)))
 move_fate w u n by (Some (Stands found)) = lost_on_way u n (lost.Moved found)
 move_fate w u n by (Some Differs) = fate_of_errant u n by
+move_fate w u n by (Some Gone) = lost_on_way u n (lost.Purged (place_on by))
 
 abbrev pub fate_of_move : World → Purpose → ServerNo → Way → Cause → Fate
 fate_of_move w u n by c = move_fate w u n by (loss_of c)

@@ -16,10 +16,10 @@ use Rattle.gtid_sets.specs.declared.interval.Interval.{Interval}
 use Rattle.binlog_coords.specs.declared.Coord.{Coord}
 use Rattle.std.proofs.Common.{◌≡◌, ℕ, Bool, true, false, cond, not, List, [], ◌∷◌, ◌++◌, map, refl, sym, ◌∙◌, ap, subst, Option, Some, None, ◌&&◌, ◌⊎◌, inl, inr, Ok, Err, Result, ◌+◌}
 use Rattle.std.specs.Prelude.{◌==◌, find, is_some, option_map, nat_lt}
-use Rattle.std.specs.List.{All}
+use Rattle.std.specs.List.{All, Contains}
 use Rattle.std.proofs.lemmas.Bool.{false≢true, eq-eqb, eqb-true}
 use Rattle.std.proofs.lemmas.Option.{same_Some}
-use Rattle.std.proofs.lemmas.List.Elements.{All-nil, All-cons, All-head, All-tail, All-append, All-push, All-contains}
+use Rattle.std.proofs.lemmas.List.Elements.{All-nil, All-cons, All-head, All-tail, All-append, All-push, All-contains, All-filter, All-contains_itself}
 use Rattle.binlog_coords.specs.Log.{is_before, same_coord, is_at_or_before}
 use Rattle.orch_base.specs.declared.server.Moment.{Moment}
 use Rattle.orch_base.specs.declared.server.ServerNo.{ServerNo}
@@ -56,28 +56,29 @@ use Rattle.recovery_plans.specs.declared.purpose.Purpose.{Purpose}
 use Rattle.recovery_plans.specs.declared.purpose.Purpose.TheVariants as purpose
 use Rattle.recovery_plans.specs.declared.stage.Stage.{Stage}
 use Rattle.recovery_plans.specs.declared.stage.Stage.TheVariants as stage
+use Rattle.recovery_plans.specs.declared.task.Task.TheVariants as task
 use Rattle.recovery_plans.specs.declared.task.Way.{Way}
 use Rattle.recovery_plans.specs.declared.task.Way.TheVariants as way
 use Rattle.recovery_plans.specs.Recoveries.{Recovery, follows_no_more, loses}
-use Rattle.recovery_plans.specs.Stages.{ends, leaver, moved, tail_of, is_look}
+use Rattle.recovery_plans.specs.Stages.{ends, leaver, moved, tail_of, is_look, reads_last}
 use Rattle.recovery_plans.specs.Deciding as deciding
-use Rattle.recovery_plans.specs.Deciding.{Lot, logs_at, drained_of, may_lead, stopped_in, chosen_of, lot_by_group, own_end_of, lot_of, stay_of, losses_in, without_stopped, unfit, way_by_set, way_below}
+use Rattle.recovery_plans.specs.Deciding.{Lot, logs_at, drained_of, may_lead, stopped_in, chosen_of, lot_by_group, own_end_of, lot_of, stay_of, losses_in, without_stopped, unfit, way_by_set, way_below, stay_of}
 use Rattle.recovery_plans.specs.Taking as taking
-use Rattle.recovery_plans.specs.Taking.{Fate, spot_seen, is_below, marked, entered, stepped, fate_of_drain, fate_of_trail, lost_on_way, fate_of_errant, fate_of_move, fate, met, taken, exec_by, spot_by}
+use Rattle.recovery_plans.specs.Taking.{Fate, spot_seen, is_below, marked, entered, stepped, fate_of_drain, fate_of_trail, lost_on_way, fate_of_errant, fate_of_move, fate, met, taken, exec_by, spot_by, place_on}
 use Rattle.recovery_plans.specs.Moves as by
-use Rattle.recovery_plans.specs.Moves.{Decision, Ending, MayDecide, MayEnd, WasRead, borne, decided_by, ended_by, fate_of}
-use Rattle.recovery_plans.proofs.Walking.{Keeps, kept-whole}
+use Rattle.recovery_plans.specs.Moves.{Decision, Ending, MayDecide, MayEnd, WasRead, borne, decided_by, ended_by, fate_of, Decisions}
+use Rattle.recovery_plans.proofs.Walking.{Keeps, kept-whole, joined}
 use Rattle.recovery_laws.specs.HeldRecoveries.{HeldRecovery}
 use Rattle.recovery_laws.specs.Rings.{HeldRings}
 use Rattle.recovery_ends.specs.Shapes.{Fits}
 use Rattle.recovery_laws.proofs.Deciding.{decides-held}
 use Rattle.recovery_ends.proofs.Fitting.{went-of}
-use Rattle.recovery_ends.proofs.Shapes.{WentOn, same-head, fits-step, moved-fits}
+use Rattle.recovery_ends.proofs.Shapes.{same-head, fits-step, moved-fits}
 use Rattle.recovery_reasons.specs.Causes.{IsTrueOf, IsUnreached}
-use Rattle.recovery_reasons.specs.Reasons.{BelowSuccessor, AllLost, speaks_of, lead_of, Speaks, ExplainsTruly, WaitsFor, IsAsked, AimsAt}
+use Rattle.recovery_reasons.specs.Reasons.{BelowSuccessor, AllLost, speaks_of, lead_of, Speaks, ExplainsTruly, WaitsFor, IsAsked, AimsAt, IsDue, IsTrailing, Reason, IsRefusedOn, Beside, Without, Below, Unreached, Running, Interfered, Errant, Purged, Strayed, Halted, Late}
 use Rattle.recovery_reasons.proofs.Causing.{StopsTruly, deed-true}
 use Rattle.recovery_reasons.proofs.Coordinates.{before-other}
-use Rattle.recovery_reasons.proofs.Speaking.{decides-speaks, entered-core, due-speaks, stepped-speaks, due-waits, due-asked, due-looks}
+use Rattle.recovery_reasons.proofs.Speaking.{decides-speaks, due-speaks, stepped-speaks, due-waits, due-asked, due-looks, due-goes, move-refused, moved-leads}
 
 -- ---- readings of this turn
 
@@ -97,6 +98,16 @@ moved-reader (stage.Judged m) o rest n e h = cc
 moved-reader (stage.Looked m b) o rest n e h = cc
 moved-reader (stage.Halted m b) o rest n e h = cc
 moved-reader s o rest n e h = cc
+
+-- the reading of the replica that its operations speak with
+moved-reads : (s : Stage) (o : Op) (rest : List Op) (n : ServerNo) → o ∷ rest ≡ tail_of s → reader_of (moved s) ≡ Some n → (speaks_of s ≡ Some n) × (reads_last s ≡ true)
+moved-reads (stage.Drain m) o rest n e h = (h, refl)
+moved-reads (stage.Look m b) o rest n e h = (h, refl)
+moved-reads (stage.Trail m b) o rest n e h = (h, refl)
+moved-reads (stage.Judged m) o rest n e h = cc
+moved-reads (stage.Looked m b) o rest n e h = cc
+moved-reads (stage.Halted m b) o rest n e h = cc
+moved-reads s o rest n e h = cc
 
 -- with an operation left a stage's reading is still to come
 unread : (s : Stage) (o : Op) (rest : List Op) (n : ServerNo) → Fits s (o ∷ rest) → reader_of s ≡ Some n → ⊥
@@ -299,48 +310,8 @@ shown-exec w n s h = go (server_at w n) h
 
 -- ---- the decisions
 
-module _ (w : World) (b : BookState) (now : Moment) (r : Recovery) (P : ServerNo → Lost → Bool) (why : ExplainsTruly w b now r P) where
-  abbrev Each : LostReplica → Type 0
-  Each l = P l.no l.why ≡ true
-
-  -- of the same aim, with reasons
-  abbrev Fine : Recovery → Type 0
-  Fine x = (x.failed ≡ r.failed) × (x.purpose ≡ r.purpose) × (x.lead ≡ r.lead) × AllLost P x.outcome.lost
-
-  abbrev IsExplained : Stopped → Lot → Type 0
-  IsExplained s (deciding.Goes by) = Unit {0}
-  IsExplained s (deciding.Stays y) = P s.no y ≡ true
-
-  lot-explained : (p s : Stopped) → IsExplained s (lot_of w b r.failed p s)
-  lot-explained p s = go w.gtid
-    where
-      kept : same_coord s.exec p.exec ≡ false → is_before p.exec s.exec ≡ false → (o : Option Bridge) → latest_that (has_exec r.failed s.exec) (ring_at b.rings p.no) ≡ o
-          → IsExplained s (lot_by_group p.no r.failed s (by_bridge o))
-      kept other later None e = why.beside p s (lost.Behind s.exec) (refl, before-other s.exec p.exec later other, e)
-      kept other later (Some x) e = tt
-
-      later : same_coord s.exec p.exec ≡ false → (a : Bool) → is_before p.exec s.exec ≡ a
-          → IsExplained s (lot_by_group p.no r.failed s (cond a group.Ahead (by_bridge (latest_that (has_exec r.failed s.exec) (ring_at b.rings p.no)))))
-      later other true e = why.beside p s (lost.Ahead s.exec) (refl, e)
-      later other false e = kept other e (latest_that (has_exec r.failed s.exec) (ring_at b.rings p.no)) refl
-
-      level : (a : Bool) → same_coord s.exec p.exec ≡ a
-          → IsExplained s (lot_by_group p.no r.failed s (cond a (group.Follow (own_end_of p)) (cond (is_before p.exec s.exec) group.Ahead (by_bridge (latest_that (has_exec r.failed s.exec) (ring_at b.rings p.no))))))
-      level true e = tt
-      level false e = later e (is_before p.exec s.exec) refl
-
-      go : (g : Bool) → IsExplained s (cond g (deciding.Goes (way.Auto p.no s.exec)) (lot_by_group p.no r.failed s (group_of b.rings p.no (own_end_of p) p.exec r.failed s.exec)))
-      go true = tt
-      go false = level (same_coord s.exec p.exec) refl
-
-  losses-explained : (lot : Stopped → Lot) (ss : List Stopped) → ((s : Stopped) → IsExplained s (lot s)) → All Each (losses_in lot ss)
-  losses-explained lot [] each = All-nil Each
-  losses-explained lot (s ∷ ss) each = go (lot s) (each s) (losses-explained lot ss each)
-    where
-      go : (x : Lot) → IsExplained s x → All Each (losses_in lot ss) → All Each (stay_of s x ++ losses_in lot ss)
-      go (deciding.Goes by) h rest = rest
-      go (deciding.Stays y) h rest = All-cons Each (record { no = s.no; why = y; detached = false }) (losses_in lot ss) h rest
-
+-- the choice's search
+module _ (w : World) (b : BookState) (now : Moment) where
   -- a number that one of the list has is found
   found-some : (f : ServerNo) (xs : List Stopped) (n : ServerNo) → find (λ (x : Stopped). x.no.0 == n.0) xs ≡ None → All (λ (d : Drained). d.no ≡ n → ⊥) (map (drained_of w b now f) xs)
   found-some f [] n h = All-nil (λ (d : Drained). d.no ≡ n → ⊥)
@@ -368,23 +339,9 @@ module _ (w : World) (b : BookState) (now : Moment) (r : Recovery) (P : ServerNo
           let first = chosen-first (advance_order b.names) is_eligible (map (drained_of w b now f) xs) n e in
           absurd (All-contains (λ (d : Drained). d.no ≡ n → ⊥) (map (drained_of w b now f) xs) first.1 (found-some f xs n g) (first.0, first.2, first.3) first.4.named)
 
-  unfit-explained : (ss : List Stopped) → All (λ s. may_lead w b now s ≡ false) ss → All Each (map (unfit w) ss)
-  unfit-explained [] all = All-nil Each
-  unfit-explained (s ∷ ss) all =
-      All-cons Each (unfit w s) (map (unfit w) ss) (go (logs_at w s.no) refl (All-head (λ (x : Stopped). may_lead w b now x ≡ false) s ss all))
-      (unfit-explained ss (All-tail (λ (x : Stopped). may_lead w b now x ≡ false) s ss all))
-    where
-      barred : (a : Bool) → not a ≡ false → a ≡ true
-      barred true h = refl
-      barred false h = absurd (false≢true (sym h))
-
-      go : (a : Bool) → logs_at w s.no ≡ a → (a && not (is_barred (rule_at b s.no now))) ≡ false → P s.no (cond a lost.MustNot lost.NotLogging) ≡ true
-      go true e h = why.without s lost.MustNot (e, barred (is_barred (rule_at b s.no now)) h)
-      go false e h = why.without s lost.NotLogging e
-
   -- a drained one that doesn't go below the successor
-  below-of : (seen : List Sight) (n : ServerNo) (s : Stopped) → way_below w b seen r.failed n s ≡ None → BelowSuccessor w b seen r.failed n s
-  below-of seen n s h = go w.gtid refl h
+  below-of : (seen : List Sight) (f n : ServerNo) (s : Stopped) → way_below w b seen f n s ≡ None → BelowSuccessor w b seen f n s
+  below-of seen f n s h = go w.gtid refl h
     where
       by-set : (a : Bool) → cond a (Some (way.Auto n s.exec)) None ≡ None → a ≡ false
       by-set true e = cc
@@ -394,54 +351,96 @@ module _ (w : World) (b : BookState) (now : Moment) (r : Recovery) (P : ServerNo
       by-log None e = refl
       by-log (Some y) e = cc
 
-      go : (g : Bool) → w.gtid ≡ g → cond g (way_by_set w seen n s) (option_map way.Up (latest_that (has_own n s.exec) (ring_at b.rings r.failed))) ≡ None → BelowSuccessor w b seen r.failed n s
-      go true e f = inr (e, by-set (is_some (seen_of seen n.0) && logs_at w n) f)
-      go false e f = inl (e, by-log (latest_that (has_own n s.exec) (ring_at b.rings r.failed)) f)
+      go : (g : Bool) → w.gtid ≡ g → cond g (way_by_set w seen n s) (option_map way.Up (latest_that (has_own n s.exec) (ring_at b.rings f))) ≡ None → BelowSuccessor w b seen f n s
+      go true e f' = inr (e, by-set (is_some (seen_of seen n.0) && logs_at w n) f')
+      go false e f' = inl (e, by-log (latest_that (has_own n s.exec) (ring_at b.rings f)) f')
 
-  decides-explained : (x : Recovery) (d : Decision) → MayDecide w b now x d → Fine x → Fine (decided_by w b now x d)
-  decides-explained x (by.Chooses p ts) may fine = (
-    fine.0,
-    fine.1,
-    fine.2,
-    All-append Each x.outcome.lost (losses_in (lot_of w b x.failed p) (without_stopped x.drained p.no)) fine.3
-        (losses-explained (lot_of w b x.failed p) (without_stopped x.drained p.no) (λ s. subst (λ (f : ServerNo). IsExplained s (lot_of w b f p s)) (sym fine.0) (lot-explained p s))),
-  )
-  decides-explained x (by.ChoosesNobody ts) may fine =
-      (fine.0, fine.1, fine.2, All-append Each x.outcome.lost (map (unfit w) x.drained) fine.3 (unfit-explained x.drained (none-may x.failed x.drained may.1)))
-  decides-explained x (by.Leaves d ds ts) may fine = (
-    fine.0,
-    fine.1,
-    fine.2,
-    All-push Each x.outcome.lost _ fine.3
-        (why.below x.core.seen may.source d (below-of x.core.seen may.source d (ap (λ (f : ServerNo). way_below w b x.core.seen f may.source d) (sym fine.0) ∙ may.way))),
-  )
-  decides-explained x d may fine = fine
-
-  -- ---- a stage that is done
+module _ (w : World) (b : BookState) (now : Moment) (r : Recovery) (P : ServerNo → Lost → Bool) (why : ExplainsTruly w b now r P) where
+  abbrev Each : LostReplica → Type 0
+  Each l = P l.no l.why ≡ true
 
   abbrev Good : Recovery → Type 0
   Good x = AllLost P x.outcome.lost
 
-  moved-away : (x : Recovery) → Fine x → (n : ServerNo) (s : Status) → seen_in (status w n.0) ≡ Some s → is_below (position_of s) x.failed ≡ false → Each (record { no = n; why = lost.Moved (spot_seen s.source s.exec); detached = false })
-  moved-away x fine n s is e = why.moved n s is (ap (is_below (position_of s)) (sym fine.0) ∙ e)
+  abbrev IsExplained : Stopped → Lot → Type 0
+  IsExplained s (deciding.Goes by) = Unit {0}
+  IsExplained s (deciding.Stays y) = P s.no y ≡ true
 
-  -- with what this turn has shown of the replica that the stage has just read
-  abbrev Whole : Recovery → Type 0
-  Whole x = Fine x × ((n : ServerNo) → reader_of x.stage ≡ Some n → ShowsNow w x.core.seen n)
-
-  stray-good : (x : Recovery) (n : ServerNo) (y : Lost) → Fine x → ShowsNow w x.core.seen n → by.stray x.failed (seen_of x.core.seen n.0) ≡ Some y → P n y ≡ true
-  stray-good x n y fine shown h = go (is_below (position_of shown.0) x.failed) refl (ap (by.stray x.failed) (sym shown.2) ∙ h)
+  losses-explained : (lot : Stopped → Lot) (ss : List Stopped) → All (λ s. IsExplained s (lot s)) ss → All Each (losses_in lot ss)
+  losses-explained lot [] each = All-nil Each
+  losses-explained lot (s ∷ ss) each =
+      go (lot s) (All-head (λ (x : Stopped). IsExplained x (lot x)) s ss each) (losses-explained lot ss (All-tail (λ (x : Stopped). IsExplained x (lot x)) s ss each))
     where
-      go : (a : Bool) → is_below (position_of shown.0) x.failed ≡ a → cond a None (Some (lost.Moved (spot_seen shown.0.source shown.0.exec))) ≡ Some y → P n y ≡ true
-      go true e f = cc
-      go false e f = subst (λ (z : Lost). P n z ≡ true) (same_Some (lost.Moved (spot_seen shown.0.source shown.0.exec)) y f) (moved-away x fine n shown.0 shown.1 e)
+      go : (x : Lot) → IsExplained s x → All Each (losses_in lot ss) → All Each (stay_of s x ++ losses_in lot ss)
+      go (deciding.Goes by) h rest = rest
+      go (deciding.Stays y) h rest = All-cons Each (record { no = s.no; why = y; detached = false }) (losses_in lot ss) h rest
 
-  late-good : (x : Recovery) (n : ServerNo) (z : Bridge) (y : Lost) → Fine x → x.lead ≡ Some z → ShowsNow w x.core.seen n → by.late z (seen_of x.core.seen n.0) ≡ Some y → P n y ≡ true
-  late-good x n z y fine lead shown h = go (same_coord shown.0.exec z.exec) refl (ap (by.late z) (sym shown.2) ∙ h)
-    where
-      go : (a : Bool) → same_coord shown.0.exec z.exec ≡ a → cond a None (Some (lost.Behind shown.0.exec)) ≡ Some y → P n y ≡ true
-      go true e f = cc
-      go false e f = subst (λ (q : Lost). P n q ≡ true) (same_Some (lost.Behind shown.0.exec) y f) (why.halted n z shown.0 (sym fine.2 ∙ lead) shown.1 e)
+  -- one decision more
+  module _ (x : Recovery) (so : Decisions w b now r x) where
+    because : (n : ServerNo) (y : Lost) → Reason w b now x n y → P n y ≡ true
+    because n y h = why x n y so h
+
+    lot-explained : (p s : Stopped) → IsDue task.Choosing x → chosen_of w b now x.failed x.drained ≡ Some p → Contains x.drained s → IsExplained s (lot_of w b x.failed p s)
+    lot-explained p s due is there = go w.gtid
+      where
+        kept : same_coord s.exec p.exec ≡ false → is_before p.exec s.exec ≡ false → (o : Option Bridge) → latest_that (has_exec x.failed s.exec) (ring_at b.rings p.no) ≡ o
+            → IsExplained s (lot_by_group p.no x.failed s (by_bridge o))
+        kept other later None e = because s.no (lost.Behind s.exec) (Beside p s due is there (refl, before-other s.exec p.exec later other, e))
+        kept other later (Some y) e = tt
+
+        later : same_coord s.exec p.exec ≡ false → (a : Bool) → is_before p.exec s.exec ≡ a
+            → IsExplained s (lot_by_group p.no x.failed s (cond a group.Ahead (by_bridge (latest_that (has_exec x.failed s.exec) (ring_at b.rings p.no)))))
+        later other true e = because s.no (lost.Ahead s.exec) (Beside p s due is there (refl, e))
+        later other false e = kept other e (latest_that (has_exec x.failed s.exec) (ring_at b.rings p.no)) refl
+
+        level : (a : Bool) → same_coord s.exec p.exec ≡ a
+            → IsExplained s (lot_by_group p.no x.failed s (cond a (group.Follow (own_end_of p)) (cond (is_before p.exec s.exec) group.Ahead (by_bridge (latest_that (has_exec x.failed s.exec) (ring_at b.rings p.no))))))
+        level true e = tt
+        level false e = later e (is_before p.exec s.exec) refl
+
+        go : (g : Bool) → IsExplained s (cond g (deciding.Goes (way.Auto p.no s.exec)) (lot_by_group p.no x.failed s (group_of b.rings p.no (own_end_of p) p.exec x.failed s.exec)))
+        go true = tt
+        go false = level (same_coord s.exec p.exec) refl
+
+    lots-explained : (p : Stopped) (ss : List Stopped) → IsDue task.Choosing x → chosen_of w b now x.failed x.drained ≡ Some p → All (Contains x.drained) ss
+        → All (λ s. IsExplained s (lot_of w b x.failed p s)) ss
+    lots-explained p [] due is there = All-nil (λ (s : Stopped). IsExplained s (lot_of w b x.failed p s))
+    lots-explained p (s ∷ ss) due is there =
+        All-cons (λ (y : Stopped). IsExplained y (lot_of w b x.failed p y)) s ss (lot-explained p s due is (All-head (Contains x.drained) s ss there))
+        (lots-explained p ss due is (All-tail (Contains x.drained) s ss there))
+
+    unfit-explained : (ss : List Stopped) → IsDue task.Choosing x → chosen_of w b now x.failed x.drained ≡ None → All (Contains x.drained) ss
+        → All (λ s. may_lead w b now s ≡ false) ss → All Each (map (unfit w) ss)
+    unfit-explained [] due is there none = All-nil Each
+    unfit-explained (s ∷ ss) due is there none =
+        All-cons Each (unfit w s) (map (unfit w) ss) (go (logs_at w s.no) refl (All-head (λ (y : Stopped). may_lead w b now y ≡ false) s ss none))
+        (unfit-explained ss due is (All-tail (Contains x.drained) s ss there) (All-tail (λ (y : Stopped). may_lead w b now y ≡ false) s ss none))
+      where
+        barred : (a : Bool) → not a ≡ false → a ≡ true
+        barred true h = refl
+        barred false h = absurd (false≢true (sym h))
+
+        mine : Contains x.drained s
+        mine = All-head (Contains x.drained) s ss there
+
+        go : (a : Bool) → logs_at w s.no ≡ a → (a && not (is_barred (rule_at b s.no now))) ≡ false → P s.no (cond a lost.MustNot lost.NotLogging) ≡ true
+        go true e h = because s.no lost.MustNot (Without s due is mine (e, barred (is_barred (rule_at b s.no now)) h))
+        go false e h = because s.no lost.NotLogging (Without s due is mine e)
+
+    decision-explained : (d : Decision) → MayDecide w b now x d → Good x → Good (decided_by w b now x d)
+    decision-explained (by.Chooses p ts) m good =
+        All-append Each x.outcome.lost (losses_in (lot_of w b x.failed p) (without_stopped x.drained p.no)) good
+        (losses-explained (lot_of w b x.failed p) (without_stopped x.drained p.no)
+        (lots-explained p (without_stopped x.drained p.no) (ts, m.0) m.1 (All-filter (λ s. not (s.no.0 == p.no.0)) (Contains x.drained) x.drained (All-contains_itself x.drained))))
+    decision-explained (by.ChoosesNobody ts) m good =
+        All-append Each x.outcome.lost (map (unfit w) x.drained) good
+        (unfit-explained x.drained (ts, m.0) m.1 (All-contains_itself x.drained) (none-may w b now x.failed x.drained m.1))
+    decision-explained (by.Leaves d ds ts) m good =
+        All-push Each x.outcome.lost _ good
+        (because d.no (lost.Behind d.exec) (Below m.source d ds (ts, m.next) m.chosen m.drained (below-of w b now x.core.seen x.failed m.source d m.way)))
+    decision-explained d m good = good
+
+  -- ---- the operation
 
   marked-good : (n : ServerNo) (xs : List LostReplica) → All Each xs → All Each (map (marked n) xs)
   marked-good n [] all = All-nil Each
@@ -451,84 +450,130 @@ module _ (w : World) (b : BookState) (now : Moment) (r : Recovery) (P : ServerNo
       go true = All-head Each l ls all
       go false = All-head Each l ls all
 
-  completes-good : (x : Recovery) (e : Ending) → MayEnd x e → Speaks x → Whole x → Good (ended_by x e)
-  completes-good x (by.Loses n y) may speaks whole = All-push Each x.outcome.lost _ whole.0.3 (stray-good x n y whole.0 (whole.1 n (read-at may.0)) may.1)
+  -- the recovery once its operation is done, from what was decided on; the replica of the stage's reading was read in
+  -- this turn
+  record Behind (z : Recovery) : Type 0 where
+    first : Recovery
+    so : Decisions w b now r first
+    failed : z.failed ≡ first.failed
+    lead : z.lead ≡ first.lead
+    led : lead_of z.stage ≡ lead_of first.stage
+    told : (n : ServerNo) → reader_of z.stage ≡ Some n → speaks_of first.stage ≡ Some n
+    reads : (n : ServerNo) → reader_of z.stage ≡ Some n → reads_last first.stage ≡ true
+    shows : (n : ServerNo) → reader_of z.stage ≡ Some n → ShowsNow w z.core.seen n
+    fine : Good z
+
+  strayed : (z : Recovery) (n : ServerNo) (y : Lost) → Behind z → reader_of z.stage ≡ Some n → by.stray z.failed (seen_of z.core.seen n.0) ≡ Some y → P n y ≡ true
+  strayed z n y h on lost-so = let s = h.shows n on in go s.0 s.1 (is_below (position_of s.0) z.failed) refl (ap (by.stray z.failed) (sym s.2) ∙ lost-so)
     where
-      read-at : WasRead x.stage n → reader_of x.stage ≡ Some n
+      go : (s : Status) → seen_in (status w n.0) ≡ Some s → (a : Bool) → is_below (position_of s) z.failed ≡ a → cond a None (Some (lost.Moved (spot_seen s.source s.exec))) ≡ Some y → P n y ≡ true
+      go s is true e f = cc
+      go s is false e f =
+          subst (λ (q : Lost). P n q ≡ true) (same_Some (lost.Moved (spot_seen s.source s.exec)) y f)
+          (because h.first h.so n (lost.Moved (spot_seen s.source s.exec)) (Strayed s (h.told n on) (h.reads n on) is (ap (is_below (position_of s)) (sym h.failed) ∙ e)))
+
+  halts : (z : Recovery) (n : ServerNo) (x : Bridge) (y : Lost) → Behind z → reader_of z.stage ≡ Some n → lead_of z.stage ≡ Some x → z.lead ≡ Some x → by.late x (seen_of z.core.seen n.0) ≡ Some y → P n y ≡ true
+  halts z n x y h on led lead late-so = let s = h.shows n on in go s.0 s.1 (same_coord s.0.exec x.exec) refl (ap (by.late x) (sym s.2) ∙ late-so)
+    where
+      go : (s : Status) → seen_in (status w n.0) ≡ Some s → (a : Bool) → same_coord s.exec x.exec ≡ a → cond a None (Some (lost.Behind s.exec)) ≡ Some y → P n y ≡ true
+      go s is true e f = cc
+      go s is false e f =
+          subst (λ (q : Lost). P n q ≡ true) (same_Some (lost.Behind s.exec) y f)
+          (because h.first h.so n (lost.Behind s.exec)
+          (Halted x s (record { speaks = h.told n on; leads = sym h.led ∙ led; lead = sym h.lead ∙ lead }) (h.reads n on) is e))
+
+  completes-good : (z : Recovery) (e : Ending) → MayEnd z e → Speaks z → Behind z → Good (ended_by z e)
+  completes-good z (by.Loses n y) may speaks h = All-push Each z.outcome.lost _ h.fine (strayed z n y h (read-at may.0) may.1)
+    where
+      read-at : WasRead z.stage n → reader_of z.stage ≡ Some n
       read-at (inl is) = ap reader_of is
-      read-at (inr (z, is)) = ap reader_of is
-  completes-good x (by.Frees n y) may speaks whole =
-      All-push Each x.outcome.lost _ whole.0.3 (late-good x n may.0 y whole.0 (speaks.lead may.0 (ap lead_of may.1)) (whole.1 n (ap reader_of may.1)) may.2)
-  completes-good x (by.Marks n) may speaks whole = marked-good n x.outcome.lost whole.0.3
-  completes-good x e may speaks whole = whole.0.3
+      read-at (inr (x, is)) = ap reader_of is
+  completes-good z (by.Frees n y) may speaks h =
+      All-push Each z.outcome.lost _ h.fine
+      (halts z n may.0 y h (ap reader_of may.1) (ap lead_of may.1) (speaks.lead may.0 (ap lead_of may.1)) may.2)
+  completes-good z (by.Marks n) may speaks h = marked-good n z.outcome.lost h.fine
+  completes-good z e may speaks h = h.fine
 
-  -- ---- a turn
-
-  entered-fine : (x : Recovery) (s : Stage) → Fine x → Fine (entered x s)
-  entered-fine x s fine = go (leaver s)
-    where
-      go : (o : Option ServerNo) → Fine (record (follows_no_more x o) { stage = s })
-      go None = fine
-      go (Some n) = fine
-
-  module _ (read : ℕ) (x : Recovery) (o : Op) (rest : List Op) (fits : Fits x.stage (o ∷ rest)) (speaks : Speaks x) (is : x.core.ops ≡ o ∷ rest) (fine : Fine x) where
-    module _ (ob : Option Observation) (es : List Exchange) (k : Job) (e : by_deed w read now x.core rest (deed_of o) ≡ attempt.Goes ob es k) (went : WentOn x.core rest es k) where
+  module _ (read : ℕ) (x : Recovery) (so : Decisions w b now r x) (o : Op) (rest : List Op) (fits : Fits x.stage (o ∷ rest)) (speaks : Speaks x) (is : x.core.ops ≡ o ∷ rest) (good : Good x) where
+    module _ (ob : Option Observation) (es : List Exchange) (k : Job) (e : by_deed w read now x.core rest (deed_of o) ≡ attempt.Goes ob es k) where
       abbrev later : Recovery
       later = record x { core = k }
 
-      stepped-whole : Whole (stepped later o)
-      stepped-whole = go (fits-step x.stage o rest fits)
+      entered-behind : (s : Stage) → lead_of s ≡ lead_of x.stage → ((n : ServerNo) → reader_of s ≡ Some n → (speaks_of x.stage ≡ Some n) × (reads_last x.stage ≡ true)) → ((n : ServerNo) → reader_of s ≡ Some n → ShowsNow w k.seen n) → Behind (entered later s)
+      entered-behind s led reads shows = go (leaver s)
         where
-          go : ((ends x.stage (deed_of o) ≡ false) × Fits x.stage rest) ⊎ (o ∷ rest ≡ tail_of x.stage) → Whole (stepped later o)
+          go : (q : Option ServerNo) → Behind (record (follows_no_more later q) { stage = s })
+          go None = record { first = x; so = so; failed = refl; lead = refl; led = led; told = λ n h. (reads n h).0; reads = λ n h. (reads n h).1; shows = shows; fine = good }
+          go (Some m) = record { first = x; so = so; failed = refl; lead = refl; led = led; told = λ n h. (reads n h).0; reads = λ n h. (reads n h).1; shows = shows; fine = good }
+
+      stepped-behind : Behind (stepped later o)
+      stepped-behind = go (fits-step x.stage o rest fits)
+        where
+          go : ((ends x.stage (deed_of o) ≡ false) × Fits x.stage rest) ⊎ (o ∷ rest ≡ tail_of x.stage) → Behind (stepped later o)
           go (inl p) =
-              subst (λ (a : Bool). Whole (cond a (entered later (moved x.stage)) later)) (sym p.0)
-              (fine, λ n h. absurd (unread x.stage o rest n fits h))
+              subst (λ (a : Bool). Behind (cond a (entered later (moved x.stage)) later)) (sym p.0)
+              (record {
+                first = x;
+                so = so;
+                failed = refl;
+                lead = refl;
+                led = refl;
+                told = λ n h. absurd (unread x.stage o rest n fits h);
+                reads = λ n h. absurd (unread x.stage o rest n fits h);
+                shows = λ n h. absurd (unread x.stage o rest n fits h);
+                fine = good;
+              })
           go (inr t) =
-              subst (λ (a : Bool). Whole (cond a (entered later (moved x.stage)) later)) (sym (moved-fits x.stage o rest t).0) (
-                entered-fine later (moved x.stage) fine,
-                λ n h.
-                    let same = moved-reader x.stage o rest n t h in
-                    let now-read : ShowsNow w k.seen n =
-                    subst (λ (a : Attempt). ReadsNow w n a) e (subst (λ (y : Op). ReadsNow w n (by_deed w read now x.core rest (deed_of y))) (sym same) (read-now w read now x.core rest n)) in
-                    subst (λ (j : Job). ShowsNow w j.seen n) (sym (entered-core later (moved x.stage))) now-read,
-              )
+              subst (λ (a : Bool). Behind (cond a (entered later (moved x.stage)) later)) (sym (moved-fits x.stage o rest t).0)
+              (entered-behind (moved x.stage) (moved-leads x.stage) (λ n h. moved-reads x.stage o rest n t h) (λ n h.
+              let same = moved-reader x.stage o rest n t h in
+              subst (λ (a : Attempt). ReadsNow w n a) e (subst (λ (y : Op). ReadsNow w n (by_deed w read now x.core rest (deed_of y))) (sym same) (read-now w read now x.core rest n))))
+
+    -- it goes where the designated one stopped
+    trailing : (n : ServerNo) (y : Bridge) → speaks_of x.stage ≡ Some n → lead_of x.stage ≡ Some y → IsTrailing x n y
+    trailing n y on led = record { speaks = on; leads = led; lead = speaks.lead y led }
 
     -- one more is lost for a true reason, and is started or not
     module _ (c : Cause) (ob : Option Observation) (e : by_deed w read now x.core rest (deed_of o) ≡ attempt.Stops c ob) where
       abbrev Met : Fate → Type 0
       Met g = Good (met w x c ob g).recovery
 
-      entry : (n : ServerNo) (y : Lost) → P n y ≡ true → Good (loses x n y)
-      entry n y h = All-push Each x.outcome.lost _ fine.3 h
+      missed : (n : ServerNo) (y : Lost) → Reason w b now x n y → Good (loses x n y)
+      missed n y h = All-push Each x.outcome.lost _ good (because x so n y h)
 
-      by-purpose : (u : Purpose) (n : ServerNo) (y : Lost) → P n y ≡ true → Met (lost_on_way u n y)
-      by-purpose purpose.Regroup n y h = entry n y h
-      by-purpose purpose.Master n y h = entry n y h
-      by-purpose (purpose.Intermediate s) n y h = entry n y h
-      by-purpose (purpose.Takeover d) n y h = entry n y h
+      by-purpose : (u : Purpose) (n : ServerNo) (y : Lost) → Reason w b now x n y → Met (lost_on_way u n y)
+      by-purpose purpose.Regroup n y h = missed n y h
+      by-purpose purpose.Master n y h = missed n y h
+      by-purpose (purpose.Intermediate s) n y h = missed n y h
+      by-purpose (purpose.Takeover d) n y h = missed n y h
 
       -- the cause is true of the stage's replica
       truth : (n : ServerNo) → speaks_of x.stage ≡ Some n → IsTrueOf w n c
       truth n h = subst (λ (a : Attempt). StopsTruly w n a) e (deed-true w x.core rest n read now (deed_of o) (due-speaks w read now x o rest fits speaks is n h))
 
-      drain-met : (n : ServerNo) (y : Cause) → IsTrueOf w n y → Met (fate_of_drain n y)
-      drain-met n (cause.Unreachable m) t = entry n lost.Unreachable (why.unreached n t.1)
-      drain-met n y t = fine.3
+      drain-met : (n : ServerNo) → speaks_of x.stage ≡ Some n → (y : Cause) → IsTrueOf w n y → Met (fate_of_drain n y)
+      drain-met n on (cause.Unreachable m) t = missed n lost.Unreachable (Unreached on t.1)
+      drain-met n on y t = good
 
-      errant-met : (n : ServerNo) (by : Way) (set : List Interval) → IsTrueOf w n (cause.Errant n set) → Met (fate_of_errant x.purpose n by)
-      errant-met n (way.Auto to exec) set t = by-purpose x.purpose n (lost.Ahead exec) (why.errant n set exec t)
-      errant-met n (way.Down y) set t = fine.3
-      errant-met n (way.Up y) set t = fine.3
+      errant-met : (n : ServerNo) (by : Way) (set : List Interval) → x.stage ≡ stage.Move n by → IsRefusedOn w n by (attaching.Errant set) → Met (fate_of_errant x.purpose n by)
+      errant-met n (way.Auto to exec) set at refused = by-purpose x.purpose n (lost.Ahead exec) (Errant to exec set at refused)
+      errant-met n (way.Down y) set at refused = good
+      errant-met n (way.Up y) set at refused = good
 
-      move-met : (n : ServerNo) (by : Way) (y : Cause) → IsTrueOf w n y → Met (fate_of_move w x.purpose n by y)
-      move-met n by (cause.Unreachable m) t = by-purpose x.purpose n lost.Unreachable (why.unreached n t.1)
-      move-met n by (cause.Running m) t = by-purpose x.purpose n (lost.Moved (spot_by (server_at w n.0))) (why.running n t.1)
-      move-met n by (cause.Interfered m expected found) t = by-purpose x.purpose n (lost.Moved found) (why.interfered n expected found (refl, t.1))
-      move-met n by (cause.Errant m set) t = errant-met n by set (refl, t.1)
-      move-met n by y t = fine.3
+      move-met : (n : ServerNo) (by : Way) → x.stage ≡ stage.Move n by → (f : AttachFault) → IsRefusedOn w n by f → IsTrueOf w n (cause_by n f) → Met (fate_of_move w x.purpose n by (cause_by n f))
+      move-met n by at attaching.Unreachable refused t = by-purpose x.purpose n lost.Unreachable (Unreached (ap speaks_of at) t.1)
+      move-met n by at (attaching.Running spot) refused t = by-purpose x.purpose n (lost.Moved (spot_by (server_at w n.0))) (Running by spot at refused t.1)
+      move-met n by at (attaching.Interfered expected found) refused t = by-purpose x.purpose n (lost.Moved found) (Interfered by expected found at refused)
+      move-met n by at attaching.Loop refused t = good
+      move-met n by at (attaching.Errant set) refused t = errant-met n by set at refused
+      move-met n by at (attaching.Purged first) refused t = by-purpose x.purpose n (lost.Purged (place_on by)) (Purged by first at refused)
+      move-met n by at attaching.Memory refused t = by-purpose x.purpose n lost.Unreachable (Unreached (ap speaks_of at) t.1)
 
-      behind-met : (n : ServerNo) (z : Bridge) → x.lead ≡ Some z → (s : Status) → seen_in (status w n.0) ≡ Some s → (n.0 ≡ z.no.0) ⊎ (is_at_or_before z.exec s.exec ≡ false) → P n (lost.Behind (exec_by (server_at w n.0))) ≡ true
-      behind-met n z lead s is late = subst (λ (q : Coord). P n (lost.Behind q) ≡ true) (shown-exec w n.0 s is) (why.late n z s (sym fine.2 ∙ lead) is late)
+      moving-met : (n : ServerNo) (by : Way) → x.stage ≡ stage.Move n by → Met (fate_of_move w x.purpose n by c)
+      moving-met n by at =
+          let g = due-goes w read now x o rest fits speaks is n by at in
+          let h = move-refused w read now x.core rest n by c ob g.1 (subst (λ (y : Op). by_deed w read now x.core rest (deed_of y) ≡ attempt.Stops c ob) g.0 e) in
+          subst (λ (y : Cause). Met (fate_of_move w x.purpose n by y)) (sym h.1) (move-met n by at h.0 h.2 (subst (λ (y : Cause). IsTrueOf w n y) h.1 (truth n (ap speaks_of at))))
 
       -- it was before where the designated one stopped, unless it is that one
       late-by : (n : ServerNo) (z : Bridge) (s : Status) → AimsAt x.core.seen n z → is_reached (aim_of x.core.seen (ExecOf z.no)) s.exec ≡ false → (n.0 ≡ z.no.0) ⊎ (is_at_or_before z.exec s.exec ≡ false)
@@ -538,15 +583,17 @@ module _ (w : World) (b : BookState) (now : Moment) (r : Recovery) (P : ServerNo
           go true f = inl (eqb-true n.0 z.no.0 f)
           go false f = inr (sym (ap (λ q. is_reached q s.exec) (aims (λ same. false≢true (sym f ∙ eq-eqb n.0 z.no.0 same)))) ∙ h)
 
-      trail-met : (n : ServerNo) (z : Bridge) → x.lead ≡ Some z → AimsAt x.core.seen n z → (y : Cause) → IsTrueOf w n y → IsLate w n (aim_of x.core.seen (ExecOf z.no)) y → Met (fate_of_trail w n y)
-      trail-met n z lead aims (cause.Unreachable m) t l = entry n lost.Unreachable (why.unreached n t.1)
-      trail-met n z lead aims (cause.WaitSpent m) t l = entry n (lost.Behind (exec_by (server_at w n.0))) (behind-met n z lead l.0 l.1 (late-by n z l.0 aims l.2))
-      trail-met n z lead aims y t l = fine.3
+      trail-met : (n : ServerNo) (z : Bridge) → IsTrailing x n z → AimsAt x.core.seen n z → (y : Cause) → IsTrueOf w n y → IsLate w n (aim_of x.core.seen (ExecOf z.no)) y → Met (fate_of_trail w n y)
+      trail-met n z on aims (cause.Unreachable m) t l = missed n lost.Unreachable (Unreached on.speaks t.1)
+      trail-met n z on aims (cause.WaitSpent m) t l =
+          missed n (lost.Behind (exec_by (server_at w n.0)))
+          (subst (λ (q : Coord). Reason w b now x n (lost.Behind q)) (shown-exec w n.0 l.0 l.1) (Late z l.0 on l.1 (late-by n z l.0 aims l.2)))
+      trail-met n z on aims y t l = good
 
-      look-met : (n : ServerNo) (y : Cause) → IsTrueOf w n y → IsUnspent y → Met (fate_of_trail w n y)
-      look-met n (cause.Unreachable m) t l = entry n lost.Unreachable (why.unreached n t.1)
-      look-met n (cause.WaitSpent m) t l = absurd l
-      look-met n y t l = fine.3
+      look-met : (n : ServerNo) → speaks_of x.stage ≡ Some n → (y : Cause) → IsTrueOf w n y → IsUnspent y → Met (fate_of_trail w n y)
+      look-met n on (cause.Unreachable m) t l = missed n lost.Unreachable (Unreached on t.1)
+      look-met n on (cause.WaitSpent m) t l = absurd l
+      look-met n on y t l = good
 
       late : (n : ServerNo) (z : Bridge) → speaks_of x.stage ≡ Some n → lead_of x.stage ≡ Some z → IsLate w n (aim_of x.core.seen (ExecOf z.no)) c
       late n z on led =
@@ -554,16 +601,16 @@ module _ (w : World) (b : BookState) (now : Moment) (r : Recovery) (P : ServerNo
           (deed-late w read now x.core rest (deed_of o) n z (due-speaks w read now x o rest fits speaks is n on) (due-waits w read now x o rest fits speaks is z led))
 
       stage-met : (s : Stage) → x.stage ≡ s → Met (fate w x.purpose s c)
-      stage-met (stage.Drain n) at = drain-met n c (truth n (ap speaks_of at))
-      stage-met (stage.Move n by) at = move-met n by c (truth n (ap speaks_of at))
+      stage-met (stage.Drain n) at = drain-met n (ap speaks_of at) c (truth n (ap speaks_of at))
+      stage-met (stage.Move n by) at = moving-met n by at
       stage-met (stage.Join n p) at =
-          entry n lost.Unreachable
-          (why.unreached n (subst (λ (a : Attempt). StopsUnreached w n a) e (asked-unreached w read now x.core rest (deed_of o) n (due-speaks w read now x o rest fits speaks is n (ap speaks_of at)) (due-asked w read now x o rest fits speaks is n p at))))
+          missed n lost.Unreachable
+          (Unreached (ap speaks_of at) (subst (λ (a : Attempt). StopsUnreached w n a) e (asked-unreached w read now x.core rest (deed_of o) n (due-speaks w read now x o rest fits speaks is n (ap speaks_of at)) (due-asked w read now x o rest fits speaks is n p at))))
       stage-met (stage.Trail n z) at =
-          trail-met n z (speaks.lead z (ap lead_of at)) (speaks.aims n z at) c (truth n (ap speaks_of at)) (late n z (ap speaks_of at) (ap lead_of at))
+          trail-met n z (trailing n z (ap speaks_of at) (ap lead_of at)) (speaks.aims n z at) c (truth n (ap speaks_of at)) (late n z (ap speaks_of at) (ap lead_of at))
       stage-met (stage.Look n z) at =
-          look-met n c (truth n (ap speaks_of at)) (subst (λ (a : Attempt). StopsUnspent a) e (look-unspent w read now x.core rest (deed_of o) (due-looks w read now x o rest fits speaks is n z at)))
-      stage-met s at = fine.3
+          look-met n (ap speaks_of at) c (truth n (ap speaks_of at)) (subst (λ (a : Attempt). StopsUnspent a) e (look-unspent w read now x.core rest (deed_of o) (due-looks w read now x o rest fits speaks is n z at)))
+      stage-met s at = good
 
   fits-of : (x : Recovery) (o : Op) (rest : List Op) → x.core.ops ≡ o ∷ rest → HeldRecovery w x → Fits x.stage (o ∷ rest)
   fits-of x o rest is held = subst (λ (xs : List Op). Fits x.stage xs) is held.fits
@@ -573,27 +620,31 @@ module _ (w : World) (b : BookState) (now : Moment) (r : Recovery) (P : ServerNo
   borne-good x c ob f h = h
 
   abbrev Before : Recovery → Type 0
-  Before x = HeldRecovery w x × Speaks x × Fine x
+  Before x = HeldRecovery w x × Speaks x × (Decisions w b now r x × Good x)
 
-  keeps-good : (read : ℕ) → HeldRings w b.rings → Keeps w b read now Before (λ v x. Speaks x × Whole x) (λ v x. Good x)
+  keeps-good : (read : ℕ) → HeldRings w b.rings → Keeps w b read now Before (λ v x. Speaks x × Behind x) (λ v x. Good x)
   keeps-good read rings = record {
-    decides = λ x d may h. (decides-held w b now rings x d may h.0, decides-speaks w b now x d may h.1, decides-explained x d may h.2);
-    waits = λ x o rest ob es j did e h. h.2.3;
+    decides = λ x d may h. (
+      decides-held w b now rings x d may h.0,
+      decides-speaks w b now x d may h.1,
+      (joined w b now h.2.0 (by.Then d may by.Still), decision-explained x h.2.0 d may h.2.1),
+    );
+    waits = λ x o rest ob es j did e h. h.2.1;
     acts = λ x o rest ob es j did e h.
         let fits = fits-of x o rest did.ops h.0 in
         let on = went-of w read now x o rest ob es j did in (
           stepped-speaks w read now x o rest fits h.1 did.ops ob es j did.goes on e,
-          stepped-whole read x o rest fits h.1 did.ops h.2 ob es j did.goes on,
+          stepped-behind read x h.2.0 o rest fits h.1 did.ops h.2.1 ob es j did.goes,
         );
-    continues = λ v x y ys is whole. whole.1.0.3;
+    continues = λ v x y ys is whole. whole.1.fine;
     completes = λ v x e none may whole. completes-good x e may whole.0 whole.1;
     bears = λ x o rest c ob e stops is may h.
         borne-good x c ob (fate_of e)
-        (subst (λ (f : Fate). Good (met w x c ob f).recovery) is (stage-met read x o rest (fits-of x o rest stops.ops h.0) h.1 stops.ops h.2 c ob stops.stops x.stage refl));
+        (subst (λ (f : Fate). Good (met w x c ob f).recovery) is (stage-met read x h.2.0 o rest (fits-of x o rest stops.ops h.0) h.1 stops.ops h.2.1 c ob stops.stops x.stage refl));
   }
 
 pub taken-explained : (w : World) (b : BookState) (read : ℕ) (now : Moment) (r : Recovery) (P : ServerNo → Lost → Bool) → HeldRings w b.rings → HeldRecovery w r → Speaks r → ExplainsTruly w b now r P
     → AllLost P r.outcome.lost → AllLost P (taken w b read now r).recovery.outcome.lost
 taken-explained w b read now r P rings held speaks why all =
-    kept-whole w b read now (Before w b now r P why) (λ v x. Speaks x × Whole w b now r P why x) (λ v x. AllLost P x.outcome.lost) (keeps-good w b now r P why read rings)
-    (record { fails = λ x c ob f h. h.2.3; finishes = λ x o rest lines is e h. h.2.3 }) r (held, speaks, (refl, refl, refl, all))
+    kept-whole w b read now (Before w b now r P why) (λ v x. Speaks x × Behind w b now r P why x) (λ v x. AllLost P x.outcome.lost) (keeps-good w b now r P why read rings)
+    (record { fails = λ x c ob f h. h.2.1; finishes = λ x o rest lines is e h. h.2.1 }) r (held, speaks, (by.Still, all))

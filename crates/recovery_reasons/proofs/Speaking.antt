@@ -2,14 +2,14 @@
 use Rattle.job_laws.proofs.Sights.{seen-at}
 use Rattle.operations.specs.declared.sight.Position.{Position}
 use Rattle.operations.specs.declared.sight.Sight.{Sight}
-use Rattle.std.proofs.Common.{◌≡◌, ℕ, Bool, true, false, cond, List, [], ◌∷◌, refl, sym, ◌∙◌, ap, subst, Option, Some, None, option_map, ◌⊎◌, inl, inr}
+use Rattle.std.proofs.Common.{◌≡◌, ℕ, Bool, true, false, cond, List, [], ◌∷◌, refl, sym, ◌∙◌, ap, subst, Option, Some, None, option_map, ◌⊎◌, inl, inr, Ok, Err, Result}
 use Rattle.std.specs.List.{All}
-use Rattle.std.proofs.lemmas.Bool.{eq-eqb}
+use Rattle.std.proofs.lemmas.Bool.{eq-eqb, false≢true}
 use Rattle.std.proofs.lemmas.Option.{same_Some}
 use Rattle.std.proofs.lemmas.List.Elements.{All-nil, All-cons, All-head, All-tail}
 use Rattle.orch_base.specs.declared.server.Moment.{Moment}
 use Rattle.orch_base.specs.declared.server.ServerNo.{ServerNo}
-use Rattle.server_model.specs.Run.{Exchange}
+use Rattle.server_model.specs.Run.{Exchange, Attach, AttachAuto}
 use Rattle.server_model.specs.Worlds.{World}
 use Rattle.instance_keeper.specs.declared.bridge.Bridge.{Bridge}
 use Rattle.kept_rows.specs.declared.observation.Observation.{Observation}
@@ -19,7 +19,12 @@ use Rattle.operations.specs.declared.op.Op.TheVariants as op
 use Rattle.operations.specs.Deeds.{deed_of}
 use Rattle.operations.specs.Jobs.{Job, seen_of}
 use Rattle.operations.specs.Turns as attempt
-use Rattle.operations.specs.Turns.{Attempt, by_deed, is_going}
+use Rattle.commands.specs.declared.cause.Cause.{Cause}
+use Rattle.server_words.specs.declared.attach.Spot.TheVariants as spot
+use Rattle.server_words.specs.declared.attach.AttachFault.{AttachFault}
+use Rattle.operations.specs.declared.op.Crossing.TheVariants as cross
+use Rattle.operations.specs.Targets.{can_attach}
+use Rattle.operations.specs.Turns.{Attempt, by_deed, is_going, after_answer, after_attach, attach_answer_of, bridge_at, by_set, cause_by, crossed, crossing_of}
 use Rattle.recovery_plans.specs.declared.purpose.Purpose.{Purpose}
 use Rattle.recovery_plans.specs.declared.purpose.Purpose.TheVariants as purpose
 use Rattle.recovery_plans.specs.declared.stage.Stage.{Stage}
@@ -29,7 +34,7 @@ use Rattle.recovery_plans.specs.declared.task.Way.TheVariants as way
 use Rattle.recovery_plans.specs.Beginning.{begun_recovery}
 use Rattle.recovery_plans.specs.Named.{spoken_to}
 use Rattle.recovery_plans.specs.Recoveries.{Recovery, follows_no_more, sight_of}
-use Rattle.recovery_plans.specs.Stages.{drain, ends, leaver, move, moved, trail, with_bridge, is_look, tail_of}
+use Rattle.recovery_plans.specs.Stages.{drain, ends, leaver, move, moved, trail, with_bridge, is_look, tail_of, with_way}
 use Rattle.recovery_plans.specs.Deciding.{moving}
 use Rattle.recovery_plans.specs.Taking.{entered, stepped, is_waiting, taken}
 use Rattle.recovery_plans.specs.Moves as by
@@ -40,8 +45,8 @@ use Rattle.recovery_laws.specs.Rings.{HeldRings}
 use Rattle.recovery_ends.specs.Shapes.{Fits}
 use Rattle.recovery_laws.proofs.Deciding.{decides-held}
 use Rattle.recovery_ends.proofs.Fitting.{went-of}
-use Rattle.recovery_ends.proofs.Shapes.{WentOn, fits-step, moved-fits, same-tail}
-use Rattle.recovery_reasons.specs.Reasons.{speaks_of, lead_of, WaitsFor, IsAsked, AimsAt, Speaks}
+use Rattle.recovery_ends.proofs.Shapes.{WentOn, fits-step, moved-fits, same-tail, same-head}
+use Rattle.recovery_reasons.specs.Reasons.{speaks_of, lead_of, WaitsFor, IsAsked, AimsAt, Speaks, ShowsWay, GoesBy, IsRefusedOn}
 use Rattle.recovery_reasons.proofs.Sights.{SeesOnly, deed-sees}
 
 abbrev With : ServerNo → Op → Type 0
@@ -56,6 +61,15 @@ Asked o = IsAsked (deed_of o)
 abbrev Looks : Op → Type 0
 Looks o = is_look (deed_of o) ≡ true
 
+-- the way that a stage's replica goes
+abbrev way_in : Stage → Option Way
+way_in (stage.Move n by) = Some by
+way_in s = None
+
+same-way : (j : Job) (n m : ServerNo) (x y : Way) → stage.Move n x ≡ stage.Move m y → GoesBy j n x → GoesBy j m y
+same-way j n m x y e h =
+    subst (λ (k : ServerNo). GoesBy j k y) (same_Some n m (ap speaks_of e)) (subst (λ (way : Way). GoesBy j n way) (same_Some x y (ap way_in e)) h)
+
 -- of a stage that places none
 silent : (r : Recovery) → speaks_of r.stage ≡ None → lead_of r.stage ≡ None → Speaks r
 silent r none led = record {
@@ -63,17 +77,20 @@ silent r none led = record {
   lead = λ x e. let bad : None ≡ Some x = sym led ∙ e in cc;
   waits = λ x e. let bad : None ≡ Some x = sym led ∙ e in cc;
   aims = λ n x e. let bad : None ≡ Some x = sym led ∙ ap lead_of e in cc;
+  goes = λ n way e. let bad : None ≡ Some n = sym none ∙ ap speaks_of e in cc;
   asked = λ n p e. let bad : None ≡ Some n = sym none ∙ ap speaks_of e in cc;
   looks = λ n x e. let bad : None ≡ Some x = sym led ∙ ap lead_of e in cc;
 }
 
 -- of one that does
-speaking : (r : Recovery) (m : ServerNo) → speaks_of r.stage ≡ Some m → All (With m) r.core.ops → lead_of r.stage ≡ None → ((n p : ServerNo) → r.stage ≡ stage.Join n p → ⊥) → Speaks r
-speaking r m is all led apart = record {
+speaking : (r : Recovery) (m : ServerNo) → speaks_of r.stage ≡ Some m → All (With m) r.core.ops → lead_of r.stage ≡ None
+    → ((n : ServerNo) (way : Way) → r.stage ≡ stage.Move n way → GoesBy r.core n way) → ((n p : ServerNo) → r.stage ≡ stage.Join n p → ⊥) → Speaks r
+speaking r m is all led goes apart = record {
   ops = λ n e. subst (λ (x : ServerNo). All (With x) r.core.ops) (same_Some m n (sym is ∙ e)) all;
   lead = λ x e. let bad : None ≡ Some x = sym led ∙ e in cc;
   waits = λ x e. let bad : None ≡ Some x = sym led ∙ e in cc;
   aims = λ n x e. let bad : None ≡ Some x = sym led ∙ ap lead_of e in cc;
+  goes = goes;
   asked = λ n p e. absurd (apart n p e);
   looks = λ n x e. let bad : None ≡ Some x = sym led ∙ ap lead_of e in cc;
 }
@@ -85,6 +102,7 @@ alike r r' core at lead s = record {
   lead = λ x e. lead ∙ s.lead x (sym (ap lead_of at) ∙ e);
   waits = λ x e. subst (λ (j : Job). All (Waits x) j.ops) (sym core) (s.waits x (sym (ap lead_of at) ∙ e));
   aims = λ n x e. subst (λ (j : Job). AimsAt j.seen n x) (sym core) (s.aims n x (sym at ∙ e));
+  goes = λ n way e. subst (λ (j : Job). GoesBy j n way) (sym core) (s.goes n way (sym at ∙ e));
   asked = λ n p e. subst (λ (j : Job). All Asked j.ops) (sym core) (s.asked n p (sym at ∙ e));
   looks = λ n x e. subst (λ (j : Job). All Looks j.ops) (sym core) (s.looks n x (sym at ∙ e));
 }
@@ -108,9 +126,17 @@ trail-waits n b =
     (All-cons (Waits b) (op.Stop n) (op.Status n None ∷ []) tt (All-cons (Waits b) (op.Status n None) [] tt (All-nil (Waits b)))))
 
 -- the reading that is put in is the bridge's
+bridge-seen : (xs : List Sight) (b : Bridge) → seen_of (with_bridge xs b) b.no.0 ≡ Some (sight_of b)
+bridge-seen xs b =
+    seen-at xs b.no (sight_of b) b.no.0 ∙ ap (λ (x : Bool). cond x (Some (sight_of b)) (seen_of xs b.no.0)) (eq-eqb b.no.0 b.no.0 refl)
+
 bridge-aims : (xs : List Sight) (b : Bridge) → option_map (λ (s : Position). s.exec) (seen_of (with_bridge xs b) b.no.0) ≡ Some b.exec
-bridge-aims xs b =
-    ap (option_map (λ (s : Position). s.exec)) (seen-at xs b.no (sight_of b) b.no.0 ∙ ap (λ (x : Bool). cond x (Some (sight_of b)) (seen_of xs b.no.0)) (eq-eqb b.no.0 b.no.0 refl))
+bridge-aims xs b = ap (option_map (λ (s : Position). s.exec)) (bridge-seen xs b)
+
+way-shows : (xs : List Sight) (by : Way) → ShowsWay (with_way xs by) by
+way-shows xs (way.Down b) = bridge-seen xs b
+way-shows xs (way.Up b) = bridge-seen xs b
+way-shows xs (way.Auto to exec) = tt
 
 way-speaks : (by : Way) (n : ServerNo) → spoken_to (deed_of (move by n)) ≡ Some n
 way-speaks (way.Down b) n = refl
@@ -119,14 +145,15 @@ way-speaks (way.Auto to exec) n = refl
 
 moving-speaks : (r : Recovery) (n : ServerNo) (by : Way) → Speaks (moving r n by)
 moving-speaks r n by =
-    speaking (moving r n by) n refl (All-cons (With n) (move by n) (op.Start n ∷ []) (way-speaks by n) (All-cons (With n) (op.Start n) [] refl (All-nil (With n)))) refl (λ m p e. cc)
+    speaking (moving r n by) n refl (All-cons (With n) (move by n) (op.Start n ∷ []) (way-speaks by n) (All-cons (With n) (op.Start n) [] refl (All-nil (With n)))) refl
+    (λ m to e. same-way (moving r n by).core n m by to e (refl, way-shows r.core.seen by)) (λ m p e. cc)
 
 -- ---- what is decided
 
 module _ (w : World) (b : BookState) (now : Moment) where
   pub decides-speaks : (r : Recovery) (d : Decision) → MayDecide w b now r d → Speaks r → Speaks (decided_by w b now r d)
   decides-speaks r (by.Reads n ts) may s = silent _ refl refl
-  decides-speaks r (by.Drains n ts) may s = speaking _ n refl (drain-speaks n) refl (λ m p e. cc)
+  decides-speaks r (by.Drains n ts) may s = speaking _ n refl (drain-speaks n) refl (λ m way e. cc) (λ m p e. cc)
   decides-speaks r (by.Sends n way ts) may s = moving-speaks (record r { queue = ts }) n way
   decides-speaks r (by.Expels n ts) may s = silent _ refl refl
   decides-speaks r (by.Releases n ts) may s = silent _ refl refl
@@ -135,6 +162,7 @@ module _ (w : World) (b : BookState) (now : Moment) where
     lead = λ y f. may.1 ∙ f;
     waits = λ y f. All-cons (Waits y) (op.Status n None) [] tt (All-nil (Waits y));
     aims = λ m y f. cc;
+    goes = λ m way f. cc;
     asked = λ m p f. cc;
     looks = λ m y f. All-cons Looks (op.Status n None) [] refl (All-nil Looks);
   }
@@ -156,6 +184,7 @@ completes-speaks r (by.Trails n b) may s =
       lead = λ x e. lead ∙ e;
       waits = λ x e. subst (λ (y : Bridge). All (Waits y) (trail n b.no)) (same_Some b x e) (trail-waits n b);
       aims = λ m x e. subst (λ (y : Bridge). AimsAt (with_bridge r.core.seen b) m y) (same_Some b x (ap lead_of e)) (λ apart. bridge-aims r.core.seen b);
+      goes = λ m way e. cc;
       asked = λ m p e. cc;
       looks = λ m x e. cc;
     }
@@ -171,7 +200,7 @@ moved-speaks (stage.Move m by) n e = e
 moved-speaks (stage.Join m p) n e = e
 moved-speaks s n e = cc
 
-moved-leads : (s : Stage) → lead_of (moved s) ≡ lead_of s
+pub moved-leads : (s : Stage) → lead_of (moved s) ≡ lead_of s
 moved-leads (stage.Look n b) = refl
 moved-leads (stage.Looked n b) = refl
 moved-leads (stage.Trail n b) = refl
@@ -205,10 +234,83 @@ moved-trails (stage.Trail m b) n x h = cc
 moved-trails (stage.Look m b) n x h = cc
 moved-trails s n x h = cc
 
+-- nor to a change of source
+moved-goes : (s : Stage) (n : ServerNo) (way : Way) → moved s ≡ stage.Move n way → ⊥
+moved-goes (stage.Move m x) n way h = cc
+moved-goes s n way h = cc
+
 -- nor to that reading
 moved-looks : (s : Stage) (n : ServerNo) (x : Bridge) → moved s ≡ stage.Look n x → ⊥
 moved-looks (stage.Look m b) n x h = cc
 moved-looks s n x h = cc
+
+-- ---- changes of source
+
+abbrev Unwaited : Attempt → Type 0
+Unwaited (attempt.Goes o es k) = is_waiting k ≡ false
+Unwaited (attempt.Stops c o) = Unit {0}
+Unwaited (attempt.Ends lines) = Unit {0}
+
+-- a change of source waits for nothing
+attach-unwaited : (w : World) (j : Job) (rest : List Op) (n : ServerNo) (o : Option Exchange) → Unwaited (after_attach w j rest n o)
+attach-unwaited w j rest n None = refl
+attach-unwaited w j rest n (Some e) = by (can_attach w e)
+  where
+    go : (r : Result (Unit {0}) AttachFault) → Unwaited (after_answer j rest n e r)
+    go (Ok t) = refl
+    go (Err f) = tt
+
+    by : (b : Bool) → Unwaited (cond b (after_answer j rest n e (attach_answer_of w e)) (attempt.Goes None [] (attempt.next j rest)))
+    by true = go (attach_answer_of w e)
+    by false = refl
+
+move-unwaited : (w : World) (read : ℕ) (now : Moment) (j : Job) (rest : List Op) (n : ServerNo) (by : Way) → Unwaited (by_deed w read now j rest (deed_of (move by n)))
+move-unwaited w read now j rest n (way.Down b) = attach-unwaited w j rest n (crossing_of j.seen cross.Down n b.no)
+move-unwaited w read now j rest n (way.Up b) = attach-unwaited w j rest n (crossing_of j.seen cross.Up n b.no)
+move-unwaited w read now j rest n (way.Auto to exec) = attach-unwaited w j rest n (by_set n to (seen_of j.seen to.0))
+
+-- it ends its stage
+move-ends : (n : ServerNo) (by : Way) → ends (stage.Move n by) (deed_of (move by n)) ≡ true
+move-ends n (way.Down b) = refl
+move-ends n (way.Up b) = refl
+move-ends n (way.Auto to exec) = refl
+
+-- what stops a job whose attachment is refused
+record Refuses (w : World) (n : ServerNo) (c : Cause) (x : Exchange) : Type 0 where
+  fault : AttachFault
+  cause : c ≡ cause_by n fault
+  answer : attach_answer_of w x ≡ Err fault
+
+abbrev cause-in : Cause → Attempt → Cause
+cause-in c (attempt.Goes o es k) = c
+cause-in c (attempt.Stops x o) = x
+cause-in c (attempt.Ends lines) = c
+
+attach-refuses : (w : World) (j : Job) (rest : List Op) (n : ServerNo) (x : Exchange) (c : Cause) (ob : Option Observation) → after_attach w j rest n (Some x) ≡ attempt.Stops c ob → Refuses w n c x
+attach-refuses w j rest n x c ob e = by (can_attach w x) e
+  where
+    go : (r : Result (Unit {0}) AttachFault) → attach_answer_of w x ≡ r → after_answer j rest n x r ≡ attempt.Stops c ob → Refuses w n c x
+    go (Ok t) is h = cc
+    go (Err f) is h = record { fault = f; cause = sym (ap (cause-in c) h); answer = is }
+
+    by : (a : Bool) → cond a (after_answer j rest n x (attach_answer_of w x)) (attempt.Goes None [] (attempt.next j rest)) ≡ attempt.Stops c ob → Refuses w n c x
+    by true h = go (attach_answer_of w x) refl h
+    by false h = cc
+
+-- a replica that is to go some way stops its job only where that attachment is refused
+pub move-refused : (w : World) (read : ℕ) (now : Moment) (j : Job) (rest : List Op) (n : ServerNo) (by : Way) (c : Cause) (ob : Option Observation) → ShowsWay j.seen by
+    → by_deed w read now j rest (deed_of (move by n)) ≡ attempt.Stops c ob → (f : AttachFault) × (c ≡ cause_by n f) × IsRefusedOn w n by f
+move-refused w read now j rest n (way.Down b) c ob shown e =
+    let h = attach-refuses w j rest n (Attach n.0 (spot.At b.source b.exec) b.no b.own) c ob (sym (ap (λ o. after_attach w j rest n (crossed cross.Down n (bridge_at b.no o))) shown) ∙ e) in
+    (h.fault, h.cause, h.answer)
+move-refused w read now j rest n (way.Up b) c ob shown e =
+    let h = attach-refuses w j rest n (Attach n.0 (spot.At b.no b.own) b.source b.exec) c ob (sym (ap (λ o. after_attach w j rest n (crossed cross.Up n (bridge_at b.no o))) shown) ∙ e) in
+    (h.fault, h.cause, h.answer)
+move-refused w read now j rest n (way.Auto to exec) c ob shown e = go (seen_of j.seen to.0) e
+  where
+    go : (o : Option Position) → after_attach w j rest n (by_set n to o) ≡ attempt.Stops c ob → (f : AttachFault) × (c ≡ cause_by n f) × IsRefusedOn w n (way.Auto to exec) f
+    go None h = cc
+    go (Some s) h = let y = attach-refuses w j rest n (AttachAuto n.0 s.set to) c ob h in (y.fault, y.cause, (s.set, y.answer))
 
 module _ (w : World) (read : ℕ) (now : Moment) (r : Recovery) (o : Op) (rest : List Op) (fits : Fits r.stage (o ∷ rest)) (s : Speaks r) (is : r.core.ops ≡ o ∷ rest) where
   behind : (Q : Op → Type 0) → All Q r.core.ops → All Q rest
@@ -222,6 +324,10 @@ module _ (w : World) (read : ℕ) (now : Moment) (r : Recovery) (o : Op) (rest :
 
   pub due-looks : (n : ServerNo) (x : Bridge) → r.stage ≡ stage.Look n x → is_look (deed_of o) ≡ true
   due-looks n x e = All-head Looks o rest (subst (λ (xs : List Op). All Looks xs) is (s.looks n x e))
+
+  -- the operation of a stage that goes some way is its change of source
+  pub due-goes : (n : ServerNo) (by : Way) → r.stage ≡ stage.Move n by → (o ≡ move by n) × ShowsWay r.core.seen by
+  due-goes n by at = let g = s.goes n by at in (same-head o (move by n) rest (op.Start n ∷ []) (sym is ∙ g.0), g.1)
 
   pub due-asked : (n p : ServerNo) → r.stage ≡ stage.Join n p → IsAsked (deed_of o)
   due-asked n p e = All-head Asked o rest (subst (λ (xs : List Op). All Asked xs) is (s.asked n p e))
@@ -237,12 +343,21 @@ module _ (w : World) (read : ℕ) (now : Moment) (r : Recovery) (o : Op) (rest :
         (subst (λ (a : Attempt). SeesOnly r.core x.no.0 a) e (deed-sees w read now r.core rest (deed_of o) n x.no.0 (due-speaks n (ap speaks_of at)) (λ same. apart (sym same))))
         ∙ s.aims n x at apart
 
-    same-speaks : (xs : List Op) → k.ops ≡ xs → ((Q : Op → Type 0) → All Q r.core.ops → All Q xs) → Speaks later
-    same-speaks xs left on = record {
+    -- a stage that goes some way ends with its first operation
+    unwaited : (n : ServerNo) (by : Way) → r.stage ≡ stage.Move n by → is_waiting k ≡ false
+    unwaited n by at =
+        subst (λ (a : Attempt). Unwaited a) e (subst (λ (y : Op). Unwaited (by_deed w read now r.core rest (deed_of y))) (sym (due-goes n by at).0) (move-unwaited w read now r.core rest n by))
+
+    ended : (n : ServerNo) (by : Way) → r.stage ≡ stage.Move n by → ends r.stage (deed_of o) ≡ true
+    ended n by at = ap (λ (x : Stage). ends x (deed_of o)) at ∙ ap (λ (y : Op). ends (stage.Move n by) (deed_of y)) (due-goes n by at).0 ∙ move-ends n by
+
+    same-speaks : (xs : List Op) → k.ops ≡ xs → ((n : ServerNo) (way : Way) → r.stage ≡ stage.Move n way → ⊥) → ((Q : Op → Type 0) → All Q r.core.ops → All Q xs) → Speaks later
+    same-speaks xs left apart on = record {
       ops = λ n h. subst (λ (ys : List Op). All (With n) ys) (sym left) (on (With n) (s.ops n h));
       lead = s.lead;
       waits = λ x h. subst (λ (ys : List Op). All (Waits x) ys) (sym left) (on (Waits x) (s.waits x h));
       aims = aims-on;
+      goes = λ n way h. absurd (apart n way h);
       asked = λ n p h. subst (λ (ys : List Op). All Asked ys) (sym left) (on Asked (s.asked n p h));
       looks = λ n x h. subst (λ (ys : List Op). All Looks ys) (sym left) (on Looks (s.looks n x h));
     }
@@ -254,7 +369,7 @@ module _ (w : World) (read : ℕ) (now : Moment) (r : Recovery) (o : Op) (rest :
         on Q all = subst (λ (j : Job). All Q j.ops) (sym (entered-core later (moved r.stage))) (subst (λ (xs : List Op). All Q xs) (sym (went.done done)) all)
 
         go : ((ends r.stage (deed_of o) ≡ false) × Fits r.stage rest) ⊎ (o ∷ rest ≡ tail_of r.stage) → Speaks (stepped later o)
-        go (inl p) = subst (λ (x : Bool). Speaks (cond x (entered later (moved r.stage)) later)) (sym p.0) (same-speaks rest (went.done done) behind)
+        go (inl p) = subst (λ (x : Bool). Speaks (cond x (entered later (moved r.stage)) later)) (sym p.0) (same-speaks rest (went.done done) (λ n way at. false≢true (sym p.0 ∙ ended n way at)) behind)
         go (inr t) =
             subst (λ (x : Bool). Speaks (cond x (entered later (moved r.stage)) later)) (sym (moved-fits r.stage o rest t).0)
             (record {
@@ -262,6 +377,7 @@ module _ (w : World) (read : ℕ) (now : Moment) (r : Recovery) (o : Op) (rest :
               lead = λ x h. entered-lead later (moved r.stage) ∙ s.lead x (sym (moved-leads r.stage) ∙ h);
               waits = λ x h. on (Waits x) (behind (Waits x) (s.waits x (sym (moved-leads r.stage) ∙ h)));
               aims = λ n x h. absurd (moved-trails r.stage n x h);
+              goes = λ n way h. absurd (moved-goes r.stage n way h);
               asked = λ n p h. on Asked (moved-joins r.stage o rest n p t h);
               looks = λ n x h. absurd (moved-looks r.stage n x h);
             })
@@ -275,7 +391,7 @@ module _ (w : World) (b : BookState) (read : ℕ) (now : Moment) (rings : HeldRi
     decides = λ r d may h. (decides-held w b now rings r d may h.0, decides-speaks w b now r d may h.1);
     waits = λ r o rest ob es j did e h.
         let on = went-of w read now r o rest ob es j did in
-        same-speaks w read now r o rest (fits-of r o rest did.ops h.0) h.1 did.ops ob es j did.goes on r.core.ops (on.waits e).0 (λ Q all. all);
+        same-speaks w read now r o rest (fits-of r o rest did.ops h.0) h.1 did.ops ob es j did.goes on r.core.ops (on.waits e).0 (λ n way at. false≢true (sym (unwaited w read now r o rest (fits-of r o rest did.ops h.0) h.1 did.ops ob es j did.goes on n way at) ∙ e)) (λ Q all. all);
     acts = λ r o rest ob es j did e h.
         stepped-speaks w read now r o rest (fits-of r o rest did.ops h.0) h.1 did.ops ob es j did.goes (went-of w read now r o rest ob es j did) e;
     continues = λ v r x xs is s. s;

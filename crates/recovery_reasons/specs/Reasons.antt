@@ -1,15 +1,19 @@
 -- Why a replica is lost.
-use Rattle.std.specs.Prelude.{◌≡◌, Bool, true, false, ◌&&◌, List, Option, Some, None, All, is_some, option_map, ◌⊎◌}
+use Rattle.std.specs.Prelude.{◌≡◌, ℕ, Bool, true, false, ◌&&◌, List, [], ◌∷◌, Option, Some, None, Err, All, is_some, option_map, ◌⊎◌}
 use Rattle.binlog_coords.specs.declared.Coord.{Coord}
 use Rattle.binlog_coords.specs.Log.{is_at_or_before, is_before, same_coord}
 use Rattle.gtid_sets.specs.declared.interval.Interval.{Interval}
 use Rattle.orch_base.specs.declared.server.Moment.{Moment}
 use Rattle.orch_base.specs.declared.server.ServerNo.{ServerNo}
+use Rattle.std.specs.List.{Contains}
+use Rattle.server_words.specs.declared.attach.AttachFault.{AttachFault}
+use Rattle.server_words.specs.declared.attach.AttachFault.TheVariants as attaching
 use Rattle.server_words.specs.declared.attach.Spot.{Spot}
+use Rattle.server_words.specs.declared.attach.Spot.TheVariants as spot
 use Rattle.server_words.specs.declared.status.Status.{Status}
 use Rattle.server_model.specs.Gtids.{status}
+use Rattle.server_model.specs.Run.{Attach, AttachAuto}
 use Rattle.server_model.specs.Worlds.{World, server_at}
-use Rattle.commands.specs.declared.cause.Cause.TheVariants as cause
 use Rattle.commands.specs.declared.line.Lost.{Lost}
 use Rattle.commands.specs.declared.line.Lost.TheVariants as lost
 use Rattle.instance_keeper.specs.declared.bridge.Bridge.{Bridge}
@@ -18,21 +22,28 @@ use Rattle.instance_keeper.specs.Bridges.{has_exec, has_own, latest_that, ring_a
 use Rattle.kept_rows.specs.Seeing.{seen_in}
 use Rattle.operations.specs.declared.sight.Sight.{Sight}
 use Rattle.operations.specs.declared.op.Aim.TheVariants.{ExecOf}
+use Rattle.operations.specs.declared.op.Op.TheVariants as op
 use Rattle.operations.specs.Deeds as deed
 use Rattle.operations.specs.Deeds.{Deed, deed_of}
-use Rattle.operations.specs.Jobs.{position_of, seen_of}
+use Rattle.operations.specs.Jobs.{Job, position_of, seen_of}
+use Rattle.operations.specs.Turns.{attach_answer_of}
 use Rattle.promotion_rules.specs.Choice.{is_barred}
 use Rattle.recovery_plans.specs.declared.outcome.LostReplica.{LostReplica}
 use Rattle.recovery_plans.specs.declared.outcome.Stopped.{Stopped}
 use Rattle.recovery_plans.specs.declared.stage.Stage.{Stage}
 use Rattle.recovery_plans.specs.declared.stage.Stage.TheVariants as stage
-use Rattle.recovery_plans.specs.Stages.{is_look}
-use Rattle.recovery_plans.specs.Deciding.{logs_at}
+use Rattle.recovery_plans.specs.declared.task.Task.{Task}
+use Rattle.recovery_plans.specs.declared.task.Task.TheVariants as task
+use Rattle.recovery_plans.specs.declared.task.Way.{Way}
+use Rattle.recovery_plans.specs.declared.task.Way.TheVariants as way
+use Rattle.recovery_plans.specs.Stages.{is_look, move, reads_last}
+use Rattle.recovery_plans.specs.Deciding.{logs_at, chosen_of}
+use Rattle.recovery_plans.specs.Moves.{Decisions, IsNext}
 use Rattle.recovery_plans.specs.Named.{spoken_to}
-use Rattle.recovery_plans.specs.Recoveries.{Recovery}
+use Rattle.recovery_plans.specs.Recoveries.{Recovery, sight_of}
 use Rattle.recovery_plans.specs.Table.{info}
-use Rattle.recovery_plans.specs.Taking.{is_below, spot_by, spot_seen}
-use Rattle.recovery_reasons.specs.Causes.{IsRunning, IsTrueOf, IsUnreached}
+use Rattle.recovery_plans.specs.Taking.{is_below, place_on, spot_by, spot_seen}
+use Rattle.recovery_reasons.specs.Causes.{IsRunning, IsUnreached}
 
 -- where one is chosen: a drained one that executed more than the chosen one; or that executed less, where the book
 -- keeps no bridge of the chosen one below the failed server at that coordinate
@@ -103,29 +114,74 @@ IsAsked (deed.Finish lines) = ⊥
 abbrev pub AimsAt : List Sight → ServerNo → Bridge → Type 0
 AimsAt seen n x = (n.0 ≡ x.no.0 → ⊥) → option_map (λ s. s.exec) (seen_of seen x.no.0) ≡ Some x.exec
 
+-- what a way goes by was seen: its bridge's server, as it was when the bridge was taken
+abbrev pub ShowsWay : List Sight → Way → Type 0
+ShowsWay seen (way.Down b) = seen_of seen b.no.0 ≡ Some (sight_of b)
+ShowsWay seen (way.Up b) = seen_of seen b.no.0 ≡ Some (sight_of b)
+ShowsWay seen (way.Auto to exec) = Unit {0}
+
+-- a replica that is to go some way changes its source by what was seen, and is started
+abbrev pub GoesBy : Job → ServerNo → Way → Type 0
+GoesBy j n by = (j.ops ≡ move by n ∷ op.Start n ∷ []) × ShowsWay j.seen by
+
+-- what the attachment is answered by which a replica goes its way
+abbrev pub IsRefusedOn : World → ServerNo → Way → AttachFault → Type 0
+IsRefusedOn w n (way.Down b) fault = attach_answer_of w (Attach n.0 (spot.At b.source b.exec) b.no b.own) ≡ Err fault
+IsRefusedOn w n (way.Up b) fault = attach_answer_of w (Attach n.0 (spot.At b.no b.own) b.source b.exec) ≡ Err fault
+IsRefusedOn w n (way.Auto to exec) fault = (observed : List Interval) × (attach_answer_of w (AttachAuto n.0 observed to) ≡ Err fault)
+
 -- Each operation that is left of such a stage speaks with its replica; the bridge is where the designated one was seen
--- to stop, and what is waited for; a replica that has come below its new source is only asked, and one that is to go
--- there is only read at first.
+-- to stop, and what is waited for; a replica that is to go some way goes it by what was seen; one that has come below
+-- its new source is only asked, and one that is to go where another stopped is only read at first.
 pub record Speaks (r : Recovery) : Type 0 where
   pub ops : (n : ServerNo) → speaks_of r.stage ≡ Some n → All (λ o. spoken_to (deed_of o) ≡ Some n) r.core.ops
   pub lead : (x : Bridge) → lead_of r.stage ≡ Some x → r.lead ≡ Some x
   pub waits : (x : Bridge) → lead_of r.stage ≡ Some x → All (λ o. WaitsFor x (deed_of o)) r.core.ops
   pub aims : (n : ServerNo) (x : Bridge) → r.stage ≡ stage.Trail n x → AimsAt r.core.seen n x
+  pub goes : (n : ServerNo) (by : Way) → r.stage ≡ stage.Move n by → GoesBy r.core n by
   pub asked : (n p : ServerNo) → r.stage ≡ stage.Join n p → All (λ o. IsAsked (deed_of o)) r.core.ops
   pub looks : (n : ServerNo) (x : Bridge) → r.stage ≡ stage.Look n x → All (λ o. is_look (deed_of o) ≡ true) r.core.ops
 
--- What makes the entries of a turn: the choice; a successor that a drained one doesn't reach; an exchange that didn't
--- reach the replica; its attachment, which found a thread on, another spot or transactions of its own; a status of the
--- turn's world, of a replica that was stopped, or is to be, whose source isn't the failed server; and one of a replica
--- that stopped, or waited, elsewhere than where the designated one stopped.
-pub record ExplainsTruly (w : World) (b : BookState) (now : Moment) (r : Recovery) (P : ServerNo → Lost → Bool) : Type 0 where
-  pub beside : (p s : Stopped) (why : Lost) → BesideChosen b r.failed p s why → P s.no why ≡ true
-  pub without : (s : Stopped) (why : Lost) → WithoutChosen w b now s why → P s.no why ≡ true
-  pub below : (seen : List Sight) (n : ServerNo) (s : Stopped) → BelowSuccessor w b seen r.failed n s → P s.no (lost.Behind s.exec) ≡ true
-  pub unreached : (n : ServerNo) → IsUnreached w n.0 → P n lost.Unreachable ≡ true
-  pub running : (n : ServerNo) → IsRunning w n.0 → P n (lost.Moved (spot_by (server_at w n.0))) ≡ true
-  pub interfered : (n : ServerNo) (expected found : Spot) → IsTrueOf w n (cause.Interfered n expected found) → P n (lost.Moved found) ≡ true
-  pub errant : (n : ServerNo) (set : List Interval) (exec : Coord) → IsTrueOf w n (cause.Errant n set) → P n (lost.Ahead exec) ≡ true
-  pub moved : (n : ServerNo) (s : Status) → seen_in (status w n.0) ≡ Some s → is_below (position_of s) r.failed ≡ false → P n (lost.Moved (spot_seen s.source s.exec)) ≡ true
-  pub halted : (n : ServerNo) (x : Bridge) (s : Status) → r.lead ≡ Some x → seen_in (status w n.0) ≡ Some s → same_coord s.exec x.exec ≡ false → P n (lost.Behind s.exec) ≡ true
-  pub late : (n : ServerNo) (x : Bridge) (s : Status) → r.lead ≡ Some x → seen_in (status w n.0) ≡ Some s → (n.0 ≡ x.no.0) ⊎ (is_at_or_before x.exec s.exec ≡ false) → P n (lost.Behind s.exec) ≡ true
+-- this task is next
+abbrev pub IsDue : Task → Recovery → Type 0
+IsDue t r = (ts : List Task) × IsNext r t ts
+
+-- it goes where the designated one stopped, and is there or waits for it
+pub record IsTrailing (r : Recovery) (n : ServerNo) (x : Bridge) : Type 0 where
+  pub speaks : speaks_of r.stage ≡ Some n
+  pub leads : lead_of r.stage ≡ Some x
+  pub lead : r.lead ≡ Some x
+
+-- Why a server is lost in a turn, in its world and its book, of the recovery as it was decided so far.
+pub data Reason (w : World) (b : BookState) (now : Moment) (r : Recovery) : ServerNo → Lost → Type 0 where
+  -- one of the drained is chosen, and this one of them executed more, or less without a bridge; or none may be chosen
+  Beside : {why : Lost} (p s : Stopped) → IsDue task.Choosing r → chosen_of w b now r.failed r.drained ≡ Some p → Contains r.drained s
+      → BesideChosen b r.failed p s why → Reason w b now r s.no why
+  Without : {why : Lost} (s : Stopped) → IsDue task.Choosing r → chosen_of w b now r.failed r.drained ≡ None → Contains r.drained s
+      → WithoutChosen w b now s why → Reason w b now r s.no why
+  -- the first of the drained is to go below the successor, and has no way there
+  Below : (n : ServerNo) (s : Stopped) (ss : List Stopped) → IsDue task.Handing r → r.chosen ≡ Some n → r.drained ≡ s ∷ ss
+      → BelowSuccessor w b r.core.seen r.failed n s → Reason w b now r s.no (lost.Behind s.exec)
+  -- an exchange with the stage's replica didn't reach it
+  Unreached : {n : ServerNo} → speaks_of r.stage ≡ Some n → IsUnreached w n.0 → Reason w b now r n lost.Unreachable
+  -- its attachment found a thread on, another spot, transactions that the new source lacks, or that one's place purged
+  Running : {n : ServerNo} (by : Way) (at : Spot) → r.stage ≡ stage.Move n by → IsRefusedOn w n by (attaching.Running at) → IsRunning w n.0
+      → Reason w b now r n (lost.Moved (spot_by (server_at w n.0)))
+  Interfered : {n : ServerNo} (by : Way) (expected found : Spot) → r.stage ≡ stage.Move n by → IsRefusedOn w n by (attaching.Interfered expected found)
+      → Reason w b now r n (lost.Moved found)
+  Errant : {n : ServerNo} (to : ServerNo) (exec : Coord) (set : List Interval) → r.stage ≡ stage.Move n (way.Auto to exec)
+      → IsRefusedOn w n (way.Auto to exec) (attaching.Errant set) → Reason w b now r n (lost.Ahead exec)
+  Purged : {n : ServerNo} (by : Way) (first : ℕ) → r.stage ≡ stage.Move n by → IsRefusedOn w n by (attaching.Purged first)
+      → Reason w b now r n (lost.Purged (place_on by))
+  -- the stage's replica was read, and its source isn't the failed server
+  Strayed : {n : ServerNo} (s : Status) → speaks_of r.stage ≡ Some n → reads_last r.stage ≡ true → seen_in (status w n.0) ≡ Some s
+      → is_below (position_of s) r.failed ≡ false → Reason w b now r n (lost.Moved (spot_seen s.source s.exec))
+  -- it stopped, or waited in vain, elsewhere than where the designated one stopped
+  Halted : {n : ServerNo} (x : Bridge) (s : Status) → IsTrailing r n x → reads_last r.stage ≡ true → seen_in (status w n.0) ≡ Some s
+      → same_coord s.exec x.exec ≡ false → Reason w b now r n (lost.Behind s.exec)
+  Late : {n : ServerNo} (x : Bridge) (s : Status) → IsTrailing r n x → seen_in (status w n.0) ≡ Some s
+      → (n.0 ≡ x.no.0) ⊎ (is_at_or_before x.exec s.exec ≡ false) → Reason w b now r n (lost.Behind s.exec)
+
+-- Each entry that a turn may make for a reason counts: that of one decision or another of the turn, or of its operation.
+abbrev pub ExplainsTruly : World → BookState → Moment → Recovery → (ServerNo → Lost → Bool) → Type 0
+ExplainsTruly w b now r P = (d : Recovery) (n : ServerNo) (why : Lost) → Decisions w b now r d → Reason w b now d n why → P n why ≡ true

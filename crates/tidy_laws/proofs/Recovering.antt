@@ -50,7 +50,7 @@ use Rattle.recovery_plans.specs.Telling.{told}
 use Rattle.recovery_plans.specs.Deciding as deciding
 use Rattle.recovery_plans.specs.Deciding.{Lot, chosen_of, better_of, lot_by_group, lot_of, move_of, moves_in, own_end_of, without_stopped, choose, moving, way_below, way_by_set, hand_by, hand, hand_over, why_of, expels, releases, sort, swap_by, swap, crown, swap_or_crown, rejoin, at_last, look_at, yield, logs_at, by_task, by_queue, once, decided}
 use Rattle.recovery_plans.specs.Taking as taking
-use Rattle.recovery_plans.specs.Taking.{Fate, is_below, judged, lead_under, last_looks, idle, frees, looked, halted, completed, entered, stepped, at_end, progressed, fate_of_drain, fate_of_trail, lost_on_way, fate_of_errant, fate_of_move, fate, swapped, that_can, takes_writes, goes_back, way_back, undone, last_exchanges, met, is_waiting, barred_by, on_going, attempted, acted, taken}
+use Rattle.recovery_plans.specs.Taking.{Fate, is_below, judged, lead_under, last_looks, idle, frees, looked, halted, completed, entered, stepped, at_end, progressed, fate_of_drain, fate_of_trail, lost_on_way, fate_of_errant, fate_of_move, fate, swapped, that_can, takes_writes, goes_back, way_back, undone, last_exchanges, met, is_waiting, barred_by, on_going, attempted, acted, taken, place_on}
 use Rattle.recovery_plans.proofs.Choices.{All-chosen}
 use Rattle.recovery_laws.specs.HeldRecoveries.{HeldRecovery}
 use Rattle.recovery_laws.specs.Rings.{HeldRings}
@@ -494,6 +494,7 @@ module _ (c : Clusters) where
     move-fate u n by (cause.Running m) = lost-fate u n _
     move-fate u n by (cause.Interfered m expected found) = lost-fate u n (lost.Moved found)
     move-fate u n by (cause.Errant m set) = errant-fate u n by
+    move-fate u n by (cause.Purged m first) = lost-fate u n (lost.Purged (place_on by))
     move-fate u n by why = tt
 
     fate-within : (u : Purpose) (x : Stage) (why : Cause) → IsFateWithin (fate w u x why)
