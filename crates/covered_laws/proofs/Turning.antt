@@ -26,7 +26,8 @@ use Rattle.recovery_laws.specs.LeasedRecoveries.{KeepsLeased, LeasedRecovery}
 use Rattle.recovery_laws.specs.Passing.{as_turn}
 use Rattle.recovery_laws.specs.Rings.{AreOwn, HeldRings, SoundRings}
 use Rattle.recovery_laws.proofs.Leasing.{taken-leased}
-use Rattle.recovery_covers.proofs.Begun.{others-cover, turn-covers}
+use Rattle.recovery_covers.proofs.Begun.{others-cover}
+use Rattle.recovery_covers.proofs.Turning.{turn-covers}
 use Rattle.recovery_histories.specs.Kept.{SameAim}
 use Rattle.recovery_histories.proofs.Keeping.{taken-kept}
 use Rattle.recovery_histories.proofs.Staying.{taken-aim, then-aim}

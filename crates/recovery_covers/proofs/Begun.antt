@@ -1,18 +1,14 @@
--- Recoveries that begin, others' exchanges, and whole turns.
-use Rattle.std.proofs.Common.{◌≡◌, ℕ, ◌+◌, ◌<◌, Bool, true, false, cond, List, [], ◌∷◌, ◌++◌, map, refl, sym, ◌∙◌, ap, subst, Option, Some, None, ◌&&◌, ◌⊎◌, inl, inr, arith}
+-- Recoveries that begin, and others' exchanges.
+use Rattle.std.proofs.Common.{◌≡◌, ℕ, ◌+◌, ◌<◌, Bool, true, false, cond, List, [], ◌∷◌, ◌++◌, map, refl, sym, ◌∙◌, ap, subst, Option, Some, None, ◌&&◌, inl, arith}
 use Rattle.std.specs.Prelude.{◌==◌}
 use Rattle.std.specs.List.{All}
 use Rattle.std.proofs.lemmas.Bool.{false≢true, eqb-true}
 use Rattle.std.proofs.lemmas.Option.{same_Some}
 use Rattle.std.proofs.lemmas.List.Elements.{All-nil, All-cons, All-head, All-tail}
-use Rattle.orch_base.specs.declared.server.Moment.{Moment}
 use Rattle.orch_base.specs.declared.server.ServerNo.{ServerNo}
 use Rattle.server_model.specs.Run.{Exchange, after, run}
-use Rattle.server_model.specs.Safe.{Placed}
 use Rattle.server_model.specs.Worlds.{World}
-use Rattle.instance_keeper.specs.Book.{BookState}
 use Rattle.operations.specs.Changes.{server_of}
-use Rattle.operations.specs.Turns.{is_going}
 use Rattle.job_laws.specs.Leases.{Leases, IsLeased}
 use Rattle.job_laws.proofs.Others.{unleased-run}
 use Rattle.recovery_plans.specs.declared.outcome.Follower.{Follower}
@@ -23,22 +19,16 @@ use Rattle.recovery_plans.specs.declared.purpose.Purpose.TheVariants as purpose
 use Rattle.recovery_plans.specs.declared.task.Task.{Task}
 use Rattle.recovery_plans.specs.declared.task.Task.TheVariants as task
 use Rattle.recovery_plans.specs.Beginning.{but, begun_recovery}
-use Rattle.recovery_plans.specs.Deciding.{decided, expels}
+use Rattle.recovery_plans.specs.Deciding.{expels}
 use Rattle.recovery_plans.specs.Named.{AreSourcesOf}
 use Rattle.recovery_plans.specs.Recoveries.{Recovery}
-use Rattle.recovery_plans.specs.Taking.{acted, taken}
-use Rattle.recovery_laws.specs.HeldRecoveries.{HeldRecovery}
 use Rattle.recovery_laws.specs.LeasedRecoveries.{IsAny, LeasedRecovery}
-use Rattle.recovery_laws.specs.Rings.{HeldRings}
-use Rattle.recovery_laws.proofs.Deciding.{decided-held}
 use Rattle.standing_laws.specs.Standing.{IsUnder, IsSourced, IsApart, is_outside}
 use Rattle.recovery_covers.specs.Covers.{times, owed, AreReplicas}
 use Rattle.recovery_covers.specs.SoFar.{of_task, of_queue, chooses, decides, in_order, FollowsBy, Awaits, CoversSoFar}
 use Rattle.recovery_covers.proofs.Times.{one, times-parted}
 use Rattle.standing_laws.proofs.Standing.{Stays-same, outside-stays}
 use Rattle.recovery_covers.proofs.Covering.{covers-stays}
-use Rattle.recovery_covers.proofs.Decided.{IsStuck, decided-covers}
-use Rattle.recovery_covers.proofs.Turning.{acted-covers}
 
 -- ---- the tasks of a recovery that begins
 
@@ -227,17 +217,3 @@ others-cover l id mine w es r all apart leased c =
     (λ n some.
     let own = leased-times l mine n (owed r.purpose r.failed r.replicas) (owed-leased l mine r.purpose r.failed r.replicas r.chosen leased.replicas leased.sources) some in
     Stays-same w (run w es) n (unleased-run l id w es n all (λ h. apart (same_Some id mine (sym h ∙ own))))) c
-
--- ---- a turn
-
-pub turn-covers : (w : World) (b : BookState) (read : ℕ) (now : Moment) (r : Recovery) → Placed w → HeldRings w b.rings → HeldRecovery w r → CoversSoFar w r → is_going (taken w b read now r).step ≡ true
-    → CoversSoFar (run w (taken w b read now r).exchanges) (taken w b read now r).recovery
-turn-covers w b read now r placed rings held c = go (decided-covers w b now r c)
-  where
-    stuck : (x : Recovery) → IsStuck x → is_going (acted w read now x x.core.ops).step ≡ true → CoversSoFar (run w (acted w read now x x.core.ops).exchanges) (acted w read now x x.core.ops).recovery
-    stuck x s =
-        subst (λ ops. is_going (acted w read now x ops).step ≡ true → CoversSoFar (run w (acted w read now x ops).exchanges) (acted w read now x ops).recovery) (sym s.ops) (λ g. absurd (false≢true g))
-
-    go : CoversSoFar w (decided w b now r) ⊎ IsStuck (decided w b now r) → is_going (taken w b read now r).step ≡ true → CoversSoFar (run w (taken w b read now r).exchanges) (taken w b read now r).recovery
-    go (inl x) g = acted-covers w read now (decided w b now r) placed (decided-held w b now r rings held) x (decided w b now r).core.ops refl g
-    go (inr s) g = stuck (decided w b now r) s g

@@ -1,11 +1,10 @@
 -- A stage that is done covers the replicas as far as before.
-use Rattle.std.proofs.Common.{◌≡◌, ℕ, ◌+◌, Bool, true, false, cond, List, [], ◌∷◌, ◌++◌, map, refl, sym, ◌∙◌, ap, subst, Option, Some, None, inl, inr, arith}
+use Rattle.std.proofs.Common.{◌≡◌, ℕ, ◌+◌, Bool, true, false, cond, List, [], ◌∷◌, ◌++◌, map, refl, sym, ◌∙◌, ap, subst, Option, Some, None, ◌⊎◌, inl, inr, arith}
 use Rattle.std.specs.Prelude.{◌==◌, IfSome}
 use Rattle.std.specs.List.{All, Contains}
 use Rattle.std.proofs.lemmas.Bool.{false≢true, eqb-true}
 use Rattle.std.proofs.lemmas.Option.{same_Some}
 use Rattle.std.proofs.lemmas.List.Elements.{All-nil, All-cons, All-head, All-tail, All-push, All-weaker, Contains-push}
-use Rattle.binlog_coords.specs.Log.{same_coord}
 use Rattle.orch_base.specs.declared.server.ServerNo.{ServerNo}
 use Rattle.orch_base.specs.declared.server.SourceState.{SourceState}
 use Rattle.orch_base.specs.declared.server.SourceState.TheVariants.{Without, Attached, Detached}
@@ -28,11 +27,13 @@ use Rattle.recovery_plans.specs.declared.stage.Stage.{Stage}
 use Rattle.recovery_plans.specs.declared.stage.Stage.TheVariants as stage
 use Rattle.recovery_plans.specs.declared.task.Way.TheVariants as way
 use Rattle.recovery_plans.specs.Beginning.{first_source}
-use Rattle.recovery_plans.specs.Recoveries.{Recovery, follows, loses, working}
-use Rattle.recovery_plans.specs.Stages.{tail_of, trail, with_bridge}
+use Rattle.recovery_plans.specs.Recoveries.{Recovery, follows, loses}
+use Rattle.recovery_plans.specs.Stages.{tail_of}
 use Rattle.recovery_plans.specs.Telling.{told}
-use Rattle.recovery_plans.specs.Deciding.{closing, expels, moving}
-use Rattle.recovery_plans.specs.Taking.{spot_seen, is_source, is_below, judged, marked, expelled, swapped, lead_under, gathered, idle, frees, looked, halted, last_looks, completed}
+use Rattle.recovery_plans.specs.Deciding.{closing, expels}
+use Rattle.recovery_plans.specs.Taking.{spot_seen, is_source, is_below, marked, expelled, swapped, lead_under, gathered, idle, frees, last_looks}
+use Rattle.recovery_plans.specs.Moves as by
+use Rattle.recovery_plans.specs.Moves.{Ending, MayEnd, WasRead, ended_by, rests, stopped_at}
 use Rattle.recovery_plans.proofs.Choices.{same-no}
 use Rattle.recovery_ends.specs.Shapes.{Fits}
 use Rattle.standing_laws.specs.Standing.{IsUnder, IsSourced, IsApart}
@@ -121,47 +122,51 @@ module _ (w : World) where
   pub unreached : (u : Purpose) (n : ℕ) → expels u (Some lost.Unreachable) ≡ true → IsSourced w n
   unreached u n h = absurd (false≢true (sym (expels-unreachable u) ∙ h))
 
-  pub elsewhere : (u : Purpose) (x : _) (n : ℕ) → expels u (Some (lost.Moved x)) ≡ true → IsSourced w n
-  elsewhere u x n h = absurd (false≢true (sym (expels-moved u x) ∙ h))
-
   -- ---- a replica that was stopped and read
 
-  judge-covers : (r : Recovery) (n : ServerNo) → CoversAt w r (stage.Judged n) → CoversSoFar w (idle (judged r n (seen_of r.core.seen n.0)))
-  judge-covers r n c = go (seen_of r.core.seen n.0) refl
+  -- where it isn't below the failed server it stays as it is
+  stray-leaves : (u : Purpose) (f : ServerNo) (o : Option Position) (why : Lost) → by.stray f o ≡ Some why → expels u (Some why) ≡ false
+  stray-leaves u f None why h = subst (λ (y : Lost). expels u (Some y) ≡ false) (same_Some lost.Unreachable why h) (expels-unreachable u)
+  stray-leaves u f (Some s) why h = go (is_below s f) h
     where
-      go : (o : Option Position) → seen_of r.core.seen n.0 ≡ o → CoversSoFar w (idle (judged r n o))
-      go None e = left-covers r (stage.Judged n) n lost.Unreachable c refl refl (unreached r.purpose n.0)
-      go (Some s) e = at (is_below s r.failed) refl
-        where
-          stopped : Stopped
-          stopped = record { no = n; exec = s.exec; own_end = s.own_end }
+      go : (a : Bool) → cond a None (Some (lost.Moved (spot_seen s.source s.exec))) ≡ Some why → expels u (Some why) ≡ false
+      go true e = cc
+      go false e = subst (λ (y : Lost). expels u (Some y) ≡ false) (same_Some (lost.Moved (spot_seen s.source s.exec)) why e) (expels-moved u (spot_seen s.source s.exec))
 
-          new : Recovery
-          new = idle (record r { drained = r.drained ++ stopped ∷ [] })
+  -- else it was seen there
+  not-stray : (f : ServerNo) (o : Option Position) → by.stray f o ≡ None → (s : Position) × (o ≡ Some s) × (is_below s f ≡ true)
+  not-stray f None h = cc
+  not-stray f (Some s) h = (s, refl, go (is_below s f) refl h)
+    where
+      go : (a : Bool) → is_below s f ≡ a → cond a None (Some (lost.Moved (spot_seen s.source s.exec))) ≡ None → is_below s f ≡ true
+      go true e h = e
+      go false e h = cc
 
-          at : (b : Bool) → is_below s r.failed ≡ b → CoversSoFar w (idle (cond b (record r { drained = r.drained ++ stopped ∷ [] }) (loses r n (lost.Moved (spot_seen s.source s.exec)))))
-          at true f =
-              at-rest w new refl (record {
-                replicas = c.replicas;
-                once = λ k.
-                    let x = c.once k in
-                    let p = times-push (λ (d : Stopped). d.no) k r.drained stopped in
-                    omega (arith, x, p);
-                order = c.order;
-                unchosen = c.unchosen;
-                undrained = λ h. absurd (false≢true (sym h ∙ c.stage.0));
-                named = c.named;
-                lead = c.lead;
-                leads = early r new (stage.Judged n) stage.Idle refl c.leads refl refl;
-                drained = All-push (λ (d : Stopped). IsSourced w d.no.0) r.drained _ c.drained (c.stage.1 s e (below-sourced s.source r.failed f));
-                queue = queue-as w r new (record { purpose = refl; chosen = refl; lost = λ k h. h }) r.queue c.queue;
-                stage = tt;
-                attached = c.attached;
-                follow = c.follow;
-                sourced = c.sourced;
-                apart = c.apart;
-              })
-          at false f = left-covers r (stage.Judged n) n (lost.Moved (spot_seen s.source s.exec)) c refl refl (elsewhere r.purpose (spot_seen s.source s.exec) n.0)
+  stays-covers : (r : Recovery) (n : ServerNo) (s : Position) → CoversAt w r (stage.Judged n) → seen_of r.core.seen n.0 ≡ Some s → is_below s r.failed ≡ true
+      → CoversAt w (idle (record r { drained = r.drained ++ stopped_at n s ∷ [] })) stage.Idle
+  stays-covers r n s c e f = record {
+    replicas = c.replicas;
+    once = λ k.
+        let x = c.once k in
+        let p = times-push (λ (d : Stopped). d.no) k r.drained (stopped_at n s) in
+        omega (arith, x, p);
+    order = c.order;
+    unchosen = c.unchosen;
+    undrained = λ h. absurd (false≢true (sym h ∙ c.stage.0));
+    named = c.named;
+    lead = c.lead;
+    leads = early r new (stage.Judged n) stage.Idle refl c.leads refl refl;
+    drained = All-push (λ (d : Stopped). IsSourced w d.no.0) r.drained _ c.drained (c.stage.1 s e (below-sourced s.source r.failed f));
+    queue = queue-as w r new (record { purpose = refl; chosen = refl; lost = λ k h. h }) r.queue c.queue;
+    stage = tt;
+    attached = c.attached;
+    follow = c.follow;
+    sourced = c.sourced;
+    apart = c.apart;
+  }
+    where
+      new : Recovery
+      new = idle (record r { drained = r.drained ++ stopped_at n s ∷ [] })
 
   -- ---- one more follows
 
@@ -343,34 +348,6 @@ module _ (w : World) where
           at true = c.stage.chosen ∙ ap Some (same-no d b.no (bridge-parts d (seen_of r.core.seen d.0) b e).no)
           at false = tt
 
-  -- ---- a replica that comes to where the designated one stopped
-
-  look-covers : (r : Recovery) (n : ServerNo) (b : Bridge) → CoversAt w r (stage.Looked n b) → CoversSoFar w (looked r n b (seen_of r.core.seen n.0))
-  look-covers r n b c = go (seen_of r.core.seen n.0) refl
-    where
-      go : (o : Option Position) → seen_of r.core.seen n.0 ≡ o → CoversSoFar w (looked r n b o)
-      go None e = left-covers r (stage.Looked n b) n lost.Unreachable c refl refl (unreached r.purpose n.0)
-      go (Some s) e = at (is_below s r.failed) refl
-        where
-          at : (a : Bool) → is_below s r.failed ≡ a
-              → CoversSoFar w (cond a (working (record r { core = record r.core { seen = with_bridge r.core.seen b } }) (stage.Trail n b) (trail n b.no)) (idle (loses r n (lost.Moved (spot_seen s.source s.exec)))))
-          at true f =
-              so-far w (working (record r { core = record r.core { seen = with_bridge r.core.seen b } }) (stage.Trail n b) (trail n b.no)) (stage.Trail n b) _ _ refl refl (λ m by h. cc)
-              (restaged w r (stage.Looked n b) (stage.Trail n b) _ c refl (λ h. h) (c.stage.0, c.stage.1 s e (below-sourced s.source r.failed f)))
-          at false f = left-covers r (stage.Looked n b) n (lost.Moved (spot_seen s.source s.exec)) c refl refl (elsewhere r.purpose (spot_seen s.source s.exec) n.0)
-
-  halt-covers : (r : Recovery) (n : ServerNo) (b : Bridge) → CoversAt w r (stage.Halted n b) → (o : Option Position) → CoversSoFar w (halted r n b o)
-  halt-covers r n b c None = freed-covers r (stage.Halted n b) n lost.Unreachable c refl refl (unreached r.purpose n.0)
-  halt-covers r n b c (Some s) = at (same_coord s.exec b.exec)
-    where
-      at : (a : Bool) → CoversSoFar w (cond a (moving r n (way.Down b)) (frees r n (lost.Behind s.exec)))
-      at true = record {
-        at = restaged w r (stage.Halted n b) (stage.Move n (way.Down b)) _ c refl (λ h. h) (c.stage.0, c.stage.1, tt);
-        rests = λ h. cc;
-        moves = λ m x h. ap tail_of h;
-      }
-      at false = freed-covers r (stage.Halted n b) n (lost.Behind s.exec) c refl refl (λ h. c.stage.1)
-
   -- ---- the promoted one takes writes
 
   opened-covers : (r : Recovery) (n : ServerNo) → CoversAt w r (stage.Opened n) → CoversSoFar w (closing r (last_looks r r.purpose n))
@@ -399,34 +376,65 @@ module _ (w : World) where
   rests-covers : (r : Recovery) (s : Stage) → CoversAt w r s → of_stage s ≡ [] → is_late s ≡ false → CoversSoFar w (idle r)
   rests-covers r s c none late = at-rest w (idle r) refl (restaged w r s stage.Idle r.core c (sym none) (λ h. absurd (false≢true (sym late ∙ h))) tt)
 
-  pub completed-covers : (r : Recovery) (s : Stage) → Fits s [] → CoversAt w r s → CoversSoFar w (completed r s)
-  completed-covers r stage.Idle f c = rests-covers r stage.Idle c refl refl
-  completed-covers r stage.Check f c = rests-covers r stage.Check c refl refl
-  completed-covers r (stage.Read n) f c = rests-covers r (stage.Read n) c refl refl
-  completed-covers r (stage.Release n) f c = rests-covers r (stage.Release n) c refl refl
-  completed-covers r (stage.Judged n) f c = judge-covers r n c
-  completed-covers r (stage.Join n p) f c = joined r (stage.Join n p) n p c refl refl c.stage.0 c.stage.1
-  completed-covers r (stage.Expelled n) f c = at-rest w (idle (expelled r n)) refl (expelled-covers r n c)
-  completed-covers r (stage.Swapped p q) f c = so-far w _ (stage.Open q) _ _ refl refl (λ m by h. cc) (swapped-covers r p q _ c)
-  completed-covers r (stage.Resume p q) f c = joined r (stage.Resume p q) q p c refl refl c.stage.1.chosen c.stage.2
-  completed-covers r (stage.Opened n) f c = opened-covers r n c
-  completed-covers r (stage.Meet m d) f c =
-      so-far w _ (stage.Shut m d) _ _ refl refl (λ n by h. cc) (restaged w r (stage.Meet m d) (stage.Shut m d) _ c refl (λ h. h) (giving-on r (stage.Shut m d) _ m d c.stage))
-  completed-covers r (stage.Gather m d) f c = at-rest w (idle (gathered r d)) refl (gather-covers r m d c)
-  completed-covers r (stage.Looked n b) f c = look-covers r n b c
-  completed-covers r (stage.Halted n b) f c = halt-covers r n b c (seen_of r.core.seen n.0)
-  completed-covers r (stage.Switched m d) f c = so-far w _ (stage.Open d) _ _ refl refl (λ n by h. cc) (switched-covers r m d _ c)
-  completed-covers r (stage.Drain n) f c = absurd (not-ended (stage.Drain n) _ _ refl f)
-  completed-covers r (stage.Move n by) f c = absurd (not-ended (stage.Move n by) _ _ refl f)
-  completed-covers r (stage.Expel n) f c = absurd (not-ended (stage.Expel n) _ _ refl f)
-  completed-covers r (stage.Level p q) f c = absurd (not-ended (stage.Level p q) _ _ refl f)
-  completed-covers r (stage.Swap p q) f c = absurd (not-ended (stage.Swap p q) _ _ refl f)
-  completed-covers r (stage.Return p q) f c = absurd (not-ended (stage.Return p q) _ _ refl f)
-  completed-covers r (stage.Crown n) f c = absurd (not-ended (stage.Crown n) _ _ refl f)
-  completed-covers r (stage.Open n) f c = absurd (not-ended (stage.Open n) _ _ refl f)
-  completed-covers r (stage.Shut m d) f c = absurd (not-ended (stage.Shut m d) _ _ refl f)
-  completed-covers r (stage.Look n b) f c = absurd (not-ended (stage.Look n b) _ _ refl f)
-  completed-covers r (stage.Trail n b) f c = absurd (not-ended (stage.Trail n b) _ _ refl f)
-  completed-covers r (stage.Yield m d) f c = absurd (not-ended (stage.Yield m d) _ _ refl f)
-  completed-covers r (stage.Switch m d) f c = absurd (not-ended (stage.Switch m d) _ _ refl f)
-  completed-covers r (stage.Close lines) f c = absurd (not-ended (stage.Close lines) _ _ refl f)
+  -- one whose end makes nothing has none to come
+  rests-at : (r : Recovery) (s : Stage) → rests s ≡ true → Fits s [] → CoversAt w r s → CoversSoFar w (idle r)
+  rests-at r stage.Idle h f c = rests-covers r stage.Idle c refl refl
+  rests-at r stage.Check h f c = rests-covers r stage.Check c refl refl
+  rests-at r (stage.Read n) h f c = rests-covers r (stage.Read n) c refl refl
+  rests-at r (stage.Release n) h f c = rests-covers r (stage.Release n) c refl refl
+  rests-at r (stage.Judged n) h f c = absurd (false≢true h)
+  rests-at r (stage.Join n p) h f c = absurd (false≢true h)
+  rests-at r (stage.Expelled n) h f c = absurd (false≢true h)
+  rests-at r (stage.Swapped p q) h f c = absurd (false≢true h)
+  rests-at r (stage.Resume p q) h f c = absurd (false≢true h)
+  rests-at r (stage.Opened n) h f c = absurd (false≢true h)
+  rests-at r (stage.Meet m d) h f c = absurd (false≢true h)
+  rests-at r (stage.Gather m d) h f c = absurd (false≢true h)
+  rests-at r (stage.Looked n x) h f c = absurd (false≢true h)
+  rests-at r (stage.Halted n x) h f c = absurd (false≢true h)
+  rests-at r (stage.Switched m d) h f c = absurd (false≢true h)
+  rests-at r s h f c = absurd (not-ended s _ _ refl f)
+
+  module _ (r : Recovery) (fits : Fits r.stage []) (c : CoversAt w r r.stage) where
+    covers-as : (s : Stage) → r.stage ≡ s → CoversAt w r s
+    covers-as s is = subst (λ (x : Stage). CoversAt w r x) is c
+
+    pub completes-covers : (e : Ending) → MayEnd r e → CoversSoFar w (ended_by r e)
+    completes-covers by.Rests may = rests-at r r.stage may fits c
+    completes-covers (by.Stays n s) may = at-rest w _ refl (stays-covers r n s (covers-as (stage.Judged n) may.0) may.1 may.2)
+    completes-covers (by.Loses n why) may = go may.0
+      where
+        kept : expels r.purpose (Some why) ≡ true → IsSourced w n.0
+        kept h = absurd (false≢true (sym (stray-leaves r.purpose r.failed (seen_of r.core.seen n.0) why may.1) ∙ h))
+
+        go : WasRead r.stage n → CoversSoFar w (idle (loses r n why))
+        go (inl is) = left-covers r (stage.Judged n) n why (covers-as (stage.Judged n) is) refl refl kept
+        go (inr (x, is)) = left-covers r (stage.Looked n x) n why (covers-as (stage.Looked n x) is) refl refl kept
+    completes-covers (by.Frees n why) may =
+        let at = covers-as (stage.Halted n may.0) may.1 in freed-covers r (stage.Halted n may.0) n why at refl refl (λ h. at.stage.1)
+    completes-covers (by.Follows n p) may = go may
+      where
+        go : (r.stage ≡ stage.Join n p) ⊎ (r.stage ≡ stage.Resume p n) → CoversSoFar w (idle (follows r n p))
+        go (inl is) = let at = covers-as (stage.Join n p) is in joined r (stage.Join n p) n p at refl refl at.stage.0 at.stage.1
+        go (inr is) = let at = covers-as (stage.Resume p n) is in joined r (stage.Resume p n) n p at refl refl at.stage.1.chosen at.stage.2
+    completes-covers (by.Marks n) may = at-rest w (idle (expelled r n)) refl (expelled-covers r n (covers-as (stage.Expelled n) may))
+    completes-covers (by.Leads d) may = at-rest w (idle (gathered r d)) refl (gather-covers r may.0 d (covers-as (stage.Gather may.0 d) may.1))
+    -- a replica that comes to where the designated one stopped
+    completes-covers (by.Trails n x) may =
+        let at = covers-as (stage.Looked n x) may.0 in
+        let seen = not-stray r.failed (seen_of r.core.seen n.0) may.1 in
+        so-far w _ (stage.Trail n x) _ _ refl refl (λ m way h. cc)
+        (restaged w r (stage.Looked n x) (stage.Trail n x) _ at refl (λ h. h) (at.stage.0, at.stage.1 seen.0 seen.1 (below-sourced seen.0.source r.failed seen.2)))
+    completes-covers (by.Joins n x) may =
+        let at = covers-as (stage.Halted n x) may.0 in
+        record {
+          at = restaged w r (stage.Halted n x) (stage.Move n (way.Down x)) _ at refl (λ h. h) (at.stage.0, at.stage.1, tt);
+          rests = λ h. cc;
+          moves = λ m y h. ap tail_of h;
+        }
+    completes-covers (by.Swaps p q) may = so-far w _ (stage.Open q) _ _ refl refl (λ m way h. cc) (swapped-covers r p q _ (covers-as (stage.Swapped p q) may))
+    completes-covers (by.Switches m d) may = so-far w _ (stage.Open d) _ _ refl refl (λ n way h. cc) (switched-covers r m d _ (covers-as (stage.Switched m d) may))
+    completes-covers (by.Shuts m d) may =
+        let at = covers-as (stage.Meet m d) may in
+        so-far w _ (stage.Shut m d) _ _ refl refl (λ n way h. cc) (restaged w r (stage.Meet m d) (stage.Shut m d) _ at refl (λ h. h) (giving-on r (stage.Shut m d) _ m d at.stage))
+    completes-covers (by.Ends n) may = opened-covers r n (covers-as (stage.Opened n) may)

@@ -13,7 +13,6 @@ use Rattle.operations.specs.declared.op.Op.{Op}
 use Rattle.operations.specs.declared.op.Op.TheVariants as op
 use Rattle.operations.specs.Jobs.{Job}
 use Rattle.recovery_plans.specs.declared.outcome.LostReplica.{LostReplica}
-use Rattle.recovery_plans.specs.declared.outcome.Stopped.{Stopped}
 use Rattle.recovery_plans.specs.declared.purpose.Purpose.{Purpose}
 use Rattle.recovery_plans.specs.declared.purpose.Purpose.TheVariants as purpose
 use Rattle.recovery_plans.specs.declared.stage.Stage.{Stage}
@@ -23,17 +22,20 @@ use Rattle.recovery_plans.specs.declared.task.Task.TheVariants as task
 use Rattle.recovery_plans.specs.declared.task.Way.{Way}
 use Rattle.recovery_plans.specs.Beginning.{first_source, is_master}
 use Rattle.recovery_plans.specs.Recoveries.{Recovery, working}
-use Rattle.recovery_plans.specs.Stages.{tail_of}
+use Rattle.recovery_plans.specs.Stages.{level, tail_of}
 use Rattle.recovery_plans.specs.Telling.{told}
-use Rattle.recovery_plans.specs.Deciding.{chosen_of, better_of, choose, hand_over, why_of, expels, releases, sort, swap_by, swap, crown, swap_or_crown, rejoin, at_last, look_at, yield, by_task, by_queue, once, decided}
+use Rattle.recovery_plans.specs.Deciding.{better_of, choose, closing, crown, expels, rejoin, releases, sort, why_of, yield}
+use Rattle.recovery_plans.specs.Moves as by
+use Rattle.recovery_plans.specs.Moves.{Decision, IsNext, MayDecide, decided_by, follows_lead}
 use Rattle.recovery_plans.proofs.Choices.{All-better}
+use Rattle.recovery_plans.proofs.Walking.{decides-idle}
 use Rattle.standing_laws.specs.Standing.{IsSourced}
 use Rattle.recovery_covers.specs.Covers.{times, follower_nos, lost_nos, crowns}
 use Rattle.recovery_covers.specs.SoFar.{of_task, of_queue, of_stage, chooses, decides, is_nil, in_order, is_takeover, is_intermediate, Leads, Awaits, OldFollows, Stands, CoversAt, CoversSoFar}
 use Rattle.recovery_covers.proofs.Times.{one, times-append, self-all}
 use Rattle.recovery_covers.proofs.Covering.{queue-as}
 use Rattle.recovery_covers.proofs.Chosen.{unnamed, unnamed-apart, chosen-covers}
-use Rattle.recovery_covers.proofs.Handed.{way-reads, hand-covers}
+use Rattle.recovery_covers.proofs.Handed.{way-reads, handed-over, hands-covers, leaves-covers}
 
 -- without an operation, a task and a new source
 pub record IsStuck (r : Recovery) : Type 0 where
@@ -207,74 +209,6 @@ module _ (w : World) where
   }
 
   module _ (b : BookState) (now : Moment) where
-    look-covers : (r : Recovery) (n : ServerNo) (ts : List Task) → r.core.ops ≡ [] → CoversAt w (record r { queue = task.Trailing n ∷ ts }) stage.Idle → (o : Option Bridge) → r.lead ≡ o
-        → Fine (look_at (record r { queue = ts }) n o)
-    look-covers r n ts none c None e =
-        inr (record { ops = none; queue = refl; chosen = refl; apart = takeover-apart r.purpose (All-head (Awaits w (record r { queue = task.Trailing n ∷ ts })) (task.Trailing n) ts c.queue) })
-    look-covers r n ts none c (Some x) e =
-        inl (so-far _ (stage.Look n x) _ _ refl refl (λ m by h. cc)
-        (begins r (task.Trailing n) ts (stage.Look n x) _ c refl refl refl (λ h. h) (
-          All-head (Awaits w (record r { queue = task.Trailing n ∷ ts })) (task.Trailing n) ts c.queue,
-          subst (λ (o : Option Bridge). IfSome o (λ y. r.chosen ≡ Some y.no)) e c.lead,
-        )))
-
-    yield-covers : (r : Recovery) (ts : List Task) → r.core.ops ≡ [] → CoversAt w (record r { queue = task.Yielding ∷ ts }) stage.Idle → (o : Option Bridge) → r.lead ≡ o
-        → Fine (yield (record r { queue = ts }) o)
-    yield-covers r ts none c None e =
-        inr (record { ops = none; queue = refl; chosen = refl; apart = takeover-apart r.purpose (All-head (Awaits w (record r { queue = task.Yielding ∷ ts })) task.Yielding ts c.queue) })
-    yield-covers r ts none c (Some x) e =
-        let parts = and_parts (is_nil ts) (in_order ts) c.order in
-        let empty : ts ≡ [] = nil-of ts parts.0 in
-        let chosen : r.chosen ≡ Some x.no = subst (λ (o : Option Bridge). IfSome o (λ y. r.chosen ≡ Some y.no)) e c.lead in
-        inl (so-far _ (stage.Yield r.failed x.no) _ _ refl refl (λ m by h. cc)
-        (begins r task.Yielding ts (stage.Yield r.failed x.no) _ c refl refl refl (λ h. parts.1) (
-          record { takeover = All-head (Awaits w (record r { queue = task.Yielding ∷ ts })) task.Yielding ts c.queue; failed = refl; chosen = chosen },
-          record { chosen = chosen; promoted = leads c.leads ∙ chosen; queue = empty; drained = c.undrained (ap decides empty) },
-        )))
-      where
-        nil-of : (us : List Task) → is_nil us ≡ true → us ≡ []
-        nil-of [] h = refl
-        nil-of (u ∷ us) h = absurd (false≢true h)
-
-        leads : Leads (record r { queue = task.Yielding ∷ ts }) stage.Idle → r.outcome.promoted ≡ r.chosen
-        leads (inl e) = e
-        leads (inr y) = absurd (false≢true y.0)
-
-    task-covers : (r : Recovery) (t : Task) (ts : List Task) → r.core.ops ≡ [] → r.stage ≡ stage.Idle → CoversAt w (record r { queue = t ∷ ts }) stage.Idle → Fine (by_task w b now (record r { queue = ts }) t)
-    task-covers r (task.Reading n) ts none idle c =
-        inl (so-far _ (stage.Read n) _ _ refl refl (λ m by h. cc) (begins r (task.Reading n) ts (stage.Read n) _ c refl refl refl (λ h. h) tt))
-    task-covers r (task.Draining n) ts none idle c =
-        let parts = and_parts (decides ts) (in_order ts) c.order in
-        inl (so-far _ (stage.Drain n) _ _ refl refl (λ m by h. cc) (begins r (task.Draining n) ts (stage.Drain n) _ c refl refl refl (λ h. parts.1) parts.0))
-    task-covers r task.Choosing ts none idle c = go (chosen_of w b now r.failed r.drained) refl
-      where
-        go : (o : Option Stopped) → chosen_of w b now r.failed r.drained ≡ o → Fine (choose w b now (record r { queue = ts }) o)
-        go None e = inr (record { ops = none; queue = refl; chosen = refl; apart = unnamed-apart r.purpose (unnamed r.purpose r.chosen (c.unchosen refl).0 c.named) })
-        go (Some p) e = inl (at-rest (choose w b now (record r { queue = ts }) (Some p)) idle (chosen-covers w b now r ts c p e))
-    task-covers r task.Handing ts none idle c = go r.chosen refl
-      where
-        named : (n : ServerNo) × (r.chosen ≡ Some n)
-        named = intermediate-named r.purpose r.chosen (All-head (Awaits w (record r { queue = task.Handing ∷ ts })) task.Handing ts c.queue) c.named
-
-        go : (o : Option ServerNo) → r.chosen ≡ o → Fine (hand_over w b (record r { queue = ts }) o)
-        go None e = let bad : None ≡ Some named.0 = sym e ∙ named.1 in cc
-        go (Some s) e = inl (hand-covers w b s r.drained (record r { queue = ts }) idle e c)
-    task-covers r (task.Moving n by) ts none idle c =
-        let awaits = All-head (Awaits w (record r { queue = task.Moving n by ∷ ts })) (task.Moving n by) ts c.queue in
-        inl (record {
-          at = begins r (task.Moving n by) ts (stage.Move n by) _ c refl refl refl (λ h. h) (awaits.0, awaits.1, way-reads r.core.seen by);
-          rests = λ h. cc;
-          moves = λ m x h. ap tail_of h;
-        })
-    task-covers r task.Sorting ts none idle c = inl (at-rest (sort (record r { queue = ts })) idle (sort-covers r ts c))
-    task-covers r (task.Expelling n) ts none idle c =
-        inl (so-far _ (stage.Expel n) _ _ refl refl (λ m by h. cc)
-        (begins r (task.Expelling n) ts (stage.Expel n) _ c refl refl refl (λ h. h) (All-head (Awaits w (record r { queue = task.Expelling n ∷ ts })) (task.Expelling n) ts c.queue)))
-    task-covers r (task.Releasing n) ts none idle c =
-        inl (so-far _ (stage.Release n) _ _ refl refl (λ m by h. cc) (begins r (task.Releasing n) ts (stage.Release n) _ c refl refl refl (λ h. h) tt))
-    task-covers r (task.Trailing n) ts none idle c = look-covers r n ts none c r.lead refl
-    task-covers r task.Yielding ts none idle c = yield-covers r ts none c r.lead refl
-
     -- ---- nothing is left to do
 
     last-covers : (r : Recovery) (s : Stage) (core : Job) (swaps : Bool) → CoversAt w r stage.Idle → of_stage s ≡ []
@@ -308,9 +242,6 @@ module _ (w : World) where
           go (inl e) = e
           go (inr x) = absurd (false≢true x.0)
 
-      as-is : CoversSoFar w r
-      as-is = at-rest r idle c
-
       -- the lines are told, where nobody takes a master's place
       closes : (x : Op) (xs : List Op) → (n : ServerNo) → r.chosen ≡ Some n → crowns r.purpose ≡ false → OldFollows r.purpose r.failed r.outcome.followers
           → CoversSoFar w (working r (stage.Close (told r)) (x ∷ xs))
@@ -325,76 +256,134 @@ module _ (w : World) where
             refl,
           ))
 
-      rejoins : r.purpose ≡ purpose.Regroup → (o : Option ServerNo) → r.chosen ≡ o → Fine (rejoin r o)
-      rejoins u None e = inl as-is
-      rejoins u (Some p) e =
-          inl (closes (op.Start p) (op.Finish (told r) ∷ []) p e (ap crowns u) (subst (λ (x : Purpose). OldFollows x r.failed r.outcome.followers) (sym u) tt))
+      rejoins : (p : ServerNo) → r.purpose ≡ purpose.Regroup → r.chosen ≡ Some p → CoversSoFar w (rejoin r (Some p))
+      rejoins p u e = closes (op.Start p) (op.Finish (told r) ∷ []) p e (ap crowns u) (subst (λ (x : Purpose). OldFollows x r.failed r.outcome.followers) (sym u) tt)
 
-      crowning : is_master r.purpose ≡ true → (o : Option ServerNo) → r.chosen ≡ o → Fine (crown r o)
-      crowning u None e = inl as-is
-      crowning u (Some p) e =
-          inl (so-far _ (stage.Crown p) _ _ refl refl (λ m by h. cc)
-          (last-covers r (stage.Crown p) _ r.swaps c refl (u, record { chosen = e; promoted = leads ∙ e; queue = empty; drained = drained })))
+      crowning : (p : ServerNo) → is_master r.purpose ≡ true → r.chosen ≡ Some p → CoversSoFar w (crown r (Some p))
+      crowning p u e =
+          so-far _ (stage.Crown p) _ _ refl refl (λ m by h. cc)
+          (last-covers r (stage.Crown p) _ r.swaps c refl (u, record { chosen = e; promoted = leads ∙ e; queue = empty; drained = drained }))
 
       unswapped : CoversSoFar w (record r { swaps = false })
       unswapped = record {
         at = subst (λ (s : Stage). CoversAt w (record r { stage = s; swaps = false }) s) (sym idle) (last-covers r stage.Idle r.core false c refl tt);
         rests = λ h. idle;
-        moves = as-is.moves;
+        moves = λ n by h. let bad : stage.Idle ≡ stage.Move n by = sym idle ∙ h in cc;
       }
 
-      swapping : is_master r.purpose ≡ true → (p : ServerNo) → r.chosen ≡ Some p → (o : Option ServerNo) → better_of w b now r.failed p (map (λ x. x.no) r.outcome.followers) ≡ o → Fine (swap_by (record r { swaps = false }) p o)
-      swapping u p is None e = inl unswapped
-      swapping u p is (Some q) e =
+      swapping : (p q : ServerNo) → is_master r.purpose ≡ true → r.chosen ≡ Some p → better_of w b now r.failed p (map (λ x. x.no) r.outcome.followers) ≡ Some q
+          → CoversSoFar w (working (record r { swaps = false }) (stage.Level p q) (level p q))
+      swapping p q u is e =
           let listed = (All-better w b now r.failed (λ (x : ServerNo). 0 < times x.0 (follower_nos r.outcome.followers)) p (follower_nos r.outcome.followers) q (All-map (λ (x : ServerNo). 0 < times x.0 (follower_nos r.outcome.followers)) (λ x. x.no) r.outcome.followers (self-all (λ x. x.no) r.outcome.followers)) e).0 in
-          inl (so-far _ (stage.Level p q) _ _ refl refl (λ m by h. cc)
-          (last-covers r (stage.Level p q) _ false c refl (u, record { chosen = is; promoted = leads ∙ is; queue = empty; drained = drained }, listed)))
+          so-far _ (stage.Level p q) _ _ refl refl (λ m by h. cc)
+          (last-covers r (stage.Level p q) _ false c refl (u, record { chosen = is; promoted = leads ∙ is; queue = empty; drained = drained }, listed))
 
-      swaps-or-crowns : is_master r.purpose ≡ true → (s : Bool) → Fine (swap_or_crown w b now r s)
-      swaps-or-crowns u true = go r.chosen refl
-        where
-          go : (o : Option ServerNo) → r.chosen ≡ o → Fine (swap w b now (record r { swaps = false }) o)
-          go None e = inl unswapped
-          go (Some p) e = swapping u p e (better_of w b now r.failed p (map (λ x. x.no) r.outcome.followers)) refl
-      swaps-or-crowns u false = crowning u r.chosen refl
-
-      at-last-covers : (u : Purpose) → r.purpose ≡ u → Fine (at_last w b now r u)
-      at-last-covers purpose.Regroup e = rejoins e r.chosen refl
-      at-last-covers purpose.Master e = swaps-or-crowns (ap is_master e) r.swaps
-      at-last-covers (purpose.Intermediate s) e =
+      finishing : (s : ServerNo) → r.purpose ≡ purpose.Intermediate s → CoversSoFar w (closing r [])
+      finishing s e =
           let named = intermediate-named r.purpose r.chosen (ap is_intermediate e) c.named in
-          inl (closes (op.Finish (told r)) [] named.0 named.1 (ap crowns e) (subst (λ (x : Purpose). OldFollows x r.failed r.outcome.followers) (sym e) tt))
-      at-last-covers (purpose.Takeover d) e = inl as-is
+          closes (op.Finish (told r)) [] named.0 named.1 (ap crowns e) (subst (λ (x : Purpose). OldFollows x r.failed r.outcome.followers) (sym e) tt)
 
-    -- nobody leads, and nothing is left to do
-    stuck-on : (r : Recovery) → IsStuck r → Fine (at_last w b now r r.purpose)
-    stuck-on r x = go r.purpose x.apart
+    -- ---- what is decided
+
+    next-covers : (r : Recovery) (t : Task) (ts : List Task) → IsNext r t ts → CoversAt w r stage.Idle → CoversAt w (record r { queue = t ∷ ts }) stage.Idle
+    next-covers r t ts next c = subst (λ (us : List Task). CoversAt w (record r { queue = us }) stage.Idle) next.queue c
+
+    awaited : (r : Recovery) (t : Task) (ts : List Task) → IsNext r t ts → CoversAt w r stage.Idle → Awaits w (record r { queue = t ∷ ts }) t
+    awaited r t ts next c = All-head (Awaits w (record r { queue = t ∷ ts })) t ts (next-covers r t ts next c).queue
+
+    -- where one is designated its lead is the chosen one's
+    lead-chosen : (r : Recovery) (x : Bridge) → r.lead ≡ Some x → CoversAt w r stage.Idle → r.chosen ≡ Some x.no
+    lead-chosen r x e c = subst (λ (o : Option Bridge). IfSome o (λ y. r.chosen ≡ Some y.no)) e c.lead
+
+    lead-takeover : (r : Recovery) (t : Task) → follows_lead t ≡ true → Awaits w r t → is_takeover r.purpose ≡ true
+    lead-takeover r (task.Trailing n) h a = a
+    lead-takeover r task.Yielding h a = a
+    lead-takeover r t h a = absurd (false≢true h)
+
+    yield-covers : (r : Recovery) (x : Bridge) (ts : List Task) → CoversAt w (record r { queue = task.Yielding ∷ ts }) stage.Idle → r.chosen ≡ Some x.no → CoversSoFar w (yield (record r { queue = ts }) (Some x))
+    yield-covers r x ts c chosen =
+        let parts = and_parts (is_nil ts) (in_order ts) c.order in
+        let empty : ts ≡ [] = nil-of ts parts.0 in
+        so-far _ (stage.Yield r.failed x.no) _ _ refl refl (λ m by h. cc)
+        (begins r task.Yielding ts (stage.Yield r.failed x.no) _ c refl refl refl (λ h. parts.1) (
+          record { takeover = All-head (Awaits w (record r { queue = task.Yielding ∷ ts })) task.Yielding ts c.queue; failed = refl; chosen = chosen },
+          record { chosen = chosen; promoted = leads c.leads ∙ chosen; queue = empty; drained = c.undrained (ap decides empty) },
+        ))
       where
-        swaps : (s : Bool) → Fine (swap_or_crown w b now r s)
-        swaps true = subst (λ (o : Option ServerNo). Fine (swap w b now (record r { swaps = false }) o)) (sym x.chosen) (inr (record { ops = x.ops; queue = x.queue; chosen = x.chosen; apart = x.apart }))
-        swaps false = subst (λ (o : Option ServerNo). Fine (crown r o)) (sym x.chosen) (inr x)
+        nil-of : (us : List Task) → is_nil us ≡ true → us ≡ []
+        nil-of [] h = refl
+        nil-of (u ∷ us) h = absurd (false≢true h)
 
-        go : (u : Purpose) → is_intermediate u ≡ false → Fine (at_last w b now r u)
-        go purpose.Regroup h = subst (λ (o : Option ServerNo). Fine (rejoin r o)) (sym x.chosen) (inr x)
-        go purpose.Master h = swaps r.swaps
-        go (purpose.Intermediate s) h = absurd (false≢true (sym h))
-        go (purpose.Takeover d) h = inr x
+        leads : Leads (record r { queue = task.Yielding ∷ ts }) stage.Idle → r.outcome.promoted ≡ r.chosen
+        leads (inl e) = e
+        leads (inr y) = absurd (false≢true y.0)
 
-    pub once-covers : (r : Recovery) → Fine r → Fine (once w b now r)
-    once-covers r (inl c) = go r.core.ops refl r.queue refl
-      where
-        at : r.core.ops ≡ [] → CoversAt w r stage.Idle
-        at none = subst (λ (s : Stage). CoversAt w r s) (c.rests none) c.at
+    decides-at : (r : Recovery) (d : Decision) → MayDecide w b now r d → r.core.ops ≡ [] → r.stage ≡ stage.Idle → CoversAt w r stage.Idle → Fine (decided_by w b now r d)
+    decides-at r (by.Reads n ts) next none idle c =
+        inl (so-far _ (stage.Read n) _ _ refl refl (λ m way h. cc) (begins r (task.Reading n) ts (stage.Read n) _ (next-covers r (task.Reading n) ts next c) refl refl refl (λ h. h) tt))
+    decides-at r (by.Drains n ts) next none idle c =
+        let at = next-covers r (task.Draining n) ts next c in
+        let parts = and_parts (decides ts) (in_order ts) at.order in
+        inl (so-far _ (stage.Drain n) _ _ refl refl (λ m way h. cc) (begins r (task.Draining n) ts (stage.Drain n) _ at refl refl refl (λ h. parts.1) parts.0))
+    decides-at r (by.Sends n way ts) next none idle c =
+        let awaits = awaited r (task.Moving n way) ts next c in
+        inl (record {
+          at = begins r (task.Moving n way) ts (stage.Move n way) _ (next-covers r (task.Moving n way) ts next c) refl refl refl (λ h. h) (awaits.0, awaits.1, way-reads r.core.seen way);
+          rests = λ h. cc;
+          moves = λ m x h. ap tail_of h;
+        })
+    decides-at r (by.Expels n ts) next none idle c =
+        inl (so-far _ (stage.Expel n) _ _ refl refl (λ m way h. cc)
+        (begins r (task.Expelling n) ts (stage.Expel n) _ (next-covers r (task.Expelling n) ts next c) refl refl refl (λ h. h) (awaited r (task.Expelling n) ts next c)))
+    decides-at r (by.Releases n ts) next none idle c =
+        inl (so-far _ (stage.Release n) _ _ refl refl (λ m way h. cc) (begins r (task.Releasing n) ts (stage.Release n) _ (next-covers r (task.Releasing n) ts next c) refl refl refl (λ h. h) tt))
+    decides-at r (by.Looks n x ts) (next, e) none idle c =
+        inl (so-far _ (stage.Look n x) _ _ refl refl (λ m way h. cc)
+        (begins r (task.Trailing n) ts (stage.Look n x) _ (next-covers r (task.Trailing n) ts next c) refl refl refl (λ h. h) (awaited r (task.Trailing n) ts next c, lead-chosen r x e c)))
+    decides-at r (by.Yields x ts) (next, e) none idle c = inl (yield-covers r x ts (next-covers r task.Yielding ts next c) (lead-chosen r x e c))
+    decides-at r (by.Sticks t ts) g none idle c =
+        inr (record { ops = none; queue = refl; chosen = refl; apart = takeover-apart r.purpose (lead-takeover (record r { queue = t ∷ ts }) t g.1 (awaited r t ts g.0 c)) })
+    decides-at r (by.Chooses p ts) (next, e) none idle c =
+        inl (at-rest (choose w b now (record r { queue = ts }) (Some p)) idle (chosen-covers w b now r ts (next-covers r task.Choosing ts next c) p e))
+    decides-at r (by.ChoosesNobody ts) (next, e) none idle c =
+        let at = next-covers r task.Choosing ts next c in
+        inr (record { ops = none; queue = refl; chosen = refl; apart = unnamed-apart r.purpose (unnamed r.purpose r.chosen (at.unchosen refl).0 at.named) })
+    decides-at r (by.Hands d ds way ts) g none idle c = inl (hands-covers w b r d ds way ts g c)
+    decides-at r (by.Leaves d ds ts) g none idle c = inl (at-rest _ idle (leaves-covers w b r d ds None ts g c))
+    decides-at r (by.HandedOver ts) g none idle c = inl (at-rest _ idle (handed-over w b r ts g.0.queue g.1 c))
+    decides-at r (by.Passes ts) (next, e) none idle c =
+        let named = intermediate-named r.purpose r.chosen (awaited r task.Handing ts next c) c.named in
+        let bad : None ≡ Some named.0 = sym e ∙ named.1 in cc
+    decides-at r (by.Sorts ts) next none idle c = inl (at-rest (sort (record r { queue = ts })) idle (sort-covers r ts (next-covers r task.Sorting ts next c)))
+    decides-at r (by.Levels p q) g none idle c = inl (swapping r none idle g.0.queue c p q (ap is_master g.0.purpose) g.2 g.3)
+    decides-at r by.Remains g none idle c = inl (unswapped r none idle g.0.queue c)
+    decides-at r (by.Crowns p) g none idle c = inl (crowning r none idle g.0.queue c p (ap is_master g.0.purpose) g.2)
+    decides-at r (by.Rejoins p) g none idle c = inl (rejoins r none idle g.0.queue c p g.0.purpose g.1)
+    decides-at r by.Closes g none idle c = inl (finishing r none idle g.1.queue c g.0 g.1.purpose)
 
-        go : (ops : List Op) → r.core.ops ≡ ops → (ts : List Task) → r.queue ≡ ts → Fine (by_queue w b now r ops ts)
-        go (x ∷ xs) is ts q = inl c
-        go [] is [] q = at-last-covers r is (c.rests is) q (at is) r.purpose refl
-        go [] is (t ∷ ts) q = task-covers r t ts is (c.rests is) (subst (λ (us : List Task). CoversAt w (record r { queue = us }) stage.Idle) q (at is))
-    once-covers r (inr x) =
-        subst (λ (ops : List Op). Fine (by_queue w b now r ops r.queue)) (sym x.ops)
-        (subst (λ (ts : List Task). Fine (by_queue w b now r [] ts)) (sym x.queue) (stuck-on r x))
+    -- where nobody leads and nothing is left to do, only that no better one is looked for
+    no-next : (r : Recovery) (t : Task) (ts : List Task) → IsStuck r → IsNext r t ts → ⊥
+    no-next r t ts x next = let bad : [] ≡ t ∷ ts = sym x.queue ∙ next.queue in cc
 
-pub decided-covers : (w : World) (b : BookState) (now : Moment) (r : Recovery) → CoversSoFar w r → CoversSoFar w (decided w b now r) ⊎ IsStuck (decided w b now r)
-decided-covers w b now r c =
-    once-covers w b now (once w b now (once w b now (once w b now r)))
-    (once-covers w b now (once w b now (once w b now r)) (once-covers w b now (once w b now r) (once-covers w b now r (inl c))))
+    decides-stuck : (r : Recovery) (d : Decision) → MayDecide w b now r d → IsStuck r → Fine (decided_by w b now r d)
+    decides-stuck r by.Remains g x = inr (record { ops = x.ops; queue = x.queue; chosen = x.chosen; apart = x.apart })
+    decides-stuck r (by.Levels p q) g x = let bad : None ≡ Some p = sym x.chosen ∙ g.2 in cc
+    decides-stuck r (by.Crowns p) g x = let bad : None ≡ Some p = sym x.chosen ∙ g.2 in cc
+    decides-stuck r (by.Rejoins p) g x = let bad : None ≡ Some p = sym x.chosen ∙ g.1 in cc
+    decides-stuck r by.Closes g x = absurd (false≢true (sym x.apart ∙ ap is_intermediate g.1.purpose))
+    decides-stuck r (by.Reads n ts) g x = absurd (no-next r _ _ x g)
+    decides-stuck r (by.Drains n ts) g x = absurd (no-next r _ _ x g)
+    decides-stuck r (by.Sends n way ts) g x = absurd (no-next r _ _ x g)
+    decides-stuck r (by.Expels n ts) g x = absurd (no-next r _ _ x g)
+    decides-stuck r (by.Releases n ts) g x = absurd (no-next r _ _ x g)
+    decides-stuck r (by.Sorts ts) g x = absurd (no-next r _ _ x g)
+    decides-stuck r (by.Hands d ds way ts) g x = absurd (no-next r _ _ x g.next)
+    decides-stuck r (by.Leaves d ds ts) g x = absurd (no-next r _ _ x g.next)
+    decides-stuck r d g x = absurd (no-next r _ _ x g.0)
+
+    pub decides-covers : (r : Recovery) (d : Decision) → MayDecide w b now r d → Fine r → Fine (decided_by w b now r d)
+    decides-covers r d may (inl c) =
+        let none = decides-idle w b now r d may in
+        let idle = c.rests none in
+        decides-at r d may none idle (subst (λ (s : Stage). CoversAt w r s) idle c.at)
+    decides-covers r d may (inr x) = decides-stuck r d may x

@@ -18,14 +18,15 @@ use Rattle.job_laws.specs.Footing.{source_shown}
 use Rattle.job_laws.proofs.Sights.{seen-at}
 use Rattle.recovery_plans.specs.declared.outcome.LostReplica.{LostReplica}
 use Rattle.recovery_plans.specs.declared.outcome.Stopped.{Stopped}
-use Rattle.recovery_plans.specs.declared.stage.Stage.{Stage}
 use Rattle.recovery_plans.specs.declared.stage.Stage.TheVariants as stage
+use Rattle.recovery_plans.specs.declared.task.Task.{Task}
 use Rattle.recovery_plans.specs.declared.task.Task.TheVariants as task
 use Rattle.recovery_plans.specs.declared.task.Way.{Way}
 use Rattle.recovery_plans.specs.declared.task.Way.TheVariants as way
-use Rattle.recovery_plans.specs.Deciding.{expels, logs_at, moving, way_by_set, way_below, hand_by, hand}
+use Rattle.recovery_plans.specs.Deciding.{expels, logs_at, moving, way_by_set, way_below}
 use Rattle.recovery_plans.specs.Recoveries.{Recovery, loses, sight_of}
 use Rattle.recovery_plans.specs.Stages.{tail_of, target, with_way}
+use Rattle.recovery_plans.specs.Moves.{IsHanding}
 use Rattle.recovery_plans.proofs.Choices.{same-no}
 use Rattle.recovery_laws.proofs.Choosing.{All-latest}
 use Rattle.standing_laws.specs.Standing.{IsSourced, IsApart, Reads}
@@ -66,7 +67,7 @@ way-leads w b xs x s d by h = go w.gtid h
 
 -- ---- one after another
 
-module _ (w : World) (b : BookState) (s : ServerNo) where
+module _ (w : World) (b : BookState) where
   abbrev Hands : Recovery → List Stopped → Type 0
   Hands r ds = CoversAt w (record r { queue = task.Handing ∷ r.queue; drained = ds }) stage.Idle
 
@@ -172,15 +173,23 @@ module _ (w : World) (b : BookState) (s : ServerNo) where
       first (inl e) = inl e
       first (inr x) = absurd (false≢true x.0)
 
-  pub hand-covers : (ds : List Stopped) (r : Recovery) → r.stage ≡ stage.Idle → r.chosen ≡ Some s → Hands r ds → CoversSoFar w (hand w b s r ds)
-  hand-covers [] r idle chosen c = record {
-    at = subst (λ (x : Stage). CoversAt w (record r { drained = [] }) x) (sym idle) (handed r c);
-    rests = λ h. idle;
-    moves = λ n by h. let bad : stage.Idle ≡ stage.Move n by = sym idle ∙ h in cc;
-  }
-  hand-covers (d ∷ ds) r idle chosen c = go (way_below w b r.core.seen r.failed s d) refl (hand-covers ds (loses r d.no (lost.Behind d.exec)) idle chosen (stays r d ds c))
-    where
-      go : (o : Option Way) → way_below w b r.core.seen r.failed s d ≡ o → CoversSoFar w (hand w b s (loses r d.no (lost.Behind d.exec)) ds)
-          → CoversSoFar w (hand_by r d ds o (hand w b s (loses r d.no (lost.Behind d.exec)) ds))
-      go None e rest = rest
-      go (Some by) e rest = goes r d ds by (chosen ∙ ap Some (sym (way-leads w b r.core.seen r.failed s d by e))) c
+  -- before a decision over the next one
+  handing : (r : Recovery) (ds : List Stopped) (ts : List Task) → r.queue ≡ task.Handing ∷ ts → r.drained ≡ ds → CoversAt w r stage.Idle → Hands (record r { queue = ts }) ds
+  handing r ds ts queue drained c =
+      subst (λ (xs : List Stopped). CoversAt w (record r { queue = task.Handing ∷ ts; drained = xs }) stage.Idle) drained
+      (subst (λ (q : List Task). CoversAt w (record r { queue = q }) stage.Idle) queue c)
+
+  pub handed-over : (r : Recovery) (ts : List Task) → r.queue ≡ task.Handing ∷ ts → r.drained ≡ [] → CoversAt w r stage.Idle → CoversAt w (record r { queue = ts; drained = [] }) stage.Idle
+  handed-over r ts queue drained c = handed (record r { queue = ts }) (handing r [] ts queue drained c)
+
+  pub leaves-covers : (r : Recovery) (d : Stopped) (ds : List Stopped) (o : Option Way) (ts : List Task) → IsHanding w b r d ds o ts → CoversAt w r stage.Idle
+      → CoversAt w (record (loses r d.no (lost.Behind d.exec)) { drained = ds }) stage.Idle
+  leaves-covers r d ds o ts g c =
+      subst (λ (q : List Task). CoversAt w (record (loses r d.no (lost.Behind d.exec)) { queue = q; drained = ds }) stage.Idle) (sym g.next.queue)
+      (stays (record r { queue = ts }) d ds (handing r (d ∷ ds) ts g.next.queue g.drained c))
+
+  pub hands-covers : (r : Recovery) (d : Stopped) (ds : List Stopped) (by : Way) (ts : List Task) → IsHanding w b r d ds (Some by) ts → CoversAt w r stage.Idle
+      → CoversSoFar w (moving (record r { drained = ds }) d.no by)
+  hands-covers r d ds by ts g c =
+      subst (λ (q : List Task). CoversSoFar w (moving (record r { queue = q; drained = ds }) d.no by)) (sym g.next.queue)
+      (goes (record r { queue = ts }) d ds by (g.chosen ∙ ap Some (sym (way-leads w b r.core.seen r.failed g.source d by g.way))) (handing r (d ∷ ds) ts g.next.queue g.drained c))

@@ -3,6 +3,7 @@ use Rattle.std.proofs.Common.{◌≡◌, ℕ, Bool, true, false, cond, List, [],
 use Rattle.std.proofs.lemmas.Bool.{false≢true}
 use Rattle.orch_base.specs.declared.server.Moment.{Moment}
 use Rattle.orch_base.specs.declared.server.ServerNo.{ServerNo}
+use Rattle.instance_keeper.specs.Book.{BookState}
 use Rattle.server_model.specs.Run.{Exchange, run}
 use Rattle.server_model.specs.Safe.{Placed}
 use Rattle.server_model.specs.Worlds.{World, server_at}
@@ -29,10 +30,16 @@ use Rattle.recovery_plans.specs.Recoveries.{Recovery, follows_no_more, working}
 use Rattle.recovery_plans.specs.Stages.{ends, leaver, move, moved, moves, tail_of, target}
 use Rattle.recovery_plans.specs.Deciding.{expels}
 use Rattle.recovery_plans.specs.Taking as taking
-use Rattle.recovery_plans.specs.Taking.{Fate, completed, entered, stepped, at_end, progressed, fate_of_drain, fate_of_trail, lost_on_way, fate_of_errant, fate_of_move, fate, exec_by, spot_by, met, is_waiting, barred_by, on_going, attempted, acted}
+use Rattle.recovery_plans.specs.Taking.{Fate, entered, stepped, fate_of_drain, fate_of_trail, lost_on_way, fate_of_errant, fate_of_move, fate, exec_by, spot_by, is_waiting, taken}
+use Rattle.recovery_plans.specs.Moves as moving
+use Rattle.recovery_plans.specs.Moves.{Bearing, Decision, MayDecide, borne, decided_by, fate_of}
+use Rattle.recovery_plans.proofs.Walking.{Keeps, kept-along}
 use Rattle.recovery_laws.specs.HeldRecoveries.{HeldRecovery}
 use Rattle.recovery_ends.specs.Shapes.{Fits}
-use Rattle.recovery_ends.proofs.Shapes.{Went, WentOn, deed-went, same-head, fits-step, moved-fits}
+use Rattle.recovery_ends.proofs.Fitting.{went-of}
+use Rattle.recovery_ends.proofs.Shapes.{WentOn, same-head, fits-step, moved-fits}
+use Rattle.recovery_laws.specs.Rings.{HeldRings}
+use Rattle.recovery_laws.proofs.Deciding.{decides-held}
 use Rattle.recovery_laws.proofs.Taking.{due, fits}
 use Rattle.standing_laws.specs.Standing.{IsApart, IsFree, IsSourced, IsWritable, KeepsSource, Stays, IsSourcedAsSeen}
 use Rattle.recovery_covers.specs.SoFar.{of_stage, is_late, is_takeover, Stands, CoversAt, CoversSoFar}
@@ -40,8 +47,8 @@ use Rattle.standing_laws.proofs.Standing.{Stays-same}
 use Rattle.standing_laws.proofs.Effects.{After, IsMoved, IsOnce, Reads-true, deed-still, way-moves, way-once, about-moves, back-moves, detach-moves, reset-moves, shut-moves, open-moves, status-reads}
 use Rattle.recovery_covers.proofs.Covering.{is_seen, last-on, restaged, stage-on}
 use Rattle.recovery_covers.proofs.Changing.{AllButOne, move-covers, expel-covers, swap-covers, return-covers, crown-covers, open-covers, shut-covers, yield-covers, switch-covers, level-covers}
-use Rattle.recovery_covers.proofs.Decided.{at-rest}
-use Rattle.recovery_covers.proofs.Completing.{lose-covers, unreached, completed-covers}
+use Rattle.recovery_covers.proofs.Decided.{IsStuck, at-rest, decides-covers}
+use Rattle.recovery_covers.proofs.Completing.{completes-covers, lose-covers, unreached}
 
 -- ---- moves
 
@@ -62,14 +69,17 @@ way-moving (way.Down b) n = refl
 way-moving (way.Up b) n = refl
 way-moving (way.Auto to exec) n = refl
 
--- ---- a stage with an operation left isn't done, and one without is
+-- between a turn's operation and the end of its stage
+pub record Steps (w : World) (r : Recovery) : Type 0 where
+  pub at : CoversAt w r r.stage
+  pub fits : Fits r.stage r.core.ops
+  pub still : is_move r.stage ≡ false
 
-at-end-covers : (w : World) (r : Recovery) (ops : List Op) → r.core.ops ≡ ops → Fits r.stage r.core.ops → is_move r.stage ≡ false → CoversAt w r r.stage → CoversSoFar w (at_end r ops)
-at-end-covers w r [] is f still c = completed-covers w r r.stage (subst (λ (xs : List Op). Fits r.stage xs) is f) c
-at-end-covers w r (x ∷ xs) is f still c = record {
-  at = c;
+continues-covers : (w : World) (r : Recovery) (x : Op) (xs : List Op) → r.core.ops ≡ x ∷ xs → Steps w r → CoversSoFar w r
+continues-covers w r x xs is st = record {
+  at = st.at;
   rests = λ h. let bad : [] ≡ x ∷ xs = sym h ∙ is in cc;
-  moves = λ n by h. absurd (no-move r.stage still n by h);
+  moves = λ n way h. absurd (no-move r.stage st.still n way h);
 }
 
 -- the job goes with the recovery into the next stage
@@ -196,11 +206,6 @@ module _ (w : World) (read : ℕ) (now : Moment) (r : Recovery) (o : Op) (rest :
 
     -- ---- any operation
 
-    record Good (x : Recovery) : Type 0 where
-      at : CoversAt w' x x.stage
-      fits : Fits x.stage x.core.ops
-      still : is_move x.stage ≡ false
-
     not-moves : (a b : Bool) → (a || b) ≡ false → a ≡ false
     not-moves true b h = absurd (false≢true (sym h))
     not-moves false b h = refl
@@ -214,12 +219,12 @@ module _ (w : World) (read : ℕ) (now : Moment) (r : Recovery) (o : Op) (rest :
     not-move nowhere (stage.Move n by') at = absurd (nowhere n by' (same-head o (move by' n) rest _ (sym is ∙ c.moves n by' at)))
     not-move nowhere s at = refl
 
-    stepped-covers : is_waiting k ≡ false → Good (stepped later o)
+    stepped-covers : is_waiting k ≡ false → Steps w' (stepped later o)
     stepped-covers done = go (fits-step r.stage o rest (fits w read now r o rest placed held is))
       where
-        go : ((ends r.stage (deed_of o) ≡ false) × Fits r.stage rest) ⊎ (o ∷ rest ≡ tail_of r.stage) → Good (stepped later o)
+        go : ((ends r.stage (deed_of o) ≡ false) × Fits r.stage rest) ⊎ (o ∷ rest ≡ tail_of r.stage) → Steps w' (stepped later o)
         go (inl p) =
-            subst (λ (b : Bool). Good (cond b (entered later (moved r.stage)) later)) (sym p.0)
+            subst (λ (b : Bool). Steps w' (cond b (entered later (moved r.stage)) later)) (sym p.0)
             (record {
               at =
                   still-covers (λ n. after (λ x. Stays w x n) (deed-still w r.core rest n read now (deed_of o) (not-moves (moves (deed_of o)) _ p.0)))
@@ -229,7 +234,7 @@ module _ (w : World) (read : ℕ) (now : Moment) (r : Recovery) (o : Op) (rest :
             })
         go (inr t) =
             let m = moved-fits r.stage o rest t in
-            subst (λ (b : Bool). Good (cond b (entered later (moved r.stage)) later)) (sym m.0)
+            subst (λ (b : Bool). Steps w' (cond b (entered later (moved r.stage)) later)) (sym m.0)
             (record {
               at = change-covers r.stage t c.at;
               fits = subst (λ (j : Job). Fits (moved r.stage) j.ops) (sym (entered-core later (moved r.stage))) (subst (λ (ops : List Op). Fits (moved r.stage) ops) (sym (went.done done)) m.1);
@@ -244,8 +249,8 @@ module _ (w : World) (read : ℕ) (now : Moment) (r : Recovery) (o : Op) (rest :
         subst (λ (a : Attempt). IsOnce w read now r.core rest held.core.shown a) e (subst (λ (y : Op). IsOnce w read now r.core rest held.core.shown (by y)) (sym same) once) in
         false≢true (sym mine ∙ waits)
 
-    progressed-covers : (b : Bool) → is_waiting k ≡ b → CoversSoFar w' (progressed later o b)
-    progressed-covers true waits =
+    waits-covers : is_waiting k ≡ true → CoversSoFar w' later
+    waits-covers waits =
         let x = went.waits waits in
         record {
           at =
@@ -254,13 +259,6 @@ module _ (w : World) (read : ℕ) (now : Moment) (r : Recovery) (o : Op) (rest :
           rests = λ h. let bad : [] ≡ o ∷ rest = sym h ∙ x.0 ∙ is in cc;
           moves = λ n by' h. x.0 ∙ c.moves n by' h;
         }
-    progressed-covers false done =
-        let good = stepped-covers done in
-        at-end-covers w' (stepped later o) (stepped later o).core.ops refl good.fits good.still good.at
-
-    goes-covers : (x : Option Cause) → is_going (on_going w r o ob es k x).step ≡ true → CoversSoFar (run w (on_going w r o ob es k x).exchanges) (on_going w r o ob es k x).recovery
-    goes-covers None g = progressed-covers (is_waiting k) refl
-    goes-covers (Some x) g = absurd (false≢true g)
 
   -- ---- it stops
 
@@ -270,23 +268,26 @@ module _ (w : World) (read : ℕ) (now : Moment) (r : Recovery) (o : Op) (rest :
   IsFine s (taking.Loses n why) = (of_stage s ≡ n ∷ []) × (is_late s ≡ false) × (expels r.purpose (Some why) ≡ true → IsSourced w n.0)
   IsFine s (taking.Frees n why) = (of_stage s ≡ n ∷ []) × (is_late s ≡ false) × (expels r.purpose (Some why) ≡ true → IsSourced w n.0)
   IsFine s (taking.Goes x ops) =
-      (of_stage x ≡ of_stage s) × (is_late s ≡ false) × Stands w (record r { stage = x; core = record r.core { ops = ops; waited = 0 } }) x × (ops ≡ [] → ⊥) × (is_move x ≡ false)
+      (of_stage x ≡ of_stage s) × (is_late s ≡ false) × Stands w (record r { stage = x; core = record r.core { ops = ops; waited = 0 } }) x
 
-  met-covers : (s : Stage) → CoversAt w r s → (x : Cause) (ob : Option Observation) (f : Fate) → IsFine s f → is_going (met w r x ob f).step ≡ true → CoversSoFar (run w (met w r x ob f).exchanges) (met w r x ob f).recovery
-  met-covers s at x ob taking.Fails fine g = absurd (false≢true g)
-  met-covers s at x ob taking.Drops fine g =
+  borne-covers : (s : Stage) → CoversAt w r s → (e : Bearing) → IsFine s (fate_of e) → CoversSoFar w (borne r (fate_of e))
+  borne-covers s at moving.Drops fine =
       at-rest w (working r stage.Idle []) refl (restaged w r s stage.Idle (record r.core { ops = []; waited = 0 }) at (sym fine.0) (λ h. absurd (false≢true (sym fine.1 ∙ h))) tt)
-  met-covers s at x ob (taking.Loses n why) fine g =
-      at-rest w _ refl (lose-covers w r s stage.Idle n why (record r.core { ops = []; waited = 0 }) at fine.0 refl fine.1 fine.2 tt)
-  met-covers s at x ob (taking.Frees n why) fine g = record {
+  borne-covers s at (moving.Misses n why) fine = at-rest w _ refl (lose-covers w r s stage.Idle n why (record r.core { ops = []; waited = 0 }) at fine.0 refl fine.1 fine.2 tt)
+  borne-covers s at (moving.Lets n why) fine = record {
     at = lose-covers w r s (stage.Release n) n why (record r.core { ops = op.Start n ∷ []; waited = 0 }) at fine.0 refl fine.1 fine.2 tt;
     rests = λ h. cc;
     moves = λ m by' h. cc;
   }
-  met-covers s at x ob (taking.Goes y ops) fine g = record {
-    at = restaged w r s y (record r.core { ops = ops; waited = 0 }) at fine.0 (λ h. absurd (false≢true (sym fine.1 ∙ h))) fine.2;
-    rests = λ h. absurd (fine.3 h);
-    moves = λ m by' h. absurd (no-move y fine.4 m by' h);
+  borne-covers s at (moving.Restarts p q) fine = record {
+    at = restaged w r s (stage.Release q) (record r.core { ops = op.Start q ∷ []; waited = 0 }) at fine.0 (λ h. absurd (false≢true (sym fine.1 ∙ h))) fine.2;
+    rests = λ h. cc;
+    moves = λ m by' h. cc;
+  }
+  borne-covers s at (moving.Returns p q) fine = record {
+    at = restaged w r s (stage.Return p q) (record r.core { ops = op.Cross cross.Back q p ∷ op.Start q ∷ []; waited = 0 }) at fine.0 (λ h. absurd (false≢true (sym fine.1 ∙ h))) fine.2;
+    rests = λ h. cc;
+    moves = λ m by' h. cc;
   }
 
   drain-fine : (n : ServerNo) (x : Cause) → IsFine (stage.Drain n) (fate_of_drain n x)
@@ -326,18 +327,43 @@ module _ (w : World) (read : ℕ) (now : Moment) (r : Recovery) (o : Op) (rest :
   fate-fine stage.Check at x = (refl, refl)
   fate-fine (stage.Expel n) at x = (refl, refl)
   fate-fine (stage.Release n) at x = (refl, refl)
-  fate-fine (stage.Level p q) at x = (refl, refl, tt, λ h. cc, refl)
-  fate-fine (stage.Swap p q) at x = (refl, refl, (at.stage.0, last-on r (stage.Return p q) _ p at.stage.1), λ h. cc, refl)
+  fate-fine (stage.Level p q) at x = (refl, refl, tt)
+  fate-fine (stage.Swap p q) at x = (refl, refl, (at.stage.0, last-on r (stage.Return p q) _ p at.stage.1))
   fate-fine s at x = tt
 
-  attempted-covers : (a : Attempt) → by_deed w read now r.core rest (deed_of o) ≡ a → Went r.core rest a → is_going (attempted w r o a).step ≡ true
-      → CoversSoFar (run w (attempted w r o a).exchanges) (attempted w r o a).recovery
-  attempted-covers (attempt.Goes ob es k) e went g = goes-covers ob es k e went (barred_by r.stage r.failed k.seen) g
-  attempted-covers (attempt.Stops x ob) e went g = met-covers r.stage c.at x ob (fate w r.purpose r.stage x) (fate-fine r.stage c.at x) g
-  attempted-covers (attempt.Ends lines) e went g = absurd (false≢true g)
+-- ---- a turn
 
-pub acted-covers : (w : World) (read : ℕ) (now : Moment) (r : Recovery) → Placed w → HeldRecovery w r → CoversSoFar w r → (ops : List Op) → r.core.ops ≡ ops → is_going (acted w read now r ops).step ≡ true
-    → CoversSoFar (run w (acted w read now r ops).exchanges) (acted w read now r ops).recovery
-acted-covers w read now r placed held c [] is g = absurd (false≢true g)
-acted-covers w read now r placed held c (o ∷ rest) is g =
-    attempted-covers w read now r o rest placed held c is (by_deed w read now r.core rest (deed_of o)) refl (deed-went r.core rest w read now (deed_of o)) g
+module _ (w : World) (b : BookState) (read : ℕ) (now : Moment) (placed : Placed w) (rings : HeldRings w b.rings) where
+  abbrev Fine : Recovery → Type 0
+  Fine r = CoversSoFar w r ⊎ IsStuck r
+
+  abbrev Before : Recovery → Type 0
+  Before r = HeldRecovery w r × Fine r
+
+  pub decides-before : (r : Recovery) (d : Decision) → MayDecide w b now r d → Before r → Before (decided_by w b now r d)
+  decides-before r d may h = (decides-held w b now rings r d may h.0, decides-covers w b now r d may h.1)
+
+  -- with an operation left it isn't stuck
+  pub covered : (r : Recovery) (o : Op) (rest : List Op) → r.core.ops ≡ o ∷ rest → Fine r → CoversSoFar w r
+  covered r o rest is (inl c) = c
+  covered r o rest is (inr x) = let bad : [] ≡ o ∷ rest = sym x.ops ∙ is in cc
+
+  keeps-covers : Keeps w b read now Before (λ v r. Steps v r) (λ v r. CoversSoFar v r)
+  keeps-covers = record {
+    decides = decides-before;
+    waits = λ r o rest ob es j did e h.
+        waits-covers w read now r o rest placed h.0 (covered r o rest did.ops h.1) did.ops ob es j did.goes (went-of w read now r o rest ob es j did) e;
+    acts = λ r o rest ob es j did e h.
+        stepped-covers w read now r o rest placed h.0 (covered r o rest did.ops h.1) did.ops ob es j did.goes (went-of w read now r o rest ob es j did) e;
+    continues = continues-covers;
+    completes = λ v r e none may st. completes-covers v r (subst (λ (xs : List Op). Fits r.stage xs) none st.fits) st.at e may;
+    bears = λ r o rest c ob e stops is may h.
+        let so-far = covered r o rest stops.ops h.1 in
+        borne-covers w read now r o rest placed h.0 so-far stops.ops r.stage so-far.at e
+        (subst (λ (f : Fate). IsFine w read now r o rest placed h.0 so-far stops.ops r.stage f) is (fate-fine w read now r o rest placed h.0 so-far stops.ops r.stage so-far.at c));
+  }
+
+pub turn-covers : (w : World) (b : BookState) (read : ℕ) (now : Moment) (r : Recovery) → Placed w → HeldRings w b.rings → HeldRecovery w r → CoversSoFar w r → is_going (taken w b read now r).step ≡ true
+    → CoversSoFar (run w (taken w b read now r).exchanges) (taken w b read now r).recovery
+turn-covers w b read now r placed rings held c =
+    kept-along w b read now (Before w b read now placed rings) (λ v x. Steps v x) (λ v x. CoversSoFar v x) (keeps-covers w b read now placed rings) r (held, inl c)

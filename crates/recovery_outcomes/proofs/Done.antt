@@ -43,13 +43,15 @@ use Rattle.recovery_plans.specs.declared.task.Way.TheVariants as way
 use Rattle.recovery_plans.specs.Beginning.{first_source, is_master}
 use Rattle.recovery_plans.specs.Recoveries.{Outcome, Recovery}
 use Rattle.recovery_plans.specs.Stages.{ends, reads_last, tail_of}
-use Rattle.recovery_plans.specs.Taking as taking
-use Rattle.recovery_plans.specs.Taking.{Fate, fate, met, barred_by, on_going, attempted, acted, taken}
+use Rattle.recovery_plans.specs.Taking.{Taken, taken}
+use Rattle.recovery_plans.specs.Moves as move
+use Rattle.recovery_plans.specs.Moves.{Turning}
+use Rattle.recovery_plans.proofs.Walking.{decisions-keep, taken-walks}
 use Rattle.instance_keeper.specs.Book.{BookState}
 use Rattle.recovery_laws.specs.Rings.{HeldRings}
-use Rattle.recovery_laws.proofs.Deciding.{decided-held}
 use Rattle.recovery_plans.specs.Deciding.{decided}
-use Rattle.recovery_covers.proofs.Decided.{IsStuck, decided-covers}
+use Rattle.recovery_covers.proofs.Decided.{IsStuck}
+use Rattle.recovery_covers.proofs.Turning.{covered, decides-before}
 use Rattle.recovery_laws.specs.HeldRecoveries.{HeldRecovery}
 use Rattle.recovery_ends.specs.Shapes.{Fits}
 use Rattle.recovery_ends.proofs.Shapes.{same-head, fits-step}
@@ -236,53 +238,31 @@ module _ (w : World) (read : ℕ) (now : Moment) (r : Recovery) (o : Op) (rest :
       go (inl p) = absurd (false≢true (sym p.0 ∙ ap (ends r.stage) d ∙ or-true (reads_last r.stage)))
       go (inr e) = finishing d r.stage e c.at
 
-  attempted-done : (a : Attempt) → by_deed w read now r.core rest (deed_of o) ≡ a → (attempted w r o a).step ≡ step.Done lines
-      → IsTold (run w (attempted w r o a).exchanges) (attempted w r o a).recovery lines
-  attempted-done (attempt.Goes ob es k) e h = go (barred_by r.stage r.failed k.seen) h
-    where
-      go : (x : Option Cause) → (on_going w r o ob es k x).step ≡ step.Done lines → IsTold (run w (on_going w r o ob es k x).exchanges) (on_going w r o ob es k x).recovery lines
-      go None h = cc
-      go (Some x) h = cc
-  attempted-done (attempt.Stops x ob) e h = go (fate w r.purpose r.stage x) h
-    where
-      go : (f : Fate) → (met w r x ob f).step ≡ step.Done lines → IsTold (run w (met w r x ob f).exchanges) (met w r x ob f).recovery lines
-      go taking.Fails h = cc
-      go taking.Drops h = cc
-      go (taking.Loses n why) h = cc
-      go (taking.Frees n why) h = cc
-      go (taking.Goes s ops) h = cc
-  attempted-done (attempt.Ends ls) e h =
-      let same : ls ≡ lines = lines-by (step.Done ls) (step.Done lines) h in
-      let told = at-finish (finish-of r.core rest w read now (deed_of o) lines (e ∙ ap attempt.Ends same)) in
-      record { covers = told.covers; told = told.told; leads = ended-leads told.leads }
+  -- in the turn whose operation says so
+  done-told : by_deed w read now r.core rest (deed_of o) ≡ attempt.Ends lines → IsTold w (record r { core = ended r.core }) lines
+  done-told e =
+      let told = at-finish (finish-of r.core rest w read now (deed_of o) lines e) in record { covers = told.covers; told = told.told; leads = ended-leads told.leads }
     where
       ended-leads : (r.outcome.promoted ≡ r.chosen) ⊎ HasSwapped r → (r.outcome.promoted ≡ r.chosen) ⊎ HasSwapped (record r { core = ended r.core })
       ended-leads (inl l) = inl l
       ended-leads (inr l) = inr (swapped-on r r.stage (ended r.core) l)
 
-      lines-in : JobStep → List Line
-      lines-in step.Going = []
-      lines-in (step.Done xs) = xs
-      lines-in (step.Failed x ls) = []
-
-      lines-by : (a b : JobStep) → a ≡ b → lines-in a ≡ lines-in b
-      lines-by a b f = ap lines-in f
-
-pub acted-done : (w : World) (read : ℕ) (now : Moment) (r : Recovery) → Placed w → HeldRecovery w r → CoversSoFar w r → (ops : List Op) → r.core.ops ≡ ops → (lines : List Line) → (acted w read now r ops).step ≡ step.Done lines
-    → IsTold (run w (acted w read now r ops).exchanges) (acted w read now r ops).recovery lines
-acted-done w read now r placed held c [] is lines h = cc
-acted-done w read now r placed held c (o ∷ rest) is lines h = attempted-done w read now r o rest placed held c is lines (by_deed w read now r.core rest (deed_of o)) refl h
-
 -- ---- a whole turn
 
 pub turn-done : (w : World) (b : BookState) (read : ℕ) (now : Moment) (r : Recovery) → Placed w → HeldRings w b.rings → HeldRecovery w r → CoversSoFar w r → (lines : List Line) → (taken w b read now r).step ≡ step.Done lines
     → IsTold (run w (taken w b read now r).exchanges) (taken w b read now r).recovery lines
-turn-done w b read now r placed rings held c lines = go (decided-covers w b now r c)
+turn-done w b read now r placed rings held c lines = go (taken w b read now r) (taken-walks w b read now r)
   where
-    stuck : (x : Recovery) → IsStuck x → (acted w read now x x.core.ops).step ≡ step.Done lines → IsTold (run w (acted w read now x x.core.ops).exchanges) (acted w read now x x.core.ops).recovery lines
-    stuck x s =
-        subst (λ ops. (acted w read now x ops).step ≡ step.Done lines → IsTold (run w (acted w read now x ops).exchanges) (acted w read now x ops).recovery lines) (sym s.ops) (λ h. cc)
+    lines-in : JobStep → List Line
+    lines-in step.Going = []
+    lines-in (step.Done xs) = xs
+    lines-in (step.Failed x ls) = []
 
-    go : CoversSoFar w (decided w b now r) ⊎ IsStuck (decided w b now r) → (taken w b read now r).step ≡ step.Done lines → IsTold (run w (taken w b read now r).exchanges) (taken w b read now r).recovery lines
-    go (inl x) h = acted-done w read now (decided w b now r) placed (decided-held w b now r rings held) x (decided w b now r).core.ops refl lines h
-    go (inr s) h = stuck (decided w b now r) s h
+    go : (t : Taken) → Turning w b read now r t → t.step ≡ step.Done lines → IsTold (run w t.exchanges) t.recovery lines
+    go t (move.Waits ds o rest ob es j did e) h = cc
+    go t (move.Acts ds o rest ob es j did e end) h = cc
+    go t (move.Bears ds o rest x ob e stops is may) h = cc
+    go t (move.Fails ds x ob why) h = cc
+    go t (move.Finishes {d} ds o rest ls is e) h =
+        let before = decisions-keep w b now (λ x. HeldRecovery w x × (CoversSoFar w x ⊎ IsStuck x)) (decides-before w b read now placed rings) ds (held, inl c) in
+        done-told w read now d o rest placed before.0 (covered w b read now placed rings d o rest is before.1) is lines (e ∙ ap attempt.Ends (ap lines-in h))

@@ -16,7 +16,8 @@ use Rattle.recovery_laws.proofs.Taking.{others-held, taken-held}
 use Rattle.recovery_outcomes.specs.Between as between
 use Rattle.recovery_outcomes.specs.Between.{Between, world_by, recovery_by, MayCome, AllMayCome, world_after, recovery_after, UnderWay}
 use Rattle.recovery_covers.specs.Covers.{IsTold}
-use Rattle.recovery_covers.proofs.Begun.{turn-covers, outside-covers, others-cover}
+use Rattle.recovery_covers.proofs.Begun.{outside-covers, others-cover}
+use Rattle.recovery_covers.proofs.Turning.{turn-covers}
 use Rattle.recovery_outcomes.proofs.Done.{turn-done}
 
 one-stays : (l : Leases) (id : ℕ) (w : World) (r : Recovery) (x : Between) → MayCome l id w r x → UnderWay l id w r → UnderWay l id (world_by w r x) (recovery_by w r x)

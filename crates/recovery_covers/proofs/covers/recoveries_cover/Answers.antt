@@ -1,4 +1,5 @@
-use Rattle.recovery_covers.proofs.Begun.{turn-covers, outside-covers, others-cover}
+use Rattle.recovery_covers.proofs.Begun.{outside-covers, others-cover}
+use Rattle.recovery_covers.proofs.Turning.{turn-covers}
 use Rattle.recovery_covers.proofs.covers.recoveries_cover.Goals as goal
 
 pub returns-clause-going : goal.returns-clause-going
