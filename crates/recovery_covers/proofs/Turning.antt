@@ -30,7 +30,7 @@ use Rattle.recovery_plans.specs.Recoveries.{Recovery, follows_no_more, working}
 use Rattle.recovery_plans.specs.Stages.{ends, leaver, move, moved, moves, tail_of, target}
 use Rattle.recovery_plans.specs.Deciding.{expels}
 use Rattle.recovery_plans.specs.Taking as taking
-use Rattle.recovery_plans.specs.Taking.{Fate, entered, stepped, fate_of_drain, fate_of_trail, lost_on_way, fate_of_errant, fate_of_move, fate, exec_by, spot_by, is_waiting, taken}
+use Rattle.recovery_plans.specs.Taking.{Fate, entered, stepped, fate_of_drain, fate_of_trail, lost_on_way, fate_of_errant, fate_of_move, fate, exec_by, place_on, spot_by, is_waiting, taken}
 use Rattle.recovery_plans.specs.Moves as moving
 use Rattle.recovery_plans.specs.Moves.{Bearing, Decision, MayDecide, borne, decided_by, fate_of}
 use Rattle.recovery_plans.proofs.Walking.{Keeps, kept-along}
@@ -315,6 +315,7 @@ module _ (w : World) (read : ℕ) (now : Moment) (r : Recovery) (o : Op) (rest :
   move-fine u n by' at (cause.Running m) = lost-fine u n by' (lost.Moved (spot_by (server_at w n.0))) at
   move-fine u n by' at (cause.Interfered m expected there) = lost-fine u n by' (lost.Moved there) at
   move-fine u n by' at (cause.Errant m set) = errant-fine u n by' at
+  move-fine u n by' at (cause.Purged m first) = lost-fine u n by' (lost.Purged (place_on by')) at
   move-fine u n by' at x = tt
 
   fate-fine : (s : Stage) → CoversAt w r s → (x : Cause) → IsFine s (fate w r.purpose s x)

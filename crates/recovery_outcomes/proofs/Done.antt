@@ -18,7 +18,6 @@ use Rattle.server_model.specs.Gtids.{status}
 use Rattle.server_model.specs.Run.{Exchange, run}
 use Rattle.server_model.specs.Safe.{Placed}
 use Rattle.server_model.specs.Worlds.{World, server_at}
-use Rattle.commands.specs.declared.cause.Cause.{Cause}
 use Rattle.commands.specs.declared.cause.Cause.TheVariants as cause
 use Rattle.commands.specs.declared.line.Line.{Line}
 use Rattle.kept_rows.specs.declared.observation.Observation.{Observation}
@@ -49,7 +48,6 @@ use Rattle.recovery_plans.specs.Moves.{Turning}
 use Rattle.recovery_plans.proofs.Walking.{decisions-keep, taken-walks}
 use Rattle.instance_keeper.specs.Book.{BookState}
 use Rattle.recovery_laws.specs.Rings.{HeldRings}
-use Rattle.recovery_plans.specs.Deciding.{decided}
 use Rattle.recovery_covers.proofs.Decided.{IsStuck}
 use Rattle.recovery_covers.proofs.Turning.{covered, decides-before}
 use Rattle.recovery_laws.specs.HeldRecoveries.{HeldRecovery}
