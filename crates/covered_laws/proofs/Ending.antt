@@ -8,7 +8,6 @@ use Rattle.orch_base.specs.declared.server.ServerNo.{ServerNo}
 use Rattle.server_model.specs.Safe.{Safe}
 use Rattle.server_model.specs.Worlds.{World}
 use Rattle.commands.specs.declared.line.Line.{Line}
-use Rattle.commands.specs.declared.line.Lost.{Lost}
 use Rattle.job_laws.specs.Flights.{Flight}
 use Rattle.recovery_plans.specs.declared.outcome.Follower.{Follower}
 use Rattle.recovery_plans.specs.declared.outcome.LostReplica.{LostReplica}

@@ -1,22 +1,16 @@
 -- What a recovery drained, chose and promoted so far has facts that count.
-use Rattle.std.proofs.Common.{◌≡◌, ℕ, Bool, true, false, cond, not, List, [], ◌∷◌, ◌++◌, map, filter, refl, sym, ◌∙◌, ap, subst, Option, Some, None, ◌⊎◌, inl, inr}
-use Rattle.std.specs.List.{All}
+use Rattle.std.proofs.Common.{◌≡◌, ℕ, Bool, true, false, cond, List, [], ◌∷◌, filter, refl, sym, ◌∙◌, ap, subst, Option, Some, None, inl, inr}
 use Rattle.std.proofs.lemmas.Bool.{false≢true}
 use Rattle.std.proofs.lemmas.Option.{same_Some}
 use Rattle.std.proofs.lemmas.List.Elements.{All-filter, All-nil, All-push, All-tail}
 use Rattle.orch_base.specs.declared.server.Moment.{Moment}
 use Rattle.orch_base.specs.declared.server.ServerNo.{ServerNo}
-use Rattle.server_words.specs.declared.status.Status.{Status}
 use Rattle.server_model.specs.Worlds.{World}
-use Rattle.server_model.specs.Run.{Exchange}
-use Rattle.commands.specs.declared.line.Lost.{Lost}
 use Rattle.instance_keeper.specs.Book.{BookState}
-use Rattle.kept_rows.specs.declared.observation.Observation.{Observation}
 use Rattle.operations.specs.declared.op.Op.{Op}
 use Rattle.operations.specs.declared.sight.Position.{Position}
 use Rattle.operations.specs.Deeds.{deed_of}
-use Rattle.operations.specs.Jobs.{Job, position_of, seen_of}
-use Rattle.operations.specs.Turns as attempt
+use Rattle.operations.specs.Jobs.{position_of, seen_of}
 use Rattle.operations.specs.Turns.{ended}
 use Rattle.recovery_plans.specs.declared.outcome.Stopped.{Stopped}
 use Rattle.recovery_plans.specs.declared.purpose.Purpose.{Purpose}
@@ -34,10 +28,9 @@ use Rattle.recovery_plans.proofs.Walking.{Keeps, joined, kept-whole}
 use Rattle.recovery_laws.specs.HeldRecoveries.{HeldRecovery}
 use Rattle.recovery_laws.specs.Rings.{HeldRings}
 use Rattle.recovery_laws.proofs.Deciding.{decides-held}
-use Rattle.recovery_reasons.specs.Reasons.{AllDrained, Betters, Chooses, Drains, ExplainsTruly, Fact, IsBetter, IsChosen, IsDrained, IsExplained, IsLost, IsPromoted, IsSwapping, Speaks, chooses}
-use Rattle.recovery_reasons.proofs.Readings.{Reading, ShowsNow, fits-of, reader_of, stepped-reading}
+use Rattle.recovery_reasons.specs.Reasons.{AllDrained, Betters, Chooses, Drains, ExplainsTruly, Fact, IsBetter, IsChosen, IsDrained, IsExplained, IsPromoted, IsSwapping, Speaks, chooses}
+use Rattle.recovery_reasons.proofs.Readings.{Reading, fits-of, reader_of, stepped-reading}
 use Rattle.recovery_reasons.proofs.Reasoning.{taken-lost}
-use Rattle.recovery_reasons.proofs.Speaking.{decides-speaks}
 
 -- ---- changes of place
 

@@ -1,84 +1,35 @@
 -- What is read in a turn of the replica of a stage.
-use Rattle.recovery_plans.specs.Named.{spoken_to}
-use Rattle.server_model.specs.Desk.{desk_answer}
-use Rattle.server_model.specs.declared.server.Server.{Server}
-use Rattle.server_words.specs.declared.status.StatusFault.TheVariants as seeing
-use Rattle.server_words.specs.declared.changes.Ask.TheVariants as asking
-use Rattle.server_words.specs.declared.changes.Ask.{Ask}
-use Rattle.server_words.specs.declared.attach.AttachFault.TheVariants as attaching
-use Rattle.server_words.specs.declared.attach.AttachFault.{AttachFault}
-use Rattle.server_words.specs.declared.answers.Unreachable.{Unreachable}
-use Rattle.operations.specs.Targets.{can_attach}
-use Rattle.operations.specs.Deeds as deed
-use Rattle.operations.specs.declared.op.Aim.TheVariants.{ExecOf}
-use Rattle.operations.specs.declared.op.Aim.{Aim}
-use Rattle.gtid_sets.specs.declared.interval.Interval.{Interval}
-use Rattle.binlog_coords.specs.declared.Coord.{Coord}
-use Rattle.std.proofs.Common.{◌≡◌, ℕ, Bool, true, false, cond, not, List, [], ◌∷◌, ◌++◌, map, refl, sym, ◌∙◌, ap, subst, Option, Some, None, ◌&&◌, ◌⊎◌, inl, inr, Ok, Err, Result, ◌+◌}
-use Rattle.std.specs.Prelude.{◌==◌, find, is_some, option_map, nat_lt}
-use Rattle.std.specs.List.{All, Contains}
-use Rattle.std.proofs.lemmas.Bool.{false≢true, eq-eqb, eqb-true}
+use Rattle.std.proofs.Common.{◌≡◌, ℕ, Bool, true, false, cond, List, [], ◌∷◌, ◌++◌, refl, sym, ◌∙◌, ap, subst, Option, Some, None, ◌⊎◌, inl, inr}
+use Rattle.std.proofs.lemmas.Bool.{eq-eqb}
 use Rattle.std.proofs.lemmas.Option.{same_Some}
-use Rattle.std.proofs.lemmas.List.Elements.{All-nil, All-cons, All-head, All-tail, All-append, All-push, All-contains, All-filter, All-contains_itself}
-use Rattle.binlog_coords.specs.Log.{is_before, same_coord, is_at_or_before}
 use Rattle.orch_base.specs.declared.server.Moment.{Moment}
 use Rattle.orch_base.specs.declared.server.ServerNo.{ServerNo}
 use Rattle.server_words.specs.declared.status.Status.{Status}
-use Rattle.server_model.specs.Gtids.{status, shown_of, status_in}
+use Rattle.server_model.specs.Gtids.{status}
 use Rattle.server_model.specs.Run.{Exchange}
-use Rattle.server_model.specs.Worlds.{World, server_at}
-use Rattle.commands.specs.declared.cause.Cause.{Cause}
-use Rattle.commands.specs.declared.cause.Cause.TheVariants as cause
-use Rattle.commands.specs.declared.line.Lost.{Lost}
-use Rattle.commands.specs.declared.line.Lost.TheVariants as lost
-use Rattle.instance_keeper.specs.declared.bridge.Bridge.{Bridge}
+use Rattle.server_model.specs.Worlds.{World}
 use Rattle.kept_rows.specs.declared.observation.Observation.{Observation}
-use Rattle.instance_keeper.specs.Book.{BookState, rule_at}
-use Rattle.instance_keeper.specs.Bridges.{has_exec, has_own, latest_that, ring_at}
+use Rattle.instance_keeper.specs.Book.{BookState}
 use Rattle.kept_rows.specs.Seeing.{seen_in}
 use Rattle.operations.specs.declared.op.Op.{Op}
 use Rattle.operations.specs.declared.op.Op.TheVariants as op
 use Rattle.operations.specs.declared.sight.Sight.{Sight}
-use Rattle.operations.specs.Deeds.{deed_of, Deed}
+use Rattle.operations.specs.Deeds.{deed_of}
 use Rattle.operations.specs.Jobs.{Job, position_of, seen_of}
 use Rattle.operations.specs.Turns as attempt
 use Rattle.operations.specs.Turns.{Attempt, after_look, by_deed, observed, aim_of, is_reached, next, saw, is_moved, after_status, after_ask, until_by, after_until, after_wait_by, after_wait, settles, holds_seen, crossing_of, same_again, by_set, attach_answer_of, after_answer, after_attach, cause_by}
 use Rattle.job_laws.proofs.Sights.{seen-at}
-use Rattle.promotion_rules.specs.declared.drained.Drained.{Drained}
-use Rattle.promotion_rules.specs.Choice.{advance_order, is_barred, is_eligible, most_advanced}
-use Rattle.promotion_rules.proofs.Choosing.{chosen-first, none-chosen}
-use Rattle.promotion_rules.proofs.Orders.{advance_total}
-use Rattle.replica_groups.specs.declared.groups.Group.TheVariants as group
-use Rattle.replica_groups.specs.Groups.{by_bridge, group_of}
-use Rattle.recovery_plans.specs.declared.outcome.LostReplica.{LostReplica}
-use Rattle.recovery_plans.specs.declared.outcome.Stopped.{Stopped}
-use Rattle.recovery_plans.specs.declared.purpose.Purpose.{Purpose}
-use Rattle.recovery_plans.specs.declared.purpose.Purpose.TheVariants as purpose
 use Rattle.recovery_plans.specs.declared.stage.Stage.{Stage}
 use Rattle.recovery_plans.specs.declared.stage.Stage.TheVariants as stage
-use Rattle.recovery_plans.specs.declared.task.Task.TheVariants as task
-use Rattle.recovery_plans.specs.declared.task.Way.{Way}
-use Rattle.recovery_plans.specs.declared.task.Way.TheVariants as way
-use Rattle.recovery_plans.specs.Recoveries.{Recovery, follows_no_more, loses}
-use Rattle.recovery_plans.specs.Stages.{ends, leaver, moved, tail_of, is_look, reads_last}
-use Rattle.recovery_plans.specs.Deciding as deciding
-use Rattle.recovery_plans.specs.Deciding.{Lot, logs_at, drained_of, may_lead, stopped_in, chosen_of, lot_by_group, own_end_of, lot_of, stay_of, losses_in, without_stopped, unfit, way_by_set, way_below, stay_of}
-use Rattle.recovery_plans.specs.Taking as taking
-use Rattle.recovery_plans.specs.Taking.{Fate, spot_seen, is_below, marked, entered, stepped, fate_of_drain, fate_of_trail, lost_on_way, fate_of_errant, fate_of_move, fate, met, taken, exec_by, spot_by, place_on}
-use Rattle.recovery_plans.specs.Moves as by
-use Rattle.recovery_plans.specs.Moves.{Decision, Ending, MayDecide, MayEnd, WasRead, borne, decided_by, ended_by, fate_of, Decisions}
-use Rattle.recovery_plans.proofs.Walking.{Keeps, kept-whole, joined}
+use Rattle.recovery_plans.specs.Recoveries.{Recovery, follows_no_more}
+use Rattle.recovery_plans.specs.Stages.{ends, leaver, moved, tail_of, reads_last}
+use Rattle.recovery_plans.specs.Taking.{entered, stepped}
+use Rattle.recovery_plans.specs.Moves.{Decisions}
 use Rattle.recovery_laws.specs.HeldRecoveries.{HeldRecovery}
-use Rattle.recovery_laws.specs.Rings.{HeldRings}
 use Rattle.recovery_ends.specs.Shapes.{Fits}
-use Rattle.recovery_laws.proofs.Deciding.{decides-held}
-use Rattle.recovery_ends.proofs.Fitting.{went-of}
 use Rattle.recovery_ends.proofs.Shapes.{same-head, fits-step, moved-fits}
-use Rattle.recovery_reasons.specs.Causes.{IsTrueOf, IsUnreached}
-use Rattle.recovery_reasons.specs.Reasons.{BelowSuccessor, AllLost, speaks_of, lead_of, Speaks, ExplainsTruly, WaitsFor, IsAsked, AimsAt, IsDue, IsTrailing, Reason, IsRefusedOn, Beside, Without, Below, Unreached, Running, Interfered, Errant, Purged, Strayed, Halted, Late}
-use Rattle.recovery_reasons.proofs.Causing.{StopsTruly, deed-true}
-use Rattle.recovery_reasons.proofs.Coordinates.{before-other}
-use Rattle.recovery_reasons.proofs.Speaking.{decides-speaks, due-speaks, stepped-speaks, due-waits, due-asked, due-looks, due-goes, move-refused, moved-leads}
+use Rattle.recovery_reasons.specs.Reasons.{speaks_of, lead_of}
+use Rattle.recovery_reasons.proofs.Speaking.{moved-leads}
 
 -- the replica whose reading a stage has just made
 abbrev pub reader_of : Stage → Option ServerNo
@@ -130,7 +81,6 @@ read-now w read now j rest n = go (seen_in (status w n.0)) refl
     go None e = tt
     go (Some s) e = (s, e, seen-at j.seen n (position_of s) n.0 ∙ ap (λ b. cond b (Some (position_of s)) (seen_of j.seen n.0)) (eq-eqb n.0 n.0 refl))
 
-
 -- ---- the recovery once the turn's operation is done
 
 -- It stands where a decided one led, whose operation was done; and the replica that its stage has just read was read in
@@ -180,5 +130,5 @@ module _ (w : World) (b : BookState) (now : Moment) (r : Recovery) (read : ℕ) 
       go (inr t) =
           subst (λ (a : Bool). Reading w b now r (cond a (entered later (moved x.stage)) later)) (sym (moved-fits x.stage o rest t).0)
           (entered-reading (moved x.stage) (moved-leads x.stage) (λ n h. moved-reads x.stage o rest n t h) (λ n h.
-            subst (λ (a : Attempt). ReadsNow w n a) e
-            (subst (λ (y : Op). ReadsNow w n (by_deed w read now x.core rest (deed_of y))) (sym (moved-reader x.stage o rest n t h)) (read-now w read now x.core rest n))))
+          subst (λ (a : Attempt). ReadsNow w n a) e
+          (subst (λ (y : Op). ReadsNow w n (by_deed w read now x.core rest (deed_of y))) (sym (moved-reader x.stage o rest n t h)) (read-now w read now x.core rest n))))

@@ -37,13 +37,11 @@ use Rattle.instance_keeper.specs.Book.{BookState, rule_at}
 use Rattle.instance_keeper.specs.Bridges.{has_exec, has_own, latest_that, ring_at}
 use Rattle.kept_rows.specs.Seeing.{seen_in}
 use Rattle.operations.specs.declared.op.Op.{Op}
-use Rattle.operations.specs.declared.op.Op.TheVariants as op
 use Rattle.operations.specs.declared.sight.Sight.{Sight}
 use Rattle.operations.specs.Deeds.{deed_of, Deed}
 use Rattle.operations.specs.Jobs.{Job, position_of, seen_of}
 use Rattle.operations.specs.Turns as attempt
 use Rattle.operations.specs.Turns.{Attempt, after_look, by_deed, observed, aim_of, is_reached, next, saw, is_moved, after_status, after_ask, until_by, after_until, after_wait_by, after_wait, settles, holds_seen, crossing_of, same_again, by_set, attach_answer_of, after_answer, after_attach, cause_by}
-use Rattle.job_laws.proofs.Sights.{seen-at}
 use Rattle.promotion_rules.specs.declared.drained.Drained.{Drained}
 use Rattle.promotion_rules.specs.Choice.{advance_order, is_barred, is_eligible, most_advanced}
 use Rattle.promotion_rules.proofs.Choosing.{chosen-first, none-chosen}
@@ -60,7 +58,7 @@ use Rattle.recovery_plans.specs.declared.task.Task.TheVariants as task
 use Rattle.recovery_plans.specs.declared.task.Way.{Way}
 use Rattle.recovery_plans.specs.declared.task.Way.TheVariants as way
 use Rattle.recovery_plans.specs.Recoveries.{Recovery, follows_no_more, loses}
-use Rattle.recovery_plans.specs.Stages.{ends, leaver, moved, tail_of, is_look, reads_last}
+use Rattle.recovery_plans.specs.Stages.{ends, leaver, moved, is_look}
 use Rattle.recovery_plans.specs.Deciding as deciding
 use Rattle.recovery_plans.specs.Deciding.{Lot, logs_at, drained_of, may_lead, stopped_in, chosen_of, lot_by_group, own_end_of, lot_of, stay_of, losses_in, without_stopped, unfit, way_by_set, way_below, stay_of}
 use Rattle.recovery_plans.specs.Taking as taking
@@ -73,13 +71,12 @@ use Rattle.recovery_laws.specs.Rings.{HeldRings}
 use Rattle.recovery_ends.specs.Shapes.{Fits}
 use Rattle.recovery_laws.proofs.Deciding.{decides-held}
 use Rattle.recovery_ends.proofs.Fitting.{went-of}
-use Rattle.recovery_ends.proofs.Shapes.{same-head, fits-step, moved-fits}
 use Rattle.recovery_reasons.specs.Causes.{IsTrueOf, IsUnreached}
 use Rattle.recovery_reasons.specs.Reasons.{BelowSuccessor, AllLost, speaks_of, lead_of, Speaks, ExplainsTruly, WaitsFor, IsAsked, AimsAt, IsDue, IsTrailing, Reason, IsRefusedOn, Beside, Without, Below, Unreached, Running, Interfered, Errant, Purged, Strayed, Halted, Late, Fact, IsLost, Loses}
 use Rattle.recovery_reasons.proofs.Causing.{StopsTruly, deed-true}
 use Rattle.recovery_reasons.proofs.Coordinates.{before-other}
-use Rattle.recovery_reasons.proofs.Readings.{Reading, ShowsNow, fits-of, reader_of, stepped-reading}
-use Rattle.recovery_reasons.proofs.Speaking.{decides-speaks, due-speaks, stepped-speaks, due-waits, due-asked, due-looks, due-goes, move-refused, moved-leads}
+use Rattle.recovery_reasons.proofs.Readings.{Reading, fits-of, reader_of, stepped-reading}
+use Rattle.recovery_reasons.proofs.Speaking.{decides-speaks, due-speaks, stepped-speaks, due-waits, due-asked, due-looks, due-goes, move-refused}
 
 -- ---- waits that are spent
 

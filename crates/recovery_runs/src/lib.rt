@@ -7,9 +7,9 @@ mod runs;
 mod steps;
 
 pub use finished::{
-    finished_recoveries_end_their_entries, finished_recoveries_owe_nothing, facts_are_true,
+    facts_are_true, finished_recoveries_end_their_entries, finished_recoveries_owe_nothing,
 };
-pub use runs::{recoveries_have_true_facts, recoveries_began, recoveries_finish_well};
+pub use runs::{recoveries_began, recoveries_finish_well, recoveries_have_true_facts};
 pub use steps::{
     openings_cover, recoveries_come_of_those_begun, turns_begin_jobs_once, turns_cover,
 };
