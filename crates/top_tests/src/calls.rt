@@ -71,14 +71,9 @@ impl Told {
         self.status == 5 && self.err.written() == b"keeper fault\n".as_slice()
     }
 
-    /// Whether out has a front of what it has there.
-    pub(crate) fn begins_as(&self, whole: &Told) -> bool {
-        whole.out.written().starts_with(self.out.written())
-    }
-
-    /// Whether out ends so.
-    pub(crate) fn ends(&self, rest: &str) -> bool {
-        self.out.written().ends_with(rest.as_bytes())
+    /// What out took.
+    pub(crate) fn out(&self) -> &[u8] {
+        self.out.written()
     }
 
     /// Whether the status is 0, and out begins so.
@@ -162,15 +157,6 @@ pub(crate) fn keeper_of(alloc: Global, kept: &[Kept], fails: u64) -> Result<MemK
     Ok(MemKeeper::new(alloc, rows, vec![in alloc; fails]?)?)
 }
 
-/// All rows that the keeper has; it fails at none of its next two calls.
-pub(crate) fn rows_in(alloc: Global, keeper: &mut MemKeeper) -> Result<Vec<Row>, Fail> {
-    match keeper.rows(alloc, &[]) {
-        Ok(kept) => Ok(kept),
-        // The call of it that fails was this one.
-        Err(_) => Ok(keeper.rows(alloc, &[])?),
-    }
-}
-
 fn stand_in_order(rows: &[Row], wanted: &[Row]) -> bool {
     let mut rest = rows.iter();
     wanted.iter().all(|row| rest.any(|kept| kept.is_same(row)))
@@ -184,7 +170,11 @@ pub(crate) fn keeps(
     some: &[Kept],
 ) -> Result<bool, Fail> {
     let wanted = rows(alloc, some)?;
-    let kept = rows_in(alloc, keeper)?;
+    let kept = match keeper.rows(alloc, &[]) {
+        Ok(kept) => kept,
+        // The call of it that fails was this one.
+        Err(_) => keeper.rows(alloc, &[])?,
+    };
     Ok(kept.len() == count && stand_in_order(&kept, &wanted))
 }
 

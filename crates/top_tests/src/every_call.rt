@@ -1,7 +1,7 @@
 //! Runs whose keeper fails at each of its calls in turn, and runs with a restart behind each of their turns.
 
-use crate::calls::{Objects, RUN, Told, WHOLE, Words, call, keeper_of, rows_in};
-use instance_keeper::Row;
+use crate::calls::{Objects, RUN, Told, WHOLE, Words, call, keeper_of};
+use instance_keeper::{Keeper, Row};
 use std::alloc::Global;
 use std::test::Fail;
 
@@ -11,6 +11,7 @@ use std::test::Fail;
 #[derive(Clone, Copy)]
 struct Course {
     words: Words,
+    is_run: bool,
     servers: &'static str,
     turns: &'static str,
     each: &'static [&'static str],
@@ -24,6 +25,7 @@ struct Course {
 // The most advanced replica is promoted, and the preferred one takes its place.
 const RECOVERS: Course = Course {
     words: &[b"orch", b"-c", b"recover", b"-i", b"m", b"--tables"],
+    is_run: false,
     servers: r#"{"version":1,"servers":[{"name":"m","history":[["m",100,3]]},{"name":"a","source":"m","executed":2},{"name":"b","source":"m","executed":2,"rule":"prefer"},{"name":"c","source":"m","executed":3}],"turns":["#,
     turns: r#"["fetch","a"],["apply","a"],["fail","m"],["polls"]"#,
     each: &[
@@ -67,6 +69,7 @@ const RECOVERS: Course = Course {
 // A master that is back fails its recovery; the block period, which an acknowledgement ends.
 const BLOCKS: Course = Course {
     words: RUN,
+    is_run: true,
     servers: r#"{"version":1,"servers":[{"name":"m","history":[["m",100,1]]},{"name":"a","source":"m","executed":1}],"turns":["#,
     turns: r#"["fail","m"],["polls"],["command","recover",{"i":"m"}],["heal","m"],["job",1],["fail","m"],["poll-read",0,"m"],["poll-store",0],["tick",3599],["command","recover",{"i":"m"}],["tick",1],["command","recover",{"i":"m"}],["heal","m"],["job",2],["fail","m"],["poll-read",0,"m"],["poll-store",0],["command","ack-cluster-recoveries",{"i":"m"}],["command","recover",{"i":"m"}]"#,
     each: &[
@@ -102,6 +105,7 @@ const BLOCKS: Course = Course {
 // A recovery is interrupted by a restart, and blocks the next.
 const INTERRUPTS: Course = Course {
     words: RUN,
+    is_run: true,
     servers: r#"{"version":1,"servers":[{"name":"m","history":[["m",100,1]]},{"name":"a","source":"m","executed":1}],"turns":["#,
     turns: r#"["fail","m"],["polls"],["command","recover",{"i":"m"}],["restart"],["command","recover",{"i":"m"}]"#,
     each: &[
@@ -132,6 +136,7 @@ const TAKES_OVER: Course = Course {
         b"p",
         b"--tables",
     ],
+    is_run: false,
     servers: r#"{"version":1,"servers":[{"name":"m","history":[["m",100,2]]},{"name":"p","source":"m","executed":2},{"name":"r","source":"m","executed":2}],"turns":["#,
     turns: "",
     each: &[],
@@ -156,6 +161,31 @@ const TAKES_OVER: Course = Course {
     status: 0,
 };
 
+const LARGE: Objects = Objects {
+    out_room: 40_000,
+    ..WHOLE
+};
+
+// Behind no turn.
+const NOWHERE: usize = usize::MAX;
+
+#[derive(Clone, Copy)]
+enum Story {
+    Recovers,
+    Blocks,
+    Interrupts,
+    TakesOver,
+}
+
+fn course_of(story: Story) -> Course {
+    match story {
+        Story::Recovers => RECOVERS,
+        Story::Blocks => BLOCKS,
+        Story::Interrupts => INTERRUPTS,
+        Story::TakesOver => TAKES_OVER,
+    }
+}
+
 // The single turns of a course.
 fn turns_of(alloc: Global, course: Course) -> Result<Vec<&'static str>, Fail> {
     let mut turns = Vec::new(alloc);
@@ -167,28 +197,80 @@ fn turns_of(alloc: Global, course: Course) -> Result<Vec<&'static str>, Fail> {
     Ok(turns)
 }
 
-// A scenario of these servers, and of the first of these turns.
-fn text_of(alloc: Global, servers: &str, turns: &[&str], count: usize) -> Result<String, Fail> {
+// Adds the turn of this index, and before it a restart where that stands behind so many turns.
+fn add_turn(text: &mut String, at: usize, restart: usize, turn: &str) -> Result<(), Fail> {
+    if at > 0 {
+        text.push_str(",")?;
+    }
+    if at == restart {
+        text.push_str("[\"restart\"],")?;
+    }
+    Ok(text.push_str(turn)?)
+}
+
+// A scenario of these servers and turns, and of a restart behind so many of them.
+fn text_of(alloc: Global, servers: &str, turns: &[&str], restart: usize) -> Result<String, Fail> {
     let mut text = String::from_str(alloc, servers)?;
-    let mut comma = "";
-    for turn in turns.iter().take(count) {
-        text.push_str(comma)?;
-        text.push_str(turn)?;
-        comma = ",";
+    for (at, turn) in turns.iter().enumerate() {
+        add_turn(&mut text, at, restart, turn)?;
     }
     text.push_str("]}")?;
     Ok(text)
 }
 
-// What these words answer over no rows with a keeper that fails at this call, and the rows that it has then.
-fn over(alloc: Global, words: Words, text: &str, fails: u64) -> Result<(Told, Vec<Row>), Fail> {
-    let mut keeper = keeper_of(alloc, &[], fails)?;
-    let objects = Objects {
-        out_room: 40_000,
-        ..WHOLE
+// A run over no rows: its words, its scenario, and the call of its keeper that fails.
+#[derive(Clone, Copy)]
+struct Asked<'a> {
+    words: Words,
+    servers: &'static str,
+    turns: &'a [&'static str],
+    restart: usize,
+    fails: u64,
+}
+
+// How a run ended.
+#[derive(Clone, Copy)]
+struct End {
+    // Whether the keeper failed, and once.
+    stopped: bool,
+    // How many turns' lines out took, where that is a front of the wanted text that ends with a whole turn's lines.
+    taken: Option<usize>,
+    // Whether out ends with the wanted text.
+    ends: bool,
+    // Whether the keeper has the rows that the one of the run before had.
+    same: bool,
+}
+
+impl End {
+    fn stops_behind(self, turns: usize) -> bool {
+        self.stopped && self.taken == Some(turns)
+    }
+}
+
+// How many turns have lines in the front of a report.
+fn turns_in(front: &[u8]) -> usize {
+    let mut turns = 0_usize;
+    let mut begins = true;
+    for byte in front {
+        if begins && byte.is_ascii_digit() {
+            turns = turns.saturating_add(1);
+        }
+        begins = *byte == b'\n';
+    }
+    turns
+}
+
+// The same, where it is a front of this report, in which the lines of one more turn come behind it.
+fn taken_in(front: &[u8], report: &[u8]) -> Option<usize> {
+    let is_whole = front.is_empty() || front.ends_with(b"\n".as_slice());
+    let goes_on = match report.get(front.len()) {
+        Some(byte) => byte.is_ascii_digit(),
+        None => false,
     };
-    let told = call(alloc, words, text.as_bytes(), objects, &mut keeper)?;
-    Ok((told, rows_in(alloc, &mut keeper)?))
+    if is_whole && goes_on && report.starts_with(front) {
+        return Some(turns_in(front));
+    }
+    None
 }
 
 fn are_same(rows: &[Row], others: &[Row]) -> bool {
@@ -199,123 +281,227 @@ fn are_same(rows: &[Row], others: &[Row]) -> bool {
             .all(|(row, other)| row.is_same(other))
 }
 
-// A course, of which the keeper failed at each call before this one: so many of its turns make no other calls, and lead
-// to these rows.
-#[derive(Drop)]
-struct Walk {
-    turns: Vec<&'static str>,
-    text: String,
-    whole: Told,
-    call: u64,
-    taken: usize,
-    kept: Vec<Row>,
+fn end_of(told: &Told, faults: u64, wanted: &[u8], same: bool) -> End {
+    End {
+        stopped: told.is_cut() && faults == 1,
+        taken: taken_in(told.out(), wanted),
+        ends: told.out().ends_with(wanted),
+        same,
+    }
 }
 
-impl Walk {
-    fn make(alloc: Global, course: Course) -> Result<Walk, Fail> {
-        let text = text_of(alloc, course.servers, &[course.turns], 1)?;
-        let (whole, _) = over(alloc, course.words, text.as_str(), 0)?;
-        Ok(Walk {
-            turns: turns_of(alloc, course)?,
-            text,
-            whole,
-            call: 1,
-            taken: 0,
-            kept: Vec::new(alloc),
-        })
-    }
+// What these words answer of this scenario. The rows become those of the keeper.
+fn over(
+    alloc: Global,
+    (words, text, fails): (Words, &str, u64),
+    wanted: &[u8],
+    rows: &mut Vec<Row>,
+) -> Result<End, Fail> {
+    let mut keeper = keeper_of(alloc, &[], fails)?;
+    let told = call(alloc, words, text.as_bytes(), LARGE, &mut keeper)?;
+    let faults = keeper.faults();
+    let kept = keeper.rows(alloc, &[])?;
+    let end = end_of(&told, faults, wanted, are_same(&kept, rows));
+    *rows = kept;
+    Ok(end)
+}
 
-    // One turn more that doesn't make the call; or, where it makes it, the next call, if the whole course stops at this
-    // one: before that turn, with a front of its report and the rows of the turns before.
-    fn step(&mut self, alloc: Global, course: Course) -> Result<bool, Fail> {
-        let front = text_of(alloc, course.servers, &self.turns, self.taken)?;
-        let (told, kept) = over(alloc, RUN, front.as_str(), self.call)?;
-        if !told.is_cut() {
-            self.taken = self.taken.saturating_add(1);
-            self.kept = kept;
-            return Ok(true);
+fn run(alloc: Global, asked: Asked, wanted: &[u8], rows: &mut Vec<Row>) -> Result<End, Fail> {
+    let text = text_of(alloc, asked.servers, asked.turns, asked.restart)?;
+    over(
+        alloc,
+        (asked.words, text.as_str(), asked.fails),
+        wanted,
+        rows,
+    )
+}
+
+// The first of the turns, so many.
+fn first<'a>(turns: &'a [&'static str], count: usize) -> &'a [&'static str] {
+    turns.get(..count).unwrap_or(turns)
+}
+
+// Whether a course, as single turns and as it is asked, stops at this call of the keeper, before the turn that makes it:
+// with a front of its report, which is empty where a command is asked, and the rows of the turns before. The first two
+// calls are those before any turn: nothing is kept where one of them fails.
+fn stops_well(
+    alloc: Global,
+    course: Course,
+    turns: &[&'static str],
+    report: &[u8],
+    call: u64,
+) -> Result<bool, Fail> {
+    let mut rows = Vec::new(alloc);
+    let all = Asked {
+        words: RUN,
+        servers: course.servers,
+        turns,
+        restart: NOWHERE,
+        fails: call,
+    };
+    let stop = run(alloc, all, report, &mut rows)?;
+    let taken = stop.taken.unwrap_or(0);
+    let before = Asked {
+        turns: first(turns, taken),
+        fails: if call > 2 { 0 } else { 1 },
+        ..all
+    };
+    let before = run(alloc, before, report, &mut rows)?;
+    let next = Asked {
+        turns: first(turns, taken.saturating_add(1)),
+        ..all
+    };
+    let next = run(alloc, next, report, &mut rows)?;
+    let asked = Asked {
+        words: course.words,
+        turns: &[course.turns],
+        ..all
+    };
+    let asked = run(alloc, asked, report, &mut rows)?;
+    let told = if course.is_run { taken } else { 0 };
+    Ok(
+        (before.same && next.same && asked.same)
+            && (stop.stops_behind(taken) && next.stops_behind(taken) && asked.stops_behind(told)),
+    )
+}
+
+// What these words answer of these turns with a keeper that fails behind the last call of the course.
+fn whole_of(
+    alloc: Global,
+    course: Course,
+    words: Words,
+    turns: &[&'static str],
+) -> Result<Told, Fail> {
+    let text = text_of(alloc, course.servers, turns, NOWHERE)?;
+    let mut keeper = keeper_of(alloc, &[], course.calls.saturating_add(1))?;
+    call(alloc, words, text.as_bytes(), LARGE, &mut keeper)
+}
+
+// The last call at which a course doesn't stop as it must.
+fn wrong_call(alloc: Global, course: Course) -> Result<Option<u64>, Fail> {
+    let turns = turns_of(alloc, course)?;
+    let whole = whole_of(alloc, course, RUN, &turns)?;
+    let mut wrong = None;
+    for before in 0..course.calls {
+        let call = before.saturating_add(1);
+        if !stops_well(alloc, course, &turns, whole.out(), call)? {
+            wrong = Some(call);
         }
-        let (told, kept) = over(alloc, course.words, self.text.as_str(), self.call)?;
-        self.call = self.call.saturating_add(1);
-        Ok(told.is_cut() && told.begins_as(&self.whole) && are_same(&kept, &self.kept))
     }
+    Ok(wrong)
+}
+
+// The status of a course as it is asked.
+fn status_of(alloc: Global, course: Course) -> Result<u8, Fail> {
+    Ok(whole_of(alloc, course, course.words, &[course.turns])?.status())
 }
 
 #[test]
 fn each_call_of_the_keeper_fails(rt: HostRuntime) -> Result<(), Fail> {
     let alloc = rt.alloc();
-    for course in [RECOVERS, BLOCKS, INTERRUPTS, TAKES_OVER] {
-        let mut walk = Walk::make(alloc, course)?;
-        let fronts = (walk.turns.len() as u64).saturating_add(1);
-        for _ in 0..course.calls.saturating_add(fronts) {
-            assert!(rt; walk.step(alloc, course)?, "at {}", walk.call);
-        }
-        let (told, kept) = over(alloc, course.words, walk.text.as_str(), walk.call)?;
+    for story in [
+        Story::Recovers,
+        Story::Blocks,
+        Story::Interrupts,
+        Story::TakesOver,
+    ] {
+        let course = course_of(story);
         assert_eq!(rt;
-            (
-                walk.call.saturating_sub(1),
-                told.status(),
-                are_same(&kept, &walk.kept)
-            ),
-            (course.calls, course.status, true)
+            (wrong_call(alloc, course)?, status_of(alloc, course)?),
+            (None, course.status)
         );
     }
     Ok(())
 }
 
-// A scenario of these servers and turns, with a restart behind the first of them.
-fn restarted(alloc: Global, servers: &str, turns: &[&str], count: usize) -> Result<String, Fail> {
-    let mut text = String::from_str(alloc, servers)?;
-    let mut comma = "";
-    for (at, turn) in turns.iter().enumerate() {
-        text.push_str(comma)?;
-        if at == count {
-            text.push_str("[\"restart\"],")?;
+// From so many turns before the restart on, how the tables end. The command is given again behind all turns.
+type Ends = &'static [(usize, &'static str)];
+
+// A restart before the command costs the bridges, by which the preferred replica would follow and take the place, and a
+// reading that isn't stored: the book then shows no dead master, and only the command behind all turns begins. Within
+// the recovery it interrupts it. Behind that, as behind a recovery that is done, the command begins no second one.
+const RESTARTED_RECOVERY: Ends = &[
+    (0, PROMOTED_FIRST),
+    (4, OPEN),
+    (5, PROMOTED_FIRST),
+    (6, OPEN),
+    (7, PROMOTED_FIRST),
+    (8, OPEN),
+    (9, PROMOTED_FIRST),
+    (10, OPEN),
+    (11, PROMOTED_FIRST),
+    (
+        12,
+        "recovery 1 m:3306 master m:3306 begun 0 ended 0 interrupted unacked\nerrant 0\n",
+    ),
+    (
+        489,
+        "recovery 1 m:3306 master m:3306 begun 0 ended 0 promoted b:3306 unacked\nerrant 0\n",
+    ),
+];
+
+const PROMOTED_FIRST: &str =
+    "recovery 1 m:3306 master m:3306 begun 0 ended 0 promoted a:3306 unacked\nerrant 0\n";
+
+const OPEN: &str = "recovery 1 m:3306 master m:3306 begun 0 open unacked\njob 1 open\nerrant 0\n";
+
+const RESTARTED_TAKEOVER: Ends = &[
+    (
+        0,
+        "recovery 1 m:3306 takeover m:3306 begun 0 ended 0 promoted p:3306 acked\nerrant 0\n",
+    ),
+    (
+        1,
+        "recovery 1 m:3306 takeover m:3306 begun 0 ended 0 interrupted unacked\nerrant 0\n",
+    ),
+    (
+        262,
+        "recovery 1 m:3306 takeover m:3306 begun 0 ended 0 promoted p:3306 acked\nerrant 0\n",
+    ),
+];
+
+fn end_at(ends: Ends, restart: usize) -> &'static str {
+    let mut end = "";
+    for (from, text) in ends {
+        if *from <= restart {
+            end = text;
         }
-        text.push_str(turn)?;
-        comma = ",";
     }
-    text.push_str("]}")?;
-    Ok(text)
+    end
+}
+
+// The last number of turns behind which a restart doesn't lead to its end.
+fn wrong_restart(alloc: Global, course: Course, ends: Ends) -> Result<Option<usize>, Fail> {
+    let mut turns = turns_of(alloc, course)?;
+    turns.push(course.command)?;
+    let mut rows = Vec::new(alloc);
+    let mut wrong = None;
+    for restart in 0..turns.len() {
+        let asked = Asked {
+            words: RUN,
+            servers: course.servers,
+            turns: &turns,
+            restart,
+            fails: 0,
+        };
+        let end = end_at(ends, restart);
+        if !run(alloc, asked, end.as_bytes(), &mut rows)?.ends {
+            wrong = Some(restart);
+        }
+    }
+    Ok(wrong)
 }
 
 #[test]
-fn restarts_behind_each_turn(rt: HostRuntime) -> Result<(), Fail> {
-    let alloc = rt.alloc();
-    // How the tables end where the restart comes before the command, which then finds no bridges of before, where it
-    // interrupts the recovery, and behind that: the command, which is given again behind all turns, begins no second
-    // one.
-    let cases = [
-        (
-            RECOVERS,
-            "recovery 1 m:3306 master m:3306 begun 0 ended 0 promoted a:3306 unacked\nerrant 0\n",
-            "recovery 1 m:3306 master m:3306 begun 0 ended 0 interrupted unacked\nerrant 0\n",
-            "recovery 1 m:3306 master m:3306 begun 0 ended 0 promoted b:3306 unacked\nerrant 0\n",
-        ),
-        (
-            TAKES_OVER,
-            "recovery 1 m:3306 takeover m:3306 begun 0 ended 0 promoted p:3306 acked\nerrant 0\n",
-            "recovery 1 m:3306 takeover m:3306 begun 0 ended 0 interrupted unacked\nerrant 0\n",
-            "recovery 1 m:3306 takeover m:3306 begun 0 ended 0 promoted p:3306 acked\nerrant 0\n",
-        ),
-    ];
-    for (course, before, interrupted, done) in cases {
-        let mut turns = turns_of(alloc, course)?;
-        let begun = course.each.len();
-        let ended = turns.len().saturating_sub(course.round.len());
-        turns.push(course.command)?;
-        for at in 0..turns.len() {
-            let text = restarted(alloc, course.servers, &turns, at)?;
-            let (told, _) = over(alloc, RUN, text.as_str(), 0)?;
-            let end = if at <= begun {
-                before
-            } else if at <= ended {
-                interrupted
-            } else {
-                done
-            };
-            assert!(rt; told.ends(end), "behind {at}");
-        }
-    }
+fn a_recovery_with_a_restart_behind_each_turn(rt: HostRuntime) -> Result<(), Fail> {
+    let wrong = wrong_restart(rt.alloc(), RECOVERS, RESTARTED_RECOVERY)?;
+    assert_eq!(rt; wrong, None);
+    Ok(())
+}
+
+#[test]
+fn a_takeover_with_a_restart_behind_each_turn(rt: HostRuntime) -> Result<(), Fail> {
+    let wrong = wrong_restart(rt.alloc(), TAKES_OVER, RESTARTED_TAKEOVER)?;
+    assert_eq!(rt; wrong, None);
     Ok(())
 }
