@@ -5,9 +5,8 @@ use instance_keeper::{Keeper, Row};
 use std::alloc::Global;
 use std::test::Fail;
 
-// A scenario's servers, its turns, and what is asked over them. The same as single turns of a run: those before the
-// last command, the command, and so many rounds of its job; how many calls of the keeper all of it makes, and the
-// status.
+// What is asked over a scenario's servers and turns, and whether it is a run. The same as single turns of a run: those
+// before the last command, the command, and so many rounds of its job; how many calls of the keeper all of it makes.
 #[derive(Clone, Copy)]
 struct Course {
     words: Words,
@@ -19,7 +18,6 @@ struct Course {
     round: &'static [&'static str],
     rounds: usize,
     calls: u64,
-    status: u8,
 }
 
 // The most advanced replica is promoted, and the preferred one takes its place.
@@ -63,7 +61,6 @@ const RECOVERS: Course = Course {
     ],
     rounds: 29,
     calls: 132,
-    status: 0,
 };
 
 // A master that is back fails its recovery; the block period, which an acknowledgement ends.
@@ -99,7 +96,6 @@ const BLOCKS: Course = Course {
     round: &[],
     rounds: 0,
     calls: 12,
-    status: 7,
 };
 
 // A recovery is interrupted by a restart, and blocks the next.
@@ -121,7 +117,6 @@ const INTERRUPTS: Course = Course {
     round: &[],
     rounds: 0,
     calls: 7,
-    status: 7,
 };
 
 // A master hands its place over.
@@ -158,7 +153,6 @@ const TAKES_OVER: Course = Course {
     ],
     rounds: 21,
     calls: 75,
-    status: 0,
 };
 
 const LARGE: Objects = Objects {
@@ -168,23 +162,6 @@ const LARGE: Objects = Objects {
 
 // Behind no turn.
 const NOWHERE: usize = usize::MAX;
-
-#[derive(Clone, Copy)]
-enum Story {
-    Recovers,
-    Blocks,
-    Interrupts,
-    TakesOver,
-}
-
-fn course_of(story: Story) -> Course {
-    match story {
-        Story::Recovers => RECOVERS,
-        Story::Blocks => BLOCKS,
-        Story::Interrupts => INTERRUPTS,
-        Story::TakesOver => TAKES_OVER,
-    }
-}
 
 // The single turns of a course.
 fn turns_of(alloc: Global, course: Course) -> Result<Vec<&'static str>, Fail> {
@@ -321,7 +298,7 @@ fn first<'a>(turns: &'a [&'static str], count: usize) -> &'a [&'static str] {
     turns.get(..count).unwrap_or(turns)
 }
 
-// Whether a course, as single turns and as it is asked, stops at this call of the keeper, before the turn that makes it:
+// Whether a course, as single turns and as it is asked, stops at this call of the keeper before the turn that makes it:
 // with a front of its report, which is empty where a command is asked, and the rows of the turns before. The first two
 // calls are those before any turn: nothing is kept where one of them fails.
 fn stops_well(
@@ -377,11 +354,11 @@ fn whole_of(
     call(alloc, words, text.as_bytes(), LARGE, &mut keeper)
 }
 
-// The last call at which a course doesn't stop as it must.
+// The last call at which a course doesn't stop as it must, or the call behind those that it makes, where it makes that.
 fn wrong_call(alloc: Global, course: Course) -> Result<Option<u64>, Fail> {
     let turns = turns_of(alloc, course)?;
     let whole = whole_of(alloc, course, RUN, &turns)?;
-    let mut wrong = None;
+    let mut wrong = whole.is_cut().then_some(course.calls.saturating_add(1));
     for before in 0..course.calls {
         let call = before.saturating_add(1);
         if !stops_well(alloc, course, &turns, whole.out(), call)? {
@@ -396,21 +373,36 @@ fn status_of(alloc: Global, course: Course) -> Result<u8, Fail> {
     Ok(whole_of(alloc, course, course.words, &[course.turns])?.status())
 }
 
+// That call and that status.
+fn wrong_and_status(alloc: Global, course: Course) -> Result<(Option<u64>, u8), Fail> {
+    Ok((wrong_call(alloc, course)?, status_of(alloc, course)?))
+}
+
 #[test]
-fn each_call_of_the_keeper_fails(rt: HostRuntime) -> Result<(), Fail> {
-    let alloc = rt.alloc();
-    for story in [
-        Story::Recovers,
-        Story::Blocks,
-        Story::Interrupts,
-        Story::TakesOver,
-    ] {
-        let course = course_of(story);
-        assert_eq!(rt;
-            (wrong_call(alloc, course)?, status_of(alloc, course)?),
-            (None, course.status)
-        );
-    }
+fn each_call_fails_in_a_recovery(rt: HostRuntime) -> Result<(), Fail> {
+    let ended = wrong_and_status(rt.alloc(), RECOVERS)?;
+    assert_eq!(rt; ended, (None, 0));
+    Ok(())
+}
+
+#[test]
+fn each_call_fails_in_a_block_period(rt: HostRuntime) -> Result<(), Fail> {
+    let ended = wrong_and_status(rt.alloc(), BLOCKS)?;
+    assert_eq!(rt; ended, (None, 7));
+    Ok(())
+}
+
+#[test]
+fn each_call_fails_beside_a_restart(rt: HostRuntime) -> Result<(), Fail> {
+    let ended = wrong_and_status(rt.alloc(), INTERRUPTS)?;
+    assert_eq!(rt; ended, (None, 7));
+    Ok(())
+}
+
+#[test]
+fn each_call_fails_in_a_takeover(rt: HostRuntime) -> Result<(), Fail> {
+    let ended = wrong_and_status(rt.alloc(), TAKES_OVER)?;
+    assert_eq!(rt; ended, (None, 0));
     Ok(())
 }
 
@@ -493,14 +485,14 @@ fn wrong_restart(alloc: Global, course: Course, ends: Ends) -> Result<Option<usi
 }
 
 #[test]
-fn a_recovery_with_a_restart_behind_each_turn(rt: HostRuntime) -> Result<(), Fail> {
+fn a_restart_behind_each_turn_of_a_recovery(rt: HostRuntime) -> Result<(), Fail> {
     let wrong = wrong_restart(rt.alloc(), RECOVERS, RESTARTED_RECOVERY)?;
     assert_eq!(rt; wrong, None);
     Ok(())
 }
 
 #[test]
-fn a_takeover_with_a_restart_behind_each_turn(rt: HostRuntime) -> Result<(), Fail> {
+fn a_restart_behind_each_turn_of_a_takeover(rt: HostRuntime) -> Result<(), Fail> {
     let wrong = wrong_restart(rt.alloc(), TAKES_OVER, RESTARTED_TAKEOVER)?;
     assert_eq!(rt; wrong, None);
     Ok(())
