@@ -62,6 +62,20 @@ impl Told {
         (self.status, out, str::from_utf8(self.err.written()).ok())
     }
 
+    pub(crate) fn status(&self) -> u8 {
+        self.status
+    }
+
+    /// Whether the keeper failed.
+    pub(crate) fn is_cut(&self) -> bool {
+        self.status == 5 && self.err.written() == b"keeper fault\n".as_slice()
+    }
+
+    /// What out took.
+    pub(crate) fn out(&self) -> &[u8] {
+        self.out.written()
+    }
+
     /// Whether the status is 0, and out begins so.
     pub(crate) fn begins(&self, front: &str) -> bool {
         self.status == 0 && self.out.written().starts_with(front.as_bytes())

@@ -40,6 +40,27 @@ const DRAW: Words = &[
     b"0",
 ];
 
+const RECOVER: Words = &[b"orch", b"-c", b"recover", b"-i", b"c1m"];
+
+// Three clusters of 40 servers, the master of the first of which fails.
+const CLUSTERS: &str =
+    r#"{"version":1,"servers":[{"name":"c1m","history":[["c1m",500,100]]},{"name":"c1r01","source":"c1m","executed":100},{"name":"c1r02","source":"c1m","executed":100},{"name":"c1r03","source":"c1m","executed":100},{"name":"c1r04","source":"c1m","executed":100},{"name":"c1r05","source":"c1m","executed":100},{"name":"c1r06","source":"c1m","executed":100},{"name":"c1r07","source":"c1m","executed":100},{"name":"c1r08","source":"c1m","executed":100},{"name":"c1r09","source":"c1m","executed":100},{"name":"c1r10","source":"c1m","executed":100},{"name":"c1r11","source":"c1m","executed":100},{"name":"c1r12","source":"c1m","executed":100},{"name":"c1r13","source":"c1m","executed":100},{"name":"c2m","history":[["c2m",500,100]]},{"name":"c2r01","source":"c2m","executed":100},{"name":"c2r02","source":"c2m","executed":100},{"name":"c2r03","source":"c2m","executed":100},{"name":"c2r04","source":"c2m","executed":100},{"name":"c2r05","source":"c2m","executed":100},{"name":"c2r06","source":"c2m","executed":100},{"name":"c2r07","source":"c2m","executed":100},{"name":"c2r08","source":"c2m","executed":100},{"name":"c2r09","source":"c2m","executed":100},{"name":"c2r10","source":"c2m","executed":100},{"name":"c2r11","source":"c2m","executed":100},{"name":"c2r12","source":"c2m","executed":100},{"name":"c3m","history":[["c3m",500,100]]},{"name":"c3r01","source":"c3m","executed":100},{"name":"c3r02","source":"c3m","executed":100},{"name":"c3r03","source":"c3m","executed":100},{"name":"c3r04","source":"c3m","executed":100},{"name":"c3r05","source":"c3m","executed":100},{"name":"c3r06","source":"c3m","executed":100},{"name":"c3r07","source":"c3m","executed":100},{"name":"c3r08","source":"c3m","executed":100},{"name":"c3r09","source":"c3m","executed":100},{"name":"c3r10","source":"c3m","executed":100},{"name":"c3r11","source":"c3m","executed":100},{"name":"c3r12","source":"c3m","executed":100}],"turns":[["polls"],["fail","c1m"],["polls"]]}"#;
+
+const RECOVERED: &str = "promoted c1r01:3306
+c1r02:3306<c1r01:3306
+c1r03:3306<c1r01:3306
+c1r04:3306<c1r01:3306
+c1r05:3306<c1r01:3306
+c1r06:3306<c1r01:3306
+c1r07:3306<c1r01:3306
+c1r08:3306<c1r01:3306
+c1r09:3306<c1r01:3306
+c1r10:3306<c1r01:3306
+c1r11:3306<c1r01:3306
+c1r12:3306<c1r01:3306
+c1r13:3306<c1r01:3306
+";
+
 // A server alone.
 const ALONE: &str = "{\"version\":1,\"servers\":[{\"name\":\"m\"}]}";
 
@@ -104,7 +125,7 @@ fn words_sources_and_sinks(rt: HostRuntime) -> Result<(), Fail> {
     let forget: Words = &[b"orch", b"-c", b"forget", b"-i", b"z", b"--tables"];
     // The words and the scenario, the calls of the source and of out that fail, the room of out and of err; the status,
     // and what out and err took.
-    let cases: [(Words, &str, [u64; 2], [usize; 2], (u8, &str, &str)); 9] = [
+    let cases: [(Words, &str, [u64; 2], [usize; 2], (u8, &str, &str)); 11] = [
         (&[], ALONE, [0, 0], [100, 100], (1, "", "usage\n")),
         (&[b"orch"], ALONE, [0, 0], [100, 100], (1, "", "usage\n")),
         (
@@ -143,6 +164,14 @@ fn words_sources_and_sinks(rt: HostRuntime) -> Result<(), Fail> {
             [100, 100],
             (4, FRONT, "write fault\n"),
         ),
+        (
+            RECOVER,
+            CLUSTERS,
+            [0, 1],
+            [2000, 100],
+            (4, "", "write fault\n"),
+        ),
+        (RECOVER, CLUSTERS, [0, 2], [2000, 100], (0, RECOVERED, "")),
         (forget, ALONE, [0, 0], [100, 12], (4, "", "refused 2 Un")),
     ];
     for (

@@ -4,6 +4,8 @@
 #[cfg(test)]
 mod calls;
 #[cfg(test)]
+mod every_call;
+#[cfg(test)]
 mod failing;
 #[cfg(test)]
 mod keeping;
