@@ -2,7 +2,7 @@ use hook_texts::{Values, expand};
 use orch_base::{Name, NameFault, OwnedText};
 use std::alloc::Global;
 
-// The analysis, the failed server, its cluster's label and alias, the promoted server, and whether the recovery is done.
+// The analysis, the failed server, its cluster's label and alias, the promoted server, whether the recovery is done.
 type Told = (
     &'static str,
     &'static str,

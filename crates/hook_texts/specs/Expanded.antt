@@ -21,8 +21,8 @@ word_text place.SuccessorPort = codes "successorPort"
 word_text place.IsSuccessful = codes "isSuccessful"
 
 abbrev pub placeholders : List Placeholder
-placeholders = place.FailureType ∷ place.FailedHost ∷ place.FailedPort ∷ place.FailureCluster ∷ place.FailureClusterAlias
-    ∷ place.SuccessorHost ∷ place.SuccessorPort ∷ place.IsSuccessful ∷ []
+placeholders = place.FailureType ∷ place.FailedHost ∷ place.FailedPort ∷ place.FailureCluster
+    ∷ place.FailureClusterAlias ∷ place.SuccessorHost ∷ place.SuccessorPort ∷ place.IsSuccessful ∷ []
 
 -- the one with this word between its braces
 abbrev pub placeholder_named : List ℕ → Option Placeholder
@@ -62,8 +62,8 @@ value_of v place.IsSuccessful = if v.successful then codes "true" else codes "fa
 unfoldable pub placeholder_at : List ℕ → Option Placeholder
 placeholder_at text = find (λ p. starts_with nat_eq text (placeholder_text p)) placeholders
 
--- what the first byte of a text gives, before what the rest gives: a placeholder its value, and then its other bytes are
--- passed over; every other byte itself
+-- what the first byte of a text gives, before what the rest gives: a placeholder its value, and then its other bytes
+-- are passed over; every other byte itself
 abbrev pub given_at : Values → ℕ → Option Placeholder → (ℕ → List ℕ) → List ℕ
 given_at v b None rest = b ∷ rest 0
 given_at v b (Some p) rest = value_of v p ++ rest (length (word_text p) + 1)

@@ -84,6 +84,40 @@ pub acted_long : (s : ClaimState) (node : ℕ) (b : Bool) → length (cond b s (
 acted_long s node true = refl
 acted_long s node false = set_long s node None
 
+-- ---- other nodes
+
+answered_elsewhere : (s : ClaimState) (node m : ℕ) (a : ClaimAnswer) → m ≢ node → remembered_by (after_answer s node a) m ≡ remembered_by s m
+answered_elsewhere s node m (claim.Taken other until) differ = refl
+answered_elsewhere s node m (claim.Held until) differ = held_elsewhere s node m until differ
+
+pub claimed_elsewhere : (s : ClaimState) (node now m : ℕ) → m ≢ node → remembered_by (after_claim s node now) m ≡ remembered_by s m
+claimed_elsewhere s node now m differ = answered_elsewhere s node m (claim_answer s node now) differ
+
+released_beside : (s : ClaimState) (node m : ℕ) (b : Bool) → m ≢ node → remembered_by (cond b (record (with_remembered s node None) { kept = None }) s) m ≡ remembered_by s m
+released_beside s node m true differ =
+    remembered_alike (with_remembered s node None) (record (with_remembered s node None) { kept = None }) m refl ∙ set_elsewhere s node m None differ
+released_beside s node m false differ = refl
+
+pub released_elsewhere : (s : ClaimState) (node m : ℕ) → m ≢ node → remembered_by (after_release s node) m ≡ remembered_by s m
+released_elsewhere s node m differ = released_beside s node m (is_of node s.kept) differ
+
+acted_beside : (s : ClaimState) (node m : ℕ) (b : Bool) → m ≢ node → remembered_by (cond b s (with_remembered s node None)) m ≡ remembered_by s m
+acted_beside s node m true differ = refl
+acted_beside s node m false differ = set_elsewhere s node m None differ
+
+pub acted_elsewhere : (s : ClaimState) (node now m : ℕ) → m ≢ node → remembered_by (after_act s node now) m ≡ remembered_by s m
+acted_elsewhere s node now m differ = acted_beside s node m (may_act s node now) differ
+
+kept_beside : (s : ClaimState) (node : ℕ) (b : Bool) → (cond b s (with_remembered s node None)).kept ≡ s.kept
+kept_beside s node true = refl
+kept_beside s node false = kept_still s node None
+
+pub acted_kept : (s : ClaimState) (node now : ℕ) → (after_act s node now).kept ≡ s.kept
+acted_kept s node now = kept_beside s node (may_act s node now)
+
+pub acted_forgets : (s : ClaimState) (node now : ℕ) → IsNode s node → may_act s node now ≡ false → remembered_by (after_act s node now) node ≡ None
+acted_forgets s node now is lapsed = ap (λ b. remembered_by (cond b s (with_remembered s node None)) node) lapsed ∙ set_here s node None is
+
 -- ---- each call keeps the active node the owner
 
 -- a node that remembers a moment that hasn't come has the kept claim, with that moment, and none remembers one more than
@@ -234,6 +268,9 @@ told_truly s now node e = acting_is_active s node now (told_by s now node s.kept
 pub acting_told : (s : ClaimState) (now node : ℕ) → IsReached s now → may_act s node now ≡ true → (active s now ≡ Some node) × (after_act s node now ≡ s)
 acting_told s now node reached acts =
     (active_told s now node reached (acting_is_active s node now acts), ap (λ b. cond b s (with_remembered s node None)) acts)
+
+pub holder_lasts : (s : ClaimState) (node now : ℕ) (until : Moment) → claim_answer s node now ≡ claim.Held until → until.0 ≡ now + 60
+holder_lasts s node now until answer = ap (λ (x : Moment). x.0) (held_until s node now until answer)
 
 pub holder_is_active : (s : ClaimState) (node now : ℕ) (until : Moment) → IsNode s node → claim_answer s node now ≡ claim.Held until → IsActive (after_claim s node now) node now
 holder_is_active s node now until is answer =

@@ -1,6 +1,6 @@
 //! What holds of claims, over the definitions alone.
 
-ghost use Rattle.std.specs.Prelude.{◌≡◌, ◌≢◌, ◌+◌, ◌≤◌, ◌<◌, ℕ, None, Some, length, true};
+ghost use Rattle.std.specs.Prelude.{◌≡◌, ◌≢◌, ◌+◌, ◌≤◌, ◌<◌, ℕ, None, Some, false, length, true};
 ghost use Rattle.orch_base.specs.declared.server.Moment.{Moment as AMoment};
 ghost use Rattle.node_claims.specs.declared.claims.ClaimAnswer.TheVariants as claim;
 ghost use Rattle.node_claims.specs.declared.claims.ReleaseAnswer.TheVariants as release;
@@ -26,7 +26,7 @@ pub fn one_node_is_active()
 {}
 
 /// A node gets the claim of another only when that one's has run out; until then it is refused, and nothing changes. A
-/// node gets its own claim again at any time. Who gets it is active for 60 seconds, and what other nodes remember stays.
+/// node gets its own claim again at any time. Who gets it is active for 60 seconds, and the kept claim says so.
 pub fn claims_wait_for_the_end()
     ensures waits { (s : ClaimState) (node now other : ℕ) (until end : AMoment) →
         claim_answer s node now ≡ claim.Held until → s.kept ≡ Some (other, end) →
@@ -46,17 +46,27 @@ pub fn claims_wait_for_the_end()
         (after_claim s node now).kept ≡ Some (node, until) }
     ensures active { (s : ClaimState) (node now : ℕ) (until : AMoment) → IsNode s node →
         claim_answer s node now ≡ claim.Held until → IsActive (after_claim s node now) node now }
-    ensures others { (s : ClaimState) (node now other : ℕ) → other ≢ node →
-        remembered_by (after_claim s node now) other ≡ remembered_by s other }
+    ensures lasts { (s : ClaimState) (node now : ℕ) (until : AMoment) →
+        claim_answer s node now ≡ claim.Held until → until.0 ≡ now + 60 }
 {}
 
-/// The nodes stay as many as they are.
-pub fn nodes_stay()
-    ensures claim { (s : ClaimState) (node now : ℕ) →
+/// What one node does changes nothing of what another remembers, so no active node loses its claim by it; and the nodes
+/// stay as many as they are. A node that may not act forgets, and the kept claim stays.
+pub fn other_nodes_stay()
+    ensures claimed { (s : ClaimState) (node now other : ℕ) → other ≢ node →
+        remembered_by (after_claim s node now) other ≡ remembered_by s other }
+    ensures released { (s : ClaimState) (node other : ℕ) → other ≢ node →
+        remembered_by (after_release s node) other ≡ remembered_by s other }
+    ensures acted { (s : ClaimState) (node now other : ℕ) → other ≢ node →
+        remembered_by (after_act s node now) other ≡ remembered_by s other }
+    ensures kept { (s : ClaimState) (node now : ℕ) → (after_act s node now).kept ≡ s.kept }
+    ensures forgets { (s : ClaimState) (node now : ℕ) → IsNode s node → may_act s node now ≡ false →
+        remembered_by (after_act s node now) node ≡ None }
+    ensures as_many { (s : ClaimState) (node now : ℕ) →
         length (after_claim s node now).remembered ≡ length s.remembered }
-    ensures release { (s : ClaimState) (node : ℕ) →
+    ensures as_many_released { (s : ClaimState) (node : ℕ) →
         length (after_release s node).remembered ≡ length s.remembered }
-    ensures act { (s : ClaimState) (node now : ℕ) →
+    ensures as_many_acted { (s : ClaimState) (node now : ℕ) →
         length (after_act s node now).remembered ≡ length s.remembered }
 {}
 

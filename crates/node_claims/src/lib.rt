@@ -6,6 +6,8 @@ mod laws;
 mod threads;
 
 pub use claims::{ClaimAnswer, Claims, ReleaseAnswer};
-pub use laws::{claims_wait_for_the_end, nodes_stay, one_node_is_active, releases_free_the_claim};
+pub use laws::{
+    claims_wait_for_the_end, one_node_is_active, other_nodes_stay, releases_free_the_claim,
+};
 /// Want of memory.
 pub use orch_base::Memory;
