@@ -1,6 +1,9 @@
-//! Tests of the lowest crates: names, coordinates, GTID sets, filters, forests, the order of servers, drawn scenarios.
+//! Tests of the lowest crates: names, coordinates, GTID sets, filters, forests, the order of servers, drawn scenarios,
+//! hooks' texts, claims.
 #![tactic(auto)]
 
+#[cfg(test)]
+mod claims;
 #[cfg(test)]
 mod coords;
 #[cfg(test)]
@@ -15,5 +18,7 @@ mod in_memory;
 mod names;
 #[cfg(test)]
 mod order;
+#[cfg(test)]
+mod placeholders;
 #[cfg(test)]
 mod sets;

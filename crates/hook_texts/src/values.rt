@@ -1,0 +1,159 @@
+//! What a hook is told of a recovery.
+
+ghost use Rattle.std.specs.Prelude.{◌≡◌, find, IfOk, option_copied, string_bytes};
+ghost use Rattle.std.specs.List.{after_first};
+ghost use Rattle.std.specs.Str.{bytes_eq};
+ghost use Rattle.orch_base.specs.Names.{host_of, is_colon, printed, IsName};
+ghost use Rattle.hook_texts.specs.Expanded.{host_in, placeholder_named, port_in, word_text};
+
+use orch_base::{Memory, Name, OwnedText};
+use std::alloc::Global;
+
+/// A word in braces that stands for a value of the recovery (orchestrator's documentation, "Hooks", "Parameters").
+#[derive(Clone, Copy, Debug, PartialEq, Eq)]
+pub enum Placeholder {
+    /// `{failureType}`: the analysis of the failed server when the recovery began.
+    FailureType,
+    /// `{failedHost}`: the failed server's host.
+    FailedHost,
+    /// `{failedPort}`: the failed server's port.
+    FailedPort,
+    /// `{failureCluster}`: the label of its cluster.
+    FailureCluster,
+    /// `{failureClusterAlias}`: the alias of its cluster.
+    FailureClusterAlias,
+    /// `{successorHost}`: the promoted server's host.
+    SuccessorHost,
+    /// `{successorPort}`: the promoted server's port.
+    SuccessorPort,
+    /// `{isSuccessful}`: `true` or `false`.
+    IsSuccessful,
+}
+
+const PLACEHOLDERS: [Placeholder; 8] = [
+    Placeholder::FailureType,
+    Placeholder::FailedHost,
+    Placeholder::FailedPort,
+    Placeholder::FailureCluster,
+    Placeholder::FailureClusterAlias,
+    Placeholder::SuccessorHost,
+    Placeholder::SuccessorPort,
+    Placeholder::IsSuccessful,
+];
+
+impl Placeholder {
+    // What stands between its braces.
+    fn word(self) -> &'static str
+        ensures { result.now ≡ word_text self }
+    {
+        match self {
+            Placeholder::FailureType => "failureType",
+            Placeholder::FailedHost => "failedHost",
+            Placeholder::FailedPort => "failedPort",
+            Placeholder::FailureCluster => "failureCluster",
+            Placeholder::FailureClusterAlias => "failureClusterAlias",
+            Placeholder::SuccessorHost => "successorHost",
+            Placeholder::SuccessorPort => "successorPort",
+            Placeholder::IsSuccessful => "isSuccessful",
+        }
+    }
+
+    fn is_named(self, word: &str) -> bool
+        ensures { result ≡ bytes_eq (word_text self) word.now }
+    {
+        self.word().as_bytes() == word.as_bytes()
+    }
+}
+
+fn first_named<'a>(all: &'a [Placeholder], word: &str) -> Option<&'a Placeholder>
+    ensures { option_copied result ≡ find (λ p. bytes_eq (word_text p) word.now) all.now }
+{
+    all.iter().find(|p| p.is_named(word))
+}
+
+/// The placeholder with this word between its braces.
+pub(crate) fn placeholder_named(word: &str) -> Option<Placeholder>
+    ensures { result ≡ placeholder_named word.now }
+{
+    first_named(&PLACEHOLDERS, word).copied()
+}
+
+/// What the hooks of a recovery are told of it.
+#[derive(Drop)]
+pub struct Values {
+    /// The analysis of the failed server when the recovery began, by orchestrator's name.
+    pub failure_type: OwnedText,
+    /// The failed server.
+    pub failed: Name,
+    /// The label of its cluster.
+    pub cluster: OwnedText,
+    /// The alias of its cluster; empty where it has none.
+    pub alias: OwnedText,
+    /// The promoted server; only a hook behind a recovery that is done has one.
+    pub successor: Option<Name>,
+    /// Whether the recovery is done.
+    pub successful: bool,
+}
+
+#[tactic(auto, using(crate::proofs::Printed::printed_is_utf8))]
+fn printed(alloc: Global, name: &Name) -> Result<String, Memory>
+    ensures text { IfOk result (λ s. string_bytes s ≡ printed name.now) }
+    ensures name { IsName name.now }
+{
+    let mut text = Vec::new(alloc);
+    name.print(&mut text)?;
+    Ok(String::from_utf8(text).unwrap())
+}
+
+// The text before the first colon, and the text behind it.
+fn parts(text: &str) -> (&str, &str)
+    ensures host { result.0.now ≡ host_of text.now }
+    ensures port { result.1.now ≡ after_first is_colon text.now }
+{
+    match text.split_once(':') {
+        Some((host, port)) => (host, port),
+        None => (text, ""),
+    }
+}
+
+// The host of a server, if there is one.
+fn host_in(alloc: Global, name: Option<&Name>) -> Result<String, Memory>
+    ensures { IfOk result (λ s. string_bytes s ≡ host_in (option_copied name.entry)) }
+{
+    match name {
+        Some(name) => String::from_str(alloc, parts(&printed(alloc, name)?).0),
+        None => Ok(String::new(alloc)),
+    }
+}
+
+// The port of a server, if there is one.
+fn port_in(alloc: Global, name: Option<&Name>) -> Result<String, Memory>
+    ensures { IfOk result (λ s. string_bytes s ≡ port_in (option_copied name.entry)) }
+{
+    match name {
+        Some(name) => String::from_str(alloc, parts(&printed(alloc, name)?).1),
+        None => Ok(String::new(alloc)),
+    }
+}
+
+impl Values {
+    ghost use Rattle.std.specs.Prelude.{◌≡◌, IfOk, string_bytes};
+    ghost use Rattle.hook_texts.specs.Expanded.{value_of};
+
+    /// What a placeholder stands for.
+    pub(crate) fn value(&self, alloc: Global, placeholder: Placeholder) -> Result<String, Memory>
+        ensures { IfOk result (λ s. string_bytes s ≡ value_of self.now placeholder) }
+    {
+        match placeholder {
+            Placeholder::FailureType => String::from_str(alloc, self.failure_type.as_str()),
+            Placeholder::FailedHost => host_in(alloc, Some(&self.failed)),
+            Placeholder::FailedPort => port_in(alloc, Some(&self.failed)),
+            Placeholder::FailureCluster => String::from_str(alloc, self.cluster.as_str()),
+            Placeholder::FailureClusterAlias => String::from_str(alloc, self.alias.as_str()),
+            Placeholder::SuccessorHost => host_in(alloc, self.successor.as_ref()),
+            Placeholder::SuccessorPort => port_in(alloc, self.successor.as_ref()),
+            Placeholder::IsSuccessful if self.successful => String::from_str(alloc, "true"),
+            Placeholder::IsSuccessful => String::from_str(alloc, "false"),
+        }
+    }
+}

@@ -1,0 +1,11 @@
+//! The types of this crate can be moved between threads, and shared by them.
+
+use crate::{ClaimAnswer, Claims, ReleaseAnswer};
+
+fn crosses_threads<T: Send + Sync>() {}
+
+fn all_cross_threads() {
+    crosses_threads::<Claims>();
+    crosses_threads::<ClaimAnswer>();
+    crosses_threads::<ReleaseAnswer>();
+}
