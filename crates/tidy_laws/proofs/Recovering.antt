@@ -2,10 +2,8 @@
 use Rattle.std.proofs.Common.{◌≡◌, ℕ, Bool, true, false, cond, List, [], ◌∷◌, ◌++◌, map, refl, sym, ◌∙◌, ap, subst, Option, Some, None}
 use Rattle.std.specs.Prelude.{◌==◌, IfSome, filter, option_map}
 use Rattle.std.specs.List.{All}
-use Rattle.std.proofs.lemmas.Bool.{false≢true}
 use Rattle.std.proofs.lemmas.Option.{same_Some}
 use Rattle.std.proofs.lemmas.List.Elements.{All-nil, All-cons, All-head, All-tail, All-append, All-filter, All-push, All-weaker}
-use Rattle.binlog_coords.specs.Log.{same_coord}
 use Rattle.orch_base.specs.declared.server.Moment.{Moment}
 use Rattle.orch_base.specs.declared.server.ServerNo.{ServerNo}
 use Rattle.server_words.specs.declared.changes.Ask.TheVariants as asking
@@ -13,9 +11,7 @@ use Rattle.server_model.specs.Run.{Exchange, Request, after, run}
 use Rattle.server_model.specs.Safe.{Placed}
 use Rattle.server_model.specs.Worlds.{World, source_no}
 use Rattle.commands.specs.declared.cause.Cause.{Cause}
-use Rattle.commands.specs.declared.cause.Cause.TheVariants as cause
 use Rattle.commands.specs.declared.line.Lost.{Lost}
-use Rattle.commands.specs.declared.line.Lost.TheVariants as lost
 use Rattle.instance_keeper.specs.declared.bridge.Bridge.{Bridge}
 use Rattle.kept_rows.specs.declared.observation.Observation.{Observation}
 use Rattle.instance_keeper.specs.Book.{BookState}
@@ -23,10 +19,9 @@ use Rattle.instance_keeper.specs.Bridges.{has_own, latest_that, ring_at}
 use Rattle.operations.specs.declared.op.Crossing.TheVariants as cross
 use Rattle.operations.specs.declared.op.Op.{Op}
 use Rattle.operations.specs.declared.op.Op.TheVariants as op
-use Rattle.operations.specs.declared.sight.Position.{Position}
 use Rattle.operations.specs.declared.sight.Sight.{Sight}
 use Rattle.operations.specs.Deeds.{deed_of}
-use Rattle.operations.specs.Jobs.{seen_of}
+use Rattle.operations.specs.Jobs.{Job, seen_of}
 use Rattle.operations.specs.Targets.{can_attach}
 use Rattle.operations.specs.Turns as attempt
 use Rattle.operations.specs.Turns.{Attempt, bridge_at, by_deed, crossing_of, restarts}
@@ -45,17 +40,19 @@ use Rattle.recovery_plans.specs.declared.task.Task.TheVariants as task
 use Rattle.recovery_plans.specs.declared.task.Way.{Way}
 use Rattle.recovery_plans.specs.declared.task.Way.TheVariants as way
 use Rattle.recovery_plans.specs.Recoveries.{Recovery, follows, follows_no_more, loses, sight_of, working}
-use Rattle.recovery_plans.specs.Stages.{drain, ends, gather, leaver, level, move, moved, trail, with_bridge, with_way}
+use Rattle.recovery_plans.specs.Stages.{drain, ends, gather, leaver, level, move, moved, with_bridge, with_way}
 use Rattle.recovery_plans.specs.Telling.{told}
 use Rattle.recovery_plans.specs.Deciding as deciding
-use Rattle.recovery_plans.specs.Deciding.{Lot, chosen_of, better_of, lot_by_group, lot_of, move_of, moves_in, own_end_of, without_stopped, choose, moving, way_below, way_by_set, hand_by, hand, hand_over, why_of, expels, releases, sort, swap_by, swap, crown, swap_or_crown, rejoin, at_last, look_at, yield, logs_at, by_task, by_queue, once, decided}
-use Rattle.recovery_plans.specs.Taking as taking
-use Rattle.recovery_plans.specs.Taking.{Fate, is_below, judged, lead_under, last_looks, idle, frees, looked, halted, completed, entered, stepped, at_end, progressed, fate_of_drain, fate_of_trail, lost_on_way, fate_of_errant, fate_of_move, fate, swapped, that_can, takes_writes, goes_back, way_back, undone, last_exchanges, met, is_waiting, barred_by, on_going, attempted, acted, taken, place_on}
+use Rattle.recovery_plans.specs.Deciding.{Lot, chosen_of, lot_by_group, lot_of, move_of, moves_in, own_end_of, without_stopped, choose, moving, way_below, way_by_set, why_of, expels, releases, sort, logs_at}
+use Rattle.recovery_plans.specs.Taking.{Taken, lead_under, last_looks, idle, frees, entered, stepped, swapped, that_can, takes_writes, goes_back, way_back, undone, last_exchanges, taken}
+use Rattle.recovery_plans.specs.Moves as by
+use Rattle.recovery_plans.specs.Moves.{Bearing, Decision, Does, Ending, FailsFor, IsHanding, IsNext, MayDecide, MayEnd, Turning, borne, decided_by, ended_by, fate_of}
+use Rattle.recovery_plans.proofs.Walking.{Keeps, decisions-keep, kept-along, made-along, taken-walks}
 use Rattle.recovery_plans.proofs.Choices.{All-chosen}
 use Rattle.recovery_laws.specs.HeldRecoveries.{HeldRecovery}
 use Rattle.recovery_laws.specs.Rings.{HeldRings}
 use Rattle.recovery_laws.proofs.Choosing.{All-latest}
-use Rattle.recovery_laws.proofs.Deciding.{decided-held}
+use Rattle.recovery_laws.proofs.Deciding.{decides-held}
 use Rattle.recovery_laws.proofs.Taking.{due, source-is}
 use Rattle.tidy_laws.specs.Clusters.{AreAlike, Clusters, label}
 use Rattle.tidy_laws.specs.Recoveries.{IsRecoveryWithin, IsStageWithin, IsTaskWithin, IsWayWithin, KeepsWithin}
@@ -148,26 +145,36 @@ module _ (c : Clusters) where
         go true = alike ∙ sym also
         go false = by (group_of b.rings p.no (own_end_of p) p.exec f s.exec)
 
-    stuck-within : (r : Recovery) → IsRecoveryWithin c r → IsRecoveryWithin c (deciding.stuck r)
-    stuck-within r s = record { core = s.core; stage = s.stage; queue = All-nil (IsTaskWithin c r.failed None); drained = s.drained; lead = s.lead }
+    -- with other tasks, drained ones and another new source
+    queued-within : (r : Recovery) (ts : List Task) (ds : List Stopped) (chosen : Option ServerNo) → IsRecoveryWithin c r → All (IsTaskWithin c r.failed chosen) ts → All (λ d. AreAlike c d.no.0 r.failed.0) ds
+        → IsRecoveryWithin c (record r { queue = ts; drained = ds; chosen = chosen })
+    queued-within r ts ds chosen s queue drained = record { core = s.core; stage = s.stage; queue = queue; drained = drained; lead = s.lead }
 
-    choose-within : (r : Recovery) → IsRecoveryWithin c r → IsRecoveryWithin c (choose w b now r (chosen_of w b now r.failed r.drained))
-    choose-within r s = go (chosen_of w b now r.failed r.drained) refl
-      where
-        go : (o : Option Stopped) → chosen_of w b now r.failed r.drained ≡ o → IsRecoveryWithin c (choose w b now r o)
-        go None e = record { core = s.core; stage = s.stage; queue = All-nil (IsTaskWithin c r.failed None); drained = All-nil (λ (d : Stopped). AreAlike c d.no.0 r.failed.0); lead = s.lead }
-        go (Some p) e =
-            let one = All-chosen w b now r.failed (λ (d : Stopped). AreAlike c d.no.0 r.failed.0) r.drained p s.drained e in
-            record {
-              core = s.core;
-              stage = s.stage;
-              queue =
-                  All-append (IsTaskWithin c r.failed (Some p.no)) (moves_in (lot_of w b r.failed p) (without_stopped r.drained p.no)) r.queue
-                  (moves-within r.failed (Some p.no) (lot_of w b r.failed p) (without_stopped r.drained p.no) (All-filter _ (λ (d : Stopped). AreAlike c d.no.0 r.failed.0) r.drained s.drained) (lot-within r.failed p one))
-                  (queue-rechosen r.failed r.chosen (Some p.no) r.queue one s.queue);
-              drained = All-nil (λ (d : Stopped). AreAlike c d.no.0 r.failed.0);
-              lead = s.lead;
-            }
+    next-within : (r : Recovery) (t : Task) (ts : List Task) → IsNext r t ts → IsRecoveryWithin c r → IsTaskWithin c r.failed r.chosen t × IsRecoveryWithin c (record r { queue = ts })
+    next-within r t ts next s =
+        let all = subst (λ (q : List Task). All (IsTaskWithin c r.failed r.chosen) q) next.queue s.queue in
+        (All-head (IsTaskWithin c r.failed r.chosen) t ts all, queued-within r ts r.drained r.chosen s (All-tail (IsTaskWithin c r.failed r.chosen) t ts all) s.drained)
+
+    -- the first of the drained ones and the successor are of the cluster
+    handed-within : (r : Recovery) (d : Stopped) (ds : List Stopped) (o : Option Way) (ts : List Task) (k : IsHanding w b r d ds o ts) → IsRecoveryWithin c r
+        → AreAlike c k.source.0 d.no.0 × IsRecoveryWithin c (record r { drained = ds })
+    handed-within r d ds o ts k s =
+        let all = subst (λ (xs : List Stopped). All (λ (x : Stopped). AreAlike c x.no.0 r.failed.0) xs) k.drained s.drained in
+        let alike : AreAlike c k.source.0 r.failed.0 = subst (λ (q : Option ServerNo). IfSome q (λ x. AreAlike c x.0 r.failed.0)) k.chosen (next-within r task.Handing ts k.next s).0 in (
+          alike ∙ sym (All-head (λ (x : Stopped). AreAlike c x.no.0 r.failed.0) d ds all),
+          queued-within r r.queue ds r.chosen s s.queue (All-tail (λ (x : Stopped). AreAlike c x.no.0 r.failed.0) d ds all),
+        )
+
+    lead-of : (r : Recovery) (x : Bridge) → r.lead ≡ Some x → IsRecoveryWithin c r → IsWithinCluster c x
+    lead-of r x is s = subst (λ (o : Option Bridge). IfSome o (IsWithinCluster c)) is s.lead
+
+    chooses-within : (r : Recovery) (p : Stopped) → IsRecoveryWithin c r → chosen_of w b now r.failed r.drained ≡ Some p → IsRecoveryWithin c (choose w b now r (Some p))
+    chooses-within r p s e =
+        let one = All-chosen w b now r.failed (λ (d : Stopped). AreAlike c d.no.0 r.failed.0) r.drained p s.drained e in
+        queued-within r (moves_in (lot_of w b r.failed p) (without_stopped r.drained p.no) ++ r.queue) [] (Some p.no) s
+        (All-append (IsTaskWithin c r.failed (Some p.no)) (moves_in (lot_of w b r.failed p) (without_stopped r.drained p.no)) r.queue
+        (moves-within r.failed (Some p.no) (lot_of w b r.failed p) (without_stopped r.drained p.no) (All-filter _ (λ (d : Stopped). AreAlike c d.no.0 r.failed.0) r.drained s.drained) (lot-within r.failed p one))
+        (queue-rechosen r.failed r.chosen (Some p.no) r.queue one s.queue)) (All-nil (λ (d : Stopped). AreAlike c d.no.0 r.failed.0))
 
     below-within : (seen : List Sight) (x k : ServerNo) (d : Stopped) → AreAlike c k.0 d.no.0 → (o : Option Way) → way_below w b seen x k d ≡ o → IfSome o (IsWayWithin c d.no)
     below-within seen x k d alike o e = subst (λ (y : Option Way). IfSome y (IsWayWithin c d.no)) e (go w.gtid)
@@ -184,31 +191,6 @@ module _ (c : Clusters) where
         go : (g : Bool) → IfSome (cond g (way_by_set w seen k d) (option_map way.Up (latest_that (has_own k d.exec) (ring_at b.rings x)))) (IsWayWithin c d.no)
         go true = by-set _
         go false = by-log (latest_that (has_own k d.exec) (ring_at b.rings x)) refl
-
-    hand-within : (k : ServerNo) (ds : List Stopped) (r : Recovery) → IsRecoveryWithin c r → AreAlike c k.0 r.failed.0 → IfSome r.chosen (λ s. AreAlike c s.0 r.failed.0) → All (λ d. AreAlike c d.no.0 r.failed.0) ds
-        → IsRecoveryWithin c (hand w b k r ds)
-    hand-within k [] r s alike fine all = record { core = s.core; stage = s.stage; queue = s.queue; drained = All-nil (λ (d : Stopped). AreAlike c d.no.0 r.failed.0); lead = s.lead }
-    hand-within k (d ∷ ds) r s alike fine all =
-        go (way_below w b r.core.seen r.failed k d)
-        (below-within r.core.seen r.failed k d (alike ∙ sym (All-head (λ (x : Stopped). AreAlike c x.no.0 r.failed.0) d ds all)) (way_below w b r.core.seen r.failed k d) refl)
-        (hand-within k ds (loses r d.no (lost.Behind d.exec)) s alike fine (All-tail (λ (x : Stopped). AreAlike c x.no.0 r.failed.0) d ds all))
-      where
-        go : (o : Option Way) → IfSome o (IsWayWithin c d.no) → IsRecoveryWithin c (hand w b k (loses r d.no (lost.Behind d.exec)) ds)
-            → IsRecoveryWithin c (hand_by r d ds o (hand w b k (loses r d.no (lost.Behind d.exec)) ds))
-        go None h rest = rest
-        go (Some by) h rest =
-            moving-within (record r { queue = task.Handing ∷ r.queue; drained = ds }) d.no by
-            (record {
-              core = s.core;
-              stage = s.stage;
-              queue = All-cons (IsTaskWithin c r.failed r.chosen) task.Handing r.queue fine s.queue;
-              drained = All-tail (λ (x : Stopped). AreAlike c x.no.0 r.failed.0) d ds all;
-              lead = s.lead;
-            }) h
-
-    over-within : (r : Recovery) (o : Option ServerNo) → IsRecoveryWithin c r → IfSome o (λ s. AreAlike c s.0 r.failed.0) → IfSome r.chosen (λ s. AreAlike c s.0 r.failed.0) → IsRecoveryWithin c (hand_over w b r o)
-    over-within r None s alike fine = s
-    over-within r (Some k) s alike fine = hand-within k r.drained r s alike fine s.drained
 
     within-map : (f : ServerNo) (chosen : Option ServerNo) (t : ServerNo → Task) (ns : List ServerNo) → ((n : ServerNo) → IsTaskWithin c f chosen (t n)) → All (IsTaskWithin c f chosen) (map t ns)
     within-map f chosen t [] each = All-nil (IsTaskWithin c f chosen)
@@ -228,98 +210,36 @@ module _ (c : Clusters) where
           lead = s.lead;
         }
 
-    last-within : (r : Recovery) (u : Purpose) → IsRecoveryWithin c r → IsRecoveryWithin c (at_last w b now r u)
-    last-within r purpose.Regroup s = go r.chosen
-      where
-        go : (o : Option ServerNo) → IsRecoveryWithin c (rejoin r o)
-        go None = s
-        go (Some p) = working-within r (stage.Close (told r)) (op.Start p ∷ op.Finish (told r) ∷ []) s tt (tt, tt)
-    last-within r purpose.Master s = all r.swaps
-      where
-        swapping : (p : ServerNo) (o : Option ServerNo) → IsRecoveryWithin c (swap_by (record r { swaps = false }) p o)
-        swapping p None = s
-        swapping p (Some q) = working-within (record r { swaps = false }) (stage.Level p q) (level p q) s tt (level-due p q)
-
-        swaps : (o : Option ServerNo) → IsRecoveryWithin c (swap w b now (record r { swaps = false }) o)
-        swaps None = s
-        swaps (Some p) = swapping p (better_of w b now r.failed p (map (λ x. x.no) r.outcome.followers))
-
-        crowns : (o : Option ServerNo) → IsRecoveryWithin c (crown r o)
-        crowns None = s
-        crowns (Some p) = working-within r (stage.Crown p) (op.Reset p ∷ op.ReadOnly p false ∷ []) s tt (tt, (tt, tt))
-
-        all : (a : Bool) → IsRecoveryWithin c (swap_or_crown w b now r a)
-        all true = swaps r.chosen
-        all false = crowns r.chosen
-    last-within r (purpose.Intermediate k) s = working-within r (stage.Close (told r)) (op.Finish (told r) ∷ []) s tt tt
-    last-within r (purpose.Takeover d) s = s
-
-    look-within : (r : Recovery) (n : ServerNo) (o : Option Bridge) → IfSome o (IsWithinCluster c) → IsRecoveryWithin c r → IsRecoveryWithin c (look_at r n o)
-    look-within r n None lead s = stuck-within r s
-    look-within r n (Some x) lead s = working-within r (stage.Look n x) (op.Status n None ∷ []) s lead tt
-
-    yield-within : (r : Recovery) (o : Option Bridge) → IfSome o (IsWithinCluster c) → IsRecoveryWithin c r → IsRecoveryWithin c (yield r o)
-    yield-within r None lead s = stuck-within r s
-    yield-within r (Some x) lead s = record {
-      core = record { seen = seen-within r.core.seen x s.core.seen lead; left = (tt, tt) };
-      stage = tt;
-      queue = s.queue;
-      drained = s.drained;
-      lead = s.lead;
-    }
-
-    task-within : (r : Recovery) (t : Task) → IsRecoveryWithin c r → IsTaskWithin c r.failed r.chosen t → IsRecoveryWithin c (by_task w b now r t)
-    task-within r (task.Reading n) s h = working-within r (stage.Read n) (op.Status n None ∷ []) s tt tt
-    task-within r (task.Draining n) s h = working-within r (stage.Drain n) (drain n) s tt (tt, (tt, tt))
-    task-within r task.Choosing s h = choose-within r s
-    task-within r task.Handing s h = over-within r r.chosen s h h
-    task-within r (task.Moving n by) s h = moving-within r n by s h
-    task-within r task.Sorting s h = sort-within r s
-    task-within r (task.Expelling n) s h = working-within r (stage.Expel n) (op.Detach n ∷ []) s tt (tt, tt)
-    task-within r (task.Releasing n) s h = working-within r (stage.Release n) (op.Start n ∷ []) s tt (tt, tt)
-    task-within r (task.Trailing n) s h = look-within r n r.lead s.lead s
-    task-within r task.Yielding s h = yield-within r r.lead s.lead s
-
-    once-within : (r : Recovery) → IsRecoveryWithin c r → IsRecoveryWithin c (once w b now r)
-    once-within r s = go r.core.ops r.queue s.queue
-      where
-        go : (ops : List Op) (ts : List Task) → All (IsTaskWithin c r.failed r.chosen) ts → IsRecoveryWithin c (by_queue w b now r ops ts)
-        go (x ∷ xs) ts all = s
-        go [] [] all = last-within r r.purpose s
-        go [] (t ∷ ts) all =
-            task-within (record r { queue = ts }) t
-            (record { core = s.core; stage = s.stage; queue = All-tail (IsTaskWithin c r.failed r.chosen) t ts all; drained = s.drained; lead = s.lead })
-            (All-head (IsTaskWithin c r.failed r.chosen) t ts all)
-
-    pub decided-within : (r : Recovery) → IsRecoveryWithin c r → IsRecoveryWithin c (decided w b now r)
-    decided-within r s =
-        let a = once w b now r in
-        let d = once w b now a in
-        let e = once w b now d in
-        once-within e (once-within d (once-within a (once-within r s)))
+    decides-within : (r : Recovery) (d : Decision) → MayDecide w b now r d → IsRecoveryWithin c r → IsRecoveryWithin c (decided_by w b now r d)
+    decides-within r (by.Reads n ts) next s = working-within (record r { queue = ts }) (stage.Read n) (op.Status n None ∷ []) (next-within r (task.Reading n) ts next s).1 tt tt
+    decides-within r (by.Drains n ts) next s = working-within (record r { queue = ts }) (stage.Drain n) (drain n) (next-within r (task.Draining n) ts next s).1 tt (tt, (tt, tt))
+    decides-within r (by.Sends n way ts) next s = let h = next-within r (task.Moving n way) ts next s in moving-within (record r { queue = ts }) n way h.1 h.0
+    decides-within r (by.Expels n ts) next s = working-within (record r { queue = ts }) (stage.Expel n) (op.Detach n ∷ []) (next-within r (task.Expelling n) ts next s).1 tt (tt, tt)
+    decides-within r (by.Releases n ts) next s = working-within (record r { queue = ts }) (stage.Release n) (op.Start n ∷ []) (next-within r (task.Releasing n) ts next s).1 tt (tt, tt)
+    decides-within r (by.Looks n x ts) (next, e) s =
+        working-within (record r { queue = ts }) (stage.Look n x) (op.Status n None ∷ []) (next-within r (task.Trailing n) ts next s).1 (lead-of r x e s) tt
+    decides-within r (by.Yields x ts) (next, e) s =
+        let h = (next-within r task.Yielding ts next s).1 in
+        record { core = record { seen = seen-within r.core.seen x s.core.seen (lead-of r x e s); left = (tt, tt) }; stage = tt; queue = h.queue; drained = s.drained; lead = s.lead }
+    decides-within r (by.Sticks t ts) g s = queued-within r [] r.drained None s (All-nil (IsTaskWithin c r.failed None)) s.drained
+    decides-within r (by.Chooses p ts) (next, e) s = chooses-within (record r { queue = ts }) p (next-within r task.Choosing ts next s).1 e
+    decides-within r (by.ChoosesNobody ts) g s = queued-within r [] [] None s (All-nil (IsTaskWithin c r.failed None)) (All-nil (λ (d : Stopped). AreAlike c d.no.0 r.failed.0))
+    decides-within r (by.Hands d ds way ts) g s =
+        let h = handed-within r d ds (Some way) ts g s in moving-within (record r { drained = ds }) d.no way h.1 (below-within r.core.seen r.failed g.source d h.0 (Some way) g.way)
+    decides-within r (by.Leaves d ds ts) g s = (handed-within r d ds None ts g s).1
+    decides-within r (by.HandedOver ts) g s = queued-within r ts [] r.chosen s (next-within r task.Handing ts g.0 s).1.queue (All-nil (λ (d : Stopped). AreAlike c d.no.0 r.failed.0))
+    decides-within r (by.Passes ts) g s = (next-within r task.Handing ts g.0 s).1
+    decides-within r (by.Sorts ts) next s = sort-within (record r { queue = ts }) (next-within r task.Sorting ts next s).1
+    decides-within r (by.Levels p q) g s = working-within (record r { swaps = false }) (stage.Level p q) (level p q) s tt (level-due p q)
+    decides-within r by.Remains g s = s
+    decides-within r (by.Crowns p) g s = working-within r (stage.Crown p) (op.Reset p ∷ op.ReadOnly p false ∷ []) s tt (tt, (tt, tt))
+    decides-within r (by.Rejoins p) g s = working-within r (stage.Close (told r)) (op.Start p ∷ op.Finish (told r) ∷ []) s tt (tt, tt)
+    decides-within r by.Closes g s = working-within r (stage.Close (told r)) (op.Finish (told r) ∷ []) s tt tt
 
   -- ---- a stage that is done
 
   idle-within : (r : Recovery) → IsRecoveryWithin c r → IsRecoveryWithin c (idle r)
   idle-within r s = record { core = s.core; stage = tt; queue = s.queue; drained = s.drained; lead = s.lead }
-
-  judged-within : (r : Recovery) (n : ServerNo) → IsRecoveryWithin c r → IsRecoveryWithin c (idle (judged r n (seen_of r.core.seen n.0)))
-  judged-within r n s = go (seen_of r.core.seen n.0) refl
-    where
-      go : (o : Option Position) → seen_of r.core.seen n.0 ≡ o → IsRecoveryWithin c (idle (judged r n o))
-      go None e = idle-within r s
-      go (Some x) e = at (is_below x r.failed) refl
-        where
-          at : (a : Bool) → is_below x r.failed ≡ a
-              → IsRecoveryWithin c (idle (cond a (record r { drained = r.drained ++ record { no = n; exec = x.exec; own_end = x.own_end } ∷ [] }) (loses r n (lost.Moved (taking.spot_seen x.source x.exec)))))
-          at true f = record {
-            core = s.core;
-            stage = tt;
-            queue = s.queue;
-            drained = All-push (λ (d : Stopped). AreAlike c d.no.0 r.failed.0) r.drained _ s.drained (sym ((s.core.seen n.0 x e).source r.failed.0 (source-is (source_no x.source) r.failed f)));
-            lead = s.lead;
-          }
-          at false f = idle-within r s
 
   lead-within : (r : Recovery) (d : ServerNo) → IsRecoveryWithin c r → IfSome (lead_under r.failed (bridge_at d (seen_of r.core.seen d.0))) (IsWithinCluster c)
   lead-within r d s = go (bridge_at d (seen_of r.core.seen d.0)) refl
@@ -332,25 +252,8 @@ module _ (c : Clusters) where
           at true = bridge-within c r.core.seen s.core.seen d x e
           at false = tt
 
-  looked-within : (r : Recovery) (n : ServerNo) (b : Bridge) (o : Option Position) → IsRecoveryWithin c r → IsWithinCluster c b → IsRecoveryWithin c (looked r n b o)
-  looked-within r n b None s h = idle-within r s
-  looked-within r n b (Some x) s h = at (is_below x r.failed)
-    where
-      at : (a : Bool) → IsRecoveryWithin c (cond a (working (record r { core = record r.core { seen = with_bridge r.core.seen b } }) (stage.Trail n b) (trail n b.no))
-          (idle (loses r n (lost.Moved (taking.spot_seen x.source x.exec)))))
-      at true = record { core = record { seen = seen-within r.core.seen b s.core.seen h; left = (tt, tt) }; stage = h; queue = s.queue; drained = s.drained; lead = s.lead }
-      at false = idle-within r s
-
   frees-within : (r : Recovery) (n : ServerNo) (why : Lost) → IsRecoveryWithin c r → IsRecoveryWithin c (frees r n why)
   frees-within r n why s = working-within (loses r n why) (stage.Release n) (op.Start n ∷ []) s tt (tt, tt)
-
-  halted-within : (r : Recovery) (n : ServerNo) (b : Bridge) (o : Option Position) → IsRecoveryWithin c r → IsWithinCluster c b → IsRecoveryWithin c (halted r n b o)
-  halted-within r n b None s h = frees-within r n lost.Unreachable s
-  halted-within r n b (Some x) s h = at (same_coord x.exec b.exec)
-    where
-      at : (a : Bool) → IsRecoveryWithin c (cond a (moving r n (way.Down b)) (frees r n (lost.Behind x.exec)))
-      at true = moving-within r n (way.Down b) s h
-      at false = frees-within r n (lost.Behind x.exec) s
 
   looks-due : (r : Recovery) (u : Purpose) (n : ServerNo) → AreDueWithin c (last_looks r u n ++ op.Finish (told r) ∷ [])
   looks-due r purpose.Regroup n = tt
@@ -358,39 +261,31 @@ module _ (c : Clusters) where
   looks-due r (purpose.Intermediate s) n = tt
   looks-due r (purpose.Takeover d) n = tt
 
-  completed-within : (r : Recovery) → IsRecoveryWithin c r → IsRecoveryWithin c (completed r r.stage)
-  completed-within r s = go r.stage s.stage
-    where
-      go : (x : Stage) → IsStageWithin c x → IsRecoveryWithin c (completed r x)
-      go stage.Idle h = idle-within r s
-      go stage.Check h = idle-within r s
-      go (stage.Read n) h = idle-within r s
-      go (stage.Drain n) h = idle-within r s
-      go (stage.Judged n) h = judged-within r n s
-      go (stage.Move n by) h = idle-within r s
-      go (stage.Join n p) h = idle-within (follows r n p) s
-      go (stage.Expel n) h = idle-within r s
-      go (stage.Expelled n) h = record { core = s.core; stage = tt; queue = s.queue; drained = s.drained; lead = s.lead }
-      go (stage.Release n) h = idle-within r s
-      go (stage.Level p q) h = idle-within r s
-      go (stage.Swap p q) h = idle-within r s
-      go (stage.Swapped p q) h = working-within (swapped r p q) (stage.Open q) (op.Start p ∷ op.ReadOnly q false ∷ []) s tt (tt, (tt, tt))
-      go (stage.Return p q) h = idle-within r s
-      go (stage.Resume p q) h = idle-within (follows r q p) s
-      go (stage.Crown n) h = idle-within r s
-      go (stage.Open n) h = idle-within r s
-      go (stage.Opened n) h = working-within r (stage.Close (told r)) (last_looks r r.purpose n ++ op.Finish (told r) ∷ []) s tt (looks-due r r.purpose n)
-      go (stage.Meet m d) h = working-within r (stage.Shut m d) (op.ReadOnly m true ∷ gather m d) s tt (tt, gather-due m d)
-      go (stage.Shut m d) h = idle-within r s
-      go (stage.Gather m d) h = record { core = s.core; stage = tt; queue = s.queue; drained = s.drained; lead = lead-within r d s }
-      go (stage.Look n b) h = idle-within r s
-      go (stage.Looked n b) h = looked-within r n b (seen_of r.core.seen n.0) s h
-      go (stage.Trail n b) h = idle-within r s
-      go (stage.Halted n b) h = halted-within r n b (seen_of r.core.seen n.0) s h
-      go (stage.Yield m d) h = idle-within r s
-      go (stage.Switch m d) h = idle-within r s
-      go (stage.Switched m d) h = working-within (follows r m d) (stage.Open d) (op.ReadOnly d false ∷ []) s tt (tt, tt)
-      go (stage.Close lines) h = idle-within r s
+  stage-of : (r : Recovery) (x : Stage) → r.stage ≡ x → IsRecoveryWithin c r → IsStageWithin c x
+  stage-of r x is s = subst (λ (y : Stage). IsStageWithin c y) is s.stage
+
+  completes-within : (r : Recovery) (e : Ending) → MayEnd r e → IsRecoveryWithin c r → IsRecoveryWithin c (ended_by r e)
+  completes-within r by.Rests may s = idle-within r s
+  completes-within r (by.Stays n x) may s = record {
+    core = s.core;
+    stage = tt;
+    queue = s.queue;
+    drained = All-push (λ (d : Stopped). AreAlike c d.no.0 r.failed.0) r.drained _ s.drained (sym ((s.core.seen n.0 x may.1).source r.failed.0 (source-is (source_no x.source) r.failed may.2)));
+    lead = s.lead;
+  }
+  completes-within r (by.Loses n why) may s = idle-within (loses r n why) s
+  completes-within r (by.Frees n why) may s = frees-within r n why s
+  completes-within r (by.Follows n p) may s = idle-within (follows r n p) s
+  completes-within r (by.Marks n) may s = record { core = s.core; stage = tt; queue = s.queue; drained = s.drained; lead = s.lead }
+  completes-within r (by.Leads d) may s = record { core = s.core; stage = tt; queue = s.queue; drained = s.drained; lead = lead-within r d s }
+  completes-within r (by.Trails n x) may s =
+      let h = stage-of r (stage.Looked n x) may.0 s in
+      record { core = record { seen = seen-within r.core.seen x s.core.seen h; left = (tt, tt) }; stage = h; queue = s.queue; drained = s.drained; lead = s.lead }
+  completes-within r (by.Joins n x) may s = moving-within r n (way.Down x) s (stage-of r (stage.Halted n x) may.0 s)
+  completes-within r (by.Swaps p q) may s = working-within (swapped r p q) (stage.Open q) (op.Start p ∷ op.ReadOnly q false ∷ []) s tt (tt, (tt, tt))
+  completes-within r (by.Switches m d) may s = working-within (follows r m d) (stage.Open d) (op.ReadOnly d false ∷ []) s tt (tt, tt)
+  completes-within r (by.Shuts m d) may s = working-within r (stage.Shut m d) (op.ReadOnly m true ∷ gather m d) s tt (tt, gather-due m d)
+  completes-within r (by.Ends n) may s = working-within r (stage.Close (told r)) (last_looks r r.purpose n ++ op.Finish (told r) ∷ []) s tt (looks-due r r.purpose n)
 
   moved-within : (x : Stage) → IsStageWithin c x → IsStageWithin c (moved x)
   moved-within (stage.Look n b) h = h
@@ -400,9 +295,8 @@ module _ (c : Clusters) where
   moved-within (stage.Move n by) h = tt
   moved-within x h = tt
 
-  progressed-within : (r : Recovery) (o : Op) (a : Bool) → IsRecoveryWithin c r → IsRecoveryWithin c (progressed r o a)
-  progressed-within r o true s = s
-  progressed-within r o false s = end (stepped r o) (stepped r o).core.ops (go (ends r.stage (deed_of o)))
+  stepped-within : (r : Recovery) (o : Op) → IsRecoveryWithin c r → IsRecoveryWithin c (stepped r o)
+  stepped-within r o s = go (ends r.stage (deed_of o))
     where
       enter : (k : Option ServerNo) → IsRecoveryWithin c (record (follows_no_more r k) { stage = moved r.stage })
       enter None = record { core = s.core; stage = moved-within r.stage s.stage; queue = s.queue; drained = s.drained; lead = s.lead }
@@ -412,9 +306,12 @@ module _ (c : Clusters) where
       go true = enter (leaver (moved r.stage))
       go false = s
 
-      end : (x : Recovery) (ops : List Op) → IsRecoveryWithin c x → IsRecoveryWithin c (at_end x ops)
-      end x [] y = completed-within x y
-      end x (z ∷ zs) y = y
+  bears-within : (r : Recovery) (e : Bearing) → IsRecoveryWithin c r → IsRecoveryWithin c (borne r (fate_of e))
+  bears-within r by.Drops s = working-within r stage.Idle [] s tt tt
+  bears-within r (by.Misses n why) s = working-within (loses r n why) stage.Idle [] s tt tt
+  bears-within r (by.Lets n why) s = frees-within r n why s
+  bears-within r (by.Restarts p q) s = working-within r (stage.Release q) (op.Start q ∷ []) s tt (tt, tt)
+  bears-within r (by.Returns p q) s = working-within r (stage.Return p q) (op.Cross cross.Back q p ∷ op.Start q ∷ []) s tt (tt, tt)
 
   -- ---- exchanges of a turn that fails
 
@@ -457,84 +354,60 @@ module _ (c : Clusters) where
 
   -- ---- a turn
 
-  module _ (w : World) (r : Recovery) (trim : IsTrim c w) (s : IsRecoveryWithin c r) where
-    fails-within : (why : Cause) (ob : Option Observation) → IfSome ob (IsReadWithin c) → KeepsWithin c w (taking.fails w r why ob)
-    fails-within why ob read = record { orderly = last-orderly w r trim s.core.seen; recovery = λ h. absurd (false≢true h); read = read }
+  module _ (w : World) (b : BookState) (read : ℕ) (now : Moment) (placed : Placed w) (trim : IsTrim c w) (rings : HeldRings w b.rings) (alike : All (All (IsWithinCluster c)) b.rings) where
+    abbrev Before : Recovery → Type 0
+    Before r = HeldRecovery w r × IsRecoveryWithin c r
 
-    abbrev IsFateWithin : Fate → Type 0
-    IsFateWithin taking.Fails = Unit {0}
-    IsFateWithin taking.Drops = Unit {0}
-    IsFateWithin (taking.Loses n why) = Unit {0}
-    IsFateWithin (taking.Frees n why) = Unit {0}
-    IsFateWithin (taking.Goes x ops) = IsStageWithin c x × AreDueWithin c ops
+    decides-both : (r : Recovery) (d : Decision) → MayDecide w b now r d → Before r → Before (decided_by w b now r d)
+    decides-both r d may h = (decides-held w b now rings r d may h.0, decides-within w b now alike r d may h.1)
 
-    drain-fate : (n : ServerNo) (why : Cause) → IsFateWithin (fate_of_drain n why)
-    drain-fate n (cause.Unreachable m) = tt
-    drain-fate n (cause.WaitSpent m) = tt
-    drain-fate n why = tt
+    tried : (r : Recovery) (o : Op) (rest : List Op) → r.core.ops ≡ o ∷ rest → Before r → IsTriedWithin c w (by_deed w read now r.core rest (deed_of o))
+    tried r o rest is h =
+        deed-within c w read now r.core rest (deed_of o) placed trim h.0.core.shown h.1.core.seen h.1.core.left (due w read now r o rest placed h.0 is).found
+        (subst (λ (ops : List Op). AreDueWithin c ops) is h.1.core.left)
 
-    trail-fate : (n : ServerNo) (why : Cause) → IsFateWithin (fate_of_trail w n why)
-    trail-fate n (cause.Unreachable m) = tt
-    trail-fate n (cause.WaitSpent m) = tt
-    trail-fate n why = tt
+    goes : (r : Recovery) (o : Op) (rest : List Op) (ob : Option Observation) (es : List Exchange) (j : Job) → Does w read now r o rest ob es j → Before r → IsTriedWithin c w (attempt.Goes ob es j)
+    goes r o rest ob es j did h = subst (λ (a : Attempt). IsTriedWithin c w a) did.goes (tried r o rest did.ops h)
 
-    lost-fate : (u : Purpose) (n : ServerNo) (why : Lost) → IsFateWithin (lost_on_way u n why)
-    lost-fate purpose.Regroup n why = tt
-    lost-fate purpose.Master n why = tt
-    lost-fate (purpose.Intermediate k) n why = tt
-    lost-fate (purpose.Takeover d) n why = tt
+    does-within : (r : Recovery) (o : Op) (rest : List Op) (ob : Option Observation) (es : List Exchange) (j : Job) → Does w read now r o rest ob es j → Before r → IsRecoveryWithin c (record r { core = j })
+    does-within r o rest ob es j did h = record { core = (goes r o rest ob es j did h).job; stage = h.1.stage; queue = h.1.queue; drained = h.1.drained; lead = h.1.lead }
 
-    errant-fate : (u : Purpose) (n : ServerNo) (by : Way) → IsFateWithin (fate_of_errant u n by)
-    errant-fate u n (way.Auto to exec) = lost-fate u n (lost.Ahead exec)
-    errant-fate u n (way.Down b) = tt
-    errant-fate u n (way.Up b) = tt
+    keeps-within : Keeps w b read now Before (λ v r. IsRecoveryWithin c r) (λ v r. IsRecoveryWithin c r)
+    keeps-within = record {
+      decides = decides-both;
+      waits = λ r o rest ob es j did e h. does-within r o rest ob es j did h;
+      acts = λ r o rest ob es j did e h. stepped-within (record r { core = j }) o (does-within r o rest ob es j did h);
+      continues = λ v r x xs is s. s;
+      completes = λ v r e none may s. completes-within r e may s;
+      bears = λ r o rest why ob e stops is may h. bears-within r e h.1;
+    }
 
-    move-fate : (u : Purpose) (n : ServerNo) (by : Way) (why : Cause) → IsFateWithin (fate_of_move w u n by why)
-    move-fate u n by (cause.Unreachable m) = lost-fate u n lost.Unreachable
-    move-fate u n by (cause.Running m) = lost-fate u n _
-    move-fate u n by (cause.Interfered m expected found) = lost-fate u n (lost.Moved found)
-    move-fate u n by (cause.Errant m set) = errant-fate u n by
-    move-fate u n by (cause.Purged m first) = lost-fate u n (lost.Purged (place_on by))
-    move-fate u n by why = tt
+    stops-read : (r : Recovery) (o : Op) (rest : List Op) (why : Cause) (ob : Option Observation) → by.Stops w read now r o rest why ob → Before r → IfSome ob (IsReadWithin c)
+    stops-read r o rest why ob stops h = subst (λ (a : Attempt). IsTriedWithin c w a) stops.stops (tried r o rest stops.ops h)
 
-    fate-within : (u : Purpose) (x : Stage) (why : Cause) → IsFateWithin (fate w u x why)
-    fate-within u (stage.Drain n) why = drain-fate n why
-    fate-within u (stage.Move n by) why = move-fate u n by why
-    fate-within u (stage.Look n b) why = trail-fate n why
-    fate-within u (stage.Trail n b) why = trail-fate n why
-    fate-within u (stage.Level p q) why = (tt, (tt, tt))
-    fate-within u (stage.Swap p q) why = (tt, (tt, tt))
-    fate-within u x why = tt
-
-    met-within : (why : Cause) (ob : Option Observation) (f : Fate) → IfSome ob (IsReadWithin c) → IsFateWithin f → KeepsWithin c w (met w r why ob f)
-    met-within why ob taking.Fails read fine = fails-within why ob read
-    met-within why ob taking.Drops read fine = record { orderly = tt; recovery = λ h. working-within r stage.Idle [] s tt tt; read = read }
-    met-within why ob (taking.Loses n l) read fine = record { orderly = tt; recovery = λ h. working-within (loses r n l) stage.Idle [] s tt tt; read = read }
-    met-within why ob (taking.Frees n l) read fine = record { orderly = tt; recovery = λ h. frees-within r n l s; read = read }
-    met-within why ob (taking.Goes x ops) read fine = record { orderly = tt; recovery = λ h. working-within r x ops s fine.0 fine.1; read = read }
-
-    attempted-within : (o : Op) (a : Attempt) → IsTriedWithin c w a → KeepsWithin c w (attempted w r o a)
-    attempted-within o (attempt.Goes ob es j) fine = go (barred_by r.stage r.failed j.seen)
+    -- what is observed, whatever the turn comes to
+    observes : (r : Recovery) (t : Taken) → Turning w b read now r t → Before r → IfSome t.observation (IsReadWithin c)
+    observes r t (by.Waits {d} ds o rest ob es j did e) h = (goes d o rest ob es j did (decisions-keep w b now Before decides-both ds h)).read
+    observes r t (by.Acts {d} ds o rest ob es j did e end) h = (goes d o rest ob es j did (decisions-keep w b now Before decides-both ds h)).read
+    observes r t (by.Bears {d} ds o rest why ob e stops is may) h = stops-read d o rest why ob stops (decisions-keep w b now Before decides-both ds h)
+    observes r t (by.Fails {d} ds why ob fatal) h = go why ob fatal
       where
-        later : IsRecoveryWithin c (record r { core = j })
-        later = record { core = fine.job; stage = s.stage; queue = s.queue; drained = s.drained; lead = s.lead }
+        before : Before d
+        before = decisions-keep w b now Before decides-both ds h
 
-        go : (x : Option Cause) → KeepsWithin c w (on_going w r o ob es j x)
-        go None = record { orderly = fine.orderly; recovery = λ h. progressed-within (record r { core = j }) o (is_waiting j) later; read = fine.read }
-        go (Some x) = fails-within x ob fine.read
-    attempted-within o (attempt.Stops why ob) fine = met-within why ob (fate w r.purpose r.stage why) fine (fate-within r.purpose r.stage why)
-    attempted-within o (attempt.Ends lines) fine = record { orderly = tt; recovery = λ h. absurd (false≢true h); read = tt }
-
-  acted-within : (w : World) (read : ℕ) (now : Moment) (r : Recovery) → Placed w → IsTrim c w → HeldRecovery w r → IsRecoveryWithin c r → (ops : List Op) → r.core.ops ≡ ops → AreDueWithin c ops
-      → KeepsWithin c w (acted w read now r ops)
-  acted-within w read now r placed trim held s [] is left = fails-within w r trim s cause.NoCandidate None tt
-  acted-within w read now r placed trim held s (o ∷ rest) is left =
-      let next = due w read now r o rest placed held is in
-      attempted-within w r trim s o (by_deed w read now r.core rest (deed_of o))
-      (deed-within c w read now r.core rest (deed_of o) placed trim held.core.shown s.core.seen s.core.left next.found left)
+        go : (x : Cause) (o : Option Observation) → FailsFor w read now d x o → IfSome o (IsReadWithin c)
+        go x o (by.NoSource none) = tt
+        go x o (by.Barred y rest es j is e bar) = (subst (λ (a : Attempt). IsTriedWithin c w a) e (tried d y rest is before)).read
+        go x o (by.Fatal y rest stops e) = stops-read d y rest x o stops before
+    observes r t (by.Finishes ds o rest lines is e) h = tt
 
   pub taken-within : (w : World) (b : BookState) (read : ℕ) (now : Moment) (r : Recovery) → Placed w → IsTrim c w → HeldRings w b.rings → All (All (IsWithinCluster c)) b.rings → HeldRecovery w r → IsRecoveryWithin c r
       → KeepsWithin c w (taken w b read now r)
-  taken-within w b read now r placed trim rings alike held s =
-      let next = decided-within w b now alike r s in
-      acted-within w read now (decided w b now r) placed trim (decided-held w b now r rings held) next (decided w b now r).core.ops refl next.core.left
+  taken-within w b read now r placed trim rings alike held s = record {
+    orderly =
+        made-along w b read now (Before w b read now placed trim rings alike) (AllOrderly c w) tt (decides-both w b read now placed trim rings alike)
+        (λ x o rest ob es j did h. (goes w b read now placed trim rings alike x o rest ob es j did h).orderly) (λ x why ob fatal h. last-orderly w x trim h.1.core.seen) r (held, s);
+    recovery =
+        kept-along w b read now (Before w b read now placed trim rings alike) (λ v x. IsRecoveryWithin c x) (λ v x. IsRecoveryWithin c x) (keeps-within w b read now placed trim rings alike) r (held, s);
+    read = observes w b read now placed trim rings alike r (taken w b read now r) (taken-walks w b read now r) (held, s);
+  }
