@@ -1,13 +1,21 @@
 //! How a recovery's entry of the audit ends with the turn that ends its job.
 
-ghost use Rattle.std.specs.Prelude.{◌≡◌, ◌<◌, ◌++◌, IfOk, IfSome, IsSomeAnd, Some, true, length};
+ghost use Rattle.std.specs.Prelude.{◌≡◌, ◌≢◌, ◌<◌, ◌++◌, [], Err, IfOk, IfSome, IsSomeAnd, Some, is_ok, true, length};
 ghost use Rattle.audit_log.specs.Audits.{is_unended, recovery_at};
-ghost use Rattle.unended_jobs.specs.Looks.{foretold};
+ghost use Rattle.jobs_in_flight.specs.Jobs.{step_reply};
+ghost use Rattle.unended_jobs.specs.Looks.{foretold, observation_of, step_of};
 ghost use Rattle.orch_core.specs.Closings.{closed_by, closed_so, closing_change, closing_changes, closing_of};
+ghost use Rattle.orch_core.specs.Keeping.{HasTurnCause, kept_if};
 ghost use Rattle.orch_core.specs.Polls.{changes_by};
+ghost use Rattle.orch_core.specs.Replies.{AreReply};
 
+use crate::TurnFault;
+use crate::engine::{Replies, copied};
+use crate::keep::keep_some;
 use audit_log::Audit;
-use instance_keeper::{Book, Change, Observation, Recovery, Row};
+use instance_keeper::{Book, Change, Keeper, Observation, Recovery, Row};
+use jobs_in_flight::answer;
+use operations::JobStep;
 use orch_base::{Ending, Memory, Moment};
 use recovery_core::{ending_of, is_acknowledged};
 use std::alloc::Global;
@@ -69,8 +77,8 @@ fn closing_change(
     Ok(Some(Change::Put(Row::Recovery(entry.into_row()))))
 }
 
-/// How the kept rows change with a turn of a job: by what it observed, and by the entry that ends.
-pub(crate) fn job_changes(
+// How the kept rows change with a turn of a job: by what it observed, and by the entry that ends.
+fn job_changes(
     alloc: Global,
     book: &Book,
     audit: &Audit,
@@ -94,6 +102,44 @@ pub(crate) fn job_changes(
         }
     }
     Ok(changes)
+}
+
+// What a job's turn answers, and once more for a journal, where it is written.
+fn answered(alloc: Global, step: &JobStep, written: bool) -> Result<Replies, Memory>
+    ensures { IfOk result (λ r. AreReply written (step_reply step.now) r) }
+{
+    let told = answer(alloc, step)?;
+    let written = copied(alloc, &told, written)?;
+    Ok(Replies { told, written })
+}
+
+/// Keeps how the kept rows change with a turn of a job, and tells what it answers.
+pub(crate) fn keep_turn<K: Keeper>(
+    alloc: Global,
+    keeper: &mut K,
+    book: &Book,
+    audit: &Audit,
+    now: Moment,
+    look: &UnendedLook,
+    closing: Option<Closing>,
+    written: bool,
+) -> Result<Replies, TurnFault>
+    requires { IfSome (observation_of look.now) (λ o. o.no.0 < length book.now.names) }
+    ensures reply { IfOk result (λ r. AreReply written (step_reply (step_of look.now)) r) }
+    ensures kept { K.kept keeper.new ≡ kept_if (is_ok result) (K.kept keeper.old)
+        (changes_by book.now (observation_of look.now)
+        ++ closing_changes audit.now.audit now closing) }
+    ensures cause { HasTurnCause (K.faults keeper.old) (K.faults keeper.new) result }
+    ensures idle { changes_by book.now (observation_of look.now)
+        ++ closing_changes audit.now.audit now closing ≡ [] → keeper.new ≡ keeper.old }
+    ensures calls { result ≡ Err TurnFault.Keeper
+        → changes_by book.now (observation_of look.now)
+        ++ closing_changes audit.now.audit now closing ≢ [] }
+{
+    let replies = answered(alloc, look.step(), written)?;
+    let changes = job_changes(alloc, book, audit, now, look.observation(), closing)?;
+    keep_some(alloc, keeper, book.names(), &changes)?;
+    Ok(replies)
 }
 
 /// Ends the entry, and acknowledges it where that is due. It takes no memory.

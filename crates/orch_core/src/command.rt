@@ -6,7 +6,7 @@ ghost use Rattle.instance_keeper.specs.Book.{discovery_change, instance_at};
 ghost use Rattle.commands.specs.Turns.{is_within};
 ghost use Rattle.asking_commands.specs.Answers.{allowed};
 ghost use Rattle.command_jobs.specs.Jobs.{planner_for};
-ghost use Rattle.orch_core.specs.Commands.{begun_by, decision, discovered, forgotten, next_reading, outcome_of, question, refusal, removal, removal_refusal, told_with};
+ghost use Rattle.orch_core.specs.Commands.{begun_by, decision, discovered, forgotten, next_reading, outcome_of, question, refusal, removal, removal_refusal};
 ghost use Rattle.orch_core.specs.Knowing.{LeavesIds};
 ghost use Rattle.orch_core.specs.CommandsBy.{outcome};
 
@@ -140,24 +140,6 @@ fn listed(alloc: Global, change: Option<Change>) -> Result<Vec<Change>, Memory>
     Ok(changes)
 }
 
-// The instance's name, what becomes of the book, and the changes of the kept rows.
-fn told_with(
-    alloc: Global,
-    reads: u64,
-    no: ServerNo,
-    book: Update,
-    rows: Vec<Change>,
-) -> Result<Outcome, Memory>
-    ensures { IfOk result (λ out. outcome out ≡ told_with reads (Line.Server no) book rows.items) }
-{
-    Ok(Outcome {
-        reply: named(alloc, no)?,
-        book,
-        rows,
-        reads,
-    })
-}
-
 // How the kept rows change: an instance that the book lacks is put; for one that it has the rule of stored readings
 // holds.
 fn discovery_change(book: &Book, o: &Observation, seen: &Seen) -> Result<Option<Change>, Memory>
@@ -185,7 +167,14 @@ fn discovered(alloc: Global, book: &Book, reads: u64, o: Observation) -> Result<
         return Ok(refused(alloc, reads, Refusal::Unreachable(o.no)));
     };
     let rows = listed(alloc, discovery_change(book, &o, seen)?)?;
-    told_with(alloc, o.read, o.no, Update::Discovery(o), rows)
+    let reply = named(alloc, o.no)?;
+    let reads = o.read;
+    Ok(Outcome {
+        reply,
+        book: Update::Discovery(o),
+        rows,
+        reads,
+    })
 }
 
 // Reads the server itself.
@@ -243,7 +232,13 @@ fn forget(
         return Ok(refused(alloc, reads, refusal));
     }
     let rows = listed(alloc, Some(removal(no)))?;
-    told_with(alloc, reads, no, Update::Change(removal(no)), rows)
+    let reply = named(alloc, no)?;
+    Ok(Outcome {
+        reply,
+        book: Update::Change(removal(no)),
+        rows,
+        reads,
+    })
 }
 
 // Asks the book or the audit.

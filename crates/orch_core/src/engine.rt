@@ -14,7 +14,7 @@ ghost use Rattle.orch_core.specs.CommandsBy.{outcome as outcome_in};
 ghost use Rattle.orch_core.specs.Settling.{CanSettle, settled};
 ghost use Rattle.orch_core.specs.States.{IsState};
 
-use crate::closing::{close_entry, closing_of, job_changes};
+use crate::closing::{close_entry, closing_of, keep_turn};
 use crate::command::{Numbers, Outcome, outcome_of};
 use crate::exchanging::{exchange, later, read_reply, read_server, store};
 use crate::keep::{given_rows, keep_some, keep_store};
@@ -24,7 +24,7 @@ use crate::recovering::scan_by;
 use crate::{Act, BoxedCommand, Configuration, Reply, Scenario, Step, Turn, TurnFault};
 use audit_log::Audit;
 use instance_keeper::{Book, Keeper, Observation};
-use jobs_in_flight::{FoundJob, answer, find, others_over, take_turn};
+use jobs_in_flight::{FoundJob, find, others_over, take_turn};
 use opening_book::{
     GREATEST_ID, beyond_instances, counted, counted_in_order, last_id, last_read, latest_moment,
     latest_recovery, loaded_audit, loaded_book, loading,
@@ -77,8 +77,8 @@ fn plain(reply: Reply, written: bool) -> Replies
     }
 }
 
-// The reply, and its copy for a journal, where it is written.
-fn copied(alloc: Global, reply: &Reply, written: bool) -> Result<Option<Reply>, Memory>
+/// The reply's copy for a journal, where it is written.
+pub(crate) fn copied(alloc: Global, reply: &Reply, written: bool) -> Result<Option<Reply>, Memory>
     ensures { IfOk result (λ r. r ≡ (if written then Some reply.now else None)) }
 {
     if written {
@@ -256,17 +256,16 @@ impl Engine {
         let job = &self.knowledge.jobs[found.at];
         let look = job.look(alloc, &self.world, &self.knowledge.book, read, self.moment)?;
         let closing = closing_of(job, &look);
-        let told = answer(alloc, look.step())?;
-        let written = copied(alloc, &told, written)?;
-        let changes = job_changes(
+        let replies = keep_turn(
             alloc,
+            keeper,
             &self.knowledge.book,
             &self.knowledge.audit,
             self.moment,
-            look.observation(),
+            &look,
             closing,
+            written,
         )?;
-        keep_some(alloc, keeper, self.knowledge.book.names(), &changes)?;
         take_turn(
             alloc,
             &mut self.knowledge.jobs,
@@ -277,7 +276,7 @@ impl Engine {
             look,
         )?;
         close_entry(&mut self.knowledge.audit, self.moment, closing);
-        Ok(Replies { told, written })
+        Ok(replies)
     }
 
     // Does a command: what it changes of the kept rows is kept first.
@@ -367,14 +366,16 @@ impl Engine {
         ensures idle { outcome.rows.items ≡ [] → keeper.new ≡ keeper.old }
         ensures calls { result ≡ Err TurnFault.Keeper → outcome.rows.items ≢ [] }
     {
-        let written = copied(alloc, &outcome.reply, written)?;
+        let written = self
+            .knowledge
+            .keep_outcome(alloc, keeper, &outcome, written)?;
         let Outcome {
             reply,
             book,
-            rows,
+            rows: _,
             reads,
         } = outcome;
-        self.knowledge.keep_and_update(alloc, keeper, book, &rows)?;
+        self.knowledge.update(book);
         // shows the proof that the number is in its range
         is_number(self.knowledge.last_job);
         self.reads = reads;

@@ -1,6 +1,6 @@
 //! What orchestrator knows, and what a command or a scan makes of it.
 
-ghost use Rattle.std.specs.Prelude.{◌≡◌, ◌≢◌, ◌<◌, ◌≤◌, ◌+◌, ◌-◌, ◌^◌, ◌∷◌, [], Err, OnErr, OnOk, is_ok, length, vec_len, vec_capacity};
+ghost use Rattle.std.specs.Prelude.{◌≡◌, ◌≢◌, ◌<◌, ◌≤◌, ◌+◌, ◌-◌, ◌^◌, ◌∷◌, [], if◌then◌else◌, Err, IfOk, None, OnOk, Some, is_ok, length, vec_len, vec_capacity};
 ghost use Rattle.book_commands.specs.Decisions.{audit_after as audit_decided, book_after as book_decided};
 ghost use Rattle.recovery_core.specs.Begun.{BeginInTurn, CanBegin};
 ghost use Rattle.recovery_core.specs.Scans.{HasRoom};
@@ -8,12 +8,13 @@ ghost use Rattle.orch_core.specs.Keeping.{HasTurnCause, kept_if};
 ghost use Rattle.orch_core.specs.Knowing.{HasRoomFor, IsEffect, IsUpdate, LeavesIds, MayTake, updated};
 ghost use Rattle.orch_core.specs.KnowingBy.{known};
 
-use crate::TurnFault;
-use crate::command::{Beginning, Recoveries, Update};
+use crate::command::{Beginning, Outcome, Recoveries, Update};
+use crate::engine::copied;
 use crate::keep::keep_some;
+use crate::{Reply, TurnFault};
 use audit_log::Audit;
 use book_commands::Effect;
-use instance_keeper::{Book, Change, Keeper};
+use instance_keeper::{Book, Keeper};
 use orch_base::Memory;
 use recovery_core::Begun;
 use std::alloc::Global;
@@ -37,9 +38,9 @@ impl Knowledge {
     {
         let Beginning { list, job } = beginning;
         let number = job.id();
-        let _ = self.book.take_leases(&list, number);
-        self.last_job = number;
         self.jobs.push_reserved(job);
+        self.last_job = number;
+        let _ = self.book.take_leases(&list, number);
     }
 
     // A recovery's leases are taken, its entry joins the audit, and its job the others.
@@ -57,11 +58,11 @@ impl Knowledge {
     {
         let (list, job, entry) = begun.into_parts();
         let number = job.id();
-        let id = entry.id;
-        let _ = self.book.take_leases(&list, number);
+        self.jobs
+            .push_reserved(Unended::Recovery(job, Some(entry.id)));
         self.audit.begin(entry);
         self.last_job = number;
-        self.jobs.push_reserved(Unended::Recovery(job, Some(id)));
+        let _ = self.book.take_leases(&list, number);
     }
 
     fn join_all(&mut self, recoveries: Recoveries)
@@ -108,8 +109,35 @@ impl Knowledge {
         Ok(())
     }
 
-    // Makes of what is known what a command or a scan makes of it. It takes no memory.
-    fn update(&mut self, update: Update)
+    /// Keeps the changes of an outcome, where there are any, when there is room for what it makes of what is known; and
+    /// tells the reply for a journal, where it is written.
+    pub(crate) fn keep_outcome<K: Keeper>(
+        &mut self,
+        alloc: Global,
+        keeper: &mut K,
+        outcome: &Outcome,
+        written: bool,
+    ) -> Result<Option<Reply>, TurnFault>
+        ensures reply { IfOk result
+            (λ r. r ≡ (if written then Some outcome.now.reply else None)) }
+        ensures room { OnOk result (HasRoomFor
+            (vec_capacity self.new.jobs - vec_len self.new.jobs) self.new.audit.spare
+            outcome.now.book) }
+        ensures known { known self.new ≡ known self.old }
+        ensures kept { K.kept keeper.new ≡ kept_if (is_ok result) (K.kept keeper.old)
+            outcome.now.rows.items }
+        ensures cause { HasTurnCause (K.faults keeper.old) (K.faults keeper.new) result }
+        ensures idle { outcome.now.rows.items ≡ [] → keeper.new ≡ keeper.old }
+        ensures calls { result ≡ Err TurnFault.Keeper → outcome.now.rows.items ≢ [] }
+    {
+        let reply = copied(alloc, &outcome.reply, written)?;
+        self.make_room(&outcome.book)?;
+        keep_some(alloc, keeper, self.book.names(), &outcome.rows)?;
+        Ok(reply)
+    }
+
+    /// Makes of what is known what a command or a scan makes of it. It takes no memory.
+    pub(crate) fn update(&mut self, update: Update)
         requires update { IsUpdate (known self.old) update }
         requires ids { LeavesIds update }
         requires room { HasRoomFor (vec_capacity self.old.jobs - vec_len self.old.jobs)
@@ -124,28 +152,5 @@ impl Knowledge {
             Update::Begins(beginning) => self.join(beginning),
             Update::Recovers(recoveries) => self.join_all(recoveries),
         }
-    }
-
-    /// Keeps the changes, where there are any, and makes of what is known what a command or a scan makes of it.
-    pub(crate) fn keep_and_update<K: Keeper>(
-        &mut self,
-        alloc: Global,
-        keeper: &mut K,
-        update: Update,
-        rows: &[Change],
-    ) -> Result<(), TurnFault>
-        requires update { IsUpdate (known self.old) update }
-        requires ids { LeavesIds update }
-        ensures ok { OnOk result (known self.new ≡ updated (known self.old) update) }
-        ensures err { OnErr result (known self.new ≡ known self.old) }
-        ensures kept { K.kept keeper.new ≡ kept_if (is_ok result) (K.kept keeper.old) rows.now }
-        ensures cause { HasTurnCause (K.faults keeper.old) (K.faults keeper.new) result }
-        ensures idle { rows.now ≡ [] → keeper.new ≡ keeper.old }
-        ensures calls { result ≡ Err TurnFault.Keeper → rows.now ≢ [] }
-    {
-        self.make_room(&update)?;
-        keep_some(alloc, keeper, self.book.names(), rows)?;
-        self.update(update);
-        Ok(())
     }
 }

@@ -63,7 +63,7 @@ fn begins(alloc: Global, numbers: Numbers, number: u64, begun: Begun) -> Result<
     ensures ids { IfOk result (λ out. LeavesIds out.book) }
 {
     let mut list = Vec::with_capacity(alloc, 1)?;
-    list.push(begun)?;
+    list.push_reserved(begun);
     let rows = entries_put(alloc, &list)?;
     Ok(Outcome {
         reply: Reply::Begun(number),

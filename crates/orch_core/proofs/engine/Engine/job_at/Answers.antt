@@ -1,8 +1,7 @@
-use Rattle.std.proofs.Common.{◌≡◌, ◌∙◌, ◌<◌, ◌++◌, [], rules, sym, ap, subst, length, Bool, true, false, Option, Some, None}
-use Rattle.std.specs.Prelude.{IfSome, is_ok, slice_get, if◌then◌else◌}
-use Rattle.kept_rows.specs.declared.observation.Observation.{Observation}
+use Rattle.std.proofs.Common.{◌≡◌, ◌∙◌, ◌<◌, ◌++◌, [], rules, sym, ap, subst, length, Bool, true, false, Option}
+use Rattle.std.specs.Prelude.{IfSome, is_ok, slice_get}
 use Rattle.unended_jobs.specs.declared.unended.Unended.{Unended}
-use Rattle.unended_jobs.specs.Looks.{CanGo, observation_of}
+use Rattle.unended_jobs.specs.Looks.{CanGo, observation_of, step_of}
 use Rattle.unended_jobs.proofs.Going.{ready-of}
 use Rattle.turns.specs.declared.reply.Reply.{Reply}
 use Rattle.turns.specs.declared.turn.Act.TheVariants as act
@@ -29,8 +28,8 @@ look-requires g c =
       known = c.self.invariant.names;
     }
 
-pub job_changes-requires : goal.job_changes-requires
-job_changes-requires g c =
+pub keep_turn-requires : goal.keep_turn-requires
+keep_turn-requires g c =
     let before = state_of c.self.inside in
     let id = c.args.found.id in
     let at = c.args.found.at in
@@ -38,10 +37,10 @@ job_changes-requires g c =
     let look = c.in_ok-look.look in
     let looked : Looked before id at j look =
     looked-as before c.args.self.now c.self.view_is id at j look c.saturating_add-read.result c.requires.at c.requires.id c.index-job.ensures c.saturating_add-read.ensures c.in_ok-look.ensures.turn in
-    subst (λ (x : Option Observation). IfSome x (λ o. o.no.0 < length before.book.names)) (sym c.observation.ensures) (observed-place before id at j look c.self.invariant looked)
+    observed-place before id at j look c.self.invariant looked
 
-pub returns-in_err-keep_some-clause-idle : goal.returns-in_err-keep_some-clause-idle
-returns-in_err-keep_some-clause-idle g c =
+pub returns-in_err-replies-clause-idle : goal.returns-in_err-replies-clause-idle
+returns-in_err-replies-clause-idle g c =
     let before = state_of c.self.inside in
     let id = c.args.found.id in
     let at = c.args.found.at in
@@ -51,14 +50,12 @@ returns-in_err-keep_some-clause-idle g c =
     looked-as before c.args.self.now c.self.view_is id at j look c.saturating_add-read.result c.requires.at c.requires.id c.index-job.ensures c.saturating_add-read.ensures c.in_ok-look.ensures.turn in
     let now = c.self.inside.moment in
     let closes = c.closing_of-closing.ensures in
-    let items : c.deref.result.now ≡ changes_by before.book (observation_of look) ++ closing_changes before.audit now (ends before id at j look c.self.invariant looked) =
-    c.deref.ensures.value ∙ c.in_ok-changes.ensures
-    ∙ ap (λ (o : Option Observation). changes_by before.book o ++ closing_changes before.audit now c.closing_of-closing.result) c.observation.ensures
-    ∙ ap (λ (k : Option Closing). changes_by before.book (observation_of look) ++ closing_changes before.audit now k) closes in
-    (λ none. c.keep_some.ensures.idle (items ∙ changes-here before id at j look c.self.invariant looked ∙ subst (λ (s : State). changes_of [] s (turn.Act (act.Job id)) ≡ []) (sym c.self.view_is) none))
+    let items : changes_by before.book (observation_of look) ++ closing_changes before.audit now c.closing_of-closing.result ≡ changes_by before.book (observation_of look) ++ closing_changes before.audit now (ends before id at j look c.self.invariant looked) =
+    ap (λ (k : Option Closing). changes_by before.book (observation_of look) ++ closing_changes before.audit now k) closes in
+    (λ none. c.keep_turn.ensures.idle (items ∙ changes-here before id at j look c.self.invariant looked ∙ subst (λ (s : State). changes_of [] s (turn.Act (act.Job id)) ≡ []) (sym c.self.view_is) none))
 
-pub returns-in_err-keep_some-clause-calls : goal.returns-in_err-keep_some-clause-calls
-returns-in_err-keep_some-clause-calls g c =
+pub returns-in_err-replies-clause-calls : goal.returns-in_err-replies-clause-calls
+returns-in_err-replies-clause-calls g c =
     let before = state_of c.self.inside in
     let id = c.args.found.id in
     let at = c.args.found.at in
@@ -68,11 +65,9 @@ returns-in_err-keep_some-clause-calls g c =
     looked-as before c.args.self.now c.self.view_is id at j look c.saturating_add-read.result c.requires.at c.requires.id c.index-job.ensures c.saturating_add-read.ensures c.in_ok-look.ensures.turn in
     let now = c.self.inside.moment in
     let closes = c.closing_of-closing.ensures in
-    let items : c.deref.result.now ≡ changes_by before.book (observation_of look) ++ closing_changes before.audit now (ends before id at j look c.self.invariant looked) =
-    c.deref.ensures.value ∙ c.in_ok-changes.ensures
-    ∙ ap (λ (o : Option Observation). changes_by before.book o ++ closing_changes before.audit now c.closing_of-closing.result) c.observation.ensures
-    ∙ ap (λ (k : Option Closing). changes_by before.book (observation_of look) ++ closing_changes before.audit now k) closes in
-    (λ failed none. c.keep_some.ensures.calls (search rules) (items ∙ changes-here before id at j look c.self.invariant looked ∙ subst (λ (s : State). changes_of [] s (turn.Act (act.Job id)) ≡ []) (sym c.self.view_is) none))
+    let items : changes_by before.book (observation_of look) ++ closing_changes before.audit now c.closing_of-closing.result ≡ changes_by before.book (observation_of look) ++ closing_changes before.audit now (ends before id at j look c.self.invariant looked) =
+    ap (λ (k : Option Closing). changes_by before.book (observation_of look) ++ closing_changes before.audit now k) closes in
+    (λ failed none. c.keep_turn.ensures.calls (search rules) (items ∙ changes-here before id at j look c.self.invariant looked ∙ subst (λ (s : State). changes_of [] s (turn.Act (act.Job id)) ≡ []) (sym c.self.view_is) none))
 
 pub take_turn-requires-clause-can : goal.take_turn-requires-clause-can
 take_turn-requires-clause-can g c =
@@ -107,13 +102,11 @@ returns-in_err-take_turn-clause-kept g c =
     looked-as before c.args.self.now c.self.view_is id at j look c.saturating_add-read.result c.requires.at c.requires.id c.index-job.ensures c.saturating_add-read.ensures c.in_ok-look.ensures.turn in
     let now = c.self.inside.moment in
     let closes = c.closing_of-closing.ensures in
-    let items : c.deref.result.now ≡ changes_by before.book (observation_of look) ++ closing_changes before.audit now (ends before id at j look c.self.invariant looked) =
-    c.deref.ensures.value ∙ c.in_ok-changes.ensures
-    ∙ ap (λ (o : Option Observation). changes_by before.book o ++ closing_changes before.audit now c.closing_of-closing.result) c.observation.ensures
-    ∙ ap (λ (k : Option Closing). changes_by before.book (observation_of look) ++ closing_changes before.audit now k) closes in
+    let items : changes_by before.book (observation_of look) ++ closing_changes before.audit now c.closing_of-closing.result ≡ changes_by before.book (observation_of look) ++ closing_changes before.audit now (ends before id at j look c.self.invariant looked) =
+    ap (λ (k : Option Closing). changes_by before.book (observation_of look) ++ closing_changes before.audit now k) closes in
     let empty = items ∙ none-kept before id at j look c.self.invariant looked c.in_err-take_turn.ensures.memory c.in_err-take_turn.ensures.going in
     let fails : is_ok c.from_residual-in_err-take_turn.result ≡ false = search rules in
-    ap g.K.Keeper.kept (c.keep_some.ensures.idle empty)
+    ap g.K.Keeper.kept (c.keep_turn.ensures.idle empty)
     ∙ ap (λ (made : Bool). kept_if made (g.K.Keeper.kept c.args.keeper.now) (changes_of [] c.args.self.now (turn.Act (act.Job id)))) (sym fails)
 
 pub returns-in_err-take_turn-clause-idle : goal.returns-in_err-take_turn-clause-idle
@@ -127,12 +120,10 @@ returns-in_err-take_turn-clause-idle g c =
     looked-as before c.args.self.now c.self.view_is id at j look c.saturating_add-read.result c.requires.at c.requires.id c.index-job.ensures c.saturating_add-read.ensures c.in_ok-look.ensures.turn in
     let now = c.self.inside.moment in
     let closes = c.closing_of-closing.ensures in
-    let items : c.deref.result.now ≡ changes_by before.book (observation_of look) ++ closing_changes before.audit now (ends before id at j look c.self.invariant looked) =
-    c.deref.ensures.value ∙ c.in_ok-changes.ensures
-    ∙ ap (λ (o : Option Observation). changes_by before.book o ++ closing_changes before.audit now c.closing_of-closing.result) c.observation.ensures
-    ∙ ap (λ (k : Option Closing). changes_by before.book (observation_of look) ++ closing_changes before.audit now k) closes in
+    let items : changes_by before.book (observation_of look) ++ closing_changes before.audit now c.closing_of-closing.result ≡ changes_by before.book (observation_of look) ++ closing_changes before.audit now (ends before id at j look c.self.invariant looked) =
+    ap (λ (k : Option Closing). changes_by before.book (observation_of look) ++ closing_changes before.audit now k) closes in
     let empty = items ∙ none-kept before id at j look c.self.invariant looked c.in_err-take_turn.ensures.memory c.in_err-take_turn.ensures.going in
-    (λ none. c.keep_some.ensures.idle empty)
+    (λ none. c.keep_turn.ensures.idle empty)
 
 pub close_entry-requires : goal.close_entry-requires
 close_entry-requires g c =
@@ -168,9 +159,9 @@ returns-clause-reply g c =
     let look = c.in_ok-look.look in
     let looked : Looked before id at j look =
     looked-as before c.args.self.now c.self.view_is id at j look c.saturating_add-read.result c.requires.at c.requires.id c.index-job.ensures c.saturating_add-read.ensures c.in_ok-look.ensures.turn in
-    let said : c.in_ok-told.told ≡ reply_of before (turn.Act (act.Job id)) = c.in_ok-told.ensures ∙ ap step_reply c.step.ensures ∙ sym (reply-is before id at j look c.self.invariant looked) in
-    subst (λ (s : State). AreReply c.args.written (reply_of s (turn.Act (act.Job id))) (record { told = c.in_ok-told.told; written = c.in_ok-written.written })) c.self.view_is
-    (record { told = said; written_too = c.in_ok-written.ensures ∙ ap (λ (r : Reply). if c.args.written then Some r else None) said })
+    let said : step_reply (step_of look) ≡ reply_of c.args.self.now (turn.Act (act.Job id)) =
+    sym (reply-is before id at j look c.self.invariant looked) ∙ ap (λ (s : State). reply_of s (turn.Act (act.Job id))) c.self.view_is in
+    subst (λ (r : Reply). AreReply c.args.written r c.in_ok-replies.replies) said c.in_ok-replies.ensures.reply
 
 pub returns-clause-ok : goal.returns-clause-ok
 returns-clause-ok g c =
@@ -198,11 +189,9 @@ returns-clause-kept g c =
     looked-as before c.args.self.now c.self.view_is id at j look c.saturating_add-read.result c.requires.at c.requires.id c.index-job.ensures c.saturating_add-read.ensures c.in_ok-look.ensures.turn in
     let now = c.self.inside.moment in
     let closes = c.closing_of-closing.ensures in
-    let items : c.deref.result.now ≡ changes_by before.book (observation_of look) ++ closing_changes before.audit now (ends before id at j look c.self.invariant looked) =
-    c.deref.ensures.value ∙ c.in_ok-changes.ensures
-    ∙ ap (λ (o : Option Observation). changes_by before.book o ++ closing_changes before.audit now c.closing_of-closing.result) c.observation.ensures
-    ∙ ap (λ (k : Option Closing). changes_by before.book (observation_of look) ++ closing_changes before.audit now k) closes in
-    c.in_ok-keep_some.ensures.kept ∙ ap (kept_if true (g.K.Keeper.kept c.args.keeper.now)) (items ∙ changes-here before id at j look c.self.invariant looked)
+    let items : changes_by before.book (observation_of look) ++ closing_changes before.audit now c.closing_of-closing.result ≡ changes_by before.book (observation_of look) ++ closing_changes before.audit now (ends before id at j look c.self.invariant looked) =
+    ap (λ (k : Option Closing). changes_by before.book (observation_of look) ++ closing_changes before.audit now k) closes in
+    c.in_ok-replies.ensures.kept ∙ ap (kept_if true (g.K.Keeper.kept c.args.keeper.now)) (items ∙ changes-here before id at j look c.self.invariant looked)
     ∙ ap (λ (s : State). kept_if true (g.K.Keeper.kept c.args.keeper.now) (changes_of [] s (turn.Act (act.Job id)))) c.self.view_is
 
 pub returns-clause-idle : goal.returns-clause-idle
@@ -216,11 +205,9 @@ returns-clause-idle g c =
     looked-as before c.args.self.now c.self.view_is id at j look c.saturating_add-read.result c.requires.at c.requires.id c.index-job.ensures c.saturating_add-read.ensures c.in_ok-look.ensures.turn in
     let now = c.self.inside.moment in
     let closes = c.closing_of-closing.ensures in
-    let items : c.deref.result.now ≡ changes_by before.book (observation_of look) ++ closing_changes before.audit now (ends before id at j look c.self.invariant looked) =
-    c.deref.ensures.value ∙ c.in_ok-changes.ensures
-    ∙ ap (λ (o : Option Observation). changes_by before.book o ++ closing_changes before.audit now c.closing_of-closing.result) c.observation.ensures
-    ∙ ap (λ (k : Option Closing). changes_by before.book (observation_of look) ++ closing_changes before.audit now k) closes in
-    (λ none. c.keep_some.ensures.idle (items ∙ changes-here before id at j look c.self.invariant looked ∙ subst (λ (s : State). changes_of [] s (turn.Act (act.Job id)) ≡ []) (sym c.self.view_is) none))
+    let items : changes_by before.book (observation_of look) ++ closing_changes before.audit now c.closing_of-closing.result ≡ changes_by before.book (observation_of look) ++ closing_changes before.audit now (ends before id at j look c.self.invariant looked) =
+    ap (λ (k : Option Closing). changes_by before.book (observation_of look) ++ closing_changes before.audit now k) closes in
+    (λ none. c.keep_turn.ensures.idle (items ∙ changes-here before id at j look c.self.invariant looked ∙ subst (λ (s : State). changes_of [] s (turn.Act (act.Job id)) ≡ []) (sym c.self.view_is) none))
 
 pub returns-clause-servers : goal.returns-clause-servers
 returns-clause-servers g c =

@@ -1,25 +1,27 @@
-use Rattle.std.proofs.Common.{◌∙◌, sym, ap, subst}
+use Rattle.std.proofs.Common.{◌≡◌, ◌∙◌, sym, ap, subst}
 use Rattle.orch_core.specs.CommandsBy.{outcome}
 use Rattle.orch_core.specs.EngineBy.{state_of}
-use Rattle.orch_core.specs.Knowing.{Knowledge}
+use Rattle.orch_core.specs.Knowing.{IsUpdate, Knowledge, updated}
 use Rattle.orch_core.specs.KnowingBy.{known}
-use Rattle.orch_core.specs.Settling.{CanSettle, settled, with_known}
+use Rattle.orch_core.specs.Settling.{CanSettle, known_of, settled, with_known}
 use Rattle.orch_core.specs.States.{State}
 use Rattle.orch_core.proofs.Outcomes.{IsState-settled}
 use Rattle.orch_core.proofs.engine.Engine.settle.Goals as goal
 
-pub keep_and_update-requires-clause-update : goal.keep_and_update-requires-clause-update
-keep_and_update-requires-clause-update g c =
+pub update-requires-clause-update : goal.update-requires-clause-update
+update-requires-clause-update g c =
     let can : CanSettle (state_of c.self.inside) (outcome c.args.outcome) = subst (λ (s : State). CanSettle s (outcome c.args.outcome)) (sym c.self.view_is) c.requires.outcome in
-    can.update
+    subst (λ (k : Knowledge). IsUpdate k c.args.outcome.book) (sym c.keep_outcome.ensures.known) can.update
 
 pub invariant_of-self-2 : goal.invariant_of-self-2
 invariant_of-self-2 g c =
     let can : CanSettle (state_of c.self.inside) (outcome c.args.outcome) = subst (λ (s : State). CanSettle s (outcome c.args.outcome)) (sym c.self.view_is) c.requires.outcome in
-    IsState-settled (state_of c.self.inside) (outcome c.args.outcome) (known c.keep_and_update.new.self) c.self.invariant can c.requires.ids c.is_number.ensures c.in_ok-keep_and_update.ensures.ok
+    let known_then : known c.update.new.self ≡ updated (known_of (state_of c.self.inside)) c.args.outcome.book =
+    c.update.ensures ∙ ap (λ (k : Knowledge). updated k c.args.outcome.book) c.keep_outcome.ensures.known in
+    IsState-settled (state_of c.self.inside) (outcome c.args.outcome) (known c.update.new.self) c.self.invariant can c.requires.ids c.is_number.ensures known_then
 
 pub returns-clause-ok : goal.returns-clause-ok
 returns-clause-ok g c =
     let before = state_of c.self.inside in
-    ap (λ (k : Knowledge). with_known (record before { reads = c.args.outcome.reads }) k) c.in_ok-keep_and_update.ensures.ok
+    ap (λ (k : Knowledge). with_known (record before { reads = c.args.outcome.reads }) k) (c.update.ensures ∙ ap (λ (k : Knowledge). updated k c.args.outcome.book) c.keep_outcome.ensures.known)
     ∙ ap (λ (s : State). settled s (outcome c.args.outcome)) c.self.view_is
