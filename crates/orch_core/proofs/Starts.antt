@@ -1,5 +1,5 @@
 -- The state with which a scenario's run begins.
-use Rattle.std.proofs.Common.{◌≡◌, ◌∙◌, ℕ, ◌+◌, ◌<◌, ◌≤◌, ◌^◌, Bool, true, false, List, [], ◌∷◌, ◌++◌, length, get_or, refl, sym, ap, subst, Option, Some, None, arith}
+use Rattle.std.proofs.Common.{◌≡◌, ◌∙◌, ℕ, ◌+◌, ◌<◌, ◌≤◌, ◌^◌, Bool, true, false, List, [], ◌∷◌, ◌++◌, length, get_or, refl, sym, ap, subst, Option, Some, None, Result, Err, arith}
 use Rattle.std.specs.Prelude.{All, IfSome, IsTrue, ◌&&◌, is_none, nat_lt, slice_index_or, if◌then◌else◌}
 use Rattle.std.proofs.lemmas.List.Sums.{get_or-le-sum_by}
 use Rattle.std.specs.List.{cons_option}
@@ -42,7 +42,10 @@ use Rattle.world_openings.specs.Opening.{Fits, opened_world, source_state}
 use Rattle.server_model.specs.Worlds.{World, server_at}
 use Rattle.scenarios.specs.declared.scenario.Scenario.{Scenario}
 use Rattle.orch_core.specs.Polls.{empty_slots}
-use Rattle.orch_core.specs.Keeping.{kept_if}
+use Rattle.orch_base.specs.Memory.{next_count}
+use Rattle.orch_core.specs.Keeping.{HasTurnCause, kept_if}
+use Rattle.orch_core.specs.declared.fault.TurnFault.{TurnFault}
+use Rattle.orch_core.specs.declared.fault.TurnFault.TheVariants as fault
 use Rattle.scenarios.specs.Scenarios.{IsScenario, period_of, room_of, flushes_of, settings_of}
 use Rattle.scenarios.specs.Turns.{pollers}
 use Rattle.scenarios.proofs.Rooms.{longest-at}
@@ -349,3 +352,12 @@ module _ (s : Scenario) (given : List Row) (w : World) (settings : List Settings
   kept_made None told = refl
   kept_made (Some rows) told =
       ap (λ (cs : List Change). Some (changed rows cs)) (changes_are ∙ ap (start_changes s) told)
+
+-- a fault that is handed on has the cause that it had
+pub cause-carried : {A B : Type 0} (before mid now : ℕ) (r : Result B TurnFault) (e : TurnFault) → mid ≡ before → r ≡ Err e → HasTurnCause mid now r → HasTurnCause {A = A} before now (Err e)
+cause-carried before mid now r e stays was h = record {
+  later = subst (λ (n : ℕ). n ≤ now) stays h.later;
+  ok = tt;
+  failed = λ k. let same : e ≡ fault.Keeper = cc in h.failed (was ∙ ap (λ (x : TurnFault). Err x) same) ∙ ap next_count stays;
+  memory = λ k. let same : e ≡ fault.Memory = cc in h.memory (was ∙ ap (λ (x : TurnFault). Err x) same) ∙ stays;
+}

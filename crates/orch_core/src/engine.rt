@@ -369,18 +369,12 @@ impl Engine {
         let written = self
             .knowledge
             .keep_outcome(alloc, keeper, &outcome, written)?;
-        let Outcome {
-            reply,
-            book,
-            rows: _,
-            reads,
-        } = outcome;
-        self.knowledge.update(book);
+        self.knowledge.update(outcome.book);
         // shows the proof that the number is in its range
         is_number(self.knowledge.last_job);
-        self.reads = reads;
+        self.reads = outcome.reads;
         Ok(Replies {
-            told: reply,
+            told: outcome.reply,
             written,
         })
     }
@@ -420,9 +414,9 @@ impl Engine {
         let next = last_id(&given) + 1;
         let rows = counted(alloc, settings.len() as u32, GREATEST_ID, given)?;
         let moment = latest_moment(s.moment, &rows);
-        let book = loaded_book(alloc, &settings, &rows)?;
         let mut audit = loaded_audit(alloc, &configuration, &rows, next)?;
         let recoveries = loading(alloc, &configuration, &rows, &audit, moment)?;
+        let book = loaded_book(alloc, &settings, &rows)?;
         let book = complete(alloc, keeper, &world, moment, book, s, recoveries)?;
         audit.close(moment);
         let knowledge = Knowledge {

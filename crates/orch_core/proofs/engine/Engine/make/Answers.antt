@@ -14,7 +14,7 @@ use Rattle.orch_core.specs.Scenarios.{kept_at_start}
 use Rattle.openings.specs.declared.init.ServerInit.{ServerInit}
 use Rattle.server_model.specs.Worlds.{World}
 use Rattle.orch_core.proofs.Sources.{KnowsSources}
-use Rattle.orch_core.proofs.Starts.{Fits-start, IsOpening, all-loading, IsState-made, StartsBy-made, book-names, kept_made, moment-within, opened-by, sources-start, world_made}
+use Rattle.orch_core.proofs.Starts.{Fits-start, cause-carried, IsOpening, all-loading, IsState-made, StartsBy-made, book-names, kept_made, moment-within, opened-by, sources-start, world_made}
 use Rattle.orch_core.proofs.engine.Engine.make.Goals as goal
 
 pub make-requires-clause-fits : goal.make-requires-clause-fits
@@ -46,8 +46,8 @@ loaded_audit-requires g c =
     let count : c.len.result ≡ length c.args.s.now.opening.servers = len ∙ ap length settings ∙ length-map c.args.s.now.opening.servers (λ i. i.settings) in
     let counting : c.in_ok-rows.rows.items ≡ counted (length c.args.s.now.opening.servers) greatest_id given = c.in_ok-rows.ensures ∙ ap (λ (n : ℕ). counted n greatest_id given) count in
     let last : c.last_id-next.result ≡ last_id given = search rules in
-    let items : c.deref-7.result.now ≡ counted (length c.args.s.now.opening.servers) greatest_id given = c.deref-7.ensures.value ∙ counting in
-    opened-by c.args.s.now given c.deref-7.result.now c.last_id-next.result c.args.wait c.in_ok-configuration.configuration c.requires items last c.in_ok-configuration.ensures
+    let items : c.deref-5.result.now ≡ counted (length c.args.s.now.opening.servers) greatest_id given = c.deref-5.ensures.value ∙ counting in
+    opened-by c.args.s.now given c.deref-5.result.now c.last_id-next.result c.args.wait c.in_ok-configuration.configuration c.requires items last c.in_ok-configuration.ensures
 
 pub returns-in_err-audit-clause-kept : goal.returns-in_err-audit-clause-kept
 returns-in_err-audit-clause-kept g c =
@@ -80,8 +80,8 @@ invariant_of-result g c =
       counting = counting;
       moment_made = search rules;
       loads = search rules;
-      audits = c.in_ok-audit.ensures ∙ ap (λ (n : ℕ). audit_of (period_by c.in_ok-configuration.configuration) (n + 1) c.deref-7.result.now) last ∙ ap (audit_of (period_by c.in_ok-configuration.configuration) (last_id given + 1)) c.deref-7.ensures.value;
-      keeps = c.in_ok-recoveries.ensures ∙ ap (λ (xs : List Row). loading (period_by c.in_ok-configuration.configuration) xs c.in_ok-audit.audit.audit c.latest_moment-moment.result) c.deref-8.ensures.value;
+      audits = c.in_ok-audit.ensures ∙ ap (λ (n : ℕ). audit_of (period_by c.in_ok-configuration.configuration) (n + 1) c.deref-5.result.now) last ∙ ap (audit_of (period_by c.in_ok-configuration.configuration) (last_id given + 1)) c.deref-5.ensures.value;
+      keeps = c.in_ok-recoveries.ensures ∙ ap (λ (xs : List Row). loading (period_by c.in_ok-configuration.configuration) xs c.in_ok-audit.audit.audit c.latest_moment-moment.result) c.deref-6.ensures.value;
       completes = search rules;
       closes = search rules;
       empty = c.in_ok-slots.ensures;
@@ -106,8 +106,8 @@ returns-clause-ok g c =
       counting = counting;
       moment_made = search rules;
       loads = search rules;
-      audits = c.in_ok-audit.ensures ∙ ap (λ (n : ℕ). audit_of (period_by c.in_ok-configuration.configuration) (n + 1) c.deref-7.result.now) last ∙ ap (audit_of (period_by c.in_ok-configuration.configuration) (last_id given + 1)) c.deref-7.ensures.value;
-      keeps = c.in_ok-recoveries.ensures ∙ ap (λ (xs : List Row). loading (period_by c.in_ok-configuration.configuration) xs c.in_ok-audit.audit.audit c.latest_moment-moment.result) c.deref-8.ensures.value;
+      audits = c.in_ok-audit.ensures ∙ ap (λ (n : ℕ). audit_of (period_by c.in_ok-configuration.configuration) (n + 1) c.deref-5.result.now) last ∙ ap (audit_of (period_by c.in_ok-configuration.configuration) (last_id given + 1)) c.deref-5.ensures.value;
+      keeps = c.in_ok-recoveries.ensures ∙ ap (λ (xs : List Row). loading (period_by c.in_ok-configuration.configuration) xs c.in_ok-audit.audit.audit c.latest_moment-moment.result) c.deref-6.ensures.value;
       completes = search rules;
       closes = search rules;
       empty = c.in_ok-slots.ensures;
@@ -132,8 +132,8 @@ returns-clause-kept g c =
       counting = counting;
       moment_made = search rules;
       loads = search rules;
-      audits = c.in_ok-audit.ensures ∙ ap (λ (n : ℕ). audit_of (period_by c.in_ok-configuration.configuration) (n + 1) c.deref-7.result.now) last ∙ ap (audit_of (period_by c.in_ok-configuration.configuration) (last_id given + 1)) c.deref-7.ensures.value;
-      keeps = c.in_ok-recoveries.ensures ∙ ap (λ (xs : List Row). loading (period_by c.in_ok-configuration.configuration) xs c.in_ok-audit.audit.audit c.latest_moment-moment.result) c.deref-8.ensures.value;
+      audits = c.in_ok-audit.ensures ∙ ap (λ (n : ℕ). audit_of (period_by c.in_ok-configuration.configuration) (n + 1) c.deref-5.result.now) last ∙ ap (audit_of (period_by c.in_ok-configuration.configuration) (last_id given + 1)) c.deref-5.ensures.value;
+      keeps = c.in_ok-recoveries.ensures ∙ ap (λ (xs : List Row). loading (period_by c.in_ok-configuration.configuration) xs c.in_ok-audit.audit.audit c.latest_moment-moment.result) c.deref-6.ensures.value;
       completes = search rules;
       closes = search rules;
       empty = c.in_ok-slots.ensures;
@@ -147,7 +147,7 @@ pub complete-requires-clause-recoveries : goal.complete-requires-clause-recoveri
 complete-requires-clause-recoveries g c =
     let fits : Change → Type 0 = λ x. IsTrue (is_opening_change (length c.in_ok-book.book.names) x) in
     subst (All fits) (sym c.in_ok-recoveries.ensures)
-    (all-loading fits (period_by c.in_ok-configuration.configuration) c.deref-8.result.now c.in_ok-audit.audit.audit c.latest_moment-moment.result (λ r. refl))
+    (all-loading fits (period_by c.in_ok-configuration.configuration) c.deref-6.result.now c.in_ok-audit.audit.audit c.latest_moment-moment.result (λ r. refl))
 
 pub returns-in_err-recoveries-clause-kept : goal.returns-in_err-recoveries-clause-kept
 returns-in_err-recoveries-clause-kept g c =
@@ -162,3 +162,9 @@ returns-in_err-book-2-clause-kept g c =
     let failed : is_ok c.complete.result ≡ false = ap is_ok c.in_err-book-2.was in
     c.complete.ensures.kept ∙ ap (λ (made : Bool). kept_if made (g.K.Keeper.kept c.given_rows.new.keeper) (opening_changes c.in_ok-world.world c.latest_moment-moment.result c.in_ok-book.book c.args.s.now.known c.args.s.now.rules c.in_ok-recoveries.recoveries.items)) failed ∙ c.in_ok-given.ensures.kept
     ∙ ap (λ (made : Bool). kept_at_start made (g.K.Keeper.kept c.args.keeper.now) c.args.s.now) (sym fails)
+
+pub returns-in_err-book-2-clause-cause : goal.returns-in_err-book-2-clause-cause
+returns-in_err-book-2-clause-cause g c =
+    let p = err_from_is_err_and c.from_residual-in_err-book-2.result c.from_residual-in_err-book-2.ensures.1 in
+    let same : g.K.Keeper.faults c.given_rows.new.keeper ≡ g.K.Keeper.faults c.args.keeper.now = c.in_ok-given.ensures.cause.ok in
+    rw (p.1, p.2) (cause-carried _ _ _ c.complete.result _ same c.in_err-book-2.was c.complete.ensures.cause)
