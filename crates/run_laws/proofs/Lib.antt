@@ -23,6 +23,8 @@ pub mod Sameness
 pub mod Entering
 pub mod Counting
 pub mod Parts
+pub mod JobEntries
+pub mod Aims
 pub mod Entries
 pub mod Reloads
 pub mod Follows

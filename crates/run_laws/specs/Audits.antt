@@ -12,7 +12,8 @@ use Rattle.scenarios.specs.declared.scenario.Scenario.{Scenario}
 use Rattle.scenarios.specs.Scenarios.{period_of}
 use Rattle.turns.specs.declared.turn.Turn.{Turn}
 use Rattle.run_laws.specs.Begins.{BeginApartInTurn}
-use Rattle.run_laws.specs.Entries.{HasMore, entries_begun}
+use Rattle.run_laws.specs.Aims.{IsAimed}
+use Rattle.run_laws.specs.Entries.{HasMore, entries_begun, recoveries_begun}
 
 -- no turn lets the next id sink
 abbrev pub NextNeverSinks : Type 0
@@ -29,6 +30,10 @@ AnyTurnGivesPeriods s now = (t : Turn) → All (λ r. r.block ≡ period_of s r.
 -- what a turn would begin is apart
 abbrev pub AnyTurnBeginsApart : State → Type 0
 AnyTurnBeginsApart s = (t : Turn) → BeginApartInTurn (record { 0 = s.moment }) s.audit (entries_begun s t)
+
+-- what a turn would begin was asked for, and its entry tells what it is about
+abbrev pub AnyTurnAims : Type 0
+AnyTurnAims = (s : State) (t : Turn) → All (IsAimed s t) (recoveries_begun s t)
 
 -- but for a restart, which loads the kept rows, a turn adds just what it begins, and drops none
 abbrev pub TurnsAddWhatBegins : Type 0
