@@ -25,7 +25,7 @@ pub mod Counting
 pub mod Parts
 pub mod JobEntries
 pub mod Aims
-pub mod Entries
+pub mod Fates
 pub mod Reloads
 pub mod Follows
 pub mod Audits

@@ -1,5 +1,5 @@
 use Rattle.run_laws.proofs.Aims.{turn-aimed}
-use Rattle.run_laws.proofs.Entries.{more-after}
+use Rattle.run_laws.proofs.Fates.{restart-comes, turn-fates}
 use Rattle.run_laws.proofs.Parts.{apart-in-turn, periods-in-turn}
 use Rattle.run_laws.proofs.logging.recoveries_begin_apart.Goals as goal
 
@@ -13,4 +13,7 @@ pub returns-clause-aims : goal.returns-clause-aims
 returns-clause-aims c = turn-aimed
 
 pub returns-clause-all : goal.returns-clause-all
-returns-clause-all c = more-after
+returns-clause-all c = turn-fates
+
+pub returns-clause-restart : goal.returns-clause-restart
+returns-clause-restart c = λ s xs now comes rows. restart-comes s xs now rows comes
