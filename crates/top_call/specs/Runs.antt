@@ -7,7 +7,6 @@ use Rattle.audit_log.specs.Apart.{IsApart}
 use Rattle.run_laws.specs.Begins.{BeginApartInTurn}
 use Rattle.command_routes.specs.Routes.{route_of}
 use Rattle.commands.specs.declared.line.Line.{Line}
-use Rattle.commands.specs.declared.line.Lost.{Lost}
 use Rattle.commands.specs.declared.refusal.Refusal.{Refusal}
 use Rattle.commands.specs.declared.turn.CommandTurn.{CommandTurn}
 use Rattle.scenarios.specs.declared.scenario.Scenario.{Scenario}
@@ -36,7 +35,6 @@ use Rattle.orch_core.specs.After.{step}
 use Rattle.orch_core.specs.Runs.{Recorded, engine, run_turns, turns_of}
 use Rattle.orch_core.specs.Scenarios.{start}
 use Rattle.orch_core.specs.States.{State}
-use Rattle.orch_base.specs.declared.server.ServerNo.{ServerNo}
 use Rattle.recovery_plans.specs.Recoveries.{Recovery}
 use Rattle.recovery_reasons.specs.Reasons.{Fact, IsExplained}
 use Rattle.recovery_runs.specs.RunFinishes.{FinishesWell}
