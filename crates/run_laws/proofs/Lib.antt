@@ -33,3 +33,4 @@ pub mod Permissions
 pub mod Plain
 pub mod RunLaws
 pub mod JobTurns
+pub mod Lowest

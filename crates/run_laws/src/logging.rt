@@ -21,9 +21,10 @@ pub fn every_audit_is_apart()
 /// before it, is ended, and is acknowledged or began at least its own block period ago. Each has its cluster's period
 /// by the scenario. Each was asked for in the turn, by a command that names the failed server or by a scan whose
 /// analysis asks for it; its entry has that server, its cluster's label, and its kind, by whether the book has a source
-/// of it. But for a restart, which loads the kept rows, a turn adds no other recovery, drops none, and leaves each entry
-/// as it was: but that of its own job, which ends where the job is done or fails, and those of a cluster that a command
-/// acknowledges. A restart that is handed the rows by which all was kept keeps each, and ends the others as interrupted.
+/// of it. But for a restart, which loads the kept rows, a turn adds no other recovery, drops none, and leaves each
+/// entry as it was: but that of its own job, which ends where the job is done or fails, and those of a cluster that a
+/// command acknowledges. A restart that is handed the rows by which all was kept keeps each, and ends the others as
+/// interrupted.
 pub fn recoveries_begin_apart()
     ensures apart { InEveryState AnyTurnBeginsApart }
     ensures periods { InEveryStateOf AnyTurnGivesPeriods }

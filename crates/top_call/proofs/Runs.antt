@@ -29,6 +29,7 @@ use Rattle.run_laws.specs.Ready.{Ready}
 use Rattle.recovery_runs.specs.Finishes.{IsFinish}
 use Rattle.run_laws.specs.Runs.{ComesTo}
 use Rattle.run_laws.proofs.JobTurns.{named-job, others-stay}
+use Rattle.run_laws.proofs.Lowest.{lowest-refuses}
 use Rattle.run_laws.proofs.Counting.{apart-comes}
 use Rattle.run_laws.proofs.Aims.{turn-aimed}
 use Rattle.run_laws.proofs.Fates.{restart-comes, turn-fates}
@@ -236,6 +237,7 @@ tell_truly words bytes = λ w run ts id r entry is on at.
 pub obeys : (words : List (List ℕ)) (bytes : List ℕ) → ObeysTable words bytes
 obeys words bytes = λ w k kept run rows c is comes here. record {
   answer = answers_by_table run.state c;
+  lowest = lowest-refuses run.state c.command;
   refused = refused_changes_nothing rows run.state c;
   begun = λ job begins.
       let x = begun_there run.state c job begins in

@@ -26,6 +26,7 @@ use Rattle.run_laws.specs.Aims.{IsAimed}
 use Rattle.run_laws.specs.Entries.{entries_begun, recoveries_begun}
 use Rattle.run_laws.specs.Fates.{AuditIs, RestartKeepsAll}
 use Rattle.run_laws.specs.JobEntries.{EntriesHaveJobs}
+use Rattle.run_laws.specs.Lowest.{RefusedByLowest}
 use Rattle.run_laws.specs.Jobs.{JobsHaveLeases, JobsLeaveOthers, LeasesNameJobs}
 use Rattle.orch_core.specs.Keeping.{asks}
 use Rattle.orch_core.specs.Permission.{IsAnswer, refusal_at}
@@ -48,9 +49,9 @@ use Rattle.top_call.specs.Ends.{IsTask}
 -- ---- states
 
 -- What holds of a state with its jobs in flight: it is held, quiet or not, its servers are placed, and its recoveries
--- are apart: each cluster has at most one that isn't ended. Each of these has its unended job, and each job's entry isn't
--- ended. A lease names an unended job, a job has the leases of all that it may still change, and its turn leaves every
--- other server as it is. Where the state is quiet it is sound, and its servers are safe.
+-- are apart: each cluster has at most one that isn't ended. Each of these has its unended job, and each job's entry
+-- isn't ended. A lease names an unended job, a job has the leases of all that it may still change, and its turn leaves
+-- every other server as it is. Where the state is quiet it is sound, and its servers are safe.
 pub record IsSafeState (s : State) : Type 0 where
   pub placed : Placed s.world
   pub held : HeldState s
@@ -80,10 +81,12 @@ pub record Begins (rows : List Row) (s : State) (c : CommandTurn) (job : ℕ) : 
   pub audit : (step rows s (turn.Act (act.Command c))).audit ≡ with_entry s.audit begun.entry
   pub kept : changes_of rows s (turn.Act (act.Command c)) ≡ entry_kept begun.entry
 
--- a command turn is refused exactly with the refusal of the permission table, else it begins its job or is done; a
--- refused one changes nothing, and no kept row
+-- a command turn is refused exactly with the refusal of the permission table, else it begins its job or is done; that
+-- refusal is what one of its checks refuses, and none of them refuses with a lower number; a refused one changes
+-- nothing, and no kept row
 pub record Obeys (rows : List Row) (s : State) (c : CommandTurn) : Type 0 where
   pub answer : IsAnswer (route_of c.command.name) (refusal_at s c.command) (reply_of s (turn.Act (act.Command c)))
+  pub lowest : RefusedByLowest s c.command
   pub refused : (r : Refusal) → reply_of s (turn.Act (act.Command c)) ≡ answered.Refused r
       → (changes_of rows s (turn.Act (act.Command c)) ≡ []) × (step rows s (turn.Act (act.Command c)) ≡ s)
   pub begun : (job : ℕ) → reply_of s (turn.Act (act.Command c)) ≡ answered.Begun job → Begins rows s c job
@@ -147,10 +150,10 @@ FinishWell words bytes = (w : Work) (run : Recorded) (ts : List Turn) (rows : Li
 
 -- ---- why replicas are lost, and who is chosen
 
--- The reasons of those that a recovery in flight has lost after its next turn, whether it goes on, is done or fails, and
--- what it drained, whom it chose and among whom, and whom it promoted, are facts that were true of the servers and the
--- book in one of its turns, from the one on in which it began: where each that was true counts, all of them count. So it
--- is by whatever rows the turns lead there.
+-- The reasons of those that a recovery in flight has lost after its next turn, whether it goes on, is done or fails,
+-- and what it drained, whom it chose and among whom, and whom it promoted, are facts that were true of the servers and
+-- the book in one of its turns, from the one on in which it began: where each that was true counts, all of them count.
+-- So it is by whatever rows the turns lead there.
 pub record TellsTruly (w : Work) (ts : List Turn) (s : State) (id : ℕ) (r : Recovery) (entry : Option ℕ) : Type 0 where
   pub through : Through w.scenario w.task.waits ts s
   pub began : (by : Through w.scenario w.task.waits ts s) → Began (start w.scenario w.task.waits by.rows) by.xs r entry
