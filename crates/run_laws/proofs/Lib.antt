@@ -34,3 +34,4 @@ pub mod Plain
 pub mod RunLaws
 pub mod JobTurns
 pub mod Lowest
+pub mod Failures

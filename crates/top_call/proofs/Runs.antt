@@ -29,6 +29,7 @@ use Rattle.run_laws.specs.Ready.{Ready}
 use Rattle.recovery_runs.specs.Finishes.{IsFinish}
 use Rattle.run_laws.specs.Runs.{ComesTo}
 use Rattle.run_laws.proofs.JobTurns.{named-job, others-stay}
+use Rattle.run_laws.proofs.Failures.{plans-fail}
 use Rattle.run_laws.proofs.Lowest.{lowest-refuses}
 use Rattle.run_laws.proofs.Counting.{apart-comes}
 use Rattle.run_laws.proofs.Aims.{turn-aimed}
@@ -137,6 +138,7 @@ module _ (w : Work) (ts : List Turn) (kept : Option (List Row)) (run : Recorded)
     named = λ n id is. named-job run.state.jobs id (ap is_some (goes.held.flight.leased.named n id is).1);
     leased = goes.held.flight.leased.each;
     others = λ rows id n apart. others-stay rows run.state id n goes.held apart;
+    fails = plans-fail run.state;
     sound = goes.sound;
     safe = λ q. (goes.sound q).flight.safe;
   }

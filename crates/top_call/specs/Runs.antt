@@ -26,6 +26,7 @@ use Rattle.run_laws.specs.Aims.{IsAimed}
 use Rattle.run_laws.specs.Entries.{entries_begun, recoveries_begun}
 use Rattle.run_laws.specs.Fates.{AuditIs, RestartKeepsAll}
 use Rattle.run_laws.specs.JobEntries.{EntriesHaveJobs}
+use Rattle.run_laws.specs.Failures.{PlansFailForWhatBefell}
 use Rattle.run_laws.specs.Lowest.{RefusedByLowest}
 use Rattle.run_laws.specs.Jobs.{JobsHaveLeases, JobsLeaveOthers, LeasesNameJobs}
 use Rattle.orch_core.specs.Keeping.{asks}
@@ -51,7 +52,8 @@ use Rattle.top_call.specs.Ends.{IsTask}
 -- What holds of a state with its jobs in flight: it is held, quiet or not, its servers are placed, and its recoveries
 -- are apart: each cluster has at most one that isn't ended. Each of these has its unended job, and each job's entry
 -- isn't ended. A lease names an unended job, a job has the leases of all that it may still change, and its turn leaves
--- every other server as it is. Where the state is quiet it is sound, and its servers are safe.
+-- every other server as it is; a plan's job that fails was befallen by its cause in that turn. Where the state is quiet
+-- it is sound, and its servers are safe.
 pub record IsSafeState (s : State) : Type 0 where
   pub placed : Placed s.world
   pub held : HeldState s
@@ -60,6 +62,7 @@ pub record IsSafeState (s : State) : Type 0 where
   pub named : LeasesNameJobs s
   pub leased : JobsHaveLeases s
   pub others : JobsLeaveOthers s
+  pub fails : PlansFailForWhatBefell s
   pub sound : IsQuiet s.world → SoundState s
   pub safe : IsQuiet s.world → Safe s.world
 
