@@ -21,7 +21,8 @@ use Rattle.recovery_laws.specs.Rings.{HeldRings}
 use Rattle.recovery_covers.specs.Covers.{Covers, Follows, HasOnePlace, IsAsNamed, IsTold, follower_nos, leader, listed, lost_nos, owed, times}
 use Rattle.recovery_covers.specs.SoFar.{CoversSoFar}
 use Rattle.recovery_covers.proofs.Times.{self-all, self-times}
-use Rattle.recovery_outcomes.proofs.Done.{turn-done}
+use Rattle.recovery_outcomes.specs.Chains.{IsChain}
+use Rattle.recovery_outcomes.proofs.Done.{turn-chain, turn-done}
 use Rattle.recovery_outcomes.proofs.Placing.{replica-placed}
 use Rattle.recovery_histories.specs.Kept.{IsBeginning, Keeps, KeptByChosen, SameAim}
 use Rattle.recovery_histories.proofs.Keeping.{old-begins, promoted-keeps, taken-kept}
@@ -143,6 +144,9 @@ module _ (f : Flight) (us : List Unended) (t : RecoveryTurn f us) where
       module _ (lines : List Line) (done : IsDoneIn f us t lines) where
         pub done-told : IsTold (world_then f us t) (recovery_then f us t) lines
         done-told = turn-done f.world t.book t.at_read t.at_moment t.recovery held.flight.placed rings mine so-far lines done
+
+        pub done-chain : IsChain (recovery_then f us t)
+        done-chain = turn-chain f.world t.book t.at_read t.at_moment t.recovery held.flight.placed rings mine so-far lines done
 
         -- by what the recovery was before it
         done-covers : Covers (world_then f us t) t.recovery.purpose t.recovery.failed t.recovery.replicas (outcome_then f us t)

@@ -8,6 +8,7 @@ ghost use Rattle.job_laws.specs.Flights.{Flight};
 ghost use Rattle.recovery_plans.specs.declared.purpose.Purpose.TheVariants as purpose;
 ghost use Rattle.recovery_plans.specs.Named.{IsNamedRecovery};
 ghost use Rattle.recovery_covers.specs.Covers.{HasOnePlace, IsTold, times};
+ghost use Rattle.recovery_outcomes.specs.Chains.{IsChain};
 ghost use Rattle.recovery_histories.specs.Kept.{IsBeginning, Keeps, SameAim};
 ghost use Rattle.unended_jobs.specs.declared.unended.Unended.{Unended as AnUnended};
 ghost use Rattle.unended_laws.specs.Flights.{HeldJobs, SoundJobs};
@@ -15,7 +16,8 @@ ghost use Rattle.covered_laws.specs.Flights.{CoveredJobs, KeptJobs};
 ghost use Rattle.covered_laws.specs.Turns.{IsDoneIn, IsNamedOutcome, RecoveryTurn, outcome_then, recovery_then, world_then};
 
 /// A turn leaves a recovery its purpose, its failed server and its replicas; and one in which it is done leaves these
-/// replicas covered, with the outcome's lines, each in one place; and the servers of the outcome are there.
+/// replicas covered, with the outcome's lines, each in one place, and its followers a chain only after a swap; and the
+/// servers of the outcome are there.
 pub fn finished_recoveries_cover()
     ensures aim { (f : Flight) (us : List AnUnended) (t : RecoveryTurn f us) →
         SameAim t.recovery (recovery_then f us t) }
@@ -23,6 +25,9 @@ pub fn finished_recoveries_cover()
         (lines : List ALine) →
         IsDoneIn f us t lines → HeldJobs f us → CoveredJobs f us →
         IsTold (world_then f us t) (recovery_then f us t) lines }
+    ensures chain { (f : Flight) (us : List AnUnended) (t : RecoveryTurn f us)
+        (lines : List ALine) →
+        IsDoneIn f us t lines → HeldJobs f us → CoveredJobs f us → IsChain (recovery_then f us t) }
     ensures placed { (f : Flight) (us : List AnUnended) (t : RecoveryTurn f us)
         (lines : List ALine) →
         IsDoneIn f us t lines → HeldJobs f us → CoveredJobs f us →

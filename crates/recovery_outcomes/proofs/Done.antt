@@ -56,6 +56,7 @@ use Rattle.recovery_ends.proofs.Shapes.{same-head, fits-step}
 use Rattle.recovery_laws.proofs.Taking.{fits}
 use Rattle.recovery_covers.specs.Covers.{times, Follows, HasSwapped, IsAsNamed, Covers, IsTold}
 use Rattle.recovery_covers.proofs.Covering.{swapped-on}
+use Rattle.recovery_outcomes.specs.Chains.{IsChain}
 use Rattle.recovery_covers.specs.SoFar.{of_queue, stopped_nos, Leads, FollowsBy, OldFollows, CoversAt, CoversSoFar}
 
 -- ---- only the last operation ends a job well
@@ -174,11 +175,28 @@ module _ (w : World) (r : Recovery) (lines : List Line) (c : CoversAt w r (stage
       leads (inl e) = inl e
       leads (inr x) = inr x.1.master
 
+  -- whom the followers follow
+  close-chain : IsChain r
+  close-chain = go c.leads
+    where
+      direct : r.outcome.promoted ≡ r.chosen → (x : Follower) → FollowsBy r.chosen r.outcome.promoted x → r.outcome.promoted ≡ Some x.source
+      direct e x (inl g) = e ∙ g
+      direct e x (inr g) = g.1
+
+      go : Leads r (stage.Close lines) → IsChain r
+      go (inl e) = inl (All-weaker (FollowsBy r.chosen r.outcome.promoted) (λ x. r.outcome.promoted ≡ Some x.source) (direct e) r.outcome.followers c.follow)
+      go (inr l) = inr (l.1, c.follow)
+
+-- what it comes to
+record IsClosing (w : World) (r : Recovery) (lines : List Line) : Type 0 where
+  told : IsTold w r lines
+  chain : IsChain r
+
 module _ (w : World) (read : ℕ) (now : Moment) (r : Recovery) (o : Op) (rest : List Op) (placed : Placed w) (held : HeldRecovery w r) (c : CoversSoFar w r) (is : r.core.ops ≡ o ∷ rest) (lines : List Line) where
   abbrev ends-so : Op → Type 0
   ends-so x = deed_of x ≡ deed.Finish lines
 
-  finishing : ends-so o → (s : Stage) → o ∷ rest ≡ tail_of s → CoversAt w r s → IsTold w r lines
+  finishing : ends-so o → (s : Stage) → o ∷ rest ≡ tail_of s → CoversAt w r s → IsClosing w r lines
   finishing d s e at = go s e at
     where
       first : (x : Op) (xs : List Op) → o ∷ rest ≡ x ∷ xs → ends-so x
@@ -192,8 +210,11 @@ module _ (w : World) (read : ℕ) (now : Moment) (r : Recovery) (o : Op) (rest :
       leader-of ls (inl l) = inl l
       leader-of ls (inr l) = inr l.1
 
-      go : (x : Stage) → o ∷ rest ≡ tail_of x → CoversAt w r x → IsTold w r lines
-      go (stage.Close ls) t a = record { covers = close-covers w r ls a; told = sym (ap lines-of (first (op.Finish ls) [] t)) ∙ a.stage.1; leads = leader-of ls a.leads }
+      go : (x : Stage) → o ∷ rest ≡ tail_of x → CoversAt w r x → IsClosing w r lines
+      go (stage.Close ls) t a = record {
+        told = record { covers = close-covers w r ls a; told = sym (ap lines-of (first (op.Finish ls) [] t)) ∙ a.stage.1; leads = leader-of ls a.leads };
+        chain = close-chain w r ls a;
+      }
       go (stage.Drain n) t a = let bad = first (op.Status n None) _ t in cc
       go (stage.Look n b) t a = let bad = first (op.Status n None) _ t in cc
       go (stage.Trail n b) t a = let bad = first (op.Status n None) _ t in cc
@@ -225,38 +246,43 @@ module _ (w : World) (read : ℕ) (now : Moment) (r : Recovery) (o : Op) (rest :
       go (stage.Halted n b) t a = cc
       go (stage.Switched m d) t a = cc
 
-  at-finish : ends-so o → IsTold w r lines
+  at-finish : ends-so o → IsClosing w r lines
   at-finish d = go (fits-step r.stage o rest (fits w read now r o rest placed held is))
     where
       or-true : (b : Bool) → ((b && false) || true) ≡ true
       or-true true = refl
       or-true false = refl
 
-      go : ((ends r.stage (deed_of o) ≡ false) × Fits r.stage rest) ⊎ (o ∷ rest ≡ tail_of r.stage) → IsTold w r lines
+      go : ((ends r.stage (deed_of o) ≡ false) × Fits r.stage rest) ⊎ (o ∷ rest ≡ tail_of r.stage) → IsClosing w r lines
       go (inl p) = absurd (false≢true (sym p.0 ∙ ap (ends r.stage) d ∙ or-true (reads_last r.stage)))
       go (inr e) = finishing d r.stage e c.at
 
   -- in the turn whose operation says so
-  done-told : by_deed w read now r.core rest (deed_of o) ≡ attempt.Ends lines → IsTold w (record r { core = ended r.core }) lines
+  done-told : by_deed w read now r.core rest (deed_of o) ≡ attempt.Ends lines → IsClosing w (record r { core = ended r.core }) lines
   done-told e =
-      let told = at-finish (finish-of r.core rest w read now (deed_of o) lines e) in record { covers = told.covers; told = told.told; leads = ended-leads told.leads }
+      let is = at-finish (finish-of r.core rest w read now (deed_of o) lines e) in
+      record { told = record { covers = is.told.covers; told = is.told.told; leads = ended-leads is.told.leads }; chain = ended-chain is.chain }
     where
+      ended-chain : IsChain r → IsChain (record r { core = ended r.core })
+      ended-chain (inl direct) = inl direct
+      ended-chain (inr l) = inr (swapped-on r r.stage (ended r.core) l.0, l.1)
+
       ended-leads : (r.outcome.promoted ≡ r.chosen) ⊎ HasSwapped r → (r.outcome.promoted ≡ r.chosen) ⊎ HasSwapped (record r { core = ended r.core })
       ended-leads (inl l) = inl l
       ended-leads (inr l) = inr (swapped-on r r.stage (ended r.core) l)
 
 -- ---- a whole turn
 
-pub turn-done : (w : World) (b : BookState) (read : ℕ) (now : Moment) (r : Recovery) → Placed w → HeldRings w b.rings → HeldRecovery w r → CoversSoFar w r → (lines : List Line) → (taken w b read now r).step ≡ step.Done lines
-    → IsTold (run w (taken w b read now r).exchanges) (taken w b read now r).recovery lines
-turn-done w b read now r placed rings held c lines = go (taken w b read now r) (taken-walks w b read now r)
+turn-closes : (w : World) (b : BookState) (read : ℕ) (now : Moment) (r : Recovery) → Placed w → HeldRings w b.rings → HeldRecovery w r → CoversSoFar w r → (lines : List Line) → (taken w b read now r).step ≡ step.Done lines
+    → IsClosing (run w (taken w b read now r).exchanges) (taken w b read now r).recovery lines
+turn-closes w b read now r placed rings held c lines = go (taken w b read now r) (taken-walks w b read now r)
   where
     lines-in : JobStep → List Line
     lines-in step.Going = []
     lines-in (step.Done xs) = xs
     lines-in (step.Failed x ls) = []
 
-    go : (t : Taken) → Turning w b read now r t → t.step ≡ step.Done lines → IsTold (run w t.exchanges) t.recovery lines
+    go : (t : Taken) → Turning w b read now r t → t.step ≡ step.Done lines → IsClosing (run w t.exchanges) t.recovery lines
     go t (move.Waits ds o rest ob es j did e) h = cc
     go t (move.Acts ds o rest ob es j did e end) h = cc
     go t (move.Bears ds o rest x ob e stops is may) h = cc
@@ -264,3 +290,11 @@ turn-done w b read now r placed rings held c lines = go (taken w b read now r) (
     go t (move.Finishes {d} ds o rest ls is e) h =
         let before = decisions-keep w b now (λ x. HeldRecovery w x × (CoversSoFar w x ⊎ IsStuck x)) (decides-before w b read now placed rings) ds (held, inl c) in
         done-told w read now d o rest placed before.0 (covered w b read now placed rings d o rest is before.1) is lines (e ∙ ap attempt.Ends (ap lines-in h))
+
+module _ (w : World) (b : BookState) (read : ℕ) (now : Moment) (r : Recovery) (placed : Placed w) (rings : HeldRings w b.rings) (held : HeldRecovery w r) (c : CoversSoFar w r) (lines : List Line)
+    (done : (taken w b read now r).step ≡ step.Done lines) where
+  pub turn-done : IsTold (run w (taken w b read now r).exchanges) (taken w b read now r).recovery lines
+  turn-done = (turn-closes w b read now r placed rings held c lines done).told
+
+  pub turn-chain : IsChain (taken w b read now r).recovery
+  turn-chain = (turn-closes w b read now r placed rings held c lines done).chain

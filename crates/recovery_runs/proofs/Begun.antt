@@ -22,7 +22,11 @@ use Rattle.command_routes.specs.declared.route.Route.TheVariants.{Discovers, For
 use Rattle.command_routes.specs.Routes.{route_of}
 use Rattle.command_jobs.specs.Jobs.{job_by, leases_by, refusal_by, regroup_about}
 use Rattle.asking_commands.specs.Answers.{allowed, lines_of, permitted}
-use Rattle.book_views.specs.Sources.{label_at}
+use Rattle.book_views.specs.Sources.{label_at, replicas_of}
+use Rattle.permission.specs.Views.{source_of}
+use Rattle.recovery_permits.specs.Recoveries.{purpose_by}
+use Rattle.recovery_plans.specs.Beginning.{begun_recovery}
+use Rattle.run_laws.proofs.Aims.{scan-each}
 use Rattle.audit_log.specs.Audits.{AuditState}
 use Rattle.audit_log.specs.Audits.{begun as begun_audit}
 use Rattle.book_commands.specs.declared.decided.Decided.{Decided}
@@ -51,7 +55,8 @@ use Rattle.run_laws.specs.Entries.{attempt_in, recoveries_scanned}
 use Rattle.run_laws.specs.Ready.{AreShort, Ready}
 use Rattle.run_laws.proofs.Periods.{short-by}
 use Rattle.run_laws.proofs.ReadyOutcomes.{within-book}
-use Rattle.recovery_runs.specs.Begun.{BeginsOnce, jobs_begun, jobs_of, jobs_in_act}
+use Rattle.recovery_runs.specs.Begun.{BeginsOnce, TellsAll, jobs_begun, jobs_of, jobs_in_act}
+use Rattle.recovery_runs.proofs.Tellings.{listed, tells-own}
 
 -- what an outcome begins in a state
 module _ (state : State) where
@@ -99,7 +104,7 @@ module _ (state : State) where
     where
       go : (i : Option ServerNo) → Once (regroup_about b id wait i)
       go None = tt
-      go (Some i) = record { fresh = refl; replicas = refl; once = regroup-are b i }
+      go (Some i) = record { fresh = refl; replicas = refl; once = regroup-are b i; tells = tells-own None (replicas_of b i) }
 
   -- ---- recoveries
 
@@ -107,8 +112,13 @@ module _ (state : State) where
   new-recovery (Ok x) once = All-cons Once (recovery_job x) [] (once x refl) none-new
   new-recovery (Err why) once = none-new
 
-  begins-once : (x : RecoveryBegins) → IsFresh x.job → NamesReplicasOnce b x → Once (recovery_job x)
-  begins-once x fresh names = record { fresh = fresh; replicas = names.replicas; once = names.once }
+  begins-once : (x : RecoveryBegins) → IsFresh x.job → NamesReplicasOnce b x → TellsAll x.job → Once (recovery_job x)
+  begins-once x fresh names tells = record { fresh = fresh; replicas = names.replicas; once = names.once; tells = tells }
+
+  -- by whether the failed server has a source
+  tells-by : (o : Option ServerNo) (job wait : ℕ) (f : ServerNo) → TellsAll (begun_recovery (purpose_by o) job wait f (replicas_of b f) (replicas_of b f))
+  tells-by None job wait f = tells-own None (replicas_of b f)
+  tells-by (Some s) job wait f = tells-own (Some s) (replicas_of b f)
 
   module _ (w : World) (audit : AuditState) (a : Attempt) (wait job : ℕ) where
     recovery-once : (f : ServerNo) (x : RecoveryBegins) → recovery_try w b audit a wait job f ≡ Ok x → Once (recovery_job x)
@@ -116,20 +126,23 @@ module _ (state : State) where
         begins-once x
         (subst (λ (y : RecoveryBegins). IsFresh y.job) (unrefused (recovery_refusal w b audit a f) (recovery_begins b audit a.now a.block wait job f) x h).1 refl)
         (recovery-names w b audit a wait job f x h)
+        (subst (λ (y : RecoveryBegins). TellsAll y.job) (unrefused (recovery_refusal w b audit a f) (recovery_begins b audit a.now a.block wait job f) x h).1 (tells-by (source_of b f) job wait f))
 
-    takeover-once : (i d : ServerNo) (x : RecoveryBegins) → d.0 < length b.names → takeover_try w b audit a wait job i d ≡ Ok x → Once (recovery_job x)
-    takeover-once i d x there h =
+    takeover-once : (i d : ServerNo) (x : RecoveryBegins) → i.0 < length b.names → d.0 < length b.names → takeover_try w b audit a wait job i d ≡ Ok x → Once (recovery_job x)
+    takeover-once i d x here there h =
         begins-once x
         (subst (λ (y : RecoveryBegins). IsFresh y.job) (unrefused (takeover_refusal w b audit a i d) (takeover_begins b audit a.now a.block wait job i d) x h).1 refl)
         (takeover-names w b audit a wait job i d x there h)
+        (subst (λ (y : RecoveryBegins). TellsAll y.job) (unrefused (takeover_refusal w b audit a i d) (takeover_begins b audit a.now a.block wait job i d) x h).1 (listed b i d here))
 
   -- of several, each as it begins
   all-once : (count : ℕ) (leases : List (Option ℕ)) (a : AuditState) (last : ℕ) (xs : List RecoveryBegins) → BeginInTurn count leases a last xs → All (NamesReplicasOnce b) xs
-      → All Once (map recovery_job xs)
-  all-once count leases a last [] each names = none-new
-  all-once count leases a last (x ∷ xs) each names =
-      All-cons Once (recovery_job x) (map recovery_job xs) (begins-once x each.0.fresh (All-head (NamesReplicasOnce b) x xs names))
-      (all-once count (taken leases x.list x.job.core.id) (begun_audit a x.entry) x.job.core.id xs each.1 (All-tail (NamesReplicasOnce b) x xs names))
+      → All (λ x. TellsAll x.job) xs → All Once (map recovery_job xs)
+  all-once count leases a last [] each names tells = none-new
+  all-once count leases a last (x ∷ xs) each names tells =
+      All-cons Once (recovery_job x) (map recovery_job xs) (begins-once x each.0.fresh (All-head (NamesReplicasOnce b) x xs names) (All-head (λ (y : RecoveryBegins). TellsAll y.job) x xs tells))
+      (all-once count (taken leases x.list x.job.core.id) (begun_audit a x.entry) x.job.core.id xs each.1 (All-tail (NamesReplicasOnce b) x xs names)
+      (All-tail (λ (y : RecoveryBegins). TellsAll y.job) x xs tells))
 
 -- ---- in a state
 
@@ -142,10 +155,11 @@ module _ (s : State) (is : IsBook s.book) where
       all-once s (length s.book.names) s.book.leases s.audit s.last_job (recoveries_scanned s)
       (scan-in-turn s.world s.book (attempt_in s) s.configuration.wait s.audit s.last_job is (λ n. short-by s.configuration periods (label_at s.book n)))
       (scan-names s.world s.book (attempt_in s) s.configuration.wait s.audit s.last_job)
+      (scan-each s.world s.book (attempt_in s) s.configuration.wait (λ x. TellsAll x.job) (λ z e asks. tells-by s (source_of s.book e.no) (z.last + 1) s.configuration.wait e.no) s.audit s.last_job)
 
   -- ---- any command
 
-  module _ (t : CommandTurn) (d_within : is_within (length s.book.names) t.command.d ≡ true) where
+  module _ (t : CommandTurn) (i_within : is_within (length s.book.names) t.command.i ≡ true) (d_within : is_within (length s.book.names) t.command.d ≡ true) where
     asks : Begins_new (question s.book s.audit s.reads t)
     asks = new-asked s s.reads (permitted s.book t.command) (lines_of s.book s.audit.recoveries t t.command.name)
 
@@ -153,16 +167,22 @@ module _ (s : State) (is : IsBook s.book) where
     given none some here each None = here
     given none some here each (Some i) = each i
 
+    given-within : (none : Outcome) (some : ServerNo → Outcome) → Begins_new none → ((i : ServerNo) → i.0 < length s.book.names → Begins_new (some i)) → (i : Option ServerNo)
+        → is_within (length s.book.names) i ≡ true → Begins_new (given_or none some i)
+    given-within none some here each None within = here
+    given-within none some here each (Some i) within = each i (ltb-true i.0 (length s.book.names) within)
+
     new-recovered : (i : ServerNo) → Begins_new (recovered s.world s.book s.audit s.configuration (numbers_of s) i)
     new-recovered i =
         new-recovery s (recovery_try s.world s.book s.audit (by_hand s.book s.configuration (numbers_of s) i) s.configuration.wait (s.last_job + 1) i)
         (recovery-once s s.world s.audit (by_hand s.book s.configuration (numbers_of s) i) s.configuration.wait (s.last_job + 1) i)
 
-    new-taken_over : (d : Option ServerNo) → is_within (length s.book.names) d ≡ true → (i : ServerNo) → Begins_new (taken_over s.world s.book s.audit s.configuration (numbers_of s) d i)
-    new-taken_over None there i = none-new s
-    new-taken_over (Some d) there i =
+    new-taken_over : (d : Option ServerNo) → is_within (length s.book.names) d ≡ true → (i : ServerNo) → i.0 < length s.book.names
+        → Begins_new (taken_over s.world s.book s.audit s.configuration (numbers_of s) d i)
+    new-taken_over None there i here = none-new s
+    new-taken_over (Some d) there i here =
         new-recovery s (takeover_try s.world s.book s.audit (by_hand s.book s.configuration (numbers_of s) i) s.configuration.wait (s.last_job + 1) i d)
-        (λ x h. takeover-once s s.world s.audit (by_hand s.book s.configuration (numbers_of s) i) s.configuration.wait (s.last_job + 1) i d x (ltb-true d.0 (length s.book.names) there) h)
+        (λ x h. takeover-once s s.world s.audit (by_hand s.book s.configuration (numbers_of s) i) s.configuration.wait (s.last_job + 1) i d x here (ltb-true d.0 (length s.book.names) there) h)
 
     new-route : (r : Route) → Begins_new (outcome_by s.world s.book s.audit s.configuration (numbers_of s) t r)
     new-route Discovers =
@@ -179,14 +199,14 @@ module _ (s : State) (is : IsBook s.book) where
         (job_by s.world s.book t.command p (s.last_job + 1) s.configuration.wait) (job-once s s.world t.command p (s.last_job + 1) s.configuration.wait)
     new-route Recovers = given (refusal s.reads UnknownInstance) (recovered s.world s.book s.audit s.configuration (numbers_of s)) (none-new s) new-recovered t.command.i
     new-route TakesOver =
-        given (refusal s.reads UnknownInstance) (taken_over s.world s.book s.audit s.configuration (numbers_of s) t.command.d) (none-new s) (new-taken_over t.command.d d_within)
-        t.command.i
+        given-within (refusal s.reads UnknownInstance) (taken_over s.world s.book s.audit s.configuration (numbers_of s) t.command.d) (none-new s) (new-taken_over t.command.d d_within)
+        t.command.i i_within
 
 -- ---- any turn
 
 pub command-once : (count : ℕ) (s : State) → Ready count s → (c : CommandTurn) → IsCommand count c → All (BeginsOnce s.book) (jobs_of s (command_outcome s c))
 unfolding outcome_of
-command-once count s ready c command = new-route s ready.book c (within-book count s ready c command).1 (route_of c.command.name)
+command-once count s ready c command = let within = within-book count s ready c command in new-route s ready.book c within.0 within.1 (route_of c.command.name)
 
 pub scan-once : (count : ℕ) (s : State) → Ready count s → All (BeginsOnce s.book) (jobs_of s (scan_outcome s))
 scan-once count s ready = scan-new s ready.book ready.periods

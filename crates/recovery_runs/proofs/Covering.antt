@@ -1,5 +1,5 @@
 -- Each turn leaves recoveries covered, kept, speaking and aimed.
-use Rattle.std.proofs.Common.{ℕ, List, [], refl, sym, subst}
+use Rattle.std.proofs.Common.{ℕ, List, refl, sym, subst}
 use Rattle.std.specs.Prelude.{All}
 use Rattle.std.proofs.lemmas.List.Elements.{All-weaker}
 use Rattle.orch_base.specs.Memory.{next_count}

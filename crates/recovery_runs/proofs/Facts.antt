@@ -1,18 +1,15 @@
 -- The lost of a recovery have reasons, from its beginning on.
-use Rattle.std.proofs.Common.{◌≡◌, ◌∙◌, ℕ, Bool, true, List, [], ◌++◌, refl, sym, subst, Option, Some, None}
+use Rattle.std.proofs.Common.{◌≡◌, ◌∙◌, ℕ, Bool, true, List, ◌++◌, refl, sym, subst, Option, Some, None}
 use Rattle.std.specs.Prelude.{◌==◌, All}
 use Rattle.std.specs.Option.{option_map}
 use Rattle.std.proofs.lemmas.List.Elements.{All-nil, All-weaker}
 use Rattle.orch_base.specs.Memory.{next_count}
-use Rattle.orch_base.specs.declared.server.ServerNo.{ServerNo}
-use Rattle.commands.specs.declared.line.Lost.{Lost}
 use Rattle.instance_keeper.specs.Book.{BookState}
 use Rattle.kept_rows.specs.declared.row.Row.{Row}
 use Rattle.job_laws.proofs.Lists.{All-find}
 use Rattle.jobs_in_flight.specs.Jobs.{job_at, jobs_turned}
 use Rattle.jobs_in_flight.proofs.Numbers.{found-number}
 use Rattle.operations.specs.Turns.{is_going}
-use Rattle.recovery_plans.specs.declared.outcome.LostReplica.{LostReplica}
 use Rattle.recovery_plans.specs.Recoveries.{Recovery}
 use Rattle.recovery_reasons.proofs.Facts.{begun-explained}
 use Rattle.recovery_reasons.specs.Reasons.{ExplainsTruly, Fact, IsExplained}

@@ -3,9 +3,7 @@ use Rattle.std.proofs.Common.{◌≡◌, ◌∙◌, ℕ, Bool, List, refl, sym, 
 use Rattle.std.specs.Prelude.{◌==◌, All}
 use Rattle.std.specs.Option.{option_map}
 use Rattle.orch_base.specs.Memory.{next_count}
-use Rattle.orch_base.specs.declared.server.ServerNo.{ServerNo}
 use Rattle.commands.specs.declared.line.Line.{Line}
-use Rattle.commands.specs.declared.line.Lost.{Lost}
 use Rattle.kept_rows.specs.declared.row.Row.{Row}
 use Rattle.operations.specs.declared.step.JobStep.{JobStep}
 use Rattle.server_model.specs.Run.{run}
@@ -25,7 +23,7 @@ use Rattle.unended_jobs.specs.declared.unended.Unended.{Unended}
 use Rattle.unended_jobs.specs.declared.unended.Unended.TheVariants as unended
 use Rattle.unended_jobs.specs.Unended.{IsReady, number_of}
 use Rattle.covered_laws.specs.Turns.{RecoveryTurn}
-use Rattle.covered_laws.proofs.Ending.{done-named, done-old, done-placed, done-promoted, done-told, last-aim, turn-aim, turn-explained}
+use Rattle.covered_laws.proofs.Ending.{done-chain, done-named, done-old, done-placed, done-promoted, done-told, last-aim, turn-aim, turn-explained}
 use Rattle.orch_core.specs.Jobs.{turn_of}
 use Rattle.orch_core.specs.Replies.{reply_of}
 use Rattle.orch_core.specs.After.{step}
@@ -65,6 +63,7 @@ module _ (s : State) (id : ℕ) (r : Recovery) (entry : Option ℕ) where
       told =
           subst (λ (w : World). IsTold w (recovery_after s r) lines) (sym (world-then is.found rows))
           (done-told (flight_of s) s.jobs (turn_in is.found) held covered lines is.done);
+      chain = done-chain (flight_of s) s.jobs (turn_in is.found) held covered lines is.done;
       placed = done-placed (flight_of s) s.jobs (turn_in is.found) held covered lines is.done;
       named = done-named (flight_of s) s.jobs (turn_in is.found) held covered lines is.done count (named-at is.found count ready);
     }

@@ -1,3 +1,4 @@
+pub mod Tellings
 pub mod Begun
 pub mod Joining
 pub mod Covering

@@ -17,6 +17,7 @@ use Rattle.orch_core.specs.States.{State}
 use Rattle.run_laws.specs.Ready.{Ready}
 use Rattle.recovery_runs.specs.Begun.{jobs_begun, BeginsOnce, ComesOf}
 use Rattle.recovery_runs.proofs.Begun.{begun-once}
+use Rattle.recovery_runs.proofs.Tellings.{tells-on}
 use Rattle.recovery_runs.proofs.Coming.{all-come}
 use Rattle.recovery_runs.specs.Origins.{Began, BeganIn}
 
@@ -74,6 +75,7 @@ module _ (from : State) where
           number = number ∙ then.number;
           aim = then-aim then.was was r then.aim aim;
           replicas = aim.replicas ∙ (then.replicas ∙ ap (replicas_of (run_turns engine from (take h.place xs)).book) (sym aim.failed));
+          tells = tells-on was r aim then.tells;
         };
       }
 
@@ -92,7 +94,14 @@ module _ (from : State) where
           begins =
               subst (λ (zs : List Step). BeganIn (run_turns engine from zs) x.1 r entry) (sym (take-all xs (x ∷ [])))
               (subst (λ (z : State). BeganIn z x.1 r entry) here
-              (record { was = was; among = begun; number = number; aim = aim; replicas = aim.replicas ∙ (new.replicas ∙ ap (replicas_of s.book) (sym aim.failed)) }));
+              (record {
+                was = was;
+                among = begun;
+                number = number;
+                aim = aim;
+                replicas = aim.replicas ∙ (new.replicas ∙ ap (replicas_of s.book) (sym aim.failed));
+                tells = tells-on was r aim new.tells;
+              }));
         }
 
     comes-of : All (HasOrigin xs) s.jobs → (u : Unended) → ComesOf (s.jobs ++ jobs_begun s x.1) u → HasOrigin (xs ++ x ∷ []) u

@@ -1,5 +1,5 @@
 -- What holds of the recoveries in each state of each run.
-use Rattle.std.proofs.Common.{◌≡◌, ◌∙◌, ℕ, Bool, List, [], ◌∷◌, ◌++◌, length, append_assoc, refl, sym, ap, subst, Option, Some}
+use Rattle.std.proofs.Common.{◌≡◌, ◌∙◌, ℕ, ◌<◌, Bool, List, [], ◌∷◌, ◌++◌, length, append_assoc, refl, sym, ap, subst, Option, Some}
 use Rattle.std.specs.Option.{option_map}
 use Rattle.std.specs.Prelude.{◌==◌, All, slice_get}
 use Rattle.std.proofs.lemmas.List.{append-nil}
@@ -7,7 +7,6 @@ use Rattle.std.proofs.lemmas.List.Elements.{All-head, All-nil, All-tail}
 use Rattle.orch_base.specs.declared.server.ServerNo.{ServerNo}
 use Rattle.audit_log.specs.Audits.{recovery_at}
 use Rattle.commands.specs.declared.line.Line.{Line}
-use Rattle.commands.specs.declared.line.Lost.{Lost}
 use Rattle.kept_rows.specs.declared.row.Row.{Row}
 use Rattle.job_laws.proofs.Lists.{All-find}
 use Rattle.jobs_in_flight.specs.Jobs.{job_at}
@@ -33,7 +32,10 @@ use Rattle.run_laws.specs.Flights.{moment_at}
 use Rattle.covered_laws.proofs.Beside.{none-speak}
 use Rattle.recovery_runs.specs.Finishes.{IsFinish, finished_so, recovery_after}
 use Rattle.recovery_runs.specs.Facts.{ExplainedState, ExplainsTurn, HasFacts}
+use Rattle.recovery_covers.specs.Covers.{owed, times}
+use Rattle.recovery_outcomes.specs.Told.{IsToldOf}
 use Rattle.recovery_runs.proofs.Entries.{audit-ends}
+use Rattle.recovery_runs.proofs.Tellings.{told-then}
 use Rattle.recovery_runs.proofs.Finishing.{keeps-histories, owes-nothing, reply-told}
 use Rattle.recovery_runs.proofs.Facts.{explained-start, explained-step, last-explained}
 use Rattle.recovery_runs.specs.States.{CoveredState, KeptState, SpeakingState}
@@ -157,6 +159,7 @@ module _ (s : Scenario) (xs : List Step) (now : State) (comes : ComesTo s xs now
         reply = reply-told now id r entry lines is;
         owes = owes-nothing now id r entry lines is (length s.opening.servers) rows goes.ready goes.held t.cares.covered;
         began = began-comes id r entry is.found;
+        tells = has-line rows id r entry lines is;
         histories = λ q.
             let before = exchanges.quiet-run now.world (exchanges_at now (turn.Act (act.Job id))) q in
             keeps-histories now id r entry lines is rows goes.held (goes.sound before) t.cares.covered (t.cares.kept before)
@@ -165,6 +168,13 @@ module _ (s : Scenario) (xs : List Step) (now : State) (comes : ComesTo s xs now
         ends = λ e n same promoted. ended rows id r entry lines is e n same promoted;
       }
     where
+      has-line : (rows : List Row) (id : ℕ) (r : Recovery) (entry : Option ℕ) (lines : List Line) → IsFinish now id r entry lines → (n : ServerNo) → 0 < times n.0 (owed r.purpose r.failed r.replicas)
+          → IsToldOf r.purpose (recovery_after now r).outcome lines n
+      has-line rows id r entry lines is n h =
+          let t = tends-comes in
+          let owes = owes-nothing now id r entry lines is (length s.opening.servers) rows t.goes.ready t.goes.held t.cares.covered in
+          told-then (step rows now (turn.Act (act.Job id))).world r (recovery_after now r) lines owes.aim owes.told (began-comes id r entry is.found).begins.tells n h
+
       ended : (rows : List Row) (id : ℕ) (r : Recovery) (entry : Option ℕ) (lines : List Line) → IsFinish now id r entry lines → (e : ℕ) (n : ServerNo) → entry ≡ Some e → (recovery_after now r).outcome.promoted ≡ Some n
           → recovery_at (step rows now (turn.Act (act.Job id))).audit e ≡ option_map (finished_so (moment_at now) r.purpose n) (recovery_at now.audit e)
       ended rows id r entry lines is e n same promoted = audit-ends now id e r lines n (subst (λ (o : Option ℕ). IsFinish now id r o lines) same is) promoted rows

@@ -1,5 +1,5 @@
 -- The jobs that a turn begins.
-use Rattle.std.specs.Prelude.{◌≡◌, ℕ, Contains, List, [], Option}
+use Rattle.std.specs.Prelude.{◌≡◌, ◌<◌, ◌⊎◌, ℕ, Contains, List, [], Option, Some}
 use Rattle.book_views.specs.Sources.{replicas_of}
 use Rattle.instance_keeper.specs.Book.{BookState}
 use Rattle.orch_core.specs.Commands.{Outcome}
@@ -8,8 +8,10 @@ use Rattle.orch_core.specs.Polls.{command_outcome, scan_outcome}
 use Rattle.orch_core.specs.Settling.{known_of}
 use Rattle.orch_core.specs.States.{State}
 use Rattle.recovery_core.specs.Begun.{IsFresh}
-use Rattle.recovery_covers.specs.Covers.{AreReplicas}
+use Rattle.orch_base.specs.declared.server.ServerNo.{ServerNo}
+use Rattle.recovery_covers.specs.Covers.{AreReplicas, owed, times}
 use Rattle.recovery_histories.specs.Kept.{SameAim}
+use Rattle.recovery_plans.specs.Beginning.{first_source}
 use Rattle.recovery_plans.specs.Recoveries.{Recovery}
 use Rattle.turns.specs.declared.turn.Act.{Act}
 use Rattle.turns.specs.declared.turn.Act.TheVariants as act
@@ -39,11 +41,17 @@ jobs_begun s (turn.As node a) = jobs_in_act s a
 jobs_begun s (turn.Claim node) = []
 jobs_begun s (turn.Release node) = []
 
--- a recovery as it begins, of the replicas that the book has of the failed server, which names none twice
+-- whoever is owed stands in the order in which a recovery tells, but for a new source that is named at its beginning
+abbrev pub TellsAll : Recovery → Type 0
+TellsAll r = (n : ServerNo) → 0 < times n.0 (owed r.purpose r.failed r.replicas) → Contains r.order n ⊎ (first_source r.purpose ≡ Some n)
+
+-- a recovery as it begins, of the replicas that the book has of the failed server, which names none twice, and tells of
+-- all
 pub record IsBegunOnce (b : BookState) (r : Recovery) : Type 0 where
   pub fresh : IsFresh r
   pub replicas : r.replicas ≡ replicas_of b r.failed
   pub once : AreReplicas r.purpose r.failed r.replicas
+  pub tells : TellsAll r
 
 -- so a job begins
 abbrev pub BeginsOnce : BookState → Unended → Type 0

@@ -1,10 +1,8 @@
 -- Of the recoveries in each state of each run: where they began, what they tell, and how they finish.
 use Rattle.std.specs.Prelude.{◌≡◌, ℕ, Bool, List, Option, Some, length}
 use Rattle.commands.specs.declared.line.Line.{Line}
-use Rattle.commands.specs.declared.line.Lost.{Lost}
 use Rattle.kept_rows.specs.declared.row.Row.{Row}
 use Rattle.jobs_in_flight.specs.Jobs.{job_at}
-use Rattle.orch_base.specs.declared.server.ServerNo.{ServerNo}
 use Rattle.orch_core.specs.Scenarios.{start}
 use Rattle.orch_core.specs.States.{State}
 use Rattle.recovery_plans.specs.Recoveries.{Recovery}

@@ -1,7 +1,5 @@
 -- That what a recovery tells is true, from its beginning on.
 use Rattle.std.specs.Prelude.{◌≡◌, ℕ, Bool, All, Option, Some}
-use Rattle.orch_base.specs.declared.server.ServerNo.{ServerNo}
-use Rattle.commands.specs.declared.line.Lost.{Lost}
 use Rattle.run_laws.specs.Flights.{moment_at}
 use Rattle.jobs_in_flight.specs.Jobs.{job_at}
 use Rattle.orch_core.specs.States.{State}

@@ -3,7 +3,6 @@ use Rattle.std.specs.Prelude.{◌≡◌, ℕ, Bool, Contains, List, Option, Some
 use Rattle.std.specs.Option.{option_map}
 use Rattle.audit_log.specs.Audits.{recovery_at}
 use Rattle.commands.specs.declared.line.Line.{Line}
-use Rattle.commands.specs.declared.line.Lost.{Lost}
 use Rattle.kept_rows.specs.Recoveries.{put_recovery}
 use Rattle.kept_rows.specs.declared.recovery.Recovery.{Recovery as KeptRecovery}
 use Rattle.kept_rows.specs.declared.row.Row.{Row}

@@ -13,6 +13,7 @@ use Rattle.operations.specs.declared.step.JobStep.TheVariants as step
 use Rattle.orch_core.specs.States.{State}
 use Rattle.recovery_core.specs.Endings.{is_takeover}
 use Rattle.recovery_covers.specs.Covers.{HasOnePlace, IsTold, times}
+use Rattle.recovery_outcomes.specs.Chains.{IsChain}
 use Rattle.recovery_histories.specs.Kept.{IsBeginning, Keeps, SameAim}
 use Rattle.recovery_plans.specs.Recoveries.{Recovery}
 use Rattle.recovery_plans.specs.Taking.{Taken, taken}
@@ -36,10 +37,12 @@ pub record IsFinish (s : State) (id : ℕ) (r : Recovery) (entry : Option ℕ) (
   pub done : (turn_taken s r).step ≡ step.Done lines
 
 -- What it owes, over so many servers: it is about whom it was about, its outcome covers the replicas and is what the
--- lines tell, each replica has one place in it, and it names servers that are there.
+-- lines tell, each follower follows the promoted server, but after a swap the chosen one, which does, each replica has
+-- one place, and the outcome names servers that are there.
 pub record OwesNothing (count : ℕ) (w : World) (before after : Recovery) (lines : List Line) : Type 0 where
   pub aim : SameAim before after
   pub told : IsTold w after lines
+  pub chain : IsChain after
   pub placed : (n : ℕ) → 0 < times n before.replicas → HasOnePlace before.purpose after.outcome n
   pub named : IsNamedOutcome count after.outcome
 

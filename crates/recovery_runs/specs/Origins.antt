@@ -1,9 +1,7 @@
 -- Where the recoveries of a run began, and which facts were true in its turns.
 use Rattle.recovery_reasons.specs.Reasons.{Fact}
 use Rattle.std.specs.Prelude.{◌≡◌, ℕ, Bool, List, Option, Some, Contains, slice_get, take}
-use Rattle.orch_base.specs.declared.server.ServerNo.{ServerNo}
 use Rattle.book_views.specs.Sources.{replicas_of}
-use Rattle.commands.specs.declared.line.Lost.{Lost}
 use Rattle.kept_rows.specs.declared.row.Row.{Row}
 use Rattle.recovery_histories.specs.Kept.{SameAim}
 use Rattle.recovery_plans.specs.Recoveries.{Recovery}
@@ -12,16 +10,17 @@ use Rattle.unended_jobs.specs.declared.unended.Unended.TheVariants as unended
 use Rattle.orch_core.specs.Runs.{engine, run_turns}
 use Rattle.orch_core.specs.States.{State}
 use Rattle.recovery_runs.specs.Facts.{ExplainsTurn}
-use Rattle.recovery_runs.specs.Begun.{jobs_begun}
+use Rattle.recovery_runs.specs.Begun.{TellsAll, jobs_begun}
 
 -- A recovery is what one has become that began in a turn of this state, with this entry in the audit, if it has one: it
--- is about the same, and its replicas are those that the book had attached to the failed server then.
+-- is about the same, its replicas are those that the book had attached to the failed server then, and it tells of all.
 pub record BeganIn (s : State) (t : Turn) (r : Recovery) (entry : Option ℕ) : Type 0 where
   pub was : Recovery
   pub among : Contains (jobs_begun s t) (unended.Recovery was entry)
   pub number : r.core.id ≡ was.core.id
   pub aim : SameAim was r
   pub replicas : r.replicas ≡ replicas_of s.book r.failed
+  pub tells : TellsAll r
 
 -- It began in one of these turns from this state on.
 pub record Began (from : State) (xs : List (List Row × Turn)) (r : Recovery) (entry : Option ℕ) : Type 0 where

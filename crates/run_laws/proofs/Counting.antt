@@ -229,7 +229,7 @@ logged-step count rows s (turn.As node a) is fits = absurd fits
 logged-step count rows s (turn.Claim node) is fits = absurd fits
 logged-step count rows s (turn.Release node) is fits = absurd fits
 
-reckoned-step : (count : ℕ) (rows : List Row) (s : State) (t : Turn) → IsReckoned count s → IsTurn count t → IsReckoned count (step rows s t)
+pub reckoned-step : (count : ℕ) (rows : List Row) (s : State) (t : Turn) → IsReckoned count s → IsTurn count t → IsReckoned count (step rows s t)
 reckoned-step count rows s t is fits =
     let logged = logged-step count rows s t is fits in
     record { ready = Ready-step count rows s t is.ready fits; moment = moment-stays rows s t is.moment; apart = logged.apart; known = logged.known }
@@ -239,7 +239,7 @@ reckoned-run count s [] all is = is
 reckoned-run count s (x ∷ xs) all is =
     reckoned-run count (step x.0 s x.1) xs (All-tail (IsTurn count) x.1 (turns_of xs) all) (reckoned-step count x.0 s x.1 is (All-head (IsTurn count) x.1 (turns_of xs) all))
 
-reckoned-start : (s : Scenario) (wait : ℕ) (rows : List Row) → IsScenario s → IsReckoned (length s.opening.servers) (start s wait rows)
+pub reckoned-start : (s : Scenario) (wait : ℕ) (rows : List Row) → IsScenario s → IsReckoned (length s.opening.servers) (start s wait rows)
 reckoned-start s wait rows is =
     let n = length s.opening.servers in
     let most = moment-within s rows (start_rows s rows) (start_moment s rows).0 is refl refl in

@@ -23,7 +23,9 @@ pub mod Sameness
 pub mod Entering
 pub mod Counting
 pub mod Parts
-pub mod Entries
+pub mod JobEntries
+pub mod Aims
+pub mod Fates
 pub mod Reloads
 pub mod Follows
 pub mod Audits
@@ -31,3 +33,5 @@ pub mod Permissions
 pub mod Plain
 pub mod RunLaws
 pub mod JobTurns
+pub mod Lowest
+pub mod Failures

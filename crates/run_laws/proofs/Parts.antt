@@ -1,5 +1,5 @@
 -- Recoveries begin apart in every state of a run, with the block periods of the scenario.
-use Rattle.std.proofs.Common.{◌≡◌, List, map, subst}
+use Rattle.std.proofs.Common.{◌≡◌, List, subst}
 use Rattle.std.specs.Prelude.{All}
 use Rattle.std.proofs.lemmas.List.Elements.{All-map}
 use Rattle.run_laws.specs.Begins.{BeginApartInTurn}

@@ -1,9 +1,6 @@
 -- Block periods of clusters through runs.
-use Rattle.std.proofs.Common.{◌≡◌, ◌∙◌, ℕ, ◌≤◌, List, [], ◌∷◌, refl, ap, subst}
-use Rattle.std.specs.Prelude.{All}
-use Rattle.std.proofs.lemmas.List.Elements.{All-map, All-weaker}
+use Rattle.std.proofs.Common.{◌≡◌, ◌∙◌, ℕ, ◌≤◌, List, [], ◌∷◌, refl, ap}
 use Rattle.audit_log.specs.Audits.{longest_block}
-use Rattle.kept_rows.specs.declared.recovery.Recovery.{Recovery}
 use Rattle.kept_rows.specs.declared.row.Row.{Row}
 use Rattle.scenarios.specs.declared.scenario.Scenario.{Scenario}
 use Rattle.turns.specs.declared.turn.Act.{Act}

@@ -1,7 +1,7 @@
 -- The audit that is loaded of rows which follow one is that one, where its recoveries count.
 use Rattle.std.proofs.Common.{◌≡◌, ◌∙◌, ℕ, ◌-◌, ◌<◌, ◌≤◌, ◌^◌, Bool, true, false, cond, List, [], ◌∷◌, refl, sym, ap, subst, inl, inr, Option, Some, None, arith}
 use Rattle.std.specs.Prelude.{All, AllPairs, IfSome, ◌==◌, ◌⊎◌, find, option_map, if◌then◌else◌}
-use Rattle.std.proofs.lemmas.Bool.{cases_lt, eq-eqb, eqb-true, false≢true, ne_eqb}
+use Rattle.std.proofs.lemmas.Bool.{cases_lt, eq-eqb, eqb-true, ne_eqb}
 use Rattle.std.proofs.lemmas.List.Elements.{All-weaker}
 use Rattle.audit_log.proofs.Changes.{none-at}
 use Rattle.audit_log.proofs.Finding.{All-found}

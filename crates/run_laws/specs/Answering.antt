@@ -3,6 +3,7 @@ use Rattle.std.specs.Prelude.{◌≡◌, ℕ, ◌+◌, ◌∷◌, ◌++◌, List
 use Rattle.command_routes.specs.Routes.{route_of}
 use Rattle.commands.specs.declared.line.Line.{Line}
 use Rattle.commands.specs.declared.refusal.Refusal.{Refusal}
+use Rattle.commands.specs.declared.turn.Command.{Command}
 use Rattle.commands.specs.declared.turn.CommandTurn.{CommandTurn}
 use Rattle.instance_keeper.specs.Leases.{taken}
 use Rattle.kept_rows.specs.declared.row.Row.{Row}
@@ -13,6 +14,7 @@ use Rattle.orch_core.specs.Polls.{changes_of}
 use Rattle.orch_core.specs.Replies.{reply_of}
 use Rattle.orch_core.specs.After.{step}
 use Rattle.orch_core.specs.States.{State}
+use Rattle.run_laws.specs.Lowest.{RefusedByLowest}
 use Rattle.recovery_core.specs.Begun.{leases_after}
 use Rattle.recovery_core.specs.Scans.{actionable_in}
 use Rattle.turns.specs.declared.reply.Reply.TheVariants as answered
@@ -29,6 +31,10 @@ use Rattle.run_laws.specs.Runs.{IsBegun}
 -- it is refused exactly with the refusal of the permission table, and otherwise begins its job or is done
 abbrev pub CommandsAnswerByTable : Type 0
 CommandsAnswerByTable = (s : State) (c : CommandTurn) → IsAnswer (route_of c.command.name) (refusal_at s c.command) (reply_of s (turn.Act (act.Command c)))
+
+-- that refusal has the lowest number of what the command's checks refuse
+abbrev pub LowestRefuse : Type 0
+LowestRefuse = (s : State) (c : Command) → RefusedByLowest s c
 
 -- a refused one changes no kept row, and nothing of the state
 abbrev pub RefusedChangeNothing : Type 0

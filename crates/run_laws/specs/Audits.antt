@@ -12,7 +12,9 @@ use Rattle.scenarios.specs.declared.scenario.Scenario.{Scenario}
 use Rattle.scenarios.specs.Scenarios.{period_of}
 use Rattle.turns.specs.declared.turn.Turn.{Turn}
 use Rattle.run_laws.specs.Begins.{BeginApartInTurn}
-use Rattle.run_laws.specs.Entries.{HasMore, entries_begun}
+use Rattle.run_laws.specs.Aims.{IsAimed}
+use Rattle.run_laws.specs.Entries.{entries_begun, recoveries_begun}
+use Rattle.run_laws.specs.Fates.{AuditIs, RestartKeepsAll}
 
 -- no turn lets the next id sink
 abbrev pub NextNeverSinks : Type 0
@@ -30,6 +32,15 @@ AnyTurnGivesPeriods s now = (t : Turn) → All (λ r. r.block ≡ period_of s r.
 abbrev pub AnyTurnBeginsApart : State → Type 0
 AnyTurnBeginsApart s = (t : Turn) → BeginApartInTurn (record { 0 = s.moment }) s.audit (entries_begun s t)
 
--- but for a restart, which loads the kept rows, a turn adds just what it begins, and drops none
-abbrev pub TurnsAddWhatBegins : Type 0
-TurnsAddWhatBegins = (rows : List Row) (s : State) (t : Turn) → asks t ≡ false → HasMore s.audit (entries_begun s t) (step rows s t).audit
+-- what a turn would begin was asked for, and its entry tells what it is about
+abbrev pub AnyTurnAims : Type 0
+AnyTurnAims = (s : State) (t : Turn) → All (IsAimed s t) (recoveries_begun s t)
+
+-- But for a restart, which loads the kept rows, each entry becomes what the turn makes of it, and just those that begin
+-- come behind.
+abbrev pub TurnsMakeAudits : Type 0
+TurnsMakeAudits = (rows : List Row) (s : State) (t : Turn) → asks t ≡ false → AuditIs rows s t
+
+-- where the rows are those by which all was kept, a restart keeps each entry, and ends those that aren't ended
+abbrev pub RestartsKeepAll : Scenario → State → Type 0
+RestartsKeepAll s now = (rows : List Row) → RestartKeepsAll (length s.opening.servers) rows now

@@ -1,5 +1,5 @@
 -- Whom a recovery names as it begins, and beside which others it does.
-use Rattle.std.specs.Prelude.{◌≡◌, ℕ, List, [], ◌∷◌, map, All}
+use Rattle.std.specs.Prelude.{◌≡◌, List, [], ◌∷◌, map, All}
 use Rattle.orch_base.specs.declared.server.Moment.{Moment}
 use Rattle.instance_keeper.specs.Book.{BookState}
 use Rattle.kept_rows.specs.declared.recovery.Recovery.{Recovery as KeptRecovery}

@@ -1,13 +1,11 @@
 -- The recoveries that a turn begins, and their entries in the audit.
-use Rattle.std.specs.Prelude.{◌≡◌, ◌+◌, false, List, [], ◌∷◌, ◌++◌, map, Option, Some, None, Result, Ok, Err}
-use Rattle.audit_log.specs.Audits.{AuditState}
+use Rattle.std.specs.Prelude.{◌+◌, List, [], ◌∷◌, Option, Some, None, Result, Ok, Err}
 use Rattle.command_routes.specs.declared.route.Route.{Route}
 use Rattle.command_routes.specs.declared.route.Route.TheVariants.{Discovers, Forgets, Asks, Decides, Begins, Recovers, TakesOver}
 use Rattle.command_routes.specs.Routes.{route_of}
 use Rattle.commands.specs.declared.refusal.Refusal.{Refusal}
 use Rattle.commands.specs.declared.turn.Command.{Command}
 use Rattle.kept_rows.specs.declared.recovery.Recovery.{Recovery}
-use Rattle.orch_base.specs.declared.recovery.Ending.TheVariants as ending
 use Rattle.orch_base.specs.declared.server.ServerNo.{ServerNo}
 use Rattle.recovery_core.specs.Scans.{attempt_of, scanned}
 use Rattle.recovery_core.specs.Tries.{Begins as RecoveryBegins, recovery_try, takeover_try}
@@ -85,13 +83,3 @@ recoveries_begun s (turn.Release node) = []
 -- their entries, in order
 abbrev pub entries_begun : State → Turn → List Recovery
 entries_begun s t = entries_of (recoveries_begun s t)
-
--- an entry as it began: without its end, and not acknowledged
-abbrev pub as_begun : Recovery → Recovery
-as_begun r = record r { ended = None; outcome = ending.Unended; acked = false }
-
--- an audit has just these entries more, behind those that it had, which may have ended or been acknowledged since
-pub record HasMore (before : AuditState) (entries : List Recovery) (now : AuditState) : Type 0 where
-  pub kept : List Recovery
-  pub same : map as_begun kept ≡ map as_begun before.recoveries
-  pub all : now.recoveries ≡ kept ++ entries

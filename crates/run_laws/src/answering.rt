@@ -1,13 +1,15 @@
 //! Laws of what commands and scans answer and begin.
 
-ghost use Rattle.run_laws.specs.Answering.{BegunAreTheCommands, BegunHaveNextNumber, CommandsAnswerByTable, EntersAudit, HasNextNumber, IsLastJob, IsReplied, JoinsJobs, KeepsEntry, RefusedChangeNothing, ScannedAreLastJobs, ScannedJoinJobs, ScannedKeepEntries, ScannedTakeLeases, ScansTellEachTry, TakesLeases, WhereBegun};
+ghost use Rattle.run_laws.specs.Answering.{BegunAreTheCommands, BegunHaveNextNumber, CommandsAnswerByTable, EntersAudit, HasNextNumber, IsLastJob, IsReplied, JoinsJobs, KeepsEntry, LowestRefuse, RefusedChangeNothing, ScannedAreLastJobs, ScannedJoinJobs, ScannedKeepEntries, ScannedTakeLeases, ScansTellEachTry, TakesLeases, WhereBegun};
 
-/// A command turn is refused exactly with the refusal of the permission table, and otherwise begins its job or is
-/// done. A refused one changes nothing: no kept row, and nothing of the state, such as a server, a ring, a lease, a
-/// job or a number. A job that is begun has the next number, joins the unended ones, and takes the leases of its
-/// command's list; a recovery and a takeover begin with their entry in the audit, which is kept.
+/// A command turn is refused exactly with the refusal of the permission table, which is what one of its checks refuses
+/// and none with a lower number, and otherwise begins its job or is done. A refused one changes nothing: no kept row,
+/// and nothing of the state, such as a server, a ring, a lease, a job or a number. A job that is begun has the next
+/// number, joins the unended ones, and takes the leases of its command's list; a recovery and a takeover begin with
+/// their entry in the audit, which is kept.
 pub fn commands_answer_by_the_table()
     ensures answer { CommandsAnswerByTable }
+    ensures lowest { LowestRefuse }
     ensures refused { RefusedChangeNothing }
     ensures number { BegunHaveNextNumber }
     ensures job { BegunAreTheCommands }

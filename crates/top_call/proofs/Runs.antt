@@ -1,7 +1,7 @@
 -- Each run of the turns that words take: its states are safe, its commands answer by the permission table, and its
 -- recoveries begin apart and finish well.
 use Rattle.std.proofs.Common.{◌≡◌, ℕ, zero, suc, ◌<◌, Bool, true, false, cond, List, [], ◌∷◌, ◌++◌, length, Option, Some, None, ◌∙◌, refl, sym, ap, subst, take, inl, inr}
-use Rattle.std.specs.Prelude.{All}
+use Rattle.std.specs.Prelude.{All, is_some}
 use Rattle.std.proofs.Math.Seq.{take-length}
 use Rattle.std.proofs.lemmas.List.{length-map}
 use Rattle.std.proofs.lemmas.List.Elements.{All-append, All-cons, All-nil, All-take}
@@ -13,7 +13,7 @@ use Rattle.orch_base.specs.declared.server.ServerNo.{ServerNo}
 use Rattle.name_order.specs.NameOrder.{by_name}
 use Rattle.name_order.proofs.Arranged.{by_name-within}
 use Rattle.scenarios.specs.declared.scenario.Scenario.{Scenario}
-use Rattle.scenarios.specs.Scenarios.{IsScenario, names_of, period_of}
+use Rattle.scenarios.specs.Scenarios.{IsScenario, names_of}
 use Rattle.scenarios.specs.Turns.{IsTurn}
 use Rattle.turns.specs.declared.turn.Turn.{Turn}
 use Rattle.turns.specs.declared.turn.Act.TheVariants as act
@@ -28,8 +28,13 @@ use Rattle.orch_core.specs.States.{State}
 use Rattle.run_laws.specs.Ready.{Ready}
 use Rattle.recovery_runs.specs.Finishes.{IsFinish}
 use Rattle.run_laws.specs.Runs.{ComesTo}
+use Rattle.run_laws.proofs.JobTurns.{named-job, others-stay}
+use Rattle.run_laws.proofs.Failures.{plans-fail}
+use Rattle.run_laws.proofs.Lowest.{lowest-refuses}
 use Rattle.run_laws.proofs.Counting.{apart-comes}
-use Rattle.run_laws.proofs.Entries.{more-after}
+use Rattle.run_laws.proofs.Aims.{turn-aimed}
+use Rattle.run_laws.proofs.Fates.{restart-comes, turn-fates}
+use Rattle.run_laws.proofs.JobEntries.{jobs-comes}
 use Rattle.run_laws.proofs.Parts.{apart-in-turn, periods-in-turn}
 use Rattle.run_laws.proofs.Permissions.{answers_by_table, begun_joins, begun_kept, begun_leased, begun_logged, begun_number, begun_there, refused_changes_nothing}
 use Rattle.recovery_plans.specs.Recoveries.{Recovery}
@@ -108,37 +113,58 @@ module _ (w : Work) (ts : List Turn) (kept : Option (List Row)) (run : Recorded)
   found : Through w.scenario w.task.waits ts run.state
   found = along w.scenario w.task.waits w.old comes.begun ts run comes.opens comes.ran.state
 
-  comes_to : ComesTo w.scenario found.xs run.state
-  comes_to = record {
+  -- by whatever rows they lead there
+  comes_by : (by : Through w.scenario w.task.waits ts run.state) → ComesTo w.scenario by.xs run.state
+  comes_by by = record {
     scenario = scenario;
     wait = w.task.waits;
-    rows = found.rows;
-    turns = subst (All (IsTurn (length w.scenario.opening.servers))) (sym found.turns) all;
-    state = found.state;
+    rows = by.rows;
+    turns = subst (All (IsTurn (length w.scenario.opening.servers))) (sym by.turns) all;
+    state = by.state;
   }
+
+  comes_to : ComesTo w.scenario found.xs run.state
+  comes_to = comes_by found
 
   goes : Goes (length w.scenario.opening.servers) run.state
   goes = Goes-comes w.scenario found.xs run.state comes_to
 
   holds : IsSafeState run.state
-  holds = record { placed = goes.held.flight.placed; held = goes.held; apart = apart-comes w.scenario found.xs run.state comes_to; sound = goes.sound; safe = λ q. (goes.sound q).flight.safe }
+  holds = record {
+    placed = goes.held.flight.placed;
+    held = goes.held;
+    apart = apart-comes w.scenario found.xs run.state comes_to;
+    entries = jobs-comes w.scenario found.xs run.state comes_to;
+    named = λ n id is. named-job run.state.jobs id (ap is_some (goes.held.flight.leased.named n id is).1);
+    leased = goes.held.flight.leased.each;
+    others = λ rows id n apart. others-stay rows run.state id n goes.held apart;
+    fails = plans-fail run.state;
+    sound = goes.sound;
+    safe = λ q. (goes.sound q).flight.safe;
+  }
 
   ready : Ready (length w.scenario.opening.servers) run.state
   ready = goes.ready
 
-  begins : (rows : List Row) (t : Turn) → BeginsApart (period_of w.scenario) rows run.state t
-  begins rows t = record { apart = apart-in-turn w.scenario found.xs run.state t comes_to; periods = periods-in-turn w.scenario found.xs run.state t comes_to; all = more-after rows run.state t }
+  begins : (rows : List Row) (t : Turn) → BeginsApart w.scenario rows run.state t
+  begins rows t = record {
+    apart = apart-in-turn w.scenario found.xs run.state t comes_to;
+    periods = periods-in-turn w.scenario found.xs run.state t comes_to;
+    aims = turn-aimed run.state t;
+    all = turn-fates rows run.state t;
+    restart = restart-comes w.scenario found.xs run.state rows comes_to;
+  }
 
   finishes : (rows : List Row) (id : ℕ) (r : Recovery) (entry : Option ℕ) (lines : List Line) → IsFinish run.state id r entry lines → Finishes w ts rows run.state id r entry lines
-  unfolding comes_to
-  finishes rows id r entry lines is = record { through = found; well = finish-comes w.scenario found.xs run.state comes_to rows id r entry lines is }
+  unfolding comes_by
+  finishes rows id r entry lines is = record { through = found; well = λ by. finish-comes w.scenario by.xs run.state (comes_by by) rows id r entry lines is }
 
   loses : (id : ℕ) (r : Recovery) (entry : Option ℕ) → job_at run.state.jobs id ≡ Some (unended.Recovery r entry) → TellsTruly w ts run.state id r entry
-  unfolding comes_to
+  unfolding comes_by
   loses id r entry at = record {
     through = found;
-    began = began-comes w.scenario found.xs run.state comes_to id r entry at;
-    told = λ P explains here. told-next w.scenario found.xs run.state comes_to P id r entry explains here at;
+    began = λ by. began-comes w.scenario by.xs run.state (comes_by by) id r entry at;
+    told = λ by P explains here. told-next w.scenario by.xs run.state (comes_by by) P id r entry explains here at;
   }
 
 -- the turns of rounds are turns over the servers
@@ -200,7 +226,7 @@ safe_run words bytes = λ w run is on. on_each words bytes w run is (IsSafeState
 
 pub begin_apart : (words : List (List ℕ)) (bytes : List ℕ) → BeginApart words bytes
 begin_apart words bytes = λ w run rows t is on.
-    on_each words bytes w run is (BeginsApart (period_of w.scenario) rows run.state t) (λ ts kept scenario all comes. begins w ts kept run scenario all comes rows t) on
+    on_each words bytes w run is (BeginsApart w.scenario rows run.state t) (λ ts kept scenario all comes. begins w ts kept run scenario all comes rows t) on
 
 pub finish_well : (words : List (List ℕ)) (bytes : List ℕ) → FinishWell words bytes
 finish_well words bytes = λ w run ts rows id r entry lines is on done.
@@ -213,6 +239,7 @@ tell_truly words bytes = λ w run ts id r entry is on at.
 pub obeys : (words : List (List ℕ)) (bytes : List ℕ) → ObeysTable words bytes
 obeys words bytes = λ w k kept run rows c is comes here. record {
   answer = answers_by_table run.state c;
+  lowest = lowest-refuses run.state c.command;
   refused = refused_changes_nothing rows run.state c;
   begun = λ job begins.
       let x = begun_there run.state c job begins in

@@ -22,7 +22,13 @@ use Rattle.run_laws.specs.States.{HeldState, SoundState}
 use Rattle.instance_keeper.specs.Leases.{taken}
 use Rattle.jobs_in_flight.specs.Jobs.{job_at}
 use Rattle.run_laws.specs.BegunJobs.{BegunJob, begun_of, entry_kept, with_entry}
-use Rattle.run_laws.specs.Entries.{HasMore, entries_begun}
+use Rattle.run_laws.specs.Aims.{IsAimed}
+use Rattle.run_laws.specs.Entries.{entries_begun, recoveries_begun}
+use Rattle.run_laws.specs.Fates.{AuditIs, RestartKeepsAll}
+use Rattle.run_laws.specs.JobEntries.{EntriesHaveJobs}
+use Rattle.run_laws.specs.Failures.{PlansFailForWhatBefell}
+use Rattle.run_laws.specs.Lowest.{RefusedByLowest}
+use Rattle.run_laws.specs.Jobs.{JobsHaveLeases, JobsLeaveOthers, LeasesNameJobs}
 use Rattle.orch_core.specs.Keeping.{asks}
 use Rattle.orch_core.specs.Permission.{IsAnswer, refusal_at}
 use Rattle.orch_core.specs.Polls.{changes_of}
@@ -44,11 +50,19 @@ use Rattle.top_call.specs.Ends.{IsTask}
 -- ---- states
 
 -- What holds of a state with its jobs in flight: it is held, quiet or not, its servers are placed, and its recoveries
--- are apart: each cluster has at most one that isn't ended. Where it is quiet it is sound, and its servers are safe.
+-- are apart: each cluster has at most one that isn't ended. Each of these has its unended job, and each job's entry
+-- isn't ended. A lease names an unended job, a job has the leases of all that it may still change, and its turn leaves
+-- every other server as it is; a plan's job that fails was befallen by its cause in that turn. Where the state is quiet
+-- it is sound, and its servers are safe.
 pub record IsSafeState (s : State) : Type 0 where
   pub placed : Placed s.world
   pub held : HeldState s
   pub apart : IsApart s.audit
+  pub entries : EntriesHaveJobs s
+  pub named : LeasesNameJobs s
+  pub leased : JobsHaveLeases s
+  pub others : JobsLeaveOthers s
+  pub fails : PlansFailForWhatBefell s
   pub sound : IsQuiet s.world → SoundState s
   pub safe : IsQuiet s.world → Safe s.world
 
@@ -70,10 +84,12 @@ pub record Begins (rows : List Row) (s : State) (c : CommandTurn) (job : ℕ) : 
   pub audit : (step rows s (turn.Act (act.Command c))).audit ≡ with_entry s.audit begun.entry
   pub kept : changes_of rows s (turn.Act (act.Command c)) ≡ entry_kept begun.entry
 
--- a command turn is refused exactly with the refusal of the permission table, else it begins its job or is done; a
--- refused one changes nothing, and no kept row
+-- a command turn is refused exactly with the refusal of the permission table, else it begins its job or is done; that
+-- refusal is what one of its checks refuses, and none of them refuses with a lower number; a refused one changes
+-- nothing, and no kept row
 pub record Obeys (rows : List Row) (s : State) (c : CommandTurn) : Type 0 where
   pub answer : IsAnswer (route_of c.command.name) (refusal_at s c.command) (reply_of s (turn.Act (act.Command c)))
+  pub lowest : RefusedByLowest s c.command
   pub refused : (r : Refusal) → reply_of s (turn.Act (act.Command c)) ≡ answered.Refused r
       → (changes_of rows s (turn.Act (act.Command c)) ≡ []) × (step rows s (turn.Act (act.Command c)) ≡ s)
   pub begun : (job : ℕ) → reply_of s (turn.Act (act.Command c)) ≡ answered.Begun job → Begins rows s c job
@@ -87,15 +103,20 @@ ObeysTable words bytes = (w : Work) (k : ℕ) (kept : Option (List Row)) (run : 
 
 -- Each recovery that a turn begins, by a command or by a scan, is apart: of its cluster, with those that the turn began
 -- before it, each is ended, and is acknowledged or began at least its own block period ago. It has its cluster's
--- period. But for a restart, which loads the kept rows, a turn adds no other recovery, and drops none.
-pub record BeginsApart (period : List ℕ → ℕ) (rows : List Row) (s : State) (t : Turn) : Type 0 where
+-- period. It was asked for in the turn, and its entry tells what it is about. But for a restart, which loads the kept
+-- rows, a turn adds no other recovery, and makes of each that there was what its own job or an acknowledgement of its
+-- cluster makes of it, and else nothing; and a restart by the rows that keep all keeps each, with those ended as
+-- interrupted that aren't ended.
+pub record BeginsApart (scenario : Scenario) (rows : List Row) (s : State) (t : Turn) : Type 0 where
   pub apart : BeginApartInTurn (moment_at s) s.audit (entries_begun s t)
-  pub periods : All (λ r. r.block ≡ period r.cluster) (entries_begun s t)
-  pub all : asks t ≡ false → HasMore s.audit (entries_begun s t) (step rows s t).audit
+  pub periods : All (λ r. r.block ≡ period_of scenario r.cluster) (entries_begun s t)
+  pub aims : All (IsAimed s t) (recoveries_begun s t)
+  pub all : asks t ≡ false → AuditIs rows s t
+  pub restart : RestartKeepsAll (length scenario.opening.servers) rows s
 
 -- so any turn would in every state of the run, by the scenario's block periods
 abbrev pub BeginApart : List (List ℕ) → List ℕ → Type 0
-BeginApart words bytes = (w : Work) (run : Recorded) (rows : List Row) (t : Turn) → IsTask words bytes w → IsOn (course_of w) run → BeginsApart (period_of w.scenario) rows run.state t
+BeginApart words bytes = (w : Work) (run : Recorded) (rows : List Row) (t : Turn) → IsTask words bytes w → IsOn (course_of w) run → BeginsApart w.scenario rows run.state t
 
 -- ---- recoveries that are done
 
@@ -119,11 +140,11 @@ pub record Through (s : Scenario) (wait : ℕ) (ts : List Turn) (now : State) : 
   pub turns : turns_of xs ≡ ts
   pub state : now ≡ run_turns engine (start s wait rows) xs
 
--- the turn in which a recovery is done leaves nothing owed to its replicas, which are those that the book had attached
--- to the failed server when it began in one of the turns so far
+-- by whatever rows they lead there, the turn in which a recovery is done leaves nothing owed to its replicas, which are
+-- those that the book had attached to the failed server when it began in one of the turns so far
 pub record Finishes (w : Work) (ts : List Turn) (rows : List Row) (s : State) (id : ℕ) (r : Recovery) (entry : Option ℕ) (lines : List Line) : Type 0 where
   pub through : Through w.scenario w.task.waits ts s
-  pub well : FinishesWell (length w.scenario.opening.servers) (start w.scenario w.task.waits through.rows) through.xs rows s id r entry lines
+  pub well : (by : Through w.scenario w.task.waits ts s) → FinishesWell (length w.scenario.opening.servers) (start w.scenario w.task.waits by.rows) by.xs rows s id r entry lines
 
 -- so each does, in the scenario's turns and in the rounds
 abbrev pub FinishWell : List (List ℕ) → List ℕ → Type 0
@@ -132,13 +153,14 @@ FinishWell words bytes = (w : Work) (run : Recorded) (ts : List Turn) (rows : Li
 
 -- ---- why replicas are lost, and who is chosen
 
--- The reasons of those that a recovery in flight has lost after its next turn, whether it goes on, is done or fails, and
--- what it drained, whom it chose and among whom, and whom it promoted, are facts that were true of the servers and the
--- book in one of its turns, from the one on in which it began: where each that was true counts, all of them count.
+-- The reasons of those that a recovery in flight has lost after its next turn, whether it goes on, is done or fails,
+-- and what it drained, whom it chose and among whom, and whom it promoted, are facts that were true of the servers and
+-- the book in one of its turns, from the one on in which it began: where each that was true counts, all of them count.
+-- So it is by whatever rows the turns lead there.
 pub record TellsTruly (w : Work) (ts : List Turn) (s : State) (id : ℕ) (r : Recovery) (entry : Option ℕ) : Type 0 where
   pub through : Through w.scenario w.task.waits ts s
-  pub began : Began (start w.scenario w.task.waits through.rows) through.xs r entry
-  pub told : (P : Fact → Bool) → ExplainsAlong P id (start w.scenario w.task.waits through.rows) through.xs → ExplainsTurn P id s (turn.Act (act.Job id)) → IsExplained P (recovery_after s r)
+  pub began : (by : Through w.scenario w.task.waits ts s) → Began (start w.scenario w.task.waits by.rows) by.xs r entry
+  pub told : (by : Through w.scenario w.task.waits ts s) (P : Fact → Bool) → ExplainsAlong P id (start w.scenario w.task.waits by.rows) by.xs → ExplainsTurn P id s (turn.Act (act.Job id)) → IsExplained P (recovery_after s r)
 
 -- so each does, in the scenario's turns and in the rounds
 abbrev pub TellTruly : List (List ℕ) → List ℕ → Type 0

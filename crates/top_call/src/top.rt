@@ -309,16 +309,18 @@ pub fn orch<S: Source, O: Sink, E: Sink, K: Keeper>(
         → IsComplete result) }
 
     // Whatever bytes the source has, also where it doesn't tell them: every state of each run of the words' turns over
-    // the scenario that they are, of the report's too, is held with its jobs in flight, its recoveries are apart, and
-    // every quiet one is sound and so safe, whatever rows the keeper hands back; and every command turn of such a run
-    // answers by the permission table, a refused one changing nothing.
+    // the scenario that they are, of the report's too, is held with its jobs in flight, its recoveries are apart, each
+    // that isn't ended has its unended job, a job's turn leaves the servers of others as they are, and every quiet
+    // state is sound and so safe, whatever rows the keeper hands back; and every command turn of such a run answers by
+    // the permission table, with the lowest number that applies, a refused one changing nothing.
     ensures safe { (bytes : List ℕ) → IsSafeRun (map (λ w. w.items) words.now) bytes }
     ensures commands { (bytes : List ℕ) → ObeysTable (map (λ w. w.items) words.now) bytes }
 
-    // In every such state recoveries begin apart by their block periods, and one that is done, by whatever turns it
+    // In every such state recoveries begin apart by their block periods, as a command or a scan asked for them, and no
+    // entry is changed but by its own job's end or an acknowledgement. One that is done, by whatever turns and rows it
     // came so far, leaves each replica that the book had attached to the failed server when it began promoted,
-    // following or lost for a true reason; whom it drained, chose and promoted is so by what its turns showed and by
-    // the book that they had.
+    // following or lost for a true reason, and tells so; whom it drained, chose and promoted is so by what its turns
+    // showed and by the book that they had.
     ensures begins { (bytes : List ℕ) → BeginApart (map (λ w. w.items) words.now) bytes }
     ensures finishes { (bytes : List ℕ) → FinishWell (map (λ w. w.items) words.now) bytes }
     ensures losses { (bytes : List ℕ) → TellTruly (map (λ w. w.items) words.now) bytes }

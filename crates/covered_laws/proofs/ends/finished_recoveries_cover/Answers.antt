@@ -1,4 +1,4 @@
-use Rattle.covered_laws.proofs.Ending.{done-named, done-placed, done-told, turn-aim}
+use Rattle.covered_laws.proofs.Ending.{done-chain, done-named, done-placed, done-told, turn-aim}
 use Rattle.covered_laws.proofs.ends.finished_recoveries_cover.Goals as goal
 
 pub returns-clause-aim : goal.returns-clause-aim
@@ -6,6 +6,9 @@ returns-clause-aim c = turn-aim
 
 pub returns-clause-told : goal.returns-clause-told
 returns-clause-told c = λ f us t lines done held covered. done-told f us t held covered lines done
+
+pub returns-clause-chain : goal.returns-clause-chain
+returns-clause-chain c = λ f us t lines done held covered. done-chain f us t held covered lines done
 
 pub returns-clause-placed : goal.returns-clause-placed
 returns-clause-placed c = λ f us t lines done held covered. done-placed f us t held covered lines done

@@ -1,8 +1,12 @@
 use Rattle.run_laws.proofs.Permissions.{answers_by_table, begun_counts, begun_joins, begun_kept, begun_leased, begun_logged, begun_number, begun_numbered, begun_replies, begun_there, refused_changes_nothing}
+use Rattle.run_laws.proofs.Lowest.{lowest-refuses}
 use Rattle.run_laws.proofs.answering.commands_answer_by_the_table.Goals as goal
 
 pub returns-clause-answer : goal.returns-clause-answer
 returns-clause-answer c = answers_by_table
+
+pub returns-clause-lowest : goal.returns-clause-lowest
+returns-clause-lowest c = lowest-refuses
 
 pub returns-clause-refused : goal.returns-clause-refused
 returns-clause-refused c = refused_changes_nothing

@@ -1,5 +1,6 @@
 use Rattle.std.proofs.Common.{ap}
 use Rattle.std.specs.Prelude.{is_some}
+use Rattle.run_laws.proofs.Failures.{plans-fail}
 use Rattle.run_laws.proofs.JobTurns.{named-job, others-stay}
 use Rattle.run_laws.proofs.RunLaws.{Goes-comes}
 use Rattle.run_laws.proofs.flights.jobs_keep_to_their_leases.Goals as goal
@@ -12,3 +13,6 @@ returns-clause-leased c = λ s xs now comes. (Goes-comes s xs now comes).held.fl
 
 pub returns-clause-others : goal.returns-clause-others
 returns-clause-others c = λ s xs now comes rows id n apart. others-stay rows now id n (Goes-comes s xs now comes).held apart
+
+pub returns-clause-fails : goal.returns-clause-fails
+returns-clause-fails c = λ s xs now comes. plans-fail now

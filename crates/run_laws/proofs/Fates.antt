@@ -1,0 +1,253 @@
+-- What becomes of an entry of the audit with a turn.
+use Rattle.std.proofs.Common.{◌≡◌, ◌∙◌, ℕ, ◌+◌, Bool, true, false, List, [], ◌∷◌, ◌++◌, append_assoc, length, map, refl, sym, ap, subst, Option, Some, None, Result, Ok, Err}
+use Rattle.std.specs.Prelude.{◌==◌, ◌||◌, if◌then◌else◌}
+use Rattle.std.specs.Option.{option_map}
+use Rattle.std.proofs.lemmas.Bool.{false≢true}
+use Rattle.std.proofs.lemmas.List.{append-nil}
+use Rattle.asking_commands.specs.Answers.{allowed, lines_of, permitted}
+use Rattle.audit_log.specs.Audits.{AuditState, begun, closed}
+use Rattle.book_commands.specs.Decisions.{audit_after as audit_decided, decided_of, effect_by}
+use Rattle.book_commands.specs.declared.decided.Decided.{Decided}
+use Rattle.command_jobs.specs.Jobs.{job_by, leases_by, refusal_by}
+use Rattle.command_routes.specs.declared.route.Decision.{Decision}
+use Rattle.command_routes.specs.declared.route.Decision.TheVariants as decision
+use Rattle.command_routes.specs.declared.route.Route.{Route}
+use Rattle.command_routes.specs.declared.route.Route.TheVariants.{Discovers, Forgets, Asks, Decides, Begins, Recovers, TakesOver}
+use Rattle.command_routes.specs.Routes.{route_of}
+use Rattle.commands.specs.Causes.{cause_name}
+use Rattle.commands.specs.declared.line.Line.{Line}
+use Rattle.commands.specs.declared.refusal.Refusal.{Refusal}
+use Rattle.commands.specs.declared.refusal.Refusal.TheVariants.{UnknownInstance}
+use Rattle.commands.specs.declared.turn.CommandTurn.{CommandTurn}
+use Rattle.instance_keeper.specs.Book.{BookState}
+use Rattle.jobs_in_flight.specs.Jobs.{job_at}
+use Rattle.kept_rows.specs.declared.observation.Observation.{Observation}
+use Rattle.kept_rows.specs.declared.recovery.Recovery.{Recovery as KeptRecovery}
+use Rattle.kept_rows.specs.declared.row.Change.{Change}
+use Rattle.kept_rows.specs.declared.row.Row.{Row}
+use Rattle.operations.specs.declared.step.JobStep.{JobStep}
+use Rattle.operations.specs.declared.step.JobStep.TheVariants as step
+use Rattle.orch_base.specs.Memory.{next_count}
+use Rattle.orch_base.specs.declared.recovery.Ending.{Ending}
+use Rattle.orch_base.specs.declared.recovery.Ending.TheVariants as ending
+use Rattle.orch_base.specs.declared.server.Moment.{Moment}
+use Rattle.orch_base.specs.declared.server.ServerNo.{ServerNo}
+use Rattle.recovery_core.specs.Begun.{audit_after}
+use Rattle.recovery_core.specs.Endings.{done_with, is_takeover}
+use Rattle.recovery_core.specs.Tries.{Begins as RecoveryBegins, recovery_try, takeover_try}
+use Rattle.recovery_plans.specs.Recoveries.{Recovery}
+use Rattle.recovery_plans.specs.Taking.{taken}
+use Rattle.scenarios.specs.declared.scenario.Scenario.{Scenario}
+use Rattle.server_words.specs.declared.status.Status.{Status as Seen}
+use Rattle.turns.specs.declared.turn.Act.{Act}
+use Rattle.turns.specs.declared.turn.Act.TheVariants as act
+use Rattle.turns.specs.declared.turn.Turn.{Turn}
+use Rattle.turns.specs.declared.turn.Turn.TheVariants as turn
+use Rattle.unended_jobs.specs.declared.unended.Unended.{Unended}
+use Rattle.unended_jobs.specs.declared.unended.Unended.TheVariants as unended
+use Rattle.orch_core.specs.After.{after_act}
+use Rattle.orch_core.specs.Closings.{closed_by, closing_by, closing_of}
+use Rattle.orch_core.specs.Commands.{Outcome, about as given_or, asked, begun as job_begun, by_hand, decided, discovered, forgotten, next_reading, outcome_by, outcome_of, question, recovered, recovery_begun, refusal, removal_refusal, taken_over}
+use Rattle.orch_core.specs.Jobs.{turn_of}
+use Rattle.orch_core.specs.Keeping.{act_asks, asks}
+use Rattle.orch_core.specs.Knowing.{updated}
+use Rattle.orch_core.specs.Polls.{command_outcome, numbers_of}
+use Rattle.orch_core.specs.Restarts.{interrupted_at}
+use Rattle.orch_core.specs.Settling.{known_of}
+use Rattle.orch_core.specs.States.{State}
+use Rattle.run_laws.proofs.Closings.{ended-map, ended_as, ended_in, ended_with}
+use Rattle.run_laws.proofs.Reloads.{reloaded-comes}
+use Rattle.run_laws.specs.Begins.{entries_of}
+use Rattle.run_laws.specs.Entries.{recoveries_by, recoveries_in_act, recoveries_of, recoveries_scanned, takeovers_by, takeovers_of, tried}
+use Rattle.run_laws.specs.Fates.{AuditIs, RestartKeepsAll, acked_in, cluster_acked, cluster_decided, cluster_of, entry_by_job, entry_in_act, entry_then}
+use Rattle.run_laws.specs.Runs.{ComesTo}
+
+-- ---- lists
+
+map-same : (xs : List KeptRecovery) → map (λ k. k) xs ≡ xs
+map-same [] = refl
+map-same (x ∷ xs) = ap (λ (ys : List KeptRecovery). x ∷ ys) (map-same xs)
+
+map-alike : (f g : KeptRecovery → KeptRecovery) → ((k : KeptRecovery) → f k ≡ g k) → (xs : List KeptRecovery) → map f xs ≡ map g xs
+map-alike f g same [] = refl
+map-alike f g same (x ∷ xs) = λ i. same x i ∷ map-alike f g same xs i
+
+-- nothing becomes of any, and nothing begins
+stays : (xs : List KeptRecovery) → xs ≡ map (λ k. k) xs ++ []
+stays xs = sym (append-nil (map (λ (k : KeptRecovery). k) xs) ∙ map-same xs)
+
+after-all : (a : AuditState) (xs : List RecoveryBegins) → (audit_after a xs).recoveries ≡ a.recoveries ++ entries_of xs
+after-all a [] = sym (append-nil a.recoveries)
+after-all a (x ∷ xs) = after-all (begun a x.entry) xs ∙ append_assoc a.recoveries (x.entry ∷ []) (entries_of xs)
+
+-- some begin
+joins : (a : AuditState) (xs : List RecoveryBegins) → (audit_after a xs).recoveries ≡ map (λ k. k) a.recoveries ++ entries_of xs
+joins a xs = after-all a xs ∙ ap (λ (ys : List KeptRecovery). ys ++ entries_of xs) (sym (map-same a.recoveries))
+
+-- ---- a command
+
+module _ (s : State) (c : CommandTurn) where
+  -- of its audit, by the cluster that is acknowledged and what begins
+  abbrev Is : Option (List ℕ) → List RecoveryBegins → AuditState → Type 0
+  Is cluster xs a = a.recoveries ≡ map (acked_in cluster) s.audit.recoveries ++ entries_of xs
+
+  abbrev By : Option (List ℕ) → List RecoveryBegins → Outcome → Type 0
+  By cluster xs o = Is cluster xs (updated (known_of s) o.book).audit
+
+  none : Is None [] s.audit
+  none = stays s.audit.recoveries
+
+  by-discovered : (b : BookState) (reads : ℕ) (o : Observation) (x : Option Seen) → By None [] (discovered b reads o x)
+  by-discovered b reads o None = none
+  by-discovered b reads o (Some seen) = none
+
+  by-forgotten : (reads : ℕ) (p : Result Unit Refusal) (i : ServerNo) → By None [] (forgotten reads p i)
+  by-forgotten reads (Ok permit) i = none
+  by-forgotten reads (Err r) i = none
+
+  by-asked : (reads : ℕ) (p : Result Unit Refusal) (lines : List Line) → By None [] (asked reads p lines)
+  by-asked reads (Ok permit) lines = none
+  by-asked reads (Err r) lines = none
+
+  by-job : (r : Option Refusal) (list : List ServerNo) (job : Unended) → By None [] (job_begun (numbers_of s) r list job)
+  by-job None list job = none
+  by-job (Some r) list job = none
+
+  by-try : (r : Result RecoveryBegins Refusal) → By None (tried r) (recovery_begun (numbers_of s) r)
+  by-try (Ok x) = joins s.audit (x ∷ [])
+  by-try (Err why) = none
+
+  by-recovery : (i : Option ServerNo) → By None (recoveries_of s i) (given_or (refusal s.reads UnknownInstance) (recovered s.world s.book s.audit s.configuration (numbers_of s)) i)
+  by-recovery None = none
+  by-recovery (Some i) = by-try (recovery_try s.world s.book s.audit (by_hand s.book s.configuration (numbers_of s) i) s.configuration.wait (s.last_job + 1) i)
+
+  by-taken : (i : ServerNo) (d : Option ServerNo) → By None (takeovers_by s i d) (taken_over s.world s.book s.audit s.configuration (numbers_of s) d i)
+  by-taken i None = none
+  by-taken i (Some d) = by-try (takeover_try s.world s.book s.audit (by_hand s.book s.configuration (numbers_of s) i) s.configuration.wait (s.last_job + 1) i d)
+
+  by-takeover : (i d : Option ServerNo) → By None (takeovers_of s i d) (given_or (refusal s.reads UnknownInstance) (taken_over s.world s.book s.audit s.configuration (numbers_of s) d) i)
+  by-takeover None d = none
+  by-takeover (Some i) d = by-taken i d
+
+  by-given : (alone : Outcome) (some : ServerNo → Outcome) → By None [] alone → ((i : ServerNo) → By None [] (some i)) → (i : Option ServerNo) → By None [] (given_or alone some i)
+  by-given alone some here each None = here
+  by-given alone some here each (Some i) = each i
+
+  by-question : By None [] (question s.book s.audit s.reads c)
+  by-question = by-asked s.reads (permitted s.book c.command) (lines_of s.book s.audit.recoveries c c.command.name)
+
+  -- a decision
+  abbrev decides : Result Unit Refusal → Option ServerNo → Decision → Outcome
+  decides p i d = decided s.reads s.audit p (decided_of s.book s.audit (record { 0 = s.moment }) c.keys i d)
+
+  acks : (p : Result Unit Refusal) (i : Option ServerNo) → By (cluster_of s.book p i) [] (decides p i decision.AckRecoveries)
+  acks (Err r) i = none
+  acks (Ok permit) None = none
+  acks (Ok permit) (Some i) = sym (append-nil (map (acked_in (cluster_of s.book (Ok permit) (Some i))) s.audit.recoveries))
+
+  plain : (o : Option Change) → audit_decided s.audit (effect_by o) ≡ s.audit
+  plain None = refl
+  plain (Some x) = refl
+
+  -- another changes no entry
+  others : (p : Result Unit Refusal) (d : Decided) → audit_decided s.audit d.effect ≡ s.audit → By None [] (decided s.reads s.audit p d)
+  others (Err r) d same = none
+  others (Ok permit) d same = ap (λ (a : AuditState). a.recoveries) same ∙ none
+
+  by-decision : (p : Result Unit Refusal) → p ≡ permitted s.book c.command → (i : Option ServerNo) → i ≡ c.command.i → (d : Decision) → By (cluster_decided s c d) [] (decides p i d)
+  by-decision p is i at decision.AckRecoveries = subst (λ (q : Result Unit Refusal). By (cluster_of s.book q c.command.i) [] (decides p i decision.AckRecoveries)) is
+      (subst (λ (k : Option ServerNo). By (cluster_of s.book p k) [] (decides p i decision.AckRecoveries)) at (acks p i))
+  by-decision p is None at decision.BeginDowntime = others p (decided_of s.book s.audit (record { 0 = s.moment }) c.keys None decision.BeginDowntime) refl
+  by-decision p is (Some i) at decision.BeginDowntime = others p (decided_of s.book s.audit (record { 0 = s.moment }) c.keys (Some i) decision.BeginDowntime) (plain _)
+  by-decision p is None at decision.EndDowntime = others p (decided_of s.book s.audit (record { 0 = s.moment }) c.keys None decision.EndDowntime) refl
+  by-decision p is (Some i) at decision.EndDowntime = others p (decided_of s.book s.audit (record { 0 = s.moment }) c.keys (Some i) decision.EndDowntime) (plain _)
+  by-decision p is None at decision.RegisterCandidate = others p (decided_of s.book s.audit (record { 0 = s.moment }) c.keys None decision.RegisterCandidate) refl
+  by-decision p is (Some i) at decision.RegisterCandidate = others p (decided_of s.book s.audit (record { 0 = s.moment }) c.keys (Some i) decision.RegisterCandidate) (plain _)
+  by-decision p is i at decision.DisableRecoveries = others p (decided_of s.book s.audit (record { 0 = s.moment }) c.keys i decision.DisableRecoveries) (plain _)
+  by-decision p is i at decision.EnableRecoveries = others p (decided_of s.book s.audit (record { 0 = s.moment }) c.keys i decision.EnableRecoveries) (plain _)
+
+  by-route : (r : Route) → By (cluster_acked s c r) (recoveries_by s c.command r) (outcome_by s.world s.book s.audit s.configuration (numbers_of s) c r)
+  by-route Discovers =
+      by-given (question s.book s.audit s.reads c) (λ i. discovered s.book s.reads (next_reading s.world (numbers_of s) i) (next_reading s.world (numbers_of s) i).seen) by-question
+      (λ i. by-discovered s.book s.reads (next_reading s.world (numbers_of s) i) (next_reading s.world (numbers_of s) i).seen) c.command.i
+  by-route Forgets =
+      by-given (question s.book s.audit s.reads c) (forgotten s.reads (allowed (removal_refusal s.book c.command))) by-question
+      (by-forgotten s.reads (allowed (removal_refusal s.book c.command))) c.command.i
+  by-route (Asks q) = by-question
+  by-route (Decides d) = by-decision (permitted s.book c.command) refl c.command.i refl d
+  by-route (Begins p) =
+      by-job (refusal_by s.world s.book (record { 0 = s.moment }) c.command p) (leases_by s.world s.book c.command p)
+      (job_by s.world s.book c.command p (s.last_job + 1) s.configuration.wait)
+  by-route Recovers = by-recovery c.command.i
+  by-route TakesOver = by-takeover c.command.i c.command.d
+
+  by-command : By (cluster_acked s c (route_of c.command.name)) (recoveries_by s c.command (route_of c.command.name)) (command_outcome s c)
+  unfolding outcome_of
+  by-command = by-route (route_of c.command.name)
+
+-- ---- a job
+
+module _ (s : State) where
+  abbrev now : Moment
+  now = record { 0 = s.moment }
+
+  abbrev Ends : AuditState → (KeptRecovery → KeptRecovery) → Type 0
+  Ends a f = a.recoveries ≡ map f s.audit.recoveries ++ []
+
+  -- an entry ends
+  ends : (e : ℕ) (o : Ending) (acked : Bool) (f : KeptRecovery → KeptRecovery) → ((k : KeptRecovery) → ended_in now e o acked k ≡ f k) → Ends (ended_with s.audit now e o acked) f
+  ends e o acked f same =
+      ap (λ (a : AuditState). a.recoveries) (ended-map now e o s.audit acked)
+      ∙ (map-alike (ended_in now e o acked) f same s.audit.recoveries ∙ sym (append-nil (map f s.audit.recoveries)))
+
+  module _ (e : ℕ) (r : Recovery) where
+    abbrev becomes : JobStep → KeptRecovery → KeptRecovery
+    becomes x k = if k.id == e then entry_then now r x k else k
+
+    goes : (k : KeptRecovery) → becomes step.Going k ≡ k
+    goes k = by (k.id == e)
+      where
+        by : (b : Bool) → (if b then k else k) ≡ k
+        by true = refl
+        by false = refl
+
+    is-done : (lines : List Line) (k : KeptRecovery) → ended_in now e (done_with r.outcome.promoted) (is_takeover r.purpose) k ≡ becomes (step.Done lines) k
+    is-done lines k = by (k.id == e) (is_takeover r.purpose)
+      where
+        by : (b acked : Bool) → (if b then ended_as now (done_with r.outcome.promoted) acked k else k)
+            ≡ (if b then record k { ended = Some now; outcome = done_with r.outcome.promoted; acked = acked || k.acked } else k)
+        by true true = refl
+        by true false = refl
+        by false acked = refl
+
+    by-step : (x : JobStep) → Ends (closed_by s.audit now (closing_by (unended.Recovery r (Some e)) x)) (becomes x)
+    by-step step.Going = stays s.audit.recoveries ∙ ap (λ (ys : List KeptRecovery). ys ++ []) (map-alike (λ k. k) (becomes step.Going) (λ k. sym (goes k)) s.audit.recoveries)
+    by-step (step.Done lines) = ends e (done_with r.outcome.promoted) (is_takeover r.purpose) (becomes (step.Done lines)) (is-done lines)
+    by-step (step.Failed c lines) = ends e (ending.Failed (cause_name c)) false (becomes (step.Failed c lines)) (λ k. refl)
+
+  by-job-turn : (o : Option Unended) → Ends (closed_by s.audit now (closing_of (option_map (turn_of s) o))) (entry_by_job s o)
+  by-job-turn None = stays s.audit.recoveries
+  by-job-turn (Some (unended.Plan j)) = stays s.audit.recoveries
+  by-job-turn (Some (unended.Recovery r None)) = stays s.audit.recoveries
+  by-job-turn (Some (unended.Recovery r (Some e))) = let t = taken s.world s.book (next_count s.reads) now r in by-step e t.recovery t.step
+
+-- ---- each turn
+
+act-fates : (rows : List Row) (s : State) (a : Act) → act_asks a ≡ false → (after_act rows s a).audit.recoveries ≡ map (entry_in_act s a) s.audit.recoveries ++ entries_of (recoveries_in_act s a)
+act-fates rows s (act.PollRead p n) off = stays s.audit.recoveries
+act-fates rows s (act.PollStore p) off = stays s.audit.recoveries
+act-fates rows s (act.Command c) off = by-command s c
+act-fates rows s (act.Job job) off = by-job-turn s (job_at s.jobs job)
+act-fates rows s act.Scan off = joins s.audit (recoveries_scanned s)
+act-fates rows s act.Restart off = absurd (false≢true (sym off))
+
+pub turn-fates : (rows : List Row) (s : State) (t : Turn) → asks t ≡ false → AuditIs rows s t
+turn-fates rows s (turn.Step x) off = stays s.audit.recoveries
+turn-fates rows s (turn.Tick seconds) off = stays s.audit.recoveries
+turn-fates rows s (turn.Act a) off = act-fates rows s a off
+turn-fates rows s (turn.As node a) off = act-fates rows s a off
+turn-fates rows s (turn.Claim node) off = stays s.audit.recoveries
+turn-fates rows s (turn.Release node) off = stays s.audit.recoveries
+
+pub restart-comes : (s : Scenario) (xs : List (List Row × Turn)) (last : State) (rows : List Row) → ComesTo s xs last → RestartKeepsAll (length s.opening.servers) rows last
+restart-comes s xs last rows comes rising follow = ap (λ (a : AuditState). closed a (interrupted_at rows last)) (reloaded-comes s xs last rows comes rising follow)

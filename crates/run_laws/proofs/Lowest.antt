@@ -1,0 +1,126 @@
+-- What refuses a command has the lowest number of what its checks refuse.
+use Rattle.std.proofs.Common.{◌≡◌, ℕ, ◌≤◌, Bool, true, false, List, [], ◌∷◌, refl, ap, subst, Option, Some, None, arith}
+use Rattle.std.specs.Prelude.{Any, is_some, if◌then◌else◌}
+use Rattle.std.specs.Option.{option_or}
+use Rattle.std.proofs.lemmas.List.Elements.{All-cons, All-nil}
+use Rattle.std.proofs.lemmas.Option.{same_Some}
+use Rattle.answer_laws.proofs.Rising.{coords-lowest, gtid-lowest, path-lowest, recovery-lowest, takeover-lowest}
+use Rattle.answer_laws.specs.Lowest.{IsAnswer, IsNoLower}
+use Rattle.asking_commands.specs.Answers.{is_known, unknown_in}
+use Rattle.command_jobs.specs.Jobs.{refusal_by as planned_refusal}
+use Rattle.command_routes.specs.declared.kinds.Regrouping.TheVariants.{ByBridges, ByMatches}
+use Rattle.command_routes.specs.declared.route.Planner.{Planner}
+use Rattle.command_routes.specs.declared.route.Planner.TheVariants.{Coordinates, Gtids, Matches, Paths, Regroups}
+use Rattle.command_routes.specs.declared.route.Route.{Route}
+use Rattle.command_routes.specs.declared.route.Route.TheVariants.{Discovers, Forgets, Asks, Decides, Begins, Recovers, TakesOver}
+use Rattle.command_routes.specs.Routes.{route_of}
+use Rattle.commands.specs.Refusals.{number_of}
+use Rattle.commands.specs.Unknown.{is_unknown}
+use Rattle.commands.specs.declared.refusal.Refusal.{Refusal}
+use Rattle.commands.specs.declared.refusal.Refusal.TheVariants as refusal
+use Rattle.commands.specs.declared.turn.Command.{Command}
+use Rattle.instance_keeper.specs.Book.{lease_at}
+use Rattle.kept_rows.specs.Seeing.{seen_in}
+use Rattle.orch_base.specs.declared.server.ServerNo.{ServerNo}
+use Rattle.permission.specs.Checks.{busy_by}
+use Rattle.server_model.specs.Gtids.{status}
+use Rattle.orch_core.specs.Commands.{busy_given, by_hand, first_of}
+use Rattle.orch_core.specs.Permission.{refusal_by, recovery_refused, takeover_given, takeover_refused, unreached}
+use Rattle.orch_core.specs.Polls.{numbers_of}
+use Rattle.orch_core.specs.States.{State}
+use Rattle.run_laws.specs.Lowest.{RefusedByLowest, checks_by, plan_checks, recover_checks, takeover_checks_by, takes_checks}
+
+-- ---- one check, and two
+
+any-first : (P : Option Refusal → Type 0) (x : Option Refusal) (xs : List (Option Refusal)) → P x → Any P (x ∷ xs)
+any-first P x xs h = (0, x, omega arith, refl, h)
+
+any-second : (P : Option Refusal → Type 0) (x y : Option Refusal) → P y → Any P (x ∷ y ∷ [])
+any-second P x y h = (1, y, omega arith, refl, h)
+
+-- a check refuses with no lower number than itself
+itself : (r : Refusal) → IsNoLower r (Some r)
+itself r s e = let n : number_of r ≡ number_of s = ap number_of (same_Some r s e) in omega (arith, n)
+
+one-check : (x : Option Refusal) → IsAnswer (x ∷ []) x
+one-check None = All-cons (λ y. y ≡ None) None [] refl (All-nil (λ y. y ≡ None))
+one-check (Some r) = record {
+  one = any-first (λ y. y ≡ Some r) (Some r) [] refl;
+  lowest = All-cons (IsNoLower r) (Some r) [] (itself r) (All-nil (IsNoLower r));
+}
+
+-- the first refuses with 2, and the second with a greater number
+two-checks : (unknown : Bool) (x : Option Refusal) → ((r : Refusal) → x ≡ Some r → 2 ≤ number_of r)
+    → IsAnswer ((if unknown then Some refusal.UnknownInstance else None) ∷ x ∷ []) (first_of (if unknown then Some refusal.UnknownInstance else None) x)
+two-checks true x more = record {
+  one = any-first (λ y. y ≡ Some refusal.UnknownInstance) (Some refusal.UnknownInstance) (x ∷ []) refl;
+  lowest = All-cons (IsNoLower refusal.UnknownInstance) (Some refusal.UnknownInstance) (x ∷ []) (itself refusal.UnknownInstance)
+      (All-cons (IsNoLower refusal.UnknownInstance) x [] more (All-nil (IsNoLower refusal.UnknownInstance)));
+}
+two-checks false None more = All-cons (λ y. y ≡ None) None (None ∷ []) refl (All-cons (λ y. y ≡ None) None [] refl (All-nil (λ y. y ≡ None)))
+two-checks false (Some r) more = record {
+  one = any-second (λ y. y ≡ Some r) None (Some r) refl;
+  lowest = All-cons (IsNoLower r) None (Some r ∷ []) (λ s e. cc) (All-cons (IsNoLower r) (Some r) [] (itself r) (All-nil (IsNoLower r)));
+}
+
+same-first : (x y : Option Refusal) → first_of x y ≡ option_or x y
+same-first None y = refl
+same-first (Some r) y = refl
+
+-- ---- each command
+
+module _ (s : State) (c : Command) where
+  abbrev unknown : Bool
+  unknown = is_unknown c (is_known s.book c.i) (is_known s.book c.d)
+
+  unmatched : IsAnswer (unknown_in s.book c ∷ Some refusal.PseudoOff ∷ []) (first_of (unknown_in s.book c) (Some refusal.PseudoOff))
+  unmatched = two-checks unknown (Some refusal.PseudoOff) (λ r e. let n : 31 ≡ number_of r = ap number_of (same_Some refusal.PseudoOff r e) in omega (arith, n))
+
+  -- of a plan
+  by-plan : (p : Planner) → IsAnswer (plan_checks s c p) (planned_refusal s.world s.book (record { 0 = s.moment }) c p)
+  by-plan (Coordinates kind) = coords-lowest s.world s.book c
+  by-plan (Gtids kind) = gtid-lowest s.world s.book c
+  by-plan (Paths kind) = path-lowest s.world s.book (record { 0 = s.moment }) c
+  by-plan (Regroups ByBridges) = path-lowest s.world s.book (record { 0 = s.moment }) c
+  by-plan (Regroups ByMatches) = subst (IsAnswer (unknown_in s.book c ∷ Some refusal.PseudoOff ∷ [])) (same-first (unknown_in s.book c) (Some refusal.PseudoOff)) unmatched
+  by-plan (Matches kind) = subst (IsAnswer (unknown_in s.book c ∷ Some refusal.PseudoOff ∷ [])) (same-first (unknown_in s.book c) (Some refusal.PseudoOff)) unmatched
+
+  by-recovery : (i : Option ServerNo) → IsAnswer (recover_checks s i) (recovery_refused s.world s.book s.audit s.configuration (numbers_of s) i)
+  by-recovery None = one-check (Some refusal.UnknownInstance)
+  by-recovery (Some i) = recovery-lowest s.world s.book s.audit (by_hand s.book s.configuration (numbers_of s) i) i
+
+  by-given : (i : ServerNo) (d : Option ServerNo) → IsAnswer (takeover_checks_by s i d) (takeover_given s.world s.book s.audit s.configuration (numbers_of s) i d)
+  by-given i None = one-check (Some refusal.UnknownInstance)
+  by-given i (Some d) = takeover-lowest s.world s.book s.audit (by_hand s.book s.configuration (numbers_of s) i) i d
+
+  by-takeover : (i d : Option ServerNo) → IsAnswer (takes_checks s i d) (takeover_refused s.world s.book s.audit s.configuration (numbers_of s) i d)
+  by-takeover None d = one-check (Some refusal.UnknownInstance)
+  by-takeover (Some i) d = by-given i d
+
+  reaches : (i : Option ServerNo) (r : Refusal) → unreached s.world i ≡ Some r → 2 ≤ number_of r
+  reaches None r e = cc
+  reaches (Some i) r e = go (is_some (seen_in (status s.world i.0))) e
+    where
+      go : (b : Bool) → (if b then None else Some (refusal.Unreachable i)) ≡ Some r → 2 ≤ number_of r
+      go true e = cc
+      go false e = let n : 5 ≡ number_of r = ap number_of (same_Some (refusal.Unreachable i) r e) in omega (arith, n)
+
+  leaves : (i : Option ServerNo) (r : Refusal) → busy_given s.book i ≡ Some r → 2 ≤ number_of r
+  leaves None r e = cc
+  leaves (Some i) r e = go (lease_at s.book i) e
+    where
+      go : (o : Option ℕ) → busy_by i o ≡ Some r → 2 ≤ number_of r
+      go None e = cc
+      go (Some job) e = let n : 4 ≡ number_of r = ap number_of (same_Some (refusal.Busy i job) r e) in omega (arith, n)
+
+  by-route : (r : Route) → IsAnswer (checks_by s c r) (refusal_by s.world s.book s.audit s.configuration (numbers_of s) c r)
+  by-route Discovers = two-checks unknown (unreached s.world c.i) (reaches c.i)
+  by-route Forgets = two-checks unknown (busy_given s.book c.i) (leaves c.i)
+  by-route (Asks question) = one-check (unknown_in s.book c)
+  by-route (Decides decision) = one-check (unknown_in s.book c)
+  by-route (Begins p) = by-plan p
+  by-route Recovers = by-recovery c.i
+  by-route TakesOver = by-takeover c.i c.d
+
+  pub lowest-refuses : RefusedByLowest s c
+  lowest-refuses = by-route (route_of c.name)

@@ -1,0 +1,116 @@
+-- What becomes of an entry of the audit with a turn.
+use Rattle.std.specs.Prelude.{◌≡◌, ℕ, ◌==◌, ◌||◌, ◌++◌, true, if◌then◌else◌, List, map, Option, None, Some, Result, Ok, Err}
+use Rattle.asking_commands.specs.Answers.{permitted}
+use Rattle.audit_log.specs.Audits.{closed, is_of}
+use Rattle.book_views.specs.Sources.{label_at}
+use Rattle.command_routes.specs.declared.route.Decision.{Decision}
+use Rattle.command_routes.specs.declared.route.Decision.TheVariants as decision
+use Rattle.command_routes.specs.declared.route.Route.{Route}
+use Rattle.command_routes.specs.declared.route.Route.TheVariants.{Discovers, Forgets, Asks, Decides, Begins, Recovers, TakesOver}
+use Rattle.command_routes.specs.Routes.{route_of}
+use Rattle.commands.specs.Causes.{cause_name}
+use Rattle.commands.specs.declared.refusal.Refusal.{Refusal}
+use Rattle.commands.specs.declared.turn.CommandTurn.{CommandTurn}
+use Rattle.instance_keeper.specs.Book.{BookState}
+use Rattle.jobs_in_flight.specs.Jobs.{job_at}
+use Rattle.kept_rows.specs.Rows.{IsRising}
+use Rattle.kept_rows.specs.declared.recovery.Recovery.{Recovery as KeptRecovery}
+use Rattle.kept_rows.specs.declared.row.Row.{Row}
+use Rattle.opening_book.specs.Following.{FollowAudit}
+use Rattle.operations.specs.declared.step.JobStep.{JobStep}
+use Rattle.operations.specs.declared.step.JobStep.TheVariants as step
+use Rattle.orch_base.specs.Memory.{next_count}
+use Rattle.orch_base.specs.declared.recovery.Ending.TheVariants as ending
+use Rattle.orch_base.specs.declared.server.Moment.{Moment}
+use Rattle.orch_base.specs.declared.server.ServerNo.{ServerNo}
+use Rattle.recovery_core.specs.Endings.{done_with, is_takeover}
+use Rattle.recovery_plans.specs.Recoveries.{Recovery}
+use Rattle.recovery_plans.specs.Taking.{Taken, taken}
+use Rattle.turns.specs.declared.turn.Act.{Act}
+use Rattle.turns.specs.declared.turn.Act.TheVariants as act
+use Rattle.turns.specs.declared.turn.Turn.{Turn}
+use Rattle.turns.specs.declared.turn.Turn.TheVariants as turn
+use Rattle.unended_jobs.specs.declared.unended.Unended.{Unended}
+use Rattle.unended_jobs.specs.declared.unended.Unended.TheVariants as unended
+use Rattle.orch_core.specs.After.{step as turn_step}
+use Rattle.orch_core.specs.Restarts.{interrupted_at}
+use Rattle.orch_core.specs.States.{State}
+use Rattle.run_laws.specs.Entries.{entries_begun}
+
+-- ---- with its job
+
+-- it stays open while its job goes on, and ends at the moment of the turn in which the job is done, with the server that
+-- was promoted, or fails, with the cause's name; only a takeover that is done is acknowledged
+abbrev pub entry_then : Moment → Recovery → JobStep → KeptRecovery → KeptRecovery
+entry_then now r step.Going k = k
+entry_then now r (step.Done lines) k = record k { ended = Some now; outcome = done_with r.outcome.promoted; acked = is_takeover r.purpose || k.acked }
+entry_then now r (step.Failed c lines) k = record k { ended = Some now; outcome = ending.Failed (cause_name c) }
+
+-- after the turn of its own job, with this entry, and no other
+abbrev pub entry_of_turn : Moment → ℕ → Taken → KeptRecovery → KeptRecovery
+entry_of_turn now e t k = if k.id == e then entry_then now t.recovery t.step k else k
+
+abbrev pub entry_by_job : State → Option Unended → KeptRecovery → KeptRecovery
+entry_by_job s None k = k
+entry_by_job s (Some (unended.Plan j)) k = k
+entry_by_job s (Some (unended.Recovery r None)) k = k
+entry_by_job s (Some (unended.Recovery r (Some e))) k =
+    entry_of_turn (record { 0 = s.moment }) e (taken s.world s.book (next_count s.reads) (record { 0 = s.moment }) r) k
+
+-- ---- with a command
+
+-- the cluster of which a command acknowledges the recoveries
+abbrev pub cluster_of : BookState → Result Unit Refusal → Option ServerNo → Option (List ℕ)
+cluster_of b (Err r) i = None
+cluster_of b (Ok permit) None = None
+cluster_of b (Ok permit) (Some i) = Some (label_at b i)
+
+abbrev pub cluster_decided : State → CommandTurn → Decision → Option (List ℕ)
+cluster_decided s c decision.BeginDowntime = None
+cluster_decided s c decision.EndDowntime = None
+cluster_decided s c decision.RegisterCandidate = None
+cluster_decided s c decision.DisableRecoveries = None
+cluster_decided s c decision.EnableRecoveries = None
+cluster_decided s c decision.AckRecoveries = cluster_of s.book (permitted s.book c.command) c.command.i
+
+abbrev pub cluster_acked : State → CommandTurn → Route → Option (List ℕ)
+cluster_acked s c Discovers = None
+cluster_acked s c Forgets = None
+cluster_acked s c (Asks question) = None
+cluster_acked s c (Decides d) = cluster_decided s c d
+cluster_acked s c (Begins p) = None
+cluster_acked s c Recovers = None
+cluster_acked s c TakesOver = None
+
+abbrev pub acked_in : Option (List ℕ) → KeptRecovery → KeptRecovery
+acked_in None k = k
+acked_in (Some cluster) k = if is_of cluster k then record k { acked = true } else k
+
+-- ---- with a turn
+
+-- none but its own job's turn ends it, and none but that and an acknowledgement of its cluster acknowledges it; a
+-- restart loads all anew
+abbrev pub entry_in_act : State → Act → KeptRecovery → KeptRecovery
+entry_in_act s (act.PollRead p n) k = k
+entry_in_act s (act.PollStore p) k = k
+entry_in_act s (act.Command c) k = acked_in (cluster_acked s c (route_of c.command.name)) k
+entry_in_act s (act.Job job) k = entry_by_job s (job_at s.jobs job) k
+entry_in_act s act.Scan k = k
+entry_in_act s act.Restart k = k
+
+abbrev pub entry_after : State → Turn → KeptRecovery → KeptRecovery
+entry_after s (turn.Step x) k = k
+entry_after s (turn.Tick seconds) k = k
+entry_after s (turn.Act a) k = entry_in_act s a k
+entry_after s (turn.As node a) k = entry_in_act s a k
+entry_after s (turn.Claim node) k = k
+entry_after s (turn.Release node) k = k
+
+-- each entry that there was becomes what the turn makes of it, and those that begin in it come behind
+abbrev pub AuditIs : List Row → State → Turn → Type 0
+AuditIs rows s t = (turn_step rows s t).audit.recoveries ≡ map (entry_after s t) s.audit.recoveries ++ entries_begun s t
+
+-- where the keeper hands back the rows by which all was kept, a restart keeps each entry, and ends those that aren't
+-- ended as interrupted
+abbrev pub RestartKeepsAll : ℕ → List Row → State → Type 0
+RestartKeepsAll count rows s = IsRising rows → FollowAudit count rows s.audit → (turn_step rows s (turn.Act act.Restart)).audit ≡ closed s.audit (interrupted_at rows s)

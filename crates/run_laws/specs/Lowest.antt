@@ -1,0 +1,55 @@
+-- The checks of the permission table for each command, in whatever order they are looked at.
+use Rattle.std.specs.Prelude.{List, [], ◌∷◌, Option, Some, None}
+use Rattle.answer_laws.specs.Lowest.{IsAnswer, coords_checks, gtid_checks, path_checks, recovery_checks, takeover_checks}
+use Rattle.asking_commands.specs.Answers.{unknown_in}
+use Rattle.command_routes.specs.declared.kinds.Regrouping.TheVariants.{ByBridges, ByMatches}
+use Rattle.command_routes.specs.declared.route.Planner.{Planner}
+use Rattle.command_routes.specs.declared.route.Planner.TheVariants.{Coordinates, Gtids, Matches, Paths, Regroups}
+use Rattle.command_routes.specs.declared.route.Route.{Route}
+use Rattle.command_routes.specs.declared.route.Route.TheVariants.{Discovers, Forgets, Asks, Decides, Begins, Recovers, TakesOver}
+use Rattle.command_routes.specs.Routes.{route_of}
+use Rattle.commands.specs.declared.refusal.Refusal.{Refusal}
+use Rattle.commands.specs.declared.refusal.Refusal.TheVariants as refusal
+use Rattle.commands.specs.declared.turn.Command.{Command}
+use Rattle.orch_base.specs.declared.server.ServerNo.{ServerNo}
+use Rattle.orch_core.specs.Commands.{busy_given, by_hand}
+use Rattle.orch_core.specs.Permission.{refusal_at, unreached}
+use Rattle.orch_core.specs.Polls.{numbers_of}
+use Rattle.orch_core.specs.States.{State}
+
+-- a command that begins the job of a plan; no log has marks by which it could be matched
+abbrev pub plan_checks : State → Command → Planner → List (Option Refusal)
+plan_checks s c (Coordinates kind) = coords_checks s.world s.book c
+plan_checks s c (Gtids kind) = gtid_checks s.world s.book c
+plan_checks s c (Paths kind) = path_checks s.world s.book (record { 0 = s.moment }) c
+plan_checks s c (Regroups ByBridges) = path_checks s.world s.book (record { 0 = s.moment }) c
+plan_checks s c (Regroups ByMatches) = unknown_in s.book c ∷ Some refusal.PseudoOff ∷ []
+plan_checks s c (Matches kind) = unknown_in s.book c ∷ Some refusal.PseudoOff ∷ []
+
+-- the recovery of the instance that is given
+abbrev pub recover_checks : State → Option ServerNo → List (Option Refusal)
+recover_checks s None = Some refusal.UnknownInstance ∷ []
+recover_checks s (Some i) = recovery_checks s.world s.book s.audit (by_hand s.book s.configuration (numbers_of s) i) i
+
+-- a takeover by the designated server that is given
+abbrev pub takeover_checks_by : State → ServerNo → Option ServerNo → List (Option Refusal)
+takeover_checks_by s i None = Some refusal.UnknownInstance ∷ []
+takeover_checks_by s i (Some d) = takeover_checks s.world s.book s.audit (by_hand s.book s.configuration (numbers_of s) i) i d
+
+abbrev pub takes_checks : State → Option ServerNo → Option ServerNo → List (Option Refusal)
+takes_checks s None d = Some refusal.UnknownInstance ∷ []
+takes_checks s (Some i) d = takeover_checks_by s i d
+
+abbrev pub checks_by : State → Command → Route → List (Option Refusal)
+checks_by s c Discovers = unknown_in s.book c ∷ unreached s.world c.i ∷ []
+checks_by s c Forgets = unknown_in s.book c ∷ busy_given s.book c.i ∷ []
+checks_by s c (Asks question) = unknown_in s.book c ∷ []
+checks_by s c (Decides decision) = unknown_in s.book c ∷ []
+checks_by s c (Begins p) = plan_checks s c p
+checks_by s c Recovers = recover_checks s c.i
+checks_by s c TakesOver = takes_checks s c.i c.d
+
+-- nothing refuses a command exactly where each of its checks passes, else what one of them refuses, and none with a
+-- lower number
+abbrev pub RefusedByLowest : State → Command → Type 0
+RefusedByLowest s c = IsAnswer (checks_by s c (route_of c.name)) (refusal_at s c)
