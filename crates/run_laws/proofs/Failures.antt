@@ -1,7 +1,7 @@
 -- A plan's job fails for what befell the operation that was due.
 use Rattle.std.proofs.Common.{◌≡◌, ◌∙◌, ℕ, Bool, true, false, cond, map, List, [], ◌∷◌, refl, sym, ap, subst, Option, Some, None}
 use Rattle.std.specs.Option.{option_map}
-use Rattle.cause_laws.proofs.Turning.{failed-befell, stopped-befell, turn-idle, turn-taken}
+use Rattle.cause_laws.proofs.Turning.{failed-befell, spent-last, stopped-befell, turn-idle, turn-taken, undisturbed-done}
 use Rattle.cause_laws.specs.Events.{Befell}
 use Rattle.commands.specs.declared.cause.Cause.{Cause}
 use Rattle.commands.specs.declared.line.Line.{Line}
@@ -25,9 +25,26 @@ use Rattle.turns.specs.declared.turn.Turn.TheVariants as turn
 use Rattle.unended_jobs.specs.declared.unended.Unended.{Unended}
 use Rattle.unended_jobs.specs.declared.unended.Unended.TheVariants as unended
 use Rattle.run_laws.specs.Failures as failure
-use Rattle.run_laws.specs.Failures.{FailsTruly, HasNobody, IsBefallen, IsFailing, PlansFailForWhatBefell, RecoveriesFailForWhatBefell, Went, finds_nobody}
+use Rattle.run_laws.specs.BegunJobs.{BegunJob, begun_by, begun_of, of_plan, of_try, recovering, taking_over}
+use Rattle.run_laws.specs.Ready.{Ready}
+use Rattle.unended_jobs.specs.Unended.{IsReady}
+use Rattle.orch_core.proofs.Turned.{All-found}
+use Rattle.orch_core.specs.Commands.{by_hand}
+use Rattle.orch_core.specs.Knowing.{recovery_job}
+use Rattle.orch_core.specs.Polls.{numbers_of}
+use Rattle.command_jobs.specs.Jobs.{job_by, leases_by, refusal_by, regroup_about}
+use Rattle.command_routes.specs.Routes.{route_of}
+use Rattle.command_routes.specs.declared.kinds.Regrouping.TheVariants.{ByBridges, ByMatches}
+use Rattle.command_routes.specs.declared.route.Planner.{Planner}
+use Rattle.command_routes.specs.declared.route.Planner.TheVariants as planner
+use Rattle.command_routes.specs.declared.route.Route.{Route}
+use Rattle.command_routes.specs.declared.route.Route.TheVariants as route
+use Rattle.commands.specs.declared.refusal.Refusal.{Refusal}
+use Rattle.commands.specs.declared.turn.Command.{Command}
+use Rattle.recovery_core.specs.Tries.{Begins as RecoveryBegins, recovery_try, takeover_try}
+use Rattle.run_laws.specs.Failures.{FailsTruly, HasNobody, IsBefallen, IsFailing, PlansAreDone, PlansFailForWhatBefell, SpendsWaitsLast, RecoveriesFailForWhatBefell, Went, finds_nobody}
 use Rattle.commands.specs.declared.cause.Cause.TheVariants as cause
-use Rattle.std.specs.Prelude.{◌==◌, IfSome, All, find}
+use Rattle.std.specs.Prelude.{◌==◌, ◌+◌, IfSome, All, find, Result, Ok, Err}
 use Rattle.std.proofs.lemmas.Bool.{false≢true, eq-eqb}
 use Rattle.std.proofs.lemmas.List.Elements.{All-nil, All-cons, All-head, All-tail, All-contains}
 use Rattle.promotion_rules.specs.declared.drained.Drained.{Drained}
@@ -95,6 +112,59 @@ module _ (s : State) (id : ℕ) (j : Job) (f : Failure) (found : job_at s.jobs i
 
 pub plans-fail : (s : State) → PlansFailForWhatBefell s
 plans-fail s = λ id j f found fails. befallen s id j f found fails
+
+-- ---- undisturbed jobs, and waits
+
+pub plans-done : (count : ℕ) (s : State) → Ready count s → PlansAreDone s
+plans-done count s ready = λ id j ms found long free. undisturbed-done j ms (All-found (IsReady count) s.jobs id (unended.Plan j) ready.jobs found).waited long free
+
+-- a plan's job begins without a wait
+abbrev IsFresh : Unended → Type 0
+IsFresh (unended.Plan j) = j.waited ≡ 0
+IsFresh (unended.Recovery r entry) = Unit {0}
+
+fresh-regroup : (b : BookState) (id wait : ℕ) (o : Option ServerNo) → IsFresh (regroup_about b id wait o)
+fresh-regroup b id wait None = refl
+fresh-regroup b id wait (Some i) = tt
+
+fresh-job : (w : World) (b : BookState) (c : Command) (p : Planner) (id wait : ℕ) → IsFresh (job_by w b c p id wait)
+fresh-job w b c (planner.Coordinates kind) id wait = refl
+fresh-job w b c (planner.Gtids kind) id wait = refl
+fresh-job w b c (planner.Paths kind) id wait = refl
+fresh-job w b c (planner.Regroups ByBridges) id wait = fresh-regroup b id wait c.i
+fresh-job w b c (planner.Regroups ByMatches) id wait = refl
+fresh-job w b c (planner.Matches kind) id wait = refl
+
+fresh-plan : (o : Option Refusal) (list : List ServerNo) (u : Unended) (x : BegunJob) → IsFresh u → of_plan o list u ≡ Some x → IsFresh x.job
+fresh-plan None list u x fresh is = subst (λ (y : BegunJob). IsFresh y.job) (same_Some (record { list = list; job = u; entry = None }) x is) fresh
+fresh-plan (Some r) list u x fresh is = cc
+
+fresh-try : (t : Result RecoveryBegins Refusal) (x : BegunJob) → of_try t ≡ Some x → IsFresh x.job
+fresh-try (Ok y) x is = subst (λ (z : BegunJob). IsFresh z.job) (same_Some (record { list = y.list; job = recovery_job y; entry = Some y.entry }) x is) tt
+fresh-try (Err r) x is = cc
+
+fresh-begun : (s : State) (c : Command) (x : BegunJob) (r : Route) → begun_by s c r ≡ Some x → IsFresh x.job
+fresh-begun s c x route.Discovers is = cc
+fresh-begun s c x route.Forgets is = cc
+fresh-begun s c x (route.Asks question) is = cc
+fresh-begun s c x (route.Decides decision) is = cc
+fresh-begun s c x (route.Begins p) is =
+    fresh-plan (refusal_by s.world s.book (record { 0 = s.moment }) c p) (leases_by s.world s.book c p) (job_by s.world s.book c p (s.last_job + 1) s.configuration.wait) x
+    (fresh-job s.world s.book c p (s.last_job + 1) s.configuration.wait) is
+fresh-begun s c x route.Recovers is = go c.i is
+  where
+    go : (o : Option ServerNo) → recovering s o ≡ Some x → IsFresh x.job
+    go None e = cc
+    go (Some i) e = fresh-try (recovery_try s.world s.book s.audit (by_hand s.book s.configuration (numbers_of s) i) s.configuration.wait (s.last_job + 1) i) x e
+fresh-begun s c x route.TakesOver is = go c.i c.d is
+  where
+    go : (o d : Option ServerNo) → taking_over s o d ≡ Some x → IsFresh x.job
+    go None d e = cc
+    go (Some i) None e = cc
+    go (Some i) (Some d) e = fresh-try (takeover_try s.world s.book s.audit (by_hand s.book s.configuration (numbers_of s) i) s.configuration.wait (s.last_job + 1) i d) x e
+
+pub spends-last : (s : State) (c : Command) (x : BegunJob) → begun_of s c ≡ Some x → SpendsWaitsLast x.job
+spends-last s c x begun = λ j ms m n lines is going fails. spent-last j ms m n lines (subst IsFresh is (fresh-begun s c x (route_of c.name) begun)) going fails
 
 -- ---- recoveries
 

@@ -1,6 +1,11 @@
 -- For what jobs fail in the states of runs.
-use Rattle.std.specs.Prelude.{◌≡◌, ℕ, Bool, true, false, List, [], ◌∷◌, Option, Some, None, IfSome, All}
+use Rattle.std.specs.Prelude.{◌≡◌, ℕ, ◌<◌, Bool, true, false, List, [], ◌∷◌, length, Option, Some, None, IfSome, All}
+use Rattle.cause_laws.specs.Courses.{AllFree, AllGoing, AreSpent, IsDoneIn, Meeting, job_after, turn_at}
 use Rattle.cause_laws.specs.Events.{Befell}
+use Rattle.commands.specs.declared.line.Line.{Line}
+use Rattle.operations.specs.Ending.{turns_left}
+use Rattle.operations.specs.declared.step.JobStep.TheVariants as step
+use Rattle.unended_jobs.specs.declared.unended.Unended.{Unended}
 use Rattle.commands.specs.declared.cause.Cause.{Cause}
 use Rattle.jobs_in_flight.specs.Jobs.{job_at}
 use Rattle.operations.specs.Deeds.{deed_of}
@@ -48,6 +53,15 @@ pub record IsBefallen (w : World) (j : Job) (c : Cause) : Type 0 where
 -- a plan's job that answers a failure was befallen by its cause in that very turn
 abbrev pub PlansFailForWhatBefell : State → Type 0
 PlansFailForWhatBefell s = (id : ℕ) (j : Job) (f : Failure) → job_at s.jobs id ≡ Some (unended.Plan j) → reply_of s (turn.Act (act.Job id)) ≡ answered.Failed f → IsBefallen s.world j f.cause
+
+-- where nothing befalls it in the turns to come, it is done within those that it has left, with its operations' lines
+abbrev pub PlansAreDone : State → Type 0
+PlansAreDone s = (id : ℕ) (j : Job) (ms : List Meeting) → job_at s.jobs id ≡ Some (unended.Plan j) → turns_left j < length ms → AllFree j ms → IsDoneIn j ms
+
+-- where it fails since its waits are spent, its last turns were all the waits of the operation that was due
+abbrev pub SpendsWaitsLast : Unended → Type 0
+SpendsWaitsLast u = (j : Job) (ms : List Meeting) (m : Meeting) (n : ServerNo) (lines : List Line) → u ≡ unended.Plan j → AllGoing j ms
+    → (turn_at (job_after j ms) m).step ≡ step.Failed (cause.WaitSpent n) lines → AreSpent j ms n
 
 -- ---- recoveries
 
