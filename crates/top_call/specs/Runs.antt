@@ -83,8 +83,8 @@ IsSafeRun words bytes = (w : Work) (run : Recorded) → IsTask words bytes w →
 -- ---- commands
 
 -- a job that a command turn begins: it has the next number, joins the unended ones, and takes the leases of its
--- command's list; a recovery and a takeover begin with their entry in the audit, which is kept; a
--- plan's job that fails since its waits are spent spent them all last
+-- command's list; a recovery and a takeover begin with their entry in the audit, which is kept; a plan's job that fails
+-- since its waits are spent spent them all last
 pub record Begins (rows : List Row) (s : State) (c : CommandTurn) (job : ℕ) : Type 0 where
   pub begun : BegunJob
   pub is_begun : begun_of s c.command ≡ Some begun
