@@ -198,18 +198,18 @@ module _ (w : World) (b : BookState) (now : Moment) where
           absurd (All-contains (λ (d : Drained). d.no ≡ n → ⊥) (map (drained_of w b now f) xs) first.1 (found-some f xs n g) (first.0, first.2, first.3) first.4.named)
 
   behind : (r d : Recovery) (x : Decision) → MayDecide w b now r x → finds_nobody x ≡ false → HasNobody w b now (decided_by w b now r x) d → HasNobody w b now r d
-  behind r d x may else (failure.NoneMay y ts path next all) = failure.NoneMay y ts (failure.Then x may else path) next all
-  behind r d x may else (failure.NoneKnows y t ts path next follows none) = failure.NoneKnows y t ts (failure.Then x may else path) next follows none
+  behind r d x may else (failure.NoneMay y ts path next all later) = failure.NoneMay y ts (failure.Then x may else path) next all later
+  behind r d x may else (failure.NoneKnows y t ts path next follows none later) = failure.NoneKnows y t ts (failure.Then x may else path) next follows none later
   behind r d x may else (failure.NoneDue path) = failure.NoneDue (failure.Then x may else path)
 
   has-nobody : {r d : Recovery} → Decisions w b now r d → HasNobody w b now r d
   has-nobody move.Still = failure.NoneDue failure.Still
-  has-nobody (move.Then {r} {s} x may rest) = go x may (has-nobody rest)
+  has-nobody (move.Then {r} {s} x may rest) = go x may rest (has-nobody rest)
     where
-      go : (x : Decision) → MayDecide w b now r x → HasNobody w b now (decided_by w b now r x) s → HasNobody w b now r s
-      go (move.Sticks t ts) h later = failure.NoneKnows r t ts failure.Still h.0 h.1 h.2
-      go (move.ChoosesNobody ts) h later = failure.NoneMay r ts failure.Still h.0 (none-may r.failed r.drained h.1)
-      go x h later = behind r s x h refl later
+      go : (x : Decision) → MayDecide w b now r x → Decisions w b now (decided_by w b now r x) s → HasNobody w b now (decided_by w b now r x) s → HasNobody w b now r s
+      go (move.Sticks t ts) h rest later = failure.NoneKnows r t ts failure.Still h.0 h.1 h.2 rest
+      go (move.ChoosesNobody ts) h rest later = failure.NoneMay r ts failure.Still h.0 (none-may r.failed r.drained h.1) rest
+      go x h rest later = behind r s x h refl later
 
 -- a turn that fails
 module _ (w : World) (b : BookState) (read : ℕ) (now : Moment) (r : Recovery) where

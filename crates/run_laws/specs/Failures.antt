@@ -99,9 +99,9 @@ pub data DecisionsElse (w : World) (b : BookState) (now : Moment) : Recovery →
 -- or there is none that does.
 pub data HasNobody (w : World) (b : BookState) (now : Moment) (r d : Recovery) : Type 0 where
   NoneMay : (x : Recovery) (ts : List Task) → DecisionsElse w b now r x → IsNext x task.Choosing ts → All (λ s. may_lead w b now s ≡ false) x.drained
-      → HasNobody w b now r d
+      → Decisions w b now (decided_by w b now x (move.ChoosesNobody ts)) d → HasNobody w b now r d
   NoneKnows : (x : Recovery) (t : Task) (ts : List Task) → DecisionsElse w b now r x → IsNext x t ts → follows_lead t ≡ true → x.lead ≡ None
-      → HasNobody w b now r d
+      → Decisions w b now (decided_by w b now x (move.Sticks t ts)) d → HasNobody w b now r d
   NoneDue : DecisionsElse w b now r d → HasNobody w b now r d
 
 -- the turn's operation goes, with this behind it
