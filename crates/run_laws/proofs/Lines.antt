@@ -13,6 +13,9 @@ use Rattle.recovery_core.specs.Scans.{Staged, actionable_in, after_try, from_sta
 use Rattle.recovery_core.specs.Tries.{Begins, recovery_begins, unless_refused}
 use Rattle.recovery_permits.specs.declared.attempt.Attempt.{Attempt}
 use Rattle.server_model.specs.Worlds.{World}
+use Rattle.answer_laws.proofs.Trying.{tries}
+use Rattle.run_laws.specs.Answering.{ScansTryByTable}
+use Rattle.run_laws.specs.Entries.{attempt_in}
 use Rattle.run_laws.specs.Lines.{AreLinesOf, TellsRefused}
 
 -- one more entry, which is refused
@@ -106,3 +109,11 @@ module _ (w : World) (b : BookState) (by : ServerNo → Attempt) (wait : ℕ) wh
 
     pub scan-counts : fold (λ k x. x.job.core.id) last (scanned w b audit by wait last).begun ≡ last + length (scanned w b audit by wait last).begun
     scan-counts = counted last (actionable_in b) (scanned w b audit by wait last).begun (scanned w b audit by wait last).lines scan-lines
+
+-- of a state
+pub scan-tries : ScansTryByTable
+scan-tries s = (
+  (scanned s.world s.book s.audit (attempt_in s) s.configuration.wait s.last_job).lines,
+  refl,
+  tries s.world s.book (attempt_in s) s.configuration.wait s.audit s.last_job,
+)

@@ -22,7 +22,9 @@ use Rattle.turns.specs.declared.turn.Act.TheVariants as act
 use Rattle.turns.specs.declared.turn.Turn.TheVariants as turn
 use Rattle.unended_jobs.specs.Unended.{number_of}
 use Rattle.run_laws.specs.BegunJobs.{BegunJob, begun_of, entry_kept, with_entry}
-use Rattle.run_laws.specs.Entries.{recoveries_scanned}
+use Rattle.run_laws.specs.Entries.{attempt_in, recoveries_scanned}
+use Rattle.run_laws.specs.Failures.{SpendsWaitsLast}
+use Rattle.answer_laws.specs.Tries.{AreTries}
 use Rattle.run_laws.specs.Lines.{AreLinesOf}
 use Rattle.run_laws.specs.Runs.{IsBegun}
 
@@ -78,11 +80,24 @@ EntersAudit s c x = (rows : List Row) → (step rows s (turn.Act (act.Command c)
 abbrev pub KeepsEntry : State → CommandTurn → BegunJob → Type 0
 KeepsEntry s c x = (rows : List Row) → changes_of rows s (turn.Act (act.Command c)) ≡ entry_kept x.entry
 
+-- a plan's job spends its waits last
+abbrev pub SpendsWaits : State → CommandTurn → BegunJob → Type 0
+SpendsWaits s c x = SpendsWaitsLast x.job
+
 -- ---- a scan
 
 -- it tells a line for each instance whose analysis asks for a recovery, in name order
 abbrev pub ScansTellEachTry : Type 0
 ScansTellEachTry = (s : State) → (lines : List Line) × (reply_of s (turn.Act act.Scan) ≡ answered.Told lines) × AreLinesOf s.last_job (actionable_in s.book) (recoveries_scanned s) lines
+
+-- each of these tries begins exactly where no check of the permission table refuses it, on what those before it left,
+-- else it is told what refuses it with the lowest number
+abbrev pub TriesByTable : State → Type 0
+TriesByTable s = (lines : List Line) × (reply_of s (turn.Act act.Scan) ≡ answered.Told lines)
+    × AreTries (record { world = s.world; book = s.book; by = attempt_in s }) (record { leases = s.book.leases; audit = s.audit; last = s.last_job }) (actionable_in s.book) (recoveries_scanned s) lines
+
+abbrev pub ScansTryByTable : Type 0
+ScansTryByTable = (s : State) → TriesByTable s
 
 -- what begins joins the unended jobs
 abbrev pub ScannedJoinJobs : Type 0

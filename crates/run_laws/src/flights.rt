@@ -1,6 +1,6 @@
 //! Laws of runs with jobs in flight.
 
-ghost use Rattle.run_laws.specs.Failures.{PlansFailForWhatBefell};
+ghost use Rattle.run_laws.specs.Failures.{PlansAreDone, PlansFailForWhatBefell, RecoveriesFailForWhatBefell};
 ghost use Rattle.run_laws.specs.Jobs.{JobsHaveLeases, JobsLeaveFewerTurns, JobsLeaveOthers, LeasesNameJobs};
 ghost use Rattle.run_laws.specs.Runs.{AtEveryTurn, InEveryQuietState, InEveryState};
 ghost use Rattle.run_laws.specs.States.{HeldState, SoundState};
@@ -30,12 +30,15 @@ pub fn every_quiet_state_is_sound()
 
 /// In each state of each run a lease names a job that isn't ended, each job has the leases of the servers that it may
 /// still change, and its turn leaves every other server as it is. A plan's job that answers a failure was befallen by
-/// its cause, in that very turn.
+/// its cause, in that very turn, and one that nothing befalls is done. So was a recovery: no candidate only where its decisions left no operation; reachable only
+/// where its check went; moved where the master was seen with a source; else its operation stopped so.
 pub fn jobs_keep_to_their_leases()
     ensures named { InEveryState LeasesNameJobs }
     ensures leased { InEveryState JobsHaveLeases }
     ensures others { InEveryState JobsLeaveOthers }
     ensures fails { InEveryState PlansFailForWhatBefell }
+    ensures done { InEveryState PlansAreDone }
+    ensures failed { InEveryState RecoveriesFailForWhatBefell }
 {}
 
 /// In each state of each run a job that goes on after its turn has fewer turns left: so rounds of its turns end it.

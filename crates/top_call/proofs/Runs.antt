@@ -1,7 +1,7 @@
 -- Each run of the turns that words take: its states are safe, its commands answer by the permission table, and its
 -- recoveries begin apart and finish well.
 use Rattle.std.proofs.Common.{◌≡◌, ℕ, zero, suc, ◌<◌, Bool, true, false, cond, List, [], ◌∷◌, ◌++◌, length, Option, Some, None, ◌∙◌, refl, sym, ap, subst, take, inl, inr}
-use Rattle.std.specs.Prelude.{All, is_some}
+use Rattle.std.specs.Prelude.{All, is_some, ◌^◌, ◌≤◌}
 use Rattle.std.proofs.Math.Seq.{take-length}
 use Rattle.std.proofs.lemmas.List.{length-map}
 use Rattle.std.proofs.lemmas.List.Elements.{All-append, All-cons, All-nil, All-take}
@@ -22,14 +22,20 @@ use Rattle.jobs_in_flight.specs.Jobs.{is_open, job_at, most_turns}
 use Rattle.orch_core.specs.Rounds.{after_turns, round_of}
 use Rattle.orch_core.proofs.Finishing.{Ran-append, turns-round}
 use Rattle.orch_core.specs.Runs.{Held, LeadsTo, Recorded, engine, held_run, held_step, recorder, run_turns, turns_of}
-use Rattle.kept_rows.specs.Rows.{changed}
-use Rattle.orch_core.specs.Scenarios.{StartsBy, kept_at_start, start_changes, without_turns}
+use Rattle.std.proofs.lemmas.Option.{same_Some}
+use Rattle.kept_rows.specs.Rows.{IsRising, changed}
+use Rattle.opening_book.specs.Following.{FollowAudit}
+use Rattle.orch_core.specs.Keeping.{Ran}
+use Rattle.run_laws.specs.KeptRows.{held_from}
+use Rattle.run_laws.proofs.Audits.{Follow-whole, FollowAudit-whole}
+use Rattle.orch_core.specs.Scenarios.{StartsBy, kept_at_start, start, start_changes, without_turns}
 use Rattle.orch_core.specs.States.{State}
 use Rattle.run_laws.specs.Ready.{Ready}
 use Rattle.recovery_runs.specs.Finishes.{IsFinish}
 use Rattle.run_laws.specs.Runs.{ComesTo}
 use Rattle.run_laws.proofs.JobTurns.{named-job, others-stay}
-use Rattle.run_laws.proofs.Failures.{plans-fail}
+use Rattle.run_laws.proofs.Failures.{plans-done, plans-fail, recoveries-fail, spends-last}
+use Rattle.run_laws.proofs.Lines.{scan-tries}
 use Rattle.run_laws.proofs.Lowest.{lowest-refuses}
 use Rattle.run_laws.proofs.Counting.{apart-comes}
 use Rattle.run_laws.proofs.Aims.{turn-aimed}
@@ -52,7 +58,7 @@ use Rattle.tasks.proofs.Courses.{run_state}
 use Rattle.tasks.proofs.Words.{asked_is}
 use Rattle.unended_jobs.specs.declared.unended.Unended.TheVariants as unended
 use Rattle.top_call.specs.Ends.{IsTask}
-use Rattle.top_call.specs.Runs.{BeginApart, BeginsApart, Finishes, FinishWell, IsSafeRun, IsSafeState, TellTruly, TellsTruly, ObeysTable, AreSoFar, Through}
+use Rattle.top_call.specs.Runs.{BeginApart, BeginsApart, Finishes, FinishWell, IsSafeRun, IsSafeState, OwnRestartKeepsAll, TellTruly, TellsTruly, ObeysTable, AreSoFar, Through}
 
 -- ---- the turns
 
@@ -106,6 +112,23 @@ along s wait (Some rows) begun ts run opens leads =
       state = ap (λ (r : Recorded). r.state) (leads ∙ found.state) ∙ (run_state (without_turns begun) found.xs ∙ ap (λ (b : State). run_turns engine b found.xs) opens);
     }
 
+-- the state and the rows of a recorded run are those of the run
+held_same : (h : Held Recorded) (ts : List Turn) → held_run engine (record { rows = h.rows; state = h.state.state }) ts ≡ record { rows = (held_run recorder h ts).rows; state = (held_run recorder h ts).state.state }
+held_same h [] = refl
+held_same h (t ∷ ts) = held_same (held_step recorder h t) ts
+
+-- from an opening by rows that the keeper tells
+module _ (s : Scenario) (wait : ℕ) (old new : List Row) (begun : State) (ts : List Turn) (run : Recorded) where
+  own_follows : begun ≡ start s wait old → Ran recorder (kept_at_start true (Some old) s) (without_turns begun) ts (Some new) run → held_from s wait old ts ≡ record { rows = new; state = run.state }
+  own_follows opens ran =
+      let h : Held Recorded = record { rows = changed old (start_changes s old); state = without_turns begun } in
+      let rows : (held_run recorder h ts).rows ≡ new = same_Some (held_run recorder h ts).rows new (sym ran.rows) in
+      let state : (held_run recorder h ts).state ≡ run = sym ran.state in
+      ap (λ (b : State). held_run engine (record { rows = changed old (start_changes s old); state = b }) ts) (sym opens)
+      ∙ (held_same h ts
+      ∙ (ap (λ (r : Recorded). record { rows = (held_run recorder h ts).rows; state = r.state }) state
+      ∙ ap (λ (rs : List Row). record { rows = rs; state = run.state }) rows))
+
 -- ---- laws of each run
 
 -- any turns over the servers
@@ -139,6 +162,8 @@ module _ (w : Work) (ts : List Turn) (kept : Option (List Row)) (run : Recorded)
     leased = goes.held.flight.leased.each;
     others = λ rows id n apart. others-stay rows run.state id n goes.held apart;
     fails = plans-fail run.state;
+    done = plans-done (length w.scenario.opening.servers) run.state goes.ready;
+    failed = recoveries-fail run.state;
     sound = goes.sound;
     safe = λ q. (goes.sound q).flight.safe;
   }
@@ -146,13 +171,27 @@ module _ (w : Work) (ts : List Turn) (kept : Option (List Row)) (run : Recorded)
   ready : Ready (length w.scenario.opening.servers) run.state
   ready = goes.ready
 
-  begins : (rows : List Row) (t : Turn) → BeginsApart w.scenario rows run.state t
-  begins rows t = record {
+  own_restart : kept ≡ w.new → OwnRestartKeepsAll w run.state
+  own_restart is old new before behind rising fit =
+      let n = length w.scenario.opening.servers in
+      let opens = subst (λ (o : Option (List Row)). StartsBy o w.scenario w.task.waits comes.begun) before comes.opens in
+      let from = subst (λ (o : Option (List Row)). Ran recorder (kept_at_start true o w.scenario) (without_turns comes.begun) ts kept run) before comes.ran in
+      let ran = subst (λ (o : Option (List Row)). Ran recorder (kept_at_start true (Some old) w.scenario) (without_turns comes.begun) ts o run) (is ∙ behind) from in
+      let same = own_follows w.scenario w.task.waits old new comes.begun ts run opens ran in
+      let fits : (held_from w.scenario w.task.waits old ts).state.audit.next ≤ 2 ^ 64 = subst (λ (h : Held State). h.state.audit.next ≤ 2 ^ 64) (sym same) fit in
+      restart-comes w.scenario found.xs run.state new comes_to
+      (subst (λ (h : Held State). IsRising h.rows) same (Follow-whole w.scenario w.task.waits old ts scenario rising all fits).rising)
+      (subst (λ (h : Held State). FollowAudit n h.rows h.state.audit) same (FollowAudit-whole w.scenario w.task.waits old ts scenario rising all fits))
+
+  begins : kept ≡ w.new → (rows : List Row) (t : Turn) → BeginsApart w rows run.state t
+  begins is rows t = record {
     apart = apart-in-turn w.scenario found.xs run.state t comes_to;
     periods = periods-in-turn w.scenario found.xs run.state t comes_to;
     aims = turn-aimed run.state t;
     all = turn-fates rows run.state t;
     restart = restart-comes w.scenario found.xs run.state rows comes_to;
+    own = own_restart is;
+    scans = record { tries = scan-tries run.state; joins = refl; leases = refl; kept = refl };
   }
 
   finishes : (rows : List Row) (id : ℕ) (r : Recovery) (entry : Option ℕ) (lines : List Line) → IsFinish run.state id r entry lines → Finishes w ts rows run.state id r entry lines
@@ -193,11 +232,11 @@ module _ (count : ℕ) where
 
 -- what holds behind any turns over the servers holds behind those so far
 module _ (words : List (List ℕ)) (bytes : List ℕ) (w : Work) (run : Recorded) (is : IsTask words bytes w) (P : List Turn → Type 0)
-    (each : (ts : List Turn) (kept : Option (List Row)) → IsScenario w.scenario → All (IsTurn (length w.scenario.opening.servers)) ts → Comes w ts kept run → P ts) where
+    (each : (ts : List Turn) → IsScenario w.scenario → All (IsTurn (length w.scenario.opening.servers)) ts → Comes w ts w.new run → P ts) where
   in_turns : (at : IsOnTurns (course_of w) run) → P (take at.k (turns_in w))
   in_turns at =
       let scenario = scenario_in_sound bytes w.scenario is.read in
-      each (take at.k (turns_in w)) w.new scenario (work_turns words bytes w at.k is scenario) at.comes
+      each (take at.k (turns_in w)) scenario (work_turns words bytes w at.k is scenario) at.comes
 
   in_rounds : (at : IsOnRounds (course_of w) run) → P (turns_in w ++ take at.k (closing w.task.asked at.mid))
   in_rounds at =
@@ -207,7 +246,7 @@ module _ (words : List (List ℕ)) (bytes : List ℕ) (w : Work) (run : Recorded
       let mid = ready w (turns_in w) at.rows at.mid scenario own at.came in
       let us = take at.k (closing w.task.asked at.mid) in
       let more : All (IsTurn count) us = All-take (IsTurn count) at.k (closing w.task.asked at.mid) (closing_turns count w.task.asked at.mid mid.names) in
-      each (turns_in w ++ us) w.new scenario (All-append (IsTurn count) (turns_in w) us own more)
+      each (turns_in w ++ us) scenario (All-append (IsTurn count) (turns_in w) us own more)
       (record { begun = at.came.begun; opens = at.came.opens; ran = Ran-append recorder (kept_at_start true w.old w.scenario) at.rows w.new (without_turns at.came.begun) at.mid run (turns_in w) us at.came.ran at.ran })
 
   so_far : (ts : List Turn) → AreSoFar w run ts → P ts
@@ -216,25 +255,25 @@ module _ (words : List (List ℕ)) (bytes : List ℕ) (w : Work) (run : Recorded
 
 -- where it says nothing of the turns
 module _ (words : List (List ℕ)) (bytes : List ℕ) (w : Work) (run : Recorded) (is : IsTask words bytes w) (Q : Type 0)
-    (each : (ts : List Turn) (kept : Option (List Row)) → IsScenario w.scenario → All (IsTurn (length w.scenario.opening.servers)) ts → Comes w ts kept run → Q) where
+    (each : (ts : List Turn) → IsScenario w.scenario → All (IsTurn (length w.scenario.opening.servers)) ts → Comes w ts w.new run → Q) where
   on_each : IsOn (course_of w) run → Q
   on_each (inl at) = in_turns words bytes w run is (λ ts. Q) each at
   on_each (inr at) = in_rounds words bytes w run is (λ ts. Q) each at
 
 pub safe_run : (words : List (List ℕ)) (bytes : List ℕ) → IsSafeRun words bytes
-safe_run words bytes = λ w run is on. on_each words bytes w run is (IsSafeState run.state) (λ ts kept scenario all comes. holds w ts kept run scenario all comes) on
+safe_run words bytes = λ w run is on. on_each words bytes w run is (IsSafeState run.state) (λ ts scenario all comes. holds w ts w.new run scenario all comes) on
 
 pub begin_apart : (words : List (List ℕ)) (bytes : List ℕ) → BeginApart words bytes
 begin_apart words bytes = λ w run rows t is on.
-    on_each words bytes w run is (BeginsApart w.scenario rows run.state t) (λ ts kept scenario all comes. begins w ts kept run scenario all comes rows t) on
+    on_each words bytes w run is (BeginsApart w rows run.state t) (λ ts scenario all comes. begins w ts w.new run scenario all comes refl rows t) on
 
 pub finish_well : (words : List (List ℕ)) (bytes : List ℕ) → FinishWell words bytes
 finish_well words bytes = λ w run ts rows id r entry lines is on done.
-    so_far words bytes w run is (λ us. Finishes w us rows run.state id r entry lines) (λ us kept scenario all comes. finishes w us kept run scenario all comes rows id r entry lines done) ts on
+    so_far words bytes w run is (λ us. Finishes w us rows run.state id r entry lines) (λ us scenario all comes. finishes w us w.new run scenario all comes rows id r entry lines done) ts on
 
 pub tell_truly : (words : List (List ℕ)) (bytes : List ℕ) → TellTruly words bytes
 tell_truly words bytes = λ w run ts id r entry is on at.
-    so_far words bytes w run is (λ us. TellsTruly w us run.state id r entry) (λ us kept scenario all comes. loses w us kept run scenario all comes id r entry at) ts on
+    so_far words bytes w run is (λ us. TellsTruly w us run.state id r entry) (λ us scenario all comes. loses w us w.new run scenario all comes id r entry at) ts on
 
 pub obeys : (words : List (List ℕ)) (bytes : List ℕ) → ObeysTable words bytes
 obeys words bytes = λ w k kept run rows c is comes here. record {
@@ -251,5 +290,6 @@ obeys words bytes = λ w k kept run rows c is comes here. record {
         leases = begun_leased run.state c x.0 x.1 rows;
         audit = begun_logged run.state c x.0 x.1 rows;
         kept = begun_kept run.state c x.0 x.1 rows;
+        waits = spends-last run.state c.command x.0 x.1;
       };
 }

@@ -1,9 +1,12 @@
 -- What holds of each run of the turns that words take over the scenario that bytes are, whatever rows the keeper hands
 -- back: of the run of a call's report, too.
-use Rattle.std.specs.Prelude.{All, ◌≡◌, ℕ, ◌+◌, Bool, false, List, [], ◌∷◌, ◌++◌, length, slice_get, take, ◌⊎◌, Option, Some}
+use Rattle.std.specs.Prelude.{All, ◌≡◌, ℕ, ◌+◌, ◌^◌, ◌≤◌, Bool, false, List, [], ◌∷◌, ◌++◌, length, map, slice_get, take, ◌⊎◌, Option, Some}
 use Rattle.kept_rows.specs.declared.row.Row.{Row}
 use Rattle.server_model.specs.Safe.{Safe, Placed, IsQuiet}
 use Rattle.audit_log.specs.Apart.{IsApart}
+use Rattle.audit_log.specs.Audits.{closed}
+use Rattle.kept_rows.specs.Rows.{IsRising}
+use Rattle.orch_core.specs.Restarts.{interrupted_at}
 use Rattle.run_laws.specs.Begins.{BeginApartInTurn}
 use Rattle.command_routes.specs.Routes.{route_of}
 use Rattle.commands.specs.declared.line.Line.{Line}
@@ -22,11 +25,15 @@ use Rattle.run_laws.specs.States.{HeldState, SoundState}
 use Rattle.instance_keeper.specs.Leases.{taken}
 use Rattle.jobs_in_flight.specs.Jobs.{job_at}
 use Rattle.run_laws.specs.BegunJobs.{BegunJob, begun_of, entry_kept, with_entry}
+use Rattle.recovery_core.specs.Begun.{leases_after}
+use Rattle.orch_core.specs.Commands.{entries_put}
+use Rattle.orch_core.specs.Knowing.{recovery_job}
+use Rattle.run_laws.specs.Answering.{TriesByTable}
 use Rattle.run_laws.specs.Aims.{IsAimed}
-use Rattle.run_laws.specs.Entries.{entries_begun, recoveries_begun}
+use Rattle.run_laws.specs.Entries.{entries_begun, recoveries_begun, recoveries_scanned}
 use Rattle.run_laws.specs.Fates.{AuditIs, RestartKeepsAll}
 use Rattle.run_laws.specs.JobEntries.{EntriesHaveJobs}
-use Rattle.run_laws.specs.Failures.{PlansFailForWhatBefell}
+use Rattle.run_laws.specs.Failures.{PlansAreDone, PlansFailForWhatBefell, RecoveriesFailForWhatBefell, SpendsWaitsLast}
 use Rattle.run_laws.specs.Lowest.{RefusedByLowest}
 use Rattle.run_laws.specs.Jobs.{JobsHaveLeases, JobsLeaveOthers, LeasesNameJobs}
 use Rattle.orch_core.specs.Keeping.{asks}
@@ -52,8 +59,8 @@ use Rattle.top_call.specs.Ends.{IsTask}
 -- What holds of a state with its jobs in flight: it is held, quiet or not, its servers are placed, and its recoveries
 -- are apart: each cluster has at most one that isn't ended. Each of these has its unended job, and each job's entry
 -- isn't ended. A lease names an unended job, a job has the leases of all that it may still change, and its turn leaves
--- every other server as it is; a plan's job that fails was befallen by its cause in that turn. Where the state is quiet
--- it is sound, and its servers are safe.
+-- every other server as it is; a plan's job that fails was befallen by its cause in that turn, one that nothing befalls
+-- is done, and a recovery fails for what befell it, too. Where the state is quiet it is sound, and its servers are safe.
 pub record IsSafeState (s : State) : Type 0 where
   pub placed : Placed s.world
   pub held : HeldState s
@@ -63,6 +70,8 @@ pub record IsSafeState (s : State) : Type 0 where
   pub leased : JobsHaveLeases s
   pub others : JobsLeaveOthers s
   pub fails : PlansFailForWhatBefell s
+  pub done : PlansAreDone s
+  pub failed : RecoveriesFailForWhatBefell s
   pub sound : IsQuiet s.world → SoundState s
   pub safe : IsQuiet s.world → Safe s.world
 
@@ -74,7 +83,8 @@ IsSafeRun words bytes = (w : Work) (run : Recorded) → IsTask words bytes w →
 -- ---- commands
 
 -- a job that a command turn begins: it has the next number, joins the unended ones, and takes the leases of its
--- command's list; a recovery and a takeover begin with their entry in the audit, which is kept
+-- command's list; a recovery and a takeover begin with their entry in the audit, which is kept; a plan's job that fails
+-- since its waits are spent spent them all last
 pub record Begins (rows : List Row) (s : State) (c : CommandTurn) (job : ℕ) : Type 0 where
   pub begun : BegunJob
   pub is_begun : begun_of s c.command ≡ Some begun
@@ -83,6 +93,7 @@ pub record Begins (rows : List Row) (s : State) (c : CommandTurn) (job : ℕ) : 
   pub leases : (step rows s (turn.Act (act.Command c))).book.leases ≡ taken s.book.leases begun.list (s.last_job + 1)
   pub audit : (step rows s (turn.Act (act.Command c))).audit ≡ with_entry s.audit begun.entry
   pub kept : changes_of rows s (turn.Act (act.Command c)) ≡ entry_kept begun.entry
+  pub waits : SpendsWaitsLast begun.job
 
 -- a command turn is refused exactly with the refusal of the permission table, else it begins its job or is done; that
 -- refusal is what one of its checks refuses, and none of them refuses with a lower number; a refused one changes
@@ -101,22 +112,38 @@ ObeysTable words bytes = (w : Work) (k : ℕ) (kept : Option (List Row)) (run : 
 
 -- ---- recoveries that begin
 
+-- a scan tells of each of its tries by the permission table; what begins joins the unended jobs, takes its leases, and
+-- its entries are kept
+pub record Scans (rows : List Row) (s : State) : Type 0 where
+  pub tries : TriesByTable s
+  pub joins : (step rows s (turn.Act act.Scan)).jobs ≡ s.jobs ++ map recovery_job (recoveries_scanned s)
+  pub leases : (step rows s (turn.Act act.Scan)).book.leases ≡ leases_after s.book.leases (recoveries_scanned s)
+  pub kept : changes_of rows s (turn.Act act.Scan) ≡ entries_put (recoveries_scanned s)
+
+-- by the rows that are kept behind the run's turns a restart keeps all, while the ids of recoveries fit their type
+abbrev pub OwnRestartKeepsAll : Work → State → Type 0
+OwnRestartKeepsAll w s = (old new : List Row) → w.old ≡ Some old → w.new ≡ Some new → IsRising old → s.audit.next ≤ 2 ^ 64
+    → (step new s (turn.Act act.Restart)).audit ≡ closed s.audit (interrupted_at new s)
+
 -- Each recovery that a turn begins, by a command or by a scan, is apart: of its cluster, with those that the turn began
 -- before it, each is ended, and is acknowledged or began at least its own block period ago. It has its cluster's
 -- period. It was asked for in the turn, and its entry tells what it is about. But for a restart, which loads the kept
 -- rows, a turn adds no other recovery, and makes of each that there was what its own job or an acknowledgement of its
 -- cluster makes of it, and else nothing; and a restart by the rows that keep all keeps each, with those ended as
--- interrupted that aren't ended.
-pub record BeginsApart (scenario : Scenario) (rows : List Row) (s : State) (t : Turn) : Type 0 where
+-- interrupted that aren't ended. Where the keeper tells its rows, the run's own ones are such. A scan's tries go
+-- by the permission table.
+pub record BeginsApart (w : Work) (rows : List Row) (s : State) (t : Turn) : Type 0 where
   pub apart : BeginApartInTurn (moment_at s) s.audit (entries_begun s t)
-  pub periods : All (λ r. r.block ≡ period_of scenario r.cluster) (entries_begun s t)
+  pub periods : All (λ r. r.block ≡ period_of w.scenario r.cluster) (entries_begun s t)
   pub aims : All (IsAimed s t) (recoveries_begun s t)
   pub all : asks t ≡ false → AuditIs rows s t
-  pub restart : RestartKeepsAll (length scenario.opening.servers) rows s
+  pub restart : RestartKeepsAll (length w.scenario.opening.servers) rows s
+  pub own : OwnRestartKeepsAll w s
+  pub scans : Scans rows s
 
 -- so any turn would in every state of the run, by the scenario's block periods
 abbrev pub BeginApart : List (List ℕ) → List ℕ → Type 0
-BeginApart words bytes = (w : Work) (run : Recorded) (rows : List Row) (t : Turn) → IsTask words bytes w → IsOn (course_of w) run → BeginsApart w.scenario rows run.state t
+BeginApart words bytes = (w : Work) (run : Recorded) (rows : List Row) (t : Turn) → IsTask words bytes w → IsOn (course_of w) run → BeginsApart w rows run.state t
 
 -- ---- recoveries that are done
 

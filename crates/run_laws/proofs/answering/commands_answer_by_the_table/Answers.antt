@@ -1,4 +1,5 @@
 use Rattle.run_laws.proofs.Permissions.{answers_by_table, begun_counts, begun_joins, begun_kept, begun_leased, begun_logged, begun_number, begun_numbered, begun_replies, begun_there, refused_changes_nothing}
+use Rattle.run_laws.proofs.Failures.{spends-last}
 use Rattle.run_laws.proofs.Lowest.{lowest-refuses}
 use Rattle.run_laws.proofs.answering.commands_answer_by_the_table.Goals as goal
 
@@ -37,3 +38,6 @@ returns-clause-audit c = begun_logged
 
 pub returns-clause-kept : goal.returns-clause-kept
 returns-clause-kept c = begun_kept
+
+pub returns-clause-waits : goal.returns-clause-waits
+returns-clause-waits c = λ s turn x begun. spends-last s turn.command x begun

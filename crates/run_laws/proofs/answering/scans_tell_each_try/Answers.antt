@@ -1,6 +1,6 @@
 use Rattle.std.proofs.Common.{refl}
 use Rattle.recovery_core.specs.Scans.{scanned}
-use Rattle.run_laws.proofs.Lines.{scan-counts, scan-lines}
+use Rattle.run_laws.proofs.Lines.{scan-counts, scan-lines, scan-tries}
 use Rattle.run_laws.specs.Entries.{attempt_in}
 use Rattle.run_laws.proofs.answering.scans_tell_each_try.Goals as goal
 
@@ -22,3 +22,6 @@ returns-clause-leases c = λ rows s. refl
 
 pub returns-clause-kept : goal.returns-clause-kept
 returns-clause-kept c = λ rows s. refl
+
+pub returns-clause-table : goal.returns-clause-table
+returns-clause-table c = scan-tries
