@@ -99,6 +99,23 @@ impl GtidSet {
         GtidSet::of_intervals(*self.intervals.allocator(), &self.intervals)
     }
 
+    /// Whether the other set has as many intervals, so that `set_to` takes it.
+    #[inline(always)]
+    pub fn is_as_long(&self, other: &GtidSet) -> bool
+        ensures { IsTrue result ↔ (length self.now ≡ length other.now) }
+    {
+        self.intervals.len() == other.intervals.len()
+    }
+
+    /// Becomes the same as the other, which has as many intervals. It takes no memory.
+    #[inline(always)]
+    pub fn set_to(&mut self, other: &GtidSet)
+        requires { length self.old ≡ length other.now }
+        ensures { self.new ≡ other.now }
+    {
+        self.intervals.copy_from_slice(&other.intervals);
+    }
+
     // The set of these intervals. Of none it takes no memory.
     #[inline(always)]
     pub(crate) fn of_intervals(alloc: Global, intervals: &[Interval]) -> Result<GtidSet, Memory>

@@ -606,6 +606,7 @@ impl Book {
     }
 
     // Adds the bridge that a reading of a server shows, if it shows one.
+    #[inline(always)]
     fn add_shown(&mut self, no: ServerNo, shown: Option<Bridge>)
         requires { no.0 < length self.old.names }
         ensures { self.new ≡ record self.old { rings = ringed self.old.rings no shown } }
@@ -616,6 +617,7 @@ impl Book {
     }
 
     /// Adds an instance in its server's place, and the bridge that it shows where it is valid. It takes no memory.
+    #[inline(always)]
     pub fn add(&mut self, instance: Instance)
         requires { IsTrue (are_known (length self.old.names) (servers_of (Row.Instance instance))) }
         ensures after { self.new ≡ after_addition self.old instance }

@@ -12,8 +12,11 @@ use Rattle.std.proofs.lemmas.List.Kept.{AllPairs-cons, AllPairs-filter}
 use Rattle.std.proofs.lemmas.List.Elements.{All-weaker, filter-append, All-append, All-cons, All-nil, filter_passes}
 use Rattle.kept_rows.specs.declared.row.Row.{Row}
 use Rattle.kept_rows.specs.declared.row.Row.TheVariants as row
+use Rattle.kept_rows.specs.declared.observation.Instance.{Instance}
 use Rattle.kept_rows.specs.declared.row.Table.{Table}
+use Rattle.kept_rows.specs.declared.row.Table.TheVariants as table
 use Rattle.kept_rows.specs.declared.row.Key.{Key}
+use Rattle.kept_rows.specs.declared.row.Key.TheVariants as key
 use Rattle.kept_rows.specs.Rows.{table_of, key_of, sort_key, sort_key_of, put, remove, rows_before, rows_behind, IsRising}
 use Rattle.kept_rows.specs.SortKeys.{at, IsFirstFrom}
 use Rattle.kept_rows.specs.declared.row.SortKey.{SortKey}
@@ -247,3 +250,13 @@ rising_as_put rows now r e rising = subst IsRising (sym e) (put_rising rows r ri
 
 pub rising_as_removed : (rows now : List Row) (t : Table) (k : Key) → now ≡ remove rows t k → IsRising rows → IsRising now
 rising_as_removed rows now t k e rising = subst IsRising (sym e) (remove_rising rows t k rising)
+
+-- an instance's row in place of one of its server
+pub puts_instance : (rows found : List Row) (i : Instance) (n : ℕ) (r now : Row) → found ≡ rows → IsRising rows → r ≡ row.Instance i → now ≡ r → n < length found
+    → HoldsAt (λ x. sort_key_of x ≡ sort_key table.Instance (key.Server i.no)) found n → slice_set rows n now ≡ put rows r
+puts_instance rows found i n r now same rising is e within here =
+    let p = sort_key table.Instance (key.Server i.no) in
+    let own : sort_key_of r ≡ p = ap sort_key_of is in
+    let there : n < length rows = subst (λ l. n < length l) same within in
+    let at : HoldsAt (λ x. sort_key_of x ≡ p) rows n = subst (λ l. HoldsAt (λ x. sort_key_of x ≡ p) l n) same here in
+    ap (slice_set rows n) e ∙ put_there rows p n rising (first_at rows p n rising there at) r own there (λ d. let h = at d in let goal : sort_key_of (get_or rows n d) ≤ p = omega (arith, h) in goal)

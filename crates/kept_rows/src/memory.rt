@@ -6,12 +6,12 @@ ghost use Rattle.std.specs.List.{HoldsAt};
 ghost use Rattle.orch_base.specs.Memory.{fails_next, next_count};
 ghost use Rattle.kept_rows.specs.Keeping.{KeepsAll, HasKeeperCause, after_call};
 ghost use Rattle.kept_rows.specs.SortKeys.{at, IsFirstFrom};
-ghost use Rattle.kept_rows.specs.Rows.{changed, changed_by, map_of, sort_key_of, put, remove, IsRising};
+ghost use Rattle.kept_rows.specs.Rows.{changed, changed_by, map_of, sort_key, sort_key_of, put, remove, IsRising};
 
 use crate::Memory;
 use crate::keeper::{Keeper, KeeperFault};
-use crate::row::{Change, Row, SortKey};
-use orch_base::Name;
+use crate::row::{Change, Key, Row, SortKey, Table};
+use orch_base::{Name, ServerNo};
 use std::alloc::Global;
 use std::marker::Model;
 
@@ -178,8 +178,47 @@ fn copy_changes(alloc: Global, changes: &[Change]) -> Result<Vec<Change>, Memory
     Ok(copies)
 }
 
-// Puts a copy of a row. It changes nothing at want of memory.
+// Whether the row of this index is there, and an instance's of this server.
+#[inline(always)]
+fn is_instance_at(rows: &[Row], index: usize, no: ServerNo) -> bool
+    ensures there { OnTrue result (index < length rows.now) }
+    ensures at { OnTrue result
+        (HoldsAt (λ r. sort_key_of r ≡ sort_key Table.Instance (Key.Server no)) rows.now index) }
+{
+    match rows.get(index) {
+        Some(Row::Instance(kept)) => kept.no == no,
+        Some(
+            Row::Downtime(_)
+            | Row::Candidate(_)
+            | Row::Recovery(_)
+            | Row::Switch(_)
+            | Row::Active { .. },
+        )
+        | None => false,
+    }
+}
+
+// Puts a copy of a row: an instance's mostly stands at its server's number. It changes nothing at want of memory.
+#[inline(always)]
 fn put_copy(alloc: Global, rows: &mut Vec<Row>, row: &Row) -> Result<(), Memory>
+    requires rising { IsRising rows.old.items }
+    ensures ok { OnOk result (rows.new.items ≡ put rows.old.items row.now) }
+    ensures err { OnErr result (rows.new.items ≡ rows.old.items) }
+    ensures rising { IsRising rows.new.items }
+{
+    if let Row::Instance(instance) = row {
+        let index = instance.no.0 as usize;
+        if is_instance_at(rows, index, instance.no) {
+            rows[index].set_to(alloc, row)?;
+            return Ok(());
+        }
+    }
+    put_copy_by_key(alloc, rows, row)
+}
+
+// Puts a copy of a row, whose place is searched. It changes nothing at want of memory.
+#[inline(never)]
+fn put_copy_by_key(alloc: Global, rows: &mut Vec<Row>, row: &Row) -> Result<(), Memory>
     requires rising { IsRising rows.old.items }
     ensures ok { OnOk result (rows.new.items ≡ put rows.old.items row.now) }
     ensures err { OnErr result (rows.new.items ≡ rows.old.items) }

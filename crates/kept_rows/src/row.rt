@@ -235,6 +235,7 @@ impl Row {
     }
 
     /// Becomes the same as the other. At want of memory it stays as it was.
+    #[inline(always)]
     pub(crate) fn set_to(&mut self, alloc: Global, other: &Row) -> Result<(), Memory>
         ensures ok { OnOk result (self.new ≡ other.now) }
         ensures err { OnErr result (self.new ≡ self.old) }

@@ -13,3 +13,5 @@ pub mod Entries
 pub mod Joining
 pub mod Closed
 pub mod Closings
+pub mod Newer
+pub mod Slots

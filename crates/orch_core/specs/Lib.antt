@@ -12,6 +12,7 @@ pub mod Commands
 pub mod CommandsBy
 pub mod Turns
 pub mod Polls
+pub mod Newer
 pub mod Replies
 pub mod After
 pub mod Runs

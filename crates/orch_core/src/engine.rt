@@ -16,8 +16,8 @@ ghost use Rattle.orch_core.specs.States.{IsState};
 
 use crate::closing::{close_entry, closing_of, keep_turn};
 use crate::command::{Numbers, Outcome, outcome_of};
-use crate::exchanging::{exchange, later, read_reply, read_server, store};
-use crate::keep::{given_rows, keep_some, keep_store};
+use crate::exchanging::{exchange, later, read_reply, read_server};
+use crate::keep::{given_rows, keep_some, store_slot};
 use crate::knowledge::Knowledge;
 use crate::opening::{complete, configure, copy_names, copy_settings, empty_slots, make_slots};
 use crate::recovering::scan_by;
@@ -158,16 +158,15 @@ impl Engine {
         ensures calls { result ≡ Err TurnFault.Keeper
             → act_changes [] self.old (Act.PollStore poller) ≢ [] }
     {
-        keep_store(
+        store_slot(
             alloc,
             keeper,
-            &self.knowledge.book,
-            &self.slots[poller as usize],
-        )?;
-        let slot = self.slots[poller as usize].take();
-        Ok(store(&mut self.knowledge.book, slot))
+            &mut self.knowledge.book,
+            &mut self.slots[poller as usize],
+        )
     }
 
+    #[inline(never)]
     fn restart<K: Keeper>(&mut self, alloc: Global, keeper: &mut K) -> Result<Reply, TurnFault>
         ensures reply { IfOk result (λ r. r ≡ act_reply self.old Act.Restart) }
         ensures plain { IfOk result (λ r. is_plain r ≡ true) }
@@ -208,6 +207,7 @@ impl Engine {
     }
 
     // The turn of the job of a number: the rows of what it observes and of the entry that ends are kept first.
+    #[inline(never)]
     fn job<K: Keeper>(
         &mut self,
         alloc: Global,
@@ -280,6 +280,7 @@ impl Engine {
     }
 
     // Does a command: what it changes of the kept rows is kept first.
+    #[inline(never)]
     fn command<K: Keeper>(
         &mut self,
         alloc: Global,
@@ -317,6 +318,7 @@ impl Engine {
     }
 
     // Tries the recoveries for which the analysis asks: the entries of those that begin are kept first.
+    #[inline(never)]
     fn scan<K: Keeper>(
         &mut self,
         alloc: Global,
@@ -436,6 +438,7 @@ impl Engine {
     }
 
     // What orchestrator does, with its reply once more where it is written.
+    #[inline(always)]
     fn act<K: Keeper>(
         &mut self,
         alloc: Global,

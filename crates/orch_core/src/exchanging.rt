@@ -14,7 +14,7 @@ ghost use Rattle.turns.specs.Plain.{is_plain};
 use crate::Reply;
 use instance_keeper::{Book, Observation, StoreAnswer};
 use orch_base::{Memory, Moment, ServerNo};
-use server_model::{StatusFault, World};
+use server_model::World;
 use std::alloc::Global;
 use turns::Step;
 
@@ -72,10 +72,10 @@ pub(crate) fn read_server(
     requires { no.0 < length world.now.servers }
     ensures { IfOk result (λ o. o ≡ reading_by world.now no read moment.0) }
 {
-    let seen = match world.status(alloc, no) {
-        Ok(status) => Some(status),
-        Err(StatusFault::Unreachable) => None,
-        Err(StatusFault::Memory) => return Err(Memory),
+    let seen = if world.is_reached(no) {
+        Some(world.shows(alloc, no)?)
+    } else {
+        None
     };
     Ok(Observation {
         no,

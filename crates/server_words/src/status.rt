@@ -36,7 +36,7 @@ pub struct Status {
 }
 
 impl Status {
-    ghost use Rattle.std.specs.Prelude.{◌≡◌, ◌↔◌, IfOk, IsTrue, OnOk, OnErr};
+    ghost use Rattle.std.specs.Prelude.{◌≡◌, ◌↔◌, IfOk, IsTrue, OnOk, OnErr, length};
 
     /// The same once more.
     #[inline(always)]
@@ -60,15 +60,18 @@ impl Status {
         })
     }
 
-    /// Becomes the same as the other: sets that are equal already stay as they are. At want of memory it stays whole.
+    /// Becomes the same as the other, without memory where its sets have as many intervals. At want of memory it stays
+    /// whole.
     pub fn set_to(&mut self, other: &Status) -> Result<(), Memory>
         ensures ok { OnOk result (self.new ≡ other.now) }
         ensures err { OnErr result (self.new ≡ self.old) }
     {
-        if !self.has_same_sets(other) {
+        if !self.has_sets_as_long(other) {
             *self = other.copy()?;
             return Ok(());
         }
+        self.set.set_to(&other.set);
+        self.purged.set_to(&other.purged);
         self.own_end = other.own_end;
         self.source = other.source;
         self.exec = other.exec;
@@ -79,6 +82,15 @@ impl Status {
         self.read_only = other.read_only;
         self.first = other.first;
         Ok(())
+    }
+
+    // Whether its sets have as many intervals.
+    #[inline(always)]
+    fn has_sets_as_long(&self, other: &Status) -> bool
+        ensures { IsTrue result ↔ ((length self.now.set ≡ length other.now.set)
+            × (length self.now.purged ≡ length other.now.purged)) }
+    {
+        self.set.is_as_long(&other.set) && self.purged.is_as_long(&other.purged)
     }
 
     // Whether its GTIDs are the same.
