@@ -20,8 +20,9 @@ use Rattle.operations.specs.declared.sight.Sight.{Sight}
 use Rattle.operations.specs.Changes.{change_of, server_of}
 use Rattle.operations.specs.Deeds as deed
 use Rattle.operations.specs.Deeds.{Deed}
-use Rattle.operations.specs.Jobs.{Job, seen_of}
-use Rattle.operations.specs.Turns.{attached_anew, bridge_at, by_set, crossed, has_all, has_from, holds_seen, is_moved, is_reached, is_settled, is_within, read_by, same_again, settles}
+use Rattle.operations.specs.declared.matching.Match.{Match}
+use Rattle.operations.specs.Jobs.{Job, match_found, seen_of}
+use Rattle.operations.specs.Turns.{attached_anew, bridge_at, by_match, by_set, crossed, has_all, has_from, holds_seen, is_moved, is_reached, is_settled, is_within, read_by, same_again, settles}
 use Rattle.job_laws.specs.Held.{attachment_of}
 use Rattle.operations.proofs.Sets.{within-holds}
 use Rattle.cause_laws.specs.Events.{IsBefore, LacksSome}
@@ -139,17 +140,23 @@ set-with : (n m : ServerNo) (o : Option Position) → IsWith n (by_set n m o)
 set-with n m None x e = cc
 set-with n m (Some s) x e = with-one n _ refl x e
 
+match-with : (n m : ServerNo) (o : Option Match) → IsWith n (by_match n m o)
+match-with n m None x e = cc
+match-with n m (Some y) x e = with-one n _ refl x e
+
 of-change : (m n : ServerNo) (o : Option Exchange) → Some m ≡ Some n → IsWith m o → IsWith n o
 of-change m n o e h = subst (λ k. IsWith k o) (same_Some m n e) h
 
-pub attachment-with : (xs : List Sight) (d : Deed) (n : ServerNo) (x : Exchange) → change_of d ≡ Some n → attachment_of xs d ≡ Some x → server_of x ≡ n.0
-attachment-with xs (deed.Look m from) n x h e = cc
-attachment-with xs (deed.Request m a) n x h e = cc
-attachment-with xs (deed.Until m to) n x h e = cc
-attachment-with xs (deed.Await m to) n x h e = cc
-attachment-with xs (deed.AwaitSet m k) n x h e = cc
-attachment-with xs (deed.Settle m) n x h e = cc
-attachment-with xs (deed.Cross c a b) n x h e = of-change a n _ h (crossed-with c a (bridge_at (read_by c a b) (seen_of xs (read_by c a b).0))) x e
-attachment-with xs (deed.Same m) n x h e = of-change m n _ h (again-with m (seen_of xs m.0)) x e
-attachment-with xs (deed.Auto m k) n x h e = of-change m n _ h (set-with m k (seen_of xs k.0)) x e
-attachment-with xs (deed.Finish lines) n x h e = cc
+pub attachment-with : (j : Job) (d : Deed) (n : ServerNo) (x : Exchange) → change_of d ≡ Some n → attachment_of j d ≡ Some x → server_of x ≡ n.0
+attachment-with j (deed.Look m from) n x h e = cc
+attachment-with j (deed.Request m a) n x h e = cc
+attachment-with j (deed.Until m to) n x h e = cc
+attachment-with j (deed.Await m to) n x h e = cc
+attachment-with j (deed.AwaitSet m k) n x h e = cc
+attachment-with j (deed.Settle m) n x h e = cc
+attachment-with j (deed.Cross c a b) n x h e = of-change a n _ h (crossed-with c a (bridge_at (read_by c a b) (seen_of j.seen (read_by c a b).0))) x e
+attachment-with j (deed.Same m) n x h e = of-change m n _ h (again-with m (seen_of j.seen m.0)) x e
+attachment-with j (deed.Auto m k) n x h e = of-change m n _ h (set-with m k (seen_of j.seen k.0)) x e
+attachment-with j (deed.Match m k every) n x h e = cc
+attachment-with j (deed.CrossMatch m k) n x h e = of-change m n _ h (match-with m k (match_found j.matches m k)) x e
+attachment-with j (deed.Finish lines) n x h e = cc

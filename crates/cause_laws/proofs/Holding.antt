@@ -14,6 +14,7 @@ use Rattle.kept_rows.specs.declared.observation.Observation.{Observation}
 use Rattle.kept_rows.specs.Seeing.{seen_in}
 use Rattle.server_words.specs.declared.answers.Unreachable.{Unreachable}
 use Rattle.server_words.specs.declared.attach.AttachFault.{AttachFault}
+use Rattle.server_words.specs.declared.attach.Spot.{Spot}
 use Rattle.server_words.specs.declared.changes.Ask.{Ask}
 use Rattle.server_words.specs.declared.changes.Ask.TheVariants as asking
 use Rattle.server_words.specs.declared.changes.Threads.{Threads}
@@ -25,13 +26,15 @@ use Rattle.server_model.specs.Worlds.{World, server_at}
 use Rattle.commands.specs.declared.cause.Cause.{Cause}
 use Rattle.commands.specs.declared.cause.Cause.TheVariants as cause
 use Rattle.commands.specs.declared.line.Line.{Line}
+use Rattle.operations.specs.declared.matching.MatchFault.{MatchFault}
 use Rattle.operations.specs.declared.op.Op.{Op}
 use Rattle.operations.specs.declared.step.JobStep.TheVariants as step
 use Rattle.operations.specs.Deeds as deed
 use Rattle.operations.specs.Deeds.{Deed, deed_of}
 use Rattle.operations.specs.Jobs.{Job, seen_of, with_hand, without}
+use Rattle.operations.specs.Matching.{match_logs, standing_at}
 use Rattle.operations.specs.Targets.{can_attach}
-use Rattle.operations.specs.Turns.{Attempt, Goes, Stops, settled, next, saw, observed, is_moved, after_status, after_look, after_ask, aim_of, hands_after, is_reached, until_by, after_until, after_wait_by, after_wait, holds_seen, settles, attach_answer_of, after_answer, after_attach, by_deed, by_ops}
+use Rattle.operations.specs.Turns.{Attempt, Goes, Stops, settled, next, saw, observed, is_moved, after_status, after_look, after_ask, aim_of, hands_after, is_reached, until_by, after_until, after_wait_by, after_wait, holds_seen, settles, after_match, attach_answer_of, after_answer, after_attach, by_deed, by_ops}
 use Rattle.job_laws.proofs.Leased.{turn-leased}
 use Rattle.job_laws.specs.Held.{attachment_of}
 use Rattle.job_laws.specs.Leases.{HasLeases, IsLeased, KeepsLeases, Leases, MayChange}
@@ -230,6 +233,8 @@ hands_by (deed.Settle n) hands = hands
 hands_by (deed.Cross c a b) hands = hands
 hands_by (deed.Same n) hands = hands
 hands_by (deed.Auto n m) hands = hands
+hands_by (deed.Match n m every) hands = hands
+hands_by (deed.CrossMatch n m) hands = hands
 hands_by (deed.Finish lines) hands = hands
 
 module _ (w : World) (read : ℕ) (now : Moment) (j : Job) (rest : List Op) where
@@ -277,6 +282,10 @@ module _ (w : World) (read : ℕ) (now : Moment) (j : Job) (rest : List Op) wher
       by true e = go (attach_answer_of w x) e
       by false e = refl
 
+  match-hands : (n m : ServerNo) (at : Spot) (r : Result Coord MatchFault) → Leaves j.hands (after_match j rest n m at r)
+  match-hands n m at (Ok c) e = refl
+  match-hands n m at (Err f) e = cc
+
   deed-hands : (d : Deed) → Leaves (hands_by d j.hands) (by_deed w read now j rest d)
   deed-hands (deed.Look n from) e = look-hands n from (observed w read now n) (seen_in (status w n.0)) e
   deed-hands (deed.Request n a) e = ask-hands n a (desk_answer (server_at w n.0)) e
@@ -284,9 +293,11 @@ module _ (w : World) (read : ℕ) (now : Moment) (j : Job) (rest : List Op) wher
   deed-hands (deed.Await n to) e = wait-hands n (λ s. is_reached (aim_of j.seen to) s.exec) (seen_in (status w n.0)) e
   deed-hands (deed.AwaitSet n m) e = wait-hands n (holds_seen (seen_of j.seen m.0)) (seen_in (status w n.0)) e
   deed-hands (deed.Settle n) e = wait-hands n (settles j) (seen_in (status w n.0)) e
-  deed-hands (deed.Cross c a b) e = attach-hands a (attachment_of j.seen (deed.Cross c a b)) e
-  deed-hands (deed.Same n) e = attach-hands n (attachment_of j.seen (deed.Same n)) e
-  deed-hands (deed.Auto n m) e = attach-hands n (attachment_of j.seen (deed.Auto n m)) e
+  deed-hands (deed.Cross c a b) e = attach-hands a (attachment_of j (deed.Cross c a b)) e
+  deed-hands (deed.Same n) e = attach-hands n (attachment_of j (deed.Same n)) e
+  deed-hands (deed.Auto n m) e = attach-hands n (attachment_of j (deed.Auto n m)) e
+  deed-hands (deed.Match n m every) e = match-hands n m (standing_at (server_at w n.0)) (match_logs w n m every) e
+  deed-hands (deed.CrossMatch n m) e = attach-hands n (attachment_of j (deed.CrossMatch n m)) e
   deed-hands (deed.Finish lines) e = cc
 
 -- ---- what an operation changes, and the hands
@@ -325,9 +336,11 @@ changes-left w j n (deed.Until k to) hands = until-left n (has n hands) k (until
 changes-left w j n (deed.Await k to) hands = refl
 changes-left w j n (deed.AwaitSet k m) hands = refl
 changes-left w j n (deed.Settle k) hands = refl
-changes-left w j n (deed.Cross c a b) hands = made-left w n (has n hands) (attachment_of j.seen (deed.Cross c a b))
-changes-left w j n (deed.Same k) hands = made-left w n (has n hands) (attachment_of j.seen (deed.Same k))
-changes-left w j n (deed.Auto k m) hands = made-left w n (has n hands) (attachment_of j.seen (deed.Auto k m))
+changes-left w j n (deed.Cross c a b) hands = made-left w n (has n hands) (attachment_of j (deed.Cross c a b))
+changes-left w j n (deed.Same k) hands = made-left w n (has n hands) (attachment_of j (deed.Same k))
+changes-left w j n (deed.Auto k m) hands = made-left w n (has n hands) (attachment_of j (deed.Auto k m))
+changes-left w j n (deed.Match k m every) hands = refl
+changes-left w j n (deed.CrossMatch k m) hands = made-left w n (has n hands) (attachment_of j (deed.CrossMatch k m))
 changes-left w j n (deed.Finish lines) hands = refl
 
 waits-change-nothing : (w : World) (j : Job) (d : Deed) (s : Status) → Misses j d s → changes_by w j d ≡ []
@@ -340,6 +353,8 @@ waits-change-nothing w j (deed.Until n to) s h = absurd h
 waits-change-nothing w j (deed.Cross c a b) s h = absurd h
 waits-change-nothing w j (deed.Same n) s h = absurd h
 waits-change-nothing w j (deed.Auto n m) s h = absurd h
+waits-change-nothing w j (deed.Match n m every) s h = absurd h
+waits-change-nothing w j (deed.CrossMatch n m) s h = absurd h
 waits-change-nothing w j (deed.Finish lines) s h = absurd h
 
 -- ---- turns
@@ -427,6 +442,8 @@ handled-apart (deed.Settle n) hands apart = apart
 handled-apart (deed.Cross c a b) hands apart = apart
 handled-apart (deed.Same n) hands apart = apart
 handled-apart (deed.Auto n m) hands apart = apart
+handled-apart (deed.Match n m every) hands apart = apart
+handled-apart (deed.CrossMatch n m) hands apart = apart
 handled-apart (deed.Finish lines) hands apart = apart
 
 course-apart : (j : Job) (ms : List Meeting) → AllPairs Apart j.hands → AllGoing j ms → AllPairs Apart (job_after j ms).hands

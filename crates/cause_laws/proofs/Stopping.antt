@@ -1,5 +1,5 @@
 -- What befalls an operation stops its job, for that cause.
-use Rattle.std.proofs.Common.{◌≡◌, ℕ, ◌+◌, ◌≤◌, Bool, true, false, cond, List, [], refl, sym, ◌∙◌, ap, subst, Option, Some, None, Err}
+use Rattle.std.proofs.Common.{◌≡◌, ℕ, ◌+◌, ◌≤◌, Bool, true, false, cond, not, List, [], refl, sym, ◌∙◌, ap, subst, Option, Some, None, Err}
 use Rattle.std.specs.Prelude.{is_some}
 use Rattle.std.proofs.lemmas.Bool.{false≢true, le-ltb}
 use Rattle.std.proofs.lemmas.Option.{same_Some}
@@ -20,15 +20,18 @@ use Rattle.server_model.specs.Run.{Exchange}
 use Rattle.server_model.specs.Worlds.{World, server_at}
 use Rattle.commands.specs.declared.cause.Cause.{Cause}
 use Rattle.commands.specs.declared.cause.Cause.TheVariants as cause
+use Rattle.operations.specs.declared.matching.MatchFault.{MatchFault}
+use Rattle.operations.specs.declared.matching.MatchFault.TheVariants as matching
 use Rattle.operations.specs.declared.op.Op.{Op}
 use Rattle.operations.specs.Changes.{change_of, server_of}
 use Rattle.operations.specs.Deeds as deed
 use Rattle.operations.specs.Deeds.{Deed}
 use Rattle.operations.specs.Jobs.{Job, seen_of}
+use Rattle.operations.specs.Matching.{match_between, match_logs, standing_at}
 use Rattle.operations.specs.Targets.{can_attach}
-use Rattle.operations.specs.Turns.{Goes, Stops, next, saw, observed, is_moved, after_status, after_look, after_ask, aim_of, is_reached, until_by, after_until, after_wait_by, after_wait, holds_seen, settles, attach_answer_of, cause_by, after_answer, after_attach, by_deed}
+use Rattle.operations.specs.Turns.{Goes, Stops, next, saw, observed, is_moved, after_status, after_look, after_ask, aim_of, is_reached, until_by, after_until, after_wait_by, after_wait, holds_seen, settles, cause_of_match, after_match, attach_answer_of, cause_by, after_answer, after_attach, by_deed}
 use Rattle.job_laws.specs.Held.{attachment_of}
-use Rattle.cause_laws.specs.Events.{Befell, IsAnswered, IsMoved, IsSpent, only_where, speaks_with, tries}
+use Rattle.cause_laws.specs.Events.{Befell, IsAnswered, IsMoved, IsSpent, IsUnmatched, first_away, only_where, speaks_with, tries}
 use Rattle.cause_laws.proofs.Answering.{answer-from, answer-told, not-asked, not-read}
 use Rattle.cause_laws.proofs.Aiming.{apart-moved, attachment-with, before-aim, lacks-set}
 
@@ -66,12 +69,23 @@ module _ (w : World) (read : ℕ) (now : Moment) (j : Job) (rest : List Op) wher
       ∙ ap (λ b. cond b (after_answer j rest n x (attach_answer_of w x)) (Goes None [] (next j rest))) can
       ∙ ap (after_answer j rest n x) e
 
-  away-attach : (d : Deed) (n : ServerNo) → change_of d ≡ Some n → tries w (attachment_of j.seen d) ≡ true → can_reach (server_at w n.0) ≡ false
-      → after_attach w j rest n (attachment_of j.seen d) ≡ Stops (cause.Unreachable n) None
+  away-attach : (d : Deed) (n : ServerNo) → change_of d ≡ Some n → tries w (attachment_of j d) ≡ true → can_reach (server_at w n.0) ≡ false
+      → after_attach w j rest n (attachment_of j d) ≡ Stops (cause.Unreachable n) None
   away-attach d n changed tried h =
-      let x = tries-some w (attachment_of j.seen d) tried in
-      let one : server_of x.0 ≡ n.0 = attachment-with j.seen d n x.0 changed x.1 in
-      answered-so n (attachment_of j.seen d) x.0 attaching.Unreachable x.1 x.2 ((answer-told w x.0 x.2).away (subst (λ k. can_reach (server_at w k) ≡ false) (sym one) h))
+      let x = tries-some w (attachment_of j d) tried in
+      let one : server_of x.0 ≡ n.0 = attachment-with j d n x.0 changed x.1 in
+      answered-so n (attachment_of j d) x.0 attaching.Unreachable x.1 x.2 ((answer-told w x.0 x.2).away (subst (λ k. can_reach (server_at w k) ≡ false) (sym one) h))
+
+  -- of two that are matched, the first that isn't reached
+  away-match : (m k : ServerNo) (every : ℕ) → can_reach (server_at w (first_away w m k).0) ≡ false → match_logs w m k every ≡ Err (matching.Unreachable (first_away w m k))
+  away-match m k every h = go (can_reach (server_at w m.0)) (can_reach (server_at w k.0)) refl h
+    where
+      go : (a b : Bool) → can_reach (server_at w k.0) ≡ b → can_reach (server_at w (cond a k m).0) ≡ false
+          → cond (not a) (Err (matching.Unreachable m)) (cond (not b) (Err (matching.Unreachable k)) (match_between every (server_at w m.0) (server_at w k.0)))
+            ≡ Err (matching.Unreachable (cond a k m))
+      go false b e f = refl
+      go true false e f = refl
+      go true true e f = absurd (false≢true (sym f ∙ e))
 
   unreached-stops : (d : Deed) (n : ServerNo) → speaks_with w j d ≡ Some n → can_reach (server_at w n.0) ≡ false → StopsFor d (cause.Unreachable n)
   unreached-stops (deed.Look m from) n spoken h =
@@ -85,14 +99,20 @@ module _ (w : World) (read : ℕ) (now : Moment) (j : Job) (rest : List Op) wher
   unreached-stops (deed.AwaitSet m k) n spoken h = away (deed.AwaitSet m k) m n (same_Some m n spoken) h (λ h. (None, away-wait m (holds_seen (seen_of j.seen k.0)) h))
   unreached-stops (deed.Settle m) n spoken h = away (deed.Settle m) m n (same_Some m n spoken) h (λ h. (None, away-wait m (settles j) h))
   unreached-stops (deed.Cross c a b) n spoken h =
-      let parts = only-parts (tries w (attachment_of j.seen (deed.Cross c a b))) a n spoken in
+      let parts = only-parts (tries w (attachment_of j (deed.Cross c a b))) a n spoken in
       away (deed.Cross c a b) a n parts.1 h (λ h. (None, away-attach (deed.Cross c a b) a refl parts.0 h))
   unreached-stops (deed.Same m) n spoken h =
-      let parts = only-parts (tries w (attachment_of j.seen (deed.Same m))) m n spoken in
+      let parts = only-parts (tries w (attachment_of j (deed.Same m))) m n spoken in
       away (deed.Same m) m n parts.1 h (λ h. (None, away-attach (deed.Same m) m refl parts.0 h))
   unreached-stops (deed.Auto m k) n spoken h =
-      let parts = only-parts (tries w (attachment_of j.seen (deed.Auto m k))) m n spoken in
+      let parts = only-parts (tries w (attachment_of j (deed.Auto m k))) m n spoken in
       away (deed.Auto m k) m n parts.1 h (λ h. (None, away-attach (deed.Auto m k) m refl parts.0 h))
+  unreached-stops (deed.Match m k every) n spoken h =
+      away (deed.Match m k every) (first_away w m k) n (same_Some (first_away w m k) n spoken) h
+      (λ h. (None, ap (after_match j rest m k (standing_at (server_at w m.0))) (away-match m k every h)))
+  unreached-stops (deed.CrossMatch m k) n spoken h =
+      let parts = only-parts (tries w (attachment_of j (deed.CrossMatch m k))) m n spoken in
+      away (deed.CrossMatch m k) m n parts.1 h (λ h. (None, away-attach (deed.CrossMatch m k) m refl parts.0 h))
   unreached-stops (deed.Finish lines) n spoken h = cc
 
   -- ---- an attachment's answer
@@ -108,11 +128,14 @@ module _ (w : World) (read : ℕ) (now : Moment) (j : Job) (rest : List Op) wher
   answered-stops (deed.AwaitSet m k) n f h = let none = h.found in cc
   answered-stops (deed.Settle m) n f h = let none = h.found in cc
   answered-stops (deed.Cross c a b) n f h =
-      at-server (deed.Cross c a b) a n f h.changed (answered-so a (attachment_of j.seen (deed.Cross c a b)) h.exchange f h.found h.can (answer-from w h.exchange f h.answer))
+      at-server (deed.Cross c a b) a n f h.changed (answered-so a (attachment_of j (deed.Cross c a b)) h.exchange f h.found h.can (answer-from w h.exchange f h.answer))
   answered-stops (deed.Same m) n f h =
-      at-server (deed.Same m) m n f h.changed (answered-so m (attachment_of j.seen (deed.Same m)) h.exchange f h.found h.can (answer-from w h.exchange f h.answer))
+      at-server (deed.Same m) m n f h.changed (answered-so m (attachment_of j (deed.Same m)) h.exchange f h.found h.can (answer-from w h.exchange f h.answer))
   answered-stops (deed.Auto m k) n f h =
-      at-server (deed.Auto m k) m n f h.changed (answered-so m (attachment_of j.seen (deed.Auto m k)) h.exchange f h.found h.can (answer-from w h.exchange f h.answer))
+      at-server (deed.Auto m k) m n f h.changed (answered-so m (attachment_of j (deed.Auto m k)) h.exchange f h.found h.can (answer-from w h.exchange f h.answer))
+  answered-stops (deed.Match m k every) n f h = let none = h.found in cc
+  answered-stops (deed.CrossMatch m k) n f h =
+      at-server (deed.CrossMatch m k) m n f h.changed (answered-so m (attachment_of j (deed.CrossMatch m k)) h.exchange f h.found h.can (answer-from w h.exchange f h.answer))
   answered-stops (deed.Finish lines) n f h = let none = h.found in cc
 
   -- ---- a server that was moved
@@ -158,7 +181,15 @@ module _ (w : World) (read : ℕ) (now : Moment) (j : Job) (rest : List Op) wher
   spent-stops (deed.Cross c a b) n h = absurd (false≢true h.fails)
   spent-stops (deed.Same m) n h = absurd (false≢true h.fails)
   spent-stops (deed.Auto m k) n h = absurd (false≢true h.fails)
+  spent-stops (deed.Match m k every) n h = absurd (false≢true h.fails)
+  spent-stops (deed.CrossMatch m k) n h = absurd (false≢true h.fails)
   spent-stops (deed.Finish lines) n h = absurd (false≢true h.fails)
+
+  -- ---- logs that don't match
+
+  unmatched-stops : (d : Deed) (n : ServerNo) (f : MatchFault) → IsUnmatched w d n f → StopsFor d (cause_of_match n f)
+  unmatched-stops d n f h =
+      subst (λ (d : Deed). StopsFor d (cause_of_match n f)) (sym h.match) (None, ap (after_match j rest n h.other (standing_at (server_at w n.0))) h.answer)
 
   -- ---- whatever it is
 
@@ -173,6 +204,6 @@ module _ (w : World) (read : ℕ) (now : Moment) (j : Job) (rest : List Op) wher
   befallen-stops d (cause.Purged n first) h = answered-stops d n (attaching.Purged first) h
   befallen-stops d (cause.Reachable n) h = absurd h
   befallen-stops d cause.NoCandidate h = absurd h
-  befallen-stops d (cause.NoMark n) h = absurd h
-  befallen-stops d (cause.Mismatch n entry) h = absurd h
+  befallen-stops d (cause.NoMark n) h = unmatched-stops d n matching.NoMark h
+  befallen-stops d (cause.Mismatch n entry) h = unmatched-stops d n (matching.Mismatch entry) h
   befallen-stops d (cause.HookFailed number exit) h = absurd h

@@ -14,24 +14,72 @@ use Rattle.server_words.specs.declared.attach.AttachFault.TheVariants as attachi
 use Rattle.server_words.specs.declared.changes.Ask.{Ask}
 use Rattle.server_words.specs.declared.changes.Ask.TheVariants as asking
 use Rattle.server_words.specs.declared.status.Status.{Status}
+use Rattle.server_model.specs.declared.server.Server.{Server}
 use Rattle.server_model.specs.Desk.{can_reach, desk_answer}
 use Rattle.server_model.specs.Gtids.{status}
+use Rattle.server_model.specs.Plains.{logged_by}
 use Rattle.server_model.specs.Run.{Exchange, Request}
 use Rattle.server_model.specs.Worlds.{World, server_at}
 use Rattle.commands.specs.declared.cause.Cause.{Cause}
 use Rattle.commands.specs.declared.cause.Cause.TheVariants as cause
 use Rattle.operations.specs.declared.op.Aim.{Aim}
+use Rattle.operations.specs.declared.matching.MatchFault.{MatchFault}
+use Rattle.operations.specs.declared.matching.MatchFault.TheVariants as matching
 use Rattle.operations.specs.declared.op.Op.{Op}
 use Rattle.operations.specs.Changes.{change_of}
 use Rattle.operations.specs.Deeds as deed
 use Rattle.operations.specs.Deeds.{Deed}
 use Rattle.operations.specs.Jobs.{Job, seen_of}
+use Rattle.operations.specs.Matching.{first_unlike, last_mark, match_between, match_logs, matched_at, matched_behind, matched_from, place_of_mark, standing_at}
 use Rattle.operations.specs.Targets.{can_attach}
-use Rattle.operations.specs.Turns.{Attempt, Goes, Stops, settled, next, saw, observed, is_moved, after_status, after_look, after_ask, aim_of, is_reached, until_by, after_until, after_wait_by, after_wait, holds_seen, is_settled, settles, attach_answer_of, cause_by, after_answer, after_attach, by_deed}
+use Rattle.operations.specs.Turns.{Attempt, Goes, Stops, settled, next, saw, observed, is_moved, after_status, after_look, after_ask, aim_of, is_reached, until_by, after_until, after_wait_by, after_wait, holds_seen, is_settled, settles, after_match, attach_answer_of, cause_by, after_answer, after_attach, by_deed}
 use Rattle.job_laws.specs.Held.{attachment_of}
-use Rattle.cause_laws.specs.Events.{Befell, Done, Ended, IsAnswered, IsShort, IsTaken, Misses, Stopped, Waited, asked_until, changes_by, fails_when_spent, made, only_where, speaks_with, tries}
+use Rattle.cause_laws.specs.Events.{Befell, Done, Ended, IsAnswered, IsShort, IsTaken, Misses, Stopped, Waited, asked_until, changes_by, fails_when_spent, first_away, made, only_where, speaks_with, tries}
 use Rattle.cause_laws.proofs.Answering.{answer-memory, answer-unreached, answers-of, unasked, unread}
 use Rattle.cause_laws.proofs.Aiming.{aim-before, aim-come, attachment-with, has-come, moved-apart, set-come, set-lacks, unsettled}
+
+-- a match of two servers that are reached isn't answered so
+match-reached : (every : ℕ) (o p : Option Server) (k : ServerNo) → match_between every o p ≡ Err (matching.Unreachable k) → ⊥
+match-reached every None p k h = cc
+match-reached every (Some x) None k h = cc
+match-reached every (Some x) (Some y) k h = from (last_mark every x) h
+  where
+    unlike : (i j : ℕ) (o : Option ℕ) → matched_at x y i j o ≡ Err (matching.Unreachable k) → ⊥
+    unlike i j None e = cc
+    unlike i j (Some l) e = cc
+
+    behind : (i : ℕ) (o : Option ℕ) → matched_behind every x y i o ≡ Err (matching.Unreachable k) → ⊥
+    behind i None e = cc
+    behind i (Some j) e = unlike i j (first_unlike every x y i j) e
+
+    from : (o : Option ℕ) → matched_from every x y o ≡ Err (matching.Unreachable k) → ⊥
+    from None e = cc
+    from (Some i) e = behind i (place_of_mark y (logged_by x i)) e
+
+abbrev unreached : ServerNo → Result Coord MatchFault
+unreached k = Err (matching.Unreachable k)
+
+match-away : (w : World) (n m : ServerNo) (every : ℕ) (k : ServerNo) → match_logs w n m every ≡ Err (matching.Unreachable k)
+    → (Some (first_away w n m) ≡ Some k) × (can_reach (server_at w k.0) ≡ false)
+match-away w n m every k h = go (can_reach (server_at w n.0)) (can_reach (server_at w m.0)) refl refl h
+  where
+    fault-of : Result Coord MatchFault → Option ServerNo
+    fault-of (Ok c) = None
+    fault-of (Err (matching.Unreachable l)) = Some l
+    fault-of (Err matching.NoMark) = None
+    fault-of (Err (matching.Mismatch l)) = None
+
+    there : (l : ServerNo) → can_reach (server_at w l.0) ≡ false → unreached l ≡ unreached k → (Some l ≡ Some k) × (can_reach (server_at w k.0) ≡ false)
+    there l away e =
+        let same : Some l ≡ Some k = ap fault-of e in
+        (same, subst (λ (o : ServerNo). can_reach (server_at w o.0) ≡ false) (same_Some l k same) away)
+
+    go : (a b : Bool) → can_reach (server_at w n.0) ≡ a → can_reach (server_at w m.0) ≡ b
+        → cond (not a) (Err (matching.Unreachable n)) (cond (not b) (Err (matching.Unreachable m)) (match_between every (server_at w n.0) (server_at w m.0))) ≡ Err (matching.Unreachable k)
+        → (Some (cond a m n) ≡ Some k) × (can_reach (server_at w k.0) ≡ false)
+    go false b e f g = there n e g
+    go true false e f g = there m f g
+    go true true e f g = absurd (match-reached every (server_at w n.0) (server_at w m.0) k g)
 
 module _ (w : World) (read : ℕ) (now : Moment) (j : Job) (rest : List Op) where
   abbrev Taken : Deed → Attempt → Type 0
@@ -158,18 +206,18 @@ module _ (w : World) (read : ℕ) (now : Moment) (j : Job) (rest : List Op) wher
 
   -- ---- changes of source
 
-  module _ (d : Deed) (n : ServerNo) (changed : change_of d ≡ Some n) (spoken : tries w (attachment_of j.seen d) ≡ true → speaks_with w j d ≡ Some n)
-      (changes : changes_by w j d ≡ made w (attachment_of j.seen d)) (never : (s : Status) → Misses j d s → ⊥) where
-    passed-by : attachment_of j.seen d ≡ None → Taken d (Goes None [] (next j rest))
+  module _ (d : Deed) (n : ServerNo) (changed : change_of d ≡ Some n) (spoken : tries w (attachment_of j d) ≡ true → speaks_with w j d ≡ Some n)
+      (changes : changes_by w j d ≡ made w (attachment_of j d)) (never : (s : Status) → Misses j d s → ⊥) where
+    passed-by : attachment_of j d ≡ None → Taken d (Goes None [] (next j rest))
     passed-by is = Done (record { going = refl; left = refl; waited = refl; wait = refl; changes = sym (changes ∙ ap (made w) is); come = λ k short. absurd (never short.seen short.misses) })
 
-    answered-with : (x : Exchange) (f : AttachFault) → attachment_of j.seen d ≡ Some x → can_attach w x ≡ true → attach_answer_of w x ≡ Err f → IsAnswered w j d n f
+    answered-with : (x : Exchange) (f : AttachFault) → attachment_of j d ≡ Some x → can_attach w x ≡ true → attach_answer_of w x ≡ Err f → IsAnswered w j d n f
     answered-with x f is can e = record { changed = changed; exchange = x; found = is; can = can; answer = answers-of w x f can e }
 
-    refused-by : (x : Exchange) (f : AttachFault) → attachment_of j.seen d ≡ Some x → can_attach w x ≡ true → attach_answer_of w x ≡ Err f → Befell w j d (cause_by n f)
+    refused-by : (x : Exchange) (f : AttachFault) → attachment_of j d ≡ Some x → can_attach w x ≡ true → attach_answer_of w x ≡ Err f → Befell w j d (cause_by n f)
     refused-by x attaching.Unreachable is can e = record {
       spoken = spoken (ap (tries w) is ∙ can);
-      away = subst (λ k. can_reach (server_at w k) ≡ false) (attachment-with j.seen d n x changed is) (answer-unreached w x can e);
+      away = subst (λ k. can_reach (server_at w k) ≡ false) (attachment-with j d n x changed is) (answer-unreached w x can e);
     }
     refused-by x (attaching.Running at) is can e = (at, answered-with x (attaching.Running at) is can e)
     refused-by x (attaching.Interfered expected found) is can e = answered-with x (attaching.Interfered expected found) is can e
@@ -178,7 +226,7 @@ module _ (w : World) (read : ℕ) (now : Moment) (j : Job) (rest : List Op) wher
     refused-by x (attaching.Purged first) is can e = answered-with x (attaching.Purged first) is can e
     refused-by x attaching.Memory is can e = absurd (answer-memory w x can e)
 
-    taken-attach : (o : Option Exchange) → attachment_of j.seen d ≡ o → Taken d (after_attach w j rest n o)
+    taken-attach : (o : Option Exchange) → attachment_of j d ≡ o → Taken d (after_attach w j rest n o)
     taken-attach None is = passed-by is
     taken-attach (Some x) is = by (can_attach w x) refl
       where
@@ -204,6 +252,19 @@ module _ (w : World) (read : ℕ) (now : Moment) (j : Job) (rest : List Op) wher
           come = λ k short. absurd (never short.seen short.misses);
         })
 
+  -- ---- a match
+
+  taken-match : (n m : ServerNo) (every : ℕ) → Taken (deed.Match n m every) (by_deed w read now j rest (deed.Match n m every))
+  taken-match n m every = go (match_logs w n m every) refl
+    where
+      go : (r : Result Coord MatchFault) → match_logs w n m every ≡ r → Taken (deed.Match n m every) (after_match j rest n m (standing_at (server_at w n.0)) r)
+      go (Ok c) is = Done (record { going = refl; left = refl; waited = refl; wait = refl; changes = refl; come = λ k short. absurd short.misses })
+      go (Err (matching.Unreachable k)) is =
+          let away = match-away w n m every k is in
+          halted (deed.Match n m every) (cause.Unreachable k) None (record { spoken = away.0; away = away.1 })
+      go (Err matching.NoMark) is = halted (deed.Match n m every) (cause.NoMark n) None (record { other = m; every = every; match = refl; answer = is })
+      go (Err (matching.Mismatch k)) is = halted (deed.Match n m every) (cause.Mismatch n k) None (record { other = m; every = every; match = refl; answer = is })
+
   -- ---- an operation
 
   pub deed-taken : (d : Deed) → IsTaken w j rest d (settled j (by_deed w read now j rest d))
@@ -215,7 +276,10 @@ module _ (w : World) (read : ℕ) (now : Moment) (j : Job) (rest : List Op) wher
   deed-taken (deed.AwaitSet n m) = taken-wait (deed.AwaitSet n m) n (holds_seen (seen_of j.seen m.0)) refl refl refl (set-lacks (seen_of j.seen m.0)) (set-come (seen_of j.seen m.0))
   deed-taken (deed.Settle n) = taken-settle n
   deed-taken (deed.Cross c a b) =
-      taken-attach (deed.Cross c a b) a refl (λ h. ap (λ t. only_where t a) h) refl (λ s h. h) (attachment_of j.seen (deed.Cross c a b)) refl
-  deed-taken (deed.Same n) = taken-attach (deed.Same n) n refl (λ h. ap (λ t. only_where t n) h) refl (λ s h. h) (attachment_of j.seen (deed.Same n)) refl
-  deed-taken (deed.Auto n m) = taken-attach (deed.Auto n m) n refl (λ h. ap (λ t. only_where t n) h) refl (λ s h. h) (attachment_of j.seen (deed.Auto n m)) refl
+      taken-attach (deed.Cross c a b) a refl (λ h. ap (λ t. only_where t a) h) refl (λ s h. h) (attachment_of j (deed.Cross c a b)) refl
+  deed-taken (deed.Same n) = taken-attach (deed.Same n) n refl (λ h. ap (λ t. only_where t n) h) refl (λ s h. h) (attachment_of j (deed.Same n)) refl
+  deed-taken (deed.Auto n m) = taken-attach (deed.Auto n m) n refl (λ h. ap (λ t. only_where t n) h) refl (λ s h. h) (attachment_of j (deed.Auto n m)) refl
+  deed-taken (deed.Match n m every) = taken-match n m every
+  deed-taken (deed.CrossMatch n m) =
+      taken-attach (deed.CrossMatch n m) n refl (λ h. ap (λ t. only_where t n) h) refl (λ s h. h) (attachment_of j (deed.CrossMatch n m)) refl
   deed-taken (deed.Finish lines) = Ended (record { lines = lines; finish = refl; done = refl; changes = refl })

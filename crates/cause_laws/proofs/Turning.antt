@@ -122,6 +122,8 @@ one-spoken w v j k (deed.Settle a) m n h e f = absurd (false≢true h)
 one-spoken w v j k (deed.Cross c a b) m n h e f = absurd (false≢true h)
 one-spoken w v j k (deed.Same a) m n h e f = absurd (false≢true h)
 one-spoken w v j k (deed.Auto a b) m n h e f = absurd (false≢true h)
+one-spoken w v j k (deed.Match a b every) m n h e f = absurd (false≢true h)
+one-spoken w v j k (deed.CrossMatch a b) m n h e f = absurd (false≢true h)
 one-spoken w v j k (deed.Finish lines) m n h e f = absurd (false≢true h)
 
 same-first : (op k : Op) (rest ops : List Op) → op ∷ rest ≡ k ∷ ops → op ≡ k
@@ -199,6 +201,8 @@ later-lines w read now j rest (deed.Settle n) lines e = refl
 later-lines w read now j rest (deed.Cross c a b) lines e = refl
 later-lines w read now j rest (deed.Same n) lines e = refl
 later-lines w read now j rest (deed.Auto n m) lines e = refl
+later-lines w read now j rest (deed.Match n m every) lines e = refl
+later-lines w read now j rest (deed.CrossMatch n m) lines e = refl
 later-lines w read now j rest (deed.Finish ls) lines e = cc
 
 done-behind : (j : Job) (m : Meeting) (ms : List Meeting) → (turn_at j m).step ≡ step.Going → lines_of (turn_at j m).job.ops ≡ lines_of j.ops → IsDoneIn (turn_at j m).job ms → IsDoneIn j (m ∷ ms)
@@ -247,6 +251,8 @@ no-finish (deed.Settle n) lines e = refl
 no-finish (deed.Cross c a b) lines e = refl
 no-finish (deed.Same n) lines e = refl
 no-finish (deed.Auto n m) lines e = refl
+no-finish (deed.Match n m every) lines e = refl
+no-finish (deed.CrossMatch n m) lines e = refl
 no-finish (deed.Finish ls) lines e = absurd (false≢true (sym e))
 
 pub finished-lines : (ops : List Op) (lines : List Line) → list_any (λ op. is_finish (deed_of op)) ops ≡ false → lines_of (finished ops lines) ≡ lines

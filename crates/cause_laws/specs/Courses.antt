@@ -85,6 +85,8 @@ lines_by (deed.Settle n) later = later
 lines_by (deed.Cross c a b) later = later
 lines_by (deed.Same n) later = later
 lines_by (deed.Auto n m) later = later
+lines_by (deed.Match n m every) later = later
+lines_by (deed.CrossMatch n m) later = later
 
 abbrev pub lines_of : List Op → List Line
 lines_of [] = []
@@ -102,6 +104,8 @@ is_finish (deed.Settle n) = false
 is_finish (deed.Cross c a b) = false
 is_finish (deed.Same n) = false
 is_finish (deed.Auto n m) = false
+is_finish (deed.Match n m every) = false
+is_finish (deed.CrossMatch n m) = false
 
 -- in one of these turns the job is done, with the lines of its operations
 pub record IsDoneIn (j : Job) (ms : List Meeting) : Type 0 where

@@ -21,12 +21,15 @@ use Rattle.commands.specs.declared.cause.Cause.{Cause}
 use Rattle.commands.specs.declared.cause.Cause.TheVariants as cause
 use Rattle.commands.specs.declared.line.Line.{Line}
 use Rattle.operations.specs.declared.step.JobStep.TheVariants as step
+use Rattle.operations.specs.declared.matching.MatchFault.{MatchFault}
+use Rattle.operations.specs.declared.matching.MatchFault.TheVariants as matching
 use Rattle.operations.specs.declared.op.Op.{Op}
 use Rattle.operations.specs.declared.sight.Position.{Position}
 use Rattle.operations.specs.Changes.{change_of}
 use Rattle.operations.specs.Deeds as deed
 use Rattle.operations.specs.Deeds.{Deed}
 use Rattle.operations.specs.Jobs.{Job, seen_of}
+use Rattle.operations.specs.Matching.{match_logs}
 use Rattle.operations.specs.Targets.{can_attach}
 use Rattle.operations.specs.Turns.{Turned, aim_of, until_by}
 use Rattle.job_laws.specs.Held.{attachment_of}
@@ -40,7 +43,12 @@ tries w (Some e) = can_attach w e
 abbrev pub only_where : Bool → ServerNo → Option ServerNo
 only_where b n = if b then Some n else None
 
--- the server with which an operation has an exchange: nobody where it is passed over, or ends the job
+-- the first of two servers, where it isn't reached, else the second
+abbrev pub first_away : World → ServerNo → ServerNo → ServerNo
+first_away w n m = if can_reach (server_at w n.0) then m else n
+
+-- the server with which an operation has an exchange, a match with the first of two that isn't reached: nobody where it
+-- is passed over, or ends the job
 abbrev pub speaks_with : World → Job → Deed → Option ServerNo
 speaks_with w j (deed.Look n from) = Some n
 speaks_with w j (deed.Request n a) = Some n
@@ -48,9 +56,11 @@ speaks_with w j (deed.Until n to) = only_where (is_some (until_by (seen_of j.see
 speaks_with w j (deed.Await n to) = Some n
 speaks_with w j (deed.AwaitSet n m) = Some n
 speaks_with w j (deed.Settle n) = Some n
-speaks_with w j (deed.Cross c a b) = only_where (tries w (attachment_of j.seen (deed.Cross c a b))) a
-speaks_with w j (deed.Same n) = only_where (tries w (attachment_of j.seen (deed.Same n))) n
-speaks_with w j (deed.Auto n m) = only_where (tries w (attachment_of j.seen (deed.Auto n m))) n
+speaks_with w j (deed.Cross c a b) = only_where (tries w (attachment_of j (deed.Cross c a b))) a
+speaks_with w j (deed.Same n) = only_where (tries w (attachment_of j (deed.Same n))) n
+speaks_with w j (deed.Auto n m) = only_where (tries w (attachment_of j (deed.Auto n m))) n
+speaks_with w j (deed.Match n m every) = Some (first_away w n m)
+speaks_with w j (deed.CrossMatch n m) = only_where (tries w (attachment_of j (deed.CrossMatch n m))) n
 speaks_with w j (deed.Finish lines) = None
 
 -- ---- what befalls an operation
@@ -76,7 +86,7 @@ Answers w (Purge n file) fault = ⊥
 pub record IsAnswered (w : World) (j : Job) (d : Deed) (n : ServerNo) (fault : AttachFault) : Type 0 where
   pub changed : change_of d ≡ Some n
   pub exchange : Exchange
-  pub found : attachment_of j.seen d ≡ Some exchange
+  pub found : attachment_of j d ≡ Some exchange
   pub can : can_attach w exchange ≡ true
   pub answer : Answers w exchange fault
 
@@ -111,6 +121,8 @@ Misses j (deed.Until n to) s = ⊥
 Misses j (deed.Cross c a b) s = ⊥
 Misses j (deed.Same n) s = ⊥
 Misses j (deed.Auto n m) s = ⊥
+Misses j (deed.Match n m every) s = ⊥
+Misses j (deed.CrossMatch n m) s = ⊥
 Misses j (deed.Finish lines) s = ⊥
 
 -- a wait whose last one fails the job; the last one for a settled applier ends that wait
@@ -124,6 +136,8 @@ fails_when_spent (deed.Until n to) = false
 fails_when_spent (deed.Cross c a b) = false
 fails_when_spent (deed.Same n) = false
 fails_when_spent (deed.Auto n m) = false
+fails_when_spent (deed.Match n m every) = false
+fails_when_spent (deed.CrossMatch n m) = false
 fails_when_spent (deed.Finish lines) = false
 
 -- it waits for the server, whose status shows it short
@@ -139,7 +153,14 @@ pub record IsSpent (w : World) (j : Job) (d : Deed) (n : ServerNo) : Type 0 wher
   pub short : IsShort w j d n
   pub last : j.wait ≤ j.waited + 1
 
--- what befell an operation that stopped its job, by the cause that is told; no operation meets the last five
+-- it matches the log of the server with another's, and they don't match, for this fault
+pub record IsUnmatched (w : World) (d : Deed) (n : ServerNo) (fault : MatchFault) : Type 0 where
+  pub other : ServerNo
+  pub every : ℕ
+  pub match : d ≡ deed.Match n other every
+  pub answer : match_logs w n other every ≡ Err fault
+
+-- what befell an operation that stopped its job, by the cause that is told; no operation meets three of them
 abbrev pub Befell : World → Job → Deed → Cause → Type 0
 Befell w j d (cause.Unreachable n) = IsUnreached w j d n
 Befell w j d (cause.WaitSpent n) = IsSpent w j d n
@@ -151,8 +172,8 @@ Befell w j d (cause.Moved n source) = IsMoved w d n source
 Befell w j d (cause.Purged n first) = IsAnswered w j d n (attaching.Purged first)
 Befell w j d (cause.Reachable n) = ⊥
 Befell w j d cause.NoCandidate = ⊥
-Befell w j d (cause.NoMark n) = ⊥
-Befell w j d (cause.Mismatch n entry) = ⊥
+Befell w j d (cause.NoMark n) = IsUnmatched w d n matching.NoMark
+Befell w j d (cause.Mismatch n entry) = IsUnmatched w d n (matching.Mismatch entry)
 Befell w j d (cause.HookFailed number exit) = ⊥
 
 -- ---- what a turn does
@@ -174,9 +195,11 @@ changes_by w j (deed.Until n to) = asked_until n (until_by (seen_of j.seen n.0) 
 changes_by w j (deed.Await n to) = []
 changes_by w j (deed.AwaitSet n m) = []
 changes_by w j (deed.Settle n) = []
-changes_by w j (deed.Cross c a b) = made w (attachment_of j.seen (deed.Cross c a b))
-changes_by w j (deed.Same n) = made w (attachment_of j.seen (deed.Same n))
-changes_by w j (deed.Auto n m) = made w (attachment_of j.seen (deed.Auto n m))
+changes_by w j (deed.Cross c a b) = made w (attachment_of j (deed.Cross c a b))
+changes_by w j (deed.Same n) = made w (attachment_of j (deed.Same n))
+changes_by w j (deed.Auto n m) = made w (attachment_of j (deed.Auto n m))
+changes_by w j (deed.Match n m every) = []
+changes_by w j (deed.CrossMatch n m) = made w (attachment_of j (deed.CrossMatch n m))
 changes_by w j (deed.Finish lines) = []
 
 -- the operation is done, and those behind it are left; a wait is done where its server isn't short, or at its last one

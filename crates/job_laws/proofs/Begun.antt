@@ -24,8 +24,9 @@ use Rattle.job_laws.specs.Leases.{Leases, IsLeased, MayChange, HasLeases, AreLea
 use Rattle.job_laws.specs.Flights.{Flight, Held, Sound, IsShown, IsShownBridged, StandsIn, no_leases, opened_flight, leased_to, without_leases, begun, replaced, without_job, after_turn, job_turned}
 use Rattle.instance_keeper.specs.Leases.{is_of}
 use Rattle.operations.specs.Turns.{is_going}
+use Rattle.job_laws.specs.Matched.{AllMeet, ArePlaced, IsPlaced, Meets, are_matched, matched_in}
 use Rattle.job_laws.proofs.Lists.{All-find, All-replaced, found-replaced, found-without}
-use Rattle.job_laws.proofs.Passing.{rings-run, rings-stand, slots-run, slots-bridged, jobs-run, jobs-bridged, observed-shown, observed-bridged}
+use Rattle.job_laws.proofs.Passing.{rings-run, rings-stand, slots-run, slots-bridged, jobs-run, jobs-bridged, jobs-meet, observed-shown, observed-bridged}
 use Rattle.job_laws.proofs.Showing.{Bridged-run}
 use Rattle.replication_laws.proofs.ShownCoords.{Shows-run}
 use Rattle.job_laws.proofs.Observing.{turn-observes}
@@ -140,18 +141,23 @@ module _ (f : Flight) (id : ℕ) (t : Turned) (held : Held f) (keeps : KeepsHeld
       later : All (λ j. AllBridged (run f.world t.exchanges) j.seen) f.jobs
       later = jobs-bridged f.world t.exchanges held.placed keeps.allowed f.jobs sound.jobs
 
+      meeting : All (λ j. AllMeet (run f.world t.exchanges) j.matches) f.jobs
+      meeting = jobs-meet f.world t.exchanges held.placed keeps.allowed f.jobs sound.met
+
       go : (b : Bool) → Sound (record f { world = run f.world t.exchanges; jobs = cond b (replaced f.jobs id t.job) (without_job f.jobs id); leases = cond b f.leases (without_leases f.leases id) })
       go true = record {
         safe = Safe-run f.world t.exchanges sound.safe keeps.allowed also.joins quiet;
         rings = rings-stand f.world t.exchanges held.placed keeps.allowed f.rings sound.rings;
         slots = slots-bridged f.world t.exchanges held.placed keeps.allowed f.slots sound.slots;
         jobs = All-replaced (λ j. AllBridged (run f.world t.exchanges) j.seen) f.jobs id t.job also.bridged later;
+        met = All-replaced (λ j. AllMeet (run f.world t.exchanges) j.matches) f.jobs id t.job also.met meeting;
       }
       go false = record {
         safe = Safe-run f.world t.exchanges sound.safe keeps.allowed also.joins quiet;
         rings = rings-stand f.world t.exchanges held.placed keeps.allowed f.rings sound.rings;
         slots = slots-bridged f.world t.exchanges held.placed keeps.allowed f.slots sound.slots;
         jobs = All-filter (λ k. not (k.id == id)) (λ j. AllBridged (run f.world t.exchanges) j.seen) f.jobs later;
+        met = All-filter (λ k. not (k.id == id)) (λ j. AllMeet (run f.world t.exchanges) j.matches) f.jobs meeting;
       }
 
 -- a job of the flight has what leases it needs, under its number
@@ -179,7 +185,8 @@ Sound-turned f read now id held sound = go (job_at f.jobs id) refl
     go (Some j) at quiet =
         let mine = held-of f id j held at in
         sound-after f id (turned f.world read now j) held (turn-kept f.world read now j held.placed mine) (leases-of f read now id j held at) sound
-        (turn-sound f.world read now j sound.safe held.placed mine (All-find (λ k. AllBridged f.world k.seen) (λ k. k.id == id) f.jobs j sound.jobs at)) quiet
+        (turn-sound f.world read now j sound.safe held.placed mine (All-find (λ k. AllBridged f.world k.seen) (λ k. k.id == id) f.jobs j sound.jobs at)
+        (All-find (λ k. AllMeet f.world k.matches) (λ k. k.id == id) f.jobs j sound.met at)) quiet
 
 -- ---- a job that begins
 
@@ -243,6 +250,8 @@ module _ (f : Flight) (list : List ServerNo) (j : Job) (b : Begins f.world f.job
   begun-held = record {
     left = ap (λ xs. are_held (footing f.world xs) j.ops) b.seen ∙ b.left;
     shown = λ n s h. let none : None ≡ Some s = sym (ap (λ xs. seen_of xs n) b.seen) ∙ h in cc;
+    matched = ap (λ xs. are_matched (matched_in xs) j.ops) b.found ∙ b.matched;
+    ends = subst (ArePlaced f.world) (sym b.found) (All-nil (IsPlaced f.world));
   }
 
 pub Held-begun : (f : Flight) (list : List ServerNo) (j : Job) → Begins f.world f.jobs f.leases list j → Held f → Held (begun f list j)
@@ -260,6 +269,7 @@ Sound-begun f list j b sound = record {
   rings = sound.rings;
   slots = sound.slots;
   jobs = All-push (λ k. AllBridged f.world k.seen) f.jobs j sound.jobs (λ n s h. let none : None ≡ Some s = sym (ap (λ xs. seen_of xs n) b.seen) ∙ h in cc);
+  met = All-push (λ k. AllMeet f.world k.matches) f.jobs j sound.met (subst (AllMeet f.world) (sym b.found) (All-nil (Meets f.world)));
 }
 
 -- ---- a job's turn and the servers that it hasn't
@@ -303,4 +313,5 @@ Sound-opened w rings slots safe = record {
   rings = All-replicate (All (StandsIn w)) rings [] (All-nil (StandsIn w));
   slots = All-replicate (λ slot. IfSome slot (IsShownBridged w)) slots None tt;
   jobs = All-nil (λ j. AllBridged w j.seen);
+  met = All-nil (λ j. AllMeet w j.matches);
 }

@@ -70,6 +70,8 @@ module _ (f g : Footing) (le : Within f g) where
   finds-mono (deed.Auto n m) h =
       two f.gtid (f.read m.0 && f.logs m.0) g.gtid (g.read m.0 && g.logs m.0) le.gtid
       (two (f.read m.0) (f.logs m.0) (g.read m.0) (g.logs m.0) (le.read m.0) (le.logs m.0)) h
+  finds-mono (deed.Match n m every) h = refl
+  finds-mono (deed.CrossMatch n m) h = le.logs m.0 h
   finds-mono (deed.Finish lines) h = refl
 
   pub reading-mono : (n : ServerNo) (u : Option ℕ) → Within (reading f n u) (reading g n u)
@@ -102,6 +104,8 @@ learn-mono f g le (deed.Settle n) = reading-mono f g le n None
 learn-mono f g le (deed.Cross c a b) = le
 learn-mono f g le (deed.Same n) = le
 learn-mono f g le (deed.Auto n m) = le
+learn-mono f g le (deed.Match n m every) = le
+learn-mono f g le (deed.CrossMatch n m) = le
 learn-mono f g le (deed.Finish lines) = le
 
 -- held operations stay held where one may count on more

@@ -15,5 +15,7 @@ pub mod Begun
 pub mod Planned
 pub mod Passages
 pub mod Listed
+pub mod Marking
+pub mod Matching
 pub mod Settling
 pub mod Stopped

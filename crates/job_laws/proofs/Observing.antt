@@ -10,6 +10,7 @@ use Rattle.kept_rows.specs.Seeing.{seen_in}
 use Rattle.binlog_coords.specs.declared.Coord.{Coord}
 use Rattle.server_words.specs.declared.answers.Unreachable.{Unreachable}
 use Rattle.server_words.specs.declared.attach.AttachFault.{AttachFault}
+use Rattle.server_words.specs.declared.attach.Spot.{Spot}
 use Rattle.server_words.specs.declared.changes.Ask.{Ask}
 use Rattle.server_words.specs.declared.changes.Ask.TheVariants as asking
 use Rattle.server_model.specs.Desk.{desk_answer}
@@ -17,12 +18,14 @@ use Rattle.server_model.specs.Gtids.{status}
 use Rattle.server_model.specs.Run.{Exchange}
 use Rattle.server_model.specs.Worlds.{World, server_at}
 use Rattle.commands.specs.declared.cause.Cause.TheVariants as cause
+use Rattle.operations.specs.declared.matching.MatchFault.{MatchFault}
 use Rattle.operations.specs.declared.op.Op.{Op}
 use Rattle.operations.specs.Deeds as deed
 use Rattle.operations.specs.Deeds.{Deed, deed_of}
-use Rattle.operations.specs.Jobs.{Job, seen_of}
+use Rattle.operations.specs.Jobs.{Job, match_found, seen_of}
+use Rattle.operations.specs.Matching.{match_logs, standing_at}
 use Rattle.operations.specs.Targets.{can_attach}
-use Rattle.operations.specs.Turns.{Goes, Stops, settled, next, saw, observed, is_moved, after_status, after_look, after_ask, aim_of, is_reached, until_by, after_until, after_wait_by, after_wait, holds_seen, settles, read_by, bridge_at, crossed, same_again, by_set, attach_answer_of, after_answer, after_attach, by_deed, by_ops, turned}
+use Rattle.operations.specs.Turns.{Goes, Stops, settled, next, saw, observed, is_moved, after_status, after_look, after_ask, aim_of, is_reached, until_by, after_until, after_wait_by, after_wait, holds_seen, settles, read_by, bridge_at, crossed, same_again, by_set, after_match, by_match, attach_answer_of, after_answer, after_attach, by_deed, by_ops, turned}
 
 ask-observes : (j : Job) (rest : List Op) (n : ServerNo) (a : Ask) (r : Result (Unit {0}) Unreachable) → (settled j (after_ask j rest n a r)).observation ≡ None
 ask-observes j rest n a (Ok t) = refl
@@ -56,6 +59,10 @@ attach-observes w j rest n (Some e) = by (can_attach w e)
     by true = go (attach_answer_of w e)
     by false = refl
 
+match-observes : (j : Job) (rest : List Op) (n m : ServerNo) (at : Spot) (r : Result Coord MatchFault) → (settled j (after_match j rest n m at r)).observation ≡ None
+match-observes j rest n m at (Ok c) = refl
+match-observes j rest n m at (Err f) = refl
+
 look-observes : (j : Job) (rest : List Op) (n : ServerNo) (from : Option ServerNo) (o : Observation) (r : Option Status) → (settled j (after_look j rest n from o r)).observation ≡ Some o
 look-observes j rest n from o None = refl
 look-observes j rest n from o (Some s) = go (is_moved from s.source)
@@ -78,6 +85,8 @@ deed-observes w read now j rest (deed.Settle n) o h = none-some _ o _ (wait-obse
 deed-observes w read now j rest (deed.Cross c a b) o h = none-some _ o _ (attach-observes w j rest a (crossed c a (bridge_at (read_by c a b) (seen_of j.seen (read_by c a b).0)))) h
 deed-observes w read now j rest (deed.Same n) o h = none-some _ o _ (attach-observes w j rest n (same_again n (seen_of j.seen n.0))) h
 deed-observes w read now j rest (deed.Auto n m) o h = none-some _ o _ (attach-observes w j rest n (by_set n m (seen_of j.seen m.0))) h
+deed-observes w read now j rest (deed.Match n m every) o h = none-some _ o _ (match-observes j rest n m (standing_at (server_at w n.0)) (match_logs w n m every)) h
+deed-observes w read now j rest (deed.CrossMatch n m) o h = none-some _ o _ (attach-observes w j rest n (by_match n m (match_found j.matches n m))) h
 deed-observes w read now j rest (deed.Finish lines) o h = cc
 
 pub turn-observes : (w : World) (read : ℕ) (now : Moment) (j : Job) (o : Observation) → (turned w read now j).observation ≡ Some o → (n : ServerNo) × (o ≡ observed w read now n)

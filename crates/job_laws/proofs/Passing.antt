@@ -23,6 +23,8 @@ use Rattle.job_laws.proofs.Bridging.{stands-by}
 use Rattle.job_laws.proofs.Lists.{All-at, All-ring}
 use Rattle.job_laws.proofs.Showing.{Spans-run, Bridged-run, Shows-seen, Bridged-seen}
 use Rattle.replication_laws.proofs.ShownCoords.{Shows-run}
+use Rattle.job_laws.specs.Matched.{AllMeet}
+use Rattle.job_laws.proofs.Matching.{AllMeet-run}
 use Rattle.job_laws.proofs.Turns.{Held-run, AllBridged-run}
 
 -- ---- exchanges pass by what is kept
@@ -58,6 +60,9 @@ module _ (w : World) (es : List Exchange) (placed : Placed w) (allowed : AllAllo
   pub jobs-bridged : (jobs : List Job) → All (λ j. AllBridged w j.seen) jobs → All (λ j. AllBridged (run w es) j.seen) jobs
   jobs-bridged jobs all = All-weaker (λ j. AllBridged w j.seen) (λ j. AllBridged (run w es) j.seen) (λ j h. AllBridged-run w es j.seen placed allowed h) jobs all
 
+  pub jobs-meet : (jobs : List Job) → All (λ j. AllMeet w j.matches) jobs → All (λ j. AllMeet (run w es) j.matches) jobs
+  jobs-meet jobs all = All-weaker (λ j. AllMeet w j.matches) (λ j. AllMeet (run w es) j.matches) (λ j h. AllMeet-run w es placed allowed j.matches h) jobs all
+
 -- the servers go on by any allowed exchanges, and nothing else changes
 pub Held-on : (f : Flight) (es : List Exchange) → AllAllowed f.world es → Held f → Held (record f { world = run f.world es })
 Held-on f es allowed held = record {
@@ -74,6 +79,7 @@ Sound-on f es allowed joins quiet held sound = record {
   rings = rings-stand f.world es held.placed allowed f.rings sound.rings;
   slots = slots-bridged f.world es held.placed allowed f.slots sound.slots;
   jobs = jobs-bridged f.world es held.placed allowed f.jobs sound.jobs;
+  met = jobs-meet f.world es held.placed allowed f.jobs sound.met;
 }
 
 -- ---- readings
@@ -99,6 +105,7 @@ Sound-slotted f p o shown sound = record {
   rings = sound.rings;
   slots = All-set (λ slot. IfSome slot (IsShownBridged f.world)) f.slots p o shown sound.slots;
   jobs = sound.jobs;
+  met = sound.met;
 }
 
 -- one more bridge in a ring
@@ -122,6 +129,7 @@ Sound-stored f o shown sound = record {
   rings = ringed-all (StandsIn f.world) f.rings o.no (bridge_in o.no o.seen) (λ b h. stands-by f.world o.no o.seen b shown h) sound.rings;
   slots = sound.slots;
   jobs = sound.jobs;
+  met = sound.met;
 }
 
 pub Held-forgotten : (f : Flight) (n : ServerNo) → Held f → Held (forgotten f n)
@@ -139,6 +147,7 @@ Sound-forgotten f n sound = record {
   rings = All-set (All (StandsIn f.world)) f.rings n.0 [] (All-nil (StandsIn f.world)) sound.rings;
   slots = sound.slots;
   jobs = sound.jobs;
+  met = sound.met;
 }
 
 -- ---- orchestrator starts again
@@ -158,4 +167,5 @@ Sound-restarted f sound = record {
   rings = All-replicate (All (StandsIn f.world)) (length f.rings) [] (All-nil (StandsIn f.world));
   slots = All-replicate (λ slot. IfSome slot (IsShownBridged f.world)) (length f.slots) None tt;
   jobs = All-nil (λ j. AllBridged f.world j.seen);
+  met = All-nil (λ j. AllMeet f.world j.matches);
 }

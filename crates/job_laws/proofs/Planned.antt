@@ -62,6 +62,8 @@ base-learn f (deed.Settle n) = record { gtid = λ h. h; logs = λ k h. h }
 base-learn f (deed.Cross c a b) = record { gtid = λ h. h; logs = λ k h. h }
 base-learn f (deed.Same n) = record { gtid = λ h. h; logs = λ k h. h }
 base-learn f (deed.Auto n m) = record { gtid = λ h. h; logs = λ k h. h }
+base-learn f (deed.Match n m every) = record { gtid = λ h. h; logs = λ k h. h }
+base-learn f (deed.CrossMatch n m) = record { gtid = λ h. h; logs = λ k h. h }
 base-learn f (deed.Finish lines) = record { gtid = λ h. h; logs = λ k h. h }
 
 base-trans : (f g h : Footing) → SameBase f g → SameBase g h → SameBase f h

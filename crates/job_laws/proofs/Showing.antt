@@ -31,7 +31,7 @@ use Rattle.job_laws.specs.Sound.{IsBridged}
 -- ---- what stays
 
 -- a coordinate that has a place in a log has one as the log grows
-Target-run : (w : World) (es : List Exchange) (n : ℕ) (c : Coord) → Placed w → AllAllowed w es → IsTarget w n c → IsTarget (run w es) n c
+pub Target-run : (w : World) (es : List Exchange) (n : ℕ) (c : Coord) → Placed w → AllAllowed w es → IsTarget w n c → IsTarget (run w es) n c
 Target-run w es n c placed allowed t =
     let on = Grows-run w es placed allowed n t.target t.there in
     let count = count_by (ends_by c) t.target.log.log.entries in

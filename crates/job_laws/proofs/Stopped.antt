@@ -11,6 +11,7 @@ use Rattle.kept_rows.specs.Seeing.{seen_in}
 use Rattle.server_words.specs.declared.answers.Unreachable.{Unreachable}
 use Rattle.server_words.specs.declared.attach.AttachFault.{AttachFault}
 use Rattle.server_words.specs.declared.attach.AttachFault.TheVariants as attaching
+use Rattle.server_words.specs.declared.attach.Spot.{Spot}
 use Rattle.server_words.specs.declared.changes.Ask.{Ask}
 use Rattle.server_words.specs.declared.changes.Ask.TheVariants as asking
 use Rattle.server_model.specs.Desk.{desk_answer}
@@ -18,13 +19,16 @@ use Rattle.server_model.specs.Gtids.{status}
 use Rattle.server_model.specs.Run.{Exchange}
 use Rattle.server_model.specs.Worlds.{World, server_at}
 use Rattle.commands.specs.declared.cause.Cause.TheVariants as cause
+use Rattle.operations.specs.declared.matching.MatchFault.{MatchFault}
+use Rattle.operations.specs.declared.matching.MatchFault.TheVariants as matching
 use Rattle.operations.specs.declared.op.Op.{Op}
 use Rattle.operations.specs.Changes.{change_of}
 use Rattle.operations.specs.Deeds as deed
 use Rattle.operations.specs.Deeds.{Deed}
-use Rattle.operations.specs.Jobs.{Job, seen_of}
+use Rattle.operations.specs.Jobs.{Job, match_found, seen_of}
+use Rattle.operations.specs.Matching.{match_logs, standing_at}
 use Rattle.operations.specs.Targets.{can_attach}
-use Rattle.operations.specs.Turns.{Attempt, Goes, Stops, next, saw, observed, is_moved, after_status, after_look, after_ask, aim_of, is_reached, until_by, after_until, after_wait_by, after_wait, holds_seen, settles, crossing_of, same_again, by_set, attach_answer_of, cause_by, after_answer, after_attach, by_deed}
+use Rattle.operations.specs.Turns.{Attempt, Goes, Stops, next, saw, observed, is_moved, after_status, after_look, after_ask, aim_of, is_reached, until_by, after_until, after_wait_by, after_wait, holds_seen, settles, crossing_of, same_again, by_set, after_match, by_match, attach_answer_of, cause_by, after_answer, after_attach, by_deed}
 use Rattle.job_laws.specs.Held.{attachment_of, IsPurged}
 
 module _ (w : World) (j : Job) (rest : List Op) (n : ServerNo) (first : ℕ) (o : Option Observation) where
@@ -59,6 +63,12 @@ module _ (w : World) (j : Job) (rest : List Op) (n : ServerNo) (first : ℕ) (o 
       go true f = cc
       go false f = more (nat_lt (j.waited + 1) j.wait) f
 
+  not-matched : (m k : ServerNo) (at : Spot) (r : Result Coord MatchFault) → IsStopped (after_match j rest m k at r) → ⊥
+  not-matched m k at (Ok c) e = cc
+  not-matched m k at (Err (matching.Unreachable x)) e = cc
+  not-matched m k at (Err matching.NoMark) e = cc
+  not-matched m k at (Err (matching.Mismatch x)) e = cc
+
   by_cause : (m : ServerNo) (f : AttachFault) → IsStopped (Stops (cause_by m f) None) → (Some m ≡ Some n) × (f ≡ attaching.Purged first)
   by_cause m attaching.Unreachable e = cc
   by_cause m (attaching.Running at) e = cc
@@ -83,7 +93,7 @@ module _ (w : World) (j : Job) (rest : List Op) (n : ServerNo) (first : ℕ) (o 
       by false can f = cc
 
 pub purged-only : (w : World) (read : ℕ) (now : Moment) (j : Job) (rest : List Op) (d : Deed) (n : ServerNo) (first : ℕ) (o : Option Observation)
-    → by_deed w read now j rest d ≡ Stops (cause.Purged n first) o → (change_of d ≡ Some n) × IsPurged w first (attachment_of j.seen d)
+    → by_deed w read now j rest d ≡ Stops (cause.Purged n first) o → (change_of d ≡ Some n) × IsPurged w first (attachment_of j d)
 purged-only w read now j rest (deed.Look m from) n first o e = absurd (not-looked w j rest n first o m from (observed w read now m) (seen_in (status w m.0)) e)
 purged-only w read now j rest (deed.Request m a) n first o e = absurd (not-asked w j rest n first o m a (desk_answer (server_at w m.0)) e)
 purged-only w read now j rest (deed.Until m to) n first o e = absurd (not-until w j rest n first o m (until_by (seen_of j.seen m.0) (aim_of j.seen to)) e)
@@ -93,6 +103,8 @@ purged-only w read now j rest (deed.Settle m) n first o e = absurd (not-waited w
 purged-only w read now j rest (deed.Cross c a b) n first o e = attached w j rest n first o a (crossing_of j.seen c a b) e
 purged-only w read now j rest (deed.Same m) n first o e = attached w j rest n first o m (same_again m (seen_of j.seen m.0)) e
 purged-only w read now j rest (deed.Auto m k) n first o e = attached w j rest n first o m (by_set m k (seen_of j.seen k.0)) e
+purged-only w read now j rest (deed.Match m k every) n first o e = absurd (not-matched w j rest n first o m k (standing_at (server_at w m.0)) (match_logs w m k every) e)
+purged-only w read now j rest (deed.CrossMatch m k) n first o e = attached w j rest n first o m (by_match m k (match_found j.matches m k)) e
 purged-only w read now j rest (deed.Finish lines) n first o e = cc
 
 purged-attach : (w : World) (j : Job) (rest : List Op) (m n : ServerNo) (first : ℕ) (x : Option Exchange) → Some m ≡ Some n → IsPurged w first x
@@ -104,7 +116,7 @@ purged-attach w j rest m n first x same p =
     ∙ ap (λ (k : ServerNo). Stops (cause.Purged k first) None) (same_Some m n same)
 
 pub purged-stops : (w : World) (read : ℕ) (now : Moment) (j : Job) (rest : List Op) (d : Deed) (n : ServerNo) (first : ℕ)
-    → change_of d ≡ Some n → IsPurged w first (attachment_of j.seen d) → by_deed w read now j rest d ≡ Stops (cause.Purged n first) None
+    → change_of d ≡ Some n → IsPurged w first (attachment_of j d) → by_deed w read now j rest d ≡ Stops (cause.Purged n first) None
 purged-stops w read now j rest (deed.Look m from) n first h p = let none = p.found in cc
 purged-stops w read now j rest (deed.Request m a) n first h p = let none = p.found in cc
 purged-stops w read now j rest (deed.Until m to) n first h p = let none = p.found in cc
@@ -114,4 +126,6 @@ purged-stops w read now j rest (deed.Settle m) n first h p = let none = p.found 
 purged-stops w read now j rest (deed.Cross c a b) n first h p = purged-attach w j rest a n first (crossing_of j.seen c a b) h p
 purged-stops w read now j rest (deed.Same m) n first h p = purged-attach w j rest m n first (same_again m (seen_of j.seen m.0)) h p
 purged-stops w read now j rest (deed.Auto m k) n first h p = purged-attach w j rest m n first (by_set m k (seen_of j.seen k.0)) h p
+purged-stops w read now j rest (deed.Match m k every) n first h p = let none = p.found in cc
+purged-stops w read now j rest (deed.CrossMatch m k) n first h p = purged-attach w j rest m n first (by_match m k (match_found j.matches m k)) h p
 purged-stops w read now j rest (deed.Finish lines) n first h p = let none = p.found in cc

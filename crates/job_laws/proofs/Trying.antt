@@ -11,13 +11,15 @@ use Rattle.server_model.specs.Run.{Exchange}
 use Rattle.server_model.specs.Worlds.{World, source_no}
 use Rattle.operations.specs.declared.op.Crossing.{Crossing}
 use Rattle.operations.specs.declared.op.Op.{Op}
-use Rattle.operations.specs.Deeds.{Auto, Cross, Same}
-use Rattle.operations.specs.Jobs.{Job, seen_of}
+use Rattle.operations.specs.Deeds.{Auto, Cross, CrossMatch, Same}
+use Rattle.operations.specs.Jobs.{Job, match_found, seen_of}
 use Rattle.operations.specs.Targets.{can_attach}
-use Rattle.operations.specs.Turns.{Goes, next, read_by, bridge_at, crossed, attached_anew, same_again, by_set, attach_answer_of, after_answer, after_attach, by_deed}
+use Rattle.operations.specs.Turns.{Goes, next, read_by, bridge_at, crossed, attached_anew, same_again, by_match, by_set, attach_answer_of, after_answer, after_attach, by_deed}
 use Rattle.job_laws.specs.Footing.{finds, logs_at, source_shown, footing}
 use Rattle.job_laws.specs.Held.{AllShow, IsTried}
+use Rattle.job_laws.specs.Matched.{ArePlaced, matched_in}
 use Rattle.job_laws.proofs.Bridging.{crossing-found, crossing-can, same-can, auto-can}
+use Rattle.job_laws.proofs.Matching.{match-can, match-there}
 
 there : (o : Option Exchange) → is_some o ≡ true → (e : Exchange) × (o ≡ Some e)
 there None h = absurd (false≢true h)
@@ -65,3 +67,9 @@ module _ (w : World) (j : Job) (rest : List Op) where
       let q = and_parts (is_some (seen_of j.seen m.0)) (logs_at w m.0) p.1 in
       let x = there (by_set n m (seen_of j.seen m.0)) (set-there n m (seen_of j.seen m.0) q.0) in
       tried n (by_set n m (seen_of j.seen m.0)) x.0 x.1 (auto-can w j.seen n m x.0 h x.1)
+
+  pub match-tried : (read : ℕ) (now : Moment) (n m : ServerNo) → ArePlaced w j.matches → matched_in j.matches n m ≡ true
+      → IsTried w j rest n (by_match n m (match_found j.matches n m)) (by_deed w read now j rest (CrossMatch n m))
+  match-tried read now n m placed h =
+      let x = there (by_match n m (match_found j.matches n m)) (match-there j.matches n m h) in
+      tried n (by_match n m (match_found j.matches n m)) x.0 x.1 (match-can w j.matches n m x.0 placed x.1)

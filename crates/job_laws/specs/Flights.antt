@@ -15,6 +15,7 @@ use Rattle.instance_keeper.specs.Bridges.{bridge_in, ringed}
 use Rattle.instance_keeper.specs.Leases.{freed}
 use Rattle.operations.specs.Turns.{Turned, is_going, turned}
 use Rattle.job_laws.specs.Held.{HeldJob, Spans}
+use Rattle.job_laws.specs.Matched.{AllMeet}
 use Rattle.server_model.specs.Showing.{Shows}
 use Rattle.job_laws.specs.Sound.{IsBridged, AllBridged}
 use Rattle.job_laws.specs.Leases.{Leases, AreLeased, job_at}
@@ -54,6 +55,7 @@ pub record Sound (f : Flight) : Type 0 where
   pub rings : All (All (StandsIn f.world)) f.rings
   pub slots : All (λ slot. IfSome slot (IsShownBridged f.world)) f.slots
   pub jobs : All (λ j. AllBridged f.world j.seen) f.jobs
+  pub met : All (λ j. AllMeet f.world j.matches) f.jobs
 
 abbrev pub no_leases : Leases
 no_leases n = None

@@ -57,6 +57,8 @@ finds f (deed.Settle n) = true
 finds f (deed.Cross c a b) = finds_crossing f c a b
 finds f (deed.Same n) = is_some (f.under n.0)
 finds f (deed.Auto n m) = f.gtid && (f.read m.0 && f.logs m.0)
+finds f (deed.Match n m every) = true
+finds f (deed.CrossMatch n m) = f.logs m.0
 finds f (deed.Finish lines) = true
 
 -- a server was read, and the reading is sure to show this source
@@ -82,6 +84,8 @@ learn f (deed.Settle n) = reading f n None
 learn f (deed.Cross c a b) = f
 learn f (deed.Same n) = f
 learn f (deed.Auto n m) = f
+learn f (deed.Match n m every) = f
+learn f (deed.CrossMatch n m) = f
 learn f (deed.Finish lines) = f
 
 -- each operation that is left finds what it uses once those before it are done

@@ -9,14 +9,15 @@ use Rattle.server_model.specs.Showing.{IsPosition}
 use Rattle.instance_keeper.specs.declared.bridge.Bridge.{Bridge}
 use Rattle.operations.specs.declared.sight.Position.{Position}
 use Rattle.operations.specs.declared.sight.Sight.{Sight}
-use Rattle.operations.specs.Jobs.{Job, seen_of}
+use Rattle.operations.specs.Jobs.{Job, match_found, seen_of}
 use Rattle.operations.specs.Targets.{can_attach}
-use Rattle.operations.specs.Turns.{Attempt, Turned, after_answer, attach_answer_of, by_set, crossing_of, same_again}
+use Rattle.operations.specs.Turns.{Attempt, Turned, after_answer, attach_answer_of, by_match, by_set, crossing_of, same_again}
 use Rattle.server_model.specs.Run.{Exchange, run, AllAllowed}
 use Rattle.operations.specs.declared.op.Op.{Op}
 use Rattle.operations.specs.Deeds as deed
 use Rattle.operations.specs.Deeds.{Deed}
 use Rattle.job_laws.specs.Footing.{Footing, footing, finds, learn, are_held}
+use Rattle.job_laws.specs.Matched.{ArePlaced, are_matched, finds_match, matched_by, matched_in}
 
 -- where a server stood is shown
 abbrev pub ShowsAt : World → ℕ → Position → Type 0
@@ -26,10 +27,13 @@ ShowsAt w n seen = IsPosition w n seen.own_end seen.source seen.exec seen.set
 abbrev pub AllShow : World → List Sight → Type 0
 AllShow w xs = (n : ℕ) (seen : Position) → seen_of xs n ≡ Some seen → ShowsAt w n seen
 
--- A job in flight: each operation that is left finds what it uses, and what it saw is shown.
+-- A job in flight: each operation that is left finds what it uses, and the match by which it goes; what the job saw is
+-- shown, and the matches that it found have their places.
 pub record HeldJob (w : World) (j : Job) : Type 0 where
   pub left : are_held (footing w j.seen) j.ops ≡ true
   pub shown : AllShow w j.seen
+  pub matched : are_matched (matched_in j.matches) j.ops ≡ true
+  pub ends : ArePlaced w j.matches
 
 -- both ends of a bridge have places in the logs of servers that log
 pub record Spans (w : World) (b : Bridge) : Type 0 where
@@ -42,17 +46,22 @@ pub record KeepsHeld (w : World) (t : Turned) : Type 0 where
   pub allowed : AllAllowed w t.exchanges
   pub held : HeldJob (run w t.exchanges) t.job
 
--- what is due: the operation finds what it uses, and those behind it once it is done; where it is due again, and finds
--- what it uses, so it is with all that is left
+-- what is due: the operation finds what it uses, and the match by which it goes, and those behind it once it is done;
+-- where it is due again, and finds what it uses, so it is with all that is left
 pub record IsDue (w : World) (j : Job) (rest : List Op) (d : Deed) : Type 0 where
   pub found : finds (footing w j.seen) d ≡ true
   pub left : are_held (learn (footing w j.seen) d) rest ≡ true
   pub again : (g : Footing) → finds g d ≡ true → are_held (learn g d) rest ≡ true → are_held g j.ops ≡ true
+  pub match : finds_match (matched_in j.matches) d ≡ true
+  pub matched : are_matched (matched_by (matched_in j.matches) d) rest ≡ true
+  pub still : are_matched (matched_in j.matches) j.ops ≡ true
 
--- a job may take a turn by this operation, before those: its world is placed, and what it saw is shown
+-- a job may take a turn by this operation, before those: its world is placed, what it saw is shown, and the matches
+-- that it found have their places
 pub record IsNext (w : World) (j : Job) (rest : List Op) (d : Deed) : Type 0 where
   pub placed : Placed w
   pub shown : AllShow w j.seen
+  pub ends : ArePlaced w j.matches
   pub due : IsDue w j rest d
 
 -- a change of source was found by what was seen; it's made, or stops its job by what it is answered: it isn't passed
@@ -63,18 +72,20 @@ pub record IsTried (w : World) (j : Job) (rest : List Op) (n : ServerNo) (o : Op
   pub can : can_attach w exchange ≡ true
   pub attempt : a ≡ after_answer j rest n exchange (attach_answer_of w exchange)
 
--- the change of source that an operation makes of what was seen
-abbrev pub attachment_of : List Sight → Deed → Option Exchange
-attachment_of xs (deed.Look n from) = None
-attachment_of xs (deed.Request n a) = None
-attachment_of xs (deed.Until n to) = None
-attachment_of xs (deed.Await n to) = None
-attachment_of xs (deed.AwaitSet n m) = None
-attachment_of xs (deed.Settle n) = None
-attachment_of xs (deed.Cross c a b) = crossing_of xs c a b
-attachment_of xs (deed.Same n) = same_again n (seen_of xs n.0)
-attachment_of xs (deed.Auto n m) = by_set n m (seen_of xs m.0)
-attachment_of xs (deed.Finish lines) = None
+-- the change of source that an operation makes of what its job saw and found
+abbrev pub attachment_of : Job → Deed → Option Exchange
+attachment_of j (deed.Look n from) = None
+attachment_of j (deed.Request n a) = None
+attachment_of j (deed.Until n to) = None
+attachment_of j (deed.Await n to) = None
+attachment_of j (deed.AwaitSet n m) = None
+attachment_of j (deed.Settle n) = None
+attachment_of j (deed.Cross c a b) = crossing_of j.seen c a b
+attachment_of j (deed.Same n) = same_again n (seen_of j.seen n.0)
+attachment_of j (deed.Auto n m) = by_set n m (seen_of j.seen m.0)
+attachment_of j (deed.Match n m every) = None
+attachment_of j (deed.CrossMatch n m) = by_match n m (match_found j.matches n m)
+attachment_of j (deed.Finish lines) = None
 
 -- it is there and can be made, and is answered that it would go on in a purged file: the new source keeps its log from
 -- this one on

@@ -3,6 +3,7 @@ use Rattle.std.specs.Prelude.{◌≡◌, ℕ, ◌==◌, ◌&&◌, Bool, true, �
 use Rattle.std.specs.List.{list_any}
 use Rattle.server_model.specs.Worlds.{World}
 use Rattle.job_laws.specs.Footing.{footing, are_held}
+use Rattle.job_laws.specs.Matched.{are_matched, matched_in}
 use Rattle.orch_base.specs.declared.server.ServerNo.{ServerNo}
 use Rattle.operations.specs.declared.op.Op.{Op}
 use Rattle.operations.specs.Deeds.{deed_of}
@@ -54,11 +55,13 @@ abbrev pub are_listed : List ServerNo → List Op → Bool
 are_listed list [] = true
 are_listed list (op ∷ ops) = is_in list (change_of (deed_of op)) && are_listed list ops
 
--- a job begins: it saw nothing yet, its operations are held, and the servers that they may change are of its list, of
--- which nobody has a lease
+-- a job begins: it saw and found nothing yet, its operations are held, and the servers that they may change are of its
+-- list, of which nobody has a lease
 pub record Begins (w : World) (jobs : List Job) (leases : Leases) (list : List ServerNo) (j : Job) : Type 0 where
   pub seen : j.seen ≡ []
   pub hands : j.hands ≡ []
   pub left : are_held (footing w []) j.ops ≡ true
+  pub found : j.matches ≡ []
+  pub matched : are_matched (matched_in []) j.ops ≡ true
   pub listed : are_listed list j.ops ≡ true
   pub free : (n : ℕ) → list_any (λ k. k.0 == n) list ≡ true → leases n ≡ None

@@ -1,4 +1,6 @@
 pub mod Footing
+pub mod Marked
+pub mod Matched
 pub mod Held
 pub mod Sound
 pub mod Leases

@@ -6,6 +6,7 @@ use Rattle.server_model.specs.Worlds.{World, source_no}
 use Rattle.operations.specs.declared.op.Op.{Op}
 use Rattle.operations.specs.Deeds.{Deed}
 use Rattle.job_laws.specs.Held.{IsNext}
+use Rattle.job_laws.specs.Matched.{AllMeet}
 use Rattle.server_model.specs.Bridges.{Stands}
 use Rattle.operations.specs.declared.sight.Position.{Position}
 use Rattle.operations.specs.declared.sight.Sight.{Sight}
@@ -20,14 +21,17 @@ IsBridged w n seen = (m : ℕ) (own : Coord) → source_no seen.source ≡ Some 
 abbrev pub AllBridged : World → List Sight → Type 0
 AllBridged w xs = (n : ℕ) (seen : Position) → seen_of xs n ≡ Some seen → IsBridged w n seen
 
--- each attachment of a turn leads to where the server's history ends, and each bridge that the job saw stands
--- afterwards
+-- each attachment of a turn leads to where the server's history ends, and each bridge that the job saw and each match
+-- that it found stands afterwards
 pub record KeepsSound (w : World) (t : Turned) : Type 0 where
   pub joins : AllJoinWell w t.exchanges
   pub bridged : AllBridged (run w t.exchanges) t.job.seen
+  pub met : AllMeet (run w t.exchanges) t.job.matches
 
--- a job may take a turn by this operation, before those, in a safe world where the bridges that it saw stand
+-- a job may take a turn by this operation, before those, in a safe world where the bridges that it saw and the matches
+-- that it found stand
 pub record IsNextSafely (w : World) (j : Job) (rest : List Op) (d : Deed) : Type 0 where
   pub safe : Safe w
   pub next : IsNext w j rest d
   pub bridged : AllBridged w j.seen
+  pub met : AllMeet w j.matches

@@ -13,12 +13,13 @@ ghost use Rattle.operations.specs.declared.op.Crossing.{Crossing as ACrossing};
 ghost use Rattle.operations.specs.declared.sight.Sight.{Sight as ASight};
 ghost use Rattle.operations.specs.declared.op.Op.{Op as AnOp};
 ghost use Rattle.operations.specs.Changes.{change_of};
-ghost use Rattle.operations.specs.Deeds.{Deed, Auto, Cross, Same};
-ghost use Rattle.operations.specs.Jobs.{Job, seen_of};
+ghost use Rattle.operations.specs.Deeds.{Deed, Auto, Cross, CrossMatch, Same};
+ghost use Rattle.operations.specs.Jobs.{Job, match_found, seen_of};
 ghost use Rattle.operations.specs.Targets.{can_attach};
-ghost use Rattle.operations.specs.Turns.{Stops, bridge_at, by_deed, crossing_of, same_again, by_set};
+ghost use Rattle.operations.specs.Turns.{Stops, bridge_at, by_deed, crossing_of, same_again, by_match, by_set};
 ghost use Rattle.job_laws.specs.Footing.{finds, finds_crossing, footing};
 ghost use Rattle.job_laws.specs.Held.{AllShow, IsPurged, IsTried, Spans, attachment_of};
+ghost use Rattle.job_laws.specs.Matched.{ArePlaced, matched_in};
 ghost use Rattle.job_laws.specs.Sound.{AllBridged};
 
 /// A crossing that finds what it uses makes an attachment, which is allowed, and joins well in a safe world where
@@ -74,6 +75,11 @@ pub fn held_attachments_are_tried()
         finds (footing w j.seen) (Auto n m) ≡ true →
         IsTried w j rest n (by_set n m (seen_of j.seen m.0))
         (by_deed w read now j rest (Auto n m)) }
+    ensures matched { (w : World) (read : ℕ) (now : AMoment) (j : Job) (rest : List AnOp)
+        (n m : Number) →
+        ArePlaced w j.matches → matched_in j.matches n m ≡ true →
+        IsTried w j rest n (by_match n m (match_found j.matches n m))
+        (by_deed w read now j rest (CrossMatch n m)) }
 {}
 
 /// A job is stopped by Purged, with the server that was to go on in a purged file and the first file that its new
@@ -81,12 +87,12 @@ pub fn held_attachments_are_tried()
 pub fn purged_files_stop_jobs()
     ensures stops { (w : World) (read : ℕ) (now : AMoment) (j : Job) (rest : List AnOp) (d : Deed)
         (n : Number) (first : ℕ) →
-        change_of d ≡ Some n → IsPurged w first (attachment_of j.seen d) →
+        change_of d ≡ Some n → IsPurged w first (attachment_of j d) →
         by_deed w read now j rest d ≡ Stops (cause.Purged n first) None }
     ensures only { (w : World) (read : ℕ) (now : AMoment) (j : Job) (rest : List AnOp) (d : Deed)
         (n : Number) (first : ℕ) (o : Option Reading) →
         by_deed w read now j rest d ≡ Stops (cause.Purged n first) o →
-        (change_of d ≡ Some n) × IsPurged w first (attachment_of j.seen d) }
+        (change_of d ≡ Some n) × IsPurged w first (attachment_of j d) }
 {}
 
 /// Both ends of a bridge that a job saw have places in the logs of servers that log.

@@ -16,6 +16,7 @@ ghost use Rattle.operations.specs.Deeds.{Deed, Settle};
 ghost use Rattle.operations.specs.Jobs.{Job};
 ghost use Rattle.operations.specs.Turns.{Goes, Stops, going, next, saw, turned, settled, by_deed, is_settled};
 ghost use Rattle.job_laws.specs.Held.{HeldJob, KeepsHeld, IsNext};
+ghost use Rattle.job_laws.specs.Matched.{AllMeet};
 ghost use Rattle.job_laws.specs.Sound.{AllBridged, KeepsSound, IsNextSafely};
 ghost use Rattle.job_laws.specs.Leases.{Leases, HasLeases, KeepsLeases};
 
@@ -41,7 +42,8 @@ pub fn each_operation_keeps_held()
 /// In a safe world each attachment that a turn makes joins well, and every bridge that the job saw stands afterwards.
 pub fn each_operation_keeps_sound()
     ensures turn { (w : World) (read : ℕ) (now : AMoment) (j : Job) → Safe w → Placed w →
-        HeldJob w j → AllBridged w j.seen → KeepsSound w (turned w read now j) }
+        HeldJob w j → AllBridged w j.seen → AllMeet w j.matches →
+        KeepsSound w (turned w read now j) }
     ensures deed { (w : World) (read : ℕ) (now : AMoment) (j : Job) (rest : List AnOp) (d : Deed) →
         IsNextSafely w j rest d → KeepsSound w (settled j (by_deed w read now j rest d)) }
     ensures goes { (w : World) (read : ℕ) (now : AMoment) (j k : Job) (rest : List AnOp) (d : Deed)

@@ -5,6 +5,7 @@ mod crossings;
 mod deeds;
 mod flights;
 mod leases;
+mod matches;
 mod plans;
 mod readings;
 mod runs;
@@ -19,6 +20,7 @@ pub use flights::{
     others_are_left_alone,
 };
 pub use leases::leases_are_listed;
+pub use matches::{matched_logs_agree, matches_cross_well};
 pub use plans::{plans_are_held, plans_join};
 pub use readings::{readings_are_shown, readings_stay_shown};
 pub use runs::runs_are_sound;

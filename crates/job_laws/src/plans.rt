@@ -7,6 +7,7 @@ ghost use Rattle.operations.specs.declared.op.Op.{Op as AnOp};
 ghost use Rattle.operations.specs.Deeds.{deed_of};
 ghost use Rattle.operations.specs.Plans.{up, under, again, auto, swap, asking, finished};
 ghost use Rattle.job_laws.specs.Footing.{Footing, SameBase, finds, are_held};
+ghost use Rattle.job_laws.specs.Matched.{Matched, are_matched};
 
 /// The plans' operations are held whatever was read before: a move up of a server that isn't its own source, a move
 /// below a server that logs, an attachment anew, one by GTIDs to a server that logs, and a swap of a server that logs
@@ -26,10 +27,15 @@ pub fn plans_are_held()
         are_held f (asking op i) ≡ true }
 {}
 
-/// Plans one after another are held where each is held whatever was read, and so they are with the lines behind them.
+/// Plans one after another are held where each is held whatever was read, and so they are with the lines behind them;
+/// and so it is with the matches by which they go.
 pub fn plans_join()
     ensures append { (f : Footing) (ps qs : List AnOp) → are_held f ps ≡ true →
         ((g : Footing) → SameBase f g → are_held g qs ≡ true) → are_held f (ps ++ qs) ≡ true }
     ensures finished { (f : Footing) (ops : List AnOp) (lines : List ALine) →
         are_held f ops ≡ true → are_held f (finished ops lines) ≡ true }
+    ensures matched { (has : Matched) (ps qs : List AnOp) → are_matched has ps ≡ true →
+        ((more : Matched) → are_matched more qs ≡ true) → are_matched has (ps ++ qs) ≡ true }
+    ensures finished_matched { (has : Matched) (ops : List AnOp) (lines : List ALine) →
+        are_matched has ops ≡ true → are_matched has (finished ops lines) ≡ true }
 {}

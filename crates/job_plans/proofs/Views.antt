@@ -3,6 +3,7 @@ use Rattle.std.proofs.Common.{◌≡◌, ℕ, ◌+◌, ◌-◌, ◌*◌, List, [
 use Rattle.operations.specs.Ending.{turns_for, turns_left}
 use Rattle.std.proofs.lemmas.List.{drop-drop}
 use Rattle.orch_base.specs.declared.server.ServerNo.{ServerNo}
+use Rattle.operations.specs.declared.matching.Match.{Match}
 use Rattle.operations.specs.declared.op.Op.{Op}
 use Rattle.operations.specs.declared.sight.Sight.{Sight}
 use Rattle.operations.specs.Jobs.{Job}
@@ -22,6 +23,11 @@ pub seen-view : (a : Inside) (j : Job) (xs : List Sight) → j ≡ job_of a
     → record (job_of a) { ops = drop (a.done + 1) a.ops.items; seen = xs; waited = 0 } ≡ next (record j { seen = xs }) (rest_of j)
 seen-view a j xs is =
     ap (λ (ys : List Op). record (job_of a) { ops = ys; seen = xs; waited = 0 }) (rest-is a) ∙ ap (λ (k : Job). next (record k { seen = xs }) (rest_of k)) (sym is)
+
+pub matches-view : (a : Inside) (j : Job) (ms : List Match) → j ≡ job_of a
+    → record (job_of a) { ops = drop (a.done + 1) a.ops.items; matches = ms; waited = 0 } ≡ next (record j { matches = ms }) (rest_of j)
+matches-view a j ms is =
+    ap (λ (ys : List Op). record (job_of a) { ops = ys; matches = ms; waited = 0 }) (rest-is a) ∙ ap (λ (k : Job). next (record k { matches = ms }) (rest_of k)) (sym is)
 
 pub hands-view : (a : Inside) (j : Job) (hs : List ServerNo) → j ≡ job_of a
     → record (job_of a) { ops = drop (a.done + 1) a.ops.items; waited = 0; hands = hs } ≡ record (next j (rest_of j)) { hands = hs }

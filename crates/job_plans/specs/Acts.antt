@@ -11,7 +11,7 @@ use Rattle.operations.specs.declared.step.JobStep.{JobStep}
 use Rattle.operations.specs.declared.step.JobStep.TheVariants as step
 use Rattle.operations.specs.declared.op.Op.{Op}
 use Rattle.operations.specs.Jobs.{Job, seen_of}
-use Rattle.operations.specs.Turns.{Attempt, Turned, settled, next, saw_at, restarts, ended, hands_after, by_set}
+use Rattle.operations.specs.Turns.{Attempt, Turned, settled, next, saw_at, with_match, restarts, ended, hands_after, by_set}
 use Rattle.operations.specs.Named.{IsOneOf}
 use Rattle.job_plans.specs.declared.act.Look.{Look}
 use Rattle.job_plans.specs.declared.act.Act.{Act}
@@ -27,6 +27,7 @@ exchanges_of j act.Fail = restarts j.hands
 exchanges_of j act.End = []
 exchanges_of j act.Pass = []
 exchanges_of j (act.Keep x) = []
+exchanges_of j (act.Found m) = []
 exchanges_of j (act.Wait x) = []
 exchanges_of j (act.Ask n a) = Request n.0 a ∷ []
 exchanges_of j (act.Attach n expect to at) = Attach n.0 expect to at ∷ []
@@ -38,6 +39,7 @@ job_after j act.Fail = ended j
 job_after j act.End = ended j
 job_after j act.Pass = next j (rest_of j)
 job_after j (act.Keep x) = next (saw_at j x.no x.seen) (rest_of j)
+job_after j (act.Found m) = next (with_match j m) (rest_of j)
 job_after j (act.Wait x) = record (saw_at j x.no x.seen) { waited = j.waited + 1 }
 job_after j (act.Ask n a) = record (next j (rest_of j)) { hands = hands_after j.hands n a }
 job_after j (act.Attach n expect to at) = next j (rest_of j)
@@ -56,6 +58,7 @@ Fits w j act.Fail = All (IsOneOf (length w.servers)) j.hands
 Fits w j act.End = Unit {0}
 Fits w j act.Pass = 0 < length j.ops
 Fits w j (act.Keep x) = 0 < length j.ops
+Fits w j (act.Found m) = 0 < length j.ops
 Fits w j (act.Wait x) = j.waited + 1 < j.wait
 Fits w j (act.Ask n a) = (n.0 < length w.servers) × (0 < length j.ops)
 Fits w j (act.Attach n expect to at) = (n.0 < length w.servers) × IsTarget w to.0 at × (0 < length j.ops)
@@ -67,6 +70,7 @@ CanFollow j act.Fail = Unit {0}
 CanFollow j act.End = Unit {0}
 CanFollow j act.Pass = 0 < length j.ops
 CanFollow j (act.Keep x) = 0 < length j.ops
+CanFollow j (act.Found m) = 0 < length j.ops
 CanFollow j (act.Wait x) = j.waited + 1 < j.wait
 CanFollow j (act.Ask n a) = 0 < length j.ops
 CanFollow j (act.Attach n expect to at) = 0 < length j.ops
@@ -83,6 +87,7 @@ takes_memory act.Fail = false
 takes_memory act.End = false
 takes_memory act.Pass = false
 takes_memory (act.Keep x) = false
+takes_memory (act.Found m) = true
 takes_memory (act.Wait x) = true
 takes_memory (act.Ask n a) = true
 takes_memory (act.Attach n expect to at) = false

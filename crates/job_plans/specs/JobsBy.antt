@@ -8,6 +8,7 @@ job_of a = record {
   wait = a.wait;
   ops = drop a.done a.ops.items;
   seen = a.seen.items;
+  matches = a.matches.items;
   waited = a.waited;
   hands = a.hands.items;
 }

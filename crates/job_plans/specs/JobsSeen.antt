@@ -25,6 +25,7 @@ job_seen a = record {
   wait = a.wait;
   ops = a.ops.now;
   seen = seen_after a.seen.now a.more.now;
+  matches = a.matches.now;
   waited = a.waited;
   hands = a.hands.now;
 }

@@ -2,7 +2,7 @@
 
 use binlog_coords::Coord;
 use instance_keeper::Observation;
-use operations::{JobStep, Sight};
+use operations::{JobStep, Match, Sight};
 use orch_base::ServerNo;
 use server_words::{Ask, Spot};
 
@@ -17,6 +17,8 @@ pub enum Act {
     Pass,
     /// The operation is done: this was seen.
     Keep(Sight),
+    /// The operation is done: this match was found.
+    Found(Match),
     /// This was seen, and the operation is due again.
     Wait(Sight),
     /// The operation is done: this is asked of a server.

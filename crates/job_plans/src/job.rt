@@ -7,7 +7,7 @@ ghost use Rattle.server_model.specs.Run.{Request as Requesting, after, run};
 ghost use Rattle.operations.specs.Ending.{turns_left};
 ghost use Rattle.operations.specs.Jobs.{job_with, seen_of as latest_of};
 ghost use Rattle.operations.specs.Named.{IsNamed};
-ghost use Rattle.operations.specs.Turns.{next, saw_at, ended, hands_after, turned};
+ghost use Rattle.operations.specs.Turns.{next, saw_at, with_match, ended, hands_after, turned};
 ghost use Rattle.job_plans.specs.Acts.{foretold, exchanges_of, rest_of, CanTurn};
 
 use crate::act::Act;
@@ -15,7 +15,7 @@ use crate::looks::latest;
 use crate::turns::{change_hands, keep, restart};
 use crate::{JobView, Look};
 use instance_keeper::Observation;
-use operations::{JobStep, Op, Position, Sight};
+use operations::{JobStep, Match, Op, Position, Sight};
 use orch_base::{Memory, Moment, ServerNo};
 use server_model::World;
 use server_words::{Ask, AttachFault};
@@ -32,6 +32,7 @@ pub struct Job {
     // How many of them are done.
     done: usize,
     seen: Vec<Sight>,
+    matches: Vec<Match>,
     waited: u32,
     // The servers that it stopped and hasn't started.
     hands: Vec<ServerNo>,
@@ -61,6 +62,7 @@ impl Job {
             ops,
             done: 0,
             seen,
+            matches: Vec::new(alloc),
             waited: 0,
             hands: Vec::new(alloc),
         })
@@ -108,6 +110,7 @@ impl Job {
             ops: self.left(),
             seen: &self.seen,
             more: &[],
+            matches: &self.matches,
             hands: &self.hands,
         }
     }
@@ -158,6 +161,19 @@ impl Job {
         keep(&mut self.seen, sight);
         self.done += 1;
         self.waited = 0;
+    }
+
+    // The operation is done, and this match was found.
+    fn pass_found(&mut self, found: Match) -> Result<(), Memory>
+        requires { 0 < length self.old.ops }
+        ensures ok { OnOk result (self.new ≡
+            next (with_match self.old found) (rest_of self.old)) }
+        ensures err { OnErr result (self.new ≡ self.old) }
+    {
+        self.matches.push(found)?;
+        self.done += 1;
+        self.waited = 0;
+        Ok(())
     }
 
     // This was seen in one more wait.
@@ -273,6 +289,7 @@ impl Job {
             Act::End => self.end(),
             Act::Pass => self.pass(),
             Act::Keep(sight) => self.pass_with(sight),
+            Act::Found(found) => self.pass_found(found)?,
             Act::Wait(sight) => self.wait_with(sight)?,
             Act::Ask(no, ask) => self.pass_asking(world, no, ask)?,
             Act::Attach(no, expect, to, at) => {

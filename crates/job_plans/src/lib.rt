@@ -4,6 +4,7 @@
 mod act;
 mod job;
 mod looks;
+mod matching;
 mod threads;
 mod turns;
 mod view;
@@ -12,7 +13,8 @@ pub use act::{Act, Look};
 pub use commands::{Cause, Command, CommandName, Refusal};
 pub use job::Job;
 pub use looks::has_place;
-pub use operations::{Aim, Crossing, JobStep, Op, Position, Sight};
+pub use matching::match_logs;
+pub use operations::{Aim, Crossing, JobStep, Match, MatchFault, Op, Position, Sight};
 /// Want of memory.
 pub use orch_base::Memory;
 pub use turns::{change_hands, keep};

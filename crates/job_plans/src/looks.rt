@@ -9,18 +9,20 @@ ghost use Rattle.server_model.specs.Gtids.{status as status_of, IsAutoTarget};
 ghost use Rattle.server_model.specs.Run.{Attach};
 ghost use Rattle.server_model.specs.Worlds.{server_at};
 ghost use Rattle.operations.specs.Jobs.{Job as JobState, position_of, seen_of};
+ghost use Rattle.operations.specs.Matching.{match_logs as match_of_logs, standing_at};
 ghost use Rattle.operations.specs.Named.{IsOneOf};
 ghost use Rattle.operations.specs.Targets.{logs_by, places_by};
-ghost use Rattle.operations.specs.Turns.{observed, is_moved, is_reached, after_look, after_ask, after_attach, cause_by, crossed, read_by, holds_seen, is_settled};
+ghost use Rattle.operations.specs.Turns.{observed, is_moved, is_reached, after_look, after_ask, after_match, after_attach, cause_by, cause_of_match, crossed, read_by, holds_seen, is_settled};
 ghost use Rattle.job_plans.specs.Acts.{rest_of, TellsAll};
 ghost use Rattle.job_plans.specs.JobsSeen.{seen_last};
 
 use crate::Look;
 use crate::act::Act;
+use crate::matching::match_logs;
 use binlog_coords::Coord;
 use commands::{BoxedSet, Cause, Lines};
 use instance_keeper::{Bridge, Observation};
-use operations::{Crossing, JobStep, Position, Sight};
+use operations::{Crossing, JobStep, Match, MatchFault, Position, Sight};
 use orch_base::{Memory, Moment, ServerNo, SourceState};
 use server_model::World;
 use server_words::{Ask, AttachFault, Spot, Status, StatusFault};
@@ -243,6 +245,56 @@ pub(crate) fn takes_sets(world: &World, to: ServerNo) -> bool
     ensures target { IsTrue result → IsAutoTarget world.now to.0 }
 {
     world.gtid() && to.0 < world.servers() && world.settings(to).logs
+}
+
+// Where a server stands that is matched: under its source, attached or detached, else at its own end.
+fn standing(world: &World, no: ServerNo) -> Spot
+    ensures { result ≡ standing_at (server_at world.now no.0) }
+{
+    if world.servers() <= no.0 {
+        return Spot::Nowhere;
+    }
+    let plain = world.plain(no);
+    match plain.source {
+        SourceState::Attached(source) | SourceState::Detached(source) => {
+            Spot::At(source, plain.exec)
+        }
+        SourceState::Without => match world.log(no) {
+            Some(log) => Spot::OwnEnd(log.end()),
+            None => Spot::Nowhere,
+        },
+    }
+}
+
+/// A match of the logs of two servers.
+pub(crate) fn look_match(
+    alloc: Global,
+    world: &World,
+    no: ServerNo,
+    to: ServerNo,
+    every: u64,
+) -> Look
+    ensures { TellsAll world.now (λ j. after_match j (rest_of j) no to
+        (standing_at (server_at world.now no.0)) (match_of_logs world.now no to every)) result }
+{
+    match match_logs(world, no, to, every) {
+        Ok(at) => {
+            let spot = standing(world, no);
+            going(None, Act::Found(Match { no, to, spot, at }))
+        }
+        Err(fault) => failed(alloc, cause_of_match(no, fault), None),
+    }
+}
+
+// Why a job fails where the logs don't match.
+fn cause_of_match(no: ServerNo, fault: MatchFault) -> Cause
+    ensures { result ≡ cause_of_match no fault }
+{
+    match fault {
+        MatchFault::Unreachable(of) => Cause::Unreachable(of),
+        MatchFault::NoMark => Cause::NoMark(no),
+        MatchFault::Mismatch(entry) => Cause::Mismatch(no, entry),
+    }
 }
 
 /// An attachment. It is passed over where the coordinate has no place in the log of the new source.

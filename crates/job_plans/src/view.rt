@@ -5,22 +5,22 @@ ghost use Rattle.std.specs.Option.{option_copied};
 ghost use Rattle.kept_rows.specs.Seeing.{seen_in};
 ghost use Rattle.server_model.specs.Gtids.{status as status_of};
 ghost use Rattle.operations.specs.Deeds.{deed_of};
-ghost use Rattle.operations.specs.Jobs.{seen_of as latest_of};
+ghost use Rattle.operations.specs.Jobs.{match_found, seen_of as latest_of};
 ghost use Rattle.operations.specs.Named.{IsNamed, is_named};
-ghost use Rattle.operations.specs.Turns.{bridge_at, aim_of, turned, by_deed, after_until, until_by, after_wait_by, after_wait, is_reached as reaches, holds_seen as holds_all, settles, after_attach, crossing_of, same_again, by_set};
+ghost use Rattle.operations.specs.Turns.{bridge_at, aim_of, turned, by_deed, after_until, until_by, after_wait_by, after_wait, is_reached as reaches, holds_seen as holds_all, settles, after_attach, crossing_of, same_again, by_set, by_match};
 ghost use Rattle.job_plans.specs.Acts.{foretold, rest_of, CanTurn, IsNext, MayLook, Tells};
 
 use crate::Look;
 use crate::act::Act;
 use crate::looks::{
     cause_by, done, failed, going, holds_seen, is_reached, is_settled, latest, latest_of_more,
-    look_ask, look_attach, look_bridge, look_status, passed, position_of, read_by, takes_sets,
+    look_ask, look_attach, look_bridge, look_match, look_status, passed, position_of, read_by, takes_sets,
     watch,
 };
 use binlog_coords::Coord;
 use commands::{Cause, Lines};
 use instance_keeper::Bridge;
-use operations::{Aim, Crossing, Op, Position, Sight};
+use operations::{Aim, Crossing, Match, Op, Position, Sight};
 use orch_base::{Memory, Moment, ServerNo, SourceState};
 use server_model::World;
 use server_words::{Ask, AttachFault, Spot, Status, Threads};
@@ -42,6 +42,8 @@ pub struct JobView<'a> {
     pub seen: &'a [Sight],
     /// What was seen after that, in order.
     pub more: &'a [Sight],
+    /// The matches that were found, the latest as the last.
+    pub matches: &'a [Match],
     /// The servers that the job stopped and hasn't started.
     pub hands: &'a [ServerNo],
 }
@@ -281,6 +283,34 @@ impl<'a> JobView<'a> {
         }
     }
 
+    // The latest match that was found of two servers.
+    fn found(&self, no: ServerNo, to: ServerNo) -> Option<&'a Match>
+        ensures { option_copied result ≡ match_found self.now.matches no to }
+    {
+        self.matches
+            .iter()
+            .rev()
+            .find(|m| m.no.0 == no.0 && m.to.0 == to.0)
+    }
+
+    fn look_by_match(
+        &self,
+        alloc: Global,
+        world: &World,
+        no: ServerNo,
+        to: ServerNo,
+    ) -> Result<Look, Memory>
+        requires server { no.0 < length world.now.servers }
+        requires due { MayLook world.now self.now }
+        ensures { IfOk result (Tells world.now self.now (after_attach world.now self.now
+            (rest_of self.now) no (by_match no to (match_found self.now.matches no to)))) }
+    {
+        match self.found(no, to) {
+            None => Ok(passed()),
+            Some(found) => look_attach(alloc, world, no, found.spot, to, found.at),
+        }
+    }
+
     // What the next turn does, by the operation that is due.
     fn look_at(
         &self,
@@ -311,6 +341,8 @@ impl<'a> JobView<'a> {
             Op::Cross(crossing, a, b) => self.look_cross(alloc, world, *crossing, *a, *b),
             Op::Same(no) => self.look_same(alloc, world, *no),
             Op::Auto(no, to) => self.look_auto(alloc, world, *no, *to),
+            Op::Match(no, to, every) => Ok(look_match(alloc, world, *no, *to, *every)),
+            Op::CrossMatch(no, to) => self.look_by_match(alloc, world, *no, *to),
             Op::Finish(lines) => Ok(done(lines.copy(alloc)?)),
         }
     }

@@ -1,4 +1,4 @@
-//! Tests of the modelled servers and of jobs: openings, exchanges as rows of data, and a job's turns.
+//! Tests of the modelled servers and of jobs: openings, exchanges and matches as rows of data, and a job's turns.
 #![tactic(auto)]
 
 #[cfg(test)]
@@ -7,6 +7,8 @@ mod exchanges;
 mod given;
 #[cfg(test)]
 mod jobs;
+#[cfg(test)]
+mod matching;
 #[cfg(test)]
 mod servers;
 #[cfg(test)]

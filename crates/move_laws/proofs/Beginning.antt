@@ -17,6 +17,7 @@ use Rattle.operations.specs.Jobs.{Job, job_with}
 use Rattle.operations.specs.Targets.{logs_by}
 use Rattle.operations.specs.declared.op.Op.{Op}
 use Rattle.job_laws.specs.Footing.{footing, are_held, logs_at}
+use Rattle.job_laws.specs.Matched.{are_matched, matched_in}
 use Rattle.job_laws.specs.Leases.{Begins, are_listed, leases_of}
 use Rattle.permission.specs.Checks.{busy, of_same_id, without_log}
 use Rattle.permission.specs.Lists.{first_about, moves_to}
@@ -25,12 +26,14 @@ use Rattle.move_laws.proofs.Firsts.{free-of, neither, not-false, test-false}
 
 -- with operations that are held and listed, over a list that is free
 pub begins-with : (w : World) (b : BookState) (jobs : List Job) (list : List ServerNo) (id wait : ℕ) (ops : List Op)
-    → are_held (footing w []) ops ≡ true → are_listed list ops ≡ true → first_about (busy b) list ≡ None
+    → are_held (footing w []) ops ≡ true → are_matched (matched_in []) ops ≡ true → are_listed list ops ≡ true → first_about (busy b) list ≡ None
     → Begins w jobs (leases_of b.leases) list (job_with id wait ops)
-begins-with w b jobs list id wait ops held listed free = record {
+begins-with w b jobs list id wait ops held matched listed free = record {
   seen = refl;
   hands = refl;
   left = held;
+  found = refl;
+  matched = matched;
   listed = listed;
   free = λ n is. free-of b list free n is;
 }

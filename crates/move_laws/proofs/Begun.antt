@@ -14,6 +14,8 @@ use Rattle.server_model.specs.Worlds.{World}
 use Rattle.operations.specs.Jobs.{Job, job_with}
 use Rattle.operations.specs.Plans.{again, auto, finished, swap, under, up}
 use Rattle.operations.specs.declared.op.Op.{Op}
+use Rattle.job_laws.specs.Matched.{are_matched, matched_in}
+use Rattle.job_laws.proofs.Matching.{each-matched, finished-matched}
 use Rattle.job_laws.specs.Footing.{footing, are_held}
 use Rattle.job_laws.specs.Leases.{Begins, are_listed, leases_of}
 use Rattle.job_laws.proofs.Planned.{again-held, auto-held, finished-held, swap-held, under-held, up-held}
@@ -51,6 +53,7 @@ module _ (w : World) (b : BookState) (jobs : List Job) (id wait : ℕ) (i : Serv
   up-begins x g list ops list_is ops_is apart free =
       begins-with w b jobs list id wait ops
       (ap (are_held (footing w [])) ops_is ∙ finished-held (footing w []) (up i x g) (Follows i g ∷ []) (up-held (footing w []) i x g apart))
+      (ap (are_matched (matched_in [])) ops_is)
       (ap (λ l. are_listed l ops) list_is ∙ ap (are_listed (i ∷ x ∷ [])) ops_is
       ∙ finished-listed (i ∷ x ∷ []) (up i x g) (Follows i g ∷ []) (up-listed (i ∷ x ∷ []) i x g (among-first i (x ∷ [])) (among-more i x (x ∷ []) (among-first x []))))
       free
@@ -77,6 +80,7 @@ module _ (w : World) (b : BookState) (jobs : List Job) (id wait : ℕ) (i : Serv
       let ops_is : replicas_moved_up rs i (source_of b i) ≡ finished (ups rs i x.0) (following rs x.0) = ap (replicas_moved_up rs i) x.1 in
       begins-with w b jobs (i ∷ rs) id wait (replicas_moved_up rs i (source_of b i))
       (ap (are_held (footing w [])) ops_is ∙ finished-held (footing w []) (ups rs i x.0) (following rs x.0) (ups-held (footing w []) rs i x.0 apart))
+      (ap (are_matched (matched_in [])) ops_is ∙ finished-matched (matched_in []) (ups rs i x.0) (following rs x.0) (each-matched (λ r. up r i x.0) rs (λ more r. refl) (matched_in [])))
       (ap (are_listed (i ∷ rs)) ops_is
       ∙ finished-listed (i ∷ rs) (ups rs i x.0) (following rs x.0) (ups-listed (i ∷ rs) rs i x.0 (among-behind i rs) (among-first i rs)))
       t.0
@@ -84,7 +88,7 @@ module _ (w : World) (b : BookState) (jobs : List Job) (id wait : ℕ) (i : Serv
   moved-below : (d : Option ServerNo) → Permitted command.MoveBelow d → IsBegun command.MoveBelow d
   moved-below None h =
       let t = each-none (map (refusal_by w b (case_of b command.MoveBelow i None)) (row_of (by_gtids w b i) command.MoveBelow)) h in
-      begins-with w b jobs (i ∷ []) id wait [] refl refl t.1.0
+      begins-with w b jobs (i ∷ []) id wait [] refl refl refl t.1.0
   moved-below (Some d) h =
       let t = each-none (map (refusal_by w b (case_of b command.MoveBelow i (Some d))) (row_of (by_gtids w b i) command.MoveBelow)) h in
       let logs = logging w b d [] t.1.1.1.1.1.1.1.1.0 in
@@ -92,25 +96,28 @@ module _ (w : World) (b : BookState) (jobs : List Job) (id wait : ℕ) (i : Serv
       let ops_is : moved_below i (Some d) (source_of b i) ≡ finished (under i d x.0) (Follows i d ∷ []) = ap (moved_below i (Some d)) x.1 in
       begins-with w b jobs (i ∷ d ∷ []) id wait (moved_below i (Some d) (source_of b i))
       (ap (are_held (footing w [])) ops_is ∙ finished-held (footing w []) (under i d x.0) (Follows i d ∷ []) (under-held (footing w []) i d x.0 logs))
+      (ap (are_matched (matched_in [])) ops_is)
       (ap (are_listed (i ∷ d ∷ [])) ops_is
       ∙ finished-listed (i ∷ d ∷ []) (under i d x.0) (Follows i d ∷ []) (under-listed (i ∷ d ∷ []) i d x.0 (among-first i (d ∷ [])) (among-more i d (d ∷ []) (among-first d []))))
       t.1.0
 
   -- by coordinates
   again-begins : (x : Option ServerNo) → first_about (busy b) (i ∷ []) ≡ None → Begins w jobs (leases_of b.leases) (i ∷ []) (job_with id wait (repointed i x))
-  again-begins None free = begins-with w b jobs (i ∷ []) id wait [] refl refl free
+  again-begins None free = begins-with w b jobs (i ∷ []) id wait [] refl refl refl free
   again-begins (Some x) free =
       begins-with w b jobs (i ∷ []) id wait (finished (again i x) (Follows i x ∷ []))
       (finished-held (footing w []) (again i x) (Follows i x ∷ []) (again-held (footing w []) i x))
+      refl
       (finished-listed (i ∷ []) (again i x) (Follows i x ∷ []) (again-listed (i ∷ []) i x (among-first i []))) free
 
   -- by GTIDs
   auto-begins : (d : Option ServerNo) → w.gtid ≡ true → first_about (without_log w) (option_to_list d) ≡ None → first_about (busy b) (i ∷ []) ≡ None
       → Begins w jobs (leases_of b.leases) (i ∷ []) (job_with id wait (repointed_auto i d))
-  auto-begins None gtid logs free = begins-with w b jobs (i ∷ []) id wait [] refl refl free
+  auto-begins None gtid logs free = begins-with w b jobs (i ∷ []) id wait [] refl refl refl free
   auto-begins (Some d) gtid logs free =
       begins-with w b jobs (i ∷ []) id wait (finished (auto i d) (Follows i d ∷ []))
       (finished-held (footing w []) (auto i d) (Follows i d ∷ []) (auto-held (footing w []) i d gtid (logging w b d [] logs)))
+      refl
       (finished-listed (i ∷ []) (auto i d) (Follows i d ∷ []) (auto-listed (i ∷ []) i d (among-first i []))) free
 
   repoint-begins : (d : Option ServerNo) → Permitted command.Repoint d → IsBegun command.Repoint d
@@ -134,6 +141,7 @@ module _ (w : World) (b : BookState) (jobs : List Job) (id wait : ℕ) (i : Serv
       let ops_is : siblings_taken rs i (source_of b i) ≡ finished (unders rs i x.0) (following rs i) = ap (siblings_taken rs i) x.1 in
       begins-with w b jobs (i ∷ rs) id wait (siblings_taken rs i (source_of b i))
       (ap (are_held (footing w [])) ops_is ∙ finished-held (footing w []) (unders rs i x.0) (following rs i) (unders-held (footing w []) rs i x.0 logs))
+      (ap (are_matched (matched_in [])) ops_is ∙ finished-matched (matched_in []) (unders rs i x.0) (following rs i) (each-matched (λ r. under r i x.0) rs (λ more r. refl) (matched_in [])))
       (ap (are_listed (i ∷ rs)) ops_is
       ∙ finished-listed (i ∷ rs) (unders rs i x.0) (following rs i) (unders-listed (i ∷ rs) rs i x.0 (among-behind i rs) (among-first i rs)))
       t.0
@@ -149,6 +157,7 @@ module _ (w : World) (b : BookState) (jobs : List Job) (id wait : ℕ) (i : Serv
       let lines = Follows i g ∷ Follows x i ∷ [] in
       begins-with w b jobs list id wait ops
       (ap (are_held (footing w [])) ops_is ∙ finished-held (footing w []) (swap i x g) lines (swap-held (footing w []) i x g apart logs))
+      (ap (are_matched (matched_in [])) ops_is)
       (ap (λ l. are_listed l ops) list_is ∙ ap (are_listed (i ∷ x ∷ [])) ops_is
       ∙ finished-listed (i ∷ x ∷ []) (swap i x g) lines (swap-listed (i ∷ x ∷ []) i x g (among-first i (x ∷ [])) (among-more i x (x ∷ []) (among-first x []))))
       free
@@ -168,10 +177,11 @@ module _ (w : World) (b : BookState) (jobs : List Job) (id wait : ℕ) (i : Serv
       (apart-by w b i x.0 g.0 x.1 above ids) logs t.0
 
   -- an operation that asks one thing of the instance
-  asked-begins : (ops : List Op) (row : List Check) (c : Case) → c.leased ≡ i ∷ [] → are_held (footing w []) ops ≡ true → are_listed (i ∷ []) ops ≡ true
+  asked-begins : (ops : List Op) (row : List Check) (c : Case) → c.leased ≡ i ∷ [] → are_held (footing w []) ops ≡ true → are_matched (matched_in []) ops ≡ true
+      → are_listed (i ∷ []) ops ≡ true
       → first_refusal w b c (check.Busy ∷ row) ≡ None → Begins w jobs (leases_of b.leases) (i ∷ []) (job_with id wait ops)
-  asked-begins ops row c list held listed h =
-      begins-with w b jobs (i ∷ []) id wait ops held listed
+  asked-begins ops row c list held matched listed h =
+      begins-with w b jobs (i ∷ []) id wait ops held matched listed
       (ap (first_about (busy b)) (sym list) ∙ (neither (refusal_by w b c check.Busy) (first_of (map (refusal_by w b c) row)) h).0)
 
   about : (c : CoordsCommand) (d : Option ServerNo) → Permitted c d → IsBegun c d
@@ -182,21 +192,21 @@ module _ (w : World) (b : BookState) (jobs : List Job) (id wait : ℕ) (i : Serv
   about command.TakeSiblings d h = siblings-begin d h
   about command.TakeMaster d h = master-begins d h
   about command.DetachReplica d h =
-      asked-begins (ops_of w b command.DetachReplica i d) (check.Unreachable ∷ check.NoSource ∷ check.AlreadyDetached ∷ []) (case_of b command.DetachReplica i d) refl refl (simp (self) refl) h
+      asked-begins (ops_of w b command.DetachReplica i d) (check.Unreachable ∷ check.NoSource ∷ check.AlreadyDetached ∷ []) (case_of b command.DetachReplica i d) refl refl refl (simp (self) refl) h
   about command.ReattachReplica d h =
-      asked-begins (ops_of w b command.ReattachReplica i d) (check.Unreachable ∷ check.NoSource ∷ check.NotDetached ∷ []) (case_of b command.ReattachReplica i d) refl refl (simp (self) refl) h
+      asked-begins (ops_of w b command.ReattachReplica i d) (check.Unreachable ∷ check.NoSource ∷ check.NotDetached ∷ []) (case_of b command.ReattachReplica i d) refl refl refl (simp (self) refl) h
   about command.ResetReplica d h =
-      asked-begins (ops_of w b command.ResetReplica i d) (check.Unreachable ∷ check.NoSource ∷ []) (case_of b command.ResetReplica i d) refl refl (simp (self) refl) h
+      asked-begins (ops_of w b command.ResetReplica i d) (check.Unreachable ∷ check.NoSource ∷ []) (case_of b command.ResetReplica i d) refl refl refl (simp (self) refl) h
   about command.StartReplica d h =
-      asked-begins (ops_of w b command.StartReplica i d) (check.Unreachable ∷ check.NoSource ∷ check.AlreadyDetached ∷ []) (case_of b command.StartReplica i d) refl refl (simp (self) refl) h
+      asked-begins (ops_of w b command.StartReplica i d) (check.Unreachable ∷ check.NoSource ∷ check.AlreadyDetached ∷ []) (case_of b command.StartReplica i d) refl refl refl (simp (self) refl) h
   about command.StopReplica d h =
-      asked-begins (ops_of w b command.StopReplica i d) (check.Unreachable ∷ check.NoSource ∷ check.AlreadyDetached ∷ []) (case_of b command.StopReplica i d) refl refl (simp (self) refl) h
+      asked-begins (ops_of w b command.StopReplica i d) (check.Unreachable ∷ check.NoSource ∷ check.AlreadyDetached ∷ []) (case_of b command.StopReplica i d) refl refl refl (simp (self) refl) h
   about command.RestartReplica d h =
-      asked-begins (ops_of w b command.RestartReplica i d) (check.Unreachable ∷ check.NoSource ∷ check.AlreadyDetached ∷ []) (case_of b command.RestartReplica i d) refl refl (simp (self) refl) h
+      asked-begins (ops_of w b command.RestartReplica i d) (check.Unreachable ∷ check.NoSource ∷ check.AlreadyDetached ∷ []) (case_of b command.RestartReplica i d) refl refl refl (simp (self) refl) h
   about command.SetReadOnly d h =
-      asked-begins (ops_of w b command.SetReadOnly i d) (check.Unreachable ∷ []) (case_of b command.SetReadOnly i d) refl refl (simp (self) refl) h
+      asked-begins (ops_of w b command.SetReadOnly i d) (check.Unreachable ∷ []) (case_of b command.SetReadOnly i d) refl refl refl (simp (self) refl) h
   about command.SetWriteable d h =
-      asked-begins (ops_of w b command.SetWriteable i d) (check.Unreachable ∷ []) (case_of b command.SetWriteable i d) refl refl (simp (self) refl) h
+      asked-begins (ops_of w b command.SetWriteable i d) (check.Unreachable ∷ []) (case_of b command.SetWriteable i d) refl refl refl (simp (self) refl) h
 
 pub permitted-begin : (w : World) (b : BookState) (jobs : List Job) (given : Command) (id wait : ℕ) → refusal_of w b given ≡ None
     → Begins w jobs (leases_of b.leases) (leased_by b given) (job_with id wait (plan_of w b given))
@@ -204,10 +214,10 @@ permitted-begin w b jobs given id wait h = go (coords_command given.name) h
   where
     with_i : (c : CoordsCommand) (o : Option ServerNo) → about_one None (refusal_about w b c) o given.d ≡ None
         → Begins w jobs (leases_of b.leases) (about_one [] (list_of b c) o given.d) (job_with id wait (about_one [] (ops_of w b c) o given.d))
-    with_i c None h = begins-with w b jobs [] id wait [] refl refl refl
+    with_i c None h = begins-with w b jobs [] id wait [] refl refl refl refl
     with_i c (Some i) h = about w b jobs id wait i c given.d h
 
     go : (c : Option CoordsCommand) → refused b (refusal_about w b) c given ≡ None
         → Begins w jobs (leases_of b.leases) (about_given [] (list_of b) c given) (job_with id wait (about_given [] (ops_of w b) c given))
-    go None h = begins-with w b jobs [] id wait [] refl refl refl
+    go None h = begins-with w b jobs [] id wait [] refl refl refl refl
     go (Some c) h = with_i c given.i (neither (unknown_in b given) (about_one None (refusal_about w b c) given.i given.d) h).1

@@ -10,6 +10,8 @@ use Rattle.instance_keeper.specs.Book.{BookState}
 use Rattle.server_model.specs.Worlds.{World}
 use Rattle.operations.specs.Jobs.{Job, job_with}
 use Rattle.operations.specs.Plans.{again, auto, finished}
+use Rattle.job_laws.specs.Matched.{matched_in}
+use Rattle.job_laws.proofs.Matching.{each-matched, finished-matched}
 use Rattle.job_laws.specs.Footing.{footing}
 use Rattle.job_laws.specs.Leases.{Begins, leases_of}
 use Rattle.job_laws.proofs.Planned.{again-held, auto-held, finished-held}
@@ -35,35 +37,39 @@ module _ (w : World) (b : BookState) (jobs : List Job) (id wait : ℕ) where
 
   moved-begins : (i : ServerNo) (d : Option ServerNo) → w.gtid ≡ true → first_about (without_log w) (option_to_list d) ≡ None
       → first_about (busy b) (i ∷ option_to_list d) ≡ None → Begins w jobs (leases_of b.leases) (i ∷ option_to_list d) (job_with id wait (moved i d))
-  moved-begins i None gtid logs free = begins-with w b jobs (i ∷ []) id wait [] refl refl free
+  moved-begins i None gtid logs free = begins-with w b jobs (i ∷ []) id wait [] refl refl refl free
   moved-begins i (Some d) gtid logs free =
       begins-with w b jobs (i ∷ d ∷ []) id wait (finished (auto i d) (Follows i d ∷ []))
       (finished-held (footing w []) (auto i d) (Follows i d ∷ []) (auto-held (footing w []) i d gtid (logging w b d [] logs)))
+      refl
       (finished-listed (i ∷ d ∷ []) (auto i d) (Follows i d ∷ []) (auto-listed (i ∷ d ∷ []) i d (among-first i (d ∷ [])))) free
 
   replicas-begin : (rs : List ServerNo) (d : Option ServerNo) → w.gtid ≡ true → first_about (without_log w) (option_to_list d) ≡ None
       → first_about (busy b) (rs ++ option_to_list d) ≡ None
       → Begins w jobs (leases_of b.leases) (rs ++ option_to_list d) (job_with id wait (replicas_moved rs d))
-  replicas-begin rs None gtid logs free = begins-with w b jobs (rs ++ []) id wait [] refl refl free
+  replicas-begin rs None gtid logs free = begins-with w b jobs (rs ++ []) id wait [] refl refl refl free
   replicas-begin rs (Some d) gtid logs free =
       begins-with w b jobs (rs ++ d ∷ []) id wait (finished (autos rs d) (following rs d))
       (finished-held (footing w []) (autos rs d) (following rs d) (autos-held (footing w []) rs d gtid (logging w b d [] logs)))
+      (finished-matched (matched_in []) (autos rs d) (following rs d) (each-matched (λ r. auto r d) rs (λ more r. refl) (matched_in [])))
       (finished-listed (rs ++ d ∷ []) (autos rs d) (following rs d) (autos-listed (rs ++ d ∷ []) rs d (among-before rs (d ∷ [])))) free
 
   enabled-begins : (i : ServerNo) (x : Option ServerNo) → w.gtid ≡ true → first_about (busy b) (i ∷ option_to_list x) ≡ None
       → Begins w jobs (leases_of b.leases) (i ∷ option_to_list x) (job_with id wait (enabled i x))
-  enabled-begins i None gtid free = begins-with w b jobs (i ∷ []) id wait [] refl refl free
+  enabled-begins i None gtid free = begins-with w b jobs (i ∷ []) id wait [] refl refl refl free
   enabled-begins i (Some x) gtid free =
       begins-with w b jobs (i ∷ x ∷ []) id wait (finished (again_auto i x) (Server i ∷ []))
       (finished-held (footing w []) (again_auto i x) (Server i ∷ []) (again_auto-held (footing w []) i x gtid))
+      refl
       (finished-listed (i ∷ x ∷ []) (again_auto i x) (Server i ∷ []) (again_auto-listed (i ∷ x ∷ []) i x (among-first i (x ∷ [])))) free
 
   disabled-begins : (i : ServerNo) (x : Option ServerNo) → first_about (busy b) (i ∷ []) ≡ None
       → Begins w jobs (leases_of b.leases) (i ∷ []) (job_with id wait (disabled i x))
-  disabled-begins i None free = begins-with w b jobs (i ∷ []) id wait [] refl refl free
+  disabled-begins i None free = begins-with w b jobs (i ∷ []) id wait [] refl refl refl free
   disabled-begins i (Some x) free =
       begins-with w b jobs (i ∷ []) id wait (finished (again i x) (Server i ∷ []))
       (finished-held (footing w []) (again i x) (Server i ∷ []) (again-held (footing w []) i x))
+      refl
       (finished-listed (i ∷ []) (again i x) (Server i ∷ []) (again-listed (i ∷ []) i x (among-first i []))) free
 
   -- a command's job begins, where each check of its row passes
@@ -88,10 +94,10 @@ permitted-begin w b jobs given id wait h = go (gtid_command given.name) h
   where
     with_i : (c : GtidCommand) (o : Option ServerNo) → about_one None (refusal_about w b c) o given.d ≡ None
         → Begins w jobs (leases_of b.leases) (about_one [] (list_of b c) o given.d) (job_with id wait (about_one [] (ops_of b c) o given.d))
-    with_i c None h = begins-with w b jobs [] id wait [] refl refl refl
+    with_i c None h = begins-with w b jobs [] id wait [] refl refl refl refl
     with_i c (Some i) h = about w b jobs id wait c i given.d h
 
     go : (c : Option GtidCommand) → refused b (refusal_about w b) c given ≡ None
         → Begins w jobs (leases_of b.leases) (about_given [] (list_of b) c given) (job_with id wait (about_given [] (ops_of b) c given))
-    go None h = begins-with w b jobs [] id wait [] refl refl refl
+    go None h = begins-with w b jobs [] id wait [] refl refl refl refl
     go (Some c) h = with_i c given.i (neither (unknown_in b given) (about_one None (refusal_about w b c) given.i given.d) h).1

@@ -84,6 +84,8 @@ module _ (b : BookState) where
   by-more (deed.Cross cross.Back n x) A B f h = f h
   by-more (deed.Same n) A B f h = (h.0, f h.1)
   by-more (deed.Auto n m) A B f h = (h.0, f h.1)
+  by-more (deed.Match n m every) A B f h = f h
+  by-more (deed.CrossMatch n m) A B f h = f h
   by-more (deed.Finish lines) A B f h = f h
 
   pub by-append : (xs ys : List Op) → AllGoByKept b xs → AllGoByKept b ys → AllGoByKept b (xs ++ ys)

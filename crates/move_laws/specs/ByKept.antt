@@ -31,6 +31,8 @@ GoesByKept b (deed.Cross cross.About n x) rest = rest
 GoesByKept b (deed.Cross cross.Back n x) rest = rest
 GoesByKept b (deed.Same n) rest = IsPlaceKept b n × rest
 GoesByKept b (deed.Auto n m) rest = IsSetKept b n m × rest
+GoesByKept b (deed.Match n m every) rest = rest
+GoesByKept b (deed.CrossMatch n m) rest = rest
 GoesByKept b (deed.Finish lines) rest = rest
 
 abbrev pub AllGoByKept : BookState → List Op → Type 0

@@ -9,6 +9,7 @@ use Rattle.server_words.specs.declared.status.Status.{Status}
 use Rattle.kept_rows.specs.Seeing.{seen_in}
 use Rattle.server_words.specs.declared.answers.Unreachable.{Unreachable}
 use Rattle.server_words.specs.declared.attach.AttachFault.{AttachFault}
+use Rattle.server_words.specs.declared.attach.Spot.{Spot}
 use Rattle.server_words.specs.declared.changes.Ask.{Ask}
 use Rattle.server_words.specs.declared.changes.Ask.TheVariants as asking
 use Rattle.server_model.specs.Desk.{desk_answer}
@@ -16,12 +17,14 @@ use Rattle.server_model.specs.Gtids.{status}
 use Rattle.server_model.specs.Run.{Exchange, Request, after, Allowed, AllAllowed}
 use Rattle.server_model.specs.Worlds.{World, server_at}
 use Rattle.commands.specs.declared.cause.Cause.TheVariants as cause
+use Rattle.operations.specs.declared.matching.MatchFault.{MatchFault}
 use Rattle.operations.specs.declared.op.Op.{Op}
 use Rattle.operations.specs.Deeds as deed
 use Rattle.operations.specs.Deeds.{Deed, deed_of}
-use Rattle.operations.specs.Jobs.{Job, seen_of}
+use Rattle.operations.specs.Jobs.{Job, match_found, seen_of}
+use Rattle.operations.specs.Matching.{match_logs, standing_at}
 use Rattle.operations.specs.Targets.{can_attach}
-use Rattle.operations.specs.Turns.{Turned, Goes, Stops, settled, next, saw, restarts, observed, is_moved, after_status, after_look, after_ask, aim_of, is_reached, until_by, after_until, after_wait_by, after_wait, holds_seen, settles, read_by, bridge_at, crossed, same_again, by_set, attach_answer_of, after_answer, after_attach, by_deed, by_ops, turned}
+use Rattle.operations.specs.Turns.{Turned, Goes, Stops, settled, next, saw, restarts, observed, is_moved, after_status, after_look, after_ask, aim_of, is_reached, until_by, after_until, after_wait_by, after_wait, holds_seen, settles, read_by, bridge_at, crossed, same_again, by_set, after_match, by_match, attach_answer_of, after_answer, after_attach, by_deed, by_ops, turned}
 use Rattle.operations.proofs.Targets.{can-allowed}
 
 pub restarts-allowed : (w : World) (hands : List ServerNo) → AllAllowed w (restarts hands)
@@ -72,6 +75,10 @@ module _ (w : World) (j : Job) (rest : List Op) where
       by true can = go (can-allowed w e can) (attach_answer_of w e)
       by false can = tt
 
+  match-allowed : (n m : ServerNo) (at : Spot) (r : Result Coord MatchFault) → AreAllowed (settled j (after_match j rest n m at r))
+  match-allowed n m at (Ok c) = tt
+  match-allowed n m at (Err f) = restarts-allowed w j.hands
+
   deed-allowed : (read : ℕ) (now : Moment) (d : Deed) → AreAllowed (settled j (by_deed w read now j rest d))
   deed-allowed read now (deed.Look n from) = look-allowed n from (observed w read now n) (seen_in (status w n.0))
   deed-allowed read now (deed.Request n a) = ask-allowed n a (desk_answer (server_at w n.0))
@@ -82,6 +89,8 @@ module _ (w : World) (j : Job) (rest : List Op) where
   deed-allowed read now (deed.Cross c a b) = attach-allowed a (crossed c a (bridge_at (read_by c a b) (seen_of j.seen (read_by c a b).0)))
   deed-allowed read now (deed.Same n) = attach-allowed n (same_again n (seen_of j.seen n.0))
   deed-allowed read now (deed.Auto n m) = attach-allowed n (by_set n m (seen_of j.seen m.0))
+  deed-allowed read now (deed.Match n m every) = match-allowed n m (standing_at (server_at w n.0)) (match_logs w n m every)
+  deed-allowed read now (deed.CrossMatch n m) = attach-allowed n (by_match n m (match_found j.matches n m))
   deed-allowed read now (deed.Finish lines) = tt
 
 pub turn-allowed : (w : World) (read : ℕ) (now : Moment) (j : Job) → AllAllowed w (turned w read now j).exchanges

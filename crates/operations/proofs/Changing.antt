@@ -12,6 +12,7 @@ use Rattle.kept_rows.specs.Seeing.{seen_in}
 use Rattle.server_words.specs.declared.answers.Unreachable.{Unreachable}
 use Rattle.server_words.specs.declared.attach.AttachFault.{AttachFault}
 use Rattle.server_words.specs.declared.attach.Spot.TheVariants as spot
+use Rattle.server_words.specs.declared.attach.Spot.{Spot}
 use Rattle.server_words.specs.declared.changes.Ask.{Ask}
 use Rattle.server_words.specs.declared.changes.Ask.TheVariants as asking
 use Rattle.server_model.specs.Desk.{desk_answer}
@@ -22,6 +23,8 @@ use Rattle.commands.specs.declared.cause.Cause.{Cause}
 use Rattle.commands.specs.declared.cause.Cause.TheVariants as cause
 use Rattle.operations.specs.declared.op.Crossing.{Crossing}
 use Rattle.operations.specs.declared.op.Crossing.TheVariants as cross
+use Rattle.operations.specs.declared.matching.Match.{Match}
+use Rattle.operations.specs.declared.matching.MatchFault.{MatchFault}
 use Rattle.operations.specs.declared.op.Op.{Op}
 use Rattle.operations.specs.declared.sight.Position.{Position}
 use Rattle.instance_keeper.specs.declared.bridge.Bridge.{Bridge}
@@ -29,8 +32,9 @@ use Rattle.operations.specs.Deeds as deed
 use Rattle.operations.specs.Deeds.{Deed, deed_of}
 use Rattle.orch_base.specs.declared.server.SourceState.{SourceState}
 use Rattle.orch_base.specs.declared.server.SourceState.TheVariants.{Without, Attached, Detached}
-use Rattle.operations.specs.Jobs.{Job, seen_of, without}
-use Rattle.operations.specs.Turns.{Turned, Goes, Stops, settled, next, saw, going, restarts, failed, observed, is_moved, after_status, after_look, hands_after, after_ask, aim_of, is_reached, until_by, after_until, after_wait_by, after_wait, holds_seen, settles, read_by, bridge_at, crossed, attached_anew, same_again, by_set, attach_answer_of, after_answer, after_attach, by_deed, by_ops, turned}
+use Rattle.operations.specs.Jobs.{Job, match_found, seen_of, without}
+use Rattle.operations.specs.Turns.{Turned, Goes, Stops, settled, next, saw, going, restarts, failed, observed, is_moved, after_status, after_look, hands_after, after_ask, aim_of, is_reached, until_by, after_until, after_wait_by, after_wait, holds_seen, settles, read_by, bridge_at, crossed, attached_anew, same_again, by_set, with_match, after_match, by_match, attach_answer_of, after_answer, after_attach, by_deed, by_ops, turned}
+use Rattle.operations.specs.Matching.{match_logs, standing_at}
 use Rattle.operations.specs.Targets.{can_attach}
 use Rattle.operations.specs.Changes.{change_of, server_of}
 use Rattle.std.proofs.lemmas.Option.{same_Some}
@@ -108,6 +112,10 @@ module _ (P : ℕ → Type 0) (j : Job) (rest : List Op) (ops : All (ChangesOf P
       go true = going-stays None (next (saw j n s) rest) refl refl ops
       go false = more (nat_lt (j.waited + 1) j.wait)
 
+  match-stays : (n m : ServerNo) (at : Spot) (r : Result Coord MatchFault) → StaysOf P j.id (settled j (after_match j rest n m at r))
+  match-stays n m at (Ok c) = going-stays None (next (with_match j (record { no = n; to = m; spot = at; at = c })) rest) refl refl ops
+  match-stays n m at (Err f) = failed-stays j refl refl _ None
+
   attach-stays : (w : World) (n : ServerNo) (o : Option Exchange) → ((e : Exchange) → o ≡ Some e → server_of e ≡ n.0) → IsOf n → StaysOf P j.id (settled j (after_attach w j rest n o))
   attach-stays w n None at here = going-stays None (next j rest) refl refl ops
   attach-stays w n (Some e) at here = by (can_attach w e)
@@ -141,6 +149,10 @@ set-server : (n m : ServerNo) (o : Option Position) (e : Exchange) → by_set n 
 set-server n m None e h = cc
 set-server n m (Some s) e h = sym (ap server_of (same_Some (AttachAuto n.0 s.set m) e h))
 
+match-server : (n m : ServerNo) (o : Option Match) (e : Exchange) → by_match n m o ≡ Some e → server_of e ≡ n.0
+match-server n m None e h = cc
+match-server n m (Some x) e h = sym (ap server_of (same_Some (Attach n.0 x.spot m x.at) e h))
+
 pub deed-stays : (P : ℕ → Type 0) (w : World) (read : ℕ) (now : Moment) (j : Job) (rest : List Op) (d : Deed)
     → IfSome (change_of d) (λ n. P n.0) → All (ChangesOf P) rest → All (ChangesOf P) j.ops → All (λ n. P n.0) j.hands
     → StaysOf P j.id (settled j (by_deed w read now j rest d))
@@ -157,6 +169,9 @@ deed-stays P w read now j rest (deed.Same n) here ops all hands =
     attach-stays P j rest ops hands w n (same_again n (seen_of j.seen n.0)) (same-server n (seen_of j.seen n.0)) here
 deed-stays P w read now j rest (deed.Auto n m) here ops all hands =
     attach-stays P j rest ops hands w n (by_set n m (seen_of j.seen m.0)) (set-server n m (seen_of j.seen m.0)) here
+deed-stays P w read now j rest (deed.Match n m every) here ops all hands = match-stays P j rest ops hands n m (standing_at (server_at w n.0)) (match_logs w n m every)
+deed-stays P w read now j rest (deed.CrossMatch n m) here ops all hands =
+    attach-stays P j rest ops hands w n (by_match n m (match_found j.matches n m)) (match-server n m (match_found j.matches n m)) here
 deed-stays P w read now j rest (deed.Finish lines) here ops all hands =
     record { id = refl; ops = All-nil (ChangesOf P); hands = All-nil (λ n. P n.0); exchanges = All-nil (λ e. P (server_of e)) }
 

@@ -10,6 +10,7 @@ use Rattle.kept_rows.specs.Seeing.{seen_in}
 use Rattle.binlog_coords.specs.declared.Coord.{Coord}
 use Rattle.server_words.specs.declared.answers.Unreachable.{Unreachable}
 use Rattle.server_words.specs.declared.attach.AttachFault.{AttachFault}
+use Rattle.server_words.specs.declared.attach.Spot.{Spot}
 use Rattle.server_words.specs.declared.changes.Ask.{Ask}
 use Rattle.server_words.specs.declared.changes.Ask.TheVariants as asking
 use Rattle.server_model.specs.Desk.{desk_answer}
@@ -18,11 +19,13 @@ use Rattle.server_model.specs.Run.{Exchange}
 use Rattle.server_model.specs.Worlds.{World, server_at}
 use Rattle.commands.specs.declared.cause.Cause.{Cause}
 use Rattle.commands.specs.declared.cause.Cause.TheVariants as cause
+use Rattle.operations.specs.declared.matching.MatchFault.{MatchFault}
 use Rattle.operations.specs.declared.op.Op.{Op}
 use Rattle.operations.specs.Deeds as deed
 use Rattle.operations.specs.Deeds.{Deed, deed_of}
-use Rattle.operations.specs.Jobs.{Job, seen_of}
-use Rattle.operations.specs.Turns.{Goes, Stops, settled, next, saw, going, failed, observed, is_moved, after_status, after_look, after_ask, aim_of, is_reached, until_by, after_until, after_wait_by, after_wait, holds_seen, settles, read_by, bridge_at, crossed, same_again, by_set, attach_answer_of, after_answer, after_attach, by_deed, by_ops, turned}
+use Rattle.operations.specs.Jobs.{Job, match_found, seen_of}
+use Rattle.operations.specs.Turns.{Goes, Stops, settled, next, saw, going, failed, observed, is_moved, after_status, after_look, after_ask, aim_of, is_reached, until_by, after_until, after_wait_by, after_wait, holds_seen, settles, read_by, bridge_at, crossed, same_again, by_set, with_match, after_match, by_match, attach_answer_of, after_answer, after_attach, by_deed, by_ops, turned}
+use Rattle.operations.specs.Matching.{match_logs, standing_at}
 use Rattle.operations.specs.Targets.{can_attach}
 use Rattle.operations.specs.Ending.{turns_for, MovesOn}
 
@@ -67,6 +70,10 @@ module _ (j : Job) (rest : List Op) (counted : j.waited ≤ j.wait) (count : tur
       go true = next-moves None [] (next (saw j n s) rest) refl refl refl
       go false = more (nat_lt (j.waited + 1) j.wait) refl
 
+  match-moves : (n m : ServerNo) (at : Spot) (r : Result Coord MatchFault) → MovesOn j (settled j (after_match j rest n m at r))
+  match-moves n m at (Ok c) = next-moves None [] (next (with_match j (record { no = n; to = m; spot = at; at = c })) rest) refl refl refl
+  match-moves n m at (Err f) = failed-moves _ None
+
   attach-moves : (w : World) (n : ServerNo) (o : Option Exchange) → MovesOn j (settled j (after_attach w j rest n o))
   attach-moves w n None = next-moves None [] (next j rest) refl refl refl
   attach-moves w n (Some e) = by (can_attach w e)
@@ -89,6 +96,8 @@ module _ (j : Job) (rest : List Op) (counted : j.waited ≤ j.wait) (count : tur
   deed-moves w read now (deed.Cross c a b) = attach-moves w a (crossed c a (bridge_at (read_by c a b) (seen_of j.seen (read_by c a b).0)))
   deed-moves w read now (deed.Same n) = attach-moves w n (same_again n (seen_of j.seen n.0))
   deed-moves w read now (deed.Auto n m) = attach-moves w n (by_set n m (seen_of j.seen m.0))
+  deed-moves w read now (deed.Match n m every) = match-moves n m (standing_at (server_at w n.0)) (match_logs w n m every)
+  deed-moves w read now (deed.CrossMatch n m) = attach-moves w n (by_match n m (match_found j.matches n m))
   deed-moves w read now (deed.Finish lines) = record { waited = counted; wait = refl; fewer = λ h. absurd (false≢true h) }
 
 pub turn-moves : (w : World) (read : ℕ) (now : Moment) (j : Job) → j.waited ≤ j.wait → MovesOn j (turned w read now j)

@@ -9,6 +9,7 @@ use Rattle.server_words.specs.declared.status.Status.{Status}
 use Rattle.kept_rows.specs.Seeing.{seen_in}
 use Rattle.server_words.specs.declared.answers.Unreachable.{Unreachable}
 use Rattle.server_words.specs.declared.attach.AttachFault.{AttachFault}
+use Rattle.server_words.specs.declared.attach.Spot.{Spot}
 use Rattle.server_words.specs.declared.changes.Ask.{Ask}
 use Rattle.server_words.specs.declared.changes.Ask.TheVariants as asking
 use Rattle.server_model.specs.Desk.{desk_answer}
@@ -16,12 +17,14 @@ use Rattle.server_model.specs.Gtids.{status}
 use Rattle.server_model.specs.Run.{Exchange}
 use Rattle.server_model.specs.Worlds.{World, server_at}
 use Rattle.commands.specs.declared.cause.Cause.TheVariants as cause
+use Rattle.operations.specs.declared.matching.MatchFault.{MatchFault}
 use Rattle.operations.specs.declared.op.Op.{Op}
 use Rattle.operations.specs.Deeds as deed
 use Rattle.operations.specs.Deeds.{Deed, deed_of}
-use Rattle.operations.specs.Jobs.{Job, seen_of}
+use Rattle.operations.specs.Jobs.{Job, match_found, seen_of}
+use Rattle.operations.specs.Matching.{match_logs, standing_at}
 use Rattle.operations.specs.Targets.{can_attach}
-use Rattle.operations.specs.Turns.{Turned, Goes, Stops, settled, next, saw, observed, is_moved, after_status, after_look, after_ask, aim_of, is_reached, until_by, after_until, after_wait_by, after_wait, holds_seen, settles, read_by, bridge_at, crossed, same_again, by_set, attach_answer_of, after_answer, after_attach, by_deed, by_ops, turned}
+use Rattle.operations.specs.Turns.{Turned, Goes, Stops, settled, next, saw, observed, is_moved, after_status, after_look, after_ask, aim_of, is_reached, until_by, after_until, after_wait_by, after_wait, holds_seen, settles, read_by, bridge_at, crossed, same_again, by_set, after_match, by_match, attach_answer_of, after_answer, after_attach, by_deed, by_ops, turned}
 
 module _ (P : List Op → Type 0) (none : P []) (j : Job) (rest : List Op) (left : P rest) (all : P j.ops) where
   abbrev Keeps : Turned → Type 0
@@ -67,6 +70,10 @@ module _ (P : List Op → Type 0) (none : P []) (j : Job) (rest : List Op) (left
       by true = go (attach_answer_of w e)
       by false = left
 
+  match-left : (n m : ServerNo) (at : Spot) (r : Result Coord MatchFault) → Keeps (settled j (after_match j rest n m at r))
+  match-left n m at (Ok c) = left
+  match-left n m at (Err f) = none
+
   deed-left : (w : World) (read : ℕ) (now : Moment) (d : Deed) → Keeps (settled j (by_deed w read now j rest d))
   deed-left w read now (deed.Look n from) = look-left n from (observed w read now n) (seen_in (status w n.0))
   deed-left w read now (deed.Request n a) = ask-left n a (desk_answer (server_at w n.0))
@@ -77,6 +84,8 @@ module _ (P : List Op → Type 0) (none : P []) (j : Job) (rest : List Op) (left
   deed-left w read now (deed.Cross c a b) = attach-left w a (crossed c a (bridge_at (read_by c a b) (seen_of j.seen (read_by c a b).0)))
   deed-left w read now (deed.Same n) = attach-left w n (same_again n (seen_of j.seen n.0))
   deed-left w read now (deed.Auto n m) = attach-left w n (by_set n m (seen_of j.seen m.0))
+  deed-left w read now (deed.Match n m every) = match-left n m (standing_at (server_at w n.0)) (match_logs w n m every)
+  deed-left w read now (deed.CrossMatch n m) = attach-left w n (by_match n m (match_found j.matches n m))
   deed-left w read now (deed.Finish lines) = none
 
 -- what holds of a list of operations, and then of what is behind its first and of none, holds of what a turn leaves

@@ -4,5 +4,6 @@ pub mod Targets
 pub mod Allowing
 pub mod Changing
 pub mod Left
+pub mod Marks
 pub mod Named
 pub mod Ending

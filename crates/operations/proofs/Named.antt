@@ -34,6 +34,8 @@ module _ (count : ℕ) where
   change-there (deed.Cross c a b) h = ltb-true a.0 count h
   change-there (deed.Same n) h = ltb-true n.0 count h
   change-there (deed.Auto n m) h = ltb-true n.0 count h
+  change-there (deed.Match n m every) h = tt
+  change-there (deed.CrossMatch n m) h = ltb-true n.0 count h
   change-there (deed.Finish lines) h = tt
 
   changes-there : (ops : List Op) → are_named count ops ≡ true → All (ChangesOf IsThere) ops

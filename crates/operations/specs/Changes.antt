@@ -16,6 +16,8 @@ change_of (deed.Settle n) = None
 change_of (deed.Cross c a b) = Some a
 change_of (deed.Same n) = Some n
 change_of (deed.Auto n m) = Some n
+change_of (deed.Match n m every) = None
+change_of (deed.CrossMatch n m) = Some n
 change_of (deed.Finish lines) = None
 
 -- the server that an exchange is with

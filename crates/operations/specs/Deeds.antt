@@ -1,5 +1,5 @@
 -- What operations are.
-use Rattle.std.specs.Prelude.{List, Option}
+use Rattle.std.specs.Prelude.{ℕ, List, Option}
 use Rattle.orch_base.specs.declared.server.ServerNo.{ServerNo}
 use Rattle.server_words.specs.declared.changes.Ask.{Ask}
 use Rattle.server_words.specs.declared.changes.Ask.TheVariants as asking
@@ -21,6 +21,8 @@ pub data Deed : Type 0 where
   Cross : (c : Crossing) (a b : ServerNo) → Deed
   Same : (n : ServerNo) → Deed
   Auto : (n m : ServerNo) → Deed
+  Match : (n m : ServerNo) (every : ℕ) → Deed
+  CrossMatch : (n m : ServerNo) → Deed
   Finish : (lines : List Line) → Deed
 
 abbrev pub deed_of : Op → Deed
@@ -39,4 +41,6 @@ deed_of (op.Settle n) = Settle n
 deed_of (op.Cross c a b) = Cross c a b
 deed_of (op.Same n) = Same n
 deed_of (op.Auto n m) = Auto n m
+deed_of (op.Match n m every) = Match n m every
+deed_of (op.CrossMatch n m) = CrossMatch n m
 deed_of (op.Finish lines) = Finish lines

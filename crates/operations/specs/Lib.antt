@@ -1,5 +1,6 @@
 pub mod Deeds
 pub mod Jobs
+pub mod Matching
 pub mod Plans
 pub mod Targets
 pub mod Turns

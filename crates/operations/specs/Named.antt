@@ -7,7 +7,8 @@ use Rattle.operations.specs.Deeds as deed
 use Rattle.operations.specs.Deeds.{Deed, deed_of}
 use Rattle.operations.specs.Jobs.{Job}
 
--- each server with which an operation has an exchange is one of so many
+-- the server with which an operation has an exchange is one of so many; a match needs none: without the servers it is
+-- answered Unreachable
 abbrev pub is_named : ℕ → Deed → Bool
 is_named count (deed.Look n from) = nat_lt n.0 count
 is_named count (deed.Request n a) = nat_lt n.0 count
@@ -18,6 +19,8 @@ is_named count (deed.Settle n) = nat_lt n.0 count
 is_named count (deed.Cross c a b) = nat_lt a.0 count
 is_named count (deed.Same n) = nat_lt n.0 count
 is_named count (deed.Auto n m) = nat_lt n.0 count
+is_named count (deed.Match n m every) = true
+is_named count (deed.CrossMatch n m) = nat_lt n.0 count
 is_named count (deed.Finish lines) = true
 
 abbrev pub are_named : ℕ → List Op → Bool

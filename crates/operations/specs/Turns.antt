@@ -1,6 +1,6 @@
 -- The turn of a job, as a function: what it does by its first operation, the exchanges that it makes, and the job
 -- after it.
-use Rattle.std.specs.Prelude.{ℕ, zero, suc, ◌+◌, ◌-◌, Bool, true, false, ◌==◌, ◌&&◌, ◌||◌, not, nat_lt, if◌then◌else◌, List, [], ◌∷◌, map, Option, Some, None, Result, Ok, Err}
+use Rattle.std.specs.Prelude.{ℕ, zero, suc, ◌+◌, ◌-◌, Bool, true, false, ◌==◌, ◌&&◌, ◌||◌, not, nat_lt, if◌then◌else◌, List, [], ◌∷◌, ◌++◌, map, Option, Some, None, Result, Ok, Err}
 use Rattle.std.specs.List.{list_all}
 use Rattle.gtid_sets.specs.Sets.{holds}
 use Rattle.std.specs.Option.{option_map, option_and_then}
@@ -17,6 +17,7 @@ use Rattle.kept_rows.specs.Seeing.{seen_in}
 use Rattle.server_words.specs.declared.answers.Unreachable.{Unreachable}
 use Rattle.server_words.specs.declared.attach.AttachFault.{AttachFault}
 use Rattle.server_words.specs.declared.attach.AttachFault.TheVariants as attaching
+use Rattle.server_words.specs.declared.attach.Spot.{Spot}
 use Rattle.server_words.specs.declared.attach.Spot.TheVariants as spot
 use Rattle.server_words.specs.declared.changes.Ask.{Ask}
 use Rattle.server_words.specs.declared.changes.Ask.TheVariants as asking
@@ -34,13 +35,17 @@ use Rattle.operations.specs.declared.op.Aim.{Aim}
 use Rattle.operations.specs.declared.op.Aim.TheVariants as aim
 use Rattle.operations.specs.declared.op.Crossing.{Crossing}
 use Rattle.operations.specs.declared.op.Crossing.TheVariants as cross
+use Rattle.operations.specs.declared.matching.Match.{Match}
+use Rattle.operations.specs.declared.matching.MatchFault.{MatchFault}
+use Rattle.operations.specs.declared.matching.MatchFault.TheVariants as matching
 use Rattle.operations.specs.declared.op.Op.{Op}
 use Rattle.instance_keeper.specs.declared.bridge.Bridge.{Bridge}
 use Rattle.operations.specs.declared.sight.Position.{Position}
 use Rattle.operations.specs.declared.sight.Sight.{Sight}
 use Rattle.operations.specs.Deeds as deed
 use Rattle.operations.specs.Deeds.{Deed, deed_of}
-use Rattle.operations.specs.Jobs.{Job, position_of, seen_of, with_seen, without, with_hand}
+use Rattle.operations.specs.Jobs.{Job, match_found, position_of, seen_of, with_seen, without, with_hand}
+use Rattle.operations.specs.Matching.{match_logs, standing_at}
 use Rattle.operations.specs.Targets.{can_attach}
 use Rattle.instance_keeper.specs.Bridges.{bridge_by}
 
@@ -152,6 +157,21 @@ abbrev pub after_until : World → Job → List Op → ServerNo → Option Coord
 after_until w j rest n None = Goes None [] (next j rest)
 after_until w j rest n (Some to) = after_ask j rest n (asking.StartUntil to) (desk_answer (server_at w n.0))
 
+-- ---- matches
+
+abbrev pub cause_of_match : ServerNo → MatchFault → Cause
+cause_of_match n (matching.Unreachable k) = cause.Unreachable k
+cause_of_match n matching.NoMark = cause.NoMark n
+cause_of_match n (matching.Mismatch k) = cause.Mismatch n k
+
+-- the job that found a match
+abbrev pub with_match : Job → Match → Job
+with_match j m = record j { matches = j.matches ++ m ∷ [] }
+
+abbrev pub after_match : Job → List Op → ServerNo → ServerNo → Spot → Result Coord MatchFault → Attempt
+after_match j rest n m at (Ok c) = Goes None [] (next (with_match j (record { no = n; to = m; spot = at; at = c })) rest)
+after_match j rest n m at (Err fault) = Stops (cause_of_match n fault) None
+
 -- ---- waits
 
 -- one more wait; the last one fails the job
@@ -231,6 +251,11 @@ abbrev pub by_set : ServerNo → ServerNo → Option Position → Option Exchang
 by_set n m None = None
 by_set n m (Some s) = Some (AttachAuto n.0 s.set m)
 
+-- a server goes below another by the match that was found of the two
+abbrev pub by_match : ServerNo → ServerNo → Option Match → Option Exchange
+by_match n m None = None
+by_match n m (Some x) = Some (Attach n.0 x.spot m x.at)
+
 abbrev pub attach_answer_of : World → Exchange → Result (Unit {0}) AttachFault
 attach_answer_of w (Attach n expect to at) = (attach_at w n expect to at).0
 attach_answer_of w (AttachAuto n observed to) = (attach_auto w n observed to).0
@@ -273,6 +298,8 @@ by_deed w read now j rest (deed.Settle n) = after_wait j rest n (settles j) (see
 by_deed w read now j rest (deed.Cross c a b) = after_attach w j rest a (crossing_of j.seen c a b)
 by_deed w read now j rest (deed.Same n) = after_attach w j rest n (same_again n (seen_of j.seen n.0))
 by_deed w read now j rest (deed.Auto n m) = after_attach w j rest n (by_set n m (seen_of j.seen m.0))
+by_deed w read now j rest (deed.Match n m every) = after_match j rest n m (standing_at (server_at w n.0)) (match_logs w n m every)
+by_deed w read now j rest (deed.CrossMatch n m) = after_attach w j rest n (by_match n m (match_found j.matches n m))
 by_deed w read now j rest (deed.Finish lines) = Ends lines
 
 abbrev pub by_ops : World → ℕ → Moment → Job → List Op → Attempt

@@ -61,6 +61,11 @@ pub enum Op {
     Same(ServerNo),
     /// Attaches the first server to the second, by the GTIDs that were seen of the second.
     Auto(ServerNo, ServerNo),
+    /// Matches the log of the first server with that of the second, by marks, of which each transaction is one whose
+    /// number is divisible by this. The job keeps what it found.
+    Match(ServerNo, ServerNo, u64),
+    /// Attaches the first server to the second, by the match that was found of the two.
+    CrossMatch(ServerNo, ServerNo),
     /// Ends the job with these lines.
     Finish(Lines),
 }

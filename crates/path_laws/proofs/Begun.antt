@@ -9,10 +9,12 @@ use Rattle.instance_keeper.specs.Book.{BookState}
 use Rattle.book_views.specs.Sources.{replicas_of}
 use Rattle.server_model.specs.Worlds.{World}
 use Rattle.operations.specs.Jobs.{Job, job_with}
-use Rattle.operations.specs.Plans.{finished}
+use Rattle.operations.specs.Plans.{auto, finished}
 use Rattle.job_laws.specs.Footing.{footing}
 use Rattle.job_laws.specs.Leases.{Begins, leases_of}
 use Rattle.job_laws.proofs.Planned.{finished-held}
+use Rattle.job_laws.specs.Matched.{matched_in}
+use Rattle.job_laws.proofs.Matching.{each-matched, finished-matched}
 use Rattle.permission.specs.Checks.{busy, first_refusal, refusal_by, unknown_in, without_log}
 use Rattle.permission.specs.Lists.{first_about}
 use Rattle.permission.specs.Replicas.{replicas_but}
@@ -20,13 +22,14 @@ use Rattle.permission.specs.Rows.{about as about_given, about_one, refused}
 use Rattle.plan_parts.specs.Parts.{autos, following}
 use Rattle.regroup.specs.Commands.{regroup_command}
 use Rattle.regroup.specs.Permits.{case_of, leased_by, list_of, moving_list, passed_by, refusal_about, refusal_of, relocate_row, replicas_row, rest_refusal, row_of}
-use Rattle.regroup.specs.Plans.{moved_by, ops_of, plan_of, relocated}
+use Rattle.regroup.specs.Plans.{moved_by, ops_of, plan_of, relocated, travelled}
+use Rattle.regroup.specs.Ways.{path_of}
 use Rattle.regroup.specs.declared.command.RegroupCommand.{RegroupCommand}
 use Rattle.regroup.specs.declared.command.RegroupCommand.TheVariants as command
 use Rattle.move_laws.proofs.Beginning.{begins-with, logging}
 use Rattle.move_laws.proofs.Firsts.{each-none, neither}
 use Rattle.move_laws.proofs.Lists.{among-before, autos-held, autos-listed, finished-listed}
-use Rattle.path_laws.proofs.Plans.{among-last, among-middle, each-held, each-listed}
+use Rattle.path_laws.proofs.Plans.{among-last, among-middle, each-held, each-listed, travelled-matched}
 
 module _ (w : World) (b : BookState) (now : Moment) (jobs : List Job) (id wait : ℕ) where
   -- servers go below another one that logs
@@ -36,6 +39,7 @@ module _ (w : World) (b : BookState) (now : Moment) (jobs : List Job) (id wait :
   moved-begin movers d logs true used free =
       begins-with w b jobs (movers ++ d ∷ []) id wait (finished (autos movers d) (following movers d))
       (finished-held (footing w []) (autos movers d) (following movers d) (autos-held (footing w []) movers d used (logging w b d [] logs)))
+      (finished-matched (matched_in []) (autos movers d) (following movers d) (each-matched (λ r. auto r d) movers (λ more r. refl) (matched_in [])))
       (finished-listed (movers ++ d ∷ []) (autos movers d) (following movers d) (autos-listed (movers ++ d ∷ []) movers d (among-before movers (d ∷ [])))) free
   moved-begin movers d logs false used free =
       let passed = passed_by false b movers (Some d) in
@@ -43,13 +47,14 @@ module _ (w : World) (b : BookState) (now : Moment) (jobs : List Job) (id wait :
       let ops = moved_by false b movers d in
       begins-with w b jobs list id wait (finished ops (following movers d))
       (finished-held (footing w []) ops (following movers d) (each-held (footing w []) b movers d (logging w b d [] logs)))
+      (finished-matched (matched_in []) ops (following movers d) (each-matched (λ n. travelled n d (path_of b n d)) movers (λ more n. travelled-matched more n d (path_of b n d)) (matched_in [])))
       (finished-listed list ops (following movers d)
       (each-listed list b movers d (among-before movers (d ∷ passed)) (among-middle movers passed d) (among-last movers passed d))) free
 
   relocated-begin : (movers : List ServerNo) (d : Option ServerNo) → first_about (without_log w) (option_to_list d) ≡ None
       → first_about (busy b) (moving_list w b movers d) ≡ None
       → Begins w jobs (leases_of b.leases) (moving_list w b movers d) (job_with id wait (relocated w.gtid b movers d))
-  relocated-begin movers None logs free = begins-with w b jobs (moving_list w b movers None) id wait [] refl refl free
+  relocated-begin movers None logs free = begins-with w b jobs (moving_list w b movers None) id wait [] refl refl refl free
   relocated-begin movers (Some d) logs free = moved-begin movers d logs w.gtid refl free
 
   -- the checks that a job stands on
@@ -72,7 +77,7 @@ module _ (w : World) (b : BookState) (now : Moment) (jobs : List Job) (id wait :
   about command.RelocateReplicas i d h = let t = each-checked i d w.gtid h in relocated-begin (replicas_but b i d) d t.1 t.0
   about command.RegroupReplicas i d h =
       let t = each-none (map (refusal_by w b (case_of w b command.RegroupReplicas i d)) (row_of w.gtid command.RegroupReplicas)) h in
-      begins-with w b jobs (i ∷ replicas_of b i) id wait [] refl refl t.0
+      begins-with w b jobs (i ∷ replicas_of b i) id wait [] refl refl refl t.0
 
 pub permitted-begin : (w : World) (b : BookState) (now : Moment) (jobs : List Job) (given : Command) (id wait : ℕ) → refusal_of w b now given ≡ None
     → Begins w jobs (leases_of b.leases) (leased_by w b given) (job_with id wait (plan_of w b given))
@@ -80,12 +85,12 @@ permitted-begin w b now jobs given id wait h = go (regroup_command given.name) h
   where
     with_i : (c : RegroupCommand) (o : Option ServerNo) → about_one None (refusal_about w b now c) o given.d ≡ None
         → Begins w jobs (leases_of b.leases) (about_one [] (list_of w b c) o given.d) (job_with id wait (about_one [] (ops_of w b c) o given.d))
-    with_i c None h = begins-with w b jobs [] id wait [] refl refl refl
+    with_i c None h = begins-with w b jobs [] id wait [] refl refl refl refl
     with_i c (Some i) h =
         about w b now jobs id wait c i given.d
         (neither (first_refusal w b (case_of w b c i given.d) (row_of w.gtid c)) (rest_refusal w b now c i given.d) h).0
 
     go : (c : Option RegroupCommand) → refused b (refusal_about w b now) c given ≡ None
         → Begins w jobs (leases_of b.leases) (about_given [] (list_of w b) c given) (job_with id wait (about_given [] (ops_of w b) c given))
-    go None h = begins-with w b jobs [] id wait [] refl refl refl
+    go None h = begins-with w b jobs [] id wait [] refl refl refl refl
     go (Some c) h = with_i c given.i (neither (unknown_in b given) (about_one None (refusal_about w b now c) given.i given.d) h).1

@@ -11,6 +11,8 @@ use Rattle.operations.specs.Deeds.{deed_of}
 use Rattle.operations.specs.Plans.{under, up}
 use Rattle.operations.specs.declared.op.Op.{Op}
 use Rattle.operations.proofs.Tests.{both}
+use Rattle.job_laws.specs.Matched.{Matched, are_matched}
+use Rattle.job_laws.proofs.Matching.{matched-append}
 use Rattle.job_laws.specs.Footing.{Footing, are_held}
 use Rattle.job_laws.specs.Leases.{are_listed, is_in}
 use Rattle.job_laws.proofs.Planned.{again-held, held-append, under-held, up-held}
@@ -49,6 +51,24 @@ each-held f b [] d logs = refl
 each-held f b (r ∷ rs) d logs =
     held-append f (travelled r d (path_of b r d)) (flat_map (λ n. travelled n d (path_of b n d)) rs)
     (travelled-held f r d (path_of b r d) logs (path-apart b r d)) (λ g base. each-held g b rs d (base.logs d.0 logs))
+
+-- ---- none of them goes by a match
+
+climbed-matched : (has : Matched) (n : ServerNo) (xs : List ServerNo) (to : ServerNo) → are_matched has (climbed n xs to) ≡ true
+climbed-matched has n [] to = refl
+climbed-matched has n (x ∷ xs) to = climbed-matched has n xs to
+
+ascended-matched : (has : Matched) (n d : ServerNo) (xs : List ServerNo) → are_matched has (ascended n d xs) ≡ true
+ascended-matched has n d [] = refl
+ascended-matched has n d (x ∷ xs) = climbed-matched has n (x ∷ xs) d
+
+arrived-matched : (has : Matched) (n d : ServerNo) (xs : List ServerNo) (o : Option ServerNo) → are_matched has (arrived n d xs o) ≡ true
+arrived-matched has n d xs None = ascended-matched has n d xs
+arrived-matched has n d xs (Some s) = matched-append has (climbed n xs s) (under n d s) (climbed-matched has n xs s) (λ more. refl)
+
+pub travelled-matched : (has : Matched) (n d : ServerNo) (o : Option Path) → are_matched has (travelled n d o) ≡ true
+travelled-matched has n d None = refl
+travelled-matched has n d (Some p) = arrived-matched has n d p.passed p.under
 
 -- ---- operations that are listed
 

@@ -9,6 +9,7 @@ use Rattle.kept_rows.specs.declared.observation.Observation.{Observation}
 use Rattle.kept_rows.specs.Seeing.{seen_in}
 use Rattle.server_words.specs.declared.answers.Unreachable.{Unreachable}
 use Rattle.server_words.specs.declared.attach.AttachFault.{AttachFault}
+use Rattle.server_words.specs.declared.attach.Spot.{Spot}
 use Rattle.server_words.specs.declared.changes.Ask.{Ask}
 use Rattle.server_words.specs.declared.changes.Ask.TheVariants as asking
 use Rattle.server_words.specs.declared.status.Status.{Status}
@@ -18,13 +19,15 @@ use Rattle.server_model.specs.Run.{Exchange}
 use Rattle.server_model.specs.Worlds.{World, server_at}
 use Rattle.commands.specs.declared.cause.Cause.TheVariants as cause
 use Rattle.operations.specs.declared.op.Crossing.TheVariants as cross
+use Rattle.operations.specs.declared.matching.MatchFault.{MatchFault}
 use Rattle.operations.specs.declared.op.Op.{Op}
 use Rattle.operations.specs.declared.op.Op.TheVariants as op
 use Rattle.operations.specs.Deeds as deed
 use Rattle.operations.specs.Deeds.{Deed, deed_of}
-use Rattle.operations.specs.Jobs.{Job, seen_of}
+use Rattle.operations.specs.Jobs.{Job, match_found, seen_of}
+use Rattle.operations.specs.Matching.{match_logs, standing_at}
 use Rattle.operations.specs.Targets.{can_attach}
-use Rattle.operations.specs.Turns.{bridge_at, Attempt, Goes, Stops, Ends, next, saw, observed, is_moved, after_status, after_look, after_ask, aim_of, is_reached, until_by, after_until, after_wait_by, after_wait, holds_seen, settles, read_by, crossed, same_again, by_set, attach_answer_of, after_answer, after_attach, by_deed}
+use Rattle.operations.specs.Turns.{bridge_at, Attempt, Goes, Stops, Ends, next, saw, observed, is_moved, after_status, after_look, after_ask, aim_of, is_reached, until_by, after_until, after_wait_by, after_wait, holds_seen, settles, read_by, crossed, same_again, by_set, with_match, after_match, by_match, attach_answer_of, after_answer, after_attach, by_deed}
 use Rattle.recovery_plans.specs.declared.stage.Stage.{Stage}
 use Rattle.recovery_plans.specs.declared.stage.Stage.TheVariants as stage
 use Rattle.recovery_plans.specs.declared.task.Way.TheVariants as way
@@ -93,6 +96,10 @@ module _ (j : Job) (rest : List Op) where
       by true = go (attach_answer_of w e)
       by false = done-went [] (next j rest) refl refl
 
+  match-went : (n m : ServerNo) (at : Spot) (r : Result Coord MatchFault) → Went j rest (after_match j rest n m at r)
+  match-went n m at (Ok c) = done-went [] (next (with_match j (record { no = n; to = m; spot = at; at = c })) rest) refl refl
+  match-went n m at (Err f) = tt
+
   pub deed-went : (w : World) (read : ℕ) (now : Moment) (d : Deed) → Went j rest (by_deed w read now j rest d)
   deed-went w read now (deed.Look n from) = look-went n from (observed w read now n) (seen_in (status w n.0))
   deed-went w read now (deed.Request n a) = ask-went n a (desk_answer (server_at w n.0))
@@ -103,6 +110,8 @@ module _ (j : Job) (rest : List Op) where
   deed-went w read now (deed.Cross c a b) = attach-went w a (crossed c a (bridge_at (read_by c a b) (seen_of j.seen (read_by c a b).0)))
   deed-went w read now (deed.Same n) = attach-went w n (same_again n (seen_of j.seen n.0))
   deed-went w read now (deed.Auto n m) = attach-went w n (by_set n m (seen_of j.seen m.0))
+  deed-went w read now (deed.Match n m every) = match-went n m (standing_at (server_at w n.0)) (match_logs w n m every)
+  deed-went w read now (deed.CrossMatch n m) = attach-went w n (by_match n m (match_found j.matches n m))
   deed-went w read now (deed.Finish lines) = tt
 
 -- ---- the operations of a stage

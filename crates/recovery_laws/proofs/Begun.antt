@@ -5,6 +5,7 @@ use Rattle.std.proofs.lemmas.List.Elements.{All-nil, All-cons}
 use Rattle.orch_base.specs.declared.server.ServerNo.{ServerNo}
 use Rattle.server_model.specs.Worlds.{World}
 use Rattle.job_laws.specs.Footing.{footing, are_held}
+use Rattle.job_laws.specs.Matched.{IsPlaced, Meets, are_matched, matched_in}
 use Rattle.recovery_plans.specs.declared.purpose.Purpose.{Purpose}
 use Rattle.recovery_plans.specs.declared.purpose.Purpose.TheVariants as purpose
 use Rattle.recovery_plans.specs.declared.stage.Stage.TheVariants as stage
@@ -39,9 +40,15 @@ first-held w purpose.Master f = refl
 first-held w (purpose.Intermediate s) f = refl
 first-held w (purpose.Takeover d) f = refl
 
+first-free : (u : Purpose) (f : ServerNo) → are_matched (matched_in []) (first_ops u f) ≡ true
+first-free purpose.Regroup f = refl
+first-free purpose.Master f = refl
+first-free (purpose.Intermediate s) f = refl
+first-free (purpose.Takeover d) f = refl
+
 pub begun-held : (w : World) (u : Purpose) (id wait : ℕ) (f : ServerNo) (ns order : List ServerNo) → HeldRecovery w (begun_recovery u id wait f ns order)
 begun-held w u id wait f ns order = record {
-  core = record { left = first-held w u f; shown = λ n s h. cc };
+  core = record { left = first-held w u f; shown = λ n s h. cc; matched = first-free u f; ends = All-nil (IsPlaced w) };
   stage = first-ready w u f;
   fits = first-fits u f;
   queue = first-all (IsReady w []) tt tt tt u ns (λ n e. tt) (each (λ n. Unit {0}) ns (λ n. tt)) (λ d. each (λ n. Unit {0}) (but ns d) (λ n. tt)) (λ d e. tt);
@@ -58,6 +65,7 @@ first-sound w (purpose.Takeover d) f = tt
 pub begun-sound : (w : World) (u : Purpose) (id wait : ℕ) (f : ServerNo) (ns order : List ServerNo) → SoundRecovery w (begun_recovery u id wait f ns order)
 begun-sound w u id wait f ns order = record {
   core = λ n s h. cc;
+  met = All-nil (Meets w);
   stage = first-sound w u f;
   queue = first-all (IsSoundTask w) tt tt tt u ns (λ n e. tt) (each (λ n. Unit {0}) ns (λ n. tt)) (λ d. each (λ n. Unit {0}) (but ns d) (λ n. tt)) (λ d e. tt);
   drained = All-nil (IsSoundStop w f);

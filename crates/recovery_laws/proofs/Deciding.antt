@@ -19,6 +19,7 @@ use Rattle.operations.specs.Jobs.{seen_of}
 use Rattle.operations.proofs.Tests.{both}
 use Rattle.job_laws.specs.Footing.{Footing, footing, finds, are_held, is_under, source_shown}
 use Rattle.job_laws.specs.Held.{Spans}
+use Rattle.job_laws.specs.Matched.{Matched, are_matched, matched_in}
 use Rattle.job_laws.proofs.Lists.{All-at}
 use Rattle.job_laws.proofs.Sights.{seen-at}
 use Rattle.recovery_plans.specs.declared.outcome.Stopped.{Stopped}
@@ -57,9 +58,10 @@ closing-held f o r each = both (finds f (deed_of o)) true (each f) refl
 
 module _ (w : World) where
   -- a stage begins with held operations
-  pub working-held : (r : Recovery) (s : Stage) (ops : List Op) → HeldRecovery w r → IsReadyStage w s → are_held (footing w r.core.seen) ops ≡ true → Fits s ops → HeldRecovery w (working r s ops)
-  working-held r s ops held ready left fits = record {
-    core = record { left = left; shown = held.core.shown };
+  pub working-held : (r : Recovery) (s : Stage) (ops : List Op) → HeldRecovery w r → IsReadyStage w s → are_held (footing w r.core.seen) ops ≡ true
+      → ((has : Matched) → are_matched has ops ≡ true) → Fits s ops → HeldRecovery w (working r s ops)
+  working-held r s ops held ready left free fits = record {
+    core = record { left = left; shown = held.core.shown; matched = free (matched_in r.core.matches); ends = held.core.ends };
     stage = ready;
     fits = fits;
     queue = held.queue;
@@ -87,6 +89,11 @@ module _ (w : World) where
   way-held xs n (way.Auto to exec) s =
       both (finds (footing w xs) (deed_of (op.Auto n to))) true (both w.gtid _ s.gtid (both (is_some (seen_of xs to.0)) (logs_at w to) s.read s.logs)) refl
 
+  way-free : (by : Way) (n : ServerNo) (has : Matched) → are_matched has (move by n ∷ op.Start n ∷ []) ≡ true
+  way-free (way.Down b) n has = refl
+  way-free (way.Up b) n has = refl
+  way-free (way.Auto to exec) n has = refl
+
   way-shown : (r : Recovery) (by : Way) → HeldRecovery w r → IsReadyWay w r.core.seen by → Rattle.job_laws.specs.Held.AllShow w (with_way r.core.seen by)
   way-shown r (way.Down b) held s = bridge-shown w r.core.seen b held.core.shown s
   way-shown r (way.Up b) held s = bridge-shown w r.core.seen b held.core.shown s
@@ -94,7 +101,7 @@ module _ (w : World) where
 
   pub moving-held : (r : Recovery) (n : ServerNo) (by : Way) → HeldRecovery w r → IsReadyWay w r.core.seen by → HeldRecovery w (moving r n by)
   moving-held r n by held ready = record {
-    core = record { left = way-held r.core.seen n by ready; shown = way-shown r by held ready };
+    core = record { left = way-held r.core.seen n by ready; shown = way-shown r by held ready; matched = way-free by n (matched_in r.core.matches); ends = held.core.ends };
     stage = tt;
     fits = tail-fits (stage.Move n by);
     queue = queue-more w r.core.seen (with_way r.core.seen by) (way-read r.core.seen by) r.queue held.queue;
@@ -175,21 +182,26 @@ module _ (w : World) (b : BookState) (now : Moment) (rings : HeldRings w b.rings
 
   pub decides-held : (r : Recovery) (d : Decision) → MayDecide w b now r d → HeldRecovery w r → HeldRecovery w (decided_by w b now r d)
   decides-held r (by.Reads n ts) next held =
-      working-held w (record r { queue = ts }) (stage.Read n) (op.Status n None ∷ []) (next-held r (task.Reading n) ts next held).1 tt refl (front-fits (stage.Read n) (op.Status n None ∷ []) refl refl refl)
+      working-held w (record r { queue = ts }) (stage.Read n) (op.Status n None ∷ []) (next-held r (task.Reading n) ts next held).1 tt refl (λ has. refl) (front-fits (stage.Read n) (op.Status n None ∷ []) refl refl refl)
   decides-held r (by.Drains n ts) next held =
-      working-held w (record r { queue = ts }) (stage.Drain n) (drain n) (next-held r (task.Draining n) ts next held).1 tt refl
+      working-held w (record r { queue = ts }) (stage.Drain n) (drain n) (next-held r (task.Draining n) ts next held).1 tt refl (λ has. refl)
       (record { front = op.StopReceiver n ∷ op.Settle n ∷ op.Stop n ∷ []; still = refl; is = refl; due = λ h. cc })
   decides-held r (by.Sends n way ts) next held = let h = next-held r (task.Moving n way) ts next held in moving-held w (record r { queue = ts }) n way h.1 h.0
-  decides-held r (by.Expels n ts) next held = working-held w (record r { queue = ts }) (stage.Expel n) _ (next-held r (task.Expelling n) ts next held).1 tt refl (tail-fits (stage.Expel n))
+  decides-held r (by.Expels n ts) next held = working-held w (record r { queue = ts }) (stage.Expel n) _ (next-held r (task.Expelling n) ts next held).1 tt refl (λ has. refl) (tail-fits (stage.Expel n))
   decides-held r (by.Releases n ts) next held =
-      working-held w (record r { queue = ts }) (stage.Release n) (op.Start n ∷ []) (next-held r (task.Releasing n) ts next held).1 tt refl (front-fits (stage.Release n) (op.Start n ∷ []) refl refl refl)
+      working-held w (record r { queue = ts }) (stage.Release n) (op.Start n ∷ []) (next-held r (task.Releasing n) ts next held).1 tt refl (λ has. refl) (front-fits (stage.Release n) (op.Start n ∷ []) refl refl refl)
   decides-held r (by.Looks n x ts) (next, e) held =
-      working-held w (record r { queue = ts }) (stage.Look n x) (op.Status n None ∷ []) (next-held r (task.Trailing n) ts next held).1 (lead-of r x e held).spans refl (tail-fits (stage.Look n x))
+      working-held w (record r { queue = ts }) (stage.Look n x) (op.Status n None ∷ []) (next-held r (task.Trailing n) ts next held).1 (lead-of r x e held).spans refl (λ has. refl) (tail-fits (stage.Look n x))
   decides-held r (by.Yields x ts) (next, e) held =
       let h = (next-held r task.Yielding ts next held).1 in
       let lead = lead-of r x e held in
       record {
-        core = record { left = about-held w r.core.seen r.failed x lead; shown = bridge-shown w r.core.seen x held.core.shown lead.spans };
+        core = record {
+          left = about-held w r.core.seen r.failed x lead;
+          shown = bridge-shown w r.core.seen x held.core.shown lead.spans;
+          matched = refl;
+          ends = held.core.ends;
+        };
         stage = tt;
         fits = tail-fits (stage.Yield r.failed x.no);
         queue = queue-more w r.core.seen (with_bridge r.core.seen x) (saw-read r.core.seen x.no (sight_of x)) ts h.queue;
@@ -206,13 +218,13 @@ module _ (w : World) (b : BookState) (now : Moment) (rings : HeldRings w b.rings
   decides-held r (by.Passes ts) g held = (next-held r task.Handing ts g.0 held).1
   decides-held r (by.Sorts ts) next held = sort-held (record r { queue = ts }) (next-held r task.Sorting ts next held).1
   decides-held r (by.Levels p q) g held =
-      working-held w (record r { swaps = false }) (stage.Level p q) (level p q) held tt (level-held (footing w r.core.seen) p q (better-logs r p q g.3))
+      working-held w (record r { swaps = false }) (stage.Level p q) (level p q) held tt (level-held (footing w r.core.seen) p q (better-logs r p q g.3)) (λ has. refl)
       (record { front = op.Status p None ∷ op.Status q (Some p) ∷ op.Until q _ ∷ op.Await q _ ∷ op.Stop q ∷ op.Status q (Some p) ∷ []; still = refl; is = refl; due = λ h. cc })
   decides-held r by.Remains g held = held
-  decides-held r (by.Crowns p) g held = working-held w r (stage.Crown p) _ held tt refl (tail-fits (stage.Crown p))
+  decides-held r (by.Crowns p) g held = working-held w r (stage.Crown p) _ held tt refl (λ has. refl) (tail-fits (stage.Crown p))
   decides-held r (by.Rejoins p) g held =
-      working-held w r (stage.Close (told r)) (op.Start p ∷ op.Finish (told r) ∷ []) held tt refl (record { front = op.Start p ∷ []; still = refl; is = refl; due = λ h. cc })
-  decides-held r by.Closes g held = working-held w r (stage.Close (told r)) (op.Finish (told r) ∷ []) held tt refl (tail-fits (stage.Close (told r)))
+      working-held w r (stage.Close (told r)) (op.Start p ∷ op.Finish (told r) ∷ []) held tt refl (λ has. refl) (record { front = op.Start p ∷ []; still = refl; is = refl; due = λ h. cc })
+  decides-held r by.Closes g held = working-held w r (stage.Close (told r)) (op.Finish (told r) ∷ []) held tt refl (λ has. refl) (tail-fits (stage.Close (told r)))
 
 pub decided-held : (w : World) (b : BookState) (now : Moment) (r : Recovery) → HeldRings w b.rings → HeldRecovery w r → HeldRecovery w (decided w b now r)
 decided-held w b now r rings held = decisions-keep w b now (HeldRecovery w) (decides-held w b now rings) (decided-walks w b now r) held

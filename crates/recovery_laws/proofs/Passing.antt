@@ -14,6 +14,7 @@ use Rattle.operations.specs.Turns.{is_going}
 use Rattle.job_laws.specs.Flights.{Flight, Held, Sound, IsShown, IsShownBridged}
 use Rattle.job_laws.specs.Held.{HeldJob}
 use Rattle.job_laws.specs.Leases.{IsLeased, KeepsLeases, Leases, MayChange}
+use Rattle.job_laws.specs.Matched.{AllMeet, IsPlaced, Meets}
 use Rattle.job_laws.specs.Passages.{MayTake, TakesWell}
 use Rattle.job_laws.specs.Sound.{AllBridged, IsBridged}
 use Rattle.job_laws.proofs.Passing.{observed-bridged, observed-shown}
@@ -34,7 +35,7 @@ use Rattle.recovery_laws.proofs.Taking.{taken-held}
 -- nothing is left of a job that is ended, and it saw nothing
 
 none-held : (w : World) (id : ℕ) → HeldJob w (job_with id 0 [])
-none-held w id = record { left = refl; shown = λ n s h. cc }
+none-held w id = record { left = refl; shown = λ n s h. cc; matched = refl; ends = All-nil (IsPlaced w) }
 
 held-core : (w : World) (id : ℕ) (r : Recovery) (b : Bool) → (b ≡ true → HeldRecovery w r) → HeldJob w (core_by id r b)
 held-core w id r true held = (held refl).core
@@ -43,6 +44,10 @@ held-core w id r false held = none-held w id
 bridged-core : (w : World) (id : ℕ) (r : Recovery) (b : Bool) → (b ≡ true → SoundRecovery w r) → AllBridged w (core_by id r b).seen
 bridged-core w id r true sound = (sound refl).core
 bridged-core w id r false sound = λ n s h. cc
+
+met-core : (w : World) (id : ℕ) (r : Recovery) (b : Bool) → (b ≡ true → SoundRecovery w r) → AllMeet w (core_by id r b).matches
+met-core w id r true sound = (sound refl).met
+met-core w id r false sound = All-nil (Meets w)
 
 leased-core : (l : Leases) (id : ℕ) (t : Taken) → KeepsLeased l id t → (b : Bool) → (b ≡ true → is_going t.step ≡ true) → KeepsLeases l id (record (as_turn id t) { job = core_by id t.recovery b })
 leased-core l id t keeps true going =
@@ -97,6 +102,10 @@ module _ (f : Flight) (b : BookState) (id read : ℕ) (now : Moment) (r : Recove
   recovery-passes-well sound standing good =
       let after = sound-turn sound standing good in
       record {
-        sound = record { joins = after.joins; bridged = bridged-core _ id (taken f.world b read now r).recovery (is_going (taken f.world b read now r).step) after.sound };
+        sound = record {
+          joins = after.joins;
+          bridged = bridged-core _ id (taken f.world b read now r).recovery (is_going (taken f.world b read now r).step) after.sound;
+          met = met-core _ id (taken f.world b read now r).recovery (is_going (taken f.world b read now r).step) after.sound;
+        };
         bridged = by-some _ (taken f.world b read now r).observation (bridged-after sound.safe);
       }

@@ -34,6 +34,7 @@ use Rattle.job_laws.specs.Footing.{footing, finds, are_held}
 use Rattle.job_laws.specs.Sound.{IsBridged, AllBridged, KeepsSound}
 use Rattle.job_laws.proofs.Bridging.{crossing-joins, stands-at}
 use Rattle.job_laws.proofs.Lists.{All-at}
+use Rattle.job_laws.proofs.Matching.{AllMeet-run}
 use Rattle.job_laws.proofs.Turns.{with-one, goes-kept, goes-sound, restarts-join, AllBridged-run}
 use Rattle.replica_groups.specs.declared.groups.Group.TheVariants as group
 use Rattle.replica_groups.specs.Groups.{by_bridge, group_of}
@@ -82,13 +83,13 @@ way-bridged w xs (way.Auto to exec) all s = all
 
 module _ (w : World) where
   begun-sound : (r : Recovery) (x : Stage) (ops : List Op) → SoundRecovery w r → IsSoundStage w x → SoundRecovery w (working r x ops)
-  begun-sound r x ops s h = record { core = s.core; stage = h; queue = s.queue; drained = s.drained; lead = s.lead }
+  begun-sound r x ops s h = record { core = s.core; met = s.met; stage = h; queue = s.queue; drained = s.drained; lead = s.lead }
 
   moving-sound : (r : Recovery) (n : ServerNo) (by : Way) → SoundRecovery w r → IsSoundWay w by → SoundRecovery w (moving r n by)
-  moving-sound r n by s h = record { core = way-bridged w r.core.seen by s.core h; stage = tt; queue = s.queue; drained = s.drained; lead = s.lead }
+  moving-sound r n by s h = record { core = way-bridged w r.core.seen by s.core h; met = s.met; stage = tt; queue = s.queue; drained = s.drained; lead = s.lead }
 
   idle-sound : (r : Recovery) → SoundRecovery w r → SoundRecovery w (idle r)
-  idle-sound r s = record { core = s.core; stage = tt; queue = s.queue; drained = s.drained; lead = s.lead }
+  idle-sound r s = record { core = s.core; met = s.met; stage = tt; queue = s.queue; drained = s.drained; lead = s.lead }
 
 abbrev IsHeldAndSound : World → Recovery → Type 0
 IsHeldAndSound w r = HeldRecovery w r × SoundRecovery w r
@@ -140,7 +141,7 @@ module _ (w : World) (b : BookState) (now : Moment) (rings : HeldRings w b.rings
   -- with another queue and other drained ones
   queued-sound : (r : Recovery) (ts : List Task) (ds : List Stopped) → SoundRecovery w r → All (IsSoundTask w) ts → All (IsSoundStop w r.failed) ds
       → SoundRecovery w (record r { queue = ts; drained = ds })
-  queued-sound r ts ds s queue drained = record { core = s.core; stage = s.stage; queue = queue; drained = drained; lead = s.lead }
+  queued-sound r ts ds s queue drained = record { core = s.core; met = s.met; stage = s.stage; queue = queue; drained = drained; lead = s.lead }
 
   next-sound : (r : Recovery) (t : Task) (ts : List Task) → IsNext r t ts → SoundRecovery w r → IsSoundTask w t × SoundRecovery w (record r { queue = ts })
   next-sound r t ts next s =
@@ -189,7 +190,7 @@ module _ (w : World) (b : BookState) (now : Moment) (rings : HeldRings w b.rings
       let out = filter (λ (n : ServerNo). expels r.purpose (why_of r.outcome.lost n)) r.replicas in
       let free = filter (λ (n : ServerNo). releases r.purpose (why_of r.outcome.lost n)) r.replicas in
       record {
-        core = s.core;
+        core = s.core; met = s.met;
         stage = s.stage;
         queue =
             All-append (IsSoundTask w) (map task.Expelling out) (map task.Releasing free ++ r.queue) (sound-map task.Expelling out (λ n. tt))
@@ -208,7 +209,7 @@ module _ (w : World) (b : BookState) (now : Moment) (rings : HeldRings w b.rings
       begun-sound w (record r { queue = ts }) (stage.Look n x) (op.Status n None ∷ []) (next-sound r (task.Trailing n) ts next s).1 (lead-of r x e s)
   decides-sound r (by.Yields x ts) (next, e) held s =
       let h = (next-sound r task.Yielding ts next s).1 in
-      record { core = seen-bridged w r.core.seen x s.core (lead-of r x e s); stage = tt; queue = h.queue; drained = s.drained; lead = s.lead }
+      record { core = seen-bridged w r.core.seen x s.core (lead-of r x e s); met = s.met; stage = tt; queue = h.queue; drained = s.drained; lead = s.lead }
   decides-sound r (by.Sticks t ts) g held s = queued-sound r [] r.drained s (All-nil (IsSoundTask w)) s.drained
   decides-sound r (by.Chooses p ts) (next, e) held s = chooses-sound (record r { queue = ts }) p held.drained (next-sound r task.Choosing ts next s).1 e
   decides-sound r (by.ChoosesNobody ts) g held s = queued-sound r [] [] s (All-nil (IsSoundTask w)) (All-nil (IsSoundStop w r.failed))
@@ -265,6 +266,7 @@ module _ (w : World) (es : List Exchange) (placed : Placed w) (allowed : AllAllo
   pub others-sound : (r : Recovery) → SoundRecovery w r → SoundRecovery (run w es) r
   others-sound r s = record {
     core = AllBridged-run w es r.core.seen placed allowed s.core;
+    met = AllMeet-run w es placed allowed r.core.matches s.met;
     stage = stage-on r.stage s.stage;
     queue = All-weaker (IsSoundTask w) (IsSoundTask (run w es)) task-on r.queue s.queue;
     drained = All-weaker (IsSoundStop w r.failed) (IsSoundStop (run w es) r.failed) (λ d h own e. stands-on (stopped_bridge r.failed d own) (h own e)) r.drained s.drained;
@@ -291,7 +293,7 @@ module _ (w : World) where
   completes-sound : (r : Recovery) (e : Ending) → MayEnd r e → SoundRecovery w r → SoundRecovery w (ended_by r e)
   completes-sound r by.Rests may s = idle-sound w r s
   completes-sound r (by.Stays n x) may s = record {
-    core = s.core;
+    core = s.core; met = s.met;
     stage = tt;
     queue = s.queue;
     drained = All-push (IsSoundStop w r.failed) r.drained _ s.drained (λ own end. s.core n.0 x may.1 r.failed.0 own (source-is (source_no x.source) r.failed may.2) end);
@@ -301,10 +303,10 @@ module _ (w : World) where
   completes-sound r (by.Frees n why) may s = begun-sound w (loses r n why) (stage.Release n) (op.Start n ∷ []) s tt
   completes-sound r (by.Follows n p) may s = idle-sound w (follows r n p) s
   completes-sound r (by.Marks n) may s = idle-sound w r s
-  completes-sound r (by.Leads d) may s = record { core = s.core; stage = tt; queue = s.queue; drained = s.drained; lead = lead-sound r d s }
+  completes-sound r (by.Leads d) may s = record { core = s.core; met = s.met; stage = tt; queue = s.queue; drained = s.drained; lead = lead-sound r d s }
   completes-sound r (by.Trails n x) may s =
       let h = stage-of r (stage.Looked n x) may.0 s in
-      record { core = seen-bridged w r.core.seen x s.core h; stage = h; queue = s.queue; drained = s.drained; lead = s.lead }
+      record { core = seen-bridged w r.core.seen x s.core h; met = s.met; stage = h; queue = s.queue; drained = s.drained; lead = s.lead }
   completes-sound r (by.Joins n x) may s = moving-sound w r n (way.Down x) s (stage-of r (stage.Halted n x) may.0 s)
   completes-sound r (by.Swaps p q) may s = begun-sound w (swapped r p q) (stage.Open q) (op.Start p ∷ op.ReadOnly q false ∷ []) s tt
   completes-sound r (by.Switches m d) may s = begun-sound w (follows r m d) (stage.Open d) (op.ReadOnly d false ∷ []) s tt
@@ -324,8 +326,8 @@ module _ (w : World) where
   stepped-sound r o s = go (ends r.stage (deed_of o))
     where
       enter : (k : Option ServerNo) → SoundRecovery w (record (follows_no_more r k) { stage = moved r.stage })
-      enter None = record { core = s.core; stage = moved-sound r.stage s.stage; queue = s.queue; drained = s.drained; lead = s.lead }
-      enter (Some n) = record { core = s.core; stage = moved-sound r.stage s.stage; queue = s.queue; drained = s.drained; lead = s.lead }
+      enter None = record { core = s.core; met = s.met; stage = moved-sound r.stage s.stage; queue = s.queue; drained = s.drained; lead = s.lead }
+      enter (Some n) = record { core = s.core; met = s.met; stage = moved-sound r.stage s.stage; queue = s.queue; drained = s.drained; lead = s.lead }
 
       go : (c : Bool) → SoundRecovery w (cond c (entered r (moved r.stage)) r)
       go true = enter (leaver (moved r.stage))
@@ -387,13 +389,13 @@ last-joins w r safe held all =
 module _ (w : World) (b : BookState) (read : ℕ) (now : Moment) (safe : Safe w) (placed : Placed w) (rings : HeldRings w b.rings) (stand : SoundRings w b.rings) where
   module _ (r : Recovery) (o : Op) (rest : List Op) (ob : Option Observation) (es : List Exchange) (j : Job) (did : Does w read now r o rest ob es j) (h : IsHeldAndSound w r) where
     well : KeepsSound w (going ob es j)
-    well = goes-sound w read now r.core j rest (deed_of o) ob es safe placed h.0.core.shown h.1.core (due w read now r o rest placed h.0 did.ops) did.goes
+    well = goes-sound w read now r.core j rest (deed_of o) ob es safe placed h.0.core.shown h.1.core h.1.met (due w read now r o rest placed h.0 did.ops) did.goes
 
     does-sound : SoundRecovery (run w es) (record r { core = j })
     does-sound =
-        let kept = goes-kept w read now r.core j rest (deed_of o) ob es placed h.0.core.shown (due w read now r o rest placed h.0 did.ops) did.goes in
+        let kept = goes-kept w read now r.core j rest (deed_of o) ob es placed h.0.core.shown h.0.core.ends (due w read now r o rest placed h.0 did.ops) did.goes in
         let on = others-sound w es placed kept.allowed r h.1 in
-        record { core = well.bridged; stage = on.stage; queue = on.queue; drained = on.drained; lead = on.lead }
+        record { core = well.bridged; met = well.met; stage = on.stage; queue = on.queue; drained = on.drained; lead = on.lead }
 
   keeps-sound : Keeps w b read now (IsHeldAndSound w) (λ v r. SoundRecovery v r) (λ v r. SoundRecovery v r)
   keeps-sound = record {

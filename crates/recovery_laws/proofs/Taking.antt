@@ -105,7 +105,7 @@ module _ (w : World) where
       }
 
   frees-held : (r : Recovery) (n : ServerNo) (why : Lost) → HeldRecovery w r → HeldRecovery w (frees r n why)
-  frees-held r n why held = working-held w (loses r n why) (stage.Release n) (op.Start n ∷ []) held tt refl (front-fits (stage.Release n) (op.Start n ∷ []) refl refl refl)
+  frees-held r n why held = working-held w (loses r n why) (stage.Release n) (op.Start n ∷ []) held tt refl (λ has. refl) (front-fits (stage.Release n) (op.Start n ∷ []) refl refl refl)
 
   -- the bridge that was seen of the designated replica
   lead-held : (r : Recovery) (d : ServerNo) → HeldRecovery w r → IfSome (lead_under r.failed (bridge_at d (seen_of r.core.seen d.0))) (IsLead w r.failed)
@@ -122,7 +122,7 @@ module _ (w : World) where
   trail-held : (r : Recovery) (n : ServerNo) (b : Bridge) → HeldRecovery w r → Spans w b → is_some (seen_of r.core.seen n.0) ≡ true
       → HeldRecovery w (working (record r { core = record r.core { seen = with_bridge r.core.seen b } }) (stage.Trail n b) (trail n b.no))
   trail-held r n b held spans e = record {
-    core = record { left = trail-left (footing w (with_bridge r.core.seen b)) n b.no (saw-read r.core.seen b.no (sight_of b) n.0 e) (bridge-read r.core.seen b); shown = bridge-shown w r.core.seen b held.core.shown spans };
+    core = record { left = trail-left (footing w (with_bridge r.core.seen b)) n b.no (saw-read r.core.seen b.no (sight_of b) n.0 e) (bridge-read r.core.seen b); shown = bridge-shown w r.core.seen b held.core.shown spans; matched = refl; ends = held.core.ends };
     stage = spans;
     fits = record { front = op.Until n _ ∷ op.Await n _ ∷ op.Stop n ∷ []; still = refl; is = refl; due = λ h. cc };
     queue = queue-more w r.core.seen (with_bridge r.core.seen b) (saw-read r.core.seen b.no (sight_of b)) r.queue held.queue;
@@ -131,11 +131,11 @@ module _ (w : World) where
   }
 
   close-held : (r : Recovery) (u : Purpose) (n : ServerNo) → HeldRecovery w r → HeldRecovery w (closing r (last_looks r u n))
-  close-held r purpose.Regroup n held = working-held w r (stage.Close (told r)) _ held tt refl (record { front = op.Status n None ∷ []; still = refl; is = refl; due = λ h. cc })
-  close-held r purpose.Master n held = working-held w r (stage.Close (told r)) _ held tt refl (record { front = op.Status n None ∷ []; still = refl; is = refl; due = λ h. cc })
-  close-held r (purpose.Intermediate s) n held = working-held w r (stage.Close (told r)) _ held tt refl (record { front = op.Status n None ∷ []; still = refl; is = refl; due = λ h. cc })
+  close-held r purpose.Regroup n held = working-held w r (stage.Close (told r)) _ held tt refl (λ has. refl) (record { front = op.Status n None ∷ []; still = refl; is = refl; due = λ h. cc })
+  close-held r purpose.Master n held = working-held w r (stage.Close (told r)) _ held tt refl (λ has. refl) (record { front = op.Status n None ∷ []; still = refl; is = refl; due = λ h. cc })
+  close-held r (purpose.Intermediate s) n held = working-held w r (stage.Close (told r)) _ held tt refl (λ has. refl) (record { front = op.Status n None ∷ []; still = refl; is = refl; due = λ h. cc })
   close-held r (purpose.Takeover d) n held =
-      working-held w r (stage.Close (told r)) _ held tt refl (record { front = op.Status r.failed None ∷ op.Status n None ∷ []; still = refl; is = refl; due = λ h. cc })
+      working-held w r (stage.Close (told r)) _ held tt refl (λ has. refl) (record { front = op.Status r.failed None ∷ op.Status n None ∷ []; still = refl; is = refl; due = λ h. cc })
 
   ready-of : (r : Recovery) (s : Stage) → r.stage ≡ s → HeldRecovery w r → IsReadyStage w s
   ready-of r s is held = subst (λ (x : Stage). IsReadyStage w x) is held.stage
@@ -165,9 +165,9 @@ module _ (w : World) where
   completes-held r (by.Trails n x) none may held = trail-held r n x held (ready-of r (stage.Looked n x) may.0 held) (was-seen r.failed (seen_of r.core.seen n.0) may.1)
   completes-held r (by.Joins n x) none may held = moving-held w r n (way.Down x) held (ready-of r (stage.Halted n x) may.0 held)
   completes-held r (by.Swaps p q) none may held =
-      working-held w (swapped r p q) (stage.Open q) _ held tt refl (record { front = op.Start p ∷ []; still = refl; is = refl; due = λ h. cc })
-  completes-held r (by.Switches m d) none may held = working-held w (follows r m d) (stage.Open d) _ held tt refl (tail-fits (stage.Open d))
-  completes-held r (by.Shuts m d) none may held = working-held w r (stage.Shut m d) _ held tt (gather-held (footing w r.core.seen) m d) (tail-fits (stage.Shut m d))
+      working-held w (swapped r p q) (stage.Open q) _ held tt refl (λ has. refl) (record { front = op.Start p ∷ []; still = refl; is = refl; due = λ h. cc })
+  completes-held r (by.Switches m d) none may held = working-held w (follows r m d) (stage.Open d) _ held tt refl (λ has. refl) (tail-fits (stage.Open d))
+  completes-held r (by.Shuts m d) none may held = working-held w r (stage.Shut m d) _ held tt (gather-held (footing w r.core.seen) m d) (λ has. refl) (tail-fits (stage.Shut m d))
   completes-held r (by.Ends n) none may held = close-held r r.purpose n held
 
   entered-held : (r : Recovery) (s : Stage) → HeldRecovery w (record r { stage = s }) → HeldRecovery w (entered r s)
@@ -181,7 +181,7 @@ module _ (w : World) where
 
 module _ (w : World) (read : ℕ) (now : Moment) (r : Recovery) (o : Op) (rest : List Op) (placed : Placed w) (held : HeldRecovery w r) (is : r.core.ops ≡ o ∷ rest) where
   pub due : IsDue w r.core rest (deed_of o)
-  due = due-of w r.core o rest is held.core.left
+  due = due-of w r.core o rest is held.core.left held.core.matched
 
   pub fits : Fits r.stage (o ∷ rest)
   fits = subst (λ (ops : List Op). Fits r.stage ops) is held.fits
@@ -236,17 +236,17 @@ module _ (w : World) (read : ℕ) (now : Moment) (r : Recovery) (o : Op) (rest :
       both (finds (footing w r.core.seen) (deed_of (op.Cross cross.Back q p))) true found refl
 
   bears-held : (e : Bearing) → MayBear r.stage e → HeldRecovery w (borne r (fate_of e))
-  bears-held by.Drops may = working-held w r stage.Idle [] held tt refl (tail-fits stage.Idle)
-  bears-held (by.Misses n why) may = working-held w (loses r n why) stage.Idle [] held tt refl (tail-fits stage.Idle)
+  bears-held by.Drops may = working-held w r stage.Idle [] held tt refl (λ has. refl) (tail-fits stage.Idle)
+  bears-held (by.Misses n why) may = working-held w (loses r n why) stage.Idle [] held tt refl (λ has. refl) (tail-fits stage.Idle)
   bears-held (by.Lets n why) may = frees-held w r n why held
-  bears-held (by.Restarts p q) may = working-held w r (stage.Release q) (op.Start q ∷ []) held tt refl (front-fits (stage.Release q) (op.Start q ∷ []) refl refl refl)
-  bears-held (by.Returns p q) may = working-held w r (stage.Return p q) _ held tt (back-found p q may) (tail-fits (stage.Return p q))
+  bears-held (by.Restarts p q) may = working-held w r (stage.Release q) (op.Start q ∷ []) held tt refl (λ has. refl) (front-fits (stage.Release q) (op.Start q ∷ []) refl refl refl)
+  bears-held (by.Returns p q) may = working-held w r (stage.Return p q) _ held tt (back-found p q may) (λ has. refl) (tail-fits (stage.Return p q))
 
   -- ---- an operation is done, or is one more wait
 
   module _ (ob : Option Observation) (es : List Exchange) (j : Job) (did : Does w read now r o rest ob es j) where
     kept : KeepsHeld w (going ob es j)
-    kept = subst (λ (a : Attempt). KeepsHeld w (attempt.settled r.core a)) did.goes (deed-kept w read now r.core rest (deed_of o) placed held.core.shown due)
+    kept = subst (λ (a : Attempt). KeepsHeld w (attempt.settled r.core a)) did.goes (deed-kept w read now r.core rest (deed_of o) placed held.core.shown held.core.ends due)
 
     went : WentOn r.core rest es j
     went = subst (λ (a : Attempt). Went r.core rest a) did.goes (deed-went r.core rest w read now (deed_of o))

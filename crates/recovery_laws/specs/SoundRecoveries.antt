@@ -5,9 +5,11 @@ use Rattle.orch_base.specs.declared.server.ServerNo.{ServerNo}
 use Rattle.server_model.specs.Run.{run, AllJoinWell}
 use Rattle.server_model.specs.Worlds.{World}
 use Rattle.instance_keeper.specs.declared.bridge.Bridge.{Bridge}
+use Rattle.operations.specs.declared.matching.Match.{Match}
 use Rattle.operations.specs.declared.sight.Sight.{Sight}
 use Rattle.operations.specs.Turns.{is_going}
 use Rattle.job_laws.specs.Flights.{StandsIn}
+use Rattle.job_laws.specs.Matched.{AllMeet}
 use Rattle.job_laws.specs.Sound.{AllBridged}
 use Rattle.recovery_plans.specs.declared.outcome.Stopped.{Stopped}
 use Rattle.recovery_plans.specs.declared.stage.Stage.{Stage}
@@ -45,16 +47,17 @@ IsSoundStop w f s = (own : Coord) → s.own_end ≡ Some own → StandsIn w (sto
 abbrev pub IsSoundStage : World → Stage → Type 0
 IsSoundStage w s = IfSome (info s).lead (StandsIn w)
 
--- each reading and bridge that is gone by, now or later, shows one point of two logs
-pub record SoundParts (w : World) (seen : List Sight) (s : Stage) (ts : List Task) (f : ServerNo) (ds : List Stopped) (o : Option Bridge) : Type 0 where
+-- each reading, match and bridge that is gone by, now or later, shows one point of two logs
+pub record SoundParts (w : World) (seen : List Sight) (matches : List Match) (s : Stage) (ts : List Task) (f : ServerNo) (ds : List Stopped) (o : Option Bridge) : Type 0 where
   pub core : AllBridged w seen
+  pub met : AllMeet w matches
   pub stage : IsSoundStage w s
   pub queue : All (IsSoundTask w) ts
   pub drained : All (IsSoundStop w f) ds
   pub lead : IfSome o (StandsIn w)
 
 abbrev pub SoundRecovery : World → Recovery → Type 0
-SoundRecovery w r = SoundParts w r.core.seen r.stage r.queue r.failed r.drained r.lead
+SoundRecovery w r = SoundParts w r.core.seen r.core.matches r.stage r.queue r.failed r.drained r.lead
 
 -- in a safe world each attachment joins well, and a recovery that goes on is sound
 pub record KeepsSoundRecovery (w : World) (t : Taken) : Type 0 where

@@ -10,6 +10,7 @@ use Rattle.orch_base.specs.declared.server.Moment.{Moment}
 use Rattle.orch_base.specs.declared.server.ServerNo.{ServerNo}
 use Rattle.server_words.specs.declared.answers.Unreachable.{Unreachable}
 use Rattle.server_words.specs.declared.attach.AttachFault.{AttachFault}
+use Rattle.server_words.specs.declared.attach.Spot.{Spot}
 use Rattle.server_words.specs.declared.changes.Ask.{Ask}
 use Rattle.server_words.specs.declared.changes.Ask.TheVariants as asking
 use Rattle.server_words.specs.declared.status.Status.{Status}
@@ -23,16 +24,18 @@ use Rattle.commands.specs.declared.line.Line.{Line}
 use Rattle.kept_rows.specs.declared.observation.Observation.{Observation}
 use Rattle.kept_rows.specs.Seeing.{seen_in}
 use Rattle.operations.specs.declared.op.Crossing.TheVariants as cross
+use Rattle.operations.specs.declared.matching.MatchFault.{MatchFault}
 use Rattle.operations.specs.declared.op.Op.{Op}
 use Rattle.operations.specs.declared.op.Op.TheVariants as op
 use Rattle.operations.specs.declared.step.JobStep.{JobStep}
 use Rattle.operations.specs.declared.step.JobStep.TheVariants as step
 use Rattle.operations.specs.Deeds as deed
 use Rattle.operations.specs.Deeds.{Deed, deed_of}
-use Rattle.operations.specs.Jobs.{Job, seen_of}
+use Rattle.operations.specs.Jobs.{Job, match_found, seen_of}
+use Rattle.operations.specs.Matching.{match_logs, standing_at}
 use Rattle.operations.specs.Targets.{can_attach}
 use Rattle.operations.specs.Turns as attempt
-use Rattle.operations.specs.Turns.{Attempt, next, saw, observed, is_moved, after_status, after_look, after_ask, aim_of, is_reached, until_by, after_until, after_wait_by, after_wait, holds_seen, settles, crossing_of, same_again, by_set, attach_answer_of, after_answer, after_attach, by_deed, ended}
+use Rattle.operations.specs.Turns.{Attempt, next, saw, observed, is_moved, after_status, after_look, after_ask, aim_of, is_reached, until_by, after_until, after_wait_by, after_wait, holds_seen, settles, crossing_of, same_again, by_set, after_match, by_match, attach_answer_of, after_answer, after_attach, by_deed, ended}
 use Rattle.recovery_plans.specs.declared.outcome.Follower.{Follower}
 use Rattle.recovery_plans.specs.declared.purpose.Purpose.{Purpose}
 use Rattle.recovery_plans.specs.declared.purpose.Purpose.TheVariants as purpose
@@ -107,6 +110,10 @@ module _ (j : Job) (rest : List Op) where
       by true = go (attach_answer_of w e)
       by false = refl
 
+  match-on : (n m : ServerNo) (at : Spot) (r : Result Coord MatchFault) → is_end (after_match j rest n m at r) ≡ false
+  match-on n m at (Ok c) = refl
+  match-on n m at (Err f) = refl
+
   finish-of : (w : World) (read : ℕ) (now : Moment) (d : Deed) (lines : List Line) → by_deed w read now j rest d ≡ attempt.Ends lines → d ≡ deed.Finish lines
   finish-of w read now d lines h = go d (ap is_end h) h
     where
@@ -128,6 +135,8 @@ module _ (j : Job) (rest : List Op) where
       go (deed.Cross c a b) g e = not-end _ _ (attach-on w a (crossing_of j.seen c a b)) g
       go (deed.Same n) g e = not-end _ _ (attach-on w n (same_again n (seen_of j.seen n.0))) g
       go (deed.Auto n m) g e = not-end _ _ (attach-on w n (by_set n m (seen_of j.seen m.0))) g
+      go (deed.Match n m every) g e = not-end _ _ (match-on n m (standing_at (server_at w n.0)) (match_logs w n m every)) g
+      go (deed.CrossMatch n m) g e = not-end _ _ (attach-on w n (by_match n m (match_found j.matches n m))) g
       go (deed.Finish ls) g e = ap (λ (a : Attempt). deed.Finish (lines-of a)) e
 
 -- ---- what is covered then

@@ -72,7 +72,9 @@ pub fn doing_of(alloc: Global, job: &JobView<'_>, act: &Act) -> Result<Doing, Me
 {
     Ok(match act {
         Act::Fail => Doing::Each(starts(alloc, job.hands)?),
-        Act::End | Act::Pass | Act::Keep(_) | Act::Wait(_) => Doing::Each(Vec::new(alloc)),
+        Act::End | Act::Pass | Act::Keep(_) | Act::Found(_) | Act::Wait(_) => {
+            Doing::Each(Vec::new(alloc))
+        }
         Act::Ask(no, ask) => Doing::Each(only(alloc, Change::Ask(*no, *ask))?),
         Act::Attach(no, expect, to, at) => {
             Doing::Each(only(alloc, Change::Attach(*no, *expect, *to, *at))?)

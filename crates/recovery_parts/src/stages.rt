@@ -20,7 +20,8 @@ fn moves(op: &Op) -> bool
         | Op::ReadOnly(_, _)
         | Op::Cross(_, _, _)
         | Op::Same(_)
-        | Op::Auto(_, _) => true,
+        | Op::Auto(_, _)
+        | Op::CrossMatch(_, _) => true,
         Op::Status(_, _)
         | Op::Stop(_)
         | Op::StopReceiver(_)
@@ -29,6 +30,7 @@ fn moves(op: &Op) -> bool
         | Op::Await(_, _)
         | Op::AwaitSet(_, _)
         | Op::Settle(_)
+        | Op::Match(_, _, _)
         | Op::Finish(_) => false,
     }
 }
@@ -45,6 +47,8 @@ fn is_look(op: &Op) -> bool
         | Op::Cross(_, _, _)
         | Op::Same(_)
         | Op::Auto(_, _)
+        | Op::Match(_, _, _)
+        | Op::CrossMatch(_, _)
         | Op::Stop(_)
         | Op::StopReceiver(_)
         | Op::Start(_)
@@ -68,6 +72,8 @@ fn is_finish(op: &Op) -> bool
         | Op::Cross(_, _, _)
         | Op::Same(_)
         | Op::Auto(_, _)
+        | Op::Match(_, _, _)
+        | Op::CrossMatch(_, _)
         | Op::Status(_, _)
         | Op::Stop(_)
         | Op::StopReceiver(_)

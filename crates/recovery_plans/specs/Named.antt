@@ -19,7 +19,7 @@ use Rattle.recovery_plans.specs.Recoveries.{Recovery}
 use Rattle.recovery_plans.specs.Table.{info}
 use Rattle.recovery_plans.specs.Taking.{Taken}
 
--- the server that an operation speaks with
+-- the one server that an operation speaks with; a match speaks with two
 abbrev pub spoken_to : Deed → Option ServerNo
 spoken_to (deed.Look n from) = Some n
 spoken_to (deed.Request n a) = Some n
@@ -30,6 +30,8 @@ spoken_to (deed.Settle n) = Some n
 spoken_to (deed.Cross c a b) = Some a
 spoken_to (deed.Same n) = Some n
 spoken_to (deed.Auto n m) = Some n
+spoken_to (deed.Match n m every) = None
+spoken_to (deed.CrossMatch n m) = Some n
 spoken_to (deed.Finish lines) = None
 
 -- the servers that a stage may change

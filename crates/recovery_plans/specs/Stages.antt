@@ -49,6 +49,8 @@ moves (deed.Settle n) = false
 moves (deed.Cross c a b) = true
 moves (deed.Same n) = true
 moves (deed.Auto n m) = true
+moves (deed.Match n m every) = false
+moves (deed.CrossMatch n m) = true
 moves (deed.Finish lines) = false
 
 abbrev pub is_look : Deed → Bool
@@ -61,6 +63,8 @@ is_look (deed.Settle n) = false
 is_look (deed.Cross c a b) = false
 is_look (deed.Same n) = false
 is_look (deed.Auto n m) = false
+is_look (deed.Match n m every) = false
+is_look (deed.CrossMatch n m) = false
 is_look (deed.Finish lines) = false
 
 abbrev pub is_finish : Deed → Bool
@@ -73,6 +77,8 @@ is_finish (deed.AwaitSet n m) = false
 is_finish (deed.Settle n) = false
 is_finish (deed.Cross c a b) = false
 is_finish (deed.Same n) = false
+is_finish (deed.Match n m every) = false
+is_finish (deed.CrossMatch n m) = false
 is_finish (deed.Auto n m) = false
 
 -- a stage that ends with the reading of its replica

@@ -30,14 +30,15 @@ use Rattle.kept_rows.specs.declared.observation.Observation.{Observation}
 use Rattle.kept_rows.specs.Seeing.{seen_in}
 use Rattle.operations.specs.declared.op.Crossing.{Crossing}
 use Rattle.operations.specs.declared.op.Crossing.TheVariants as cross
+use Rattle.operations.specs.declared.matching.Match.{Match}
 use Rattle.operations.specs.declared.op.Op.{Op}
 use Rattle.operations.specs.declared.sight.Position.{Position}
 use Rattle.operations.specs.Deeds as deed
 use Rattle.operations.specs.Deeds.{Deed}
-use Rattle.operations.specs.Jobs.{Job, seen_of}
+use Rattle.operations.specs.Jobs.{Job, match_found, seen_of}
 use Rattle.operations.specs.Targets.{can_attach}
 use Rattle.operations.specs.Turns as attempt
-use Rattle.operations.specs.Turns.{bridge_at, Attempt, next, saw, observed, is_moved, after_status, after_look, after_ask, aim_of, is_reached, until_by, after_until, after_wait_by, after_wait, holds_seen, settles, by_deed, read_by, crossed, attached_anew, same_again, by_set, attach_answer_of, cause_by, after_answer, after_attach}
+use Rattle.operations.specs.Turns.{bridge_at, Attempt, next, saw, observed, is_moved, after_status, after_look, after_ask, aim_of, is_reached, until_by, after_until, after_wait_by, after_wait, holds_seen, settles, by_deed, read_by, crossed, attached_anew, same_again, by_set, by_match, attach_answer_of, cause_by, after_answer, after_attach}
 use Rattle.recovery_plans.specs.Named.{spoken_to}
 use Rattle.recovery_reasons.specs.Causes.{IsUnreached, IsTrueOf}
 
@@ -188,6 +189,10 @@ module _ (w : World) (j : Job) (rest : List Op) (n : ServerNo) where
   set-true m None = tt
   set-true m (Some s) = attach-true (AttachAuto n.0 s.set m) (auto-true s.set m (server_at w n.0) refl)
 
+  match-true : (m : ServerNo) (o : Option Match) → StopsTruly w n (after_attach w j rest n (by_match n m o))
+  match-true m None = tt
+  match-true m (Some x) = attach-true (Attach n.0 x.spot m x.at) (answer-true x.spot m x.at (server_at w n.0) refl)
+
   -- any operation
   pub deed-true : (read : ℕ) (now : Moment) (d : Deed) → spoken_to d ≡ Some n → StopsTruly w n (by_deed w read now j rest d)
   deed-true read now d on = go d on
@@ -205,6 +210,8 @@ module _ (w : World) (j : Job) (rest : List Op) (n : ServerNo) where
       go (deed.Cross x a b) e = for-it a (λ k. by_deed w read now j rest (deed.Cross x k b)) e (crossed-true x (bridge_at (read_by x n b) (seen_of j.seen (read_by x n b).0)))
       go (deed.Same m) e = for-it m (λ k. by_deed w read now j rest (deed.Same k)) e (same-true (seen_of j.seen n.0))
       go (deed.Auto m k) e = for-it m (λ i. by_deed w read now j rest (deed.Auto i k)) e (set-true k (seen_of j.seen k.0))
+      go (deed.Match m k every) e = cc
+      go (deed.CrossMatch m k) e = for-it m (λ i. by_deed w read now j rest (deed.CrossMatch i k)) e (match-true k (match_found j.matches n k))
       go (deed.Finish lines) e = tt
 
 pub cause-true : (w : World) (read : ℕ) (now : Moment) (j : Job) (rest : List Op) (d : Deed) (n : ServerNo) (c : Cause) (ob : Option Observation) → spoken_to d ≡ Some n → by_deed w read now j rest d ≡ attempt.Stops c ob → IsTrueOf w n c

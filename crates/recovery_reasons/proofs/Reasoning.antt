@@ -39,9 +39,9 @@ use Rattle.kept_rows.specs.Seeing.{seen_in}
 use Rattle.operations.specs.declared.op.Op.{Op}
 use Rattle.operations.specs.declared.sight.Sight.{Sight}
 use Rattle.operations.specs.Deeds.{deed_of, Deed}
-use Rattle.operations.specs.Jobs.{Job, position_of, seen_of}
+use Rattle.operations.specs.Jobs.{Job, position_of, seen_of, match_found}
 use Rattle.operations.specs.Turns as attempt
-use Rattle.operations.specs.Turns.{Attempt, after_look, by_deed, observed, aim_of, is_reached, next, saw, is_moved, after_status, after_ask, until_by, after_until, after_wait_by, after_wait, settles, holds_seen, crossing_of, same_again, by_set, attach_answer_of, after_answer, after_attach, cause_by}
+use Rattle.operations.specs.Turns.{Attempt, after_look, by_deed, observed, aim_of, is_reached, next, saw, is_moved, after_status, after_ask, until_by, after_until, after_wait_by, after_wait, settles, holds_seen, crossing_of, same_again, by_set, by_match, attach_answer_of, after_answer, after_attach, cause_by}
 use Rattle.promotion_rules.specs.declared.drained.Drained.{Drained}
 use Rattle.promotion_rules.specs.Choice.{advance_order, is_barred, is_eligible, most_advanced}
 use Rattle.promotion_rules.proofs.Choosing.{chosen-first, none-chosen}
@@ -173,6 +173,8 @@ deed-late w read now j rest d n x on waits = go d on waits
     go (deed.Cross c a b) e h = for-it a (λ k. by_deed w read now j rest (deed.Cross c k b)) e (attach-late w j rest n to (crossing_of j.seen c n b))
     go (deed.Same m) e h = for-it m (λ k. by_deed w read now j rest (deed.Same k)) e (attach-late w j rest n to (same_again n (seen_of j.seen n.0)))
     go (deed.Auto m k) e h = for-it m (λ i. by_deed w read now j rest (deed.Auto i k)) e (attach-late w j rest n to (by_set n k (seen_of j.seen k.0)))
+    go (deed.Match m k every) e h = cc
+    go (deed.CrossMatch m k) e h = for-it m (λ i. by_deed w read now j rest (deed.CrossMatch i k)) e (attach-late w j rest n to (by_match n k (match_found j.matches n k)))
     go (deed.Finish lines) e h = cc
 
 -- a status is no wait
@@ -214,6 +216,8 @@ look-unspent w read now j rest (deed.Settle n) h = absurd (false≢true h)
 look-unspent w read now j rest (deed.Cross c a b) h = absurd (false≢true h)
 look-unspent w read now j rest (deed.Same n) h = absurd (false≢true h)
 look-unspent w read now j rest (deed.Auto n m) h = absurd (false≢true h)
+look-unspent w read now j rest (deed.Match n m every) h = absurd (false≢true h)
+look-unspent w read now j rest (deed.CrossMatch n m) h = absurd (false≢true h)
 look-unspent w read now j rest (deed.Finish lines) h = absurd (false≢true h)
 
 -- what is asked of a server stops a job where the server isn't reached
@@ -240,6 +244,8 @@ asked-unreached w read now j rest d n on asked = go d on asked
     go (deed.Cross c a b) e h = absurd h
     go (deed.Same m) e h = absurd h
     go (deed.Auto m k) e h = absurd h
+    go (deed.Match m k every) e h = absurd h
+    go (deed.CrossMatch m k) e h = absurd h
     go (deed.Finish lines) e h = absurd h
 
 -- the executed coordinate that a status shows is the server's

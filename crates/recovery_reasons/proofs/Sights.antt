@@ -21,10 +21,10 @@ use Rattle.kept_rows.specs.Seeing.{seen_in}
 use Rattle.operations.specs.declared.op.Op.{Op}
 use Rattle.operations.specs.Deeds as deed
 use Rattle.operations.specs.Deeds.{Deed}
-use Rattle.operations.specs.Jobs.{Job, position_of, seen_of, with_seen}
+use Rattle.operations.specs.Jobs.{Job, position_of, seen_of, with_seen, match_found}
 use Rattle.operations.specs.Targets.{can_attach}
 use Rattle.operations.specs.Turns as attempt
-use Rattle.operations.specs.Turns.{Attempt, next, saw, observed, is_moved, after_status, after_look, after_ask, aim_of, is_reached, until_by, after_until, after_wait_by, after_wait, holds_seen, settles, crossing_of, same_again, by_set, attach_answer_of, after_answer, after_attach, by_deed}
+use Rattle.operations.specs.Turns.{Attempt, next, saw, observed, is_moved, after_status, after_look, after_ask, aim_of, is_reached, until_by, after_until, after_wait_by, after_wait, holds_seen, settles, crossing_of, same_again, by_set, by_match, attach_answer_of, after_answer, after_attach, by_deed}
 use Rattle.job_laws.proofs.Sights.{seen-at}
 use Rattle.recovery_plans.specs.Named.{spoken_to}
 
@@ -94,4 +94,6 @@ deed-sees w read now j rest d n m on apart = go d on
     go (deed.Cross c a b) e = attach-sees j rest a m (off a e) w (crossing_of j.seen c a b)
     go (deed.Same k) e = attach-sees j rest k m (off k e) w (same_again k (seen_of j.seen k.0))
     go (deed.Auto k i) e = attach-sees j rest k m (off k e) w (by_set k i (seen_of j.seen i.0))
+    go (deed.Match k i every) e = cc
+    go (deed.CrossMatch k i) e = attach-sees j rest k m (off k e) w (by_match k i (match_found j.matches k i))
     go (deed.Finish lines) e = tt

@@ -94,6 +94,8 @@ WaitsFor x (deed.Until n to) = Unit {0}
 WaitsFor x (deed.Cross c a b) = Unit {0}
 WaitsFor x (deed.Same n) = Unit {0}
 WaitsFor x (deed.Auto n m) = Unit {0}
+WaitsFor x (deed.Match n m every) = Unit {0}
+WaitsFor x (deed.CrossMatch n m) = Unit {0}
 WaitsFor x (deed.Finish lines) = Unit {0}
 
 -- what is asked of a server, and nothing else
@@ -107,6 +109,8 @@ IsAsked (deed.Settle n) = ⊥
 IsAsked (deed.Cross c a b) = ⊥
 IsAsked (deed.Same n) = ⊥
 IsAsked (deed.Auto n m) = ⊥
+IsAsked (deed.Match n m every) = ⊥
+IsAsked (deed.CrossMatch n m) = ⊥
 IsAsked (deed.Finish lines) = ⊥
 
 -- unless it is that one itself, it waits for where the designated one stopped

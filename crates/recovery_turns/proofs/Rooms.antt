@@ -44,6 +44,7 @@ after_short j act.Fail = omega arith
 after_short j act.End = omega arith
 after_short j act.Pass = omega arith
 after_short j (act.Keep x) = seen_short j.seen x.no x.seen
+after_short j (act.Found m) = omega arith
 after_short j (act.Wait x) = seen_short j.seen x.no x.seen
 after_short j (act.Ask n a) = omega arith
 after_short j (act.Attach n expect to at) = omega arith
@@ -82,6 +83,13 @@ hands_decided r d fits = go d.work
     go : (o : Option Work) → length (working_on (settled_on r d) o).core.hands < room_for (working_on (settled_on r d) o).replicas
     go None = fits.hands
     go (Some w) = fits.hands
+
+pub matches_decided : (r : Recovery) (d : Decided) → Fits r d → length (decided_on r d).core.matches < room_for (decided_on r d).replicas
+matches_decided r d fits = go d.work
+  where
+    go : (o : Option Work) → length (working_on (settled_on r d) o).core.matches < room_for (working_on (settled_on r d) o).replicas
+    go None = fits.matches
+    go (Some w) = fits.matches
 
 -- after the job's turn
 pub roomy_after : (r : Recovery) (a : Act) → IsRoomy 2 r → IsRoomy 1 (record r { core = job_after r.core a })

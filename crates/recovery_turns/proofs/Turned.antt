@@ -71,6 +71,8 @@ deed-named count (deed.Settle n) h = lt-ltb n.0 count h
 deed-named count (deed.Cross c a b) h = lt-ltb a.0 count h
 deed-named count (deed.Same n) h = lt-ltb n.0 count h
 deed-named count (deed.Auto n m) h = lt-ltb n.0 count h
+deed-named count (deed.Match n m every) h = refl
+deed-named count (deed.CrossMatch n m) h = lt-ltb n.0 count h
 deed-named count (deed.Finish lines) h = refl
 
 ops-named : (count : ℕ) (ops : List Op) → All (IsOpOf (λ n. n < count) (λ n. n < count)) ops → are_named count ops ≡ true

@@ -59,6 +59,7 @@ sights_of (Some w) = option_to_list w.seen
 -- there is room for what is decided, and for what a turn adds then
 pub record Fits (r : Recovery) (d : Decided) : Type 0 where
   pub seen : length r.core.seen + (length (sights_of d.work) + 2) ≤ room_for r.replicas
+  pub matches : length r.core.matches < room_for r.replicas
   pub hands : length r.core.hands < room_for r.replicas
   pub drained : length r.drained < room_for r.replicas
   pub followers : length r.outcome.followers < room_for r.replicas

@@ -30,6 +30,7 @@ pub record HasRoom (a : Inside) : Type 0 where
   pub begun : a.begun ≤ length a.queue.items
   pub within : a.core.done ≤ length a.core.ops.items
   pub seen : room_for a.replicas.items ≤ vec_capacity a.core.seen
+  pub matches : room_for a.replicas.items ≤ vec_capacity a.core.matches
   pub hands : room_for a.replicas.items ≤ vec_capacity a.core.hands
   pub drained : room_for a.replicas.items ≤ vec_capacity a.drained
   pub followers : room_for a.replicas.items ≤ vec_capacity a.followers

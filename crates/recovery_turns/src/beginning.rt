@@ -102,7 +102,7 @@ fn first_tasks(alloc: Global, purpose: Purpose, replicas: &[ServerNo]) -> Result
     Ok(tasks)
 }
 
-// The job of a recovery that begins, with room for so many sights and servers in its hands.
+// The job of a recovery that begins, with room for so many sights, matches and servers in its hands.
 fn first_job(
     alloc: Global,
     purpose: Purpose,
@@ -114,6 +114,7 @@ fn first_job(
     ensures core { IfOk result (λ c. core_of c ≡ job_with id wait (first_ops purpose failed)) }
     ensures within { IfOk result (λ c. c.done ≤ length c.ops.items) }
     ensures seen { IfOk result (λ c. vec_capacity c.seen ≡ room) }
+    ensures matches { IfOk result (λ c. vec_capacity c.matches ≡ room) }
     ensures hands { IfOk result (λ c. vec_capacity c.hands ≡ room) }
 {
     Ok(JobParts {
@@ -123,6 +124,7 @@ fn first_job(
         done: 0,
         waited: 0,
         seen: Vec::with_capacity(alloc, room)?,
+        matches: Vec::with_capacity(alloc, room)?,
         hands: Vec::with_capacity(alloc, room)?,
     })
 }

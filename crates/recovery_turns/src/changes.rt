@@ -70,6 +70,7 @@ impl RecoveryJob {
     pub(crate) fn go_on(&mut self, act: Act)
         requires can { CanFollow self.old.core act }
         requires seen { length self.old.core.seen < room_for self.old.replicas }
+        requires matches { length self.old.core.matches < room_for self.old.replicas }
         requires hands { length self.old.core.hands < room_for self.old.replicas }
         ensures { self.new ≡ record self.old { core = job_after self.old.core act } }
     {

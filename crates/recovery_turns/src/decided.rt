@@ -95,6 +95,7 @@ impl RecoveryJob {
         let room = self.replicas.len() + 8;
         self.core.seen.len() < room
             && decided.sights().len() + 2 <= room - self.core.seen.len()
+            && self.core.matches.len() < room
             && self.core.hands.len() < room
             && self.drained.len() < room
             && self.followers.len() < room
@@ -117,6 +118,7 @@ impl Decided {
                 ops: &work.ops,
                 seen: &of.core.seen,
                 more: self.sights(),
+                matches: &of.core.matches,
                 hands: &of.core.hands,
             },
         }

@@ -1,12 +1,12 @@
 //! The job of a recovery, whose operations are those that are left of its stage.
 
 ghost use Rattle.std.specs.Prelude.{◌≡◌, ◌<◌, ◌≤◌, ◌+◌, length, vec_capacity};
-ghost use Rattle.operations.specs.Turns.{ended, hands_after, next, saw_at};
+ghost use Rattle.operations.specs.Turns.{ended, hands_after, next, saw_at, with_match};
 ghost use Rattle.job_plans.specs.Acts.{CanFollow, job_after, rest_of};
 ghost use Rattle.recovery_turns.specs.Cores.{HasRoomFor, IsAsWide, core_of};
 
 use job_plans::{Act, change_hands, keep};
-use operations::{Op, Sight};
+use operations::{Match, Op, Sight};
 use orch_base::ServerNo;
 use server_words::Ask;
 
@@ -20,6 +20,7 @@ pub(crate) struct JobParts {
     pub(crate) done: usize,
     pub(crate) waited: u32,
     pub(crate) seen: Vec<Sight>,
+    pub(crate) matches: Vec<Match>,
     // The servers that it stopped and hasn't started.
     pub(crate) hands: Vec<ServerNo>,
 }
@@ -56,6 +57,18 @@ impl JobParts {
         ensures wide { IsAsWide self.old self.new }
     {
         self.see(sight);
+        self.pass();
+    }
+
+    // The operation is done, and this match was found.
+    fn pass_found(&mut self, found: Match)
+        requires due { self.old.done < length self.old.ops.items }
+        requires room { length self.old.matches.items < vec_capacity self.old.matches }
+        ensures core { core_of self.new ≡ next (with_match (core_of self.old) found)
+            (rest_of (core_of self.old)) }
+        ensures wide { IsAsWide self.old self.new }
+    {
+        self.matches.push_reserved(found);
         self.pass();
     }
 
@@ -106,6 +119,7 @@ impl JobParts {
             Act::Fail | Act::End => self.end(),
             Act::Pass | Act::Attach(_, _, _, _) | Act::Auto(_, _) => self.pass(),
             Act::Keep(sight) => self.pass_with(sight),
+            Act::Found(found) => self.pass_found(found),
             Act::Wait(sight) => self.wait_with(sight),
             Act::Ask(no, ask) => self.pass_asking(no, ask),
         }

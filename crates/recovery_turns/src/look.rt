@@ -79,6 +79,7 @@ fn seen_after<'a>(job: &JobView<'a>, act: &'a Act, no: ServerNo) -> Option<&'a P
         Act::Fail
         | Act::End
         | Act::Pass
+        | Act::Found(_)
         | Act::Ask(_, _)
         | Act::Attach(_, _, _, _)
         | Act::Auto(_, _) => job.sight(no),

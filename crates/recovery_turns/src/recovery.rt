@@ -89,6 +89,7 @@ impl RecoveryJob {
             ops: &self.core.ops[self.core.done..],
             seen: &self.core.seen,
             more: &[],
+            matches: &self.core.matches,
             hands: &self.core.hands,
         }
     }

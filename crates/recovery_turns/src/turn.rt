@@ -113,6 +113,7 @@ impl RecoveryJob {
     // What comes behind the decisions, where it goes on.
     fn go_ahead(&mut self, alloc: Global, then: Option<Then>)
         requires room { IsRoomy 2 self.old }
+        requires matches { length self.old.core.matches < room_for self.old.replicas }
         requires hands { length self.old.core.hands < room_for self.old.replicas }
         requires can { CanEnd self.old then }
         ensures { self.new ≡ after_then self.old then }

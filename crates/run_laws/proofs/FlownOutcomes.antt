@@ -162,7 +162,7 @@ module _ (b : BookState) where
 
 -- a job that does nothing may begin without leases
 unmatched-begin : (w : World) (js : List Job) (b : BookState) (id wait : ℕ) → JobBegins w js (leases_of b.leases) [] (core_of (unended.Plan (job_with id wait [])))
-unmatched-begin w js b id wait = record { seen = refl; hands = refl; left = refl; listed = refl; free = λ n listed. absurd (false≢true listed) }
+unmatched-begin w js b id wait = record { seen = refl; hands = refl; left = refl; found = refl; matched = refl; listed = refl; free = λ n listed. absurd (false≢true listed) }
 
 -- the job of a command that isn't refused may begin: a regroup has no operations yet
 permitted-begin : (w : World) (b : BookState) (now : Moment) (js : List Job) (c : Command) (p : Planner) (id wait : ℕ) → refusal_by w b now c p ≡ None
@@ -178,8 +178,8 @@ permitted-begin w b now js c (Regroups ByBridges) id wait h = go c.i
     free = (paths.permitted-begin w b now js c id wait h).free
 
     go : (i : Option ServerNo) → JobBegins w js (leases_of b.leases) (leases_by w b c (Regroups ByBridges)) (core_of (regroup_about b id wait i))
-    go None = record { seen = refl; hands = refl; left = refl; listed = refl; free = free }
-    go (Some i) = record { seen = refl; hands = refl; left = refl; listed = refl; free = free }
+    go None = record { seen = refl; hands = refl; left = refl; found = refl; matched = refl; listed = refl; free = free }
+    go (Some i) = record { seen = refl; hands = refl; left = refl; found = refl; matched = refl; listed = refl; free = free }
 
 -- a regroup has the leases of the replicas
 regroup-beside : (w : World) (b : BookState) (l : Leases) (c : Command) (id wait : ℕ) (i d : Option ServerNo)

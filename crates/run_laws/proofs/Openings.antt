@@ -29,6 +29,7 @@ use Rattle.scenarios.specs.Turns.{pollers}
 use Rattle.job_laws.specs.Flights.{Held, Sound, IsShown, IsShownBridged, StandsIn, no_leases}
 use Rattle.job_laws.specs.Held.{HeldJob, Spans}
 use Rattle.job_laws.specs.Leases.{HasLeases, Leases, leases_of}
+use Rattle.job_laws.specs.Matched.{AllMeet}
 use Rattle.job_laws.specs.Sound.{AllBridged}
 use Rattle.job_laws.proofs.Bridging.{stands-by}
 use Rattle.job_laws.proofs.Lists.{All-at, All-ring}
@@ -188,6 +189,7 @@ module _ (s : Scenario) (wait : ℕ) (rows : List Row) where
       rings = rings-start (StandsIn (start_world s)) (λ n b h. stands-by (start_world s) n (seen_in (status (start_world s) n.0)) b (λ seen is. Bridged-seen (start_world s) n.0 seen safe is) h);
       slots = All-replicate (λ slot. IfSome slot (IsShownBridged (start_world s))) pollers None tt;
       jobs = All-nil (λ j. AllBridged (start_world s) j.seen);
+      met = All-nil (λ j. AllMeet (start_world s) j.matches);
     }
 
     pub Held-start : HeldState (start s wait rows)

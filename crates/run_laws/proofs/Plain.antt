@@ -14,6 +14,7 @@ use Rattle.kept_rows.specs.declared.observation.Observation.{Observation}
 use Rattle.server_words.specs.declared.answers.Unreachable.{Unreachable}
 use Rattle.server_words.specs.declared.attach.AttachFault.{AttachFault}
 use Rattle.server_words.specs.declared.attach.Spot.TheVariants as spot
+use Rattle.server_words.specs.declared.attach.Spot.{Spot}
 use Rattle.server_words.specs.declared.changes.Ask.{Ask}
 use Rattle.server_words.specs.declared.changes.Ask.TheVariants as asking
 use Rattle.server_words.specs.declared.status.Status.{Status}
@@ -37,14 +38,17 @@ use Rattle.recovery_plans.specs.Taking as taking
 use Rattle.unended_jobs.specs.declared.unended.Unended.{Unended}
 use Rattle.unended_jobs.specs.declared.unended.Unended.TheVariants as unended
 use Rattle.unended_jobs.specs.Unended.{flown}
+use Rattle.operations.specs.declared.matching.Match.{Match}
+use Rattle.operations.specs.declared.matching.MatchFault.{MatchFault}
 use Rattle.operations.specs.declared.op.Op.{Op}
 use Rattle.operations.specs.declared.op.Crossing.{Crossing}
 use Rattle.operations.specs.declared.op.Crossing.TheVariants as cross
 use Rattle.operations.specs.Deeds as deed
 use Rattle.operations.specs.Deeds.{Deed, deed_of}
-use Rattle.operations.specs.Jobs.{Job, seen_of}
+use Rattle.operations.specs.Jobs.{Job, match_found, seen_of}
+use Rattle.operations.specs.Matching.{match_logs, standing_at}
 use Rattle.operations.specs.Targets.{can_attach}
-use Rattle.operations.specs.Turns.{Attempt, Turned, bridge_at, Goes, Stops, Ends, crossing_of, settled, next, saw, restarts, observed, is_moved, after_status, after_look, after_ask, aim_of, attached_anew, is_reached, until_by, after_until, after_wait_by, after_wait, holds_seen, settles, read_by, crossed, same_again, by_set, attach_answer_of, after_answer, after_attach, by_deed, by_ops, turned}
+use Rattle.operations.specs.Turns.{Attempt, Turned, bridge_at, Goes, Stops, Ends, crossing_of, settled, next, saw, restarts, observed, is_moved, after_status, after_look, after_ask, aim_of, attached_anew, is_reached, until_by, after_until, after_wait_by, after_wait, holds_seen, settles, read_by, crossed, same_again, by_set, after_match, by_match, attach_answer_of, after_answer, after_attach, by_deed, by_ops, turned}
 
 -- an exchange that adds neither a transaction of a client nor a file
 pub record IsPlain (e : Exchange) : Type 0 where
@@ -82,6 +86,10 @@ same-plain n (Some s) e h = anew-plain n s.exec s.source e h
 set-plain : (n m : ServerNo) (o : Option Position) (e : Exchange) → by_set n m o ≡ Some e → IsPlain e
 set-plain n m None e h = cc
 set-plain n m (Some s) e h = subst IsPlain (same_Some (AttachAuto n.0 s.set m) e h) (record { writes_not = refl; rotates_not = refl })
+
+found-plain : (n m : ServerNo) (o : Option Match) (e : Exchange) → by_match n m o ≡ Some e → IsPlain e
+found-plain n m None e h = cc
+found-plain n m (Some x) e h = subst IsPlain (same_Some (Attach n.0 x.spot m x.at) e h) (record { writes_not = refl; rotates_not = refl })
 
 -- ---- each operation
 
@@ -129,6 +137,10 @@ module _ (w : World) (j : Job) (rest : List Op) where
       by true = go (attach_answer_of w e)
       by false = All-nil IsPlain
 
+  match-plain : (n m : ServerNo) (at : Spot) (r : Result Coord MatchFault) → ArePlain (settled j (after_match j rest n m at r))
+  match-plain n m at (Ok c) = All-nil IsPlain
+  match-plain n m at (Err f) = restarts-plain j.hands
+
   deed-plain : (read : ℕ) (now : Moment) (d : Deed) → ArePlain (settled j (by_deed w read now j rest d))
   deed-plain read now (deed.Look n from) = look-plain n from (observed w read now n) (seen_in (status w n.0))
   deed-plain read now (deed.Request n a) = ask-plain n a (desk_answer (server_at w n.0))
@@ -139,6 +151,8 @@ module _ (w : World) (j : Job) (rest : List Op) where
   deed-plain read now (deed.Cross c a b) = attach-plain a (crossed c a (bridge_at (read_by c a b) (seen_of j.seen (read_by c a b).0))) (crossed-plain c a (bridge_at (read_by c a b) (seen_of j.seen (read_by c a b).0)))
   deed-plain read now (deed.Same n) = attach-plain n (same_again n (seen_of j.seen n.0)) (same-plain n (seen_of j.seen n.0))
   deed-plain read now (deed.Auto n m) = attach-plain n (by_set n m (seen_of j.seen m.0)) (set-plain n m (seen_of j.seen m.0))
+  deed-plain read now (deed.Match n m every) = match-plain n m (standing_at (server_at w n.0)) (match_logs w n m every)
+  deed-plain read now (deed.CrossMatch n m) = attach-plain n (by_match n m (match_found j.matches n m)) (found-plain n m (match_found j.matches n m))
   deed-plain read now (deed.Finish lines) = All-nil IsPlain
 
 turn-plain : (w : World) (read : ℕ) (now : Moment) (j : Job) → All IsPlain (turned w read now j).exchanges

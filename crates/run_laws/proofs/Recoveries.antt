@@ -9,6 +9,7 @@ use Rattle.server_model.specs.Worlds.{World}
 use Rattle.operations.specs.Jobs.{Job}
 use Rattle.job_laws.specs.Flights.{Flight, leased_to}
 use Rattle.job_laws.specs.Footing.{are_held, footing}
+use Rattle.job_laws.specs.Matched.{are_matched, matched_in}
 use Rattle.job_laws.specs.Leases.{Begins as JobBegins, Leases, are_listed, leases_of}
 use Rattle.job_laws.specs.Passages.{AllMayPass, AllPassWell, Beginning, passed, passing}
 use Rattle.job_laws.proofs.Listed.{taken-leases}
@@ -41,6 +42,12 @@ first-held w purpose.Master f = refl
 first-held w (purpose.Intermediate s) f = refl
 first-held w (purpose.Takeover d) f = refl
 
+first-matched : (u : Purpose) (f : ServerNo) → are_matched (matched_in []) (first_ops u f) ≡ true
+first-matched purpose.Regroup f = refl
+first-matched purpose.Master f = refl
+first-matched (purpose.Intermediate s) f = refl
+first-matched (purpose.Takeover d) f = refl
+
 -- it only reads at first
 first-listed : (list : List ServerNo) (u : Purpose) (f : ServerNo) → are_listed list (first_ops u f) ≡ true
 first-listed list purpose.Regroup f = refl
@@ -62,6 +69,8 @@ module _ (count : ℕ) (leases : List (Option ℕ)) (a : AuditState) (last : ℕ
         seen = refl;
         hands = refl;
         left = first-held w x.job.purpose x.job.failed;
+        found = refl;
+        matched = first-matched x.job.purpose x.job.failed;
         listed = first-listed x.list x.job.purpose x.job.failed;
         free = λ n h. ap (λ (k : Leases). k n) same ∙ can.free n h;
       })

@@ -53,6 +53,7 @@ use Rattle.unended_jobs.specs.Unended.{core_of, number_of}
 use Rattle.unended_laws.proofs.Cores.{core-found}
 use Rattle.unended_laws.specs.Beside.{IsHeldBeside, IsSoundBeside}
 use Rattle.job_laws.specs.Held.{HeldJob}
+use Rattle.job_laws.specs.Matched.{AllMeet}
 use Rattle.job_laws.specs.Sound.{AllBridged}
 use Rattle.job_laws.proofs.Lists.{All-find}
 use Rattle.job_laws.proofs.Turns.{turn-sound}
@@ -168,7 +169,8 @@ Fit-job s id held sound (Some (unended.Plan j)) at =
     record {
       allowed = turn-allowed s.world (next_count s.reads) (moment_at s) j;
       join = (turn-sound s.world (next_count s.reads) (moment_at s) j sound.flight.safe held.flight.placed (All-find (HeldJob s.world) is_job (map core_of s.jobs) j held.flight.jobs found)
-          (All-find (λ k. AllBridged s.world k.seen) is_job (map core_of s.jobs) j sound.flight.jobs found)).joins;
+          (All-find (λ k. AllBridged s.world k.seen) is_job (map core_of s.jobs) j sound.flight.jobs found)
+          (All-find (λ k. AllMeet s.world k.matches) is_job (map core_of s.jobs) j sound.flight.met found)).joins;
     }
 Fit-job s id held sound (Some (unended.Recovery r entry)) at =
     let is_job : Unended → Bool = λ k. number_of k == id in

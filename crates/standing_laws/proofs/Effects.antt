@@ -31,6 +31,7 @@ use Rattle.kept_rows.specs.declared.observation.Observation.{Observation}
 use Rattle.kept_rows.specs.Seeing.{seen_in}
 use Rattle.commands.specs.declared.cause.Cause.TheVariants as cause
 use Rattle.operations.specs.declared.op.Crossing.TheVariants as cross
+use Rattle.operations.specs.declared.matching.MatchFault.{MatchFault}
 use Rattle.operations.specs.declared.op.Op.{Op}
 use Rattle.operations.specs.declared.op.Op.TheVariants as op
 use Rattle.operations.specs.declared.sight.Position.{Position}
@@ -38,7 +39,8 @@ use Rattle.operations.specs.Deeds as deed
 use Rattle.operations.specs.Deeds.{Deed, deed_of}
 use Rattle.operations.specs.Jobs.{Job, position_of, seen_of}
 use Rattle.operations.specs.Turns as attempt
-use Rattle.operations.specs.Turns.{bridge_at, Attempt, next, saw, observed, is_moved, after_status, after_look, after_ask, aim_of, is_reached, until_by, after_until, after_wait_by, after_wait, holds_seen, settles, crossed, crossing_of, by_set, attach_answer_of, after_answer, by_deed}
+use Rattle.operations.specs.Matching.{match_logs, standing_at}
+use Rattle.operations.specs.Turns.{bridge_at, Attempt, next, saw, observed, is_moved, after_status, after_look, after_ask, aim_of, is_reached, until_by, after_until, after_wait_by, after_wait, holds_seen, settles, crossed, crossing_of, by_set, after_match, attach_answer_of, after_answer, by_deed}
 use Rattle.job_laws.specs.Footing.{footing, finds, is_under, logs_at, source_shown}
 use Rattle.job_laws.specs.Held.{AllShow}
 use Rattle.job_laws.proofs.Spanning.{bridge-parts}
@@ -97,6 +99,10 @@ module _ (w : World) (j : Job) (rest : List Op) (m : ℕ) where
       go true = same
       go false = more (nat_lt (j.waited + 1) j.wait)
 
+  match-stays : (n k : ServerNo) (at : Spot) (r : Result Coord MatchFault) → Kept (after_match j rest n k at r)
+  match-stays n k at (Ok c) = same
+  match-stays n k at (Err f) = tt
+
   -- an operation that changes no source leaves each server as it stands
   pub deed-still : (read : ℕ) (now : Moment) (d : Deed) → moves d ≡ false → Kept (by_deed w read now j rest d)
   deed-still read now (deed.Look n from) h = look-stays n from (observed w read now n) (seen_in (status w n.0))
@@ -108,6 +114,8 @@ module _ (w : World) (j : Job) (rest : List Op) (m : ℕ) where
   deed-still read now (deed.Cross c a b) h = absurd (false≢true (sym h))
   deed-still read now (deed.Same n) h = absurd (false≢true (sym h))
   deed-still read now (deed.Auto n k) h = absurd (false≢true (sym h))
+  deed-still read now (deed.Match n k every) h = match-stays n k (standing_at (server_at w n.0)) (match_logs w n k every)
+  deed-still read now (deed.CrossMatch n k) h = absurd (false≢true (sym h))
   deed-still read now (deed.Finish lines) h = tt
 
 -- ---- one that changes a server

@@ -120,6 +120,8 @@ module _ (c : Clusters) where
   due-more (deed.Cross d a b) A B f h = f h
   due-more (deed.Same n) A B f h = f h
   due-more (deed.Auto n m) A B f h = (h.0, f h.1)
+  due-more (deed.Match n m every) A B f h = f h
+  due-more (deed.CrossMatch n m) A B f h = (h.0, f h.1)
   due-more (deed.Finish lines) A B f h = f h
 
   due-append : (xs ys : List Op) → AreDueWithin c xs → AreDueWithin c ys → AreDueWithin c (xs ++ ys)

@@ -17,6 +17,7 @@ use Rattle.server_words.specs.declared.status.StatusFault.TheVariants as seeing
 use Rattle.server_words.specs.declared.answers.Unreachable.{Unreachable}
 use Rattle.server_words.specs.declared.attach.AttachFault.{AttachFault}
 use Rattle.server_words.specs.declared.attach.Spot.TheVariants as spot
+use Rattle.server_words.specs.declared.attach.Spot.{Spot}
 use Rattle.server_words.specs.declared.changes.Ask.{Ask}
 use Rattle.server_words.specs.declared.changes.Ask.TheVariants as asking
 use Rattle.server_model.specs.declared.server.Server.{Server}
@@ -33,14 +34,17 @@ use Rattle.operations.specs.declared.op.Aim.{Aim}
 use Rattle.operations.specs.declared.op.Aim.TheVariants as aim
 use Rattle.operations.specs.declared.op.Crossing.{Crossing}
 use Rattle.operations.specs.declared.op.Crossing.TheVariants as cross
+use Rattle.operations.specs.declared.matching.Match.{Match}
+use Rattle.operations.specs.declared.matching.MatchFault.{MatchFault}
 use Rattle.operations.specs.declared.op.Op.{Op}
 use Rattle.operations.specs.declared.sight.Position.{Position}
 use Rattle.operations.specs.declared.sight.Sight.{Sight}
 use Rattle.operations.specs.Deeds as deed
 use Rattle.operations.specs.Deeds.{Deed, deed_of}
-use Rattle.operations.specs.Jobs.{Job, position_of, seen_of, with_seen}
+use Rattle.operations.specs.Jobs.{Job, position_of, seen_of, with_seen, match_found}
+use Rattle.operations.specs.Matching.{match_logs, standing_at}
 use Rattle.operations.specs.Targets.{can_attach}
-use Rattle.operations.specs.Turns.{Attempt, Goes, Stops, after_answer, after_ask, after_attach, after_look, after_status, after_until, after_wait, after_wait_by, aim_of, attach_answer_of, attached_anew, bridge_at, by_deed, by_ops, by_set, crossed, failed, hands_after, holds_seen, is_moved, is_reached, next, observed, read_by, restarts, same_again, saw, settled, settles, turned, until_by}
+use Rattle.operations.specs.Turns.{Attempt, Goes, Stops, after_answer, after_ask, after_attach, after_look, after_status, after_until, after_wait, after_wait_by, aim_of, attach_answer_of, attached_anew, bridge_at, by_deed, by_ops, by_set, after_match, by_match, crossed, failed, hands_after, holds_seen, is_moved, is_reached, next, observed, read_by, restarts, same_again, saw, settled, settles, turned, until_by}
 use Rattle.job_laws.specs.Footing.{finds, finds_crossing, footing, is_under, logs_at, source_shown}
 use Rattle.job_laws.specs.Held.{AllShow, HeldJob}
 use Rattle.job_laws.proofs.Spanning.{bridge-parts}
@@ -262,6 +266,15 @@ module _ (c : Clusters) (w : World) (j : Job) (rest : List Op) (placed : Placed 
       by true = go (attach_answer_of w e)
       by false = passed-within due
 
+  match-within : (n m : ServerNo) (at : Spot) (r : Result Coord MatchFault) → AreDueWithin c rest → IsTriedWithin c w (after_match j rest n m at r)
+  match-within n m at (Ok d) due = record { orderly = tt; job = record { seen = all; left = due }; read = tt }
+  match-within n m at (Err f) due = tt
+
+-- a change of source by a match stays within the cluster
+found-within : (c : Clusters) (w : World) (n m : ServerNo) → AreAlike c m.0 n.0 → (o : Option Match) (e : Exchange) → by_match n m o ≡ Some e → IsOrderly c w e
+found-within c w n m same None e h = cc
+found-within c w n m same (Some x) e h = subst (IsOrderly c w) (same_Some (Attach n.0 x.spot m x.at) e h) (λ r at live. same)
+
 -- ---- any operation
 
 pub deed-within : (c : Clusters) (w : World) (read : ℕ) (now : Moment) (j : Job) (rest : List Op) (d : Deed) → Placed w → IsTrim c w → AllShow w j.seen → AllWithin c j.seen → AreDueWithin c j.ops
@@ -286,6 +299,10 @@ deed-within c w read now j rest (deed.Same n) placed trim shown all again found 
 deed-within c w read now j rest (deed.Auto n m) placed trim shown all again found due =
     let gtid : w.gtid ≡ true = (and_parts w.gtid ((footing w j.seen).read m.0 && (footing w j.seen).logs m.0) found).0 in
     attach-within c w j rest placed trim shown all again n (by_set n m (seen_of j.seen m.0)) (λ e h. auto-within c w trim j.seen all n m e gtid due.0 h) due.1
+deed-within c w read now j rest (deed.Match n m every) placed trim shown all again found due =
+    match-within c w j rest placed trim shown all again n m (standing_at (server_at w n.0)) (match_logs w n m every) due
+deed-within c w read now j rest (deed.CrossMatch n m) placed trim shown all again found due =
+    attach-within c w j rest placed trim shown all again n (by_match n m (match_found j.matches n m)) (found-within c w n m due.0 (match_found j.matches n m)) due.1
 deed-within c w read now j rest (deed.Finish lines) placed trim shown all again found due = tt
 
 -- ---- a turn of a plan's job
@@ -305,4 +322,4 @@ turn-within c w read now j placed trim held within = go j.ops refl within.left
     go [] is due = record { orderly = tt; job = record { seen = within.seen; left = tt }; read = tt }
     go (op ∷ rest) is due =
         settled-within c w j (by_ops w read now j (op ∷ rest)) within.seen
-        (deed-within c w read now j rest (deed_of op) placed trim held.shown within.seen within.left (due-of w j op rest is held.left).found due)
+        (deed-within c w read now j rest (deed_of op) placed trim held.shown within.seen within.left (due-of w j op rest is held.left held.matched).found due)

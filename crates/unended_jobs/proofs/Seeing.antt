@@ -11,6 +11,7 @@ use Rattle.instance_keeper.specs.Book.{BookState}
 use Rattle.kept_rows.specs.Seeing.{seen_in}
 use Rattle.server_words.specs.declared.answers.Unreachable.{Unreachable}
 use Rattle.server_words.specs.declared.attach.AttachFault.{AttachFault}
+use Rattle.server_words.specs.declared.attach.Spot.{Spot}
 use Rattle.server_words.specs.declared.changes.Ask.{Ask}
 use Rattle.server_words.specs.declared.changes.Ask.TheVariants as asking
 use Rattle.server_words.specs.declared.status.Status.{Status}
@@ -19,13 +20,15 @@ use Rattle.server_model.specs.Gtids.{status}
 use Rattle.server_model.specs.Run.{Exchange}
 use Rattle.server_model.specs.Worlds.{World, server_at}
 use Rattle.commands.specs.declared.cause.Cause.TheVariants as cause
+use Rattle.operations.specs.declared.matching.MatchFault.{MatchFault}
 use Rattle.operations.specs.declared.op.Op.{Op}
 use Rattle.operations.specs.Deeds as deed
 use Rattle.operations.specs.Deeds.{Deed, deed_of}
-use Rattle.operations.specs.Jobs.{Job, seen_of}
+use Rattle.operations.specs.Jobs.{Job, match_found, seen_of}
 use Rattle.operations.specs.Named.{are_named, is_named}
+use Rattle.operations.specs.Matching.{match_logs, standing_at}
 use Rattle.operations.specs.Targets.{can_attach}
-use Rattle.operations.specs.Turns.{bridge_at, Attempt, Goes, Stops, after_answer, after_ask, after_attach, after_look, after_status, after_until, after_wait, after_wait_by, aim_of, attach_answer_of, by_deed, by_ops, by_set, crossed, holds_seen, is_moved, is_reached, next, observed, read_by, same_again, saw, settled, settles, turned, until_by}
+use Rattle.operations.specs.Turns.{bridge_at, Attempt, Goes, Stops, after_answer, after_ask, after_attach, after_look, after_status, after_until, after_wait, after_wait_by, aim_of, attach_answer_of, by_deed, by_ops, by_set, after_match, by_match, crossed, holds_seen, is_moved, is_reached, next, observed, read_by, same_again, saw, settled, settles, turned, until_by}
 use Rattle.recovery_plans.specs.Deciding.{decided}
 use Rattle.recovery_plans.specs.Named.{IsNamedRecovery, IsOpOf, spoken_to}
 use Rattle.recovery_plans.specs.Recoveries.{Recovery}
@@ -80,6 +83,10 @@ module _ (w : World) (read : ℕ) (now : Moment) (j : Job) (rest : List Op) wher
       go true = by_answer (attach_answer_of w e)
       go false = tt
 
+  match-sees : (n m : ServerNo) (at : Spot) (r : Result Coord MatchFault) → Sees (after_match j rest n m at r)
+  match-sees n m at (Ok c) = tt
+  match-sees n m at (Err f) = tt
+
   -- by the operation that is due, where the server that it speaks with is there
   deed-sees : (d : Deed) → IfSome (spoken_to d) (λ n. n.0 < length w.servers) → Sees (by_deed w read now j rest d)
   deed-sees (deed.Look n from) within = look-sees n from within (seen_in (status w n.0))
@@ -91,6 +98,8 @@ module _ (w : World) (read : ℕ) (now : Moment) (j : Job) (rest : List Op) wher
   deed-sees (deed.Cross c a b) within = attach-sees a (crossed c a (bridge_at (read_by c a b) (seen_of j.seen (read_by c a b).0)))
   deed-sees (deed.Same n) within = attach-sees n (same_again n (seen_of j.seen n.0))
   deed-sees (deed.Auto n m) within = attach-sees n (by_set n m (seen_of j.seen m.0))
+  deed-sees (deed.Match n m every) within = match-sees n m (standing_at (server_at w n.0)) (match_logs w n m every)
+  deed-sees (deed.CrossMatch n m) within = attach-sees n (by_match n m (match_found j.matches n m))
   deed-sees (deed.Finish lines) within = tt
 
 below-by : (m k : ℕ) → nat_lt m k ≡ true → m < k
@@ -106,6 +115,8 @@ named-speaks count (deed.Settle n) h = below-by n.0 count h
 named-speaks count (deed.Cross c a b) h = below-by a.0 count h
 named-speaks count (deed.Same n) h = below-by n.0 count h
 named-speaks count (deed.Auto n m) h = below-by n.0 count h
+named-speaks count (deed.Match n m every) h = tt
+named-speaks count (deed.CrossMatch n m) h = below-by n.0 count h
 named-speaks count (deed.Finish lines) h = tt
 
 at-some : {X : Type 0} (P : X → Type 0) (o : Option X) (x : X) → o ≡ Some x → IfSome o P → P x

@@ -10,7 +10,7 @@ pub returns-clause-turn : goal.returns-clause-turn
 returns-clause-turn c = turn-kept
 
 pub returns-clause-deed : goal.returns-clause-deed
-returns-clause-deed c = λ w read now j rest d next. deed-kept w read now j rest d next.placed next.shown next.due
+returns-clause-deed c = λ w read now j rest d next. deed-kept w read now j rest d next.placed next.shown next.ends next.due
 
 pub returns-clause-leases : goal.returns-clause-leases
 returns-clause-leases c = turn-leased
@@ -19,4 +19,4 @@ pub returns-clause-others : goal.returns-clause-others
 returns-clause-others c = Held-run
 
 pub returns-clause-goes : goal.returns-clause-goes
-returns-clause-goes c = λ w read now j k rest d o es next is. goes-kept w read now j k rest d o es next.placed next.shown next.due is
+returns-clause-goes c = λ w read now j k rest d o es next is. goes-kept w read now j k rest d o es next.placed next.shown next.ends next.due is

@@ -5,7 +5,7 @@ pub returns-clause-turn : goal.returns-clause-turn
 returns-clause-turn c = turn-sound
 
 pub returns-clause-deed : goal.returns-clause-deed
-returns-clause-deed c = λ w read now j rest d up. deed-sound w read now j rest d up.safe up.next.placed up.next.shown up.bridged up.next.due
+returns-clause-deed c = λ w read now j rest d up. deed-sound w read now j rest d up.safe up.next.placed up.next.shown up.bridged up.met up.next.due
 
 pub returns-clause-goes : goal.returns-clause-goes
-returns-clause-goes c = λ w read now j k rest d o es up is. goes-sound w read now j k rest d o es up.safe up.next.placed up.next.shown up.bridged up.next.due is
+returns-clause-goes c = λ w read now j k rest d o es up is. goes-sound w read now j k rest d o es up.safe up.next.placed up.next.shown up.bridged up.met up.next.due is

@@ -1,7 +1,7 @@
 use Rattle.std.proofs.Common.{◌<◌, length, sym, subst}
 use Rattle.recovery_plans.specs.Recoveries.{Recovery}
 use Rattle.recovery_turns.specs.RecoveriesBy.{IsRoomy, room_for}
-use Rattle.recovery_turns.proofs.Rooms.{hands_decided, roomy_decided}
+use Rattle.recovery_turns.proofs.Rooms.{hands_decided, matches_decided, roomy_decided}
 use Rattle.recovery_turns.proofs.recovery.RecoveryJob.turn.Goals as goal
 
 pub go_ahead-requires-clause-room : goal.go_ahead-requires-clause-room
@@ -10,3 +10,7 @@ go_ahead-requires-clause-room c = subst (λ (x : Recovery). IsRoomy 2 x) (sym c.
 pub go_ahead-requires-clause-hands : goal.go_ahead-requires-clause-hands
 go_ahead-requires-clause-hands c =
     subst (λ (x : Recovery). length x.core.hands < room_for x.replicas) (sym c.adopt.ensures) (hands_decided c.args.self.now c.args.look.decided c.requires.fits)
+
+pub go_ahead-requires-clause-matches : goal.go_ahead-requires-clause-matches
+go_ahead-requires-clause-matches c =
+    subst (λ (x : Recovery). length x.core.matches < room_for x.replicas) (sym c.adopt.ensures) (matches_decided c.args.self.now c.args.look.decided c.requires.fits)

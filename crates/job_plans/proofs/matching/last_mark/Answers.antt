@@ -1,0 +1,39 @@
+use Rattle.std.proofs.Common.{◌≡◌, ℕ, ◌+◌, ◌-◌, ◌≤◌, Bool, arith, ap, refl, sym, ◌∙◌, Option, Some}
+use Rattle.orch_base.specs.declared.server.Txn.{Txn}
+use Rattle.server_model.specs.Plains.{logged_by}
+use Rattle.server_model.specs.Worlds.{server_at}
+use Rattle.server_model.specs.declared.server.Server.{Server}
+use Rattle.operations.specs.Matching.{is_mark_there}
+use Rattle.operations.proofs.Marks.{last-none}
+use Rattle.job_plans.specs.Entries.{kept_from}
+use Rattle.job_plans.proofs.Entries.{last-before, last-here, test-gone, test-kept, txn-of}
+use Rattle.job_plans.proofs.matching.last_mark.Goals.{After-is_mark}
+use Rattle.job_plans.proofs.matching.last_mark.Goals as goal
+
+-- what is tested of an entry
+passes : (c : After-is_mark) (s : Server) → server_at c.args.world.now c.args.no.0 ≡ Some s → is_mark_there c.args.every (logged_by s (c.loop-k.k - 1)) ≡ c.is_mark.result
+passes c s at =
+    let from : c.kept_from-from.result ≡ kept_from s = c.kept_from-from.ensures s at in
+    let kept : kept_from s ≤ c.loop-k.k - 1 = omega (arith, from, c.loop-k-test.true) in
+    test-kept s (is_mark_there c.args.every) (c.loop-k.k - 1) c.transaction.result kept (txn-of c.args.world.now c.args.no.0 (c.loop-k.k - 1) s c.transaction.result at c.transaction.ensures)
+    ∙ sym c.is_mark.ensures
+
+pub returns-then-is_mark : goal.returns-then-is_mark
+returns-then-is_mark c = λ s at.
+    let p : ℕ → Bool = λ k. is_mark_there c.args.every (logged_by s k) in
+    let known = passes (goal.at.returns-then-is_mark c).After-is_mark s at in
+    let one : c.loop-k.k ≡ c.loop-k.k - 1 + 1 = omega (arith, c.loop-k-test.true) in
+    sym (c.loop-k.invariant s at ∙ last-here p c.loop-k.k (c.loop-k.k - 1) one (known ∙ c.if-is_mark.true))
+
+pub loop-k-preserved : goal.loop-k-preserved
+loop-k-preserved c = λ s at.
+    let p : ℕ → Bool = λ k. is_mark_there c.args.every (logged_by s k) in
+    let known = passes (goal.at.loop-k-preserved c).After-is_mark s at in
+    let one : c.loop-k.k ≡ c.loop-k.k - 1 + 1 = omega (arith, c.loop-k-test.true) in
+    c.loop-k.invariant s at ∙ last-before p c.loop-k.k (c.loop-k.k - 1) one (known ∙ c.if-is_mark.false)
+
+pub returns : goal.returns
+returns c = λ s at.
+    let p : ℕ → Bool = λ k. is_mark_there c.args.every (logged_by s k) in
+    let from : c.kept_from-from.result ≡ kept_from s = c.kept_from-from.ensures s at in
+    sym (c.loop-k.invariant s at ∙ last-none p c.loop-k.k (λ k lt. test-gone s (is_mark_there c.args.every) k (omega (arith, lt, from, c.loop-k-test.false)) refl))

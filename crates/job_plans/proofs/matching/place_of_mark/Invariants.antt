@@ -1,0 +1,11 @@
+use Rattle.std.proofs.Common.{◌≡◌, Some, length}
+use Rattle.server_model.specs.Plains.{logged_by}
+use Rattle.server_model.specs.Worlds.{server_at}
+use Rattle.server_model.specs.declared.server.Server.{Server}
+use Rattle.operations.specs.Matching.{is_same_there, last_below}
+use Rattle.job_plans.proofs.matching.place_of_mark.Given as goal
+
+-- none was found behind
+abbrev pub invariant-loop-k : goal.invariant-loop-k
+invariant-loop-k l =
+    (s : Server) → server_at l.world l.no.0 ≡ Some s → last_below (λ k. is_same_there l.mark (logged_by s k)) (length s.history.txns) ≡ last_below (λ k. is_same_there l.mark (logged_by s k)) l.k

@@ -1,0 +1,16 @@
+-- Two logs that are compared behind a mark that both keep.
+use Rattle.std.specs.Prelude.{◌≡◌, ℕ, ◌+◌, ◌-◌, ◌≤◌, length, Some}
+use Rattle.orch_base.specs.declared.server.ServerNo.{ServerNo}
+use Rattle.server_model.specs.Plains.{logged_by}
+use Rattle.server_model.specs.Worlds.{World, server_at}
+use Rattle.server_model.specs.declared.server.Server.{Server}
+use Rattle.operations.specs.Matching.{alike, first_not, first_unlike}
+
+-- Up to entry k of the first server those of the second are like them; entry `at` of the second, which has so many, is
+-- in the place of entry k.
+pub record Compared (w : World) (r d : ServerNo) (every i j more k at : ℕ) : Type 0 where
+  pub behind : i + 1 ≤ k
+  pub place : at ≡ (k + j) - i
+  pub within : at ≤ more
+  pub left : (x y : Server) → server_at w r.0 ≡ Some x → server_at w d.0 ≡ Some y
+      → first_unlike every x y i j ≡ first_not (λ n. alike every (logged_by x n) (logged_by y ((n + j) - i))) k (length x.history.txns - k)

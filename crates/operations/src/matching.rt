@@ -1,0 +1,30 @@
+//! How the logs of servers match (Pseudo-GTID).
+
+use binlog_coords::Coord;
+use orch_base::ServerNo;
+use server_words::Spot;
+
+/// Why the log of a server doesn't match another's.
+#[derive(Clone, Copy, Debug, PartialEq, Eq)]
+pub enum MatchFault {
+    /// This server isn't reached: the first of the two that isn't.
+    Unreachable(ServerNo),
+    /// The first server's log keeps no mark, or the second's doesn't keep the last one of it.
+    NoMark,
+    /// This entry of the first server, counted from 1, is the first behind the mark for which the second has none in
+    /// its place, or one that shows something else.
+    Mismatch(u64),
+}
+
+/// That the log of a server matches another's.
+#[derive(Clone, Copy, Debug)]
+pub struct Match {
+    /// The server.
+    pub no: ServerNo,
+    /// The one whose log its log matches.
+    pub to: ServerNo,
+    /// Where the server stood.
+    pub spot: Spot,
+    /// Where all that it had executed ends in the other's log.
+    pub at: Coord,
+}
