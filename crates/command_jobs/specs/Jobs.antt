@@ -17,6 +17,7 @@ use Rattle.operations.specs.Jobs.{job_with}
 use Rattle.permission.specs.Checks.{unknown_in}
 use Rattle.recovery_plans.specs.Beginning.{begun_recovery}
 use Rattle.recovery_plans.specs.declared.purpose.Purpose.TheVariants as purpose
+use Rattle.unended_jobs.specs.Hooked.{no_docket}
 use Rattle.unended_jobs.specs.declared.unended.Unended.{Unended}
 use Rattle.unended_jobs.specs.declared.unended.Unended.TheVariants as unended
 use Rattle.server_model.specs.Worlds.{World}
@@ -56,7 +57,7 @@ leases_by w b c (Matches kind) = []
 -- the replicas of an instance are regrouped, in name order; without one nothing is done
 abbrev pub regroup_about : BookState → ℕ → ℕ → Option ServerNo → Unended
 regroup_about b id wait None = unended.Plan (job_with id wait [])
-regroup_about b id wait (Some i) = unended.Recovery (begun_recovery purpose.Regroup id wait i (replicas_of b i) (replicas_of b i)) None
+regroup_about b id wait (Some i) = unended.Recovery (begun_recovery purpose.Regroup id wait i (replicas_of b i) (replicas_of b i)) no_docket
 
 -- the command's job, with this number, whose operations may wait so often each; that of one that is refused always does
 -- nothing

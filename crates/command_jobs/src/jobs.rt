@@ -18,7 +18,7 @@ use recovery_turns::RecoveryJob;
 use server_model::World;
 use std::alloc::Global;
 use topology_tree::Forest;
-use unended_jobs::Unended;
+use unended_jobs::{Docket, Unended};
 
 // Commands that match logs are refused: no log has marks by which it could be matched.
 fn unmatched(book: &Book, command: Command) -> Refusal
@@ -99,7 +99,7 @@ fn regroup_of(
     let order = replicas.to_vec(alloc)?;
     Ok(Unended::Recovery(
         RecoveryJob::make(alloc, Purpose::Regroup, id, wait, i, replicas, order)?,
-        None,
+        Docket::none(),
     ))
 }
 

@@ -16,6 +16,7 @@ use Rattle.recovery_covers.specs.Covers.{AreReplicas}
 use Rattle.recovery_covers.proofs.Begun.{begun-covers, outside-covers}
 use Rattle.recovery_histories.proofs.Keeping.{begun-kept, kept-run}
 use Rattle.recovery_reasons.proofs.Speaking.{begun-speaks}
+use Rattle.unended_jobs.specs.declared.docket.Docket.{Docket}
 use Rattle.unended_jobs.specs.declared.unended.Unended.{Unended}
 use Rattle.unended_jobs.specs.declared.unended.Unended.TheVariants as unended
 use Rattle.unended_jobs.specs.Unended.{core_of}
@@ -33,15 +34,15 @@ stored-same P f p keeps h = subst P (sym (world-stored_if keeps f (slot_of f p))
 
 outside-covered : (f : Flight) (p : Passage) → IsOutside p → (u : Unended) → IsCoveredBeside f.world u → IsCoveredBeside (passed f p).world u
 outside-covered f p out (unended.Plan j) c = tt
-outside-covered f (pass.Exchanging e) out (unended.Recovery r entry) c = outside-covers f.world e r out c
-outside-covered f (pass.Polling p n read now) out (unended.Recovery r entry) c = c
-outside-covered f (pass.Storing p keeps) out (unended.Recovery r entry) c = stored-same (λ w. IsCoveredBeside w (unended.Recovery r entry)) f p keeps c
-outside-covered f (pass.Discovering n read now) out (unended.Recovery r entry) c = c
-outside-covered f (pass.Forgetting n) out (unended.Recovery r entry) c = c
-outside-covered f pass.Restarting out (unended.Recovery r entry) c = absurd out
-outside-covered f (pass.Beginning list j) out (unended.Recovery r entry) c = absurd out
-outside-covered f (pass.Turning id read now keeps) out (unended.Recovery r entry) c = absurd out
-outside-covered f (pass.Taking id t keeps) out (unended.Recovery r entry) c = absurd out
+outside-covered f (pass.Exchanging e) out (unended.Recovery r docket) c = outside-covers f.world e r out c
+outside-covered f (pass.Polling p n read now) out (unended.Recovery r docket) c = c
+outside-covered f (pass.Storing p keeps) out (unended.Recovery r docket) c = stored-same (λ w. IsCoveredBeside w (unended.Recovery r docket)) f p keeps c
+outside-covered f (pass.Discovering n read now) out (unended.Recovery r docket) c = c
+outside-covered f (pass.Forgetting n) out (unended.Recovery r docket) c = c
+outside-covered f pass.Restarting out (unended.Recovery r docket) c = absurd out
+outside-covered f (pass.Beginning list j) out (unended.Recovery r docket) c = absurd out
+outside-covered f (pass.Turning id read now keeps) out (unended.Recovery r docket) c = absurd out
+outside-covered f (pass.Taking id t keeps) out (unended.Recovery r docket) c = absurd out
 
 pub outside-stays : (f : Flight) (us : List Unended) (p : Passage) → IsOutside p → CoveredJobs f us → CoveredJobs (passed f p) us
 outside-stays f us p out covered = record {
@@ -52,7 +53,7 @@ outside-stays f us p out covered = record {
 
 pub run-kept : (w : World) (es : List Exchange) (u : Unended) → Placed w → AllAllowed w es → IsKeptBeside w u → IsKeptBeside (run w es) u
 run-kept w es (unended.Plan j) placed allowed k = tt
-run-kept w es (unended.Recovery r entry) placed allowed k = kept-run w es r placed allowed k
+run-kept w es (unended.Recovery r docket) placed allowed k = kept-run w es r placed allowed k
 
 apart-kept : (f : Flight) (p : Passage) → MayPass f p → IsApart p → Held f → (u : Unended) → IsKeptBeside f.world u → IsKeptBeside (passed f p).world u
 apart-kept f (pass.Exchanging e) may apart held u k = run-kept f.world (e ∷ []) u held.placed (may.0, tt) k
@@ -98,14 +99,14 @@ begin-speaking us u new speaking = record { jobs = All-push IsSpeakingBeside us 
 pub begin-aimed : (begun : ℕ → Recovery) (us : List Unended) (u : Unended) → IsAimedBeside begun u → AimedJobs begun us → AimedJobs begun (us ++ u ∷ [])
 begin-aimed begun us u new aimed = record { jobs = All-push (IsAimedBeside begun) us u aimed.jobs new }
 
-pub recovery-covered : (w : World) (u : Purpose) (id wait : ℕ) (f : ServerNo) (replicas order : List ServerNo) (entry : Option ℕ) → AreReplicas u f replicas
-    → IsCoveredBeside w (unended.Recovery (begun_recovery u id wait f replicas order) entry)
-recovery-covered w u id wait f replicas order entry are = begun-covers w id wait f replicas order u are
+pub recovery-covered : (w : World) (u : Purpose) (id wait : ℕ) (f : ServerNo) (replicas order : List ServerNo) (docket : Docket) → AreReplicas u f replicas
+    → IsCoveredBeside w (unended.Recovery (begun_recovery u id wait f replicas order) docket)
+recovery-covered w u id wait f replicas order docket are = begun-covers w id wait f replicas order u are
 
-pub recovery-kept : (w : World) (u : Purpose) (id wait : ℕ) (f : ServerNo) (replicas order : List ServerNo) (entry : Option ℕ)
-    → IsKeptBeside w (unended.Recovery (begun_recovery u id wait f replicas order) entry)
-recovery-kept w u id wait f replicas order entry = begun-kept w u id wait f replicas order
+pub recovery-kept : (w : World) (u : Purpose) (id wait : ℕ) (f : ServerNo) (replicas order : List ServerNo) (docket : Docket)
+    → IsKeptBeside w (unended.Recovery (begun_recovery u id wait f replicas order) docket)
+recovery-kept w u id wait f replicas order docket = begun-kept w u id wait f replicas order
 
-pub recovery-speaks : (u : Purpose) (id wait : ℕ) (f : ServerNo) (replicas order : List ServerNo) (entry : Option ℕ)
-    → IsSpeakingBeside (unended.Recovery (begun_recovery u id wait f replicas order) entry)
-recovery-speaks u id wait f replicas order entry = begun-speaks u id wait f replicas order
+pub recovery-speaks : (u : Purpose) (id wait : ℕ) (f : ServerNo) (replicas order : List ServerNo) (docket : Docket)
+    → IsSpeakingBeside (unended.Recovery (begun_recovery u id wait f replicas order) docket)
+recovery-speaks u id wait f replicas order docket = begun-speaks u id wait f replicas order

@@ -114,14 +114,14 @@ module _ (f : Flight) (us : List Unended) (t : RecoveryTurn f us) where
   at-failed P h = subst P turn-aim.failed h
 
   module _ (held : HeldJobs f us) where
-    here : (P : Unended → Type 0) → All P us → P (unended.Recovery t.recovery t.entry)
-    here P all = found f us t.book t.id t.at_read t.at_moment t.rings held P all (unended.Recovery t.recovery t.entry) t.found
+    here : (P : Unended → Type 0) → All P us → P (unended.Recovery t.recovery t.docket)
+    here P all = found f us t.book t.id t.at_read t.at_moment t.rings held P all (unended.Recovery t.recovery t.docket) t.found
 
     pub last-aim : (begun : ℕ → Recovery) → AimedJobs begun us → SameAim (begun t.id) (recovery_then f us t)
     last-aim begun aimed =
         let was = here (IsAimedBeside begun) aimed.jobs in
         then-aim (begun t.id) t.recovery (recovery_then f us t)
-        (subst (λ (i : ℕ). SameAim (begun i) t.recovery) (found-number us t.id (unended.Recovery t.recovery t.entry) t.found) was) turn-aim
+        (subst (λ (i : ℕ). SameAim (begun i) t.recovery) (found-number us t.id (unended.Recovery t.recovery t.docket) t.found) was) turn-aim
 
     rings : HeldRings f.world t.book.rings
     rings = rings-held f us t.book t.id t.at_read t.at_moment t.rings held

@@ -3,7 +3,7 @@ use Rattle.std.proofs.Common.{◌≡◌, ◌∙◌, ℕ, Bool, true, false, List
 use Rattle.std.specs.Prelude.{All, ◌==◌, not}
 use Rattle.std.specs.Option.{option_map}
 use Rattle.std.proofs.lemmas.Bool.{eq-eqb, false≢true}
-use Rattle.std.proofs.lemmas.List.Elements.{All-filter, All-map, All-weaker, filter_passes}
+use Rattle.std.proofs.lemmas.List.Elements.{All-filter, All-map, All-nil, All-weaker, filter_passes}
 use Rattle.orch_base.specs.declared.server.Moment.{Moment}
 use Rattle.instance_keeper.specs.declared.bridge.Bridge.{Bridge}
 use Rattle.kept_rows.specs.declared.observation.Observation.{Observation}
@@ -28,13 +28,18 @@ use Rattle.recovery_laws.specs.Rings.{AreOwn, HeldRings, SoundRings}
 use Rattle.recovery_laws.proofs.Leasing.{taken-leased}
 use Rattle.recovery_covers.proofs.Begun.{others-cover}
 use Rattle.recovery_covers.proofs.Turning.{turn-covers}
-use Rattle.recovery_histories.specs.Kept.{SameAim}
+use Rattle.recovery_covers.specs.SoFar.{CoversSoFar}
+use Rattle.recovery_histories.specs.Kept.{KeptByChosen, SameAim}
 use Rattle.recovery_histories.proofs.Keeping.{taken-kept}
 use Rattle.recovery_histories.proofs.Staying.{taken-aim, then-aim}
+use Rattle.recovery_reasons.specs.Reasons.{Speaks}
 use Rattle.recovery_reasons.proofs.Speaking.{taken-speaks}
 use Rattle.unended_jobs.specs.declared.unended.Unended.{Unended}
 use Rattle.unended_jobs.specs.declared.unended.Unended.TheVariants as unended
+use Rattle.unended_jobs.specs.declared.docket.Docket.{Docket}
+use Rattle.unended_jobs.specs.Hooked.{hooked, promoted_in}
 use Rattle.unended_jobs.specs.Unended.{Flown, core_of, flown, number_of}
+use Rattle.unended_jobs.proofs.Hooked.{hooked-has}
 use Rattle.unended_jobs.proofs.Going.{flown-allowed}
 use Rattle.jobs_in_flight.specs.Jobs.{job_at, jobs_turned, with_job, without_job}
 use Rattle.jobs_in_flight.proofs.Numbers.{found-number}
@@ -98,10 +103,10 @@ module _ (f : Flight) (us : List Unended) (b : BookState) (id read : ℕ) (now :
   abbrev then : Unended → World
   then u = run f.world (flown f.world b read now u).exchanges
 
-  recovery-leased : (r : Recovery) (entry : Option ℕ) → job_at us id ≡ Some (unended.Recovery r entry) → KeepsLeased f.leases id (taken f.world b read now r)
-  recovery-leased r entry at =
-      let mine = found (IsHeldBeside f.world f.leases) held.jobs (unended.Recovery r entry) at in
-      taken-leased f.leases id f.world b read now r (subst (λ (i : ℕ). LeasedRecovery f.leases i r) (found-number us id (unended.Recovery r entry) at) mine.1)
+  recovery-leased : (r : Recovery) (d : Docket) → job_at us id ≡ Some (unended.Recovery r d) → KeepsLeased f.leases id (taken f.world b read now r)
+  recovery-leased r d at =
+      let mine = found (IsHeldBeside f.world f.leases) held.jobs (unended.Recovery r d) at in
+      taken-leased f.leases id f.world b read now r (subst (λ (i : ℕ). LeasedRecovery f.leases i r) (found-number us id (unended.Recovery r d) at) mine.1)
 
   -- a turn's exchanges are with servers that are leased to its job
   leased-by : (u : Unended) → job_at us id ≡ Some u → All (λ e. IsLeased f.leases id (server_of e)) (flown f.world b read now u).exchanges
@@ -109,31 +114,47 @@ module _ (f : Flight) (us : List Unended) (b : BookState) (id read : ℕ) (now :
       let has = All-find (HasLeases f.leases) (λ (k : Job). k.id == id) f.jobs j held.flight.leased.each (core-here (unended.Plan j) at) in
       subst (λ (i : ℕ). All (λ e. IsLeased f.leases i (server_of e)) (turned f.world read now j).exchanges) (found-number us id (unended.Plan j) at)
       (turn-leased f.leases f.world read now j has).exchanges
-  leased-by (unended.Recovery r entry) at = (recovery-leased r entry at).exchanges
+  leased-by (unended.Recovery r d) at =
+      let t = taken f.world b read now r in
+      hooked-has (λ x. All (λ e. IsLeased f.leases id (server_of e)) x.exchanges) d (promoted_in b t) r t (λ s same. (recovery-leased r d at).exchanges)
+      (λ s. All-nil (λ e. IsLeased f.leases id (server_of e)))
 
   other-covered : (u : Unended) → job_at us id ≡ Some u → (k : Unended) → (number_of k ≡ id → ⊥) → IsHeldBeside f.world f.leases k × IsCoveredBeside f.world k → IsCoveredBeside (then u) k
   other-covered u at (unended.Plan j) apart c = tt
-  other-covered u at (unended.Recovery r entry) apart c =
+  other-covered u at (unended.Recovery r d) apart c =
       others-cover f.leases id r.core.id f.world (flown f.world b read now u).exchanges r (leased-by u at) (λ same. apart (sym same)) c.0.1 c.1
 
   next-covered : (u : Unended) → IsHeldBeside f.world f.leases u → IsCoveredBeside f.world u → is_going (flown f.world b read now u).step ≡ true → IsCoveredBeside (then u) (flown f.world b read now u).next
-  next-covered (unended.Plan j) mine c going = tt
-  next-covered (unended.Recovery r entry) mine c going = turn-covers f.world b read now r held.flight.placed rings-held mine.0 c going
+  next-covered (unended.Plan j) mine c = λ going. tt
+  next-covered (unended.Recovery r d) mine c =
+      let t = taken f.world b read now r in
+      hooked-has (λ x. is_going x.step ≡ true → CoversSoFar (run f.world x.exchanges) x.recovery) d (promoted_in b t) r t
+      (λ s same g. turn-covers f.world b read now r held.flight.placed rings-held mine.0 c (sym same ∙ g)) (λ s g. c)
 
   next-kept : SoundJobs f us → (u : Unended) → IsHeldBeside f.world f.leases u → IsSoundBeside f.world u → IsCoveredBeside f.world u → IsKeptBeside f.world u → IsKeptBeside (then u) (flown f.world b read now u).next
   next-kept sound (unended.Plan j) mine good c k = tt
-  next-kept sound (unended.Recovery r entry) mine good c k = taken-kept f.world b read now r held.flight.placed rings-held (rings-sound sound) mine.0 good c k
+  next-kept sound (unended.Recovery r d) mine good c k =
+      let t = taken f.world b read now r in
+      let kept = taken-kept f.world b read now r held.flight.placed rings-held (rings-sound sound) mine.0 good c k in
+      hooked-has (λ x. KeptByChosen (run f.world x.exchanges) x.recovery) d (promoted_in b t) r t (λ s same. kept) (λ s. k)
 
   next-speaks : (u : Unended) → IsHeldBeside f.world f.leases u → IsSpeakingBeside u → is_going (flown f.world b read now u).step ≡ true → IsSpeakingBeside (flown f.world b read now u).next
-  next-speaks (unended.Plan j) mine s going = tt
-  next-speaks (unended.Recovery r entry) mine s going = taken-speaks f.world b read now r rings-held mine.0 s going
+  next-speaks (unended.Plan j) mine s = λ going. tt
+  next-speaks (unended.Recovery r d) mine s =
+      let t = taken f.world b read now r in
+      hooked-has (λ x. is_going x.step ≡ true → Speaks x.recovery) d (promoted_in b t) r t (λ own same g. taken-speaks f.world b read now r rings-held mine.0 s (sym same ∙ g)) (λ own g. s)
 
   next-aimed : (begun : ℕ → Recovery) (u : Unended) → job_at us id ≡ Some u → IsAimedBeside begun u → is_going (flown f.world b read now u).step ≡ true → IsAimedBeside begun (flown f.world b read now u).next
-  next-aimed begun (unended.Plan j) at a going = tt
-  next-aimed begun (unended.Recovery r entry) at a going =
+  next-aimed begun (unended.Plan j) at a = λ going. tt
+  next-aimed begun (unended.Recovery r d) at a =
       let t = taken f.world b read now r in
-      let number : t.recovery.core.id ≡ r.core.id = ((recovery-leased r entry at).servers going).number ∙ sym (found-number us id (unended.Recovery r entry) at) in
-      then-aim (begun t.recovery.core.id) r t.recovery (subst (λ (i : ℕ). SameAim (begun i) r) (sym number) a) (taken-aim f.world b read now r)
+      hooked-has (λ x. is_going x.step ≡ true → SameAim (begun x.recovery.core.id) x.recovery) d (promoted_in b t) r t (λ s same g. own (sym same ∙ g)) (λ s g. a)
+    where
+      own : is_going (taken f.world b read now r).step ≡ true → SameAim (begun (taken f.world b read now r).recovery.core.id) (taken f.world b read now r).recovery
+      own going =
+          let t = taken f.world b read now r in
+          let number : t.recovery.core.id ≡ r.core.id = ((recovery-leased r d at).servers going).number ∙ sym (found-number us id (unended.Recovery r d) at) in
+          then-aim (begun t.recovery.core.id) r t.recovery (subst (λ (i : ℕ). SameAim (begun i) r) (sym number) a) (taken-aim f.world b read now r)
 
   turn-covered : (u : Unended) → job_at us id ≡ Some u → CoveredJobs f us → All (IsCoveredBeside (then u)) (jobs_turned us id (Some (flown f.world b read now u)))
   turn-covered u at covered =
@@ -167,8 +188,9 @@ module _ (f : Flight) (us : List Unended) (b : BookState) (id read : ℕ) (now :
   world-then keeps (unended.Plan j) at =
       ap (λ (o : Option Job). (turned_by f id read now keeps o).world) (core-here (unended.Plan j) at)
       ∙ world-stored_if keeps (after_turn f id (turned f.world read now j)) (turned f.world read now j).observation
-  world-then keeps (unended.Recovery r entry) at =
-      world-stored_if keeps (after_turn f id (as_turn id (taken f.world b read now r))) (taken f.world b read now r).observation
+  world-then keeps (unended.Recovery r d) at =
+      let t = (hooked f.world b read now r d).taken in
+      world-stored_if keeps (after_turn f id (as_turn id t)) t.observation
 
   -- ---- the turn of a number, where there may be no such job
 

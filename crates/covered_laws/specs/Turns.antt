@@ -1,5 +1,5 @@
 -- Turns of recoveries in flight.
-use Rattle.std.specs.Prelude.{◌≡◌, ℕ, ◌<◌, List, Option, Some, IfSome, All}
+use Rattle.std.specs.Prelude.{◌≡◌, ℕ, ◌<◌, List, Some, IfSome, All}
 use Rattle.orch_base.specs.declared.server.Moment.{Moment}
 use Rattle.server_model.specs.Run.{run}
 use Rattle.server_model.specs.Worlds.{World}
@@ -10,6 +10,7 @@ use Rattle.job_laws.specs.Flights.{Flight}
 use Rattle.jobs_in_flight.specs.Jobs.{job_at}
 use Rattle.recovery_plans.specs.Recoveries.{Outcome, Recovery}
 use Rattle.recovery_plans.specs.Taking.{Taken, taken}
+use Rattle.unended_jobs.specs.declared.docket.Docket.{Docket}
 use Rattle.unended_jobs.specs.declared.unended.Unended.{Unended}
 use Rattle.unended_jobs.specs.declared.unended.Unended.TheVariants as unended
 
@@ -18,8 +19,8 @@ use Rattle.unended_jobs.specs.declared.unended.Unended.TheVariants as unended
 pub record RecoveryTurn (f : Flight) (us : List Unended) : Type 0 where
   pub id : ℕ
   pub recovery : Recovery
-  pub entry : Option ℕ
-  pub found : job_at us id ≡ Some (unended.Recovery recovery entry)
+  pub docket : Docket
+  pub found : job_at us id ≡ Some (unended.Recovery recovery docket)
   pub book : BookState
   pub rings : f.rings ≡ book.rings
   pub at_read : ℕ

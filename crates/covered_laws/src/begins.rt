@@ -1,6 +1,6 @@
 //! Recoveries that begin.
 
-ghost use Rattle.std.specs.Prelude.{◌∷◌, ◌++◌, ℕ, List, Option, []};
+ghost use Rattle.std.specs.Prelude.{◌∷◌, ◌++◌, ℕ, List, []};
 ghost use Rattle.orch_base.specs.declared.server.ServerNo.{ServerNo as Number};
 ghost use Rattle.server_model.specs.Worlds.{World};
 ghost use Rattle.job_laws.specs.Flights.{Flight};
@@ -8,6 +8,7 @@ ghost use Rattle.job_laws.specs.Passages.{Beginning, passed};
 ghost use Rattle.recovery_plans.specs.declared.purpose.Purpose.{Purpose as APurpose};
 ghost use Rattle.recovery_plans.specs.Beginning.{begun_recovery};
 ghost use Rattle.recovery_covers.specs.Covers.{AreReplicas};
+ghost use Rattle.unended_jobs.specs.declared.docket.Docket.{Docket as ADocket};
 ghost use Rattle.unended_jobs.specs.declared.unended.Unended.{Unended as AnUnended};
 ghost use Rattle.unended_jobs.specs.declared.unended.Unended.TheVariants.{Recovery};
 ghost use Rattle.unended_jobs.specs.Unended.{core_of};
@@ -29,13 +30,13 @@ pub fn covered_jobs_begin()
 /// A recovery begins so, where none of its replicas is named twice.
 pub fn recoveries_begin_covered_beside()
     ensures covered { (w : World) (u : APurpose) (id wait : ℕ) (f : Number)
-        (replicas order : List Number) (entry : Option ℕ) →
+        (replicas order : List Number) (docket : ADocket) →
         AreReplicas u f replicas →
-        IsCoveredBeside w (Recovery (begun_recovery u id wait f replicas order) entry) }
+        IsCoveredBeside w (Recovery (begun_recovery u id wait f replicas order) docket) }
     ensures kept { (w : World) (u : APurpose) (id wait : ℕ) (f : Number)
-        (replicas order : List Number) (entry : Option ℕ) →
-        IsKeptBeside w (Recovery (begun_recovery u id wait f replicas order) entry) }
+        (replicas order : List Number) (docket : ADocket) →
+        IsKeptBeside w (Recovery (begun_recovery u id wait f replicas order) docket) }
     ensures speaking { (u : APurpose) (id wait : ℕ) (f : Number)
-        (replicas order : List Number) (entry : Option ℕ) →
-        IsSpeakingBeside (Recovery (begun_recovery u id wait f replicas order) entry) }
+        (replicas order : List Number) (docket : ADocket) →
+        IsSpeakingBeside (Recovery (begun_recovery u id wait f replicas order) docket) }
 {}

@@ -4,7 +4,8 @@ use Rattle.std.proofs.lemmas.Bool.{le-leb}
 use Rattle.std.proofs.lemmas.List.Elements.{All-head, All-tail}
 use Rattle.serde_json.specs.Data.{object, string}
 use Rattle.cluster_filters.specs.Forms.{form_of, has_pattern}
-use Rattle.hook_texts.specs.Hooks.{no_hooks}
+use Rattle.hook_texts.specs.declared.hooks.Hook.{Hook}
+use Rattle.hook_texts.specs.declared.hooks.Hooks.{Hooks}
 use Rattle.scenarios.specs.declared.blocks.Block.{Block}
 use Rattle.scenarios.specs.declared.filters.Alias.{Alias}
 use Rattle.scenarios.specs.declared.filters.ClusterFilters.{ClusterFilters}
@@ -16,8 +17,9 @@ use Rattle.scenario_filters.specs.Aliases.{alias_in, aliases_in}
 use Rattle.scenario_filters.specs.Filters.{HavePatterns, filter_in, filters_in, list_in}
 use Rattle.scenario_reader.specs.declared.head.Head.{Head}
 use Rattle.scenario_reader.specs.Blocks.{block_in, blocks_in, period_in}
+use Rattle.scenario_reader.specs.Hooks.{hook_in, hook_list_in, hooks_in, is_hook_text, whole_of}
 use Rattle.scenario_reader.specs.Scenarios.{head_in, keys_in, one_in}
-use Rattle.scenario_dump.specs.Texts.{aliases_data, blocks_data, count_data, dump_data, filters_data, items_of, list_data}
+use Rattle.scenario_dump.specs.Texts.{aliases_data, blocks_data, count_data, dump_data, filters_data, hook_data, hooks_data, items_of, list_data}
 use Rattle.server_model.specs.Worlds.{World}
 use Rattle.dump_laws.proofs.ReadData.{Rise}
 use Rattle.dump_laws.proofs.Values.{number-reads}
@@ -95,6 +97,39 @@ pub filters-read : (f : ClusterFilters) → HavePatterns f.master.texts → Have
 unfolding filters_in
 filters-read f master intermediate = rw (list-reads f.master.texts master) (rw (list-reads f.intermediate.texts intermediate) refl)
 
+-- ---- hooks
+
+-- a hook that reads
+pub record IsHookText (h : Hook) : Type 0 where
+  pub is : is_hook_text h.text ≡ true
+  pub exit : h.exit ≤ 255
+  pub text : IsUtf8 h.text
+
+hook-reads : (h : Hook) → IsHookText h → hook_in (hook_data h) ≡ Ok h
+unfolding hook_in whole_of
+hook-reads h is =
+    let few : leb h.exit 255 ≡ true = le-leb h.exit 255 is.exit in
+    rw (is.is, few) refl
+
+each-hook : (n : ℕ) (hs : List Hook) → All IsHookText hs → each_from (λ k d. hook_in d) n (items_of hook_data hs) ≡ Ok hs
+each-hook n [] all = refl
+each-hook n (h ∷ hs) all = rw (hook-reads h (All-head IsHookText h hs all)) (rw (each-hook (n + 1) hs (All-tail IsHookText h hs all)) refl)
+
+hook-list-reads : (hs : List Hook) → All IsHookText hs → hook_list_in (list_data hook_data hs) ≡ Ok hs
+unfolding hook_list_in
+hook-list-reads hs all = each-hook 0 hs all
+
+pub record AreHookTexts (h : Hooks) : Type 0 where
+  pub pre_failover : All IsHookText h.pre_failover
+  pub post_failover : All IsHookText h.post_failover
+  pub post_unsuccessful : All IsHookText h.post_unsuccessful
+
+pub hooks-read : (h : Hooks) → AreHookTexts h → hooks_in (hooks_data h) ≡ Ok h
+unfolding hooks_in
+hooks-read h are =
+    rw (hook-list-reads h.pre_failover are.pre_failover)
+    (rw (hook-list-reads h.post_failover are.post_failover) (rw (hook-list-reads h.post_unsuccessful are.post_unsuccessful) refl))
+
 -- ---- the keys before the servers
 
 -- what was read of a scenario before its servers reads back
@@ -108,6 +143,7 @@ pub record SaysReadable (s : Scenario) : Type 0 where
   pub intermediate_texts : All IsUtf8 s.filters.intermediate.texts
   pub aliases_rise : Rise (map (λ a. a.cluster) s.aliases)
   pub blocks_rise : Rise (map (λ b. b.cluster) s.blocks)
+  pub hooks : AreHookTexts s.hooks
 
 abbrev pub dumped_head : World → Scenario → ℕ → Head
 dumped_head w s now = record {
@@ -119,7 +155,7 @@ dumped_head w s now = record {
   blocks = s.blocks;
   aliases = s.aliases;
   filters = texts_of s.filters;
-  hooks = no_hooks;
+  hooks = s.hooks;
 }
 
 module _ (w : World) (s : Scenario) (now : ℕ) where
@@ -135,4 +171,5 @@ module _ (w : World) (s : Scenario) (now : ℕ) where
       let blocks = blocks-read s.blocks says.blocks in
       let aliases = aliases-read s.aliases says.aliases in
       let filters = filters-read s.filters says.master says.intermediate in
-      rw moment (rw block (rw blocks (rw aliases (rw filters refl))))
+      let hooks = hooks-read s.hooks says.hooks in
+      rw moment (rw block (rw blocks (rw aliases (rw filters (rw hooks refl)))))

@@ -1,26 +1,30 @@
 -- What was read of a scenario reads back: what it says before its servers, its filters' answers, and its settings.
-use Rattle.std.proofs.Common.{◌≡◌, ◌∙◌, ◌≤◌, ℕ, true, false, List, [], map, All, Ok, IsUtf8, refl, sym, ap, subst, arith}
-use Rattle.std.specs.Prelude.{codes}
+use Rattle.std.proofs.Common.{◌≡◌, ◌∙◌, ◌≤◌, ℕ, Bool, true, false, leb, List, [], map, All, Ok, Option, Some, None, IsUtf8, refl, sym, ap, subst, arith}
+use Rattle.std.specs.Prelude.{codes, decimal, if◌then◌else◌}
+use Rattle.std.proofs.lemmas.Bool.{leb-true}
 use Rattle.std.proofs.lemmas.List.Elements.{All-cons, All-nil}
 use Rattle.json.proofs.Printed.Utf8.{IsUtf8-are_ascii}
-use Rattle.serde_json.specs.Data.{Data}
+use Rattle.serde_json.specs.Data.{Data, Items, no_items, item}
 use Rattle.cluster_filters.specs.Forms.{form_of, has_pattern}
 use Rattle.hook_texts.specs.Hooks.{no_hooks}
+use Rattle.hook_texts.specs.declared.hooks.Hook.{Hook}
+use Rattle.hook_texts.specs.declared.hooks.Hooks.{Hooks}
 use Rattle.scenarios.specs.declared.blocks.Block.{Block}
 use Rattle.scenarios.specs.declared.filters.Alias.{Alias}
-use Rattle.scenario_values.specs.declared.fault.FaultCode.TheVariants.{BadPattern}
-use Rattle.scenario_values.specs.Faults.{holds, needed, only_keys, optional}
+use Rattle.scenario_values.specs.declared.fault.FaultCode.TheVariants.{BadHook, BadPattern}
+use Rattle.scenario_values.specs.Faults.{fails, holds, needed, only_keys, optional, under_item}
 use Rattle.scenario_values.specs.Values.{bool_in, items_in, label_or_fails, members_in, number_in, text_in, text_within}
-use Rattle.scenario_servers.proofs.Steps.{bind-ok, holds-ok, number-ok, same_Ok}
+use Rattle.scenario_servers.proofs.Steps.{bind-ok, holds-ok, number-ok, same_Ok, under-ok}
 use Rattle.scenario_filters.specs.declared.filters.FilterTexts.{FilterTexts}
 use Rattle.scenario_filters.specs.Aliases.{alias_in, aliases_in}
 use Rattle.scenario_filters.specs.Filters.{everything, filter_in, filter_keys, filters_in, list_in, no_filters}
 use Rattle.scenario_reader.specs.declared.head.Head.{Head}
 use Rattle.scenario_reader.specs.Blocks.{block_in, blocks_in, period_in}
 use Rattle.scenario_reader.specs.Scenarios.{head_in, one_in}
-use Rattle.dump_laws.proofs.Heads.{IsAlias, IsBlock}
+use Rattle.scenario_reader.specs.Hooks.{exit_or_fails, hook_in, hook_keys, hook_list_in, hooks_in, is_hook_text, two_of, whole_of}
+use Rattle.dump_laws.proofs.Heads.{IsAlias, IsBlock, IsHookText, AreHookTexts}
 use Rattle.dump_laws.proofs.ReadData as got
-use Rattle.dump_laws.proofs.ReadData.{IsAt, IsFromText, Rise, each-item, each-value, got-read, items-are, members-are, optional-at, text-is, values-rise}
+use Rattle.dump_laws.proofs.ReadData.{IsAt, IsFromText, Rise, each-item, each-value, got-read, items-are, ItemsFromText, members-are, optional-at, text-is, values-rise}
 use Rattle.dump_laws.proofs.ReadValues.{label-passed, short-passed, text-ok}
 
 -- ---- block periods
@@ -133,6 +137,63 @@ filters-have d f read e =
     by key texts (got.absent is) = subst (All IsFilter) (sym is) all-filter
     by key texts (got.there v at e) = list-has v texts (got-read key d v read at) e
 
+-- ---- hooks
+
+exit-small : (o : Option ℕ) (n : ℕ) → exit_or_fails o ≡ Ok n → n ≤ 255
+exit-small None n e = absurd cc
+exit-small (Some k) n e = go (leb k 255) refl e
+  where
+    go : (b : Bool) → leb k 255 ≡ b → (if b then Ok k else fails BadHook) ≡ Ok n → n ≤ 255
+    go true low e = subst (λ (m : ℕ). m ≤ 255) (same_Ok k n e) (leb-true k 255 low)
+    go false low e = absurd cc
+
+first-from : (ds : Items) (p : Data × Data) → ItemsFromText ds → two_of ds ≡ Ok p → IsFromText p.0
+first-from no_items p all e = absurd cc
+first-from (item a no_items) p all e = absurd cc
+first-from (item a (item b no_items)) p all e = subst (λ (q : Data × Data). IsFromText q.0) (same_Ok (a, b) p e) all.0
+first-from (item a (item b (item c ds))) p all e = absurd cc
+
+hook-has : (d : Data) (h : Hook) → IsFromText d → hook_in d ≡ Ok h → IsHookText h
+unfolding hook_in
+hook-has d h read e =
+    let items = bind-ok (items_in d) _ h e in
+    let parts = bind-ok (two_of items.0) _ h items.2 in
+    let text = bind-ok (under_item 0 (text_in parts.0.0)) _ h parts.2 in
+    let good = bind-ok (holds BadHook (is_hook_text text.0)) _ h text.2 in
+    let whole = bind-ok (under_item 1 (whole_of parts.0.1)) _ h good.2 in
+    let exit = bind-ok (exit_or_fails whole.0) _ h whole.2 in
+    subst IsHookText (same_Ok (record { text = text.0; exit = exit.0 }) h exit.2) (record {
+      is = holds-ok BadHook _ good.0 good.1;
+      exit = exit-small whole.0 exit.0 exit.1;
+      text = text-is parts.0.0 text.0 (first-from items.0 parts.0 (items-are d items.0 read items.1) parts.1) (under-ok (decimal 0) (text_in parts.0.0) text.0 text.1);
+    })
+
+hooks-list-has : (d : Data) (hs : List Hook) → IsFromText d → hook_list_in d ≡ Ok hs → All IsHookText hs
+unfolding hook_list_in
+hooks-list-has d hs read e =
+    let items = bind-ok (items_in d) _ hs e in
+    each-item IsHookText (λ n d. hook_in d) (λ n d h u f. hook-has d h u f) 0 items.0 hs (items-are d items.0 read items.1) items.2
+
+hooks-have : (d : Data) (h : Hooks) → IsFromText d → hooks_in d ≡ Ok h → AreHookTexts h
+unfolding hooks_in
+hooks-have d h read e =
+    let members = bind-ok (members_in d) _ h e in
+    let keys = bind-ok (only_keys hook_keys members.0) _ h members.2 in
+    let pre_failover = bind-ok (optional (codes "pre_failover") hook_list_in [] d) _ h keys.2 in
+    let post_failover = bind-ok (optional (codes "post_failover") hook_list_in [] d) _ h pre_failover.2 in
+    let post_unsuccessful = bind-ok (optional (codes "post_unsuccessful") hook_list_in [] d) _ h post_failover.2 in
+    subst AreHookTexts
+    (same_Ok (record { pre_failover = pre_failover.0; post_failover = post_failover.0; post_unsuccessful = post_unsuccessful.0 }) h post_unsuccessful.2)
+    (record {
+      pre_failover = by (codes "pre_failover") pre_failover.0 (optional-at (codes "pre_failover") hook_list_in [] d pre_failover.0 pre_failover.1);
+      post_failover = by (codes "post_failover") post_failover.0 (optional-at (codes "post_failover") hook_list_in [] d post_failover.0 post_failover.1);
+      post_unsuccessful = by (codes "post_unsuccessful") post_unsuccessful.0 (optional-at (codes "post_unsuccessful") hook_list_in [] d post_unsuccessful.0 post_unsuccessful.1);
+    })
+  where
+    by : (key : List ℕ) (hs : List Hook) → IsAt key hook_list_in [] d hs → All IsHookText hs
+    by key hs (got.absent is) = subst (All IsHookText) (sym is) (All-nil IsHookText)
+    by key hs (got.there v at e) = hooks-list-has v hs (got-read key d v read at) e
+
 -- ---- all of it
 
 pub record IsHead (h : Head) : Type 0 where
@@ -143,6 +204,7 @@ pub record IsHead (h : Head) : Type 0 where
   pub intermediate : All IsFilter h.filters.intermediate
   pub aliases_rise : Rise (map (λ a. a.cluster) h.aliases)
   pub blocks_rise : Rise (map (λ b. b.cluster) h.blocks)
+  pub hooks : AreHookTexts h.hooks
 
 pub head-has : (d : Data) (h : Head) → IsFromText d → head_in d ≡ Ok h → IsHead h
 unfolding head_in
@@ -154,6 +216,7 @@ head-has d h read e =
     let blocks = bind-ok (optional (codes "blocks") blocks_in [] d) _ h block.2 in
     let aliases = bind-ok (optional (codes "aliases") aliases_in [] d) _ h blocks.2 in
     let filters = bind-ok (optional (codes "filters") filters_in no_filters d) _ h aliases.2 in
+    let hooks = bind-ok (optional (codes "hooks") hooks_in no_hooks d) _ h filters.2 in
     let made : Head = record {
       moment = moment.0;
       gtid = gtid.0;
@@ -163,12 +226,12 @@ head-has d h read e =
       blocks = blocks.0;
       aliases = aliases.0;
       filters = filters.0;
-      hooks = no_hooks;
+      hooks = hooks.0;
     } in
     let bs = block-list blocks.0 (optional-at (codes "blocks") blocks_in [] d blocks.0 blocks.1) in
     let as' = alias-list aliases.0 (optional-at (codes "aliases") aliases_in [] d aliases.0 aliases.1) in
     let fs = filter-lists filters.0 (optional-at (codes "filters") filters_in no_filters d filters.0 filters.1) in
-    subst IsHead {x = made} (same_Ok made h filters.2) (record {
+    subst IsHead {x = made} (same_Ok made h hooks.2) (record {
       block = period block.0 (optional-at (codes "block") period_in 3600 d block.0 block.1);
       blocks = bs.each;
       aliases = as'.each;
@@ -176,6 +239,7 @@ head-has d h read e =
       intermediate = fs.intermediate;
       aliases_rise = as'.rise;
       blocks_rise = bs.rise;
+      hooks = hook-lists hooks.0 (optional-at (codes "hooks") hooks_in no_hooks d hooks.0 hooks.1);
     })
   where
     period : (n : ℕ) → IsAt (codes "block") period_in 3600 d n → n ≤ 1000000000
@@ -189,6 +253,10 @@ head-has d h read e =
     alias-list : (xs : List Alias) → IsAt (codes "aliases") aliases_in [] d xs → AreAliases xs
     alias-list xs (got.absent is) = subst AreAliases (sym is) (record { each = All-nil IsAlias; rise = tt })
     alias-list xs (got.there v at e) = aliases-have v xs (got-read (codes "aliases") d v read at) e
+
+    hook-lists : (h : Hooks) → IsAt (codes "hooks") hooks_in no_hooks d h → AreHookTexts h
+    hook-lists h (got.absent is) = subst AreHookTexts (sym is) (record { pre_failover = All-nil IsHookText; post_failover = All-nil IsHookText; post_unsuccessful = All-nil IsHookText })
+    hook-lists h (got.there v at e) = hooks-have v h (got-read (codes "hooks") d v read at) e
 
     filter-lists : (f : FilterTexts) → IsAt (codes "filters") filters_in no_filters d f → AreFilters f
     filter-lists f (got.absent is) = subst AreFilters (sym is) (record { master = all-filter; intermediate = all-filter })

@@ -86,6 +86,7 @@ with-reads_back head given items s is settings e =
         intermediate_texts = λ k d less. (is.intermediate k d less).utf8;
         aliases_rise = is.aliases_rise;
         blocks_rise = is.blocks_rise;
+        hooks = is.hooks;
       };
       own = refl;
       settings = subst (λ servers. (k : ℕ) (i : ServerInit) → slice_get servers k ≡ Some i → SettingsReadBack i.settings) (sym opened) settings;

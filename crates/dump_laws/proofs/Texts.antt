@@ -52,6 +52,9 @@ module _ (s : Scenario) (w : World) (checked : IsChecked (opening_of w)) (able :
     servers = all-from HasNumbers (opening_of w).servers numbers-of;
     aliases = rise-between (map (λ a. a.cluster) s.aliases) says.aliases_rise;
     blocks = rise-between (map (λ b. b.cluster) s.blocks) says.blocks_rise;
+    pre_failover = λ k d less. let most = (says.hooks.pre_failover k d less).exit in omega arith;
+    post_failover = λ k d less. let most = (says.hooks.post_failover k d less).exit in omega arith;
+    post_unsuccessful = λ k d less. let most = (says.hooks.post_unsuccessful k d less).exit in omega arith;
   }
 
   pub dump-texts : HasTexts w s
@@ -64,4 +67,7 @@ module _ (s : Scenario) (w : World) (checked : IsChecked (opening_of w)) (able :
     blocked = λ k d less. (says.blocks k d less).cluster.text;
     master = says.master_texts;
     intermediate = says.intermediate_texts;
+    pre_failover = λ k d less. (says.hooks.pre_failover k d less).text;
+    post_failover = λ k d less. (says.hooks.post_failover k d less).text;
+    post_unsuccessful = λ k d less. (says.hooks.post_unsuccessful k d less).text;
   }

@@ -14,12 +14,15 @@ use Rattle.instance_keeper.specs.Book.{BookState}
 use Rattle.jobs_in_flight.specs.Jobs.{Rise, job_at, jobs_turned, with_job, without_job}
 use Rattle.recovery_core.proofs.Ended.{going-unended}
 use Rattle.recovery_core.specs.Endings.{ending_of, is_acknowledged}
+use Rattle.hook_texts.specs.declared.hooks.Hook.{Hook}
 use Rattle.recovery_plans.specs.Recoveries.{Recovery}
+use Rattle.recovery_plans.specs.Taking.{taken}
 use Rattle.server_model.specs.Worlds.{World}
+use Rattle.unended_jobs.specs.Hooked.{front_hook, front_turn, promoted_in, rear_hook, rear_turn}
 use Rattle.unended_jobs.specs.Unended.{Flown, flown}
 use Rattle.unended_jobs.specs.declared.unended.Unended.{Unended}
 use Rattle.unended_jobs.specs.declared.unended.Unended.TheVariants as unended
-use Rattle.orch_core.specs.Closings.{closed_by, closing_by, closing_of}
+use Rattle.orch_core.specs.Closings.{closed_by, closing_by, closing_for, closing_of}
 use Rattle.orch_core.specs.States.{HaveEntries, IsOpenAt, entry_id}
 use Rattle.orch_core.specs.declared.closing.Closing.{Closing}
 use Rattle.orch_core.proofs.Entries.{entries-closed, entries-with, entries-without, found-open, open-acked, open-ended}
@@ -33,23 +36,37 @@ closing_as r s id e = record { id = id; outcome = e; acked = is_acknowledged r s
 -- none while the job goes on
 pub closing-going : (u : Unended) (s : JobStep) → is_going s ≡ true → closing_by u s ≡ None
 closing-going (unended.Plan j) s going = refl
-closing-going (unended.Recovery r None) s going = refl
-closing-going (unended.Recovery r (Some id)) s going = ap (option_map (closing_as r s id)) (going-unended r s going)
+closing-going (unended.Recovery r d) s going = go d.entry
+  where
+    go : (o : Option ℕ) → closing_for r s o ≡ None
+    go None = refl
+    go (Some id) = ap (option_map (closing_as r s id)) (going-unended r s going)
 
 -- else the job's own
 closing-entry : (u : Unended) (s : JobStep) (c : Closing) → closing_by u s ≡ Some c → entry_id u ≡ Some c.id
 closing-entry (unended.Plan j) s c h = cc
-closing-entry (unended.Recovery r None) s c h = cc
-closing-entry (unended.Recovery r (Some id)) s c h = go (ending_of r s) h
+closing-entry (unended.Recovery r d) s c h = by d.entry h
   where
-    go : (o : Option Ending) → option_map (closing_as r s id) o ≡ Some c → Some id ≡ Some c.id
-    go None h = cc
-    go (Some e) h = ap (λ (x : Closing). Some x.id) (same_Some (closing_as r s id e) c h)
+    go : (id : ℕ) (o : Option Ending) → option_map (closing_as r s id) o ≡ Some c → Some id ≡ Some c.id
+    go id None h = cc
+    go id (Some e) h = ap (λ (x : Closing). Some x.id) (same_Some (closing_as r s id e) c h)
+
+    by : (o : Option ℕ) → closing_for r s o ≡ Some c → o ≡ Some c.id
+    by None h = cc
+    by (Some id) h = go id (ending_of r s) h
 
 -- a turn leaves the job its entry
 pub flown-entry : (w : World) (b : BookState) (read : ℕ) (now : Moment) (u : Unended) → entry_id (flown w b read now u).next ≡ entry_id u
 flown-entry w b read now (unended.Plan j) = refl
-flown-entry w b read now (unended.Recovery r entry) = refl
+flown-entry w b read now (unended.Recovery r d) = front (front_hook d.hooks)
+  where
+    rear : (o : Option Hook) → (rear_turn d (promoted_in b (taken w b read now r)) r (taken w b read now r) o).docket.entry ≡ d.entry
+    rear None = refl
+    rear (Some h) = refl
+
+    front : (o : Option Hook) → (front_turn d (promoted_in b (taken w b read now r)) r (taken w b read now r) o).docket.entry ≡ d.entry
+    front None = rear (rear_hook d.hooks (taken w b read now r).step)
+    front (Some h) = refl
 
 -- ---- the audit after it
 

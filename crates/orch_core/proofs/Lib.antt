@@ -6,6 +6,7 @@ pub mod States
 pub mod Runs
 pub mod Starts
 pub mod Beginnings
+pub mod HookTold
 pub mod Outcomes
 pub mod Turned
 pub mod Finishing

@@ -1,7 +1,7 @@
 -- What commands change fits the book, and keeps what holds of states.
 use Rattle.std.proofs.Common.{◌≡◌, ◌∙◌, ℕ, ◌+◌, ◌<◌, ◌≤◌, ◌^◌, Bool, true, false, List, [], map, length, refl, sym, ap, subst, Option, Some, None, Result, Ok, Err, arith}
 use Rattle.std.specs.Prelude.{All, IfSome, ◌&&◌, is_some, nat_lt, if◌then◌else◌}
-use Rattle.std.proofs.lemmas.List.Elements.{All-append, All-cons, All-nil, All-push, All-weaker}
+use Rattle.std.proofs.lemmas.List.Elements.{All-map, All-append, All-cons, All-nil, All-push, All-weaker}
 use Rattle.orch_base.specs.declared.server.ServerNo.{ServerNo}
 use Rattle.orch_base.specs.Memory.{next_count}
 use Rattle.kept_rows.specs.declared.observation.Instance.{Instance}
@@ -48,8 +48,11 @@ use Rattle.orch_core.proofs.Joining.{joined-audit, joined-begun, joined-entries,
 use Rattle.commands.specs.declared.refusal.Refusal.TheVariants.{UnknownInstance}
 use Rattle.book_views.specs.Sources.{label_at}
 use Rattle.orch_core.specs.Commands.{by_hand, recovered, recovery_begun, taken_over, terms_of, Outcome, about as given_or, asked, begun, decided, discovered, first_of, forgotten, next_reading, outcome_by, outcome_of, question, refusal, removal_refusal, told}
+use Rattle.orch_core.specs.declared.configuration.Configuration.{Configuration}
+use Rattle.orch_core.specs.HookTelling.{told_try, with_told}
 use Rattle.orch_core.specs.Knowing.{IsEffect, IsUpdate, Knowledge, LeavesIds, MayTake, recovery_job, updated}
 use Rattle.orch_core.specs.Periods.{period_by}
+use Rattle.orch_core.proofs.HookTold.{told-can, told-in-turn}
 use Rattle.orch_core.proofs.Periods.{hand-short, period-short}
 use Rattle.orch_core.specs.Polls.{command_outcome, numbers_of, scan_outcome}
 use Rattle.jobs_in_flight.specs.Jobs.{Rise}
@@ -145,9 +148,10 @@ module _ (k : Knowledge) (count : ℕ) (names : length k.book.names ≡ count) w
   takes-begun n None list job take = take refl
   takes-begun n (Some r) list job take = tt
 
-  takes-recovery : (n : Numbers) (r : Result RecoveryBegins Refusal) → ((x : RecoveryBegins) → r ≡ Ok x → CanBegin (length k.book.names) k.book.leases k.audit k.last_job x) → Takes (recovery_begun n r)
-  takes-recovery n (Ok x) can = (can x refl, tt)
-  takes-recovery n (Err why) can = tt
+  takes-recovery : (n : Numbers) (c : Configuration) (b : BookState) (r : Result RecoveryBegins Refusal) → ((x : RecoveryBegins) → r ≡ Ok x → CanBegin (length k.book.names) k.book.leases k.audit k.last_job x)
+      → Takes (recovery_begun n (told_try c b r))
+  takes-recovery n c b (Ok x) can = (told-can c b (length k.book.names) k.book.leases k.audit k.last_job x (can x refl), tt)
+  takes-recovery n c b (Err why) can = tt
 
 -- the book takes the change of an effect, whose numbers are in their ranges
 abbrev pub IsEffectFor : ℕ → Effect → Type 0
@@ -215,7 +219,7 @@ outcome-takes s c is book command = by (route_of c.command.name)
     takes-over : (d : Option ServerNo) → is_within (length s.book.names) d ≡ true → (i : ServerNo) → i.0 < length s.book.names → TakenBy s (taken_over s.world s.book s.audit s.configuration (numbers_of s) d i)
     takes-over None there i within = tt
     takes-over (Some d) there i within =
-        takes-recovery (known_of s) (length s.book.names) refl (numbers_of s) (takeover_try s.world s.book s.audit (by_hand s.book s.configuration (numbers_of s) i) s.configuration.wait (s.last_job + 1) i d)
+        takes-recovery (known_of s) (length s.book.names) refl (numbers_of s) s.configuration s.book (takeover_try s.world s.book s.audit (by_hand s.book s.configuration (numbers_of s) i) s.configuration.wait (s.last_job + 1) i d)
         (λ x e. takeover-begins s.world s.book s.audit (by_hand s.book s.configuration (numbers_of s) i) s.configuration.wait s.last_job book (hand-short s is i) i d x within (below d.0 (length s.book.names) there) e)
 
     by : (r : Route) → TakenBy s (outcome_by s.world s.book s.audit s.configuration (numbers_of s) c r)
@@ -233,7 +237,7 @@ outcome-takes s c is book command = by (route_of c.command.name)
         (may-take s.world s.book (record { 0 = s.moment }) c.command p book (given-within (length s.book.names) c over) (destination-within (length s.book.names) c over))
     by Recovers =
         given (refusal s.reads UnknownInstance) (recovered s.world s.book s.audit s.configuration (numbers_of s)) tt
-        (λ i within. takes-recovery (known_of s) (length s.book.names) refl (numbers_of s) (recovery_try s.world s.book s.audit (by_hand s.book s.configuration (numbers_of s) i) s.configuration.wait (s.last_job + 1) i)
+        (λ i within. takes-recovery (known_of s) (length s.book.names) refl (numbers_of s) s.configuration s.book (recovery_try s.world s.book s.audit (by_hand s.book s.configuration (numbers_of s) i) s.configuration.wait (s.last_job + 1) i)
         (λ x e. recovery-begins s.world s.book s.audit (by_hand s.book s.configuration (numbers_of s) i) s.configuration.wait s.last_job book (hand-short s is i) i x within e)) c.command.i (given-within (length s.book.names) c over)
     by TakesOver =
         given (refusal s.reads UnknownInstance) (taken_over s.world s.book s.audit s.configuration (numbers_of s) c.command.d) tt
@@ -335,7 +339,7 @@ outcome-next s c is book wait command few = by (route_of c.command.name) few
 
     takes-over : (d : Option ServerNo) (i : ServerNo) → NextBy (length s.world.servers) s.last_job (taken_over s.world s.book s.audit s.configuration (numbers_of s) d i)
     takes-over None i = tt
-    takes-over (Some d) i = next-recovery (length s.world.servers) s.last_job (numbers_of s) (takeover_try s.world s.book s.audit (by_hand s.book s.configuration (numbers_of s) i) s.configuration.wait (s.last_job + 1) i d)
+    takes-over (Some d) i = next-recovery (length s.world.servers) s.last_job (numbers_of s) (told_try s.configuration s.book (takeover_try s.world s.book s.audit (by_hand s.book s.configuration (numbers_of s) i) s.configuration.wait (s.last_job + 1) i d))
 
     by : (r : Route) → (updated (known_of s) (outcome_by s.world s.book s.audit s.configuration (numbers_of s) c r).book).last_job < 2 ^ 64 → NextBy (length s.world.servers) s.last_job (outcome_by s.world s.book s.audit s.configuration (numbers_of s) c r)
     by Discovers few = given (question s.book s.audit s.reads c) (λ i. discovered s.book s.reads (next_reading s.world (numbers_of s) i) (next_reading s.world (numbers_of s) i).seen) asks
@@ -349,7 +353,7 @@ outcome-next s c is book wait command few = by (route_of c.command.name) few
         (job-number s.world s.book c.command p (s.last_job + 1) s.configuration.wait) (job-entry s.world s.book c.command p (s.last_job + 1) s.configuration.wait) (range p) few
     by Recovers few =
         given (refusal s.reads UnknownInstance) (recovered s.world s.book s.audit s.configuration (numbers_of s)) tt
-        (λ i. next-recovery (length s.world.servers) s.last_job (numbers_of s) (recovery_try s.world s.book s.audit (by_hand s.book s.configuration (numbers_of s) i) s.configuration.wait (s.last_job + 1) i)) c.command.i
+        (λ i. next-recovery (length s.world.servers) s.last_job (numbers_of s) (told_try s.configuration s.book (recovery_try s.world s.book s.audit (by_hand s.book s.configuration (numbers_of s) i) s.configuration.wait (s.last_job + 1) i))) c.command.i
     by TakesOver few = given (refusal s.reads UnknownInstance) (taken_over s.world s.book s.audit s.configuration (numbers_of s) c.command.d) tt (takes-over c.command.d) c.command.i
 
 -- ---- entries begin in time
@@ -377,10 +381,11 @@ in-time-begun : (n : Numbers) (refusal : Option Refusal) (list : List ServerNo) 
 in-time-begun n None list job = tt
 in-time-begun n (Some r) list job = tt
 
-in-time-recovery : (n : Numbers) (r : Result RecoveryBegins Refusal) → n.moment.0 ≤ 2 ^ 63 → ((x : RecoveryBegins) → r ≡ Ok x → x.entry.begun ≡ n.moment) → InTime (recovery_begun n r)
-in-time-recovery n (Ok x) most began =
-    All-cons (λ (y : RecoveryBegins). y.entry.begun.0 ≤ 2 ^ 63) x [] (subst (λ (m : Moment). m.0 ≤ 2 ^ 63) (sym (began x refl)) most) (All-nil (λ (y : RecoveryBegins). y.entry.begun.0 ≤ 2 ^ 63))
-in-time-recovery n (Err why) most began = tt
+in-time-recovery : (n : Numbers) (c : Configuration) (b : BookState) (r : Result RecoveryBegins Refusal) → n.moment.0 ≤ 2 ^ 63 → ((x : RecoveryBegins) → r ≡ Ok x → x.entry.begun ≡ n.moment)
+    → InTime (recovery_begun n (told_try c b r))
+in-time-recovery n c b (Ok x) most began =
+    All-cons (λ (y : RecoveryBegins). y.entry.begun.0 ≤ 2 ^ 63) (with_told c b x) [] (subst (λ (m : Moment). m.0 ≤ 2 ^ 63) (sym (began x refl)) most) (All-nil (λ (y : RecoveryBegins). y.entry.begun.0 ≤ 2 ^ 63))
+in-time-recovery n c b (Err why) most began = tt
 
 outcome-in-time : (s : State) (c : CommandTurn) → IsState s → InTime (command_outcome s c)
 unfolding outcome_of
@@ -396,7 +401,7 @@ outcome-in-time s c is = by (route_of c.command.name)
     takes-over : (d : Option ServerNo) (i : ServerNo) → InTime (taken_over s.world s.book s.audit s.configuration (numbers_of s) d i)
     takes-over None i = tt
     takes-over (Some d) i =
-        in-time-recovery (numbers_of s) (takeover_try s.world s.book s.audit (by_hand s.book s.configuration (numbers_of s) i) s.configuration.wait (s.last_job + 1) i d) is.moment
+        in-time-recovery (numbers_of s) s.configuration s.book (takeover_try s.world s.book s.audit (by_hand s.book s.configuration (numbers_of s) i) s.configuration.wait (s.last_job + 1) i d) is.moment
         (λ x e. takeover-moment s.world s.book s.audit (by_hand s.book s.configuration (numbers_of s) i) s.configuration.wait (s.last_job + 1) i d x e)
 
     by : (r : Route) → InTime (outcome_by s.world s.book s.audit s.configuration (numbers_of s) c r)
@@ -409,7 +414,7 @@ outcome-in-time s c is = by (route_of c.command.name)
         in-time-begun (numbers_of s) (refusal_by s.world s.book (record { 0 = s.moment }) c.command p) (leases_by s.world s.book c.command p) (job_by s.world s.book c.command p (s.last_job + 1) s.configuration.wait)
     by Recovers =
         given (refusal s.reads UnknownInstance) (recovered s.world s.book s.audit s.configuration (numbers_of s)) tt
-        (λ i. in-time-recovery (numbers_of s) (recovery_try s.world s.book s.audit (by_hand s.book s.configuration (numbers_of s) i) s.configuration.wait (s.last_job + 1) i) is.moment
+        (λ i. in-time-recovery (numbers_of s) s.configuration s.book (recovery_try s.world s.book s.audit (by_hand s.book s.configuration (numbers_of s) i) s.configuration.wait (s.last_job + 1) i) is.moment
         (λ x e. recovery-moment s.world s.book s.audit (by_hand s.book s.configuration (numbers_of s) i) s.configuration.wait (s.last_job + 1) i x e)) c.command.i
     by TakesOver = given (refusal s.reads UnknownInstance) (taken_over s.world s.book s.audit s.configuration (numbers_of s) c.command.d) tt (takes-over c.command.d) c.command.i
 
@@ -431,10 +436,12 @@ scan-settles s is book =
     let n = numbers_of s in
     let attempt = attempt_of s.configuration.master s.configuration.intermediate (period_by s.configuration) s.book (terms_of s.book n) in
     record {
-      update = scan-in-turn s.world s.book attempt s.configuration.wait s.audit s.last_job book (λ i. period-short s is (label_at s.book i));
+      update =
+          told-in-turn s.configuration s.book (length s.book.names) s.book.leases s.audit s.last_job (begun_in s)
+          (scan-in-turn s.world s.book attempt s.configuration.wait s.audit s.last_job book (λ i. period-short s is (label_at s.book i)));
       next = λ few. tt;
-      time = All-weaker (λ (x : RecoveryBegins). x.entry.begun ≡ n.moment) (λ x. x.entry.begun.0 ≤ 2 ^ 63) (λ x e. subst (λ (m : Moment). m.0 ≤ 2 ^ 63) (sym e) is.moment)
-          (begun_in s) (scan-moments s.world s.book attempt s.configuration.wait s.audit s.last_job n.moment (λ i. refl));
+      time = All-map (λ (x : RecoveryBegins). x.entry.begun.0 ≤ 2 ^ 63) (with_told s.configuration s.book) (begun_in s) (All-weaker (λ (x : RecoveryBegins). x.entry.begun ≡ n.moment) (λ x. x.entry.begun.0 ≤ 2 ^ 63) (λ x e. subst (λ (m : Moment). m.0 ≤ 2 ^ 63) (sym e) is.moment)
+          (begun_in s) (scan-moments s.world s.book attempt s.configuration.wait s.audit s.last_job n.moment (λ i. refl)));
     }
 
 -- ---- what is left keeps what holds of states

@@ -18,11 +18,14 @@ use Rattle.orch_core.specs.declared.closing.Closing.{Closing}
 abbrev pub closing_at : Recovery → JobStep → ℕ → Option Closing
 closing_at r step id = option_map (λ e. record { id = id; outcome = e; acked = is_acknowledged r step }) (ending_of r step)
 
+abbrev pub closing_for : Recovery → JobStep → Option ℕ → Option Closing
+closing_for r step None = None
+closing_for r step (Some id) = closing_at r step id
+
 -- a plan has no entry, and neither has a regroup
 abbrev pub closing_by : Unended → JobStep → Option Closing
 closing_by (unended.Plan j) step = None
-closing_by (unended.Recovery r None) step = None
-closing_by (unended.Recovery r (Some id)) step = closing_at r step id
+closing_by (unended.Recovery r docket) step = closing_for r step docket.entry
 
 -- by the job as the turn leaves it
 abbrev pub closing_of : Option Flown → Option Closing

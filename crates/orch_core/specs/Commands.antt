@@ -41,6 +41,7 @@ use Rattle.orch_core.specs.declared.configuration.Configuration.{Configuration}
 use Rattle.orch_core.specs.declared.command.Numbers.{Numbers}
 use Rattle.orch_core.specs.declared.command.Update.{Update}
 use Rattle.orch_core.specs.declared.command.Update.TheVariants as update
+use Rattle.orch_core.specs.HookTelling.{told_try, with_told}
 use Rattle.orch_core.specs.Periods.{period_by}
 use Rattle.orch_core.specs.Readings.{reading_by}
 
@@ -143,22 +144,25 @@ recovery_begun n (Err r) = refusal n.reads r
 recovery_begun n (Ok x) = record { reply = answered.Begun (n.last_job + 1); book = update.Recovers (x ∷ []); rows = entries_put (x ∷ []); reads = n.reads }
 
 abbrev pub recovered : World → BookState → AuditState → Configuration → Numbers → ServerNo → Outcome
-recovered w b a c n f = recovery_begun n (recovery_try w b a (by_hand b c n f) n.wait (n.last_job + 1) f)
+recovered w b a c n f = recovery_begun n (told_try c b (recovery_try w b a (by_hand b c n f) n.wait (n.last_job + 1) f))
 
 -- a replica takes a master's place
 abbrev pub taken_over : World → BookState → AuditState → Configuration → Numbers → Option ServerNo → ServerNo → Outcome
 taken_over w b a c n None i = refusal n.reads UnknownInstance
-taken_over w b a c n (Some d) i = recovery_begun n (takeover_try w b a (by_hand b c n i) n.wait (n.last_job + 1) i d)
+taken_over w b a c n (Some d) i = recovery_begun n (told_try c b (takeover_try w b a (by_hand b c n i) n.wait (n.last_job + 1) i d))
 
 abbrev pub terms_of : BookState → Numbers → Terms
 terms_of b n = record { enabled = unwrap_or b.switch true; wait = n.wait; now = n.moment }
 
--- a scan tries what the analysis asks for, and tells of each try
+-- a scan tries what the analysis asks for, and tells of each try; hooks are told of what begins
+abbrev pub with_hooks : Configuration → BookState → Staged → Staged
+with_hooks c b s = record s { begun = map (with_told c b) s.begun }
+
 abbrev pub scan_told : Numbers → Staged → Outcome
 scan_told n s = record { reply = answered.Told s.lines; book = update.Recovers s.begun; rows = entries_put s.begun; reads = n.reads }
 
 abbrev pub scan_by : World → BookState → AuditState → Configuration → Numbers → Outcome
-scan_by w b a c n = scan_told n (scanned w b a (attempt_of c.master c.intermediate (period_by c) b (terms_of b n)) n.wait n.last_job)
+scan_by w b a c n = scan_told n (with_hooks c b (scanned w b a (attempt_of c.master c.intermediate (period_by c) b (terms_of b n)) n.wait n.last_job))
 
 -- ---- all commands
 

@@ -24,9 +24,9 @@ pub record Knowledge : Type 0 where
   pub jobs : List Unended
   pub last_job : ℕ
 
--- the job of a recovery that begins, with its entry in the audit
+-- the job of a recovery that begins, with its entry in the audit and its hooks
 abbrev pub recovery_job : RecoveryBegins → Unended
-recovery_job x = unended.Recovery x.job (Some x.entry.id)
+recovery_job x = unended.Recovery x.job (record { entry = Some x.entry.id; hooks = x.hooks })
 
 -- after what a command or a scan makes of it: a job that begins has the leases of its list, a decision may acknowledge
 -- recoveries, and a recovery that begins has its leases and its entry in the audit

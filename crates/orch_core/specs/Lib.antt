@@ -5,6 +5,7 @@ pub mod Restarts
 pub mod Readings
 pub mod Beginnings
 pub mod BeginningsBy
+pub mod HookTelling
 pub mod Knowing
 pub mod KnowingBy
 pub mod Periods

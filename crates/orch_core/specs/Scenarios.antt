@@ -47,7 +47,7 @@ start_changes s rows = opening_changes (start_world s) (start_moment s rows) (lo
 -- what holds throughout the run: a job is to wait at most so many times, the block periods, and whose recoveries may
 -- begin by themselves
 abbrev pub configuration_of : ℕ → Scenario → Configuration
-configuration_of wait s = record { wait = wait; block = s.block; blocks = s.blocks; master = s.filters.master.passes; intermediate = s.filters.intermediate.passes }
+configuration_of wait s = record { wait = wait; block = s.block; blocks = s.blocks; master = s.filters.master.passes; intermediate = s.filters.intermediate.passes; hooks = s.hooks; aliases = s.aliases }
 
 -- the state with which the scenario's run begins, by the rows of its keeper: an instance that the opening puts brings
 -- the bridge that it shows where it is valid, and a kept row brings none

@@ -38,7 +38,7 @@ IsSlot count slot = IfSome slot (λ o. are_known count (observed_servers o) ≡ 
 -- the id of a job's entry in the audit: a plan has none, and neither has a regroup
 abbrev pub entry_id : Unended → Option ℕ
 entry_id (unended.Plan j) = None
-entry_id (unended.Recovery r entry) = entry
+entry_id (unended.Recovery r docket) = docket.entry
 
 -- the audit has this entry, which isn't ended
 abbrev pub IsOpenAt : AuditState → ℕ → Type 0

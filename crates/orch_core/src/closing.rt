@@ -1,6 +1,7 @@
 //! How a recovery's entry of the audit ends with the turn that ends its job.
 
 ghost use Rattle.std.specs.Prelude.{◌≡◌, ◌≢◌, ◌<◌, ◌++◌, [], Err, IfOk, IfSome, IsSomeAnd, Some, is_ok, true, length};
+ghost use Rattle.std.specs.Option.{option_copied};
 ghost use Rattle.audit_log.specs.Audits.{is_unended, recovery_at};
 ghost use Rattle.jobs_in_flight.specs.Jobs.{step_reply};
 ghost use Rattle.unended_jobs.specs.Looks.{foretold, observation_of, step_of};
@@ -34,16 +35,17 @@ pub(crate) struct Closing {
 pub(crate) fn closing_of(job: &Unended, look: &UnendedLook) -> Option<Closing>
     ensures { result ≡ closing_of (Some (foretold job.now look.now)) }
 {
-    let Unended::Recovery(recovery, Some(id)) = job else {
+    let Unended::Recovery(recovery, docket) = job else {
         return None;
     };
+    let id = docket.entry?;
     let promoted = match look {
         UnendedLook::Recovery(look) => look.promoted(),
-        UnendedLook::Plan(_) => recovery.promoted(),
+        UnendedLook::Plan(_) | UnendedLook::Hook(_, _) => recovery.promoted(),
     };
     let outcome = ending_of(promoted, look.step())?;
     Some(Closing {
-        id: *id,
+        id,
         outcome,
         acked: is_acknowledged(recovery.purpose(), look.step()),
     })
@@ -83,11 +85,11 @@ fn job_changes(
     book: &Book,
     audit: &Audit,
     now: Moment,
-    observation: &Option<Observation>,
+    observation: Option<&Observation>,
     closing: Option<Closing>,
 ) -> Result<Vec<Change>, Memory>
-    requires { IfSome observation.now (λ o. o.no.0 < length book.now.names) }
-    ensures { IfOk result (λ v. v.items ≡ changes_by book.now observation.now
+    requires { IfSome (option_copied observation.entry) (λ o. o.no.0 < length book.now.names) }
+    ensures { IfOk result (λ v. v.items ≡ changes_by book.now (option_copied observation.entry)
         ++ closing_changes audit.now.audit now closing) }
 {
     let mut changes = Vec::new(alloc);

@@ -2,7 +2,7 @@
 
 use audit_log::Periods;
 use commands::Answers;
-use scenarios::Blocks;
+use scenarios::{Aliases, Blocks, Hooks};
 
 /// What holds throughout a run.
 #[derive(Drop)]
@@ -18,6 +18,10 @@ pub struct Configuration {
     pub master: Answers,
     /// The same for a dead intermediate master (RecoverIntermediateMasterClusterFilters).
     pub intermediate: Answers,
+    /// The hooks of recoveries that a command or a scan begins.
+    pub hooks: Hooks,
+    /// The clusters' aliases, of which hooks are told.
+    pub aliases: Aliases,
 }
 
 impl Periods for Configuration {

@@ -18,7 +18,7 @@ use instance_keeper::{Book, Keeper};
 use orch_base::Memory;
 use recovery_core::Begun;
 use std::alloc::Global;
-use unended_jobs::Unended;
+use unended_jobs::{Docket, Unended};
 
 /// The book, the recoveries that were begun, the unended jobs by rising number, and the number of the last job.
 #[derive(Drop)]
@@ -56,10 +56,13 @@ impl Knowledge {
         ensures capacity { vec_capacity self.new.jobs ≡ vec_capacity self.old.jobs }
         ensures length { vec_len self.new.jobs ≡ vec_len self.old.jobs + 1 }
     {
-        let (list, job, entry) = begun.into_parts();
+        let (list, job, entry, hooks) = begun.into_parts();
         let number = job.id();
-        self.jobs
-            .push_reserved(Unended::Recovery(job, Some(entry.id)));
+        let docket = Docket {
+            entry: Some(entry.id),
+            hooks,
+        };
+        self.jobs.push_reserved(Unended::Recovery(job, docket));
         self.audit.begin(entry);
         self.last_job = number;
         let _ = self.book.take_leases(&list, number);

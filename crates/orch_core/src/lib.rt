@@ -13,6 +13,7 @@ mod knowledge;
 mod opening;
 mod orch;
 mod recovering;
+mod telling;
 mod threads;
 
 pub use commands::{

@@ -9,10 +9,12 @@ ghost use Rattle.audit_log.specs.Audits.{longest_block};
 ghost use Rattle.recovery_core.specs.Tries.{Begins};
 ghost use Rattle.orch_core.specs.Commands.{by_hand, entries_put, recovered, recovery_begun, scan_by, taken_over, terms_of};
 ghost use Rattle.orch_core.specs.CommandsBy.{outcome};
+ghost use Rattle.orch_core.specs.HookTelling.{told_try};
 ghost use Rattle.orch_core.specs.Knowing.{LeavesIds};
 ghost use Rattle.orch_core.specs.Periods.{period_by};
 
 use crate::command::{Numbers, Outcome, Recoveries, Update, refused};
+use crate::telling::{all_told, with_told};
 use crate::{Configuration, Reply};
 use audit_log::{Audit, Periods};
 use book_views::{book_forest, label_at};
@@ -76,6 +78,8 @@ fn begins(alloc: Global, numbers: Numbers, number: u64, begun: Begun) -> Result<
 // What a try comes to.
 fn recovery_begun(
     alloc: Global,
+    book: &Book,
+    configuration: &Configuration,
     numbers: Numbers,
     number: u64,
     tried: Result<Begun, PermitFault>,
@@ -83,11 +87,15 @@ fn recovery_begun(
     requires number { number ≡ numbers.last_job + 1 }
     requires id { IfOk tried (λ x. x.entry.id < 2 ^ 64 - 1) }
     ensures outcome { IfOk result (λ out. (t : Result Begins Why) →
-        Gives (λ x. x) permit_fault tried t → outcome out ≡ recovery_begun numbers t) }
+        Gives (λ x. x) permit_fault tried t →
+        outcome out ≡ recovery_begun numbers (told_try configuration.now book.now t)) }
     ensures ids { IfOk result (λ out. LeavesIds out.book) }
 {
     match tried {
-        Ok(begun) => begins(alloc, numbers, number, begun),
+        Ok(begun) => {
+            let begun = with_told(alloc, configuration, book, begun)?;
+            begins(alloc, numbers, number, begun)
+        }
         Err(PermitFault::Refused(why)) => Ok(refused(alloc, numbers.reads, why)),
         Err(PermitFault::Memory) => Err(Memory),
     }
@@ -122,7 +130,7 @@ pub(crate) fn recover(
     let by = by_hand(book, configuration, numbers, failed);
     let wait = numbers.wait;
     let tried = try_recovery(alloc, book, &forest, world, audit, by, wait, number, failed);
-    recovery_begun(alloc, numbers, number, tried)
+    recovery_begun(alloc, book, configuration, numbers, number, tried)
 }
 
 /// A replica's takeover of its master's place begins, unless it is refused. Memory comes, too, where no number is left
@@ -155,7 +163,7 @@ pub(crate) fn take_over(
     let tried = try_takeover(
         alloc, book, &forest, world, audit, by, wait, number, master, designated,
     );
-    recovery_begun(alloc, numbers, number, tried)
+    recovery_begun(alloc, book, configuration, numbers, number, tried)
 }
 
 fn terms_of(book: &Book, numbers: Numbers) -> Terms
@@ -200,6 +208,7 @@ pub(crate) fn scan_by(
         terms,
         last,
     )?;
+    let begun = all_told(alloc, configuration, book, begun)?;
     let rows = entries_put(alloc, &begun)?;
     Ok(Outcome {
         reply: Reply::Told(lines),

@@ -1,5 +1,6 @@
 -- Recoveries and takeovers that are tried.
 use Rattle.std.specs.Prelude.{ℕ, false, List, Option, None, Some, Result, Ok, Err}
+use Rattle.orch_base.specs.declared.code.Code.{Code}
 use Rattle.orch_base.specs.declared.recovery.Ending.TheVariants as ending
 use Rattle.orch_base.specs.declared.recovery.Kind.{Kind}
 use Rattle.orch_base.specs.declared.recovery.Kind.TheVariants as kind
@@ -14,16 +15,21 @@ use Rattle.permission.specs.Views.{source_of}
 use Rattle.recovery_plans.specs.Beginning.{begun_recovery}
 use Rattle.recovery_plans.specs.Recoveries.{Recovery}
 use Rattle.recovery_plans.specs.declared.purpose.Purpose.TheVariants as purpose
+use Rattle.recovery_hooks.specs.Runs.{HookState}
 use Rattle.recovery_permits.specs.declared.attempt.Attempt.{Attempt}
+use Rattle.recovery_permits.specs.Checks.{code_at}
 use Rattle.recovery_permits.specs.Recoveries.{recovery_list, recovery_purpose, recovery_refusal}
 use Rattle.recovery_permits.specs.Takeovers.{followers_of, takeover_refusal}
 use Rattle.server_model.specs.Worlds.{World}
 
--- what begins: the servers of which the job takes the leases, the job, and its entry in the audit
+-- What begins: the servers of which the job takes the leases, the job, its entry in the audit, the analysis of the failed
+-- server, of which hooks are told, none for a takeover, which runs no hooks; and its hooks, once they are told.
 pub record Begins : Type 0 where
   pub list : List ServerNo
   pub job : Recovery
   pub entry : KeptRecovery
+  pub code : Option Code
+  pub hooks : Option HookState
 
 -- the entry of a recovery that begins, with the block period that its cluster has then
 abbrev pub entry_of : BookState → AuditState → Moment → ℕ → Kind → ServerNo → KeptRecovery
@@ -53,6 +59,8 @@ recovery_begins b audit now block wait job f = record {
   list = recovery_list b f;
   job = begun_recovery (recovery_purpose b f) job wait f (replicas_of b f) (replicas_of b f);
   entry = entry_of b audit now block (recovery_kind b f) f;
+  code = code_at b f;
+  hooks = None;
 }
 
 -- a replica's takeover of a master's place; it tells of the master, too
@@ -61,6 +69,8 @@ takeover_begins b audit now block wait job i d = record {
   list = recovery_list b i;
   job = begun_recovery (purpose.Takeover d) job wait i (replicas_of b i) (followers_of b i d);
   entry = entry_of b audit now block kind.Takeover i;
+  code = None;
+  hooks = None;
 }
 
 -- what is refused doesn't begin

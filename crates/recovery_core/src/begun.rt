@@ -1,19 +1,23 @@
 //! A recovery that begins.
 
-ghost use Rattle.std.specs.Prelude.{◌≡◌};
+ghost use Rattle.std.specs.Prelude.{◌≡◌, None};
 
 use instance_keeper::Recovery;
-use orch_base::ServerNo;
+use orch_base::{Code, ServerNo};
+use recovery_hooks::HookRun;
 use recovery_turns::RecoveryJob;
 use std::marker::Model;
 
-/// A recovery, or a takeover, that may begin: the servers of which its job takes the leases, the job, and its entry in
-/// the audit.
+/// A recovery, or a takeover, that may begin: the servers of which its job takes the leases, the job, its entry in the
+/// audit, the analysis of the failed server, of which hooks are told, none for a takeover, which runs no hooks; and its
+/// hooks, once they are told.
 #[derive(Drop)]
 pub struct Begun {
     list: Vec<ServerNo>,
     job: RecoveryJob,
     entry: Recovery,
+    code: Option<Code>,
+    hooks: Option<HookRun>,
 }
 
 impl Model for Begun {
@@ -21,14 +25,25 @@ impl Model for Begun {
 
     ghost Value = { Begins };
 
-    ghost view = { λ a. record { list = a.list.items; job = a.job; entry = a.entry } };
+    ghost view = { λ a. record { list = a.list.items; job = a.job; entry = a.entry; code = a.code; hooks = a.hooks } };
 }
 
 impl Begun {
-    pub(crate) fn new(list: Vec<ServerNo>, job: RecoveryJob, entry: Recovery) -> Begun
-        ensures { result ≡ record { list = list.items; job = job; entry = entry } }
+    pub(crate) fn new(
+        list: Vec<ServerNo>,
+        job: RecoveryJob,
+        entry: Recovery,
+        code: Option<Code>,
+    ) -> Begun
+        ensures { result ≡ record { list = list.items; job = job; entry = entry; code = code; hooks = None } }
     {
-        Begun { list, job, entry }
+        Begun {
+            list,
+            job,
+            entry,
+            code,
+            hooks: None,
+        }
     }
 
     /// The servers of which the job takes the leases.
@@ -52,12 +67,27 @@ impl Begun {
         &self.entry
     }
 
-    /// The list, the job and the entry. It takes no memory.
-    pub fn into_parts(self) -> (Vec<ServerNo>, RecoveryJob, Recovery)
+    /// The analysis of the failed server, of which hooks are told: none where none run.
+    pub fn code(&self) -> Option<Code>
+        ensures { result ≡ self.now.code }
+    {
+        self.code
+    }
+
+    /// The same with these hooks. It takes no memory.
+    pub fn with_hooks(self, hooks: Option<HookRun>) -> Begun
+        ensures { result ≡ record self { hooks = hooks } }
+    {
+        Begun { hooks, ..self }
+    }
+
+    /// The list, the job, the entry and the hooks. It takes no memory.
+    pub fn into_parts(self) -> (Vec<ServerNo>, RecoveryJob, Recovery, Option<HookRun>)
         ensures list { result.0.items ≡ self.list }
         ensures job { result.1 ≡ self.job }
         ensures entry { result.2 ≡ self.entry }
+        ensures hooks { result.3 ≡ self.hooks }
     {
-        (self.list, self.job, self.entry)
+        (self.list, self.job, self.entry, self.hooks)
     }
 }

@@ -212,6 +212,7 @@ impl Stage {
             wait,
             self.last + 1,
             entry.no,
+            Some(entry.code),
             list,
             replicas,
         )?;

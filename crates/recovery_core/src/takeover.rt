@@ -40,7 +40,7 @@ fn takeover_begins(
     let replicas = replicas(alloc, book, i)?;
     let order = followers_of(alloc, book, i, d)?;
     let job = RecoveryJob::make(alloc, Purpose::Takeover(d), job, wait, i, replicas, order)?;
-    Ok(Begun::new(list, job, entry))
+    Ok(Begun::new(list, job, entry, None))
 }
 
 /// Tries the takeover of a master's place by a replica, as the job of this number, whose operations may wait so often

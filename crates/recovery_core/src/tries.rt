@@ -5,6 +5,7 @@ ghost use Rattle.orch_base.specs.Gives.{Gives};
 ghost use Rattle.book_views.specs.Forests.{book_forest};
 ghost use Rattle.book_views.specs.Sources.{replicas_of};
 ghost use Rattle.permission.specs.Checks.{permit_fault};
+ghost use Rattle.recovery_permits.specs.Checks.{code_at};
 ghost use Rattle.recovery_permits.specs.Recoveries.{recovery_list};
 ghost use Rattle.recovery_core.specs.Tries.{entry_of, recovery_begins, recovery_kind, recovery_try};
 
@@ -13,7 +14,7 @@ use crate::{Begun, Memory, PermitFault};
 use audit_log::Audit;
 use book_views::{label_at, replicas};
 use instance_keeper::{Book, Recovery};
-use orch_base::{Ending, Kind, Moment, ServerNo};
+use orch_base::{Code, Ending, Kind, Moment, ServerNo};
 use permission::source;
 use recovery_permits::{Attempt, permit_recovery, recovery_purpose, recovery_servers};
 use recovery_turns::RecoveryJob;
@@ -61,7 +62,7 @@ fn recovery_kind(book: &Book, failed: ServerNo) -> Kind
     }
 }
 
-/// The recovery of a server, with the servers of which it takes the leases and the failed server's replicas, as the job
+/// The recovery of a server with this analysis, with the servers of which it takes the leases and its replicas, as the job
 /// of this number, whose operations may wait so often each.
 pub(crate) fn recovery_begins(
     alloc: Global,
@@ -72,9 +73,11 @@ pub(crate) fn recovery_begins(
     wait: u32,
     job: u64,
     failed: ServerNo,
+    code: Option<Code>,
     list: Vec<ServerNo>,
     replicas: Vec<ServerNo>,
 ) -> Result<Begun, Memory>
+    requires code { code ≡ code_at book.now failed }
     requires server { failed.0 < length book.now.names }
     requires list { list.items ≡ recovery_list book.now failed }
     requires replicas { replicas.items ≡ replicas_of book.now failed }
@@ -94,7 +97,7 @@ pub(crate) fn recovery_begins(
     let purpose = recovery_purpose(book, failed);
     let order = replicas.to_vec(alloc)?;
     let job = RecoveryJob::make(alloc, purpose, job, wait, failed, replicas, order)?;
-    Ok(Begun::new(list, job, entry))
+    Ok(Begun::new(list, job, entry, code))
 }
 
 /// Tries the recovery of a server, as the job of this number, whose operations may wait so often each: what begins, or
@@ -131,6 +134,7 @@ pub fn try_recovery(
         wait,
         job,
         failed,
+        code,
         list,
         replicas,
     )?)

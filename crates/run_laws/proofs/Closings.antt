@@ -34,10 +34,12 @@ use Rattle.recovery_core.specs.Endings.{done_with, ending_of, is_acknowledged}
 use Rattle.recovery_plans.specs.Recoveries.{Recovery as RecoveryJob}
 use Rattle.recovery_plans.specs.Taking.{taken}
 use Rattle.unended_jobs.proofs.Going.{recovery-promotes}
+use Rattle.unended_jobs.specs.Hooked.{hooked, promoted_in}
+use Rattle.unended_jobs.proofs.Hooked.{hooked-has}
 use Rattle.unended_jobs.specs.Unended.{IsReady, number_of}
 use Rattle.unended_jobs.specs.declared.unended.Unended.{Unended}
 use Rattle.unended_jobs.specs.declared.unended.Unended.TheVariants as unended
-use Rattle.orch_core.specs.Closings.{closed_by, closing_by, closing_changes, closing_of}
+use Rattle.orch_core.specs.Closings.{closed_by, closing_at, closing_by, closing_changes, closing_for, closing_of}
 use Rattle.orch_core.specs.Jobs.{turn_of, turned_at}
 use Rattle.orch_core.specs.States.{State}
 use Rattle.run_laws.specs.Ready.{Ready}
@@ -194,7 +196,7 @@ module _ (count : ℕ) (s : State) (id : ℕ) (P : AuditState → List Change �
   now = record { 0 = s.moment }
 
   recovery-ends : (r : RecoveryJob) (entry : ℕ) (x : JobStep) → (Ready count s → IfSome r.outcome.promoted (λ n. n.0 < count))
-      → P (closed_by s.audit now (closing_by (unended.Recovery r (Some entry)) x)) (closing_changes s.audit now (closing_by (unended.Recovery r (Some entry)) x))
+      → P (closed_by s.audit now (closing_at r x entry)) (closing_changes s.audit now (closing_at r x entry))
   recovery-ends r entry step.Going there = none
   recovery-ends r entry (step.Done lines) there =
       some entry (done_with r.outcome.promoted) (is_acknowledged r (step.Done lines)) (ending-closed r (step.Done lines) (done_with r.outcome.promoted) refl)
@@ -205,10 +207,18 @@ module _ (count : ℕ) (s : State) (id : ℕ) (P : AuditState → List Change �
 
   flown-ends : (u : Unended) → (Ready count s → IsReady count u) → P (closed_by s.audit now (closing_by (turn_of s u).next (turn_of s u).step)) (closing_changes s.audit now (closing_by (turn_of s u).next (turn_of s u).step))
   flown-ends (unended.Plan j) is = none
-  flown-ends (unended.Recovery r None) is = none
-  flown-ends (unended.Recovery r (Some entry)) is =
-      let t = taken s.world s.book (next_count s.reads) now r in
-      recovery-ends t.recovery entry t.step (λ ready. recovery-promotes count s.world s.book (next_count s.reads) now r (is ready))
+  flown-ends (unended.Recovery r d) is = by (hooked s.world s.book (next_count s.reads) now r d).docket.entry
+    where
+
+      promotes : Ready count s → IfSome (hooked s.world s.book (next_count s.reads) now r d).taken.recovery.outcome.promoted (λ n. n.0 < count)
+      promotes ready =
+          let t = taken s.world s.book (next_count s.reads) now r in
+          hooked-has (λ x. IfSome x.recovery.outcome.promoted (λ n. n.0 < count)) d (promoted_in s.book t) r t (λ own same. recovery-promotes count s.world s.book (next_count s.reads) now r (is ready))
+          (λ own. (is ready).promoted)
+
+      by : (o : Option ℕ) → P (closed_by s.audit now (closing_for (hooked s.world s.book (next_count s.reads) now r d).taken.recovery (hooked s.world s.book (next_count s.reads) now r d).taken.step o)) (closing_changes s.audit now (closing_for (hooked s.world s.book (next_count s.reads) now r d).taken.recovery (hooked s.world s.book (next_count s.reads) now r d).taken.step o))
+      by None = none
+      by (Some entry) = let h = (hooked s.world s.book (next_count s.reads) now r d).taken in recovery-ends h.recovery entry h.step promotes
 
   pub turned-ends : P (closed_by s.audit now (closing_of (turned_at s id))) (closing_changes s.audit now (closing_of (turned_at s id)))
   turned-ends = go (job_at s.jobs id) refl

@@ -29,6 +29,7 @@ use Rattle.recovery_plans.specs.Taking.{taken}
 use Rattle.recovery_laws.specs.Passing.{core_by}
 use Rattle.unended_jobs.specs.declared.unended.Unended.{Unended}
 use Rattle.unended_jobs.specs.declared.unended.Unended.TheVariants as unended
+use Rattle.unended_jobs.specs.Hooked.{hooked}
 use Rattle.unended_jobs.specs.Unended.{core_of}
 use Rattle.unended_laws.proofs.Cores.{core-found, cores-replaced, cores-without}
 use Rattle.job_laws.specs.Flights.{Flight, no_leases, replaced, without_job as without_core, without_leases as no_longer}
@@ -133,9 +134,10 @@ module _ (s : State) (id : ℕ) where
       let found : core_at (map core_of s.jobs) id ≡ Some j = core-found s.jobs id ∙ ap (option_map core_of) at in
       turn-flown t.step t.observation t.exchanges (unended.Plan t.job) t.job (is_going t.step) (λ h. refl)
       ∙ ap (λ (x : Option Job). turned_by (flight_of s) id (next_count s.reads) (moment_at s) (takes s.book t.observation) x) (sym found)
-  job-flown (Some (unended.Recovery r entry)) at =
-      let t = taken s.world s.book (next_count s.reads) (moment_at s) r in
-      turn-flown t.step t.observation t.exchanges (unended.Recovery t.recovery entry) (core_by id t.recovery (is_going t.step)) (is_going t.step) (core-going t.recovery (is_going t.step))
+  job-flown (Some (unended.Recovery r d)) at =
+      let h = hooked s.world s.book (next_count s.reads) (moment_at s) r d in
+      let t = h.taken in
+      turn-flown t.step t.observation t.exchanges (unended.Recovery t.recovery h.docket) (core_by id t.recovery (is_going t.step)) (is_going t.step) (core-going t.recovery (is_going t.step))
 
 -- ---- a restart
 

@@ -37,6 +37,8 @@ use Rattle.recovery_plans.specs.Recoveries.{Recovery}
 use Rattle.recovery_plans.specs.Taking as taking
 use Rattle.unended_jobs.specs.declared.unended.Unended.{Unended}
 use Rattle.unended_jobs.specs.declared.unended.Unended.TheVariants as unended
+use Rattle.unended_jobs.specs.Hooked.{promoted_in}
+use Rattle.unended_jobs.proofs.Hooked.{hooked-has}
 use Rattle.unended_jobs.specs.Unended.{flown}
 use Rattle.operations.specs.declared.matching.Match.{Match}
 use Rattle.operations.specs.declared.matching.MatchFault.{MatchFault}
@@ -231,7 +233,9 @@ taken-plain w b read now r = go (decided w b now r) (decided w b now r).core.ops
 
 pub flown-plain : (w : World) (b : BookState) (read : ℕ) (now : Moment) (u : Unended) → All IsPlain (flown w b read now u).exchanges
 flown-plain w b read now (unended.Plan j) = turn-plain w read now j
-flown-plain w b read now (unended.Recovery r entry) = taken-plain w b read now r
+flown-plain w b read now (unended.Recovery r d) =
+    let t = taking.taken w b read now r in
+    hooked-has (λ x. All IsPlain x.exchanges) d (promoted_in b t) r t (λ s same. taken-plain w b read now r) (λ s. All-nil IsPlain)
 
 abbrev tick : Bool → ℕ
 tick b = cond b 1 0

@@ -49,6 +49,8 @@ use Rattle.recovery_plans.proofs.Allowed.{taken-allowed}
 use Rattle.recovery_laws.proofs.Sounding.{taken-sound}
 use Rattle.unended_jobs.specs.declared.unended.Unended.{Unended}
 use Rattle.unended_jobs.specs.declared.unended.Unended.TheVariants as unended
+use Rattle.unended_jobs.specs.Hooked.{promoted_in}
+use Rattle.unended_jobs.proofs.Hooked.{hooked-has}
 use Rattle.unended_jobs.specs.Unended.{core_of, number_of}
 use Rattle.unended_laws.proofs.Cores.{core-found}
 use Rattle.unended_laws.specs.Beside.{IsHeldBeside, IsSoundBeside}
@@ -172,14 +174,14 @@ Fit-job s id held sound (Some (unended.Plan j)) at =
           (All-find (λ k. AllBridged s.world k.seen) is_job (map core_of s.jobs) j sound.flight.jobs found)
           (All-find (λ k. AllMeet s.world k.matches) is_job (map core_of s.jobs) j sound.flight.met found)).joins;
     }
-Fit-job s id held sound (Some (unended.Recovery r entry)) at =
+Fit-job s id held sound (Some (unended.Recovery r d)) at =
     let is_job : Unended → Bool = λ k. number_of k == id in
-    let here = All-find (IsHeldBeside s.world (leases_of s.book.leases)) is_job s.jobs (unended.Recovery r entry) held.jobs at in
-    let good = All-find (IsSoundBeside s.world) is_job s.jobs (unended.Recovery r entry) sound.jobs at in
-    record {
-      allowed = taken-allowed s.world s.book (next_count s.reads) (moment_at s) r;
-      join = (taken-sound s.world s.book (next_count s.reads) (moment_at s) r sound.flight.safe held.flight.placed (record { spans = held.flight.rings; own = held.own }) sound.flight.rings here.0 good).joins;
-    }
+    let here = All-find (IsHeldBeside s.world (leases_of s.book.leases)) is_job s.jobs (unended.Recovery r d) held.jobs at in
+    let good = All-find (IsSoundBeside s.world) is_job s.jobs (unended.Recovery r d) sound.jobs at in
+    let t = taken s.world s.book (next_count s.reads) (moment_at s) r in
+    let allowed = taken-allowed s.world s.book (next_count s.reads) (moment_at s) r in
+    let joins = (taken-sound s.world s.book (next_count s.reads) (moment_at s) r sound.flight.safe held.flight.placed (record { spans = held.flight.rings; own = held.own }) sound.flight.rings here.0 good).joins in
+    hooked-has (λ x. Fit s.world x.exchanges) d (promoted_in s.book t) r t (λ own same. record { allowed = allowed; join = joins }) (λ own. record { allowed = tt; join = tt })
 
 Fit-none : (w : World) → Fit w []
 Fit-none w = record { allowed = tt; join = tt }

@@ -19,6 +19,7 @@ use Rattle.orch_base.specs.declared.server.ServerNo.{ServerNo}
 use Rattle.orch_base.specs.declared.server.Version.{Version}
 use Rattle.openings.specs.declared.init.ServerInit.{ServerInit}
 use Rattle.openings.specs.declared.part.Part.{Part}
+use Rattle.hook_texts.specs.declared.hooks.Hook.{Hook}
 use Rattle.scenarios.specs.declared.blocks.Block.{Block}
 use Rattle.scenarios.specs.declared.filters.Alias.{Alias}
 use Rattle.scenarios.specs.declared.scenario.Scenario.{Scenario}
@@ -27,7 +28,7 @@ use Rattle.uuid.specs.Text.{lower}
 use Rattle.uuid.proofs.TextLemmas.{hyphenated_ascii}
 use Rattle.scenario_dump.specs.Promises.{HasTexts}
 use Rattle.scenario_dump.specs.Servers.{opening_of}
-use Rattle.scenario_dump.specs.Texts.{aliases_data, blocks_data, coord_data, count_data, dump_data, dump_text, items_of, list_data, member_for, member_if, name_text, part_data, server_data, version_text}
+use Rattle.scenario_dump.specs.Texts.{aliases_data, blocks_data, coord_data, count_data, dump_data, dump_text, hook_data, items_of, list_data, member_for, member_if, name_text, part_data, server_data, version_text}
 use Rattle.scenario_dump.proofs.ReadBack.{both}
 use Rattle.scenario_dump.proofs.Worlds.{All-at}
 
@@ -316,6 +317,12 @@ has_blocks : (xs : List Block) → All (λ b. IsUtf8 b.cluster) xs → MembersHa
 has_blocks [] clusters = tt
 has_blocks (x ∷ xs) clusters = (All-first (λ b. IsUtf8 b.cluster) x xs clusters, (tt, has_blocks xs (All-rest (λ b. IsUtf8 b.cluster) x xs clusters)))
 
+has_hook : (h : Hook) → IsUtf8 h.text → HasUtf8 (hook_data h)
+has_hook h text = (text, (tt, tt))
+
+has_hooks : (hs : List Hook) → All (λ h. IsUtf8 h.text) hs → HasUtf8 (list_data hook_data hs)
+has_hooks hs texts = has_items hook_data (λ h. IsUtf8 h.text) hs has_hook texts
+
 has_dump : (w : World) (s : Scenario) (now : ℕ) → HasTexts w s → HasUtf8 (dump_data w s now)
 unfolding dump_data
 has_dump w s now is =
@@ -341,18 +348,33 @@ has_dump w s now is =
                       (
                         tt,
                         (
-                          literal (codes "now") refl,
+                          literal (codes "hooks") refl,
                           (
-                            tt,
                             (
-                              literal (codes "servers") refl,
+                              literal (codes "post_failover") refl,
                               (
-                                has_items (server_data servers) IsTold servers (has_server servers is.names) told,
+                                has_hooks s.hooks.post_failover is.post_failover,
                                 (
-                                  literal (codes "turns") refl,
+                                  literal (codes "post_unsuccessful") refl,
+                                  (has_hooks s.hooks.post_unsuccessful is.post_unsuccessful, (literal (codes "pre_failover") refl, (has_hooks s.hooks.pre_failover is.pre_failover, tt))),
+                                ),
+                              ),
+                            ),
+                            (
+                              literal (codes "now") refl,
+                              (
+                                tt,
+                                (
+                                  literal (codes "servers") refl,
                                   (
-                                    tt,
-                                    (literal (codes "version") refl, (tt, tt)),
+                                    has_items (server_data servers) IsTold servers (has_server servers is.names) told,
+                                    (
+                                      literal (codes "turns") refl,
+                                      (
+                                        tt,
+                                        (literal (codes "version") refl, (tt, tt)),
+                                      ),
+                                    ),
                                   ),
                                 ),
                               ),

@@ -11,6 +11,8 @@ use Rattle.binlog_coords.specs.declared.Coord.{Coord}
 use Rattle.orch_base.specs.declared.server.ServerNo.{ServerNo}
 use Rattle.openings.specs.declared.init.ServerInit.{ServerInit}
 use Rattle.openings.specs.declared.part.Part.{Part}
+use Rattle.hook_texts.specs.declared.hooks.Hook.{Hook}
+use Rattle.hook_texts.specs.declared.hooks.Hooks.{Hooks}
 use Rattle.scenarios.specs.declared.blocks.Block.{Block}
 use Rattle.scenarios.specs.declared.filters.Alias.{Alias}
 use Rattle.scenarios.specs.declared.filters.ClusterFilters.{ClusterFilters}
@@ -19,7 +21,7 @@ use Rattle.server_model.specs.declared.server.Server.{Server}
 use Rattle.server_model.specs.Worlds.{World}
 use Rattle.scenario_dump.specs.Promises.{HasNumbers, IsReadable, IsRising}
 use Rattle.scenario_dump.specs.Servers.{init_by, init_of, opening_of, source_in}
-use Rattle.scenario_dump.specs.Texts.{aliases_data, blocks_data, count_data, dump_data, dump_text, filters_data, items_of, list_data, part_data, server_data}
+use Rattle.scenario_dump.specs.Texts.{aliases_data, blocks_data, count_data, dump_data, dump_text, filters_data, hook_data, hooks_data, items_of, list_data, part_data, server_data}
 use Rattle.scenario_dump.proofs.ReadBack.{is_after, EachReads, Reads, ReadsItems, above, behind, both, reads_array, reads_flag, reads_item, reads_no_items, reads_number, reads_object, reads_rising, reads_string, reads_text, rise}
 
 -- ---- lists
@@ -90,6 +92,26 @@ reads_filters f =
     reads_object 3 (member (codes "intermediate") (list_data string f.intermediate.texts) (member (codes "master") (list_data string f.master.texts) no_members))
     (reads_rising 3 no_members (member (codes "intermediate") (list_data string f.intermediate.texts) (member (codes "master") (list_data string f.master.texts) no_members)) refl
     (reads_texts 2 f.intermediate.texts, (reads_texts 2 f.master.texts, tt)))
+
+-- ---- hooks
+
+abbrev IsSmallHook : Hook → Type 0
+IsSmallHook h = h.exit < 2 ^ 64
+
+reads_hook : (h : Hook) → IsSmallHook h → Reads 2 (hook_data h)
+reads_hook h small = reads_array 1 _ (reads_item 1 _ _ (reads_string 1 h.text) (reads_item 1 _ _ (reads_number 1 h.exit small) (reads_no_items 1)))
+
+reads_hook_items : (hs : List Hook) → All IsSmallHook hs → ReadsItems 2 (items_of hook_data hs)
+reads_hook_items [] small = reads_no_items 2
+reads_hook_items (h ∷ hs) small = reads_item 2 (hook_data h) (items_of hook_data hs) (reads_hook h (All-first IsSmallHook h hs small)) (reads_hook_items hs (All-rest IsSmallHook h hs small))
+
+reads_hook_list : (hs : List Hook) → All IsSmallHook hs → Reads 3 (list_data hook_data hs)
+reads_hook_list hs small = reads_array 2 (items_of hook_data hs) (reads_hook_items hs small)
+
+reads_hooks : (h : Hooks) → All IsSmallHook h.pre_failover → All IsSmallHook h.post_failover → All IsSmallHook h.post_unsuccessful → Reads 4 (hooks_data h)
+reads_hooks h pre_failover post_failover post_unsuccessful =
+    reads_object 3 _
+    (reads_rising 3 no_members _ refl (reads_hook_list h.post_failover post_failover, (reads_hook_list h.post_unsuccessful post_unsuccessful, (reads_hook_list h.pre_failover pre_failover, tt))))
 
 -- ---- servers
 
@@ -257,8 +279,11 @@ reads_dump w s now is =
             (
               reads_flag 4 w.gtid,
               (
-                reads_number 4 now is.moment,
-                (reads_array 3 _ (reads_servers (opening_of w).servers w.servers is.servers), (reads_array 3 _ (reads_no_items 3), (reads_number 4 1 (omega arith), tt))),
+                reads_hooks s.hooks is.pre_failover is.post_failover is.post_unsuccessful,
+                (
+                  reads_number 4 now is.moment,
+                  (reads_array 3 _ (reads_servers (opening_of w).servers w.servers is.servers), (reads_array 3 _ (reads_no_items 3), (reads_number 4 1 (omega arith), tt))),
+                ),
               ),
             ),
           ),

@@ -33,8 +33,11 @@ pub record IsReadable (w : World) (s : Scenario) (now : ℕ) : Type 0 where
   pub servers : All HasNumbers (opening_of w).servers
   pub aliases : IsRising (map (λ a. a.cluster) s.aliases)
   pub blocks : IsRising (map (λ b. b.cluster) s.blocks)
+  pub pre_failover : All (λ h. h.exit < 2 ^ 64) s.hooks.pre_failover
+  pub post_failover : All (λ h. h.exit < 2 ^ 64) s.hooks.post_failover
+  pub post_unsuccessful : All (λ h. h.exit < 2 ^ 64) s.hooks.post_unsuccessful
 
--- the labels, data centres, aliases and filters are UTF-8, and the names are names
+-- the labels, data centres, aliases, filters and hooks are UTF-8, and the names are names
 pub record HasTexts (w : World) (s : Scenario) : Type 0 where
   pub names : All (λ i. IsName i.settings.name) (opening_of w).servers
   pub labels : All (λ i. IsUtf8 i.settings.cluster) (opening_of w).servers
@@ -44,3 +47,6 @@ pub record HasTexts (w : World) (s : Scenario) : Type 0 where
   pub blocked : All (λ b. IsUtf8 b.cluster) s.blocks
   pub master : All IsUtf8 s.filters.master.texts
   pub intermediate : All IsUtf8 s.filters.intermediate.texts
+  pub pre_failover : All (λ h. IsUtf8 h.text) s.hooks.pre_failover
+  pub post_failover : All (λ h. IsUtf8 h.text) s.hooks.post_failover
+  pub post_unsuccessful : All (λ h. IsUtf8 h.text) s.hooks.post_unsuccessful

@@ -2,7 +2,6 @@
 use Rattle.std.specs.Prelude.{◌≡◌, ℕ, ◌*◌, ◌-◌, ◌≤◌, Bool, true, List, [], length, map, sum_by, All, Option, None}
 use Rattle.orch_base.specs.declared.rule.Rule.{Rule}
 use Rattle.orch_base.specs.declared.source.TheConstants.{MAX_SCENARIO_LEN}
-use Rattle.hook_texts.specs.Hooks.{no_hooks}
 use Rattle.openings.specs.Listed.{transactions}
 use Rattle.openings.specs.Servers.{parts_of}
 use Rattle.scenarios.specs.declared.scenario.Scenario.{Scenario}
@@ -48,7 +47,7 @@ dumped_scenario w s now = record {
   blocks = s.blocks;
   aliases = s.aliases;
   filters = s.filters;
-  hooks = no_hooks;
+  hooks = s.hooks;
   known = all_known w.servers;
   rules = no_rules w.servers;
   turns = [];

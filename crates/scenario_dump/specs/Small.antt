@@ -5,6 +5,7 @@ use Rattle.orch_base.specs.declared.server.Settings.{Settings}
 use Rattle.orch_base.specs.declared.server.SourceState.TheVariants.{Without, Detached}
 use Rattle.orch_base.specs.declared.server.Txn.{Txn}
 use Rattle.hook_texts.specs.Hooks.{no_hooks}
+use Rattle.hook_texts.specs.declared.hooks.Hooks.{Hooks}
 use Rattle.openings.specs.Opening.{opening}
 use Rattle.scenarios.specs.declared.filters.FilterList.{FilterList}
 use Rattle.scenarios.specs.declared.scenario.Scenario.{Scenario}
@@ -97,5 +98,8 @@ plain_scenario = record {
   turns = [];
 }
 
+abbrev one_hook : Hooks
+one_hook = record no_hooks { post_failover = record { text = codes "page {failedHost}"; exit = 0 } ∷ [] }
+
 abbrev pub named_scenario : Scenario
-named_scenario = record plain_scenario { blocks = record { cluster = codes "m:3306"; seconds = 60 } ∷ []; aliases = record { cluster = codes "m:3306"; alias = codes "a \"b\"" } ∷ [] }
+named_scenario = record plain_scenario { blocks = record { cluster = codes "m:3306"; seconds = 60 } ∷ []; aliases = record { cluster = codes "m:3306"; alias = codes "a \"b\"" } ∷ []; hooks = one_hook }

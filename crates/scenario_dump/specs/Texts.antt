@@ -7,6 +7,8 @@ use Rattle.binlog_coords.specs.declared.Coord.{Coord}
 use Rattle.binlog_coords.specs.Text.{coord_text}
 use Rattle.orch_base.specs.declared.server.Version.{Version}
 use Rattle.orch_base.specs.Names.{printed}
+use Rattle.hook_texts.specs.declared.hooks.Hook.{Hook}
+use Rattle.hook_texts.specs.declared.hooks.Hooks.{Hooks}
 use Rattle.openings.specs.declared.init.ServerInit.{ServerInit}
 use Rattle.openings.specs.declared.part.Part.{Part}
 use Rattle.gtid_sets.specs.Printed.{uuid_text}
@@ -98,6 +100,17 @@ blocks_data (b ∷ rest) = member b.cluster (count_data b.seconds) (blocks_data 
 abbrev pub filters_data : ClusterFilters → Data
 filters_data f = object (member (codes "intermediate") (list_data string f.intermediate.texts) (member (codes "master") (list_data string f.master.texts) no_members))
 
+-- [text, exit]
+abbrev pub hook_data : Hook → Data
+hook_data h = array (item (string h.text) (item (count_data h.exit) no_items))
+
+abbrev pub hooks_data : Hooks → Data
+hooks_data h =
+    object (member (codes "post_failover") (list_data hook_data h.post_failover)
+    (member (codes "post_unsuccessful") (list_data hook_data h.post_unsuccessful)
+    (member (codes "pre_failover") (list_data hook_data h.pre_failover)
+    no_members)))
+
 -- the world at a moment, with what the scenario says beside its servers and turns
 unfoldable pub dump_data : World → Scenario → ℕ → Data
 dump_data w s now =
@@ -106,11 +119,12 @@ dump_data w s now =
     (member (codes "blocks") (object (blocks_data s.blocks))
     (member (codes "filters") (filters_data s.filters)
     (member (codes "gtid") (boolean w.gtid)
+    (member (codes "hooks") (hooks_data s.hooks)
     (member (codes "now") (count_data now)
     (member (codes "servers") (list_data (server_data (opening_of w).servers) (opening_of w).servers)
     (member (codes "turns") (array no_items)
     (member (codes "version") (count_data 1)
-    no_members)))))))))
+    no_members))))))))))
 
 -- with a newline byte at its end
 unfoldable pub dump_text : World → Scenario → ℕ → List ℕ

@@ -4,14 +4,22 @@ ghost use Rattle.std.specs.Prelude.{◌≡◌, ◌++◌, IfOk, OnOk, map, string
 ghost use Rattle.serde_json.specs.Data.{object, string};
 ghost use Rattle.serde_json.specs.Written.{compact_text};
 ghost use Rattle.scenario_dump.specs.Parts.{servers_text};
-ghost use Rattle.scenario_dump.specs.Texts.{aliases_data, blocks_data, dump_text, list_data};
+ghost use Rattle.scenario_dump.specs.Texts.{aliases_data, blocks_data, dump_text, hook_data, list_data};
 
 use crate::server::print_server;
 use crate::values::{comma, print_flag, print_number, print_text};
 use orch_base::{Memory, Moment, ServerNo};
-use scenarios::{Alias, Block, Scenario};
+use scenarios::{Alias, Block, Hook, Scenario};
 use server_model::World;
 use std::alloc::Global;
+
+fn print_hook(alloc: Global, hook: &Hook, out: &mut Vec<u8>) -> Result<(), Memory>
+    ensures { OnOk result (out.new.items ≡ out.old.items ++ compact_text (hook_data hook.now)) }
+{
+    print_text(alloc, b"[", hook.text.as_str(), out)?;
+    print_number(b",", u64::from(hook.exit), out)?;
+    out.extend_from_slice(b"]")
+}
 
 fn print_aliases(alloc: Global, aliases: &[Alias], out: &mut Vec<u8>) -> Result<(), Memory>
     ensures { OnOk result
@@ -48,6 +56,18 @@ fn print_texts(alloc: Global, texts: &[String], out: &mut Vec<u8>) -> Result<(),
     out.extend_from_slice(b"]")
 }
 
+fn print_hooks(alloc: Global, hooks: &[Hook], out: &mut Vec<u8>) -> Result<(), Memory>
+    ensures { OnOk result
+        (out.new.items ≡ out.old.items ++ compact_text (list_data hook_data hooks.now)) }
+{
+    out.extend_from_slice(b"[")?;
+    for (n, hook) in hooks.iter().enumerate() {
+        out.extend_from_slice(comma(n > 0))?;
+        print_hook(alloc, hook, out)?;
+    }
+    out.extend_from_slice(b"]")
+}
+
 fn print_servers(alloc: Global, world: &World, out: &mut Vec<u8>) -> Result<(), Memory>
     ensures { OnOk result (out.new.items ≡ out.old.items ++ servers_text world.now) }
 {
@@ -71,6 +91,7 @@ pub fn dump(
     ensures { IfOk result (λ v. v.items ≡ dump_text world.now scenario.now now.0) }
 {
     let filters = &scenario.filters;
+    let hooks = &scenario.hooks;
     let mut out = Vec::from_slice(alloc, b"{\"aliases\":")?;
     print_aliases(alloc, scenario.aliases.as_slice(), &mut out)?;
     print_number(b",\"block\":", scenario.block, &mut out)?;
@@ -81,7 +102,13 @@ pub fn dump(
     out.extend_from_slice(b",\"master\":")?;
     print_texts(alloc, filters.master.texts.as_slice(), &mut out)?;
     print_flag(b"},\"gtid\":", world.gtid(), &mut out)?;
-    print_number(b",\"now\":", now.0, &mut out)?;
+    out.extend_from_slice(b",\"hooks\":{\"post_failover\":")?;
+    print_hooks(alloc, hooks.post_failover.as_slice(), &mut out)?;
+    out.extend_from_slice(b",\"post_unsuccessful\":")?;
+    print_hooks(alloc, hooks.post_unsuccessful.as_slice(), &mut out)?;
+    out.extend_from_slice(b",\"pre_failover\":")?;
+    print_hooks(alloc, hooks.pre_failover.as_slice(), &mut out)?;
+    print_number(b"},\"now\":", now.0, &mut out)?;
     out.extend_from_slice(b",\"servers\":")?;
     print_servers(alloc, world, &mut out)?;
     out.extend_from_slice(b",\"turns\":[],\"version\":1}\n")?;

@@ -1,8 +1,8 @@
 -- The clusters' aliases.
-use Rattle.std.specs.Prelude.{ℕ, ◌∷◌, List, [], nat_eq, if◌then◌else◌, Result, Ok}
-use Rattle.std.specs.Cmp.Lexicographic.{pointwise}
+use Rattle.std.specs.Prelude.{ℕ, List, Result, Ok}
 use Rattle.serde_json.specs.Data.{Data}
 use Rattle.orch_base.specs.Gives.{◌>>=◌}
+pub use Rattle.scenarios.specs.Aliases.{alias_of}
 use Rattle.scenarios.specs.declared.filters.Alias.{Alias}
 use Rattle.scenario_values.specs.declared.fault.Fault.{Fault}
 use Rattle.scenario_values.specs.Faults.{each_member}
@@ -21,8 +21,3 @@ unfoldable pub aliases_in : Data → Result (List Alias) Fault
 aliases_in d = do
   ms ← members_in d
   each_member alias_in ms
-
--- the alias of a cluster: empty where it has none
-abbrev pub alias_of : List Alias → List ℕ → List ℕ
-alias_of [] cluster = []
-alias_of (a ∷ rest) cluster = if pointwise nat_eq a.cluster cluster then a.alias else alias_of rest cluster

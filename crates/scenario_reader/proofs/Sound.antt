@@ -1,12 +1,17 @@
 -- What is read as a scenario meets the condition of the calls that take one.
-use Rattle.std.proofs.Common.{◌≡◌, ℕ, ◌+◌, ◌*◌, ◌≤◌, ◌⊎◌, inl, inr, ◌∙◌, Bool, leb, List, [], ◌∷◌, length, All, Option, Some, None, Ok, refl, ap, subst, sym, arith}
-use Rattle.std.specs.Prelude.{count_by, codes, decimal}
-use Rattle.std.proofs.lemmas.Bool.{leb-true}
+use Rattle.std.proofs.Common.{◌≡◌, ℕ, ◌+◌, ◌*◌, ◌≤◌, ◌⊎◌, inl, inr, ◌∙◌, Bool, true, eqb, leb, List, [], ◌∷◌, length, All, Option, Some, None, Ok, refl, ap, subst, sym, arith}
+use Rattle.std.specs.Prelude.{◌&&◌, count_by, codes, decimal, not}
+use Rattle.std.specs.List.{list_all}
+use Rattle.std.proofs.lemmas.Bool.{and_parts, eq-eqb, false≢true, leb-true}
+use Rattle.std.proofs.lemmas.List.Elements.{All-weaker}
+use Rattle.std.proofs.lemmas.List.Sums.{AllPass-from_list_all}
 use Rattle.std.proofs.lemmas.List.{length-map}
 use Rattle.serde_json.specs.Data.{Data, Items, no_items, item}
 use Rattle.orch_base.specs.declared.source.TheConstants.{MAX_SCENARIO_LEN}
 use Rattle.orch_base.specs.Names.{HostPort, printed}
 use Rattle.hook_texts.specs.Hooks.{no_hooks, AreHooks, IsHook}
+use Rattle.hook_texts.specs.declared.hooks.Hook.{Hook}
+use Rattle.hook_texts.specs.declared.hooks.Hooks.{Hooks}
 use Rattle.openings.specs.declared.init.ServerInit.{ServerInit}
 use Rattle.openings.specs.declared.opening.Flaw.{Flaw}
 use Rattle.openings.specs.Flaws.{flaw_in}
@@ -19,9 +24,9 @@ use Rattle.turns.specs.declared.turn.Turn.{Turn}
 use Rattle.scenarios.specs.Scenarios.{IsScenario}
 use Rattle.scenarios.specs.Turns.{IsTurn, is_write}
 use Rattle.scenario_values.specs.declared.fault.FaultCode.{FaultCode}
-use Rattle.scenario_values.specs.declared.fault.FaultCode.TheVariants.{TooLong, TooLarge}
-use Rattle.scenario_values.specs.Faults.{holds, under, needed, optional, each, each_from, item_count}
-use Rattle.scenario_values.specs.Values.{items_in, bool_in, label_or_fails, members_in, number_in}
+use Rattle.scenario_values.specs.declared.fault.FaultCode.TheVariants.{BadHook, TooLong, TooLarge}
+use Rattle.scenario_values.specs.Faults.{holds, under, under_item, needed, only_keys, optional, each, each_from, item_count}
+use Rattle.scenario_values.specs.Values.{items_in, bool_in, label_or_fails, members_in, number_in, text_in}
 use Rattle.scenario_servers.specs.declared.given.Given.{Given}
 use Rattle.scenario_servers.specs.Names.{listed_names, listed_uuids}
 use Rattle.scenario_servers.specs.Openings.{inits_from, inits_of, known_of, rules_of, IsGiven}
@@ -33,6 +38,7 @@ use Rattle.scenario_filters.specs.Aliases.{aliases_in}
 use Rattle.scenario_filters.specs.Filters.{filters_in, no_filters, answered}
 use Rattle.scenario_reader.specs.declared.head.Head.{Head}
 use Rattle.scenario_reader.specs.Blocks.{block_in, blocks_in, period_in}
+use Rattle.scenario_reader.specs.Hooks.{exit_or_fails, hook_in, hook_keys, hook_list_in, hooks_in, is_hook_text, is_printable, two_of, whole_of}
 use Rattle.scenario_turns.specs.Expansion.{IsListedTurn, server_names, printed_of, in_order, expanded}
 use Rattle.scenario_turns.specs.Turns.{turn_in}
 use Rattle.scenario_reader.specs.Scenarios.{json_in, one_in, keys_in, head_in, bounded, turns_in, scenario_with, scenario_from, scenario_in}
@@ -153,6 +159,62 @@ blocks-have d bs e =
     let members = bind-ok (members_in d) _ bs e in
     each_member-all (λ b. b.seconds ≤ 1000000000) block_in block-has members.0 bs members.2
 
+-- each hook has its range
+printable : (b : ℕ) → is_printable b ≡ true → (32 ≤ b) × ¬ (b ≡ 127)
+printable b e =
+    let parts = and_parts (leb 32 b) (not (eqb b 127)) e in
+    (leb-true 32 b parts.0, λ same. false≢true (sym (ap not (eq-eqb b 127 same)) ∙ parts.1))
+
+hook-is : (text : List ℕ) (exit : ℕ) → is_hook_text text ≡ true → IsHook (record { text = text; exit = exit })
+hook-is text exit e =
+    let some = and_parts (leb 1 (length text)) (leb (length text) 1000 && list_all is_printable text) e in
+    let few = and_parts (leb (length text) 1000) (list_all is_printable text) some.1 in
+    record {
+      some = leb-true 1 (length text) some.0;
+      few = leb-true (length text) 1000 few.0;
+      printable = All-weaker (λ b. is_printable b ≡ true) (λ b. (32 ≤ b) × ¬ (b ≡ 127)) printable text (AllPass-from_list_all is_printable text few.1);
+    }
+
+hook-has : (d : Data) (h : Hook) → hook_in d ≡ Ok h → IsHook h
+unfolding hook_in
+hook-has d h e =
+    let items = bind-ok (items_in d) _ h e in
+    let parts = bind-ok (two_of items.0) _ h items.2 in
+    let text = bind-ok (under_item 0 (text_in parts.0.0)) _ h parts.2 in
+    let good = bind-ok (holds BadHook (is_hook_text text.0)) _ h text.2 in
+    let whole = bind-ok (under_item 1 (whole_of parts.0.1)) _ h good.2 in
+    let exit = bind-ok (exit_or_fails whole.0) _ h whole.2 in
+    subst IsHook (same_Ok (record { text = text.0; exit = exit.0 }) h exit.2) (hook-is text.0 exit.0 (holds-ok BadHook _ good.0 good.1))
+
+list-has : (d : Data) (hs : List Hook) → hook_list_in d ≡ Ok hs → All IsHook hs
+unfolding hook_list_in
+list-has d hs e =
+    let items = bind-ok (items_in d) _ hs e in
+    each_from-all IsHook (λ n v. hook_in v) (λ n v h f. hook-has v h f) 0 items.0 hs items.2
+
+list-at : (key : List ℕ) (d : Data) (hs : List Hook) → optional key hook_list_in [] d ≡ Ok hs → All IsHook hs
+list-at key d hs e = go (optional-ok key hook_list_in [] d hs e)
+  where
+    go : (hs ≡ []) ⊎ ((v : Data) × (hook_list_in v ≡ Ok hs)) → All IsHook hs
+    go (inl none) = subst (All IsHook) (sym none) (none_of IsHook)
+    go (inr there) = list-has there.0 hs there.1
+
+hooks-have : (d : Data) (h : Hooks) → hooks_in d ≡ Ok h → AreHooks h
+unfolding hooks_in
+hooks-have d h e =
+    let members = bind-ok (members_in d) _ h e in
+    let keys = bind-ok (only_keys hook_keys members.0) _ h members.2 in
+    let pre_failover = bind-ok (optional (codes "pre_failover") hook_list_in [] d) _ h keys.2 in
+    let post_failover = bind-ok (optional (codes "post_failover") hook_list_in [] d) _ h pre_failover.2 in
+    let post_unsuccessful = bind-ok (optional (codes "post_unsuccessful") hook_list_in [] d) _ h post_failover.2 in
+    subst AreHooks
+    (same_Ok (record { pre_failover = pre_failover.0; post_failover = post_failover.0; post_unsuccessful = post_unsuccessful.0 }) h post_unsuccessful.2)
+    (record {
+      pre_failover = list-at (codes "pre_failover") d pre_failover.0 pre_failover.1;
+      post_failover = list-at (codes "post_failover") d post_failover.0 post_failover.1;
+      post_unsuccessful = list-at (codes "post_unsuccessful") d post_unsuccessful.0 post_unsuccessful.1;
+    })
+
 head-has : (d : Data) (h : Head) → head_in d ≡ Ok h → AreSmall h
 unfolding head_in
 head-has d h e =
@@ -163,6 +225,7 @@ head-has d h e =
     let blocks = bind-ok (optional (codes "blocks") blocks_in [] d) _ h block.2 in
     let aliases = bind-ok (optional (codes "aliases") aliases_in [] d) _ h blocks.2 in
     let filters = bind-ok (optional (codes "filters") filters_in no_filters d) _ h aliases.2 in
+    let hooks = bind-ok (optional (codes "hooks") hooks_in no_hooks d) _ h filters.2 in
     let made : Head = record {
       moment = moment.0;
       gtid = gtid.0;
@@ -172,20 +235,24 @@ head-has d h e =
       blocks = blocks.0;
       aliases = aliases.0;
       filters = filters.0;
-      hooks = no_hooks;
+      hooks = hooks.0;
     } in
-    subst AreSmall (same_Ok made h filters.2) (record {
+    subst AreSmall (same_Ok made h hooks.2) (record {
       moment = by 1000000000000000 0 moment.0 (omega arith) (optional-ok (codes "now") (number_in 0 1000000000000000) 0 d moment.0 moment.1);
       pseudo = omega arith;
       nodes = refl;
       block = by 1000000000 3600 block.0 (omega arith) (optional-ok (codes "block") period_in 3600 d block.0 block.1);
       blocks = listed blocks.0 (optional-ok (codes "blocks") blocks_in [] d blocks.0 blocks.1);
-      hooks = record { pre_failover = none_of IsHook; post_failover = none_of IsHook; post_unsuccessful = none_of IsHook };
+      hooks = hooked hooks.0 (optional-ok (codes "hooks") hooks_in no_hooks d hooks.0 hooks.1);
     })
   where
     by : (most default n : ℕ) → default ≤ most → (n ≡ default) ⊎ ((v : Data) × (number_in 0 most v ≡ Ok n)) → n ≤ most
     by most default n few (inl same) = omega arith
     by most default n few (inr there) = (number-ok 0 most there.0 n there.1).1
+
+    hooked : (hs : Hooks) → (hs ≡ no_hooks) ⊎ ((v : Data) × (hooks_in v ≡ Ok hs)) → AreHooks hs
+    hooked hs (inl none) = subst AreHooks (sym none) (record { pre_failover = none_of IsHook; post_failover = none_of IsHook; post_unsuccessful = none_of IsHook })
+    hooked hs (inr there) = hooks-have there.0 hs there.1
 
     listed : (bs : List Block) → (bs ≡ []) ⊎ ((v : Data) × (blocks_in v ≡ Ok bs)) → All (λ b. b.seconds ≤ 1000000000) bs
     listed bs (inl none) = subst (All (λ (b : Block). b.seconds ≤ 1000000000)) (sym none) (none_of (λ (b : Block). b.seconds ≤ 1000000000))

@@ -24,6 +24,7 @@ use Rattle.scenario_filters.specs.Aliases.{aliases_in}
 use Rattle.scenario_filters.specs.Filters.{filters_in, no_filters, answered}
 use Rattle.scenario_reader.specs.declared.head.Head.{Head}
 use Rattle.scenario_reader.specs.Blocks.{blocks_in, period_in}
+use Rattle.scenario_reader.specs.Hooks.{hooks_in}
 use Rattle.scenario_turns.specs.Expansion.{in_order, expanded, printed_of}
 use Rattle.scenario_turns.specs.Turns.{turn_in}
 
@@ -36,8 +37,8 @@ json_in bytes = or_fails NotJson (if is_utf8 bytes then read bytes else None)
 -- ---- the top object
 
 abbrev pub top_keys : List (List ℕ)
-top_keys = codes "version" ∷ codes "now" ∷ codes "gtid" ∷ codes "block" ∷ codes "blocks" ∷ codes "aliases" ∷ codes "filters" ∷ codes "servers"
-    ∷ codes "turns" ∷ []
+top_keys = codes "version" ∷ codes "now" ∷ codes "gtid" ∷ codes "block" ∷ codes "blocks" ∷ codes "aliases" ∷ codes "filters" ∷ codes "hooks"
+    ∷ codes "servers" ∷ codes "turns" ∷ []
 
 abbrev pub is_one : Option ℕ → Bool
 is_one None = false
@@ -71,6 +72,7 @@ head_in d = do
   blocks ← optional (codes "blocks") blocks_in [] d
   aliases ← optional (codes "aliases") aliases_in [] d
   filters ← optional (codes "filters") filters_in no_filters d
+  hooks ← optional (codes "hooks") hooks_in no_hooks d
   Ok (record {
     moment = moment;
     gtid = gtid;
@@ -80,7 +82,7 @@ head_in d = do
     blocks = blocks;
     aliases = aliases;
     filters = filters;
-    hooks = no_hooks;
+    hooks = hooks;
   })
 
 -- turns that aren't too many over these servers

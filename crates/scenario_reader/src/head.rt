@@ -2,14 +2,17 @@
 
 ghost use Rattle.std.specs.Prelude.{◌≡◌, [], codes, IfOk};
 ghost use Rattle.orch_base.specs.Gives.{Gives};
+ghost use Rattle.hook_texts.specs.Hooks.{no_hooks};
 ghost use Rattle.scenario_json.specs.View.{view};
 ghost use Rattle.scenario_values.specs.Faults.{fault_of, needed, optional};
 ghost use Rattle.scenario_filters.specs.Aliases.{aliases_in};
 ghost use Rattle.scenario_filters.specs.Filters.{filters_in, no_filters, AreRead};
 ghost use Rattle.scenario_reader.specs.Blocks.{blocks_in};
+ghost use Rattle.scenario_reader.specs.Hooks.{hooks_in};
 ghost use Rattle.scenario_reader.specs.Scenarios.{is_one, one_in, is_there, keys_in, head_in};
 
 use crate::blocks::blocks_in;
+use crate::hooks::hooks_in;
 use scenario_filters::{FilterTexts, aliases_in, filters_in, no_filters};
 use scenario_json::Value;
 use scenario_values::{
@@ -51,7 +54,7 @@ pub(crate) fn keys_in(alloc: Global, value: &Value) -> Result<(), ReadFault>
     ensures { Gives (λ _. tt) fault_of result (keys_in (view value.now)) }
 {
     let members = members_in(alloc, value)?;
-    only_keys(alloc, members, &["version", "now", "gtid", "block", "blocks", "aliases", "filters", "servers", "turns"])?;
+    only_keys(alloc, members, &["version", "now", "gtid", "block", "blocks", "aliases", "filters", "hooks", "servers", "turns"])?;
     holds(alloc, FaultCode::Missing, is_there("version", value) && is_there("servers", value))
 }
 
@@ -115,6 +118,16 @@ fn filters_at(alloc: Global, object: &Value) -> Result<FilterTexts, ReadFault>
     }
 }
 
+#[tactic(auto, using(scenario_values::proofs::Unders::gives_under))]
+fn hooks_at(alloc: Global, object: &Value) -> Result<Hooks, ReadFault>
+    ensures { Gives (λ h. h) fault_of result (optional (codes "hooks") hooks_in no_hooks (view object.now)) }
+{
+    match object.get("hooks") {
+        Some(value) => under(alloc, b"hooks", hooks_in(alloc, value)),
+        None => Ok(Hooks::none(alloc)),
+    }
+}
+
 /// The keys before the servers, in the table's order.
 #[tactic(auto, unfolding(crate::specs::Scenarios::head_in))]
 pub(crate) fn head_in(alloc: Global, object: &Value) -> Result<Head, ReadFault>
@@ -128,6 +141,7 @@ pub(crate) fn head_in(alloc: Global, object: &Value) -> Result<Head, ReadFault>
     let blocks = blocks_at(alloc, object)?;
     let aliases = aliases_at(alloc, object)?;
     let filters = filters_at(alloc, object)?;
+    let hooks = hooks_at(alloc, object)?;
     Ok(Head {
         moment,
         gtid,
@@ -137,6 +151,6 @@ pub(crate) fn head_in(alloc: Global, object: &Value) -> Result<Head, ReadFault>
         blocks,
         aliases,
         filters,
-        hooks: Hooks::none(alloc),
+        hooks,
     })
 }

@@ -3,6 +3,7 @@
 
 mod blocks;
 mod head;
+mod hooks;
 mod walk;
 
 pub use head::Head;

@@ -65,6 +65,8 @@ pub enum FaultCode {
     NotBuilt,
     /// A server finds its place by GTIDs in a scenario without them.
     AutoWithoutGtid,
+    /// A hook's text is empty, too long or has a control character, or its exit isn't 0 to 255.
+    BadHook,
 }
 
 /// Where a value stands in a text: a JSON pointer (RFC 6901), which contracts see as its bytes.

@@ -1,3 +1,4 @@
+pub mod Aliases
 pub mod Blocks
 pub mod Turns
 pub mod Scenarios

@@ -1,6 +1,8 @@
 //! Which clusters a recovery may touch, as a scenario says.
 
-ghost use Rattle.std.specs.Prelude.{◌≡◌, IfOk, map, string_bytes};
+ghost use Rattle.std.specs.Prelude.{◌≡◌, IfOk, map, nat_eq, string_bytes};
+ghost use Rattle.std.specs.Cmp.Lexicographic.{pointwise};
+ghost use Rattle.scenarios.specs.Aliases.{alias_of};
 
 use commands::Answers;
 use orch_base::{Memory, OwnedText};
@@ -26,6 +28,13 @@ impl Alias {
             alias: self.alias.copy(alloc)?,
         })
     }
+
+    // Whether it is that of a cluster.
+    fn is_of(&self, cluster: &str) -> bool
+        ensures { result ≡ pointwise nat_eq self.now.cluster cluster.now }
+    {
+        self.cluster.as_str() == cluster
+    }
 }
 
 /// Aliases by the bytes of their clusters' labels, which contracts see as that list.
@@ -44,6 +53,18 @@ impl Model for Aliases {
 }
 
 impl Aliases {
+    /// The alias of a cluster: empty where it has none. It takes no memory.
+    pub fn alias(&self, cluster: &str) -> &str
+        ensures { result.now ≡ alias_of self.now cluster.now }
+    {
+        for own in &self.aliases {
+            if own.is_of(cluster) {
+                return own.alias.as_str();
+            }
+        }
+        ""
+    }
+
     /// These aliases. It takes no memory.
     pub fn new(aliases: Vec<Alias>) -> Aliases
         ensures { result ≡ aliases.items }

@@ -32,6 +32,7 @@ code_text code.BadTurn = codes "23 BadTurn"
 code_text code.BadCommand = codes "24 BadCommand"
 code_text code.NotBuilt = codes "25 NotBuilt"
 code_text code.AutoWithoutGtid = codes "26 AutoWithoutGtid"
+code_text code.BadHook = codes "27 BadHook"
 
 -- a path stands behind a space; nothing stands for the whole text's
 abbrev pub path_text : List ℕ → List ℕ

@@ -37,6 +37,7 @@ fn code_text(code: FaultCode) -> &'static [u8]
         FaultCode::BadCommand => b"24 BadCommand",
         FaultCode::NotBuilt => b"25 NotBuilt",
         FaultCode::AutoWithoutGtid => b"26 AutoWithoutGtid",
+        FaultCode::BadHook => b"27 BadHook",
     }
 }
 

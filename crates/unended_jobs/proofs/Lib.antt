@@ -1,3 +1,4 @@
 pub mod Seeing
+pub mod Hooked
 pub mod Looking
 pub mod Going

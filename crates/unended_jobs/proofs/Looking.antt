@@ -1,5 +1,7 @@
 -- What was looked up of a job, by the kind that it is, and what a turn that was looked up tells.
-use Rattle.std.proofs.Common.{◌≡◌, ◌∙◌, ℕ, List, ap, refl, sym, Option}
+use Rattle.std.proofs.Common.{◌≡◌, ◌∙◌, ℕ, ◌<◌, zero, suc, Bool, true, false, List, [], ◌∷◌, length, ap, refl, subst, sym, Option, Some, None, arith}
+use Rattle.std.specs.Prelude.{is_some, slice_get, if◌then◌else◌}
+use Rattle.std.specs.Option.{option_map}
 use Rattle.orch_base.specs.declared.server.Moment.{Moment}
 use Rattle.commands.specs.declared.line.Line.{Line}
 use Rattle.instance_keeper.specs.Book.{BookState}
@@ -10,64 +12,128 @@ use Rattle.operations.specs.declared.step.JobStep.TheVariants as step
 use Rattle.operations.specs.Jobs.{Job}
 use Rattle.operations.specs.Turns.{turned}
 use Rattle.recovery_plans.specs.Recoveries.{Recovery}
-use Rattle.recovery_plans.specs.Taking.{taken}
 use Rattle.recovery_turns.specs.declared.look.RecoveryLook.{RecoveryLook}
-use Rattle.recovery_turns.specs.Looks.{foretold as recovery_foretold}
+use Rattle.recovery_turns.specs.Looks.{after_step, foretold as recovery_foretold, CanTake}
 use Rattle.recovery_turns.proofs.Purposes.{done-purpose}
 use Rattle.unended_jobs.specs.declared.look.UnendedLook.{UnendedLook}
 use Rattle.unended_jobs.specs.declared.look.UnendedLook.TheVariants as look
 use Rattle.unended_jobs.specs.declared.unended.Unended.{Unended}
 use Rattle.unended_jobs.specs.declared.unended.Unended.TheVariants as unended
-use Rattle.unended_jobs.specs.Looks.{foretold, observation_of, step_of}
-use Rattle.unended_jobs.specs.Unended.{by_plan, by_recovery, flown}
-
-module _ (w : World) (b : BookState) (read : ℕ) (now : Moment) (u : Unended) (x : UnendedLook) where
-  module _ (j : Job) (l : Look) (is : u ≡ unended.Plan j) (found : x ≡ look.Plan l) where
-    pub plan-step : l.step ≡ (turned w read now j).step → step_of x ≡ (flown w b read now u).step
-    plan-step h = ap step_of found ∙ h ∙ ap (λ (v : Unended). (flown w b read now v).step) (sym is)
-
-    pub plan-observation : l.observation ≡ (turned w read now j).observation → observation_of x ≡ (flown w b read now u).observation
-    plan-observation h = ap observation_of found ∙ h ∙ ap (λ (v : Unended). (flown w b read now v).observation) (sym is)
-
-    pub plan-turn : plan_foretold j l ≡ turned w read now j → foretold u x ≡ flown w b read now u
-    plan-turn h = ap (λ (v : Unended). foretold v x) is ∙ ap (foretold (unended.Plan j)) found ∙ ap by_plan h ∙ ap (flown w b read now) (sym is)
-
-  module _ (r : Recovery) (entry : Option ℕ) (l : RecoveryLook) (is : u ≡ unended.Recovery r entry) (found : x ≡ look.Recovery l) where
-    pub recovery-step : l.step ≡ (taken w b read now r).step → step_of x ≡ (flown w b read now u).step
-    recovery-step h = ap step_of found ∙ h ∙ ap (λ (v : Unended). (flown w b read now v).step) (sym is)
-
-    pub recovery-observation : l.observation ≡ (taken w b read now r).observation → observation_of x ≡ (flown w b read now u).observation
-    recovery-observation h = ap observation_of found ∙ h ∙ ap (λ (v : Unended). (flown w b read now v).observation) (sym is)
-
-    pub recovery-turn : recovery_foretold r l ≡ taken w b read now r → foretold u x ≡ flown w b read now u
-    recovery-turn h = ap (λ (v : Unended). foretold v x) is ∙ ap (foretold (unended.Recovery r entry)) found ∙ ap (by_recovery entry) h ∙ ap (flown w b read now) (sym is)
+use Rattle.orch_base.specs.Names.{HostPort}
+use Rattle.operations.specs.declared.step.JobStep.{JobStep}
+use Rattle.hook_texts.specs.declared.hooks.Hook.{Hook}
+use Rattle.recovery_hooks.specs.Runs.{ran_after, HookState}
+use Rattle.recovery_plans.specs.Taking.{Taken}
+use Rattle.unended_jobs.specs.declared.look.Place.TheVariants as place
+use Rattle.recovery_turns.specs.declared.look.Then.{Then}
+use Rattle.recovery_turns.specs.Deciding.{decided_on}
+use Rattle.unended_jobs.specs.declared.docket.Docket.{Docket}
+use Rattle.unended_jobs.specs.Hooked.{front_hook, front_turn, hooked, own_turn, quiet, rear_hook, rear_turn, step_before, step_with, told_with, with_hooks, with_hooks_of, CanRun}
+use Rattle.unended_jobs.specs.Looks.{foretold, hooked_by, observation_of, step_of}
+use Rattle.unended_jobs.specs.Unended.{by_plan, by_recovery, flown, Flown}
 
 -- it tells what was looked up
 
 pub foretold-step : (u : Unended) (x : UnendedLook) → (foretold u x).step ≡ step_of x
 foretold-step (unended.Plan j) (look.Plan l) = refl
-foretold-step (unended.Recovery r entry) (look.Recovery l) = refl
 foretold-step (unended.Plan j) (look.Recovery l) = refl
-foretold-step (unended.Recovery r entry) (look.Plan l) = refl
+foretold-step (unended.Plan j) (look.Hook s at) = refl
+foretold-step (unended.Recovery r docket) (look.Plan l) = refl
+foretold-step (unended.Recovery r docket) (look.Recovery l) = refl
+foretold-step (unended.Recovery r docket) (look.Hook s at) = refl
 
 pub foretold-observation : (u : Unended) (x : UnendedLook) → (foretold u x).observation ≡ observation_of x
 foretold-observation (unended.Plan j) (look.Plan l) = refl
-foretold-observation (unended.Recovery r entry) (look.Recovery l) = refl
 foretold-observation (unended.Plan j) (look.Recovery l) = refl
-foretold-observation (unended.Recovery r entry) (look.Plan l) = refl
+foretold-observation (unended.Plan j) (look.Hook s at) = refl
+foretold-observation (unended.Recovery r docket) (look.Plan l) = refl
+foretold-observation (unended.Recovery r docket) (look.Recovery l) = refl
+foretold-observation (unended.Recovery r docket) (look.Hook s at) = refl
 
 -- ---- the recovery after it
 
--- as the turn that was looked up leaves it; by another kind's nothing is done
+-- as the turn that was looked up leaves it
 abbrev pub recovery_after : Recovery → UnendedLook → Recovery
 recovery_after r (look.Plan l) = r
 recovery_after r (look.Recovery l) = (recovery_foretold r l).recovery
+recovery_after r (look.Hook s at) = r
 
-pub next-recovery : (r : Recovery) (entry : Option ℕ) (x : UnendedLook) → (foretold (unended.Recovery r entry) x).next ≡ unended.Recovery (recovery_after r x) entry
-next-recovery r entry (look.Plan l) = refl
-next-recovery r entry (look.Recovery l) = refl
+pub next-recovery : (r : Recovery) (d : Docket) (x : UnendedLook) → (foretold (unended.Recovery r d) x).next ≡ unended.Recovery (recovery_after r x) (hooked_by r d x).docket
+next-recovery r d (look.Plan l) = refl
+next-recovery r d (look.Recovery l) = refl
+next-recovery r d (look.Hook s at) = refl
 
 -- a turn that is the last one leaves a recovery its purpose
 pub last-purpose : (r : Recovery) (x : UnendedLook) (lines : List Line) → step_of x ≡ step.Done lines → (recovery_after r x).purpose ≡ r.purpose
 last-purpose r (look.Plan l) lines is = refl
 last-purpose r (look.Recovery l) lines is = done-purpose r l lines is
+last-purpose r (look.Hook s at) lines is = refl
+
+-- ---- the recovery's own turn
+
+-- whether it goes on, is done or fails stays
+after-same : (o : Option HookState) (promoted : Option HostPort) (r : Recovery) (s : JobStep) (what : Option Then) → after_step r (step_with o promoted s) what ≡ after_step r s what
+after-same None promoted r s what = refl
+after-same (Some h) promoted r step.Going what = refl
+after-same (Some h) promoted r (step.Done lines) what = refl
+after-same (Some h) promoted r (step.Failed c lines) what = refl
+
+-- only where it is done the promoted server counts
+step-same : (o : Option HookState) (p q : Option HostPort) (s : JobStep) → ((lines : List Line) → s ≡ step.Done lines → q ≡ p) → step_with o q s ≡ step_with o p s
+step-same None p q s same = refl
+step-same (Some h) p q step.Going same = refl
+step-same (Some h) p q (step.Done lines) same = ap (λ (x : Option HostPort). told_with h x (step.Done lines)) (same lines refl)
+step-same (Some h) p q (step.Failed c lines) same = refl
+
+pub own-foretold : (d : Docket) (p q : Option HostPort) (r : Recovery) (l m : RecoveryLook) → m ≡ record l { step = step_with d.hooks q l.step }
+    → ((lines : List Line) → l.step ≡ step.Done lines → q ≡ p) → recovery_foretold r m ≡ (own_turn d p (recovery_foretold r l)).taken
+own-foretold d p q r l m is same =
+    ap (recovery_foretold r) is
+    ∙ ap (λ (s : JobStep). record (recovery_foretold r l) { step = s; recovery = after_step (decided_on r l.decided) (step_with d.hooks q l.step) l.then }) (step-same d.hooks p q l.step same)
+    ∙ ap (λ (y : Recovery). record (recovery_foretold r l) { step = step_with d.hooks p l.step; recovery = y }) (after-same d.hooks q (decided_on r l.decided) l.step l.then)
+
+going-same : (o : Option HookState) (promoted : Option HostPort) (s : JobStep) → s ≡ step.Going → step_with o promoted s ≡ step.Going
+going-same None promoted s is = is
+going-same (Some h) promoted s is = ap (told_with h promoted) is
+
+pub own-can : (w : World) (r : Recovery) (o : Option HookState) (q : Option HostPort) (l m : RecoveryLook) → m ≡ record l { step = step_with o q l.step } → CanTake w r l → CanTake w r m
+own-can w r o q l m is can = subst (CanTake w r) (sym is) (record {
+  servers = can.servers;
+  allowed = can.allowed;
+  spare = λ wants. let was = can.spare wants in (going-same o q l.step was.0, was.1);
+  fits = can.fits;
+  ends = can.ends;
+})
+
+-- ---- a hook behind it
+
+none-before : (d : Docket) (o : Option JobStep) → o ≡ option_map (step_before d.hooks) (front_hook d.hooks) → ((s : JobStep) → o ≡ Some s → ⊥) → front_hook d.hooks ≡ None
+none-before d o is none = go (front_hook d.hooks) refl
+  where
+    go : (f : Option Hook) → front_hook d.hooks ≡ f → f ≡ None
+    go None e = refl
+    go (Some h) e = absurd (none (step_before d.hooks h) (is ∙ ap (option_map (step_before d.hooks)) e))
+
+pub behind-turn : (d : Docket) (p : Option HostPort) (r : Recovery) (t : Taken) (o : Option JobStep) → o ≡ option_map (step_before d.hooks) (front_hook d.hooks) → ((s : JobStep) → o ≡ Some s → ⊥)
+    → (own : JobStep) → own ≡ t.step → is_some (rear_hook d.hooks own) ≡ true → record { taken = quiet r step.Going; docket = with_hooks_of d ran_after } ≡ with_hooks d p r t
+behind-turn d p r t o is none own same due =
+    go (rear_hook d.hooks own) refl due ∙ ap (λ (s : JobStep). rear_turn d p r t (rear_hook d.hooks s)) same ∙ sym (ap (front_turn d p r t) (none-before d o is none))
+  where
+    go : (f : Option Hook) → rear_hook d.hooks own ≡ f → is_some f ≡ true → record { taken = quiet r step.Going; docket = with_hooks_of d ran_after } ≡ rear_turn d p r t (rear_hook d.hooks own)
+    go None e due = absurd cc
+    go (Some h) e due = sym (ap (rear_turn d p r t) e)
+
+within : (xs : List Hook) (n : ℕ) → is_some (slice_get xs n) ≡ true → n < length xs
+within [] n some = absurd cc
+within (x ∷ xs) zero some = omega arith
+within (x ∷ xs) (suc n) some = let rest = within xs n some in omega (arith, rest)
+
+due-within : (s : HookState) (b : Bool) → is_some (if b then slice_get s.hooks.post_failover s.after else None) ≡ true → s.after < length s.hooks.post_failover
+due-within s true some = within s.hooks.post_failover s.after some
+due-within s false some = absurd cc
+
+pub behind-can : (o : Option HookState) (own : JobStep) → is_some (rear_hook o own) ≡ true → CanRun o place.Behind
+behind-can None own due = tt
+behind-can (Some s) step.Going due = absurd cc
+behind-can (Some s) (step.Done lines) due = due-within s s.checked due
+behind-can (Some s) (step.Failed c lines) due = absurd cc

@@ -1,2 +1,3 @@
+pub mod Hooked
 pub mod Unended
 pub mod Looks

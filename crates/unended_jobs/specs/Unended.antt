@@ -1,5 +1,5 @@
 -- Unended jobs of both kinds, and what a turn of one does.
-use Rattle.std.specs.Prelude.{◌<◌, ◌≤◌, ◌^◌, ℕ, List, Option, IfSome}
+use Rattle.std.specs.Prelude.{◌<◌, ◌≤◌, ◌+◌, ◌^◌, ℕ, List, Option, IfSome}
 use Rattle.orch_base.specs.declared.server.Moment.{Moment}
 use Rattle.kept_rows.specs.declared.observation.Observation.{Observation}
 use Rattle.instance_keeper.specs.Book.{BookState}
@@ -12,15 +12,15 @@ use Rattle.operations.specs.Named.{IsInRange, IsNamed}
 use Rattle.operations.specs.Turns.{Turned, turned}
 use Rattle.recovery_plans.specs.Named.{IsNamedRecovery}
 use Rattle.recovery_plans.specs.Recoveries.{Recovery}
-use Rattle.recovery_plans.specs.Taking.{Taken, taken}
 use Rattle.recovery_ends.specs.Ends.{IsShaped, turns_to_end}
+use Rattle.unended_jobs.specs.Hooked.{hooked, left_of, Hooked}
 use Rattle.unended_jobs.specs.declared.unended.Unended.{Unended}
 use Rattle.unended_jobs.specs.declared.unended.Unended.TheVariants as unended
 
 -- the operations that are left, what was seen and what is in the hands: of a recovery those of its stage
 abbrev pub core_of : Unended → Job
 core_of (unended.Plan j) = j
-core_of (unended.Recovery r entry) = r.core
+core_of (unended.Recovery r docket) = r.core
 
 abbrev pub number_of : Unended → ℕ
 number_of u = (core_of u).id
@@ -35,13 +35,18 @@ pub record Flown : Type 0 where
 abbrev pub by_plan : Turned → Flown
 by_plan t = record { step = t.step; observation = t.observation; exchanges = t.exchanges; next = unended.Plan t.job }
 
-abbrev pub by_recovery : Option ℕ → Taken → Flown
-by_recovery entry t = record { step = t.step; observation = t.observation; exchanges = t.exchanges; next = unended.Recovery t.recovery entry }
+abbrev pub by_recovery : Hooked → Flown
+by_recovery h = record {
+  step = h.taken.step;
+  observation = h.taken.observation;
+  exchanges = h.taken.exchanges;
+  next = unended.Recovery h.taken.recovery h.docket;
+}
 
 -- one turn, on a world and a book, with the read number and the moment of what it observes
 abbrev pub flown : World → BookState → ℕ → Moment → Unended → Flown
 flown w b read now (unended.Plan j) = by_plan (turned w read now j)
-flown w b read now (unended.Recovery r entry) = by_recovery entry (taken w b read now r)
+flown w b read now (unended.Recovery r docket) = by_recovery (hooked w b read now r docket)
 
 -- a job's operations and hands are of so many servers, and it has waited within its bound
 pub record IsReadyJob (count : ℕ) (j : Job) : Type 0 where
@@ -57,7 +62,7 @@ pub record IsReadyRecovery (count : ℕ) (r : Recovery) : Type 0 where
 -- a turn over so many servers can be taken
 abbrev pub IsReady : ℕ → Unended → Type 0
 IsReady count (unended.Plan j) = IsReadyJob count j
-IsReady count (unended.Recovery r entry) = IsReadyRecovery count r
+IsReady count (unended.Recovery r docket) = IsReadyRecovery count r
 
 -- a recovery's number fits its type
 pub record IsRecoveryOf (count : ℕ) (r : Recovery) : Type 0 where
@@ -67,9 +72,9 @@ pub record IsRecoveryOf (count : ℕ) (r : Recovery) : Type 0 where
 -- so do a job's numbers
 abbrev pub IsUnended : ℕ → Unended → Type 0
 IsUnended count (unended.Plan j) = IsInRange count j
-IsUnended count (unended.Recovery r entry) = IsRecoveryOf count r
+IsUnended count (unended.Recovery r docket) = IsRecoveryOf count r
 
--- how many turns it has at most before it ends
+-- how many turns it has at most before it ends: a recovery those of its hooks beside its own
 abbrev pub turns_of : Unended → ℕ
 turns_of (unended.Plan j) = turns_left j
-turns_of (unended.Recovery r entry) = turns_to_end r
+turns_of (unended.Recovery r docket) = turns_to_end r + left_of docket.hooks

@@ -1,12 +1,22 @@
 //! What the next turn of a job does.
 
 ghost use Rattle.std.specs.Prelude.{◌≡◌};
+ghost use Rattle.std.specs.Option.{option_copied};
 ghost use Rattle.unended_jobs.specs.Looks.{observation_of, step_of};
 
 use instance_keeper::Observation;
 use job_plans::Look;
 use operations::JobStep;
 use recovery_turns::RecoveryLook;
+
+/// When a hook of a recovery runs.
+#[derive(Clone, Copy, Debug, PartialEq, Eq)]
+pub enum Place {
+    /// Before what the recovery does, once it has looked at its failed server.
+    Before,
+    /// Behind it, where nothing is left to do.
+    Behind,
+}
 
 /// What the next turn of a job does and tells, on the world and with the book on which it was looked up.
 #[derive(Drop)]
@@ -15,6 +25,8 @@ pub enum UnendedLook {
     Plan(Look),
     /// By what a recovery decides.
     Recovery(RecoveryLook),
+    /// By a hook of a recovery, which tells this: it changes no server and reads none.
+    Hook(JobStep, Place),
 }
 
 impl UnendedLook {
@@ -25,16 +37,18 @@ impl UnendedLook {
         match self {
             UnendedLook::Plan(look) => &look.step,
             UnendedLook::Recovery(look) => &look.step,
+            UnendedLook::Hook(step, _) => step,
         }
     }
 
     /// What the turn observes for the book, if it reads a status.
-    pub fn observation(&self) -> &Option<Observation>
-        ensures { result.now ≡ observation_of self.now }
+    pub fn observation(&self) -> Option<&Observation>
+        ensures { option_copied result ≡ observation_of self.now }
     {
         match self {
-            UnendedLook::Plan(look) => &look.observation,
-            UnendedLook::Recovery(look) => &look.observation,
+            UnendedLook::Plan(look) => look.observation.as_ref(),
+            UnendedLook::Recovery(look) => look.observation.as_ref(),
+            UnendedLook::Hook(_, _) => None,
         }
     }
 }

@@ -5,7 +5,8 @@ ghost use Rattle.server_model.specs.Run.{run};
 ghost use Rattle.unended_jobs.specs.Looks.{CanGo, foretold, observation_of, step_of};
 ghost use Rattle.unended_jobs.specs.Unended.{IsReady, flown, number_of};
 
-use crate::{Memory, UnendedLook};
+use crate::hooking::look_with_hooks;
+use crate::{Docket, Memory, UnendedLook};
 use instance_keeper::{Book, Observation};
 use job_plans::Job;
 use operations::JobStep;
@@ -19,8 +20,8 @@ use std::alloc::Global;
 pub enum Unended {
     /// The operations of a plan, one after another.
     Plan(Job),
-    /// What is done with the replicas of a server, and the id of its entry in the audit: a regroup has none.
-    Recovery(RecoveryJob, Option<u64>),
+    /// What is done with the replicas of a server, and what goes with it.
+    Recovery(RecoveryJob, Docket),
 }
 
 impl Unended {
@@ -56,8 +57,8 @@ impl Unended {
     {
         Ok(match self {
             Unended::Plan(job) => UnendedLook::Plan(job.look(alloc, world, read, moment)?),
-            Unended::Recovery(recovery, _) => {
-                UnendedLook::Recovery(recovery.look(alloc, world, book, read, moment)?)
+            Unended::Recovery(recovery, docket) => {
+                look_with_hooks(alloc, recovery, docket, world, book, read, moment)?
             }
         })
     }
@@ -80,10 +81,16 @@ impl Unended {
     {
         match (self, look) {
             (Unended::Plan(job), UnendedLook::Plan(look)) => job.turn(alloc, world, look),
-            (Unended::Recovery(recovery, _), UnendedLook::Recovery(look)) => {
-                recovery.turn(alloc, world, look)
+            (Unended::Recovery(recovery, docket), UnendedLook::Recovery(look)) => {
+                let told = recovery.turn(alloc, world, look)?;
+                docket.check();
+                Ok(told)
             }
-            (Unended::Plan(_), UnendedLook::Recovery(_))
+            (Unended::Recovery(_, docket), UnendedLook::Hook(step, place)) => {
+                docket.run(place);
+                Ok((step, None))
+            }
+            (Unended::Plan(_), UnendedLook::Recovery(_) | UnendedLook::Hook(_, _))
             | (Unended::Recovery(_, _), UnendedLook::Plan(_)) => unreachable!(),
         }
     }

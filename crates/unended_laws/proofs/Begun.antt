@@ -18,6 +18,7 @@ use Rattle.recovery_plans.specs.Named.{IsListOf}
 use Rattle.recovery_laws.specs.LeasedRecoveries.{IsAny, IsLeasedList}
 use Rattle.recovery_laws.proofs.Begun.{begun-held, begun-sound}
 use Rattle.recovery_laws.proofs.Leasing.{begun-leased}
+use Rattle.unended_jobs.specs.declared.docket.Docket.{Docket}
 use Rattle.unended_jobs.specs.declared.unended.Unended.{Unended}
 use Rattle.unended_jobs.specs.declared.unended.Unended.TheVariants as unended
 use Rattle.unended_jobs.specs.Unended.{core_of, number_of}
@@ -59,16 +60,16 @@ listed-of l list id (purpose.Intermediate s) f h = h
 listed-of l list id (purpose.Takeover d) f h = (listed-leased l list id f.0 h.0, listed-leased l list id d.0 h.1)
 
 -- its replicas are of the list, and in a takeover the master and the replica that is to take its place
-pub recovery-held : (w : World) (l : Leases) (list : List ServerNo) (u : Purpose) (id wait : ℕ) (f : ServerNo) (replicas order : List ServerNo) (entry : Option ℕ)
+pub recovery-held : (w : World) (l : Leases) (list : List ServerNo) (u : Purpose) (id wait : ℕ) (f : ServerNo) (replicas order : List ServerNo) (docket : Docket)
     → All (λ n. IsListed list n.0) replicas → IsListOf (IsListed list) IsAny u f
-    → IsHeldBeside w (leased_to l list id) (unended.Recovery (begun_recovery u id wait f replicas order) entry)
-recovery-held w l list u id wait f replicas order entry all also = (
+    → IsHeldBeside w (leased_to l list id) (unended.Recovery (begun_recovery u id wait f replicas order) docket)
+recovery-held w l list u id wait f replicas order docket all also = (
   begun-held w u id wait f replicas order,
   begun-leased (leased_to l list id) u id wait f replicas order
       (All-weaker (λ (n : ServerNo). IsListed list n.0) (λ (n : ServerNo). IsLeased (leased_to l list id) id n.0) (λ n h. listed-leased l list id n.0 h) replicas all)
       (listed-of l list id u f also),
 )
 
-pub recovery-sound : (w : World) (u : Purpose) (id wait : ℕ) (f : ServerNo) (replicas order : List ServerNo) (entry : Option ℕ)
-    → IsSoundBeside w (unended.Recovery (begun_recovery u id wait f replicas order) entry)
-recovery-sound w u id wait f replicas order entry = begun-sound w u id wait f replicas order
+pub recovery-sound : (w : World) (u : Purpose) (id wait : ℕ) (f : ServerNo) (replicas order : List ServerNo) (docket : Docket)
+    → IsSoundBeside w (unended.Recovery (begun_recovery u id wait f replicas order) docket)
+recovery-sound w u id wait f replicas order docket = begun-sound w u id wait f replicas order

@@ -29,11 +29,11 @@ use Rattle.unended_laws.specs.Passages.{IsApart}
 
 pub beside-held : (f : Flight) (p : Passage) (u : Unended) → MayPass f p → Held f → Spares (number_of u) p → IsHeldBeside f.world f.leases u → IsHeldBeside (passed f p).world (passed f p).leases u
 beside-held f p (unended.Plan j) may held spares mine = tt
-beside-held f p (unended.Recovery r entry) may held spares mine = (passage-held f p r may held mine.0, passage-leased f p r.core.id r may spares mine.1)
+beside-held f p (unended.Recovery r docket) may held spares mine = (passage-held f p r may held mine.0, passage-leased f p r.core.id r may spares mine.1)
 
 pub beside-sound : (f : Flight) (p : Passage) (u : Unended) → MayPass f p → Held f → IsSoundBeside f.world u → IsSoundBeside (passed f p).world u
 beside-sound f p (unended.Plan j) may held mine = tt
-beside-sound f p (unended.Recovery r entry) may held mine = passage-sound f p r may held mine
+beside-sound f p (unended.Recovery r docket) may held mine = passage-sound f p r may held mine
 
 pub all-held : (f : Flight) (p : Passage) (us : List Unended) → MayPass f p → Held f → ((u : Unended) → Spares (number_of u) p) → All (IsHeldBeside f.world f.leases) us
     → All (IsHeldBeside (passed f p).world (passed f p).leases) us

@@ -1,3 +1,4 @@
+pub mod Hooked
 pub mod Cores
 pub mod Beside
 pub mod Begun

@@ -17,7 +17,7 @@ use Rattle.job_laws.specs.Flights.{Flight, StandsIn, after_turn, replaced, witho
 use Rattle.job_laws.specs.Held.{Spans}
 use Rattle.job_laws.specs.Leases.{Leases, job_at as core_at}
 use Rattle.job_laws.specs.Passages as pass
-use Rattle.job_laws.specs.Passages.{AllMayPass, AllPassWell, MayPass, PassesWell, passed, passing, turned_by}
+use Rattle.job_laws.specs.Passages.{AllMayPass, AllPassWell, MayPass, MayTake, PassesWell, TakesWell, passed, passing, turned_by}
 use Rattle.job_laws.proofs.Lists.{All-find}
 use Rattle.job_laws.proofs.Passages.{Held-passed, Sound-passed, leases-stored_if, world-stored_if}
 use Rattle.recovery_plans.specs.Recoveries.{Recovery}
@@ -34,12 +34,15 @@ use Rattle.recovery_laws.proofs.Sounding.{taken-sound}
 use Rattle.recovery_laws.proofs.Taking.{taken-held}
 use Rattle.unended_jobs.specs.declared.unended.Unended.{Unended}
 use Rattle.unended_jobs.specs.declared.unended.Unended.TheVariants as unended
+use Rattle.unended_jobs.specs.Hooked.{hooked, promoted_in}
 use Rattle.unended_jobs.specs.Unended.{Flown, core_of, flown, number_of}
+use Rattle.unended_jobs.proofs.Hooked.{hooked-has}
 use Rattle.jobs_in_flight.specs.Jobs.{job_at, jobs_turned, with_job, without_job}
 use Rattle.jobs_in_flight.proofs.Numbers.{found-number}
 use Rattle.unended_laws.specs.Beside.{IsHeldBeside, IsSoundBeside}
 use Rattle.unended_laws.specs.Flights.{HeldJobs, SoundJobs}
 use Rattle.unended_laws.specs.Passages.{passage_of, passages_by}
+use Rattle.unended_laws.proofs.Hooked.{own-may, own-well, quiet-may, quiet-well}
 use Rattle.unended_laws.proofs.Cores.{core-found, cores-replaced, cores-without}
 use Rattle.unended_laws.proofs.Beside.{beside-held, beside-sound, jobs-stored_if, passage-own}
 
@@ -95,14 +98,21 @@ module _ (f : Flight) (us : List Unended) (b : BookState) (id read : ℕ) (now :
 
   may-by : (u : Unended) → number_of u ≡ id → IsHeldBeside f.world f.leases u → MayPass f (passage_of f.world b read now keeps id u)
   may-by (unended.Plan j) n mine = tt
-  may-by (unended.Recovery r entry) n mine = recovery-passes f b id read now r held.flight rings-held mine.0 (leased-here r n mine.1)
+  may-by (unended.Recovery r d) n mine =
+      let t = taken f.world b read now r in
+      let leased = leased-here r n mine.1 in
+      let passes = recovery-passes f b id read now r held.flight rings-held mine.0 leased in
+      hooked-has (λ x. MayTake f id (as_turn id x)) d (promoted_in b t) r t (λ s same. own-may f id t s same passes) (λ s. quiet-may f id r s mine.0 leased)
 
   pub turn-may : (u : Unended) → job_at us id ≡ Some u → MayPass f (passage_of f.world b read now keeps id u)
   turn-may u at = may-by u (found-number us id u at) (here u at)
 
   well-by : SoundJobs f us → (u : Unended) → IsHeldBeside f.world f.leases u → IsSoundBeside f.world u → PassesWell f (passage_of f.world b read now keeps id u)
   well-by sound (unended.Plan j) mine good = tt
-  well-by sound (unended.Recovery r entry) mine good = recovery-passes-well f b id read now r held.flight rings-held mine.0 sound.flight (rings-sound sound) good
+  well-by sound (unended.Recovery r d) mine good =
+      let t = taken f.world b read now r in
+      let passes = recovery-passes-well f b id read now r held.flight rings-held mine.0 sound.flight (rings-sound sound) good in
+      hooked-has (λ x. TakesWell f (as_turn id x)) d (promoted_in b t) r t (λ s same. own-well f id t s same passes) (λ s. quiet-well f id r s good)
 
   pub turn-well : (u : Unended) → job_at us id ≡ Some u → SoundJobs f us → PassesWell f (passage_of f.world b read now keeps id u)
   turn-well u at sound = well-by sound u (here u at) (sound-here sound u at)
@@ -129,16 +139,16 @@ module _ (f : Flight) (us : List Unended) (b : BookState) (id read : ℕ) (now :
       let t = turned f.world read now j in
       ap (λ (o : Option Job). (turned_by f id read now keeps o).jobs) (core-here (unended.Plan j) at)
       ∙ (jobs-stored_if keeps (after_turn f id t) t.observation ∙ cores-by (is_going t.step) t.job (unended.Plan t.job) (λ h. refl))
-  turn-cores (unended.Recovery r entry) at =
-      let t = taken f.world b read now r in
+  turn-cores (unended.Recovery r d) at =
+      let t = (hooked f.world b read now r d).taken in
       jobs-stored_if keeps (after_turn f id (as_turn id t)) t.observation
-      ∙ cores-by (is_going t.step) (core_by id t.recovery (is_going t.step)) (unended.Recovery t.recovery entry) (core-going t.recovery (is_going t.step))
+      ∙ cores-by (is_going t.step) (core_by id t.recovery (is_going t.step)) (unended.Recovery t.recovery (hooked f.world b read now r d).docket) (core-going t.recovery (is_going t.step))
 
   -- the others, and the job itself where it goes on
 
   spares : (u k : Unended) → (number_of k ≡ id → ⊥) → Spares (number_of k) (passage_of f.world b read now keeps id u)
   spares (unended.Plan j) k apart = λ same. apart (sym same)
-  spares (unended.Recovery r entry) k apart = λ same. apart (sym same)
+  spares (unended.Recovery r d) k apart = λ same. apart (sym same)
 
   world-taken : (t : Taken) → (passed f (pass.Taking id (as_turn id t) keeps)).world ≡ run f.world t.exchanges
   world-taken t = world-stored_if keeps (after_turn f id (as_turn id t)) t.observation
@@ -148,25 +158,48 @@ module _ (f : Flight) (us : List Unended) (b : BookState) (id read : ℕ) (now :
       leases-stored_if keeps (after_turn f id (as_turn id t)) t.observation
       ∙ ap (λ (g : Bool). if g then f.leases else without_leases f.leases id) going
 
+  abbrev StaysHeld : Taken → Type 0
+  StaysHeld x = is_going x.step ≡ true → HeldRecovery (run f.world x.exchanges) x.recovery × LeasedRecovery f.leases x.recovery.core.id x.recovery
+
+  abbrev StaysSound : Taken → Type 0
+  StaysSound x = is_going x.step ≡ true → SoundRecovery (run f.world x.exchanges) x.recovery
+
   next-held : (u : Unended) → number_of u ≡ id → IsHeldBeside f.world f.leases u → is_going (flown f.world b read now u).step ≡ true
       → IsHeldBeside (passed f (passage_of f.world b read now keeps id u)).world (passed f (passage_of f.world b read now keeps id u)).leases (flown f.world b read now u).next
   next-held (unended.Plan j) n mine going = tt
-  next-held (unended.Recovery r entry) n mine going =
-      let t = taken f.world b read now r in
-      let kept = (taken-held f.world b read now r held.flight.placed rings-held mine.0).held going in
-      let has = (taken-leased f.leases id f.world b read now r (leased-here r n mine.1)).servers going in
-      let renumbered = subst (λ (i : ℕ). LeasedRecovery f.leases i t.recovery) (sym has.number) has in (
-        subst (λ (w : World). HeldRecovery w t.recovery) (sym (world-taken t)) kept,
-        subst (λ (l : Leases). LeasedRecovery l t.recovery.core.id t.recovery) (sym (leases-taken t going)) renumbered,
+  next-held (unended.Recovery r d) n mine going =
+      let h = (hooked f.world b read now r d).taken in
+      let has = stays going in (
+        subst (λ (w : World). HeldRecovery w h.recovery) (sym (world-taken h)) has.0,
+        subst (λ (l : Leases). LeasedRecovery l h.recovery.core.id h.recovery) (sym (leases-taken h going)) has.1,
       )
+    where
+      own : is_going (taken f.world b read now r).step ≡ true
+          → HeldRecovery (run f.world (taken f.world b read now r).exchanges) (taken f.world b read now r).recovery
+              × LeasedRecovery f.leases (taken f.world b read now r).recovery.core.id (taken f.world b read now r).recovery
+      own g =
+          let t = taken f.world b read now r in
+          let kept = (taken-held f.world b read now r held.flight.placed rings-held mine.0).held g in
+          let has = (taken-leased f.leases id f.world b read now r (leased-here r n mine.1)).servers g in
+          (kept, subst (λ (i : ℕ). LeasedRecovery f.leases i t.recovery) (sym has.number) has)
+
+      stays : StaysHeld (hooked f.world b read now r d).taken
+      stays =
+          let t = taken f.world b read now r in
+          hooked-has StaysHeld d (promoted_in b t) r t (λ s same g. own (sym same ∙ g)) (λ s g. mine)
 
   next-sound : SoundJobs f us → (u : Unended) → IsHeldBeside f.world f.leases u → IsSoundBeside f.world u → is_going (flown f.world b read now u).step ≡ true
       → IsSoundBeside (passed f (passage_of f.world b read now keeps id u)).world (flown f.world b read now u).next
   next-sound sound (unended.Plan j) mine good going = tt
-  next-sound sound (unended.Recovery r entry) mine good going =
-      let t = taken f.world b read now r in
-      let kept = (taken-sound f.world b read now r sound.flight.safe held.flight.placed rings-held (rings-sound sound) mine.0 good).sound going in
-      subst (λ (w : World). SoundRecovery w t.recovery) (sym (world-taken t)) kept
+  next-sound sound (unended.Recovery r d) mine good going =
+      let h = (hooked f.world b read now r d).taken in
+      subst (λ (w : World). SoundRecovery w h.recovery) (sym (world-taken h)) (stays going)
+    where
+      stays : StaysSound (hooked f.world b read now r d).taken
+      stays =
+          let t = taken f.world b read now r in
+          let kept = (taken-sound f.world b read now r sound.flight.safe held.flight.placed rings-held (rings-sound sound) mine.0 good).sound in
+          hooked-has StaysSound d (promoted_in b t) r t (λ s same g. kept (sym same ∙ g)) (λ s g. good)
 
   pub turn-held : (u : Unended) → job_at us id ≡ Some u → HeldJobs (passed f (passage_of f.world b read now keeps id u)) (jobs_turned us id (Some (flown f.world b read now u)))
   turn-held u at =

@@ -11,9 +11,9 @@ use Rattle.unended_jobs.specs.declared.unended.Unended.TheVariants as unended
 -- change
 abbrev pub IsHeldBeside : World → Leases → Unended → Type 0
 IsHeldBeside w l (unended.Plan j) = Unit {0}
-IsHeldBeside w l (unended.Recovery r entry) = HeldRecovery w r × LeasedRecovery l r.core.id r
+IsHeldBeside w l (unended.Recovery r docket) = HeldRecovery w r × LeasedRecovery l r.core.id r
 
 -- and each bridge by which it goes stands
 abbrev pub IsSoundBeside : World → Unended → Type 0
 IsSoundBeside w (unended.Plan j) = Unit {0}
-IsSoundBeside w (unended.Recovery r entry) = SoundRecovery w r
+IsSoundBeside w (unended.Recovery r docket) = SoundRecovery w r

@@ -7,16 +7,16 @@ use Rattle.kept_rows.specs.declared.observation.Observation.{Observation}
 use Rattle.instance_keeper.specs.Book.{BookState}
 use Rattle.server_model.specs.Worlds.{World}
 use Rattle.job_laws.specs.Passages.{Passage, Exchanging, Polling, Storing, Discovering, Forgetting, Restarting, Beginning, Turning, Taking}
-use Rattle.recovery_plans.specs.Taking.{taken}
 use Rattle.recovery_laws.specs.Passing.{as_turn}
+use Rattle.unended_jobs.specs.Hooked.{hooked}
 use Rattle.unended_jobs.specs.declared.unended.Unended.{Unended}
 use Rattle.unended_jobs.specs.declared.unended.Unended.TheVariants as unended
 use Rattle.unended_jobs.specs.Unended.{flown}
 
--- the turn of the job of this number: by the operations of its plan, or as its recovery decides it
+-- the turn of the job of this number: by the operations of its plan, or as its recovery decides it, or by a hook
 abbrev pub passage_of : World → BookState → ℕ → Moment → Bool → ℕ → Unended → Passage
 passage_of w b read now keeps id (unended.Plan j) = Turning id read now keeps
-passage_of w b read now keeps id (unended.Recovery r entry) = Taking id (as_turn id (taken w b read now r)) keeps
+passage_of w b read now keeps id (unended.Recovery r docket) = Taking id (as_turn id (hooked w b read now r docket).taken) keeps
 
 -- none where there is no such job; which readings are stored is told by what the turn observes
 abbrev pub passages_by : World → BookState → ℕ → Moment → (Option Observation → Bool) → ℕ → Option Unended → List Passage

@@ -1,6 +1,6 @@
 //! Unended jobs that begin.
 
-ghost use Rattle.std.specs.Prelude.{◌∷◌, ◌++◌, ℕ, All, List, Option, []};
+ghost use Rattle.std.specs.Prelude.{◌∷◌, ◌++◌, ℕ, All, List, []};
 ghost use Rattle.orch_base.specs.declared.server.ServerNo.{ServerNo as Number};
 ghost use Rattle.server_model.specs.Worlds.{World};
 ghost use Rattle.job_laws.specs.Flights.{Flight, leased_to};
@@ -10,6 +10,7 @@ ghost use Rattle.recovery_plans.specs.declared.purpose.Purpose.{Purpose as APurp
 ghost use Rattle.recovery_plans.specs.Beginning.{begun_recovery};
 ghost use Rattle.recovery_plans.specs.Named.{IsListOf};
 ghost use Rattle.recovery_laws.specs.LeasedRecoveries.{IsAny};
+ghost use Rattle.unended_jobs.specs.declared.docket.Docket.{Docket as ADocket};
 ghost use Rattle.unended_jobs.specs.declared.unended.Unended.{Unended as AnUnended};
 ghost use Rattle.unended_jobs.specs.declared.unended.Unended.TheVariants.{Recovery};
 ghost use Rattle.unended_jobs.specs.Unended.{core_of, number_of};
@@ -32,11 +33,11 @@ pub fn unended_jobs_begin()
 /// its place.
 pub fn recoveries_begin_beside()
     ensures held { (w : World) (l : Leases) (list : List Number) (u : APurpose) (id wait : ℕ)
-        (f : Number) (replicas order : List Number) (entry : Option ℕ) →
+        (f : Number) (replicas order : List Number) (docket : ADocket) →
         All (λ n. IsListed list n.0) replicas → IsListOf (IsListed list) IsAny u f →
         IsHeldBeside w (leased_to l list id)
-        (Recovery (begun_recovery u id wait f replicas order) entry) }
+        (Recovery (begun_recovery u id wait f replicas order) docket) }
     ensures sound { (w : World) (u : APurpose) (id wait : ℕ) (f : Number)
-        (replicas order : List Number) (entry : Option ℕ) →
-        IsSoundBeside w (Recovery (begun_recovery u id wait f replicas order) entry) }
+        (replicas order : List Number) (docket : ADocket) →
+        IsSoundBeside w (Recovery (begun_recovery u id wait f replicas order) docket) }
 {}

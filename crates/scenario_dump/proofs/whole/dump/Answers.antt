@@ -3,7 +3,7 @@ use Rattle.std.specs.Prelude.{codes}
 use Rattle.serde_json.specs.Data.{object, string}
 use Rattle.serde_json.specs.Written.{compact_text}
 use Rattle.scenario_dump.specs.Parts.{flag_text}
-use Rattle.scenario_dump.specs.Texts.{aliases_data, blocks_data, list_data}
+use Rattle.scenario_dump.specs.Texts.{aliases_data, blocks_data, hook_data, list_data}
 use Rattle.scenario_dump.proofs.Printed.{First, Once, grew_by}
 use Rattle.scenario_dump.proofs.Wholes.{whole_parts, whole_text}
 use Rattle.scenario_dump.proofs.whole.dump.Goals as goal
@@ -12,7 +12,7 @@ pub returns : goal.returns
 returns c =
     let w = c.args.world.now in
     let s = c.args.scenario.now in
-    grew_by [] c.extend_from_slice-5.new.self.items (whole_parts w s c.args.now.0)
+    grew_by [] c.extend_from_slice-8.new.self.items (whole_parts w s c.args.now.0)
     (First _ _ _ _ _ _ c.in_ok-out.ensures.items
     (First _ _ _ _ _ _ (c.in_ok-print_aliases.ensures ∙ ap (λ v. c.in_ok-out.out.items ++ compact_text (object (aliases_data v))) c.as_slice.ensures)
     (First _ _ _ _ _ _ c.in_ok-print_number.ensures
@@ -23,8 +23,14 @@ returns c =
     (First _ _ _ _ _ _ c.in_ok-extend_from_slice-3.ensures.items
     (First _ _ _ _ _ _ (c.in_ok-print_texts-2.ensures ∙ ap (λ v. c.extend_from_slice-3.new.self.items ++ compact_text (list_data string v)) c.as_slice-4.ensures)
     (First _ _ _ _ _ _ (c.in_ok-print_flag.ensures ∙ ap (λ b. c.print_texts-2.new.out.items ++ (codes "},\"gtid\":" ++ flag_text b)) c.gtid.ensures)
-    (First _ _ _ _ _ _ c.in_ok-print_number-2.ensures
     (First _ _ _ _ _ _ c.in_ok-extend_from_slice-4.ensures.items
+    (First _ _ _ _ _ _ (c.in_ok-print_hooks.ensures ∙ ap (λ v. c.extend_from_slice-4.new.self.items ++ compact_text (list_data hook_data v)) c.as_slice-5.ensures)
+    (First _ _ _ _ _ _ c.in_ok-extend_from_slice-5.ensures.items
+    (First _ _ _ _ _ _ (c.in_ok-print_hooks-2.ensures ∙ ap (λ v. c.extend_from_slice-5.new.self.items ++ compact_text (list_data hook_data v)) c.as_slice-6.ensures)
+    (First _ _ _ _ _ _ c.in_ok-extend_from_slice-6.ensures.items
+    (First _ _ _ _ _ _ (c.in_ok-print_hooks-3.ensures ∙ ap (λ v. c.extend_from_slice-6.new.self.items ++ compact_text (list_data hook_data v)) c.as_slice-7.ensures)
+    (First _ _ _ _ _ _ c.in_ok-print_number-2.ensures
+    (First _ _ _ _ _ _ c.in_ok-extend_from_slice-7.ensures.items
     (First _ _ _ _ _ _ c.in_ok-print_servers.ensures
-    (Once _ _ _ c.in_ok-extend_from_slice-5.ensures.items))))))))))))))
+    (Once _ _ _ c.in_ok-extend_from_slice-8.ensures.items))))))))))))))))))))
     ∙ sym (whole_text w s c.args.now.0)

@@ -1,0 +1,86 @@
+-- The lines of hooks in the turn in which a recovery ends.
+use Rattle.std.proofs.Common.{◌≡◌, ◌≢◌, ◌∙◌, ◌+◌, ℕ, zero, Bool, true, false, List, [], ◌++◌, Option, Some, None, refl, sym, ap, cond, subst}
+use Rattle.std.specs.Prelude.{◌==◌, slice_get, take}
+use Rattle.std.proofs.lemmas.Bool.{eq-eqb, false≢true}
+use Rattle.commands.specs.declared.cause.Cause.{Cause}
+use Rattle.commands.specs.declared.cause.Cause.TheVariants as cause
+use Rattle.commands.specs.declared.line.HookPhase.TheVariants as phase
+use Rattle.commands.specs.declared.line.Line.{Line}
+use Rattle.hook_texts.specs.declared.hooks.Hook.{Hook}
+use Rattle.orch_base.specs.Names.{HostPort}
+use Rattle.operations.specs.declared.step.JobStep.{JobStep}
+use Rattle.operations.specs.declared.step.JobStep.TheVariants as step
+use Rattle.recovery_hooks.specs.Runs.{after_lines, before_lines, done_lines, due_after, due_before, failed_lines, lines_of, ran_before, unsuccessful_lines, AreInOrder, HookState}
+use Rattle.recovery_hooks.proofs.Running.{all-before, all-behind, all-stopped}
+use Rattle.recovery_plans.specs.Recoveries.{Recovery}
+use Rattle.recovery_plans.specs.Taking.{Taken}
+use Rattle.unended_jobs.specs.declared.docket.Docket.{Docket}
+use Rattle.unended_jobs.specs.Hooked.{due_at, front_turn, rear_turn, told_with, with_hooks}
+use Rattle.hook_laws.specs.Tended.{all_before, all_behind}
+
+module _ (d : Docket) (s : HookState) (promoted : Option HostPort) (r : Recovery) (t : Taken) (order : AreInOrder s) where
+  abbrev own : Docket
+  own = record d { hooks = Some s }
+
+  -- ---- done
+
+  abbrev Done : List Line → Type 0
+  Done lines = (mine : List Line) × (t.step ≡ step.Done mine) × (lines ≡ mine ++ (all_before s ++ all_behind s promoted))
+
+  done-own : s.checked ≡ true → due_before s ≡ None → (lines : List Line) (x : JobStep) → t.step ≡ x → due_at s x ≡ None → told_with s promoted x ≡ step.Done lines → Done lines
+  done-own checked before lines step.Going is behind e = absurd cc
+  done-own checked before lines (step.Failed c ls) is behind e = absurd cc
+  done-own checked before lines (step.Done mine) is behind e =
+      let same : lines ≡ mine ++ done_lines s promoted = cc in
+      (mine, is, same ∙ ap (λ ls. mine ++ (ls ++ after_lines s promoted)) (all-before s order checked before) ∙ ap (λ ls. mine ++ (all_before s ++ ls)) (all-behind s promoted checked behind))
+
+  done-rear : s.checked ≡ true → due_before s ≡ None → (lines : List Line) (o : Option Hook) → due_at s t.step ≡ o → (rear_turn own promoted r t o).taken.step ≡ step.Done lines → Done lines
+  done-rear checked before lines None behind e = done-own checked before lines t.step refl behind e
+  done-rear checked before lines (Some h) behind e = absurd cc
+
+  done-front : s.checked ≡ true → (lines : List Line) (o : Option Hook) → due_before s ≡ o → (front_turn own promoted r t o).taken.step ≡ step.Done lines → Done lines
+  done-front checked lines None before e = done-rear checked before lines (due_at s t.step) refl e
+  done-front checked lines (Some h) before e = absurd (by (h.exit == 0) e)
+    where
+      by : (b : Bool) → cond b step.Going (step.Failed (cause.HookFailed (s.before + 1) h.exit) (failed_lines (ran_before s))) ≡ step.Done lines → ⊥
+      by true e = cc
+      by false e = cc
+
+  pub done-tells : s.checked ≡ true → (lines : List Line) → (with_hooks own promoted r t).taken.step ≡ step.Done lines → Done lines
+  done-tells checked lines e = done-front checked lines (due_before s) refl e
+
+  -- ---- failed
+
+  failed-own : (lines : List Line) (c : Cause) (x : JobStep) → told_with s promoted x ≡ step.Failed c lines → lines ≡ before_lines s ++ unsuccessful_lines s
+  failed-own lines c step.Going e = absurd cc
+  failed-own lines c (step.Done mine) e = absurd cc
+  failed-own lines c (step.Failed k ls) e = cc
+
+  failed-rear : (lines : List Line) (c : Cause) (o : Option Hook) → (rear_turn own promoted r t o).taken.step ≡ step.Failed c lines → lines ≡ before_lines s ++ unsuccessful_lines s
+  failed-rear lines c None e = failed-own lines c t.step e
+  failed-rear lines c (Some h) e = absurd cc
+
+  failed-front : s.checked ≡ true → (lines : List Line) (c : Cause) (o : Option Hook) → due_before s ≡ o → (front_turn own promoted r t o).taken.step ≡ step.Failed c lines → lines ≡ all_before s ++ unsuccessful_lines s
+  failed-front checked lines c None before e =
+      failed-rear lines c (due_at s t.step) e ∙ ap (λ ls. ls ++ unsuccessful_lines s) (all-before s order checked before)
+  failed-front checked lines c (Some h) before e = by (h.exit == 0) refl e
+    where
+      by : (b : Bool) → (h.exit == 0) ≡ b → cond b step.Going (step.Failed (cause.HookFailed (s.before + 1) h.exit) (failed_lines (ran_before s))) ≡ step.Failed c lines → lines ≡ all_before s ++ unsuccessful_lines s
+      by true passes e = absurd cc
+      by false other e =
+          let same : lines ≡ failed_lines (ran_before s) = cc in
+          same ∙ ap (λ ls. ls ++ unsuccessful_lines s) (all-stopped s h order before (λ z. false≢true (sym other ∙ eq-eqb h.exit 0 z)))
+
+  pub failed-tells : s.checked ≡ true → (lines : List Line) (c : Cause) → (with_hooks own promoted r t).taken.step ≡ step.Failed c lines → lines ≡ all_before s ++ unsuccessful_lines s
+  failed-tells checked lines c e = failed-front checked lines c (due_before s) refl e
+
+  -- ---- its failed server was reached
+
+  unchecked : s.checked ≡ false → due_before s ≡ None
+  unchecked never = ap (λ (c : Bool). cond c (slice_get s.hooks.pre_failover s.before) None) never
+
+  pub reached-tells : s.checked ≡ false → (lines : List Line) (c : Cause) → (with_hooks own promoted r t).taken.step ≡ step.Failed c lines → lines ≡ unsuccessful_lines s
+  reached-tells never lines c e =
+      let front = subst (λ (o : Option Hook). (front_turn own promoted r t o).taken.step ≡ step.Failed c lines) (unchecked never) e in
+      failed-rear lines c (due_at s t.step) front
+      ∙ ap (λ (n : ℕ). lines_of phase.PreFailover s.told (take n s.hooks.pre_failover) ++ unsuccessful_lines s) (order.first never).0

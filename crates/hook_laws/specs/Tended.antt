@@ -1,0 +1,47 @@
+-- What holds of a recovery and its hooks, from its beginning on.
+use Rattle.std.specs.Prelude.{◌≡◌, ◌≢◌, ◌+◌, ◌++◌, ◌⊎◌, false, true, List, [], ◌∷◌, Option, None, Some, IfSome}
+use Rattle.commands.specs.declared.cause.Cause.{Cause}
+use Rattle.commands.specs.declared.cause.Cause.TheVariants as cause
+use Rattle.commands.specs.declared.line.HookPhase.TheVariants as phase
+use Rattle.commands.specs.declared.line.Line.{Line}
+use Rattle.hook_texts.specs.declared.hooks.Hook.{Hook}
+use Rattle.orch_base.specs.Names.{HostPort}
+use Rattle.operations.specs.declared.op.Op.TheVariants as op
+use Rattle.operations.specs.declared.step.JobStep.{JobStep}
+use Rattle.operations.specs.declared.step.JobStep.TheVariants as step
+use Rattle.recovery_plans.specs.declared.purpose.Purpose.{Purpose}
+use Rattle.recovery_plans.specs.declared.purpose.Purpose.TheVariants as purpose
+use Rattle.recovery_plans.specs.declared.stage.Stage.TheVariants as stage
+use Rattle.recovery_plans.specs.Recoveries.{Recovery}
+use Rattle.recovery_hooks.specs.Runs.{due_after, due_before, lines_of, running_before, unsuccessful_lines, when_done, AreInOrder, HookState}
+
+-- a dead master's, or that of a dead intermediate master
+abbrev pub IsOfDead : Purpose → Type 0
+IsOfDead purpose.Regroup = ⊥
+IsOfDead purpose.Master = Unit {0}
+IsOfDead (purpose.Intermediate s) = Unit {0}
+IsOfDead (purpose.Takeover d) = ⊥
+
+-- it is to look at its failed server, and has stopped none
+pub record IsAtCheck (r : Recovery) : Type 0 where
+  pub purpose : IsOfDead r.purpose
+  pub stage : r.stage ≡ stage.Check
+  pub ops : r.core.ops ≡ op.Status r.failed None ∷ []
+  pub hands : r.core.hands ≡ []
+
+-- its hooks are in order, and it hasn't looked yet where it is as it began
+pub record IsTended (r : Recovery) (s : HookState) : Type 0 where
+  pub order : AreInOrder s
+  pub first : s.checked ≡ false → IsAtCheck r
+
+-- not all have run before it that are to
+abbrev pub IsEarly : HookState → Type 0
+IsEarly s = (s.checked ≡ false) ⊎ ((h : Hook) × (due_before s ≡ Some h))
+
+-- the lines of all that run before it
+abbrev pub all_before : HookState → List Line
+all_before s = lines_of phase.PreFailover s.told (running_before s.hooks.pre_failover)
+
+-- and of all that run behind it
+abbrev pub all_behind : HookState → Option HostPort → List Line
+all_behind s promoted = lines_of phase.PostFailover (when_done s.told promoted) s.hooks.post_failover

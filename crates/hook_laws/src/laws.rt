@@ -1,0 +1,46 @@
+//! Laws of the turns of recoveries with hooks.
+
+ghost use Rattle.std.specs.Prelude.{◌≡◌, ◌≢◌, ◌+◌, ◌++◌, ℕ, [], List, None, Some, false, true};
+ghost use Rattle.commands.specs.declared.cause.Cause.{Cause as ACause};
+ghost use Rattle.commands.specs.declared.line.Line.{Line as ALine};
+ghost use Rattle.hook_texts.specs.declared.hooks.Hook.{Hook as AHook};
+ghost use Rattle.instance_keeper.specs.Book.{BookState};
+ghost use Rattle.orch_base.specs.declared.server.Moment.{Moment as AMoment};
+ghost use Rattle.operations.specs.declared.step.JobStep.TheVariants as step;
+ghost use Rattle.recovery_hooks.specs.Runs.{due_before, unsuccessful_lines, HookState};
+ghost use Rattle.recovery_plans.specs.Recoveries.{Recovery};
+ghost use Rattle.recovery_plans.specs.Taking.{taken};
+ghost use Rattle.server_model.specs.Worlds.{World};
+ghost use Rattle.unended_jobs.specs.Hooked.{hooked, promoted_in};
+ghost use Rattle.unended_jobs.specs.declared.docket.Docket.{Docket as ADocket};
+ghost use Rattle.hook_laws.specs.Tended.{all_before, all_behind, IsEarly, IsTended};
+
+/// Until all hooks have run before it that are to, a recovery changes no server: neither in the turn in which it looks
+/// at its failed server, nor in the turn of such a hook, whatever its exit.
+pub fn hooks_before_recoveries_leave_servers()
+    ensures { (w : World) (b : BookState) (read : ℕ) (now : AMoment) (r : Recovery)
+        (d : ADocket) (s : HookState) →
+        d.hooks ≡ Some s → IsTended r s → IsEarly s →
+        (hooked w b read now r d).taken.exchanges ≡ [] }
+{}
+
+/// A recovery that is done tells, behind its own lines, those of all hooks before it and of all behind it; one that fails
+/// tells those before it up to the one that ended it, none where its failed server was reached, and all that run then.
+pub fn recoveries_tell_their_hooks()
+    ensures done { (w : World) (b : BookState) (read : ℕ) (now : AMoment) (r : Recovery)
+        (d : ADocket) (s : HookState) (lines : List ALine) →
+        d.hooks ≡ Some s → IsTended r s → s.checked ≡ true →
+        (hooked w b read now r d).taken.step ≡ step.Done lines →
+        (own : List ALine) × ((taken w b read now r).step ≡ step.Done own)
+        × (lines ≡ own ++ (all_before s ++ all_behind s (promoted_in b (taken w b read now r)))) }
+    ensures failed { (w : World) (b : BookState) (read : ℕ) (now : AMoment) (r : Recovery)
+        (d : ADocket) (s : HookState) (c : ACause) (lines : List ALine) →
+        d.hooks ≡ Some s → IsTended r s → s.checked ≡ true →
+        (hooked w b read now r d).taken.step ≡ step.Failed c lines →
+        lines ≡ all_before s ++ unsuccessful_lines s }
+    ensures reached { (w : World) (b : BookState) (read : ℕ) (now : AMoment) (r : Recovery)
+        (d : ADocket) (s : HookState) (c : ACause) (lines : List ALine) →
+        d.hooks ≡ Some s → IsTended r s → s.checked ≡ false →
+        (hooked w b read now r d).taken.step ≡ step.Failed c lines →
+        lines ≡ unsuccessful_lines s }
+{}

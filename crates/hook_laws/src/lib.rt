@@ -1,0 +1,6 @@
+//! Laws of recoveries with hooks, turn by turn.
+#![tactic(auto)]
+
+mod laws;
+
+pub use laws::{hooks_before_recoveries_leave_servers, recoveries_tell_their_hooks};

@@ -1,0 +1,15 @@
+//! The hooks of one recovery: which is due, and what those that ran tell (orchestrator's documentation, "Recovery
+//! hooks").
+#![tactic(auto)]
+
+mod analysis;
+mod laws;
+mod lines;
+mod run;
+mod threads;
+
+pub use analysis::code_word;
+pub use laws::{all_hooks_run, hooks_run_in_order};
+/// Want of memory.
+pub use orch_base::Memory;
+pub use run::HookRun;

@@ -1,0 +1,8 @@
+use Rattle.std.proofs.Common.{◌≡◌, ◌++◌, drop}
+use Rattle.std.specs.Prelude.{nat_lt}
+use Rattle.serde_json.specs.Written.{compact_text, items_text}
+use Rattle.scenario_dump.specs.Texts.{hook_data, items_of, list_data}
+use Rattle.scenario_dump.proofs.whole.print_hooks.Given as goal
+
+abbrev pub invariant-loop-n : goal.invariant-loop-n
+invariant-loop-n l = l.out.items ++ items_text (nat_lt 0 l.n) (items_of hook_data (drop l.n l.fn.hooks)) ≡ l.fn.out.items ++ compact_text (list_data hook_data l.fn.hooks)

@@ -1,0 +1,6 @@
+use Rattle.scenario_values.proofs.Each.{IsReadTo}
+use Rattle.scenario_reader.specs.Hooks.{hook_in}
+use Rattle.scenario_reader.proofs.hooks.each_hook.Given as goal
+
+abbrev pub invariant-loop-number : goal.invariant-loop-number
+invariant-loop-number l = IsReadTo (λ n d. hook_in d) l.items l.number l.hooks.items

@@ -1,0 +1,71 @@
+//! How the turn of a recovery with hooks is looked up.
+
+ghost use Rattle.std.specs.Prelude.{◌≡◌, IfOk, length};
+ghost use Rattle.std.specs.Option.{option_copied};
+ghost use Rattle.recovery_plans.specs.Recoveries.{Recovery as ARecovery};
+ghost use Rattle.recovery_turns.specs.Looks.{foretold, CanTake};
+ghost use Rattle.server_model.specs.Worlds.{World as AWorld};
+ghost use Rattle.unended_jobs.specs.Hooked.{hooked, name_of, own_turn, promoted_in};
+ghost use Rattle.unended_jobs.specs.Looks.{hooked_by, CanGo};
+ghost use Rattle.unended_jobs.specs.Unended.{IsReadyRecovery};
+ghost use Rattle.unended_jobs.specs.declared.unended.Unended.TheVariants as unended;
+
+use crate::{Docket, Memory, Place, UnendedLook};
+use instance_keeper::Book;
+use operations::JobStep;
+use orch_base::{Moment, Name, ServerNo};
+use recovery_turns::{RecoveryJob, RecoveryLook};
+use server_model::World;
+use std::alloc::Global;
+use std::mem::replace;
+
+// The name of a promoted server.
+fn name_of(book: &Book, promoted: Option<ServerNo>) -> Option<&Name>
+    ensures { option_copied result ≡ name_of book.now promoted }
+{
+    let no = promoted?;
+    book.names().get(no.0 as usize)
+}
+
+// The recovery's own turn, with the lines of its hooks.
+fn told(
+    alloc: Global,
+    docket: &Docket,
+    book: &Book,
+    mut look: RecoveryLook,
+) -> Result<RecoveryLook, Memory>
+    ensures turn { IfOk result (λ l. (r : ARecovery) → foretold r l
+        ≡ (own_turn docket.now (promoted_in book.now (foretold r look)) (foretold r look)).taken) }
+    ensures can { IfOk result (λ l. (w : AWorld) (r : ARecovery) → CanTake w r look → CanTake w r l) }
+{
+    let promoted = name_of(book, look.promoted());
+    let own = replace(&mut look.step, JobStep::Going);
+    look.step = docket.step_with(alloc, own, promoted)?;
+    Ok(look)
+}
+
+/// What the next turn of a recovery with this docket does: as `Unended::look`.
+pub(crate) fn look_with_hooks(
+    alloc: Global,
+    recovery: &RecoveryJob,
+    docket: &Docket,
+    world: &World,
+    book: &Book,
+    read: u64,
+    moment: Moment,
+) -> Result<UnendedLook, Memory>
+    requires ready { IsReadyRecovery (length world.now.servers) recovery.now }
+    requires known { length book.now.names ≡ length world.now.servers }
+    ensures turn { IfOk result (λ l. hooked_by recovery.now docket.now l
+        ≡ hooked world.now book.now read moment recovery.now docket.now) }
+    ensures can { IfOk result (CanGo world.now (unended.Recovery recovery.now docket.now)) }
+{
+    if let Some(step) = docket.step_before(alloc)? {
+        return Ok(UnendedLook::Hook(step, Place::Before));
+    }
+    let look = recovery.look(alloc, world, book, read, moment)?;
+    if docket.is_due_behind(&look.step) {
+        return Ok(UnendedLook::Hook(JobStep::Going, Place::Behind));
+    }
+    Ok(UnendedLook::Recovery(told(alloc, docket, book, look)?))
+}
