@@ -1,0 +1,300 @@
+#!/usr/bin/env python3
+"""Prints the plan of a command over the servers of a scenario, as statements of MySQL 8 with conditions. docs/REAL.md has what its lines mean.
+
+    tools/print_plan.py -c COMMAND -i HOST[:PORT] [-d HOST[:PORT]] < scenario.json > plan.txt
+
+The program is asked first: what it refuses, or what fails in its rehearsal, has no plan, and its words and its status are passed on. Plans are there
+of commands that go one straight way: moves and relocations by coordinates, commands of one server, and a takeover. Plans of recoveries and
+of GTIDs aren't.
+
+Exit status: 0 printed; 1 the words aren't taken, or the command has no straight plan; 2 no scenario as tools/read_topology.py writes it; 7 refused.
+"""
+import argparse
+import json
+import os
+import subprocess
+import sys
+
+from client import address, full
+
+PROGRAM = os.path.join(os.path.dirname(os.path.dirname(os.path.abspath(__file__))), "crates/orch_cli/out/orch_cli")
+
+STATUS = "SHOW REPLICA STATUS; SHOW BINARY LOG STATUS"
+LOGIN = ", SOURCE_USER=:user, SOURCE_PASSWORD=:password"
+
+HEAD = """\
+# Rehearsed on a model: no failing statements, no parts of transactions, no locks, no clock; its coordinates aren't your servers'.
+# It holds only where each server logs what it applies, no replica has transactions of its own, appliers are single, unfiltered, not
+# delayed and without errors, and nobody else changes replication. Take each coordinate from the line that noted it, never from the
+# rehearsal. Stop where a condition fails. STOP may wait. A restart starts threads and forgets read_only that isn't persisted;
+# privileged users pass it. What a replica received and hasn't executed is gone once it is reset, detached or moved.
+"""
+
+
+class Paper:
+    """Lines of operations, one for each. `told` has of a server the source that a line before has told."""
+
+    def __init__(self):
+        self.lines, self.letters, self.told = [], {}, {}
+
+    def letter(self, name):
+        number = len(self.letters)
+        return self.letters.setdefault(name, chr(ord("A") + number % 26) + (str(number // 26) if number >= 26 else ""))
+
+    def line(self, name, statements, *notes):
+        letter = self.letter(name)
+        behind = " -- " + "; ".join(notes) if notes else ""
+        self.lines.append("%d %s %s;%s" % (len(self.lines) + 1, letter, statements, behind))
+
+    def text(self):
+        return HEAD + "".join("server %s %s\n" % (letter, name) for name, letter in self.letters.items()) + "".join(line + "\n" for line in self.lines)
+
+    # ---- operations
+
+    def stop(self, name):
+        self.line(name, "STOP REPLICA")
+
+    def start(self, name):
+        self.line(name, "START REPLICA")
+
+    def status(self, name, source=None, root=False):
+        letter = self.letter(name)
+        notes = ["note " + letter] + (["must be below " + self.letter(source)] if source else []) + (["must be below nothing"] if root else [])
+        if source:
+            self.told[name] = source
+        self.line(name, STATUS, *notes)
+
+    def until(self, name, aim):
+        letter = self.letter(name)
+        at = "%s.%s" % (self.letter(aim[0]), aim[1])
+        self.line(name, "START REPLICA UNTIL SOURCE_LOG_FILE=:%s.file, SOURCE_LOG_POS=:%s.pos" % (at, at), "not where %s.exec >= %s" % (letter, at))
+        self.line(name, STATUS, "note " + letter, "again until %s.exec >= %s" % (letter, at))
+
+    def change(self, name, to, at, login, condition):
+        host, port = address(to)
+        self.line(name, "CHANGE REPLICATION SOURCE TO SOURCE_HOST='%s', SOURCE_PORT=%d, SOURCE_LOG_FILE=:%s.file, SOURCE_LOG_POS=:%s.pos, "
+                  "SOURCE_AUTO_POSITION=0%s" % (host, port, at, at, LOGIN if login else ""), "only where " + condition + ", stopped")
+
+    def up(self, r, x):
+        a, b = self.letter(r), self.letter(x)
+        self.change(r, self.told[x], b + ".exec", False, "%s is below %s at %s.end" % (a, b, b))
+
+    def down(self, r, d):
+        a, b, s = self.letter(r), self.letter(d), self.letter(self.told[d])
+        self.change(r, d, b + ".end", False, "%s is below %s at %s.exec" % (a, s, b))
+
+    def about(self, s, x):
+        a, b = self.letter(s), self.letter(x)
+        self.change(s, x, b + ".end", s not in self.told, "%s ends at %s.exec" % (a, b))
+
+    def same(self, r):
+        a, s = self.letter(r), self.letter(self.told[r])
+        self.change(r, self.told[r], a + ".exec", False, "%s is below %s at %s.exec" % (a, s, a))
+
+    def reset(self, name):
+        self.line(name, "STOP REPLICA; RESET REPLICA ALL")
+
+    def own(self, name, host, word):
+        a = self.letter(name)
+        change = ("CHANGE REPLICATION SOURCE TO SOURCE_HOST='%s:%s.source.host', SOURCE_PORT=:%s.source.port, SOURCE_LOG_FILE=:%s.exec.file, "
+                  "SOURCE_LOG_POS=:%s.exec.pos, SOURCE_AUTO_POSITION=0" % (host, a, a, a, a))
+        first = "STOP REPLICA; " if host else ""
+        self.line(name, first + STATUS + "; " + change, "note " + a, "only where %s is %s, stopped" % (a, word))
+
+    def detach(self, name):
+        self.own(name, "//", "attached")
+
+    def reattach(self, name):
+        self.own(name, "", "detached")
+
+    def read_only(self, name, on):
+        self.line(name, "SET PERSIST super_read_only=ON" if on else "SET PERSIST super_read_only=OFF; SET PERSIST read_only=OFF")
+
+    # ---- plans
+
+    def move_up(self, i, x, g):
+        self.stop(i)
+        self.stop(x)
+        self.status(x, g)
+        self.status(i, x)
+        self.until(i, (x, "end"))
+        self.stop(i)
+        self.up(i, x)
+        self.start(i)
+        self.start(x)
+        self.status(i)
+
+    def move_below(self, i, d, s):
+        self.stop(i)
+        self.stop(d)
+        self.status(i, s)
+        self.status(d, s)
+        self.until(i, (d, "exec"))
+        self.until(d, (i, "exec"))
+        self.stop(i)
+        self.stop(d)
+        self.status(d, s)
+        self.down(i, d)
+        self.start(d)
+        self.start(i)
+        self.status(i)
+
+    def take_master(self, i, x, g):
+        self.stop(i)
+        self.stop(x)
+        self.status(x, g)
+        self.status(i, x)
+        self.until(i, (x, "end"))
+        self.stop(i)
+        self.status(i, x)
+        self.up(i, x)
+        self.about(x, i)
+        self.start(i)
+        self.start(x)
+        self.status(i)
+        self.status(x)
+
+    def repoint(self, i, x):
+        self.stop(i)
+        self.status(i, x)
+        self.same(i)
+        self.start(i)
+        self.status(i)
+
+    def takeover(self, m, d, others):
+        self.status(m, root=True)
+        self.read_only(m, True)
+        self.status(m)
+        self.status(d, m)
+        self.until(d, (m, "end"))
+        self.stop(d)
+        self.status(d, m)
+        for r in others:
+            self.status(r, m)
+            self.until(r, (d, "exec"))
+            self.stop(r)
+            self.status(r, m)
+            self.down(r, d)
+            self.start(r)
+        self.reset(d)
+        self.about(m, d)
+        self.read_only(d, False)
+        self.status(m)
+        self.status(d)
+
+
+def path_of(source, i, d):
+    """The way of a relocation by coordinates: how many times up, and whether below d then; or None."""
+    above, up = [], source[i]
+    while up:
+        above.append(up)
+        up = source[up]
+    if d in above:
+        return above.index(d), False
+    return (above.index(source[d]), True) if source[d] in above else None
+
+
+def relocated(plan, source, i, d):
+    """The plan's moves of a relocation; `plan` is a paper or a job."""
+    x = source[i]
+    ups, below = path_of(source, i, d)
+    if ups == 0 and not below:
+        plan.repoint(i, x)
+    for _ in range(ups):
+        plan.move_up(i, x, source[x])
+        x = source[x]
+    if below:
+        plan.move_below(i, d, x)
+
+
+def single(paper, command, i):
+    """Whether it is a command of one server; its plan."""
+    first = {"detach-replica": lambda: paper.detach(i), "reattach-replica": lambda: paper.reattach(i), "reset-replica": lambda: paper.reset(i),
+             "stop-replica": lambda: paper.stop(i), "restart-replica": lambda: paper.stop(i), "start-replica": lambda: None,
+             "set-read-only": lambda: paper.read_only(i, True), "set-writeable": lambda: paper.read_only(i, False)}.get(command)
+    if first is None:
+        return False
+    first()
+    if command in ("reattach-replica", "start-replica", "restart-replica"):
+        paper.start(i)
+    paper.status(i)
+    return True
+
+
+def moves(plan, command, i, d, source, below):
+    """Whether it is a command of moves; these, one after another. `plan` is a paper or a job, `below` gives a server's replicas in name order."""
+    x = source[i]
+    if command == "move-up":
+        plan.move_up(i, x, source[x])
+    elif command == "move-up-replicas":
+        for r in below(i):
+            plan.move_up(r, i, x)
+    elif command == "move-below":
+        plan.move_below(i, d, x)
+    elif command == "take-siblings":
+        for r in below(x):
+            if r != i:
+                plan.move_below(r, i, x)
+    elif command == "take-master":
+        plan.take_master(i, x, source[x])
+    elif command == "repoint":
+        plan.repoint(i, x)
+    elif command == "relocate":
+        relocated(plan, source, i, d)
+    else:
+        return False
+    return True
+
+
+def plan_text(command, i, d, source):
+    """The plan of a command over servers with these sources; None where it has none that is straight."""
+    paper = Paper()
+
+    def below(name):
+        return sorted((r for r in source if source[r] == name), key=address)
+    if command == "graceful-master-takeover":
+        paper.takeover(i, d, [r for r in below(i) if r != d])
+        return paper.text()
+    return paper.text() if single(paper, command, i) or moves(paper, command, i, d, source, below) else None
+
+
+def options():
+    parser = argparse.ArgumentParser(description=__doc__, formatter_class=argparse.RawDescriptionHelpFormatter)
+    parser.add_argument("-c", required=True, metavar="COMMAND")
+    parser.add_argument("-i", required=True, metavar="HOST[:PORT]", type=full)
+    parser.add_argument("-d", metavar="HOST[:PORT]", type=full)
+    parser.add_argument("--orch", default=PROGRAM, metavar="PROGRAM", help="the program (%(default)s)")
+    return parser
+
+
+def sources_in(text):
+    """Of each server of a scenario its source."""
+    scenario = json.loads(text)
+    if scenario.get("turns") or scenario.get("gtid"):
+        raise ValueError("it has turns, or uses GTIDs")
+    return {full(server["name"]): full(server["source"]) if "source" in server else None for server in scenario["servers"]}
+
+
+def main(words=None):
+    given = options().parse_args(words)
+    text = sys.stdin.read()
+    try:
+        source = sources_in(text)
+    except (ValueError, KeyError, TypeError, AttributeError) as reason:
+        print("no scenario of a topology: %s" % reason, file=sys.stderr)
+        return 2
+    about = ["-i", given.i] + (["-d", given.d] if given.d else [])
+    asked = subprocess.run([given.orch, "-c", given.c] + about, input=text.encode(), capture_output=True)
+    if asked.returncode != 0:
+        sys.stderr.write(asked.stderr.decode())
+        return asked.returncode
+    plan = plan_text(given.c, given.i, given.d, source)
+    if plan is None:
+        print("no straight plan: %s" % given.c, file=sys.stderr)
+        return 1
+    sys.stdout.write(plan)
+    return 0
+
+
+if __name__ == "__main__":
+    sys.exit(main())

@@ -1,0 +1,449 @@
+"""Each operation of orch's jobs as statements that are sent, and the plans of its commands and recoveries written anew from what
+docs/COMMANDS.md says of them, not from the program: what the servers do by them is compared with what the program foretells."""
+import time
+
+from binary_log import groups_of
+from client import Coord, Down, Servers, address
+
+RULES = ["prefer", "neutral", "prefer_not", "must_not"]
+
+
+class Failed(Exception):
+    def __init__(self, cause):
+        super().__init__(cause)
+        self.cause = cause
+
+
+class Job:
+    """`bridges` are kept pairs of own end, source and executed coordinate. `places` has, where a dead server's log is known, of each of its files
+    the ends of its transactions: events that are no transaction take no room by it."""
+
+    def __init__(self, client, aliases, login, wait=400):
+        self.servers, self.login, self.wait = Servers(client, aliases), login, wait
+        self.seen, self.hands, self.lines, self.remarks, self.sent = {}, set(), [], [], []
+        self.before_operation, self.rules, self.places = None, {}, None
+
+    def send(self, name, statement):
+        self.sent.append((name, statement))
+        try:
+            return self.servers.ask(name, statement)
+        except Down:
+            raise Failed("Unreachable %s" % name) from None
+
+    def begin(self, operation):
+        if self.before_operation:
+            self.before_operation(operation)
+
+    def look(self, name):
+        try:
+            return self.servers.look(name)
+        except Down:
+            raise Failed("Unreachable %s" % name) from None
+
+    # ---- operations
+
+    def status(self, name, source=None):
+        self.begin("Status")
+        seen = self.seen[name] = self.look(name)
+        if source is not None and (seen.source != source or seen.detached):
+            raise Failed("Moved %s %s" % (name, seen.source or "none"))
+        return seen
+
+    def stop(self, name):
+        self.begin("Stop")
+        self.send(name, "STOP SLAVE")
+        self.hands.add(name)
+
+    def stop_receiver(self, name):
+        self.begin("StopReceiver")
+        self.send(name, "STOP SLAVE IO_THREAD")
+        self.hands.add(name)
+
+    def start(self, name):
+        self.begin("Start")
+        if self.look(name).source:
+            self.send(name, "START SLAVE")
+        self.hands.discard(name)
+
+    def until(self, name, aim):
+        self.begin("Until")
+        if self.seen[name].exec < aim:
+            self.send(name, "START SLAVE UNTIL MASTER_LOG_FILE='%s', MASTER_LOG_POS=%d" % (aim.file, aim.position))
+
+    def wait_for(self, name, aim):
+        self.begin("Await")
+        for _ in range(self.wait + 1):
+            seen = self.seen[name] = self.look(name)
+            if seen.exec >= aim:
+                return
+            time.sleep(0.02)
+        raise Failed("WaitSpent %s" % name)
+
+    def is_same_place(self, name, one, other):
+        """Whether no transaction of the server's log ends between two coordinates."""
+        low, high = min(one, other), max(one, other)
+        for log in self.send(name, "SHOW BINARY LOGS") if low < high else []:
+            if low.number <= int(log["Log_name"].rsplit(".", 1)[1]) <= high.number:
+                events = self.send(name, "SHOW BINLOG EVENTS IN '%s'" % log["Log_name"])
+                if any(low < group.last <= high for group in groups_of(events, True)):
+                    return False
+        return True
+
+    def check_spot(self, name, live, expected):
+        spot = "%s %s" % (live.source, live.exec) if live.source else "nowhere"
+        if not live.stopped:
+            raise Failed("Running %s" % name)
+        if expected[0] == "at" and (live.source, live.exec) != expected[1:]:
+            raise Failed("Interfered %s expected %s %s found %s" % (name, expected[1], expected[2], spot))
+        if expected[0] == "end" and live.end != expected[1]:
+            if not self.is_same_place(name, live.end, expected[1]):
+                raise Failed("Interfered %s expected end %s found end %s" % (name, expected[1], live.end))
+            self.remarks.append("%s: its log's end went from %s to %s without a transaction" % (name, expected[1], live.end))
+
+    def check_loop(self, name, up):
+        seen = set()
+        while up and up not in seen:
+            if up == name:
+                raise Failed("Loop %s" % name)
+            seen.add(up)
+            try:
+                up = self.look(up).source
+            except Failed:
+                return
+
+    def attach(self, name, expected, to, at, login=False):
+        """`expected` is ("at", source, executed) or ("end", own end). The test and the change are two statements."""
+        self.begin("Attach")
+        live = self.look(name)
+        self.check_spot(name, live, expected)
+        self.check_loop(name, to)
+        who = ", MASTER_USER='%s', MASTER_PASSWORD='%s'" % self.login if login or not live.source else ""
+        host, port = address(to)
+        self.send(name, "CHANGE MASTER TO MASTER_HOST='%s', MASTER_PORT=%d, MASTER_LOG_FILE='%s', MASTER_LOG_POS=%d, MASTER_USE_GTID=no%s"
+                  % (host, port, at.file, at.position, who))
+
+    def up(self, r, x):
+        """r, at the end of x's log, goes to x's source."""
+        self.attach(r, ("at", x, self.seen[x].end), self.seen[x].source, self.seen[x].exec)
+
+    def down(self, r, d):
+        """r, which stands with d, goes below d."""
+        self.attach(r, ("at", self.seen[d].source, self.seen[d].exec), d, self.seen[d].end)
+
+    def about(self, s, x, seen=None):
+        """s, the source of x, goes below x."""
+        seen = seen or self.seen[x]
+        self.attach(s, ("end", seen.exec), x, seen.end)
+
+    def same(self, r):
+        self.attach(r, ("at", self.seen[r].source, self.seen[r].exec), self.seen[r].source, self.seen[r].exec)
+
+    def reset(self, name):
+        self.begin("Reset")
+        self.send(name, "STOP SLAVE")
+        self.send(name, "RESET SLAVE ALL")
+
+    def detach(self, name):
+        self.begin("Detach")
+        self.send(name, "STOP SLAVE")
+        seen = self.look(name)
+        if seen.source and not seen.detached:
+            host, port = seen.row["Master_Host"], seen.row["Master_Port"]
+            self.send(name, "CHANGE MASTER TO MASTER_HOST='//%s', MASTER_PORT=%s, MASTER_LOG_FILE='%s', MASTER_LOG_POS=%d, MASTER_USE_GTID=no"
+                      % (host, port, seen.exec.file, seen.exec.position))
+
+    def set_read_only(self, name, on):
+        self.begin("ReadOnly")
+        self.send(name, "SET GLOBAL read_only=%s" % ("ON" if on else "OFF"))
+
+    def passing(self, operation, *words):
+        try:
+            operation(*words)
+        except Failed:
+            pass
+
+    # ---- plans of moves
+
+    def level(self, r, aim):
+        self.until(r, aim)
+        self.wait_for(r, aim)
+
+    def move_up(self, i, x, g):
+        self.stop(i)
+        self.stop(x)
+        self.status(x, g)
+        self.status(i, x)
+        self.level(i, self.seen[x].end)
+        self.stop(i)
+        self.up(i, x)
+        self.start(i)
+        self.start(x)
+        self.status(i)
+        self.lines.append("%s<%s" % (i, g))
+
+    def move_below(self, i, d, s):
+        self.stop(i)
+        self.stop(d)
+        self.status(i, s)
+        self.status(d, s)
+        self.level(i, self.seen[d].exec)
+        self.level(d, self.seen[i].exec)
+        self.stop(i)
+        self.stop(d)
+        self.status(d, s)
+        self.down(i, d)
+        self.start(d)
+        self.start(i)
+        self.status(i)
+        self.lines.append("%s<%s" % (i, d))
+
+    def take_master(self, i, x, g):
+        self.stop(i)
+        self.stop(x)
+        self.status(x, g)
+        self.status(i, x)
+        self.level(i, self.seen[x].end)
+        self.stop(i)
+        seen = self.status(i, x)
+        self.up(i, x)
+        self.about(x, i, seen)
+        self.start(i)
+        self.start(x)
+        self.status(i)
+        self.status(x)
+        self.lines += ["%s<%s" % (i, g), "%s<%s" % (x, i)]
+
+    def repoint(self, i, x):
+        self.stop(i)
+        self.status(i, x)
+        self.same(i)
+        self.start(i)
+        self.status(i)
+        self.lines.append("%s<%s" % (i, x))
+
+    def run(self, plan, *words):
+        """Done lines, or the cause: a plan that fails starts the servers that it has stopped."""
+        try:
+            plan(*words)
+            return "done", self.lines
+        except Failed as reason:
+            for name in sorted(self.hands):
+                self.passing(self.start, name)
+            return "failed", reason.cause
+
+    # ---- plans of recoveries
+
+    def drain(self, r, failed, lost):
+        try:
+            self.stop_receiver(r)
+            for _ in range(self.wait):
+                seen = self.look(r)
+                if not seen.sql or seen.read == seen.exec:
+                    break
+                time.sleep(0.02)
+            self.stop(r)
+            seen = self.status(r)
+        except Failed:
+            lost[r] = "unreachable"
+            return None
+        if seen.source != failed or seen.detached:
+            lost[r] = "moved"
+            return None
+        return seen
+
+    def key(self, at):
+        """A coordinate by the transactions that end at or before it."""
+        if self.places is None:
+            return at
+        return Coord(at.number, sum(1 for end in self.places.get(at.number, []) if end <= at.position))
+
+    def rule(self, name):
+        return RULES.index(self.rules.get(name, "neutral"))
+
+    def chosen(self, drained):
+        fit = [r for r in drained if drained[r].end and self.rule(r) < 3]
+        if not fit:
+            for r in drained:
+                self.passing(self.start, r)
+            raise Failed("NoCandidate")
+
+        def rank(key):
+            return min(fit, key=lambda r: (-key(drained[r].exec).number, -key(drained[r].exec).position, self.rule(r), r))
+        found, raw = rank(self.key), rank(lambda at: at)
+        if found != raw:
+            self.remarks.append("by coordinates as they are %s would be chosen; it stands at the place of %s" % (raw, found))
+        return found
+
+    def place_below(self, failed, p, seen, bridges):
+        """Where a drained replica goes on below the chosen one: at its end, by a kept bridge, or nowhere."""
+        own, most = self.key(seen.exec), self.key(self.seen[p].exec)
+        if own == most:
+            return self.seen[p].end
+        if own > most:
+            return None
+        return next((end for end, source, at in reversed(bridges.get(p, [])) if source == failed and self.key(at) == own), None)
+
+    def gather(self, failed, replicas, bridges, lost):
+        """Drain all, choose one, attach the others."""
+        drained, followers = {}, []
+        for r in sorted(replicas):
+            seen = self.drain(r, failed, lost)
+            if seen:
+                drained[r] = seen
+        p = self.chosen(drained)
+        for r in sorted(drained):
+            if r == p:
+                continue
+            at = self.place_below(failed, p, drained[r], bridges)
+            if at is None:
+                word = "ahead" if self.key(drained[r].exec) > self.key(drained[p].exec) else "behind"
+                lost[r] = "%s %s" % (word, drained[r].exec)
+                continue
+            try:
+                self.attach(r, ("at", failed, drained[r].exec), p, at)
+                self.start(r)
+                followers.append(r)
+            except Failed as reason:
+                lost[r] = "unreachable" if reason.cause.startswith("Unreach") else "moved"
+        return p, followers, drained
+
+    def regroup(self, failed, replicas, bridges):
+        lost = {}
+        p, followers, _ = self.gather(failed, replicas, bridges, lost)
+        for r in sorted(lost):
+            self.passing(self.start, r)
+        self.start(p)
+        self.lines.append(p)
+        self.lines += ["%s<%s" % (r, p) if r in followers else "%s %s" % (r, lost[r]) for r in sorted(replicas) if r != p]
+
+    def check_dead(self, failed):
+        try:
+            self.status(failed)
+        except Failed:
+            return
+        raise Failed("Reachable %s" % failed)
+
+    def expel(self, lost):
+        """Detaches those that stand ahead or behind, and starts those that stand elsewhere."""
+        gone = set()
+        for r in sorted(lost):
+            if lost[r].startswith(("ahead", "behind")):
+                self.passing(self.detach, r)
+                gone.add(r)
+            elif lost[r].startswith("moved"):
+                self.passing(self.start, r)
+        return gone
+
+    def swap(self, p, q):
+        """Whether q, which follows p, has taken its place."""
+        try:
+            self.status(p)
+            self.status(q, p)
+            self.level(q, self.seen[p].end)
+            self.stop(q)
+            self.status(q, p)
+            self.reset(q)
+        except Failed:
+            self.passing(self.start, q)
+            return False
+        try:
+            self.about(p, q)
+            self.start(p)
+            return True
+        except Failed:
+            self.attach(q, ("end", self.seen[q].end), p, self.seen[q].exec, login=True)
+            self.start(q)
+            return False
+
+    def recover_master(self, failed, replicas, bridges):
+        lost = {}
+        self.check_dead(failed)
+        p, followers, drained = self.gather(failed, replicas, bridges, lost)
+        gone = self.expel(lost)
+        better = sorted((self.rule(r), r) for r in followers if drained[r].end and self.rule(r) < self.rule(p))
+        promoted = better[0][1] if better and self.swap(p, better[0][1]) else p
+        if promoted == p:
+            self.reset(p)
+        self.set_read_only(promoted, False)
+        self.status(promoted)
+        self.lines.append("promoted %s" % promoted)
+        pairs = [(r, p) for r in followers if r != promoted] + ([(p, promoted)] if promoted != p else [])
+        self.lines += ["%s<%s" % pair for pair in sorted(pairs)]
+        self.lines += ["%s %s%s" % (r, lost[r], " detached" if r in gone else "") for r in sorted(lost)]
+
+    def recover_intermediate(self, failed, source, replicas, bridges):
+        lost, followers = {}, []
+        self.check_dead(failed)
+        self.status(source)
+        drained = {r: self.drain(r, failed, lost) for r in sorted(replicas)}
+        for r in (r for r in sorted(replicas) if drained[r]):
+            own = self.key(drained[r].exec)
+            at = next((at for end, above, at in reversed(bridges.get(failed, [])) if above == source and self.key(end) == own), None)
+            if at is None:
+                lost[r] = "behind %s" % drained[r].exec
+                continue
+            self.attach(r, ("at", failed, drained[r].exec), source, at)
+            self.start(r)
+            followers.append(r)
+        gone = self.expel(lost)
+        self.lines.append("successor %s" % source)
+        self.lines += ["%s<%s" % (r, source) for r in followers]
+        self.lines += ["%s %s%s" % (r, lost[r], " detached" if r in gone else "") for r in sorted(lost)]
+
+    # ---- a takeover
+
+    def trail(self, r, m, d, lost, followers):
+        """r comes to where d has stopped, and goes below it."""
+        at = self.seen[d].exec
+        try:
+            if self.status(r).source != m:
+                lost[r] = "moved"
+                return
+            self.level(r, at)
+            self.stop(r)
+            if self.status(r).exec == at:
+                self.down(r, d)
+                followers.append(r)
+            else:
+                lost[r] = "behind %s" % self.seen[r].exec
+            self.start(r)
+        except Failed as reason:
+            lost[r] = "unreachable" if reason.cause.startswith("Unreach") else "behind"
+            self.passing(self.start, r)
+
+    def gather_takeover(self, m, d, replicas, lost, followers):
+        self.status(m)
+        self.status(d, m)
+        self.level(d, self.seen[m].end)
+        self.stop(d)
+        self.status(d, m)
+        for r in sorted(replicas):
+            if r != d:
+                self.trail(r, m, d, lost, followers)
+        self.reset(d)
+
+    def takeover(self, m, d, replicas):
+        lost, followers = {}, []
+        if self.status(m).source:
+            raise Failed("Moved %s" % m)
+        self.set_read_only(m, True)
+        try:
+            self.gather_takeover(m, d, replicas, lost, followers)
+        except Failed:
+            self.passing(self.set_read_only, m, False)
+            raise
+        try:
+            self.about(m, d)
+        except Failed:
+            seen = self.seen[d]
+            self.passing(self.attach, d, ("end", seen.end), m, seen.exec, True)
+            self.passing(self.start, d)
+            self.passing(self.set_read_only, m, False)
+            raise
+        self.set_read_only(d, False)
+        self.status(m)
+        self.status(d)
+        self.hands.discard(d)
+        self.lines.append("promoted %s" % d)
+        self.lines += ["%s<%s" % pair for pair in sorted([(r, d) for r in followers] + [(m, d)])]
+        self.lines += ["%s %s" % (r, lost[r]) for r in sorted(lost)]

@@ -1,0 +1,635 @@
+"""The stories: each makes a topology, reads it, and names a command and its plan by hand."""
+import time
+
+from rehearsal.by_hand import Job
+from rehearsal.story import Differs, Writes
+
+STORIES = []
+
+
+def story(made):
+    STORIES.append(made)
+    return made
+
+
+def moved(command, i, d=None):
+    """A story that ends in a command with a straight plan."""
+    return (command, i, d), None
+
+
+def chain(s):
+    """a over b over c; b's log is divided otherwise than a's."""
+    s.root("a")
+    s.below("b", "a")
+    s.below("c", "b")
+    s.write("a", 3)
+    s.settle("b", "c")
+    s.flush("b")
+    s.write("a", 2, parts=3)
+    s.settle("b", "c")
+
+
+def siblings(s, behind, ahead):
+    """b and c below a: one lags by three transactions, the other has all."""
+    s.root("a")
+    s.below("b", "a")
+    s.below("c", "a")
+    s.write("a", 3)
+    s.settle("b", "c")
+    s.flush("a")
+    s.write("a", 2)
+    s.settle("b", "c")
+    s.flush(ahead)
+    s.only(behind, 5)
+    s.write("a", 3, parts=2)
+    s.settle(ahead)
+
+
+# ---- moves
+
+
+@story
+def move_up(s):
+    """c, which lags below b, goes up to a"""
+    chain(s)
+    s.flush("a")
+    s.settle("b")
+    s.only("c", 4)
+    s.write("a", 3, pad=300)
+    s.settle("b")
+    s.flush("b")
+    s.read()
+    return moved("move-up", "c")
+
+
+@story
+def move_up_stopped_relay(s):
+    """b itself lags behind a with its applier off; c goes up to a at what b has executed"""
+    chain(s)
+    s.write("a", 2)
+    s.settle("b", "c")
+    s.applier_off("b")
+    s.write("a", 3)
+    time.sleep(0.5)
+    s.read()
+    return moved("move-up", "c")
+
+
+@story
+def move_up_replicas(s):
+    """c and d below b go up one after another; d lags"""
+    chain(s)
+    s.below("d", "b")
+    s.settle("d")
+    s.only("d", 5)
+    s.write("a", 2)
+    s.settle("b", "c")
+    s.flush("b")
+    s.write("a", 1)
+    s.settle("b", "c")
+    s.read()
+    return moved("move-up-replicas", "b")
+
+
+@story
+def move_below_behind(s):
+    """c, which lags three transactions behind its sibling b, goes below b"""
+    siblings(s, "c", "b")
+    s.read()
+    return moved("move-below", "c", "b")
+
+
+@story
+def move_below_ahead(s):
+    """c goes below its sibling b, which lags three transactions behind c"""
+    siblings(s, "b", "c")
+    s.read()
+    return moved("move-below", "c", "b")
+
+
+@story
+def move_below_stuck(s):
+    """the sibling's applier is on but stands still when the move begins, and goes on a second later"""
+    s.root("a")
+    s.below("b", "a")
+    s.below("c", "a")
+    s.write("a", 3)
+    s.settle("b", "c")
+    s.farm.hold(s.n("b"), 2.5)
+    s.write("a", 2)
+    s.settle("c")
+    time.sleep(0.3)
+    s.read()
+    return moved("move-below", "c", "b")
+
+
+@story
+def take_siblings(s):
+    """c and d, one behind and one level, go below b"""
+    siblings(s, "c", "b")
+    s.below("d", "a")
+    s.settle("d")
+    s.read()
+    return moved("take-siblings", "b")
+
+
+@story
+def take_master(s):
+    """c and its source b change places; c lags"""
+    chain(s)
+    s.only("c", 4)
+    s.write("a", 2)
+    s.settle("b")
+    s.read()
+    return moved("take-master", "c")
+
+
+@story
+def take_master_after_flush(s):
+    """as before, and b's log has just been rotated, so that its end stands behind a file's head"""
+    chain(s)
+    s.write("a", 2)
+    s.settle("b", "c")
+    s.flush("b")
+    time.sleep(0.5)
+    s.settle("c")
+    s.read()
+    return moved("take-master", "c")
+
+
+@story
+def repoint(s):
+    """c lags below a, two files back, and is repointed to a"""
+    s.root("a")
+    s.below("c", "a")
+    s.write("a", 2)
+    s.settle("c")
+    s.only("c", 3)
+    s.flush("a")
+    s.write("a", 2)
+    s.flush("a")
+    s.write("a", 1)
+    time.sleep(0.3)
+    s.read()
+    return moved("repoint", "c")
+
+
+@story
+def relocate(s):
+    """e, three levels down (a, b, c, e), goes below d, which stands below a: twice up, then below"""
+    chain(s)
+    s.below("d", "a")
+    s.below("e", "c")
+    s.write("a", 2)
+    s.settle("b", "c", "d", "e")
+    s.only("d", 5)
+    s.write("a", 2)
+    s.settle("b", "c", "e")
+    s.read()
+    return moved("relocate", "e", "d")
+
+
+@story
+def purged_logs(s):
+    """a's and b's oldest files are purged: the scenario begins at the first transaction that all logs have"""
+    chain(s)
+    s.flush("a")
+    s.write("a", 2)
+    s.settle("b", "c")
+    s.flush("b")
+    s.write("a", 2)
+    s.settle("b", "c")
+    s.flush("c")
+    s.write("a", 1)
+    s.settle("b", "c")
+    s.purge("a", 2)
+    s.offset = len(s.transactions) - len(s.reading(s.n("a")).groups)
+    s.purge("b", s.state(s.n("b")).end.number)
+    s.applier_off("c")
+    s.write("a", 2)
+    s.settle("b")
+    s.read()
+    if not s.before.start:
+        raise Differs("nothing was purged")
+    return moved("move-up", "c")
+
+
+# ---- one server
+
+
+@story
+def stop_and_start(s):
+    """c, which runs, is started again by restart-replica"""
+    chain(s)
+    s.read()
+    return moved("restart-replica", "c")
+
+
+@story
+def stopped(s):
+    """c is stopped, and has all that b has"""
+    chain(s)
+    s.read()
+    return moved("stop-replica", "c")
+
+
+@story
+def detached(s):
+    """c is detached from b, which it keeps"""
+    chain(s)
+    s.read()
+    return moved("detach-replica", "c")
+
+
+@story
+def reset(s):
+    """c has no source any more"""
+    chain(s)
+    s.read()
+    return moved("reset-replica", "c")
+
+
+@story
+def writable(s):
+    """c takes clients' writes"""
+    chain(s)
+    s.read()
+    return moved("set-writeable", "c")
+
+
+# ---- refusals
+
+
+@story
+def refused_not_sibling(s):
+    """d, below b, can't go below c, which is below a"""
+    s.root("a")
+    s.below("b", "a")
+    s.below("c", "a")
+    s.below("d", "b")
+    s.write("a", 3)
+    s.settle("b", "c", "d")
+    s.read()
+    return ("move-below", "d", "c"), "NotSibling"
+
+
+@story
+def refused_below(s):
+    """b can't go below c, its own replica"""
+    chain(s)
+    s.read()
+    return ("move-below", "b", "c"), "Below"
+
+
+@story
+def refused_source_is_root(s):
+    """b, right below the root, can't go up"""
+    chain(s)
+    s.read()
+    return ("move-up", "b", None), "SourceHasNoSource"
+
+
+@story
+def refused_same_id(s):
+    """c and b have one server id: c can't go below b"""
+    s.root("a")
+    s.farm.ask(s.n("c"), "SET GLOBAL server_id=%d" % s.farm.ids[s.n("b")])
+    s.below("b", "a")
+    s.write("a", 3)
+    s.settle("b")
+    s.farm.ask(s.n("b"), "STOP SLAVE IO_THREAD")
+    s.below("c", "a")
+    s.settle("c")
+    s.read()
+    return ("move-below", "c", "b"), "SameServerId"
+
+
+@story
+def refused_takeover(s):
+    """c isn't a replica of a itself: no takeover"""
+    chain(s)
+    s.read()
+    return ("graceful-master-takeover", "a", "c"), "NotReplica"
+
+
+# ---- recoveries
+
+
+def below_dead(s):
+    """a over b, c, d, e, whose links are cut one after another: b has executed 5 when it is read and 6 later, c 5, d 4, e 6"""
+    s.root("a")
+    for letter in "bcde":
+        s.below(letter, "a", proxy=True)
+    s.write("a", 2)
+    s.settle("b", "c", "d", "e")
+    s.cut("d")
+    s.write("a", 1)
+    s.settle("b", "c", "e")
+    s.cut("b", "c")
+    s.write("a", 1)
+    s.settle("e")
+    s.cut("e")
+
+
+@story
+def regroup(s):
+    """the master dies with unequal replicas: b, read before and after a transaction, takes c by a kept bridge; d is behind, e level"""
+    below_dead(s)
+    s.rules[s.n("e")] = "must_not"
+    s.read()
+    s.join("b")
+    s.settle("b")
+    s.cut("b")
+    s.write("a", 1)
+    s.poll()
+    s.fail("a")
+    s.join("b", "c", "d", "e")
+    s.poll()
+    return ("regroup-replicas", "a", None), lambda j: (j.regroup, s.n("a"), s.names("bcde"), s.bridges)
+
+
+@story
+def recover_swap(s):
+    """the master dies: c has executed most, d is preferred and takes its place once it stands level"""
+    s.root("a")
+    for letter in "bcd":
+        s.below(letter, "a", proxy=True)
+    s.rules[s.n("d")] = "prefer"
+    s.write("a", 3)
+    s.settle("b", "c", "d")
+    s.cut("b", "d")
+    s.read()
+    s.write("a", 1)
+    s.settle("c")
+    s.cut("c")
+    s.write("a", 2)
+    s.poll()
+    s.fail("a")
+    s.join("b", "c", "d")
+    s.poll()
+    return ("recover", "a", None), lambda j: (j.recover_master, s.n("a"), s.names("bcd"), s.bridges)
+
+
+@story
+def recover_ahead(s):
+    """the master dies: e has executed most but must not be promoted: it is ahead and detached"""
+    below_dead(s)
+    s.rules[s.n("e")] = "must_not"
+    s.read()
+    s.join("b")
+    s.settle("b")
+    s.cut("b")
+    s.write("a", 1)
+    s.join("e")
+    s.settle("e")
+    s.cut("e")
+    s.poll()
+    s.fail("a")
+    s.join("b", "c", "d", "e")
+    s.poll()
+    return ("recover", "a", None), lambda j: (j.recover_master, s.n("a"), s.names("bcde"), s.bridges)
+
+
+@story
+def recover_read_after_death(s):
+    """the topology is read when the master is dead already: its log is what its replicas tell, relay logs too"""
+    s.root("a")
+    for letter in "bcd":
+        s.below(letter, "a", proxy=True)
+    s.write("a", 2)
+    s.settle("b", "c", "d")
+    s.cut("d")
+    s.flush("a")
+    s.write("a", 1)
+    s.settle("b", "c")
+    s.cut("c")
+    s.applier_off("b")
+    s.write("a", 2)
+    time.sleep(0.5)
+    s.farm.ask(s.n("b"), "START SLAVE UNTIL MASTER_LOG_FILE='mysql-bin.000001', MASTER_LOG_POS=4")
+    time.sleep(0.5)
+    s.fail("a")
+    s.join("b", "c", "d")
+    s.read()
+    return ("recover", "a", None), lambda j: (j.recover_master, s.n("a"), s.names("bcd"), s.bridges)
+
+
+@story
+def recover_drain(s):
+    """the master dies: b has fetched most but its applier stands still for a while; it is drained, then promoted"""
+    s.root("a")
+    for letter in "bc":
+        s.below(letter, "a", proxy=True)
+    s.write("a", 2)
+    s.settle("b", "c")
+    s.farm.hold(s.n("b"), 4)
+    s.write("a", 2)
+    time.sleep(0.4)
+    s.cut("c")
+    s.read()
+    s.poll()
+    s.fail("a")
+    s.join("c")
+    s.poll()
+    return ("recover", "a", None), lambda j: (j.recover_master, s.n("a"), s.names("bc"), s.bridges)
+
+
+@story
+def recover_at_file_end(s):
+    """the master's last act is a rotation, which b has passed and c hasn't: both have executed all, and yet c is behind on both sides"""
+    s.root("a")
+    for letter in "bc":
+        s.below(letter, "a", proxy=True)
+    s.write("a", 3)
+    s.settle("b", "c")
+    s.cut("c")
+    s.flush("a")
+    s.settle("b")
+    s.cut("b")
+    s.read()
+    s.fail("a")
+    s.join("b", "c")
+    s.poll()
+    return ("recover", "a", None), lambda j: (j.recover_master, s.n("a"), s.names("bc"), s.bridges)
+
+
+@story
+def recover_intermediate(s):
+    """the intermediate b dies: c stands where b was read and goes to a; d was never seen at that place and is behind"""
+    s.root("a")
+    s.below("b", "a", proxy=True)
+    s.below("c", "b", proxy=True)
+    s.below("d", "b", proxy=True)
+    s.write("a", 2)
+    s.settle("b", "c", "d")
+    s.cut("d")
+    s.write("a", 1)
+    s.settle("b", "c")
+    s.cut("c")
+    s.flush("b")
+    s.write("a", 2)
+    s.settle("b")
+    s.read()
+    s.join("c")
+    s.settle("c")
+    s.poll()
+    s.fail("b")
+    s.join("d")
+    s.poll()
+    return ("recover", "b", None), lambda j: (j.recover_intermediate, s.n("b"), s.n("a"), s.names("cd"), s.bridges)
+
+
+# ---- takeovers
+
+
+@story
+def takeover(s):
+    """b takes a's place; its sibling c lags and goes along; a comes below b with its threads off"""
+    siblings(s, "c", "b")
+    s.read()
+    return moved("graceful-master-takeover", "a", "b")
+
+
+@story
+def takeover_and_back(s):
+    """after a takeover b writes, and a, started, has it all; then a takes its place again"""
+    siblings(s, "c", "b")
+    s.farm.ask(s.n("c"), "START SLAVE")
+    s.settle("c")
+    job = s.job()
+    if job.run(job.takeover, s.n("a"), s.n("b"), s.names("bc"))[0] != "done":
+        raise Differs("the takeover before it failed")
+    s.farm.ask(s.n("a"), "START SLAVE")
+    s.write("b", 3)
+    s.settle("a", "c")
+    s.read()
+    return moved("graceful-master-takeover", "b", "a")
+
+
+# ---- restarts
+
+RESTARTED = {"c files": "a restart begins a new file of the own log; the model has no such rotation",
+             "c ro": "SET GLOBAL read_only doesn't outlive a restart; in the model it does"}
+
+
+def restarted(s, at):
+    chain(s)
+    s.write("a", 2)
+    s.settle("b", "c")
+    s.read()
+    s.interrupt, s.known = ("c", at), RESTARTED
+    return ("move-up", "c", None), lambda j: (j.move_up, s.n("c"), s.n("b"), s.n("a"))
+
+
+@story
+def restart_in_mid_move(s):
+    """c restarts just before it would be attached: by itself its threads run again, and the move fails on both sides"""
+    return restarted(s, 8)
+
+
+@story
+def restart_before_stop(s):
+    """c restarts before its second stop: harmless on both sides"""
+    return restarted(s, 7)
+
+
+# ---- under load
+
+
+def loaded(s, *below):
+    s.root("a")
+    for r, x in below:
+        s.below(r, x)
+    s.write("a", 3)
+    s.settle(*[r for r, _ in below])
+    s.read()
+    s.loose = True
+    s.writer = Writes(s, "a")
+    s.writer.start()
+    time.sleep(0.5)
+
+
+@story
+def move_up_loaded(s):
+    """move-up while a client writes to the root all the time"""
+    loaded(s, ("b", "a"), ("c", "b"))
+    return moved("move-up", "c")
+
+
+@story
+def move_below_loaded(s):
+    """move-below while a client writes to the root all the time"""
+    loaded(s, ("b", "a"), ("c", "a"))
+    return moved("move-below", "c", "b")
+
+
+@story
+def take_master_loaded(s):
+    """take-master while a client writes to the root all the time"""
+    loaded(s, ("b", "a"), ("c", "b"))
+    return moved("take-master", "c")
+
+
+@story
+def takeover_loaded(s):
+    """a takeover while a client writes to the master: each acknowledged row is on all servers once"""
+    loaded(s, ("b", "a"), ("c", "a"))
+    return moved("graceful-master-takeover", "a", "b")
+
+
+@story
+def recover_loaded(s):
+    """the master is killed while a client writes: each replica has a beginning, each row once"""
+    loaded(s, ("b", "a"), ("c", "a"))
+    s.poll()
+    s.fail("a")
+    s.poll()
+    return ("recover", "a", None), lambda j: (j.recover_master, s.n("a"), s.names("bc"), s.bridges)
+
+
+# ---- wrong plans, which must differ
+
+
+class NoLevel(Job):
+    """Nobody is brought level, and what is attached isn't tested."""
+
+    def level(self, r, aim):
+        pass
+
+    def attach(self, name, expected, to, at, login=False):
+        live = self.look(name)
+        expected = ("at", live.source, live.exec) if expected[0] == "at" else ("end", live.end)
+        Job.attach(self, name, expected, to, at, login)
+
+
+class TwoReadings(Job):
+    """The source's end from one status, and its executed coordinate from an earlier one, taken while it ran."""
+
+    def move_up(self, i, x, g):
+        earlier = self.status(x, g)
+        time.sleep(0.3)
+        self.stop(i)
+        self.stop(x)
+        later = self.status(x, g)
+        self.status(i, x)
+        self.level(i, later.end)
+        self.stop(i)
+        self.attach(i, ("at", x, later.end), g, earlier.exec)
+        self.start(i)
+        self.start(x)
+        self.status(i)
+        self.lines.append("%s<%s" % (i, g))
+
+
+class StaysWritable(Job):
+    """A takeover whose master goes on taking writes."""
+
+    def set_read_only(self, name, on):
+        if not on:
+            Job.set_read_only(self, name, on)
+
+    def is_same_place(self, name, one, other):
+        return True
+
+
+WRONG = [(take_master, NoLevel), (move_below_ahead, NoLevel), (move_up_loaded, TwoReadings), (takeover_loaded, StaysWritable)]
