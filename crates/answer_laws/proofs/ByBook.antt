@@ -21,7 +21,7 @@ use Rattle.failure_analysis.specs.declared.code.Action.{Action}
 use Rattle.failure_analysis.specs.declared.code.Action.TheVariants.{MasterRecovery, IntermediateRecovery, Nothing}
 use Rattle.promotion_candidates.specs.Candidates.{has_candidate, is_candidate}
 use Rattle.promotion_rules.specs.Choice.{is_barred}
-use Rattle.permission.specs.Checks.{Case, errant, errant_by, first_refusal, of_lower_version, of_other_cluster, of_same_id, refusal_by, unknown_in, without_log}
+use Rattle.permission.specs.Checks.{Case, errant, errant_by, first_refusal, of_lower_version, of_other_cluster, of_same_id, refusal_by, unknown_in, unlogged, without_log}
 use Rattle.permission.specs.Errants.{own_missing}
 use Rattle.permission.specs.Lists.{first_about, only_if}
 use Rattle.permission.specs.Replicas.{replicas_but}
@@ -41,6 +41,10 @@ use Rattle.recovery_permits.specs.Checks.{code_at, can_succeed, has_successor, h
 use Rattle.recovery_permits.specs.Recoveries as recovery
 use Rattle.recovery_permits.specs.Takeovers as takeover
 use Rattle.recovery_permits.specs.declared.attempt.Attempt.{Attempt}
+use Rattle.pseudo_match.specs.Commands.{pseudo_command}
+use Rattle.pseudo_match.specs.Permits as matches
+use Rattle.pseudo_match.specs.declared.command.PseudoCommand.{PseudoCommand}
+use Rattle.pseudo_match.specs.declared.command.PseudoCommand.TheVariants as matching
 use Rattle.regroup.specs.Commands.{regroup_command}
 use Rattle.regroup.specs.Permits as paths
 use Rattle.regroup.specs.Plans as path_plans
@@ -159,6 +163,8 @@ module _ (w v : World) (same : SameSettings w v) where
       about-same (errant w b) (errant v b) (λ m. ap (λ x. errant_by (own_missing x (set_seen b m.no) (set_seen b m.source))) (by-uuid m.no.0)) c.moves
   check-same b c check.PurgedPlace = refl
   check-same b c check.PurgedSet = refl
+  check-same b c check.PseudoOff = refl
+  check-same b c check.MovedNotLogging = about-same (unlogged w) (unlogged v) (λ m. ap (λ x. only_if (not x) (refusal.MovedNotLogging m.no)) (by-logs m.no.0)) c.moves
 
   row-same : (b : BookState) (c : Case) (row : List Check) → first_refusal w b c row ≡ first_refusal v b c row
   row-same b c row = about-same (refusal_by w b c) (refusal_by v b c) (check-same b c) row
@@ -207,6 +213,24 @@ module _ (w v : World) (same : SameSettings w v) where
   candidates-same : (b : BookState) (now : Moment) (i : ServerNo) → has_candidate w b now i ≡ has_candidate v b now i
   candidates-same b now i =
       any-same (is_candidate w b now) (is_candidate v b now) (λ n. ap (λ x. is_valid b n && (x && not (is_barred (rule_at b n now)))) (by-logs n.0)) (replicas_of b i)
+
+  -- ---- by matches
+
+  match-own-same : (b : BookState) (now : Moment) (c : PseudoCommand) (i : ServerNo) → matches.own_refusal w b now c i ≡ matches.own_refusal v b now c i
+  match-own-same b now matching.Match i = refl
+  match-own-same b now matching.MatchUp i = refl
+  match-own-same b now matching.MatchReplicas i = refl
+  match-own-same b now matching.RegroupReplicas i = ap (λ x. only_if (not x) refusal.NoCandidate) (candidates-same b now i)
+
+  pub matches-same : (b : BookState) (now : Moment) (every : ℕ) (given : Command) → matches.refusal_of w b now every given ≡ matches.refusal_of v b now every given
+  matches-same b now every given =
+      ap (option_or (unknown_in b given)) (kinds-same None (matches.refusal_about w b now every) (matches.refusal_about v b now every) one (pseudo_command given.name) given)
+    where
+      one : (c : PseudoCommand) (i : ServerNo) (d : Option ServerNo) → matches.refusal_about w b now every c i d ≡ matches.refusal_about v b now every c i d
+      one c i d =
+          ap (λ x. option_or x (matches.rest_refusal w b now every c i d)) (row-same b (matches.case_of b c i d) (matches.row_of c))
+          ∙ (ap (λ x. option_or (matches.row_refusal v b c i d) (option_or x (matches.last_refusal w b every c i d))) (match-own-same b now c i)
+          ∙ ap (λ x. option_or (matches.row_refusal v b c i d) (option_or (matches.own_refusal v b now c i) x)) (row-same b (matches.case_of b c i d) (matches.last_row_of every c)))
 
   -- ---- by paths
 

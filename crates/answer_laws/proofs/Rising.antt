@@ -22,7 +22,7 @@ use Rattle.failure_analysis.specs.Table.{action_of}
 use Rattle.failure_analysis.specs.declared.code.Action.{Action}
 use Rattle.failure_analysis.specs.declared.code.Action.TheVariants.{MasterRecovery, IntermediateRecovery, Nothing}
 use Rattle.move_laws.specs.Numbers.{check_number, rises_from}
-use Rattle.move_laws.proofs.Numbered.{check-number, gtid-rows-rise, rows-rise}
+use Rattle.move_laws.proofs.Numbered.{check-number, gtid-rows-rise, match-last-rows-rise, match-rows-rise, rows-rise}
 use Rattle.permission.specs.Checks.{Case, is_given, is_known, refusal_by, unknown_in}
 use Rattle.permission.specs.Lists.{first_of, only_if}
 use Rattle.permission.specs.Replicas.{replicas_but}
@@ -30,7 +30,7 @@ use Rattle.permission.specs.Rows.{about, about_one}
 use Rattle.permission.specs.Views.{attached_of, source_of}
 use Rattle.permission.specs.declared.case.Check.{Check}
 use Rattle.permission.specs.declared.case.Check.TheVariants as check
-use Rattle.promotion_candidates.specs.Candidates.{has_candidate}
+use Rattle.promotion_candidates.specs.Candidates.{has_candidate, without_candidate as no_candidate}
 use Rattle.command_routes.specs.declared.kinds.CoordsCommand.{CoordsCommand}
 use Rattle.command_routes.specs.declared.kinds.GtidCommand.{GtidCommand}
 use Rattle.moves_coords.specs.Commands.{coords_command}
@@ -41,13 +41,17 @@ use Rattle.recovery_permits.specs.Checks.{code_at, disabled, downtimed, filtered
 use Rattle.recovery_permits.specs.Recoveries as recovery
 use Rattle.recovery_permits.specs.Takeovers as takeover
 use Rattle.recovery_permits.specs.declared.attempt.Attempt.{Attempt}
+use Rattle.pseudo_match.specs.Commands.{pseudo_command}
+use Rattle.pseudo_match.specs.Permits as matches
+use Rattle.pseudo_match.specs.declared.command.PseudoCommand.{PseudoCommand}
+use Rattle.pseudo_match.specs.declared.command.PseudoCommand.TheVariants as matching
 use Rattle.regroup.specs.Commands.{regroup_command}
 use Rattle.regroup.specs.Permits as paths
 use Rattle.regroup.specs.Ways.{path_to}
 use Rattle.regroup.specs.declared.command.RegroupCommand.{RegroupCommand}
 use Rattle.regroup.specs.declared.command.RegroupCommand.TheVariants as path
 use Rattle.server_model.specs.Worlds.{World}
-use Rattle.answer_laws.specs.Lowest.{IsAnswer, IsNoLower, action_checks, code_checks, coords_checks, gtid_checks, own_checks, path_checks, recovery_checks, row_checks, takeover_checks}
+use Rattle.answer_laws.specs.Lowest.{IsAnswer, IsNoLower, action_checks, code_checks, coords_checks, gtid_checks, match_checks, own_checks, path_checks, recovery_checks, row_checks, takeover_checks}
 
 -- ---- checks whose numbers rise
 
@@ -107,8 +111,8 @@ abbrev ends_by : ℕ → List Check → Bool
 ends_by top [] = true
 ends_by top (k ∷ row) = nat_le (check_number k) top && ends_by top row
 
--- all end at 30
-most : (k : Check) → nat_le (check_number k) 30 ≡ true
+-- all end at 32
+most : (k : Check) → nat_le (check_number k) 32 ≡ true
 most check.SameInstance = refl
 most check.Busy = refl
 most check.Unreachable = refl
@@ -127,10 +131,12 @@ most check.GtidOff = refl
 most check.Errant = refl
 most check.PurgedPlace = refl
 most check.PurgedSet = refl
+most check.PseudoOff = refl
+most check.MovedNotLogging = refl
 
-ends-all : (row : List Check) → ends_by 30 row ≡ true
+ends-all : (row : List Check) → ends_by 32 row ≡ true
 ends-all [] = refl
-ends-all (k ∷ row) = ap (λ x. x && ends_by 30 row) (most k) ∙ ends-all row
+ends-all (k ∷ row) = ap (λ x. x && ends_by 32 row) (most k) ∙ ends-all row
 
 row-rising : (w : World) (b : BookState) (c : Case) (n top : ℕ) (row : List Check) (xs : List (Option Refusal)) → n ≤ top → rises_from n row ≡ true → ends_by top row ≡ true
     → Rising (top + 1) xs → Rising (n + 1) (row_checks w b c row ++ xs)
@@ -188,7 +194,7 @@ append-none [] = refl
 append-none (x ∷ xs) = ap (λ ys. x ∷ ys) (append-none xs)
 
 row-alone : (w : World) (b : BookState) (c : Case) (row : List Check) → rises_from 2 row ≡ true → Rising 3 (row_checks w b c row)
-row-alone w b c row up = subst (Rising 3) (append-none (row_checks w b c row)) (row-rising w b c 2 30 row [] (omega arith) up (ends-all row) tt)
+row-alone w b c row up = subst (Rising 3) (append-none (row_checks w b c row)) (row-rising w b c 2 32 row [] (omega arith) up (ends-all row) tt)
 
 pub coords-lowest : (w : World) (b : BookState) (given : Command) → IsAnswer (coords_checks w b given) (coords.refusal_of w b given)
 coords-lowest w b given =
@@ -235,7 +241,7 @@ module _ (w : World) (b : BookState) where
   moving-rising : (c : Case) (row : Bool → List Check) (movers : List ServerNo) (d : Option ServerNo) → ((g : Bool) → rises_from 2 (row g) ≡ true) → ends_by 18 (row false) ≡ true
       → (g : Bool) → Rising 3 (row_checks w b c (row g) ++ paths.astray g b movers d ∷ row_checks w b c (paths.places_row g))
   moving-rising c row movers d rise ends true =
-      row-rising w b c 2 30 (row true) (None ∷ []) (omega arith) (rise true) (ends-all (row true)) (31, omega arith, λ r e. cc, tt)
+      row-rising w b c 2 32 (row true) (None ∷ []) (omega arith) (rise true) (ends-all (row true)) (33, omega arith, λ r e. cc, tt)
   moving-rising c row movers d rise ends false =
       row-rising w b c 2 18 (row false) (paths.astray false b movers d ∷ row_checks w b c (paths.places_row false)) (omega arith) (rise false) ends (
         27,
@@ -244,8 +250,8 @@ module _ (w : World) (b : BookState) where
         (31, omega arith, has-wide 30 31 27 31 (refusal_by w b c check.PurgedPlace) (omega arith) (omega arith) (has-check w b c check.PurgedPlace), tt),
       )
 
-  candidate-has : (now : Moment) (i : ServerNo) → Has 19 27 (paths.without_candidate w b now i)
-  candidate-has now i = has-wide 26 27 19 27 (paths.without_candidate w b now i) (omega arith) (omega arith) (has-test 26 (not (has_candidate w b now i)) refusal.NoCandidate refl)
+  candidate-has : (now : Moment) (i : ServerNo) → Has 19 27 (no_candidate w b now i)
+  candidate-has now i = has-wide 26 27 19 27 (no_candidate w b now i) (omega arith) (omega arith) (has-test 26 (not (has_candidate w b now i)) refusal.NoCandidate refl)
 
   path-rising : (now : Moment) (c : RegroupCommand) (i : ServerNo) (d : Option ServerNo)
       → Rising 3 (row_checks w b (paths.case_of w b c i d) (paths.row_of w.gtid c) ++ paths.own_refusal w b now c i d ∷ row_checks w b (paths.case_of w b c i d) (paths.last_row_of w.gtid c))
@@ -254,7 +260,7 @@ module _ (w : World) (b : BookState) where
   path-rising now path.RelocateReplicas i d =
       moving-rising (paths.case_of w b path.RelocateReplicas i d) paths.replicas_row (replicas_but b i d) d (λ g. path-rows-rise g path.RelocateReplicas) refl w.gtid
   path-rising now path.RegroupReplicas i d =
-      row-rising w b (paths.case_of w b path.RegroupReplicas i d) 2 18 (check.Busy ∷ []) (paths.without_candidate w b now i ∷ []) (omega arith) refl refl (27, omega arith, candidate-has now i, tt)
+      row-rising w b (paths.case_of w b path.RegroupReplicas i d) 2 18 (check.Busy ∷ []) (no_candidate w b now i ∷ []) (omega arith) refl refl (27, omega arith, candidate-has now i, tt)
 
 pub path-lowest : (w : World) (b : BookState) (now : Moment) (given : Command) → IsAnswer (path_checks w b now given) (paths.refusal_of w b now given)
 path-lowest w b now given =
@@ -269,6 +275,46 @@ path-lowest w b now given =
     first c i d =
         first-append (row_checks w b (paths.case_of w b c i d) (paths.row_of w.gtid c))
         (paths.own_refusal w b now c i d ∷ row_checks w b (paths.case_of w b c i d) (paths.last_row_of w.gtid c))
+
+-- ---- by matches
+
+module _ (w : World) (b : BookState) (now : Moment) (every : ℕ) where
+  own-has : (c : PseudoCommand) (i : ServerNo) → Has 19 27 (matches.own_refusal w b now c i)
+  own-has matching.Match i r e = cc
+  own-has matching.MatchUp i r e = cc
+  own-has matching.MatchReplicas i r e = cc
+  own-has matching.RegroupReplicas i r e = candidate-has w b now i r e
+
+  last-rising : (k : Case) (c : PseudoCommand) → Rising 27 (row_checks w b k (matches.last_row_of every c))
+  last-rising k c =
+      let row = matches.last_row_of every c in
+      rising-from 27 31 (row_checks w b k row) (omega arith)
+      (subst (Rising 31) (append-none (row_checks w b k row)) (row-rising w b k 30 32 row [] (omega arith) (match-last-rows-rise every c) (ends-all row) tt))
+
+  row-ends : (c : PseudoCommand) → ends_by 18 (matches.row_of c) ≡ true
+  row-ends matching.Match = refl
+  row-ends matching.MatchUp = refl
+  row-ends matching.MatchReplicas = refl
+  row-ends matching.RegroupReplicas = refl
+
+  abbrev match-all : PseudoCommand → ServerNo → Option ServerNo → List (Option Refusal)
+  match-all c i d = row_checks w b (matches.case_of b c i d) (matches.row_of c) ++ matches.own_refusal w b now c i ∷ row_checks w b (matches.case_of b c i d) (matches.last_row_of every c)
+
+  match-rising : (c : PseudoCommand) (i : ServerNo) (d : Option ServerNo) → Rising 3 (match-all c i d)
+  match-rising c i d =
+      row-rising w b (matches.case_of b c i d) 2 18 (matches.row_of c) (matches.own_refusal w b now c i ∷ row_checks w b (matches.case_of b c i d) (matches.last_row_of every c))
+      (omega arith) (match-rows-rise c) (row-ends c) (27, omega arith, own-has c i, last-rising (matches.case_of b c i d) c)
+
+  match-first : (c : PseudoCommand) (i : ServerNo) (d : Option ServerNo) → first_of (match-all c i d) ≡ matches.refusal_about w b now every c i d
+  match-first c i d =
+      first-append (row_checks w b (matches.case_of b c i d) (matches.row_of c))
+      (matches.own_refusal w b now c i ∷ row_checks w b (matches.case_of b c i d) (matches.last_row_of every c))
+
+pub match-lowest : (w : World) (b : BookState) (now : Moment) (every : ℕ) (given : Command) → IsAnswer (match_checks w b now every given) (matches.refusal_of w b now every given)
+match-lowest w b now every given =
+    answered (match_checks w b now every given) (matches.refusal_of w b now every given) 2
+    (ap (option_or (unknown_in b given)) (about-first (matches.refusal_about w b now every) (match-all w b now every) (match-first w b now every) (pseudo_command given.name) given))
+    (3, omega arith, has-unknown b given, about-rising 3 (match-all w b now every) (match-rising w b now every) (pseudo_command given.name) given)
 
 -- ---- recoveries and takeovers
 

@@ -1,5 +1,5 @@
 -- The lowest number: what the checks of each command refuse, in whatever order they are looked at.
-use Rattle.std.specs.Prelude.{◌≡◌, ◌≤◌, Bool, if◌then◌else◌, not, ◌&&◌, List, [], ◌∷◌, ◌++◌, map, Option, Some, None, All, Any}
+use Rattle.std.specs.Prelude.{◌≡◌, ℕ, ◌≤◌, Bool, if◌then◌else◌, not, ◌&&◌, List, [], ◌∷◌, ◌++◌, map, Option, Some, None, All, Any}
 use Rattle.orch_base.specs.declared.code.Code.{Code}
 use Rattle.orch_base.specs.declared.server.Moment.{Moment}
 use Rattle.orch_base.specs.declared.server.ServerNo.{ServerNo}
@@ -26,6 +26,8 @@ use Rattle.recovery_permits.specs.Checks.{code_at, disabled, downtimed, filtered
 use Rattle.recovery_permits.specs.Recoveries as recovery
 use Rattle.recovery_permits.specs.Takeovers as takeover
 use Rattle.recovery_permits.specs.declared.attempt.Attempt.{Attempt}
+use Rattle.pseudo_match.specs.Commands.{pseudo_command}
+use Rattle.pseudo_match.specs.Permits as matches
 use Rattle.regroup.specs.Commands.{regroup_command}
 use Rattle.regroup.specs.Permits as paths
 use Rattle.server_model.specs.Worlds.{World}
@@ -63,6 +65,13 @@ path_checks w b now given =
     ∷ about []
     (λ c i d. row_checks w b (paths.case_of w b c i d) (paths.row_of w.gtid c) ++ paths.own_refusal w b now c i d ∷ row_checks w b (paths.case_of w b c i d) (paths.last_row_of w.gtid c))
     (regroup_command given.name) given
+
+abbrev pub match_checks : World → BookState → Moment → ℕ → Command → List (Option Refusal)
+match_checks w b now every given =
+    unknown_in b given
+    ∷ about []
+    (λ c i d. row_checks w b (matches.case_of b c i d) (matches.row_of c) ++ matches.own_refusal w b now c i ∷ row_checks w b (matches.case_of b c i d) (matches.last_row_of every c))
+    (pseudo_command given.name) given
 
 -- what keeps a recovery from beginning by itself
 abbrev pub own_checks : BookState → Attempt → ServerNo → Bool → List (Option Refusal)

@@ -10,9 +10,11 @@ ghost use Rattle.orch_base.specs.declared.server.ServerNo.{ServerNo as Number};
 ghost use Rattle.recovery_permits.specs.Recoveries.{recovery_refusal};
 ghost use Rattle.recovery_permits.specs.Takeovers.{takeover_refusal};
 ghost use Rattle.recovery_permits.specs.declared.attempt.Attempt.{Attempt as AnAttempt};
+ghost use Rattle.pseudo_match.specs.Permits as matches;
 ghost use Rattle.regroup.specs.Permits as paths;
+ghost use Rattle.std.specs.Prelude.{ℕ};
 ghost use Rattle.server_model.specs.Worlds.{World};
-ghost use Rattle.answer_laws.specs.Lowest.{IsAnswer, coords_checks, gtid_checks, path_checks, recovery_checks, takeover_checks};
+ghost use Rattle.answer_laws.specs.Lowest.{IsAnswer, coords_checks, gtid_checks, match_checks, path_checks, recovery_checks, takeover_checks};
 
 /// What refuses a command is what one of its checks refuses, and none of its checks refuses with a lower number;
 /// nothing refuses it exactly where each of its checks passes. So it is of every command that begins a job, of
@@ -24,6 +26,8 @@ pub fn the_lowest_number_is_answered()
         IsAnswer (gtid_checks w b given) (gtids.refusal_of w b given) }
     ensures paths { (w : World) (b : BookState) (now : AMoment) (given : ACommand) →
         IsAnswer (path_checks w b now given) (paths.refusal_of w b now given) }
+    ensures matches { (w : World) (b : BookState) (now : AMoment) (every : ℕ) (given : ACommand) →
+        IsAnswer (match_checks w b now every given) (matches.refusal_of w b now every given) }
     ensures recovery { (w : World) (b : BookState) (audit : AuditState) (a : AnAttempt)
         (f : Number) →
         IsAnswer (recovery_checks w b audit a f) (recovery_refusal w b audit a f) }

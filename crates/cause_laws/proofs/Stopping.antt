@@ -82,7 +82,7 @@ module _ (w : World) (read : ℕ) (now : Moment) (j : Job) (rest : List Op) wher
     where
       go : (a b : Bool) → can_reach (server_at w k.0) ≡ b → can_reach (server_at w (cond a k m).0) ≡ false
           → cond (not a) (Err (matching.Unreachable m)) (cond (not b) (Err (matching.Unreachable k)) (match_between every (server_at w m.0) (server_at w k.0)))
-            ≡ Err (matching.Unreachable (cond a k m))
+          ≡ Err (matching.Unreachable (cond a k m))
       go false b e f = refl
       go true false e f = refl
       go true true e f = absurd (false≢true (sym f ∙ e))

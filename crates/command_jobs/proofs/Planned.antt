@@ -4,13 +4,16 @@ use Rattle.std.specs.Prelude.{IsSome, IsTrue, is_some}
 use Rattle.commands.specs.declared.name.CommandName.{CommandName}
 use Rattle.command_routes.specs.declared.kinds.CoordsCommand.{CoordsCommand}
 use Rattle.command_routes.specs.declared.kinds.GtidCommand.{GtidCommand}
+use Rattle.command_routes.specs.declared.kinds.MatchCommand.{MatchCommand}
+use Rattle.command_routes.specs.declared.kinds.MatchCommand.TheVariants as matching
 use Rattle.command_routes.specs.declared.kinds.PathCommand.{PathCommand}
 use Rattle.command_routes.specs.declared.kinds.PathCommand.TheVariants as path
-use Rattle.command_routes.specs.declared.kinds.Regrouping.TheVariants.{ByBridges}
+use Rattle.command_routes.specs.declared.kinds.Regrouping.TheVariants.{ByBridges, ByMatches}
 use Rattle.command_routes.specs.declared.route.Planner.{Planner}
-use Rattle.command_routes.specs.declared.route.Planner.TheVariants.{Coordinates, Gtids, Paths, Regroups}
+use Rattle.command_routes.specs.declared.route.Planner.TheVariants.{Coordinates, Gtids, Matches, Paths, Regroups}
 use Rattle.moves_coords.specs.Commands.{coords_by, coords_command}
 use Rattle.moves_gtid.specs.Commands.{gtid_by, gtid_command}
+use Rattle.pseudo_match.specs.Commands.{has_plan as is_matched, pseudo_by, pseudo_command}
 use Rattle.regroup.specs.Commands.{has_plan, regroup_by, regroup_command}
 use Rattle.command_jobs.specs.Jobs.{planner_for}
 
@@ -37,4 +40,23 @@ by-regroups n h = ap (λ (p : Option Planner). is_some (regroup_by p)) h
 pub planned-paths : (n : CommandName) (c : PathCommand) → planner_for n ≡ Some (Paths c) → IsTrue (has_plan (regroup_command n))
 planned-paths n c h = ap (λ (p : Option Planner). has_plan (regroup_by p)) h ∙ paths-planned c
 
-pub ruleset planned = (by-coordinates, by-gtids, by-paths, by-regroups, planned-paths)
+matches-some : (c : MatchCommand) → is_some (pseudo_by (Some (Matches c))) ≡ true
+matches-some matching.Match = refl
+matches-some matching.MatchUp = refl
+matches-some matching.MatchReplicas = refl
+
+matches-planned : (c : MatchCommand) → is_matched (pseudo_by (Some (Matches c))) ≡ true
+matches-planned matching.Match = refl
+matches-planned matching.MatchUp = refl
+matches-planned matching.MatchReplicas = refl
+
+pub by-matches : (n : CommandName) (c : MatchCommand) → planner_for n ≡ Some (Matches c) → IsSome (pseudo_command n)
+by-matches n c h = ap (λ (p : Option Planner). is_some (pseudo_by p)) h ∙ matches-some c
+
+pub by-matched-regroups : (n : CommandName) → planner_for n ≡ Some (Regroups ByMatches) → IsSome (pseudo_command n)
+by-matched-regroups n h = ap (λ (p : Option Planner). is_some (pseudo_by p)) h
+
+pub planned-matches : (n : CommandName) (c : MatchCommand) → planner_for n ≡ Some (Matches c) → IsTrue (is_matched (pseudo_command n))
+planned-matches n c h = ap (λ (p : Option Planner). is_matched (pseudo_by p)) h ∙ matches-planned c
+
+pub ruleset planned = (by-coordinates, by-gtids, by-paths, by-regroups, by-matches, by-matched-regroups, planned-paths, planned-matches)

@@ -1,11 +1,9 @@
 -- The job that a command begins: what refuses it, of which servers it takes the leases, and the job itself.
 use Rattle.std.specs.Prelude.{ℕ, List, [], Option, Some, None}
-use Rattle.std.specs.Option.{option_or}
 use Rattle.orch_base.specs.declared.server.Moment.{Moment}
 use Rattle.orch_base.specs.declared.server.ServerNo.{ServerNo}
 use Rattle.commands.specs.declared.name.CommandName.{CommandName}
 use Rattle.commands.specs.declared.refusal.Refusal.{Refusal}
-use Rattle.commands.specs.declared.refusal.Refusal.TheVariants.{PseudoOff}
 use Rattle.commands.specs.declared.turn.Command.{Command}
 use Rattle.command_routes.specs.declared.route.Planner.{Planner}
 use Rattle.command_routes.specs.declared.kinds.Regrouping.TheVariants.{ByBridges, ByMatches}
@@ -14,8 +12,9 @@ use Rattle.command_routes.specs.Routes.{planner_of, route_of}
 use Rattle.instance_keeper.specs.Book.{BookState}
 use Rattle.book_views.specs.Sources.{replicas_of}
 use Rattle.operations.specs.Jobs.{job_with}
-use Rattle.permission.specs.Checks.{unknown_in}
 use Rattle.recovery_plans.specs.Beginning.{begun_recovery}
+use Rattle.recovery_plans.specs.declared.means.Means.{Means}
+use Rattle.recovery_plans.specs.declared.means.Means.TheVariants as means
 use Rattle.recovery_plans.specs.declared.purpose.Purpose.TheVariants as purpose
 use Rattle.unended_jobs.specs.Hooked.{no_docket}
 use Rattle.unended_jobs.specs.declared.unended.Unended.{Unended}
@@ -25,6 +24,8 @@ use Rattle.moves_coords.specs.Permits as coords
 use Rattle.moves_coords.specs.Plans as coords_plans
 use Rattle.moves_gtid.specs.Permits as gtids
 use Rattle.moves_gtid.specs.Plans as gtid_plans
+use Rattle.pseudo_match.specs.Permits as matches
+use Rattle.pseudo_match.specs.Plans as match_plans
 use Rattle.regroup.specs.Permits as paths
 use Rattle.regroup.specs.Plans as path_plans
 
@@ -32,39 +33,33 @@ use Rattle.regroup.specs.Plans as path_plans
 abbrev pub planner_for : CommandName → Option Planner
 planner_for name = planner_of (route_of name)
 
--- no log has marks by which it could be matched
-abbrev pub unmatched : BookState → Command → Option Refusal
-unmatched b c = option_or (unknown_in b c) (Some PseudoOff)
+-- the refusal with the lowest number that applies at a moment, with marks at this distance
+abbrev pub refusal_by : World → BookState → Moment → ℕ → Command → Planner → Option Refusal
+refusal_by w b now every c (Coordinates kind) = coords.refusal_of w b c
+refusal_by w b now every c (Gtids kind) = gtids.refusal_of w b c
+refusal_by w b now every c (Paths kind) = paths.refusal_of w b now c
+refusal_by w b now every c (Regroups ByBridges) = paths.refusal_of w b now c
+refusal_by w b now every c (Regroups ByMatches) = matches.refusal_of w b now every c
+refusal_by w b now every c (Matches kind) = matches.refusal_of w b now every c
 
--- the refusal with the lowest number that applies at a moment
-abbrev pub refusal_by : World → BookState → Moment → Command → Planner → Option Refusal
-refusal_by w b now c (Coordinates kind) = coords.refusal_of w b c
-refusal_by w b now c (Gtids kind) = gtids.refusal_of w b c
-refusal_by w b now c (Paths kind) = paths.refusal_of w b now c
-refusal_by w b now c (Regroups ByBridges) = paths.refusal_of w b now c
-refusal_by w b now c (Regroups ByMatches) = unmatched b c
-refusal_by w b now c (Matches kind) = unmatched b c
-
--- a command that is refused always takes none
 abbrev pub leases_by : World → BookState → Command → Planner → List ServerNo
 leases_by w b c (Coordinates kind) = coords.leased_by b c
 leases_by w b c (Gtids kind) = gtids.leased_by b c
 leases_by w b c (Paths kind) = paths.leased_by w b c
 leases_by w b c (Regroups ByBridges) = paths.leased_by w b c
-leases_by w b c (Regroups ByMatches) = []
-leases_by w b c (Matches kind) = []
+leases_by w b c (Regroups ByMatches) = matches.leased_by b c
+leases_by w b c (Matches kind) = matches.leased_by b c
 
--- the replicas of an instance are regrouped, in name order; without one nothing is done
-abbrev pub regroup_about : BookState → ℕ → ℕ → Option ServerNo → Unended
-regroup_about b id wait None = unended.Plan (job_with id wait [])
-regroup_about b id wait (Some i) = unended.Recovery (begun_recovery purpose.Regroup id wait i (replicas_of b i) (replicas_of b i)) no_docket
+-- the replicas of an instance are regrouped by some means, in name order; without one nothing is done
+abbrev pub regroup_about : BookState → Means → ℕ → ℕ → Option ServerNo → Unended
+regroup_about b by id wait None = unended.Plan (job_with id wait [])
+regroup_about b by id wait (Some i) = unended.Recovery (begun_recovery purpose.Regroup by id wait i (replicas_of b i) (replicas_of b i)) no_docket
 
--- the command's job, with this number, whose operations may wait so often each; that of one that is refused always does
--- nothing
-abbrev pub job_by : World → BookState → Command → Planner → ℕ → ℕ → Unended
-job_by w b c (Coordinates kind) id wait = unended.Plan (job_with id wait (coords_plans.plan_of w b c))
-job_by w b c (Gtids kind) id wait = unended.Plan (job_with id wait (gtid_plans.plan_of b c))
-job_by w b c (Paths kind) id wait = unended.Plan (job_with id wait (path_plans.plan_of w b c))
-job_by w b c (Regroups ByBridges) id wait = regroup_about b id wait c.i
-job_by w b c (Regroups ByMatches) id wait = unended.Plan (job_with id wait [])
-job_by w b c (Matches kind) id wait = unended.Plan (job_with id wait [])
+-- the command's job, with this number, whose operations may wait so often each, with marks at this distance
+abbrev pub job_by : World → BookState → Command → Planner → ℕ → ℕ → ℕ → Unended
+job_by w b c (Coordinates kind) id wait every = unended.Plan (job_with id wait (coords_plans.plan_of w b c))
+job_by w b c (Gtids kind) id wait every = unended.Plan (job_with id wait (gtid_plans.plan_of b c))
+job_by w b c (Paths kind) id wait every = unended.Plan (job_with id wait (path_plans.plan_of w b c))
+job_by w b c (Regroups ByBridges) id wait every = regroup_about b means.Bridges id wait c.i
+job_by w b c (Regroups ByMatches) id wait every = regroup_about b (means.Matches every) id wait c.i
+job_by w b c (Matches kind) id wait every = unended.Plan (job_with id wait (match_plans.plan_of b every c))

@@ -6,7 +6,6 @@ use Rattle.commands.specs.declared.name.CommandName.TheVariants as name
 use Rattle.command_routes.specs.declared.kinds.CoordsCommand.TheVariants as coords
 use Rattle.command_routes.specs.declared.kinds.GtidCommand.TheVariants as gtid
 use Rattle.command_routes.specs.declared.kinds.PathCommand.TheVariants as path
-use Rattle.command_routes.specs.declared.kinds.Regrouping.{Regrouping}
 use Rattle.command_routes.specs.declared.kinds.Regrouping.TheVariants as regrouping
 use Rattle.command_routes.specs.declared.kinds.MatchCommand.TheVariants as matching
 use Rattle.command_routes.specs.declared.route.Decision.TheVariants as decision
@@ -76,17 +75,12 @@ planner_of (Begins planner) = Some planner
 planner_of Recovers = None
 planner_of TakesOver = None
 
--- the commands that match logs aren't built
-abbrev pub is_built_regrouping : Regrouping → Bool
-is_built_regrouping regrouping.ByBridges = true
-is_built_regrouping regrouping.ByMatches = false
-
 abbrev pub is_built_planner : Planner → Bool
 is_built_planner (planner.Coordinates c) = true
 is_built_planner (planner.Gtids c) = true
 is_built_planner (planner.Paths c) = true
-is_built_planner (planner.Regroups c) = is_built_regrouping c
-is_built_planner (planner.Matches c) = false
+is_built_planner (planner.Regroups c) = true
+is_built_planner (planner.Matches c) = true
 
 abbrev pub is_built_route : Route → Bool
 is_built_route Discovers = true

@@ -186,7 +186,7 @@ impl Route {
 }
 
 impl Planner {
-    /// Whether the command is built: all are, but those that match logs.
+    /// Whether the command is built: all are.
     pub fn is_built(self) -> bool
         ensures { result ≡ is_built_planner self }
     {
@@ -194,8 +194,8 @@ impl Planner {
             Planner::Coordinates(_)
             | Planner::Gtids(_)
             | Planner::Paths(_)
-            | Planner::Regroups(Regrouping::ByBridges) => true,
-            Planner::Regroups(Regrouping::ByMatches) | Planner::Matches(_) => false,
+            | Planner::Regroups(_)
+            | Planner::Matches(_) => true,
         }
     }
 }
@@ -223,7 +223,7 @@ fn is_built_name(name: CommandName) -> bool
     Route::of(name).is_built()
 }
 
-/// Whether a command of this word is built: `run`, and each command but those that match logs. It takes no memory.
+/// Whether a command of this word is built: `run`, and each command. It takes no memory.
 pub fn is_built_command(word: &str) -> bool
     ensures { result ≡ is_built_command word.now }
 {

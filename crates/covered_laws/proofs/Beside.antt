@@ -9,6 +9,7 @@ use Rattle.job_laws.specs.Flights.{Flight, Held}
 use Rattle.job_laws.specs.Passages as pass
 use Rattle.job_laws.specs.Passages.{MayPass, Passage, passed, slot_of}
 use Rattle.job_laws.proofs.Passages.{world-stored_if}
+use Rattle.recovery_plans.specs.declared.means.Means.{Means}
 use Rattle.recovery_plans.specs.declared.purpose.Purpose.{Purpose}
 use Rattle.recovery_plans.specs.Beginning.{begun_recovery}
 use Rattle.recovery_plans.specs.Recoveries.{Recovery}
@@ -99,14 +100,14 @@ begin-speaking us u new speaking = record { jobs = All-push IsSpeakingBeside us 
 pub begin-aimed : (begun : ℕ → Recovery) (us : List Unended) (u : Unended) → IsAimedBeside begun u → AimedJobs begun us → AimedJobs begun (us ++ u ∷ [])
 begin-aimed begun us u new aimed = record { jobs = All-push (IsAimedBeside begun) us u aimed.jobs new }
 
-pub recovery-covered : (w : World) (u : Purpose) (id wait : ℕ) (f : ServerNo) (replicas order : List ServerNo) (docket : Docket) → AreReplicas u f replicas
-    → IsCoveredBeside w (unended.Recovery (begun_recovery u id wait f replicas order) docket)
-recovery-covered w u id wait f replicas order docket are = begun-covers w id wait f replicas order u are
+pub recovery-covered : (w : World) (u : Purpose) (by : Means) (id wait : ℕ) (f : ServerNo) (replicas order : List ServerNo) (docket : Docket) → AreReplicas u f replicas
+    → IsCoveredBeside w (unended.Recovery (begun_recovery u by id wait f replicas order) docket)
+recovery-covered w u by id wait f replicas order docket are = begun-covers w by id wait f replicas order u are
 
-pub recovery-kept : (w : World) (u : Purpose) (id wait : ℕ) (f : ServerNo) (replicas order : List ServerNo) (docket : Docket)
-    → IsKeptBeside w (unended.Recovery (begun_recovery u id wait f replicas order) docket)
-recovery-kept w u id wait f replicas order docket = begun-kept w u id wait f replicas order
+pub recovery-kept : (w : World) (u : Purpose) (by : Means) (id wait : ℕ) (f : ServerNo) (replicas order : List ServerNo) (docket : Docket)
+    → IsKeptBeside w (unended.Recovery (begun_recovery u by id wait f replicas order) docket)
+recovery-kept w u by id wait f replicas order docket = begun-kept w u by id wait f replicas order
 
-pub recovery-speaks : (u : Purpose) (id wait : ℕ) (f : ServerNo) (replicas order : List ServerNo) (docket : Docket)
-    → IsSpeakingBeside (unended.Recovery (begun_recovery u id wait f replicas order) docket)
-recovery-speaks u id wait f replicas order docket = begun-speaks u id wait f replicas order
+pub recovery-speaks : (u : Purpose) (by : Means) (id wait : ℕ) (f : ServerNo) (replicas order : List ServerNo) (docket : Docket)
+    → IsSpeakingBeside (unended.Recovery (begun_recovery u by id wait f replicas order) docket)
+recovery-speaks u by id wait f replicas order docket = begun-speaks u by id wait f replicas order

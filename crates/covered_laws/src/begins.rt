@@ -5,6 +5,7 @@ ghost use Rattle.orch_base.specs.declared.server.ServerNo.{ServerNo as Number};
 ghost use Rattle.server_model.specs.Worlds.{World};
 ghost use Rattle.job_laws.specs.Flights.{Flight};
 ghost use Rattle.job_laws.specs.Passages.{Beginning, passed};
+ghost use Rattle.recovery_plans.specs.declared.means.Means.{Means as AMeans};
 ghost use Rattle.recovery_plans.specs.declared.purpose.Purpose.{Purpose as APurpose};
 ghost use Rattle.recovery_plans.specs.Beginning.{begun_recovery};
 ghost use Rattle.recovery_covers.specs.Covers.{AreReplicas};
@@ -29,14 +30,14 @@ pub fn covered_jobs_begin()
 
 /// A recovery begins so, where none of its replicas is named twice.
 pub fn recoveries_begin_covered_beside()
-    ensures covered { (w : World) (u : APurpose) (id wait : ℕ) (f : Number)
+    ensures covered { (w : World) (u : APurpose) (by : AMeans) (id wait : ℕ) (f : Number)
         (replicas order : List Number) (docket : ADocket) →
         AreReplicas u f replicas →
-        IsCoveredBeside w (Recovery (begun_recovery u id wait f replicas order) docket) }
-    ensures kept { (w : World) (u : APurpose) (id wait : ℕ) (f : Number)
+        IsCoveredBeside w (Recovery (begun_recovery u by id wait f replicas order) docket) }
+    ensures kept { (w : World) (u : APurpose) (by : AMeans) (id wait : ℕ) (f : Number)
         (replicas order : List Number) (docket : ADocket) →
-        IsKeptBeside w (Recovery (begun_recovery u id wait f replicas order) docket) }
-    ensures speaking { (u : APurpose) (id wait : ℕ) (f : Number)
+        IsKeptBeside w (Recovery (begun_recovery u by id wait f replicas order) docket) }
+    ensures speaking { (u : APurpose) (by : AMeans) (id wait : ℕ) (f : Number)
         (replicas order : List Number) (docket : ADocket) →
-        IsSpeakingBeside (Recovery (begun_recovery u id wait f replicas order) docket) }
+        IsSpeakingBeside (Recovery (begun_recovery u by id wait f replicas order) docket) }
 {}

@@ -134,6 +134,7 @@ hooks-read h are =
 
 -- what was read of a scenario before its servers reads back
 pub record SaysReadable (s : Scenario) : Type 0 where
+  pub pseudo : s.pseudo ≤ 1000000
   pub block : s.block ≤ 1000000000
   pub blocks : All IsBlock s.blocks
   pub aliases : All IsAlias s.aliases
@@ -149,7 +150,7 @@ abbrev pub dumped_head : World → Scenario → ℕ → Head
 dumped_head w s now = record {
   moment = now;
   gtid = w.gtid;
-  pseudo = 0;
+  pseudo = s.pseudo;
   nodes = 1;
   block = s.block;
   blocks = s.blocks;
@@ -167,9 +168,10 @@ module _ (w : World) (s : Scenario) (now : ℕ) where
   unfolding head_in dump_data one_in
   head-reads says early =
       let moment = number-reads 0 1000000000000000 now (omega arith) early in
+      let pseudo = number-reads 0 1000000 s.pseudo (omega arith) says.pseudo in
       let block : period_in (count_data s.block) ≡ Ok s.block = number-reads 0 1000000000 s.block (omega arith) says.block in
       let blocks = blocks-read s.blocks says.blocks in
       let aliases = aliases-read s.aliases says.aliases in
       let filters = filters-read s.filters says.master says.intermediate in
       let hooks = hooks-read s.hooks says.hooks in
-      rw moment (rw block (rw blocks (rw aliases (rw filters (rw hooks refl)))))
+      rw moment (rw pseudo (rw block (rw blocks (rw aliases (rw filters (rw hooks refl))))))

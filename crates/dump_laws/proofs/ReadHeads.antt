@@ -197,6 +197,7 @@ hooks-have d h read e =
 -- ---- all of it
 
 pub record IsHead (h : Head) : Type 0 where
+  pub pseudo : h.pseudo ≤ 1000000
   pub block : h.block ≤ 1000000000
   pub blocks : All IsBlock h.blocks
   pub aliases : All IsAlias h.aliases
@@ -212,7 +213,8 @@ head-has d h read e =
     let version = bind-ok (needed (codes "version") one_in d) _ h e in
     let moment = bind-ok (optional (codes "now") (number_in 0 1000000000000000) 0 d) _ h version.2 in
     let gtid = bind-ok (optional (codes "gtid") bool_in false d) _ h moment.2 in
-    let block = bind-ok (optional (codes "block") period_in 3600 d) _ h gtid.2 in
+    let pseudo = bind-ok (optional (codes "pseudo") (number_in 0 1000000) 0 d) _ h gtid.2 in
+    let block = bind-ok (optional (codes "block") period_in 3600 d) _ h pseudo.2 in
     let blocks = bind-ok (optional (codes "blocks") blocks_in [] d) _ h block.2 in
     let aliases = bind-ok (optional (codes "aliases") aliases_in [] d) _ h blocks.2 in
     let filters = bind-ok (optional (codes "filters") filters_in no_filters d) _ h aliases.2 in
@@ -220,7 +222,7 @@ head-has d h read e =
     let made : Head = record {
       moment = moment.0;
       gtid = gtid.0;
-      pseudo = 0;
+      pseudo = pseudo.0;
       nodes = 1;
       block = block.0;
       blocks = blocks.0;
@@ -232,6 +234,7 @@ head-has d h read e =
     let as' = alias-list aliases.0 (optional-at (codes "aliases") aliases_in [] d aliases.0 aliases.1) in
     let fs = filter-lists filters.0 (optional-at (codes "filters") filters_in no_filters d filters.0 filters.1) in
     subst IsHead {x = made} (same_Ok made h hooks.2) (record {
+      pseudo = marks pseudo.0 (optional-at (codes "pseudo") (number_in 0 1000000) 0 d pseudo.0 pseudo.1);
       block = period block.0 (optional-at (codes "block") period_in 3600 d block.0 block.1);
       blocks = bs.each;
       aliases = as'.each;
@@ -245,6 +248,10 @@ head-has d h read e =
     period : (n : ℕ) → IsAt (codes "block") period_in 3600 d n → n ≤ 1000000000
     period n (got.absent is) = omega arith
     period n (got.there v at e) = (number-ok 0 1000000000 v n e).1
+
+    marks : (n : ℕ) → IsAt (codes "pseudo") (number_in 0 1000000) 0 d n → n ≤ 1000000
+    marks n (got.absent is) = omega arith
+    marks n (got.there v at e) = (number-ok 0 1000000 v n e).1
 
     block-list : (bs : List Block) → IsAt (codes "blocks") blocks_in [] d bs → AreBlocks bs
     block-list bs (got.absent is) = subst AreBlocks (sym is) (record { each = All-nil IsBlock; rise = tt })

@@ -77,6 +77,7 @@ with-reads_back head given items s is settings e =
     } in
     subst ReadsBack {x = made} (same_Ok made s ts.2) (record {
       says = record {
+        pseudo = is.pseudo;
         block = is.block;
         blocks = is.blocks;
         aliases = is.aliases;

@@ -1,16 +1,23 @@
 -- A recovery that looks at its failed server changes none.
-use Rattle.std.proofs.Common.{◌≡◌, ◌∙◌, ◌⊎◌, inl, inr, ℕ, Bool, true, false, List, [], ◌∷◌, ◌++◌, Option, Some, None, refl, sym, ap, cond}
+use Rattle.std.proofs.Common.{◌≡◌, ◌∙◌, ◌⊎◌, inl, inr, ℕ, Bool, false, List, [], ◌∷◌, ◌++◌, Option, Some, None, refl, sym, ap, cond, subst}
 use Rattle.std.specs.Prelude.{slice_get}
 use Rattle.hook_texts.specs.declared.hooks.Hook.{Hook}
 use Rattle.instance_keeper.specs.Book.{BookState}
 use Rattle.kept_rows.specs.Seeing.{seen_in}
 use Rattle.operations.specs.declared.op.Op.{Op}
+use Rattle.operations.specs.declared.step.JobStep.{JobStep}
+use Rattle.operations.specs.declared.step.JobStep.TheVariants as step
 use Rattle.operations.specs.declared.op.Op.TheVariants as op
+use Rattle.commands.specs.declared.cause.Cause.{Cause}
 use Rattle.commands.specs.declared.cause.Cause.TheVariants as cause
-use Rattle.operations.specs.Turns.{after_look, next, observed, restarts, saw}
+use Rattle.commands.specs.declared.line.Line.{Line}
+use Rattle.kept_rows.specs.declared.observation.Observation.{Observation}
+use Rattle.operations.specs.Deeds.{deed_of}
+use Rattle.operations.specs.Jobs.{Job}
+use Rattle.operations.specs.Turns as attempt
+use Rattle.operations.specs.Turns.{after_look, by_deed, next, observed, restarts, saw, Attempt}
 use Rattle.orch_base.specs.Names.{HostPort}
 use Rattle.orch_base.specs.declared.server.Moment.{Moment}
-use Rattle.orch_base.specs.declared.server.ServerNo.{ServerNo}
 use Rattle.server_words.specs.declared.status.Status.{Status}
 use Rattle.recovery_hooks.specs.Runs.{due_before, HookState}
 use Rattle.recovery_plans.specs.declared.purpose.Purpose.{Purpose}
@@ -19,18 +26,22 @@ use Rattle.recovery_plans.specs.declared.stage.Stage.{Stage}
 use Rattle.recovery_plans.specs.declared.stage.Stage.TheVariants as stage
 use Rattle.recovery_plans.specs.Deciding.{by_queue, decided, once}
 use Rattle.recovery_plans.specs.Recoveries.{Recovery}
-use Rattle.recovery_plans.specs.Taking.{acted, attempted, barred_by, fate, last_exchanges, met, on_going, settled, taken, undone, Taken}
+use Rattle.recovery_plans.specs.Taking.{acted, attempted, barred_by, fate, last_exchanges, met, on_going, settled, taken, undone, Fate, Taken}
+use Rattle.recovery_plans.specs.Taking as taking
 use Rattle.server_model.specs.Gtids.{status}
 use Rattle.server_model.specs.Run.{Exchange}
 use Rattle.server_model.specs.Worlds.{World}
 use Rattle.operations.specs.declared.sight.Sight.{Sight}
 use Rattle.unended_jobs.specs.declared.docket.Docket.{Docket}
-use Rattle.unended_jobs.specs.Hooked.{front_turn, hooked, promoted_in, rear_hook, rear_turn, with_hooks, Hooked}
+use Rattle.unended_jobs.specs.Hooked.{front_turn, hooked, promoted_in, rear_hook, rear_turn, with_hooks}
 use Rattle.hook_laws.specs.Tended.{IsAtCheck, IsEarly, IsOfDead, IsTended}
 
 module _ (w : World) (b : BookState) (read : ℕ) (now : Moment) (r : Recovery) (at : IsAtCheck r) where
   abbrev look : Op
   look = op.Status r.failed None
+
+  abbrev Looks : JobStep → Type 0
+  Looks x = (x ≡ step.Going) ⊎ (x ≡ step.Failed (cause.Reachable r.failed) [])
 
   stays : once w b now r ≡ r
   stays = ap (λ ops. by_queue w b now r ops r.queue) at.ops
@@ -53,6 +64,17 @@ module _ (w : World) (b : BookState) (read : ℕ) (now : Moment) (r : Recovery) 
   look-still s check is None = ap (λ (x : Stage). (met w r (cause.Unreachable r.failed) (Some (observed w read now r.failed)) (fate w r.purpose x (cause.Unreachable r.failed))).exchanges) (is ∙ check)
   look-still s check is (Some seen) =
       ap (λ (x : Stage). (on_going w r look (Some (observed w read now r.failed)) [] (next (saw r.core r.failed seen) []) (barred_by x r.failed (next (saw r.core r.failed seen) []).seen)).exchanges) (is ∙ check) ∙ none-last
+
+  look-tells : (s : Stage) → s ≡ stage.Check → r.stage ≡ s → (o : Option Status) → Looks (attempted w r look (after_look r.core [] r.failed None (observed w read now r.failed) o)).step
+  look-tells s check is None = inl (ap (λ (x : Stage). (met w r (cause.Unreachable r.failed) (Some (observed w read now r.failed)) (fate w r.purpose x (cause.Unreachable r.failed))).step) (is ∙ check))
+  look-tells s check is (Some seen) =
+      inr (ap (λ (x : Stage). (on_going w r look (Some (observed w read now r.failed)) [] (next (saw r.core r.failed seen) []) (barred_by x r.failed (next (saw r.core r.failed seen) []).seen)).step) (is ∙ check))
+
+  -- it goes on, or the server was reached
+  pub check-tells : Looks (taken w b read now r).step
+  check-tells =
+      subst (λ x. Looks (settled w read now x).step) (sym decides)
+      (subst (λ ops. Looks (acted w read now r ops).step) (sym at.ops) (look-tells stage.Check refl at.stage (seen_in (status w r.failed.0))))
 
   pub check-still : (taken w b read now r).exchanges ≡ []
   check-still =
@@ -81,3 +103,29 @@ tended-still w b read now r d s has is early =
     let t = taken w b read now r in
     ap (λ (h : Option HookState). (with_hooks (record d { hooks = h }) (promoted_in b t) r t).taken.exchanges) has
     ∙ early-still d s (promoted_in b t) r t early (λ never. check-still w b read now r (is.first never))
+
+-- ---- a recovery that fails tells no lines of its own
+
+module _ (w : World) (c : Cause) (lines : List Line) where
+  by-fate : (r : Recovery) (k : Cause) (o : Option Observation) (f : Fate) → (met w r k o f).step ≡ step.Failed c lines → lines ≡ []
+  by-fate r k o taking.Fails e = cc
+  by-fate r k o taking.Drops e = absurd cc
+  by-fate r k o (taking.Loses n why) e = absurd cc
+  by-fate r k o (taking.Frees n why) e = absurd cc
+  by-fate r k o (taking.Goes s ops) e = absurd cc
+
+  by-bar : (r : Recovery) (o : Op) (ob : Option Observation) (es : List Exchange) (j : Job) (k : Option Cause) → (on_going w r o ob es j k).step ≡ step.Failed c lines → lines ≡ []
+  by-bar r o ob es j None e = absurd cc
+  by-bar r o ob es j (Some k) e = cc
+
+  by-attempt : (r : Recovery) (o : Op) (a : Attempt) → (attempted w r o a).step ≡ step.Failed c lines → lines ≡ []
+  by-attempt r o (attempt.Goes ob es j) e = by-bar r o ob es j (barred_by r.stage r.failed j.seen) e
+  by-attempt r o (attempt.Stops k ob) e = by-fate r k ob (fate w r.purpose r.stage k) e
+  by-attempt r o (attempt.Ends ls) e = absurd cc
+
+  by-ops : (read : ℕ) (now : Moment) (r : Recovery) (ops : List Op) → (acted w read now r ops).step ≡ step.Failed c lines → lines ≡ []
+  by-ops read now r [] e = cc
+  by-ops read now r (o ∷ rest) e = by-attempt r o (by_deed w read now r.core rest (deed_of o)) e
+
+pub fails-silently : (w : World) (b : BookState) (read : ℕ) (now : Moment) (r : Recovery) (c : Cause) (lines : List Line) → (taken w b read now r).step ≡ step.Failed c lines → lines ≡ []
+fails-silently w b read now r c lines e = by-ops w c lines read now (decided w b now r) (decided w b now r).core.ops e

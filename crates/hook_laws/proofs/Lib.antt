@@ -1,2 +1,3 @@
-mod Checking
-mod Telling
+pub mod Checking
+pub mod Telling
+pub mod Staying

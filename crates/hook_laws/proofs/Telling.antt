@@ -1,5 +1,5 @@
 -- The lines of hooks in the turn in which a recovery ends.
-use Rattle.std.proofs.Common.{◌≡◌, ◌≢◌, ◌∙◌, ◌+◌, ℕ, zero, Bool, true, false, List, [], ◌++◌, Option, Some, None, refl, sym, ap, cond, subst}
+use Rattle.std.proofs.Common.{◌≡◌, ◌≢◌, ◌∙◌, ◌+◌, ℕ, Bool, true, false, List, [], ◌++◌, ◌⊎◌, inl, inr, Option, Some, None, refl, sym, ap, cond, subst}
 use Rattle.std.specs.Prelude.{◌==◌, slice_get, take}
 use Rattle.std.proofs.lemmas.Bool.{eq-eqb, false≢true}
 use Rattle.commands.specs.declared.cause.Cause.{Cause}
@@ -7,16 +7,20 @@ use Rattle.commands.specs.declared.cause.Cause.TheVariants as cause
 use Rattle.commands.specs.declared.line.HookPhase.TheVariants as phase
 use Rattle.commands.specs.declared.line.Line.{Line}
 use Rattle.hook_texts.specs.declared.hooks.Hook.{Hook}
+use Rattle.instance_keeper.specs.Book.{BookState}
 use Rattle.orch_base.specs.Names.{HostPort}
+use Rattle.orch_base.specs.declared.server.Moment.{Moment}
 use Rattle.operations.specs.declared.step.JobStep.{JobStep}
 use Rattle.operations.specs.declared.step.JobStep.TheVariants as step
-use Rattle.recovery_hooks.specs.Runs.{after_lines, before_lines, done_lines, due_after, due_before, failed_lines, lines_of, ran_before, unsuccessful_lines, AreInOrder, HookState}
+use Rattle.recovery_hooks.specs.Runs.{after_lines, before_lines, done_lines, due_before, failed_lines, lines_of, ran_before, unsuccessful_lines, AreInOrder, HookState}
 use Rattle.recovery_hooks.proofs.Running.{all-before, all-behind, all-stopped}
 use Rattle.recovery_plans.specs.Recoveries.{Recovery}
-use Rattle.recovery_plans.specs.Taking.{Taken}
+use Rattle.recovery_plans.specs.Taking.{taken, Taken}
+use Rattle.server_model.specs.Worlds.{World}
 use Rattle.unended_jobs.specs.declared.docket.Docket.{Docket}
-use Rattle.unended_jobs.specs.Hooked.{due_at, front_turn, rear_turn, told_with, with_hooks}
-use Rattle.hook_laws.specs.Tended.{all_before, all_behind}
+use Rattle.unended_jobs.specs.Hooked.{due_at, front_turn, hooked, promoted_in, rear_turn, told_with, with_hooks}
+use Rattle.hook_laws.specs.Tended.{all_before, all_behind, IsTended}
+use Rattle.hook_laws.proofs.Checking.{check-tells, fails-silently}
 
 module _ (d : Docket) (s : HookState) (promoted : Option HostPort) (r : Recovery) (t : Taken) (order : AreInOrder s) where
   abbrev own : Docket
@@ -84,3 +88,57 @@ module _ (d : Docket) (s : HookState) (promoted : Option HostPort) (r : Recovery
       let front = subst (λ (o : Option Hook). (front_turn own promoted r t o).taken.step ≡ step.Failed c lines) (unchecked never) e in
       failed-rear lines c (due_at s t.step) front
       ∙ ap (λ (n : ℕ). lines_of phase.PreFailover s.told (take n s.hooks.pre_failover) ++ unsuccessful_lines s) (order.first never).0
+
+  abbrev Looks : JobStep → Type 0
+  Looks x = (x ≡ step.Going) ⊎ (x ≡ step.Failed (cause.Reachable r.failed) [])
+
+  -- no hook before it is due, and none behind it
+  unlooked : (y : JobStep) → s.checked ≡ false → (with_hooks own promoted r t).taken.step ≡ y → (x : JobStep) → t.step ≡ x → (rear_turn own promoted r (record t { step = x }) (due_at s x)).taken.step ≡ y
+  unlooked y never e x is =
+      subst (λ (z : JobStep). (rear_turn own promoted r (record t { step = z }) (due_at s z)).taken.step ≡ y) is
+      (subst (λ (o : Option Hook). (front_turn own promoted r t o).taken.step ≡ y) (unchecked never) e)
+
+  pub looked-first : Looks t.step → (lines : List Line) → s.checked ≡ false → (with_hooks own promoted r t).taken.step ≡ step.Done lines → ⊥
+  looked-first (inl going) lines never e = let same = unlooked (step.Done lines) never e step.Going going in cc
+  looked-first (inr failed) lines never e = let same = unlooked (step.Done lines) never e (step.Failed (cause.Reachable r.failed) []) failed in cc
+
+  pub reached-so : Looks t.step → (lines : List Line) (c : Cause) → s.checked ≡ false → (with_hooks own promoted r t).taken.step ≡ step.Failed c lines → c ≡ cause.Reachable r.failed
+  reached-so (inl going) lines c never e = let same = unlooked (step.Failed c lines) never e step.Going going in absurd cc
+  reached-so (inr failed) lines c never e = let same = unlooked (step.Failed c lines) never e (step.Failed (cause.Reachable r.failed) []) failed in cc
+
+  pub done-tells-all : (s.checked ≡ false → Looks t.step) → (lines : List Line) → (with_hooks own promoted r t).taken.step ≡ step.Done lines → Done lines
+  done-tells-all looks lines e = go s.checked refl
+    where
+      go : (b : Bool) → s.checked ≡ b → Done lines
+      go true is = done-tells is lines e
+      go false is = absurd (looked-first (looks is) lines is e)
+
+-- ---- with a docket
+
+module _ (w : World) (b : BookState) (read : ℕ) (now : Moment) (r : Recovery) (d : Docket) (s : HookState) (has : d.hooks ≡ Some s) (is : IsTended r s) where
+  abbrev turn : Taken
+  turn = taken w b read now r
+
+  abbrev told : Option HookState → JobStep
+  told o = (with_hooks (record d { hooks = o }) (promoted_in b turn) r turn).taken.step
+
+  pub done-docket : (lines : List Line) → (hooked w b read now r d).taken.step ≡ step.Done lines
+      → (own : List Line) × (turn.step ≡ step.Done own) × (lines ≡ own ++ (all_before s ++ all_behind s (promoted_in b turn)))
+  done-docket lines e =
+      done-tells-all d s (promoted_in b turn) r turn is.order (λ never. check-tells w b read now r (is.first never)) lines (subst (λ (o : Option HookState). told o ≡ step.Done lines) has e)
+
+  pub failed-docket : s.checked ≡ true → (c : Cause) (lines : List Line) → (hooked w b read now r d).taken.step ≡ step.Failed c lines → lines ≡ all_before s ++ unsuccessful_lines s
+  failed-docket looked c lines e = failed-tells d s (promoted_in b turn) r turn is.order looked lines c (subst (λ (o : Option HookState). told o ≡ step.Failed c lines) has e)
+
+  pub reached-docket : s.checked ≡ false → (c : Cause) (lines : List Line) → (hooked w b read now r d).taken.step ≡ step.Failed c lines
+      → (c ≡ cause.Reachable r.failed) × (lines ≡ unsuccessful_lines s)
+  reached-docket fresh c lines e =
+      let same = subst (λ (o : Option HookState). told o ≡ step.Failed c lines) has e in
+      (reached-so d s (promoted_in b turn) r turn is.order (check-tells w b read now r (is.first fresh)) lines c fresh same, reached-tells d s (promoted_in b turn) r turn is.order fresh lines c same)
+
+-- one without hooks tells what the recovery does, which is nothing where it fails
+pub none-docket : (w : World) (b : BookState) (read : ℕ) (now : Moment) (r : Recovery) (d : Docket) (c : Cause) (lines : List Line) → d.hooks ≡ None
+    → (hooked w b read now r d).taken.step ≡ step.Failed c lines → lines ≡ []
+none-docket w b read now r d c lines has e =
+    let t = taken w b read now r in
+    fails-silently w b read now r c lines (subst (λ (o : Option HookState). (with_hooks (record d { hooks = o }) (promoted_in b t) r t).taken.step ≡ step.Failed c lines) has e)

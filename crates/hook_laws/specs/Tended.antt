@@ -1,19 +1,19 @@
 -- What holds of a recovery and its hooks, from its beginning on.
-use Rattle.std.specs.Prelude.{◌≡◌, ◌≢◌, ◌+◌, ◌++◌, ◌⊎◌, false, true, List, [], ◌∷◌, Option, None, Some, IfSome}
-use Rattle.commands.specs.declared.cause.Cause.{Cause}
-use Rattle.commands.specs.declared.cause.Cause.TheVariants as cause
+use Rattle.std.specs.Prelude.{◌≡◌, ◌⊎◌, false, List, [], ◌∷◌, Option, None, Some}
+use Rattle.std.specs.Option.{option_map}
 use Rattle.commands.specs.declared.line.HookPhase.TheVariants as phase
 use Rattle.commands.specs.declared.line.Line.{Line}
 use Rattle.hook_texts.specs.declared.hooks.Hook.{Hook}
+use Rattle.hook_texts.specs.declared.hooks.Hooks.{Hooks}
+use Rattle.hook_texts.specs.declared.values.Values.{Values}
 use Rattle.orch_base.specs.Names.{HostPort}
 use Rattle.operations.specs.declared.op.Op.TheVariants as op
-use Rattle.operations.specs.declared.step.JobStep.{JobStep}
-use Rattle.operations.specs.declared.step.JobStep.TheVariants as step
 use Rattle.recovery_plans.specs.declared.purpose.Purpose.{Purpose}
 use Rattle.recovery_plans.specs.declared.purpose.Purpose.TheVariants as purpose
 use Rattle.recovery_plans.specs.declared.stage.Stage.TheVariants as stage
 use Rattle.recovery_plans.specs.Recoveries.{Recovery}
-use Rattle.recovery_hooks.specs.Runs.{due_after, due_before, lines_of, running_before, unsuccessful_lines, when_done, AreInOrder, HookState}
+use Rattle.recovery_hooks.specs.Runs.{due_before, lines_of, running_before, when_done, AreInOrder, HookState}
+use Rattle.unended_jobs.specs.declared.docket.Docket.{Docket}
 
 -- a dead master's, or that of a dead intermediate master
 abbrev pub IsOfDead : Purpose → Type 0
@@ -45,3 +45,14 @@ all_before s = lines_of phase.PreFailover s.told (running_before s.hooks.pre_fai
 -- and of all that run behind it
 abbrev pub all_behind : HookState → Option HostPort → List Line
 all_behind s promoted = lines_of phase.PostFailover (when_done s.told promoted) s.hooks.post_failover
+
+-- ---- along its turns
+
+-- its hooks, and what they are told
+abbrev pub plan_of : Option HookState → Option (Hooks × Values)
+plan_of o = option_map (λ s. (s.hooks, s.told)) o
+
+-- one that has come of another: with its entry and its hooks, which are told the same
+pub record IsOfDocket (had d : Docket) : Type 0 where
+  pub entry : d.entry ≡ had.entry
+  pub hooks : plan_of d.hooks ≡ plan_of had.hooks

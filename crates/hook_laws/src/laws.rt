@@ -1,19 +1,26 @@
 //! Laws of the turns of recoveries with hooks.
 
-ghost use Rattle.std.specs.Prelude.{◌≡◌, ◌≢◌, ◌+◌, ◌++◌, ℕ, [], List, None, Some, false, true};
+ghost use Rattle.std.specs.Prelude.{◌≡◌, ◌++◌, ℕ, [], List, None, Some, false, true};
 ghost use Rattle.commands.specs.declared.cause.Cause.{Cause as ACause};
+ghost use Rattle.commands.specs.declared.cause.Cause.TheVariants as cause;
 ghost use Rattle.commands.specs.declared.line.Line.{Line as ALine};
-ghost use Rattle.hook_texts.specs.declared.hooks.Hook.{Hook as AHook};
+ghost use Rattle.hook_texts.specs.declared.hooks.Hooks.{Hooks as SomeHooks};
+ghost use Rattle.hook_texts.specs.declared.values.Values.{Values as AValues};
 ghost use Rattle.instance_keeper.specs.Book.{BookState};
 ghost use Rattle.orch_base.specs.declared.server.Moment.{Moment as AMoment};
+ghost use Rattle.orch_base.specs.declared.server.ServerNo.{ServerNo as Number};
 ghost use Rattle.operations.specs.declared.step.JobStep.TheVariants as step;
-ghost use Rattle.recovery_hooks.specs.Runs.{due_before, unsuccessful_lines, HookState};
+ghost use Rattle.operations.specs.Turns.{is_going};
+ghost use Rattle.recovery_hooks.specs.Runs.{begun_hooks, unsuccessful_lines, HookState};
+ghost use Rattle.recovery_plans.specs.Beginning.{begun_recovery};
+ghost use Rattle.recovery_plans.specs.declared.means.Means.{Means as AMeans};
+ghost use Rattle.recovery_plans.specs.declared.purpose.Purpose.{Purpose as APurpose};
 ghost use Rattle.recovery_plans.specs.Recoveries.{Recovery};
 ghost use Rattle.recovery_plans.specs.Taking.{taken};
 ghost use Rattle.server_model.specs.Worlds.{World};
 ghost use Rattle.unended_jobs.specs.Hooked.{hooked, promoted_in};
 ghost use Rattle.unended_jobs.specs.declared.docket.Docket.{Docket as ADocket};
-ghost use Rattle.hook_laws.specs.Tended.{all_before, all_behind, IsEarly, IsTended};
+ghost use Rattle.hook_laws.specs.Tended.{all_before, all_behind, IsEarly, IsOfDead, IsOfDocket, IsTended};
 
 /// Until all hooks have run before it that are to, a recovery changes no server: neither in the turn in which it looks
 /// at its failed server, nor in the turn of such a hook, whatever its exit.
@@ -25,11 +32,12 @@ pub fn hooks_before_recoveries_leave_servers()
 {}
 
 /// A recovery that is done tells, behind its own lines, those of all hooks before it and of all behind it; one that fails
-/// tells those before it up to the one that ended it, none where its failed server was reached, and all that run then.
+/// tells those before it up to the one that ended it, and all that run then. One that hasn't looked at its failed server
+/// fails just where that is reached, and tells none before it. One without hooks tells none.
 pub fn recoveries_tell_their_hooks()
     ensures done { (w : World) (b : BookState) (read : ℕ) (now : AMoment) (r : Recovery)
         (d : ADocket) (s : HookState) (lines : List ALine) →
-        d.hooks ≡ Some s → IsTended r s → s.checked ≡ true →
+        d.hooks ≡ Some s → IsTended r s →
         (hooked w b read now r d).taken.step ≡ step.Done lines →
         (own : List ALine) × ((taken w b read now r).step ≡ step.Done own)
         × (lines ≡ own ++ (all_before s ++ all_behind s (promoted_in b (taken w b read now r)))) }
@@ -42,5 +50,28 @@ pub fn recoveries_tell_their_hooks()
         (d : ADocket) (s : HookState) (c : ACause) (lines : List ALine) →
         d.hooks ≡ Some s → IsTended r s → s.checked ≡ false →
         (hooked w b read now r d).taken.step ≡ step.Failed c lines →
-        lines ≡ unsuccessful_lines s }
+        (c ≡ cause.Reachable r.failed) × (lines ≡ unsuccessful_lines s) }
+    ensures none { (w : World) (b : BookState) (read : ℕ) (now : AMoment) (r : Recovery)
+        (d : ADocket) (c : ACause) (lines : List ALine) → d.hooks ≡ None →
+        (hooked w b read now r d).taken.step ≡ step.Failed c lines → lines ≡ [] }
+{}
+
+/// Hooks of a recovery that begins are in order, and it is to look at its failed server; so they stay along its turns.
+/// Once all have run before it that are to, none is left to run before it in any later turn.
+pub fn hooks_stay_tended()
+    ensures begun { (u : APurpose) (by : AMeans) (id wait : ℕ) (f : Number)
+        (replicas order : List Number) (hooks : SomeHooks) (told : AValues) → IsOfDead u →
+        IsTended (begun_recovery u by id wait f replicas order) (begun_hooks hooks told) }
+    ensures turn { (w : World) (b : BookState) (read : ℕ) (now : AMoment) (r : Recovery)
+        (d : ADocket) (s k : HookState) →
+        d.hooks ≡ Some s → IsTended r s →
+        is_going (hooked w b read now r d).taken.step ≡ true →
+        (hooked w b read now r d).docket.hooks ≡ Some k →
+        IsTended (hooked w b read now r d).taken.recovery k }
+    ensures early { (w : World) (b : BookState) (read : ℕ) (now : AMoment) (r : Recovery)
+        (d : ADocket) (s k : HookState) →
+        d.hooks ≡ Some s → (hooked w b read now r d).docket.hooks ≡ Some k →
+        IsEarly k → IsEarly s }
+    ensures docket { (w : World) (b : BookState) (read : ℕ) (now : AMoment) (r : Recovery)
+        (d : ADocket) → IsOfDocket d (hooked w b read now r d).docket }
 {}

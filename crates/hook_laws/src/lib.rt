@@ -3,4 +3,6 @@
 
 mod laws;
 
-pub use laws::{hooks_before_recoveries_leave_servers, recoveries_tell_their_hooks};
+pub use laws::{
+    hooks_before_recoveries_leave_servers, hooks_stay_tended, recoveries_tell_their_hooks,
+};

@@ -131,12 +131,7 @@ fn is_reached(world: &World, no: ServerNo) -> bool
 /// last one of `r`. Mismatch with the first entry of `r`, counted from 1, behind the mark for which `d` has none in its
 /// place, or one that shows another origin, another size or a mark. The time is that of the entries behind the mark. It
 /// takes no memory.
-pub fn match_logs(
-    world: &World,
-    r: ServerNo,
-    d: ServerNo,
-    every: u64,
-) -> Result<Coord, MatchFault>
+pub fn match_logs(world: &World, r: ServerNo, d: ServerNo, every: u64) -> Result<Coord, MatchFault>
     ensures { result ≡ match_logs world.now r d every }
 {
     if !is_reached(world, r) {

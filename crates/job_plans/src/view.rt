@@ -14,8 +14,8 @@ use crate::Look;
 use crate::act::Act;
 use crate::looks::{
     cause_by, done, failed, going, holds_seen, is_reached, is_settled, latest, latest_of_more,
-    look_ask, look_attach, look_bridge, look_match, look_status, passed, position_of, read_by, takes_sets,
-    watch,
+    look_ask, look_attach, look_bridge, look_match, look_status, passed, position_of, read_by,
+    takes_sets, watch,
 };
 use binlog_coords::Coord;
 use commands::{Cause, Lines};

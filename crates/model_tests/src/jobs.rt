@@ -8,7 +8,7 @@ use binlog_coords::Coord;
 use commands::{Line, Lines};
 use job_plans::{Aim, Crossing, Job, JobStep, Op};
 use openings::Part;
-use orch_base::{Moment, ServerNo, SourceState};
+use orch_base::{CauseName, Moment, ServerNo, SourceState};
 use server_model::World;
 use std::alloc::Global;
 use std::test::Fail;
@@ -43,12 +43,69 @@ const CHAIN: &[Given] = &[
     },
 ];
 
+/// B has executed all of A's log.
+const LEVEL: &[Given] = &[
+    Given {
+        history: &[Part {
+            origin: M,
+            size: 100,
+            count: 4,
+        }],
+        ..MASTER
+    },
+    Given {
+        name: "a",
+        executed: 4,
+        ..REPLICA
+    },
+    Given {
+        name: "b",
+        source: Some(A),
+        executed: 4,
+        ..REPLICA
+    },
+];
+
+/// A has no source, and nothing of what B, which is below M, has executed.
+const APART: &[Given] = &[
+    Given {
+        history: &[Part {
+            origin: M,
+            size: 100,
+            count: 4,
+        }],
+        ..MASTER
+    },
+    Given {
+        name: "a",
+        ..MASTER
+    },
+    Given {
+        name: "b",
+        executed: 1,
+        ..REPLICA
+    },
+];
+
+/// The servers, whether GTIDs are used, and the cause for which a job fails there.
+const MET: [(&[Given], bool, CauseName); 5] = [
+    // B is attached with its threads on, and where it doesn't stand.
+    (CHAIN, false, CauseName::Running),
+    (CHAIN, false, CauseName::Interfered),
+    // A goes below its own replica.
+    (LEVEL, false, CauseName::Loop),
+    // B goes below A, which lacks what it has executed.
+    (APART, true, CauseName::Errant),
+    // B is read as a replica of M, and is A's.
+    (CHAIN, false, CauseName::Moved),
+];
+
 /// What a turn of a job comes to.
-#[derive(Clone, Copy, PartialEq, Eq)]
+#[derive(Clone, Copy, Debug, PartialEq, Eq)]
 enum End {
     Going,
     Done,
-    Failed,
+    Failed(CauseName),
 }
 
 /// What each turn tells, with the server that it observes for the book.
@@ -94,6 +151,50 @@ fn plan(alloc: Global) -> Result<Vec<Op>, Fail>
     Ok(Vec::from_array(alloc, ops)?)
 }
 
+// A plan that fails for this cause, or none.
+fn failing(alloc: Global, cause: CauseName) -> Result<Vec<Op>, Fail>
+    ensures { IfOk result (λ v. are_named 3 v.items ≡ true) }
+{
+    Ok(match cause {
+        CauseName::Running => {
+            Vec::from_array(alloc, [Op::Status(A, None), Op::Cross(Crossing::Up, B, A)])?
+        }
+        CauseName::Interfered => {
+            Vec::from_array(
+                alloc,
+                [
+                    Op::Stop(B),
+                    Op::Status(A, None),
+                    Op::Cross(Crossing::Up, B, A),
+                ],
+            )?
+        }
+        CauseName::Loop => {
+            Vec::from_array(
+                alloc,
+                [
+                    Op::Stop(A),
+                    Op::Status(B, None),
+                    Op::Cross(Crossing::About, A, B),
+                ],
+            )?
+        }
+        CauseName::Errant => Vec::from_array(
+            alloc,
+            [Op::Stop(B), Op::Status(A, None), Op::Auto(B, A)],
+        )?,
+        CauseName::Moved => Vec::from_array(alloc, [Op::Status(B, Some(M))])?,
+        CauseName::Unreachable
+        | CauseName::WaitSpent
+        | CauseName::Reachable
+        | CauseName::NoCandidate
+        | CauseName::Purged
+        | CauseName::NoMark
+        | CauseName::Mismatch
+        | CauseName::HookFailed => Vec::new(alloc),
+    })
+}
+
 fn begun(alloc: Global) -> Result<Job, Fail>
     ensures { IfOk result (IsNamed 3) }
 {
@@ -105,7 +206,7 @@ fn end_of(step: &JobStep) -> End {
     match step {
         JobStep::Going => End::Going,
         JobStep::Done(_) => End::Done,
-        JobStep::Failed(_, _) => End::Failed,
+        JobStep::Failed(cause, _) => End::Failed(cause.name()),
     }
 }
 
@@ -172,5 +273,34 @@ fn a_job_goes_to_its_end(rt: HostRuntime) -> Result<(), Fail> {
     let mut world = world_of(alloc, CHAIN, false, 4, 0)?;
     let there = (SourceState::Attached(M), Coord { file: 1, pos: 404 }, true);
     assert_eq!(rt; outcome(alloc, &mut world)?, (None, true, Some(there)));
+    Ok(())
+}
+
+// What the first of three turns that doesn't go on tells.
+fn first_end(alloc: Global, world: &mut World, cause: CauseName) -> Result<End, Fail> {
+    let ops = failing(alloc, cause)?;
+    let mut job = Job::make(alloc, 7, ops, 20)?;
+    for _turn in 0..3 {
+        if world.servers() != 3 {
+            return Ok(End::Going);
+        }
+        let (end, _) = turn(alloc, world, &mut job)?;
+        if end != End::Going {
+            return Ok(end);
+        }
+    }
+    Ok(End::Going)
+}
+
+#[test]
+fn a_job_fails_for_what_it_met(rt: HostRuntime) -> Result<(), Fail> {
+    let alloc = rt.alloc();
+    for (servers, gtid, cause) in &MET {
+        let mut world = world_of(alloc, servers, *gtid, 4, 0)?;
+        assert_eq!(rt;
+            (*cause, first_end(alloc, &mut world, *cause)?),
+            (*cause, End::Failed(*cause))
+        );
+    }
     Ok(())
 }

@@ -14,10 +14,11 @@ use Rattle.operations.specs.Plans.{again, auto, finished, swap, under, up}
 use Rattle.operations.specs.declared.op.Op.{Op}
 use Rattle.operations.specs.declared.op.Op.TheVariants.{Finish}
 use Rattle.operations.proofs.Tests.{both}
-use Rattle.plan_parts.specs.Parts.{again_auto, autos, unders, ups}
+use Rattle.plan_parts.specs.Parts.{again_auto, autos, matching, matchings, unders, ups}
 use Rattle.permission.specs.Lists.{first_about}
 use Rattle.job_laws.specs.Footing.{Footing, SameBase, are_held}
 use Rattle.job_laws.specs.Leases.{are_listed, is_in}
+use Rattle.job_laws.specs.Matched.{Matched, are_matched}
 use Rattle.job_laws.proofs.Planned.{auto-held, held-append, under-held, up-held}
 
 self : (n : ℕ) → (n == n) ≡ true
@@ -105,6 +106,12 @@ module _ (list : List ServerNo) where
   pub autos-listed : (rs : List ServerNo) (d : ServerNo) → All (Among list) rs → are_listed list (autos rs d) ≡ true
   autos-listed rs d among = each-listed (λ r. auto r d) (λ r at_r. auto-listed r d at_r) rs among
 
+  pub matching-listed : (r d : ServerNo) (every : ℕ) → Among list r → are_listed list (matching r d every) ≡ true
+  matching-listed r d every at_r = simp (at_r) refl
+
+  pub matchings-listed : (rs : List ServerNo) (d : ServerNo) (every : ℕ) → All (Among list) rs → are_listed list (matchings rs d every) ≡ true
+  matchings-listed rs d every among = each-listed (λ r. matching r d every) (λ r at_r. matching-listed r d every at_r) rs among
+
 -- ---- operations that are held
 
 base-self : (f : Footing) → SameBase f f
@@ -124,18 +131,29 @@ each-held P part f (r ∷ rs) held all =
 pub ups-held : (f : Footing) (rs : List ServerNo) (i x : ServerNo) → All (λ r. (r.0 == i.0) ≡ false) rs → are_held f (ups rs i x) ≡ true
 ups-held f rs i x apart = each-held (λ r. (r.0 == i.0) ≡ false) (λ r. up r i x) f rs (λ g r base at. up-held g r i x at) apart
 
-every : (rs : List ServerNo) → All (λ (r : ServerNo). Unit {0}) rs
-every [] = All-nil (λ (r : ServerNo). Unit {0})
-every (r ∷ rs) = All-cons (λ (r : ServerNo). Unit {0}) r rs tt (every rs)
+each-of : (rs : List ServerNo) → All (λ (r : ServerNo). Unit {0}) rs
+each-of [] = All-nil (λ (r : ServerNo). Unit {0})
+each-of (r ∷ rs) = All-cons (λ (r : ServerNo). Unit {0}) r rs tt (each-of rs)
 
 pub unders-held : (f : Footing) (rs : List ServerNo) (d s : ServerNo) → f.logs d.0 ≡ true → are_held f (unders rs d s) ≡ true
-unders-held f rs d s logs = each-held (λ r. Unit {0}) (λ r. under r d s) f rs (λ g r base at. under-held g r d s (base.logs d.0 logs)) (every rs)
+unders-held f rs d s logs = each-held (λ r. Unit {0}) (λ r. under r d s) f rs (λ g r base at. under-held g r d s (base.logs d.0 logs)) (each-of rs)
 
 pub autos-held : (f : Footing) (rs : List ServerNo) (d : ServerNo) → f.gtid ≡ true → f.logs d.0 ≡ true → are_held f (autos rs d) ≡ true
-autos-held f rs d gtid logs = each-held (λ r. Unit {0}) (λ r. auto r d) f rs (λ g r base at. auto-held g r d (base.gtid gtid) (base.logs d.0 logs)) (every rs)
+autos-held f rs d gtid logs = each-held (λ r. Unit {0}) (λ r. auto r d) f rs (λ g r base at. auto-held g r d (base.gtid gtid) (base.logs d.0 logs)) (each-of rs)
 
 pub again_auto-held : (f : Footing) (i x : ServerNo) → f.gtid ≡ true → are_held f (again_auto i x) ≡ true
 again_auto-held f i x gtid = simp (self, gtid) refl
+
+pub matching-held : (f : Footing) (r d : ServerNo) (every : ℕ) → f.logs d.0 ≡ true → are_held f (matching r d every) ≡ true
+matching-held f r d every logs = simp (self, logs) refl
+
+pub matchings-held : (f : Footing) (rs : List ServerNo) (d : ServerNo) (every : ℕ) → f.logs d.0 ≡ true → are_held f (matchings rs d every) ≡ true
+matchings-held f rs d every logs = each-held (λ r. Unit {0}) (λ r. matching r d every) f rs (λ g r base at. matching-held g r d every (base.logs d.0 logs)) (each-of rs)
+
+-- ---- operations that go by matches
+
+pub matching-matched : (has : Matched) (r d : ServerNo) (every : ℕ) → are_matched has (matching r d every) ≡ true
+matching-matched has r d every = simp (self) refl
 
 -- ---- the first of two lists
 

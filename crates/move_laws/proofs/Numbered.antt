@@ -1,6 +1,6 @@
 -- Rows answer the lowest refusal.
 use Rattle.std.proofs.Common.{◌≡◌, ℕ, zero, suc, ◌<◌, Bool, true, false, not, List, [], ◌∷◌, refl, sym, ◌∙◌, ap, subst, Option, Some, None, arith}
-use Rattle.std.specs.Prelude.{is_some, nat_lt, slice_get}
+use Rattle.std.specs.Prelude.{◌==◌, is_some, nat_lt, slice_get}
 use Rattle.std.specs.Option.{option_and_then, option_or}
 use Rattle.std.proofs.lemmas.Bool.{and_parts}
 use Rattle.std.proofs.lemmas.Bool.Decides.{nat_tests}
@@ -19,7 +19,10 @@ use Rattle.command_routes.specs.declared.kinds.CoordsCommand.TheVariants as comm
 use Rattle.moves_gtid.specs.Permits.{row_of as gtid_row_of}
 use Rattle.command_routes.specs.declared.kinds.GtidCommand.{GtidCommand}
 use Rattle.command_routes.specs.declared.kinds.GtidCommand.TheVariants as gtid
-use Rattle.permission.specs.Checks.{Case, are_one, busy, busy_by, errant, errant_by, is_given, of_below, of_lower_version, of_other_cluster, of_same_id, place_purged, purged_under, refusal_by, set_purged, unreached, without_log}
+use Rattle.pseudo_match.specs.Permits.{last_row_of, marks_row, moved_row, row_of as match_row_of}
+use Rattle.pseudo_match.specs.declared.command.PseudoCommand.{PseudoCommand}
+use Rattle.pseudo_match.specs.declared.command.PseudoCommand.TheVariants as matching
+use Rattle.permission.specs.Checks.{Case, are_one, busy, busy_by, errant, errant_by, is_given, of_below, of_lower_version, of_other_cluster, of_same_id, place_purged, purged_under, refusal_by, set_purged, unlogged, unreached, without_log}
 use Rattle.operations.specs.Turns.{is_within}
 use Rattle.permission.specs.Errants.{own_missing}
 use Rattle.permission.specs.Lists.{first_about, only_if}
@@ -80,6 +83,8 @@ check-number w b c check.PurgedPlace r h = of-list 30 (place_purged b) c.crossed
 check-number w b c check.PurgedSet r h =
     of-list 30 (set_purged b) c.moves r
     (λ m s. of-test 30 (not (is_within (purged_seen b m.source) (set_seen b m.no))) (refusal.Purged m.source (first_seen b m.source)) s refl) h
+check-number w b c check.PseudoOff r h = subst (Has 31) (same_Some refusal.PseudoOff r h) refl
+check-number w b c check.MovedNotLogging r h = of-list 32 (unlogged w) c.moves r (λ m s. of-test 32 (not (has_log w m.no)) (refusal.MovedNotLogging m.no) s refl) h
 
 -- ---- rows
 
@@ -157,3 +162,23 @@ gtid-rows-rise gtid.MoveGtid = refl
 gtid-rows-rise gtid.MoveReplicasGtid = refl
 gtid-rows-rise gtid.EnableGtid = refl
 gtid-rows-rise gtid.DisableGtid = refl
+
+pub match-rows-rise : (c : PseudoCommand) → rises_from 2 (match_row_of c) ≡ true
+match-rows-rise matching.Match = refl
+match-rows-rise matching.MatchUp = refl
+match-rows-rise matching.MatchReplicas = refl
+match-rows-rise matching.RegroupReplicas = refl
+
+moved-rise : (none : Bool) → rises_from 30 (moved_row none) ≡ true
+moved-rise true = refl
+moved-rise false = refl
+
+marks-rise : (none : Bool) (c : PseudoCommand) → rises_from 30 (marks_row none c) ≡ true
+marks-rise none matching.Match = moved-rise none
+marks-rise none matching.MatchUp = moved-rise none
+marks-rise none matching.MatchReplicas = moved-rise none
+marks-rise true matching.RegroupReplicas = refl
+marks-rise false matching.RegroupReplicas = refl
+
+pub match-last-rows-rise : (every : ℕ) (c : PseudoCommand) → rises_from 30 (last_row_of every c) ≡ true
+match-last-rows-rise every c = marks-rise (every == 0) c

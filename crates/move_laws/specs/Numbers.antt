@@ -1,7 +1,7 @@
 -- The checks by their numbers.
 use Rattle.std.specs.Prelude.{ℕ, Bool, true, ◌&&◌, nat_lt, List, [], ◌∷◌}
 use Rattle.permission.specs.declared.case.Check.{Check}
-use Rattle.permission.specs.declared.case.Check.TheVariants.{SameInstance, Busy, Unreachable, NoSource, NotDetached, AlreadyDetached, OtherCluster, Below, SourceHasNoSource, NotSibling, NotSameLog, DestNotLogging, SameServerId, VersionLower, GtidOff, Errant, PurgedPlace, PurgedSet}
+use Rattle.permission.specs.declared.case.Check.TheVariants.{SameInstance, Busy, Unreachable, NoSource, NotDetached, AlreadyDetached, OtherCluster, Below, SourceHasNoSource, NotSibling, NotSameLog, DestNotLogging, SameServerId, VersionLower, GtidOff, Errant, PurgedPlace, PurgedSet, PseudoOff, MovedNotLogging}
 
 -- a check's number is that of the refusal of one that doesn't pass
 abbrev pub check_number : Check → ℕ
@@ -23,6 +23,8 @@ check_number GtidOff = 17
 check_number Errant = 18
 check_number PurgedPlace = 30
 check_number PurgedSet = 30
+check_number PseudoOff = 31
+check_number MovedNotLogging = 32
 
 -- the checks' numbers rise, from above a number on
 abbrev pub rises_from : ℕ → List Check → Bool

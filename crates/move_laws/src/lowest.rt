@@ -9,6 +9,8 @@ ghost use Rattle.moves_coords.specs.Permits.{row_of};
 ghost use Rattle.command_routes.specs.declared.kinds.CoordsCommand.{CoordsCommand};
 ghost use Rattle.moves_gtid.specs.Permits.{row_of as gtid_row_of};
 ghost use Rattle.command_routes.specs.declared.kinds.GtidCommand.{GtidCommand};
+ghost use Rattle.pseudo_match.specs.Permits.{last_row_of, row_of as match_row_of};
+ghost use Rattle.pseudo_match.specs.declared.command.PseudoCommand.{PseudoCommand};
 ghost use Rattle.permission.specs.Checks.{Case, first_refusal, refusal_by};
 ghost use Rattle.permission.specs.declared.case.Check.{Check};
 ghost use Rattle.server_model.specs.Worlds.{World};
@@ -37,4 +39,11 @@ pub fn numbers_rise()
 /// So do those of the rows of commands by GTIDs.
 pub fn gtid_numbers_rise()
     ensures { (command : GtidCommand) → rises_from 2 (gtid_row_of command) ≡ true }
+{}
+
+/// So do those of the rows of commands by matches, and of the rows behind their own checks.
+pub fn match_numbers_rise()
+    ensures row { (command : PseudoCommand) → rises_from 2 (match_row_of command) ≡ true }
+    ensures last { (every : ℕ) (command : PseudoCommand) →
+        rises_from 30 (last_row_of every command) ≡ true }
 {}

@@ -11,28 +11,30 @@ use Rattle.instance_keeper.specs.Book.{BookState, IsBook}
 use Rattle.orch_base.specs.declared.server.Moment.{Moment}
 use Rattle.orch_base.specs.declared.server.ServerNo.{ServerNo}
 use Rattle.unended_jobs.specs.Unended.{IsUnended}
+use Rattle.recovery_plans.specs.declared.means.Means.{Means}
+use Rattle.recovery_plans.specs.declared.means.Means.TheVariants as means
 use Rattle.server_model.specs.Worlds.{World}
 use Rattle.orch_core.specs.Knowing.{MayTake}
 use Rattle.orch_core.specs.States.{entry_id}
 
-module _ (w : World) (b : BookState) (now : Moment) (given : Command) (p : Planner) (is : IsBook b) (i_there : is_within (length b.names) given.i ≡ true) (d_there : is_within (length b.names) given.d ≡ true) where
+module _ (w : World) (b : BookState) (now : Moment) (every : ℕ) (given : Command) (p : Planner) (is : IsBook b) (i_there : is_within (length b.names) given.i ≡ true) (d_there : is_within (length b.names) given.d ≡ true) where
   -- a command that isn't refused may take its leases
-  pub may-take : refusal_by w b now given p ≡ None → MayTake b (leases_by w b given p)
-  may-take h = record { known = leases-within w b given is i_there d_there p; free = leases-free w b now given p h }
+  pub may-take : refusal_by w b now every given p ≡ None → MayTake b (leases_by w b given p)
+  may-take h = record { known = leases-within w b given is i_there d_there p; free = leases-free w b now every given p h }
 
   -- and its job is one that may be turned
-  pub begun-unended : (id wait : ℕ) → id < 2 ^ 64 → wait < 2 ^ 32 → IsUnended (length b.names) (job_by w b given p id wait)
-  begun-unended id wait id_fits wait_fits = job-unended w b given is i_there d_there p id wait id_fits wait_fits
+  pub begun-unended : (id wait : ℕ) → id < 2 ^ 64 → wait < 2 ^ 32 → IsUnended (length b.names) (job_by w b given p id wait every)
+  begun-unended id wait id_fits wait_fits = job-unended w b given is i_there d_there p id wait every id_fits wait_fits
 
 -- a plan has no entry, and neither has a regroup
-pub job-entry : (w : World) (b : BookState) (given : Command) (p : Planner) (id wait : ℕ) → entry_id (job_by w b given p id wait) ≡ None
-job-entry w b given (Coordinates kind) id wait = refl
-job-entry w b given (Gtids kind) id wait = refl
-job-entry w b given (Paths kind) id wait = refl
-job-entry w b given (Regroups ByMatches) id wait = refl
-job-entry w b given (Matches kind) id wait = refl
-job-entry w b given (Regroups ByBridges) id wait = about given.i
-  where
-    about : (i : Option ServerNo) → entry_id (regroup_about b id wait i) ≡ None
-    about None = refl
-    about (Some i) = refl
+regroup-entry : (b : BookState) (by : Means) (id wait : ℕ) (i : Option ServerNo) → entry_id (regroup_about b by id wait i) ≡ None
+regroup-entry b by id wait None = refl
+regroup-entry b by id wait (Some i) = refl
+
+pub job-entry : (w : World) (b : BookState) (given : Command) (p : Planner) (id wait every : ℕ) → entry_id (job_by w b given p id wait every) ≡ None
+job-entry w b given (Coordinates kind) id wait every = refl
+job-entry w b given (Gtids kind) id wait every = refl
+job-entry w b given (Paths kind) id wait every = refl
+job-entry w b given (Matches kind) id wait every = refl
+job-entry w b given (Regroups ByMatches) id wait every = regroup-entry b (means.Matches every) id wait given.i
+job-entry w b given (Regroups ByBridges) id wait every = regroup-entry b means.Bridges id wait given.i

@@ -1,10 +1,12 @@
 -- Hooks that are told of what begins change nothing else of it.
-use Rattle.std.proofs.Common.{◌≡◌, ℕ, List, [], ◌∷◌, Option}
+use Rattle.std.proofs.Common.{◌≡◌, ◌<◌, ◌-◌, ◌^◌, ℕ, List, [], ◌∷◌, Option}
 use Rattle.std.specs.Prelude.{map}
+use Rattle.std.proofs.lemmas.List.Elements.{All-map}
 use Rattle.audit_log.specs.Audits.{AuditState, begun}
 use Rattle.instance_keeper.specs.Book.{BookState}
 use Rattle.instance_keeper.specs.Leases.{taken}
 use Rattle.recovery_core.specs.Begun.{BeginInTurn, CanBegin}
+use Rattle.recovery_core.specs.Scans.{HasRoom}
 use Rattle.recovery_core.specs.Tries.{Begins}
 use Rattle.orch_core.specs.HookTelling.{with_told}
 use Rattle.orch_core.specs.declared.configuration.Configuration.{Configuration}
@@ -30,3 +32,6 @@ module _ (c : Configuration) (b : BookState) where
   told-in-turn count leases a last [] each = tt
   told-in-turn count leases a last (x ∷ xs) each =
       (told-can count leases a last x each.0, told-in-turn count (taken leases x.list x.job.core.id) (begun a x.entry) x.job.core.id xs each.1)
+
+  pub told-room : (xs : List Begins) → HasRoom xs → HasRoom (map (with_told c b) xs)
+  told-room xs all = All-map (λ (x : Begins). x.entry.id < 2 ^ 64 - 1) (with_told c b) xs all

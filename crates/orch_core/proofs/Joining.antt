@@ -80,7 +80,7 @@ module _ (count : ℕ) where
           named = can.named;
           promoted = subst (λ (r : Recovery). IfSome r.outcome.promoted (λ n. n.0 < count)) (sym can.fresh)
               (first-within (IsListed x.list) x.job.purpose x.job.failed (listed-within x.list can.within) can.listed);
-          shaped = subst IsShaped (sym can.fresh) (begun-shaped x.job.purpose x.job.core.id x.job.core.wait x.job.failed x.job.replicas x.job.order);
+          shaped = subst IsShaped (sym can.fresh) (begun-shaped x.job.purpose x.job.means x.job.core.id x.job.core.wait x.job.failed x.job.replicas x.job.order);
         };
       })
       (joined-range _ (begun a x.entry) x.job.core.id xs each.1 few)

@@ -233,8 +233,8 @@ outcome-takes s c is book command = by (route_of c.command.name)
         takes-decided (known_of s) (length s.book.names) refl s.reads s.audit (permitted s.book c.command) (decided_of s.book s.audit (record { 0 = s.moment }) c.keys c.command.i d)
         (taken-effect s.book (decided_of s.book s.audit (record { 0 = s.moment }) c.keys c.command.i d).effect (decided-effect s.book (length s.book.names) book.small s.audit (record { 0 = s.moment }) c.keys c.command.i d (given-within (length s.book.names) c over)))
     by (Begins p) =
-        takes-begun (known_of s) (length s.book.names) refl (numbers_of s) (refusal_by s.world s.book (record { 0 = s.moment }) c.command p) (leases_by s.world s.book c.command p) (job_by s.world s.book c.command p (s.last_job + 1) s.configuration.wait)
-        (may-take s.world s.book (record { 0 = s.moment }) c.command p book (given-within (length s.book.names) c over) (destination-within (length s.book.names) c over))
+        takes-begun (known_of s) (length s.book.names) refl (numbers_of s) (refusal_by s.world s.book (record { 0 = s.moment }) s.configuration.every c.command p) (leases_by s.world s.book c.command p) (job_by s.world s.book c.command p (s.last_job + 1) s.configuration.wait s.configuration.every)
+        (may-take s.world s.book (record { 0 = s.moment }) s.configuration.every c.command p book (given-within (length s.book.names) c over) (destination-within (length s.book.names) c over))
     by Recovers =
         given (refusal s.reads UnknownInstance) (recovered s.world s.book s.audit s.configuration (numbers_of s)) tt
         (λ i within. takes-recovery (known_of s) (length s.book.names) refl (numbers_of s) s.configuration s.book (recovery_try s.world s.book s.audit (by_hand s.book s.configuration (numbers_of s) i) s.configuration.wait (s.last_job + 1) i)
@@ -325,9 +325,9 @@ outcome-next s c is book wait command few = by (route_of c.command.name) few
     over : IsCommand (length s.book.names) c
     over = subst (λ (n : ℕ). IsCommand n c) (sym is.names) command
 
-    range : (p : Planner) → s.last_job + 1 < 2 ^ 64 → JobRange (length s.world.servers) (job_by s.world s.book c.command p (s.last_job + 1) s.configuration.wait)
-    range p fits = subst (λ (n : ℕ). JobRange n (job_by s.world s.book c.command p (s.last_job + 1) s.configuration.wait)) is.names
-        (begun-unended s.world s.book (record { 0 = s.moment }) c.command p book (given-within (length s.book.names) c over) (destination-within (length s.book.names) c over) (s.last_job + 1) s.configuration.wait fits wait)
+    range : (p : Planner) → s.last_job + 1 < 2 ^ 64 → JobRange (length s.world.servers) (job_by s.world s.book c.command p (s.last_job + 1) s.configuration.wait s.configuration.every)
+    range p fits = subst (λ (n : ℕ). JobRange n (job_by s.world s.book c.command p (s.last_job + 1) s.configuration.wait s.configuration.every)) is.names
+        (begun-unended s.world s.book (record { 0 = s.moment }) s.configuration.every c.command p book (given-within (length s.book.names) c over) (destination-within (length s.book.names) c over) (s.last_job + 1) s.configuration.wait fits wait)
 
     asks : NextBy (length s.world.servers) s.last_job (question s.book s.audit s.reads c)
     asks = next-asked (length s.world.servers) s.last_job s.reads (permitted s.book c.command) (lines_of s.book s.audit.recoveries c c.command.name)
@@ -349,8 +349,8 @@ outcome-next s c is book wait command few = by (route_of c.command.name) few
     by (Asks q) few = asks
     by (Decides d) few = next-decided (length s.world.servers) s.last_job s.reads s.audit (permitted s.book c.command) (decided_of s.book s.audit (record { 0 = s.moment }) c.keys c.command.i d)
     by (Begins p) few =
-        next-begun (length s.world.servers) (known_of s) (numbers_of s) (refusal_by s.world s.book (record { 0 = s.moment }) c.command p) (leases_by s.world s.book c.command p) (job_by s.world s.book c.command p (s.last_job + 1) s.configuration.wait)
-        (job-number s.world s.book c.command p (s.last_job + 1) s.configuration.wait) (job-entry s.world s.book c.command p (s.last_job + 1) s.configuration.wait) (range p) few
+        next-begun (length s.world.servers) (known_of s) (numbers_of s) (refusal_by s.world s.book (record { 0 = s.moment }) s.configuration.every c.command p) (leases_by s.world s.book c.command p) (job_by s.world s.book c.command p (s.last_job + 1) s.configuration.wait s.configuration.every)
+        (job-number s.world s.book c.command p (s.last_job + 1) s.configuration.wait s.configuration.every) (job-entry s.world s.book c.command p (s.last_job + 1) s.configuration.wait s.configuration.every) (range p) few
     by Recovers few =
         given (refusal s.reads UnknownInstance) (recovered s.world s.book s.audit s.configuration (numbers_of s)) tt
         (λ i. next-recovery (length s.world.servers) s.last_job (numbers_of s) (told_try s.configuration s.book (recovery_try s.world s.book s.audit (by_hand s.book s.configuration (numbers_of s) i) s.configuration.wait (s.last_job + 1) i))) c.command.i
@@ -411,7 +411,7 @@ outcome-in-time s c is = by (route_of c.command.name)
     by (Asks q) = asks
     by (Decides d) = in-time-decided s.reads s.audit (permitted s.book c.command) (decided_of s.book s.audit (record { 0 = s.moment }) c.keys c.command.i d)
     by (Begins p) =
-        in-time-begun (numbers_of s) (refusal_by s.world s.book (record { 0 = s.moment }) c.command p) (leases_by s.world s.book c.command p) (job_by s.world s.book c.command p (s.last_job + 1) s.configuration.wait)
+        in-time-begun (numbers_of s) (refusal_by s.world s.book (record { 0 = s.moment }) s.configuration.every c.command p) (leases_by s.world s.book c.command p) (job_by s.world s.book c.command p (s.last_job + 1) s.configuration.wait s.configuration.every)
     by Recovers =
         given (refusal s.reads UnknownInstance) (recovered s.world s.book s.audit s.configuration (numbers_of s)) tt
         (λ i. in-time-recovery (numbers_of s) s.configuration s.book (recovery_try s.world s.book s.audit (by_hand s.book s.configuration (numbers_of s) i) s.configuration.wait (s.last_job + 1) i) is.moment

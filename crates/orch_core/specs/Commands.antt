@@ -126,7 +126,7 @@ begun n None list job = record { reply = answered.Begun (n.last_job + 1); book =
 
 -- by the permission table the refusal of the lowest number that applies, and by the plan the job
 abbrev pub begun_by : World → BookState → Numbers → Command → Planner → Outcome
-begun_by w b n c p = begun n (refusal_by w b n.moment c p) (leases_by w b c p) (job_by w b c p (n.last_job + 1) n.wait)
+begun_by w b n c p = begun n (refusal_by w b n.moment n.every c p) (leases_by w b c p) (job_by w b c p (n.last_job + 1) n.wait n.every)
 
 -- ---- a recovery begins
 

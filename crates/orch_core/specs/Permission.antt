@@ -50,7 +50,7 @@ refusal_by w b a by n c Discovers = first_of (unknown_in b c) (unreached w c.i)
 refusal_by w b a by n c Forgets = removal_refusal b c
 refusal_by w b a by n c (Asks question) = unknown_in b c
 refusal_by w b a by n c (Decides decision) = unknown_in b c
-refusal_by w b a by n c (Begins p) = planned_refusal w b n.moment c p
+refusal_by w b a by n c (Begins p) = planned_refusal w b n.moment n.every c p
 refusal_by w b a by n c Recovers = recovery_refused w b a by n c.i
 refusal_by w b a by n c TakesOver = takeover_refused w b a by n c.i c.d
 

@@ -34,7 +34,7 @@ reading s n = reading_by s.world n (next_count s.reads) s.moment
 
 -- the numbers by which a command goes
 abbrev pub numbers_of : State → Numbers
-numbers_of s = record { reads = s.reads; last_job = s.last_job; wait = s.configuration.wait; moment = record { 0 = s.moment } }
+numbers_of s = record { reads = s.reads; last_job = s.last_job; wait = s.configuration.wait; every = s.configuration.every; moment = record { 0 = s.moment } }
 
 -- what a command answers and changes
 abbrev pub command_outcome : State → CommandTurn → Outcome

@@ -44,10 +44,10 @@ loaded_audit s rows = audit_of (period_of s) (last_id rows + 1) (start_rows s ro
 abbrev pub start_changes : Scenario → List Row → List Change
 start_changes s rows = opening_changes (start_world s) (start_moment s rows) (loaded_book s rows) s.known s.rules (loading (period_of s) (start_rows s rows) (loaded_audit s rows) (start_moment s rows))
 
--- what holds throughout the run: a job is to wait at most so many times, the block periods, and whose recoveries may
--- begin by themselves
+-- what holds throughout the run: a job is to wait at most so many times, the distance of marks, the block periods, and
+-- whose recoveries may begin by themselves
 abbrev pub configuration_of : ℕ → Scenario → Configuration
-configuration_of wait s = record { wait = wait; block = s.block; blocks = s.blocks; master = s.filters.master.passes; intermediate = s.filters.intermediate.passes; hooks = s.hooks; aliases = s.aliases }
+configuration_of wait s = record { wait = wait; every = s.pseudo; block = s.block; blocks = s.blocks; master = s.filters.master.passes; intermediate = s.filters.intermediate.passes; hooks = s.hooks; aliases = s.aliases }
 
 -- the state with which the scenario's run begins, by the rows of its keeper: an instance that the opening puts brings
 -- the bridge that it shows where it is valid, and a kept row brings none

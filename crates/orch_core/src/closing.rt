@@ -38,7 +38,9 @@ pub(crate) fn closing_of(job: &Unended, look: &UnendedLook) -> Option<Closing>
     let Unended::Recovery(recovery, docket) = job else {
         return None;
     };
-    let id = docket.entry?;
+    let Some(id) = docket.entry else {
+        return None;
+    };
     let promoted = match look {
         UnendedLook::Recovery(look) => look.promoted(),
         UnendedLook::Plan(_) | UnendedLook::Hook(_, _) => recovery.promoted(),
@@ -88,7 +90,7 @@ fn job_changes(
     observation: Option<&Observation>,
     closing: Option<Closing>,
 ) -> Result<Vec<Change>, Memory>
-    requires { IfSome (option_copied observation.entry) (λ o. o.no.0 < length book.now.names) }
+    requires { IfSome (option_copied observation) (λ o. o.no.0 < length book.now.names) }
     ensures { IfOk result (λ v. v.items ≡ changes_by book.now (option_copied observation.entry)
         ++ closing_changes audit.now.audit now closing) }
 {

@@ -37,6 +37,8 @@ pub(crate) struct Numbers {
     pub(crate) last_job: u64,
     /// At most so many times a job waits.
     pub(crate) wait: u32,
+    /// The distance of marks, 0 for none.
+    pub(crate) every: u64,
     pub(crate) moment: Moment,
 }
 
@@ -319,6 +321,7 @@ fn begin_by(
         command,
         planner,
         numbers.moment,
+        numbers.every,
     ) {
         Ok(()) => {}
         Err(PermitFault::Refused(why)) => return Ok(refused(alloc, numbers.reads, why)),
@@ -338,6 +341,7 @@ fn begin_by(
         planner,
         number,
         numbers.wait,
+        numbers.every,
     )?;
     Ok(Outcome {
         reply: Reply::Begun(number),

@@ -9,6 +9,8 @@ use scenarios::{Aliases, Blocks, Hooks};
 pub struct Configuration {
     /// At most so many times a job waits.
     pub wait: u32,
+    /// Each transaction whose number is divisible by this is a mark (Pseudo-GTID); 0 for no marks.
+    pub every: u64,
     /// The block period in seconds (RecoveryPeriodBlockSeconds).
     pub block: u64,
     /// Clusters with block periods of their own.

@@ -202,6 +202,7 @@ impl Engine {
             reads: self.reads,
             last_job: self.knowledge.last_job,
             wait: self.configuration.wait,
+            every: self.configuration.every,
             moment: self.moment,
         }
     }

@@ -112,6 +112,7 @@ pub(crate) fn configure(alloc: Global, s: &Scenario, wait: u32) -> Result<Config
 {
     Ok(Configuration {
         wait,
+        every: s.pseudo,
         block: s.block,
         blocks: s.blocks.copy(alloc)?,
         master: s.filters.master.passes.copy(alloc)?,

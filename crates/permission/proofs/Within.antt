@@ -1,7 +1,7 @@
 -- Servers that the book names are its servers, where the instances of a command are.
 use Rattle.std.proofs.Common.{◌≡◌, ◌<◌, true, List, [], ◌∷◌, length, Option, Some, None, arith}
 use Rattle.std.specs.Prelude.{All, IfSome, IsTrue, not}
-use Rattle.std.specs.Option.{option_or, option_to_list}
+use Rattle.std.specs.Option.{option_and_then, option_or, option_to_list}
 use Rattle.std.proofs.lemmas.Bool.Decides.{nat_tests}
 use Rattle.std.proofs.lemmas.List.Elements.{All-cons, All-filter, All-nil}
 use Rattle.orch_base.specs.declared.server.ServerNo.{ServerNo}
@@ -16,7 +16,7 @@ use Rattle.book_views.specs.Sources.{is_replica_of, replicas_of, seen_source, so
 use Rattle.book_views.proofs.Reading.{known-below, source-known}
 use Rattle.permission.specs.Checks.{is_given}
 use Rattle.permission.specs.Replicas.{replicas_but, siblings_of, siblings_under}
-use Rattle.permission.specs.Views.{source_of}
+use Rattle.permission.specs.Views.{source_above, source_of}
 
 -- the server that is there is one of the book's
 abbrev pub Within : BookState → Option ServerNo → Type 0
@@ -37,6 +37,14 @@ source-within b n is below = known-in b (seen_source (instance_at b n)) (source-
 pub or-within : (b : BookState) (o p : Option ServerNo) → Within b o → Within b p → Within b (option_or o p)
 or-within b None p at_o at_p = at_p
 or-within b (Some n) p at_o at_p = at_o
+
+-- so is its source's source
+pub above-within : (b : BookState) (n : ServerNo) → IsBook b → n.0 < length b.names → Within b (source_above b n)
+above-within b n is below = go (source_of b n) (source-within b n is below)
+  where
+    go : (o : Option ServerNo) → Within b o → Within b (option_and_then (source_of b) o)
+    go None at = tt
+    go (Some x) at = source-within b x is at
 
 pub given-within : (b : BookState) (o : Option ServerNo) → IsTrue (is_within (length b.names) o) → Within b o
 given-within b None h = tt

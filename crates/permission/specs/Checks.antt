@@ -78,6 +78,10 @@ errant_by (s ∷ xs) = Some (refusal.Errant (s ∷ xs))
 abbrev pub errant : World → BookState → Move → Option Refusal
 errant w b m = errant_by (own_missing (uuid_of w m.no) (set_seen b m.no) (set_seen b m.source))
 
+-- the server that moves has no binary log
+abbrev pub unlogged : World → Move → Option Refusal
+unlogged w m = only_if (not (has_log w m.no)) (refusal.MovedNotLogging m.no)
+
 -- a server's source was seen to have purged the file of the coordinate that was seen of the server
 abbrev pub purged_under : BookState → ServerNo → Option ServerNo → Option Refusal
 purged_under b n None = None
@@ -90,7 +94,8 @@ place_purged b n = purged_under b n (source_of b n)
 abbrev pub set_purged : BookState → Move → Option Refusal
 set_purged b m = only_if (not (is_within (purged_seen b m.source) (set_seen b m.no))) (refusal.Purged m.source (first_seen b m.source))
 
--- the refusal of a check, none where it passes; over several servers that of the first
+-- the refusal of a check, none where it passes; over several servers that of the first. 31 stands in the rows of
+-- scenarios without marks alone.
 abbrev pub refusal_by : World → BookState → Case → Check → Option Refusal
 refusal_by w b c check.SameInstance = only_if (is_given c.i c.to) refusal.SameInstance
 refusal_by w b c check.Busy = first_about (busy b) c.leased
@@ -110,6 +115,8 @@ refusal_by w b c check.GtidOff = only_if (not w.gtid) refusal.GtidOff
 refusal_by w b c check.Errant = first_about (errant w b) c.moves
 refusal_by w b c check.PurgedPlace = first_about (place_purged b) c.crossed
 refusal_by w b c check.PurgedSet = first_about (set_purged b) c.moves
+refusal_by w b c check.PseudoOff = Some refusal.PseudoOff
+refusal_by w b c check.MovedNotLogging = first_about (unlogged w) c.moves
 
 -- the refusal of the first check that doesn't pass; a row has its checks by rising number
 abbrev pub first_refusal : World → BookState → Case → List Check → Option Refusal

@@ -3,7 +3,7 @@
 ghost use Rattle.std.specs.Prelude.{◌≡◌, option_map};
 ghost use Rattle.std.specs.Option.{option_copied};
 ghost use Rattle.server_model.specs.Worlds.{server_at};
-ghost use Rattle.permission.specs.Checks.{of_lower_version, of_other_cluster, of_same_id, without_log};
+ghost use Rattle.permission.specs.Checks.{of_lower_version, of_other_cluster, of_same_id, unlogged, without_log};
 ghost use Rattle.permission.specs.Lists.{first_about};
 ghost use Rattle.permission.specs.Views.{has_log, id_in, label_in, lower_version, same_label, uuid_of, version_in};
 
@@ -129,6 +129,18 @@ pub(crate) fn lower_version(world: &World, moves: &[Move]) -> Option<Refusal>
     for one in moves {
         if is_lower(version(world, one.no), version(world, one.source)) {
             return Some(Refusal::VersionLower(one.no));
+        }
+    }
+    None
+}
+
+/// The first server that moves and doesn't log.
+pub(crate) fn moved_not_logging(world: &World, moves: &[Move]) -> Option<Refusal>
+    ensures { result ≡ first_about (unlogged world.now) moves.now }
+{
+    for one in moves {
+        if !has_log(world, one.no) {
+            return Some(Refusal::MovedNotLogging(one.no));
         }
     }
     None

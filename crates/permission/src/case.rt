@@ -49,6 +49,10 @@ pub enum Check {
     PurgedPlace,
     /// 30: no new source was seen to have purged what wasn't seen of the server that moves.
     PurgedSet,
+    /// 31: transactions are marked. This check never passes: it stands in the rows of scenarios without marks alone.
+    PseudoOff,
+    /// 32: each server that moves writes a binary log.
+    MovedNotLogging,
 }
 
 /// A server that moves, and its new source.

@@ -14,7 +14,9 @@ use crate::by_book::{
     attached_to, below, busy, first_place_purged, first_set_purged, is_attached, is_detached,
     is_instance, set_seen, source, unreached,
 };
-use crate::by_settings::{lower_version, not_logging, other_cluster, same_id, uuid};
+use crate::by_settings::{
+    lower_version, moved_not_logging, not_logging, other_cluster, same_id, uuid,
+};
 use crate::case::{Case, Check, Move};
 use crate::movers::Movers;
 use commands::{BoxedSet, Command, Refusal, unknown_instance};
@@ -175,6 +177,8 @@ fn refusal_by(
         Check::Errant => first_errant(alloc, book, world, &case.moves)?,
         Check::PurgedPlace => first_place_purged(book, &case.crossed),
         Check::PurgedSet => first_set_purged(alloc, book, &case.moves),
+        Check::PseudoOff => Some(Refusal::PseudoOff),
+        Check::MovedNotLogging => moved_not_logging(world, &case.moves),
     })
 }
 

@@ -12,7 +12,7 @@ use Rattle.operations.specs.Named.{are_named, is_named}
 use Rattle.operations.specs.Plans.{again, auto, finished, swap, under, up}
 use Rattle.operations.specs.declared.op.Op.{Op}
 use Rattle.operations.specs.declared.op.Op.TheVariants.{Finish}
-use Rattle.plan_parts.specs.Parts.{again_auto, autos, unders, ups}
+use Rattle.plan_parts.specs.Parts.{again_auto, autos, matching, matchings, unders, ups}
 
 pub below-test : (n count : ℕ) → n < count → nat_lt n count ≡ true
 below-test n count h = grind (arith, nat_tests)
@@ -62,3 +62,9 @@ module _ (count : ℕ) where
 
   pub autos-named : (rs : List ServerNo) (d : ServerNo) → All Below rs → Below d → are_named count (autos rs d) ≡ true
   autos-named rs d below at_d = each-named (λ r. auto r d) (λ r at_r. auto-named r d at_r at_d) rs below
+
+  pub matching-named : (r d : ServerNo) (every : ℕ) → Below r → are_named count (matching r d every) ≡ true
+  matching-named r d every at_r = let hr = below-test r.0 count at_r in simp (hr) refl
+
+  pub matchings-named : (rs : List ServerNo) (d : ServerNo) (every : ℕ) → All Below rs → are_named count (matchings rs d every) ≡ true
+  matchings-named rs d every below = each-named (λ r. matching r d every) (λ r at_r. matching-named r d every at_r) rs below

@@ -1,11 +1,11 @@
--- Parts of plans beside those of one replica: for several replicas one after another, and for GTIDs.
-use Rattle.std.specs.Prelude.{List, [], ◌∷◌, map, Some, None}
+-- Parts of plans beside those of one replica: for several replicas one after another, for GTIDs, and for logs that match.
+use Rattle.std.specs.Prelude.{ℕ, List, [], ◌∷◌, map, Some, None}
 use Rattle.std.specs.List.{flat_map}
 use Rattle.orch_base.specs.declared.server.ServerNo.{ServerNo}
 use Rattle.commands.specs.declared.line.Line.{Line}
 use Rattle.commands.specs.declared.line.Line.TheVariants.{Follows}
 use Rattle.operations.specs.declared.op.Op.{Op}
-use Rattle.operations.specs.declared.op.Op.TheVariants.{Auto, Start, Status, Stop}
+use Rattle.operations.specs.declared.op.Op.TheVariants.{Auto, CrossMatch, Match, Start, Status, Stop}
 use Rattle.operations.specs.Plans.{auto, under, up}
 
 -- replicas of i, which is below x, go to x
@@ -27,3 +27,11 @@ following replicas source = map (λ r. Follows r source) replicas
 -- i finds its place under its source x by what was executed, from now on
 abbrev pub again_auto : ServerNo → ServerNo → List Op
 again_auto i x = Stop i ∷ Status i (Some x) ∷ Status x None ∷ Auto i x ∷ Start i ∷ Status i None ∷ []
+
+-- r goes below d, where its log matches that of d by marks of this distance
+abbrev pub matching : ServerNo → ServerNo → ℕ → List Op
+matching r d every = Stop r ∷ Status r None ∷ Match r d every ∷ CrossMatch r d ∷ Start r ∷ Status r None ∷ []
+
+-- replicas go below d, where their logs match
+abbrev pub matchings : List ServerNo → ServerNo → ℕ → List Op
+matchings replicas d every = flat_map (λ r. matching r d every) replicas

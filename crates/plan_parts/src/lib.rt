@@ -6,7 +6,7 @@ mod lists;
 mod parts;
 
 pub use ends::{finished, following, moved, moved_each, told};
-pub use lists::{autos, unders, ups};
+pub use lists::{autos, matchings, unders, ups};
 /// Want of memory.
 pub use orch_base::Memory;
-pub use parts::{again, again_auto, asking, auto, restarted, swap, under, up};
+pub use parts::{again, again_auto, asking, auto, matching, restarted, swap, under, up};

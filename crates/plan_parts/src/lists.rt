@@ -1,10 +1,10 @@
 //! The parts of several replicas, one after another.
 
 ghost use Rattle.std.specs.Prelude.{◌≡◌, IfOk};
-ghost use Rattle.plan_parts.specs.Parts.{autos, unders, ups};
+ghost use Rattle.plan_parts.specs.Parts.{autos, matchings, unders, ups};
 
 use crate::Memory;
-use crate::parts::{auto, under, up};
+use crate::parts::{auto, matching, under, up};
 use operations::Op;
 use orch_base::ServerNo;
 use std::alloc::Global;
@@ -48,6 +48,22 @@ pub fn autos(alloc: Global, replicas: &[ServerNo], d: ServerNo) -> Result<Vec<Op
     let mut ops = Vec::new(alloc);
     for r in replicas {
         ops.append(&mut auto(alloc, *r, d)?)?;
+    }
+    Ok(ops)
+}
+
+/// Replicas go below `d`, where their logs match that of `d` by marks of this distance.
+pub fn matchings(
+    alloc: Global,
+    replicas: &[ServerNo],
+    d: ServerNo,
+    every: u64,
+) -> Result<Vec<Op>, Memory>
+    ensures { IfOk result (λ ops. ops.items ≡ matchings replicas.now d every) }
+{
+    let mut ops = Vec::new(alloc);
+    for r in replicas {
+        ops.append(&mut matching(alloc, *r, d, every)?)?;
     }
     Ok(ops)
 }

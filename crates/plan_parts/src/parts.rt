@@ -2,7 +2,7 @@
 
 ghost use Rattle.std.specs.Prelude.{◌≡◌, ◌∷◌, [], IfOk, None};
 ghost use Rattle.operations.specs.Plans.{again, asking, auto, swap, under, up};
-ghost use Rattle.plan_parts.specs.Parts.{again_auto};
+ghost use Rattle.plan_parts.specs.Parts.{again_auto, matching};
 
 use crate::Memory;
 use operations::{Aim, Crossing, Op};
@@ -90,6 +90,20 @@ pub fn again_auto(alloc: Global, i: ServerNo, x: ServerNo) -> Result<Vec<Op>, Me
         Op::Auto(i, x),
         Op::Start(i),
         Op::Status(i, None),
+    ]?)
+}
+
+/// `r` goes below `d`, where its log matches that of `d` by marks of this distance.
+pub fn matching(alloc: Global, r: ServerNo, d: ServerNo, every: u64) -> Result<Vec<Op>, Memory>
+    ensures { IfOk result (λ ops. ops.items ≡ matching r d every) }
+{
+    Ok(vec![in alloc;
+        Op::Stop(r),
+        Op::Status(r, None),
+        Op::Match(r, d, every),
+        Op::CrossMatch(r, d),
+        Op::Start(r),
+        Op::Status(r, None),
     ]?)
 }
 

@@ -1,15 +1,18 @@
 //! Which replicas may be promoted.
 
-ghost use Rattle.std.specs.Prelude.{◌≡◌};
+ghost use Rattle.std.specs.Prelude.{◌≡◌, IfOk};
 ghost use Rattle.std.specs.List.{list_any};
 ghost use Rattle.instance_keeper.specs.Book.{rule_at};
 ghost use Rattle.promotion_rules.specs.Choice.{is_barred};
-ghost use Rattle.promotion_candidates.specs.Candidates.{is_candidate};
+ghost use Rattle.promotion_candidates.specs.Candidates.{is_candidate, without_candidate};
 
+use book_views::replicas;
+use commands::Refusal;
 use instance_keeper::Book;
-use orch_base::{Moment, Rule, ServerNo};
+use orch_base::{Memory, Moment, Rule, ServerNo};
 use permission::{has_log, is_valid};
 use server_model::World;
+use std::alloc::Global;
 
 // A number that no server has has no registration.
 fn rule(book: &Book, no: ServerNo, now: Moment) -> Rule
@@ -44,4 +47,21 @@ pub fn has_candidate(book: &Book, world: &World, servers: &[ServerNo], now: Mome
     ensures { result ≡ list_any (is_candidate world.now book.now now) servers.now }
 {
     servers.iter().any(|no| is_candidate(book, world, *no, now))
+}
+
+/// `NoCandidate`, exactly where none of a server's replicas may be promoted at a moment. `Err` is want of memory.
+pub fn without_candidate(
+    alloc: Global,
+    book: &Book,
+    world: &World,
+    i: ServerNo,
+    now: Moment,
+) -> Result<Option<Refusal>, Memory>
+    ensures { IfOk result (λ r. r ≡ without_candidate world.now book.now now i) }
+{
+    if has_candidate(book, world, &replicas(alloc, book, i)?, now) {
+        Ok(None)
+    } else {
+        Ok(Some(Refusal::NoCandidate))
+    }
 }

@@ -3,4 +3,6 @@
 
 mod candidates;
 
-pub use candidates::{has_candidate, is_candidate};
+pub use candidates::{has_candidate, is_candidate, without_candidate};
+/// Want of memory.
+pub use orch_base::Memory;

@@ -25,6 +25,7 @@ use Rattle.permission.specs.Lists.{first_about, first_of, only_if}
 use Rattle.permission.specs.Views.{attached_in, attached_of, source_of}
 use Rattle.permission.proofs.Free.{free-list, neither}
 use Rattle.permission.proofs.Within.{replicas-within, source-within}
+use Rattle.recovery_plans.specs.declared.means.Means.TheVariants as means
 use Rattle.recovery_plans.specs.declared.purpose.Purpose.TheVariants as purpose
 use Rattle.recovery_plans.specs.Named.{IsListOf}
 use Rattle.recovery_plans.proofs.Begun.{begun-of}
@@ -159,7 +160,7 @@ module _ (w : World) (b : BookState) (audit : AuditState) (a : Attempt) (wait la
     list = refl;
     listed = source-listed (IsListed (recovery_list b f)) IsThere f (source_of b f) (source-within b f is within);
     fresh = refl;
-    named = begun-of IsThere IsThere (recovery_purpose b f) (last + 1) wait f (replicas_of b f) (replicas_of b f) (replicas-within b f) within
+    named = begun-of IsThere IsThere (recovery_purpose b f) means.Bridges (last + 1) wait f (replicas_of b f) (replicas_of b f) (replicas-within b f) within
         (source-listed IsThere IsThere f (source_of b f) (source-within b f is within));
     number = refl;
     may = record { answered = recovery-may b audit a f w free; short = short };
@@ -177,7 +178,7 @@ module _ (w : World) (b : BookState) (audit : AuditState) (a : Attempt) (wait la
     list = refl;
     listed = (head-listed i (replicas_of b i), designated-listed b i d there (attached-then w b audit a i d free));
     fresh = refl;
-    named = begun-of IsThere IsThere (purpose.Takeover d) (last + 1) wait i (replicas_of b i) (followers_of b i d) (replicas-within b i) within (within, there);
+    named = begun-of IsThere IsThere (purpose.Takeover d) means.Bridges (last + 1) wait i (replicas_of b i) (followers_of b i d) (replicas-within b i) within (within, there);
     number = refl;
     may = record { answered = takeover-may b audit a i w d free; short = short };
     failed = refl;

@@ -16,7 +16,7 @@ IsListed list n = list_any (λ k. k.0 == n) list ≡ true
 
 -- a recovery is as it begins, of some servers for some purpose
 abbrev pub IsFresh : Recovery → Type 0
-IsFresh r = r ≡ begun_recovery r.purpose r.core.id r.core.wait r.failed r.replicas r.order
+IsFresh r = r ≡ begun_recovery r.purpose r.means r.core.id r.core.wait r.failed r.replicas r.order
 
 -- A recovery can begin over so many servers, on these leases and this audit, after the job of this number: its list has
 -- the failed server, its replicas and what its purpose lets it change, of which nobody has a lease; its entry has no

@@ -14,6 +14,7 @@ use Rattle.audit_log.specs.Audits.{AuditState}
 use Rattle.permission.specs.Views.{source_of}
 use Rattle.recovery_plans.specs.Beginning.{begun_recovery}
 use Rattle.recovery_plans.specs.Recoveries.{Recovery}
+use Rattle.recovery_plans.specs.declared.means.Means.TheVariants as means
 use Rattle.recovery_plans.specs.declared.purpose.Purpose.TheVariants as purpose
 use Rattle.recovery_hooks.specs.Runs.{HookState}
 use Rattle.recovery_permits.specs.declared.attempt.Attempt.{Attempt}
@@ -57,7 +58,7 @@ recovery_kind b f = kind_by (source_of b f)
 abbrev pub recovery_begins : BookState → AuditState → Moment → ℕ → ℕ → ℕ → ServerNo → Begins
 recovery_begins b audit now block wait job f = record {
   list = recovery_list b f;
-  job = begun_recovery (recovery_purpose b f) job wait f (replicas_of b f) (replicas_of b f);
+  job = begun_recovery (recovery_purpose b f) means.Bridges job wait f (replicas_of b f) (replicas_of b f);
   entry = entry_of b audit now block (recovery_kind b f) f;
   code = code_at b f;
   hooks = None;
@@ -67,7 +68,7 @@ recovery_begins b audit now block wait job f = record {
 abbrev pub takeover_begins : BookState → AuditState → Moment → ℕ → ℕ → ℕ → ServerNo → ServerNo → Begins
 takeover_begins b audit now block wait job i d = record {
   list = recovery_list b i;
-  job = begun_recovery (purpose.Takeover d) job wait i (replicas_of b i) (followers_of b i d);
+  job = begun_recovery (purpose.Takeover d) means.Bridges job wait i (replicas_of b i) (followers_of b i d);
   entry = entry_of b audit now block kind.Takeover i;
   code = None;
   hooks = None;

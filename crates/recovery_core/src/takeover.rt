@@ -13,7 +13,7 @@ use book_views::replicas;
 use instance_keeper::Book;
 use orch_base::{Kind, Moment, ServerNo};
 use recovery_permits::{Attempt, followers_of, permit_takeover, recovery_servers};
-use recovery_plans::Purpose;
+use recovery_plans::{Means, Purpose};
 use recovery_turns::RecoveryJob;
 use server_model::World;
 use std::alloc::Global;
@@ -39,7 +39,16 @@ fn takeover_begins(
     let list = recovery_servers(alloc, book, i)?;
     let replicas = replicas(alloc, book, i)?;
     let order = followers_of(alloc, book, i, d)?;
-    let job = RecoveryJob::make(alloc, Purpose::Takeover(d), job, wait, i, replicas, order)?;
+    let job = RecoveryJob::make(
+        alloc,
+        Purpose::Takeover(d),
+        Means::Bridges,
+        job,
+        wait,
+        i,
+        replicas,
+        order,
+    )?;
     Ok(Begun::new(list, job, entry, None))
 }
 

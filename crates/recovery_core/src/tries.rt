@@ -17,6 +17,7 @@ use instance_keeper::{Book, Recovery};
 use orch_base::{Code, Ending, Kind, Moment, ServerNo};
 use permission::source;
 use recovery_permits::{Attempt, permit_recovery, recovery_purpose, recovery_servers};
+use recovery_plans::Means;
 use recovery_turns::RecoveryJob;
 use server_model::World;
 use std::alloc::Global;
@@ -96,7 +97,16 @@ pub(crate) fn recovery_begins(
     )?;
     let purpose = recovery_purpose(book, failed);
     let order = replicas.to_vec(alloc)?;
-    let job = RecoveryJob::make(alloc, purpose, job, wait, failed, replicas, order)?;
+    let job = RecoveryJob::make(
+        alloc,
+        purpose,
+        Means::Bridges,
+        job,
+        wait,
+        failed,
+        replicas,
+        order,
+    )?;
     Ok(Begun::new(list, job, entry, code))
 }
 

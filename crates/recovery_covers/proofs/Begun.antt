@@ -14,6 +14,7 @@ use Rattle.job_laws.proofs.Others.{unleased-run}
 use Rattle.recovery_plans.specs.declared.outcome.Follower.{Follower}
 use Rattle.recovery_plans.specs.declared.outcome.LostReplica.{LostReplica}
 use Rattle.recovery_plans.specs.declared.outcome.Stopped.{Stopped}
+use Rattle.recovery_plans.specs.declared.means.Means.{Means}
 use Rattle.recovery_plans.specs.declared.purpose.Purpose.{Purpose}
 use Rattle.recovery_plans.specs.declared.purpose.Purpose.TheVariants as purpose
 use Rattle.recovery_plans.specs.declared.task.Task.{Task}
@@ -88,7 +89,7 @@ but-times n d ns once =
 
 -- ---- recoveries that begin
 
-module _ (w : World) (id wait : ℕ) (f : ServerNo) (ns order : List ServerNo) where
+module _ (w : World) (by : Means) (id wait : ℕ) (f : ServerNo) (ns order : List ServerNo) where
   none-drained : All (λ (d : Stopped). IsSourced w d.no.0) []
   none-drained = All-nil (λ (d : Stopped). IsSourced w d.no.0)
 
@@ -101,7 +102,7 @@ module _ (w : World) (id wait : ℕ) (f : ServerNo) (ns order : List ServerNo) w
   none-apart : All (λ (l : LostReplica). l.detached ≡ true → IsApart w l.no.0) []
   none-apart = All-nil (λ (l : LostReplica). l.detached ≡ true → IsApart w l.no.0)
 
-  pub begun-covers : (u : Purpose) → AreReplicas u f ns → CoversSoFar w (begun_recovery u id wait f ns order)
+  pub begun-covers : (u : Purpose) → AreReplicas u f ns → CoversSoFar w (begun_recovery u by id wait f ns order)
   begun-covers purpose.Regroup a = record {
     at = record {
       replicas = a;
@@ -113,7 +114,7 @@ module _ (w : World) (id wait : ℕ) (f : ServerNo) (ns order : List ServerNo) w
       lead = tt;
       leads = inl refl;
       drained = none-drained;
-      queue = draining-all task.Choosing (Awaits w (begun_recovery purpose.Regroup id wait f ns order)) ns (λ n. tt) tt tt;
+      queue = draining-all task.Choosing (Awaits w (begun_recovery purpose.Regroup by id wait f ns order)) ns (λ n. tt) tt tt;
       stage = tt;
       attached = none-attached;
       follow = All-nil (FollowsBy None None);
@@ -134,7 +135,7 @@ module _ (w : World) (id wait : ℕ) (f : ServerNo) (ns order : List ServerNo) w
       lead = tt;
       leads = inl refl;
       drained = none-drained;
-      queue = draining-all task.Choosing (Awaits w (begun_recovery purpose.Master id wait f ns order)) ns (λ n. tt) tt tt;
+      queue = draining-all task.Choosing (Awaits w (begun_recovery purpose.Master by id wait f ns order)) ns (λ n. tt) tt tt;
       stage = tt;
       attached = none-attached;
       follow = All-nil (FollowsBy None None);
@@ -156,8 +157,8 @@ module _ (w : World) (id wait : ℕ) (f : ServerNo) (ns order : List ServerNo) w
       leads = inl refl;
       drained = none-drained;
       queue =
-          All-cons (Awaits w (begun_recovery (purpose.Intermediate s) id wait f ns order)) (task.Reading s) _ tt
-          (draining-all task.Handing (Awaits w (begun_recovery (purpose.Intermediate s) id wait f ns order)) ns (λ n. tt) refl tt);
+          All-cons (Awaits w (begun_recovery (purpose.Intermediate s) by id wait f ns order)) (task.Reading s) _ tt
+          (draining-all task.Handing (Awaits w (begun_recovery (purpose.Intermediate s) by id wait f ns order)) ns (λ n. tt) refl tt);
       stage = tt;
       attached = none-attached;
       follow = All-nil (FollowsBy (Some s) (Some s));
@@ -178,7 +179,7 @@ module _ (w : World) (id wait : ℕ) (f : ServerNo) (ns order : List ServerNo) w
       lead = tt;
       leads = inl refl;
       drained = none-drained;
-      queue = trailing-all (Awaits w (begun_recovery (purpose.Takeover d) id wait f ns order)) (but ns d) (λ n. refl) refl;
+      queue = trailing-all (Awaits w (begun_recovery (purpose.Takeover d) by id wait f ns order)) (but ns d) (λ n. refl) refl;
       stage = record { takeover = refl; failed = refl; chosen = refl };
       attached = none-attached;
       follow = All-nil (FollowsBy (Some d) (Some d));

@@ -12,6 +12,8 @@ use Rattle.instance_keeper.specs.Book.{BookState}
 use Rattle.replica_groups.specs.declared.groups.Group.{Group}
 use Rattle.replica_groups.specs.declared.groups.Group.TheVariants as group
 use Rattle.replica_groups.specs.Groups.{group_of}
+use Rattle.recovery_plans.specs.declared.means.Means.{Means}
+use Rattle.recovery_plans.specs.declared.means.Means.TheVariants as means
 use Rattle.recovery_plans.specs.declared.outcome.Follower.{Follower}
 use Rattle.recovery_plans.specs.declared.outcome.LostReplica.{LostReplica}
 use Rattle.recovery_plans.specs.declared.outcome.Stopped.{Stopped}
@@ -25,7 +27,7 @@ use Rattle.recovery_plans.specs.Beginning.{first_source}
 use Rattle.recovery_plans.specs.Recoveries.{Recovery}
 use Rattle.recovery_plans.specs.Stages.{target}
 use Rattle.recovery_plans.specs.Deciding as deciding
-use Rattle.recovery_plans.specs.Deciding.{Lot, chosen_of, lot_by_group, lot_of, move_of, stay_of, moves_in, losses_in, own_end_of, without_stopped, choose, expels}
+use Rattle.recovery_plans.specs.Deciding.{Lot, chosen_of, lot_by, lot_by_group, move_of, stay_of, moves_in, losses_in, own_end_of, without_stopped, choose, expels}
 use Rattle.recovery_plans.proofs.Choices.{All-chosen}
 use Rattle.standing_laws.specs.Standing.{IsSourced, IsApart}
 use Rattle.recovery_covers.specs.Covers.{times, lost_nos, listed, owed, leader}
@@ -63,8 +65,9 @@ abbrev pub IsLotOf : ServerNo → Lot → Type 0
 IsLotOf p (deciding.Goes by) = target by ≡ p
 IsLotOf p (deciding.Stays why) = Unit {0}
 
-pub lot-is : (w : World) (b : BookState) (f : ServerNo) (p s : Stopped) → IsLotOf p.no (lot_of w b f p s)
-lot-is w b f p s = go w.gtid
+pub lot-is : (m : Means) (w : World) (b : BookState) (f : ServerNo) (p s : Stopped) → IsLotOf p.no (lot_by m w b f p s)
+lot-is (means.Matches every) w b f p s = refl
+lot-is means.Bridges w b f p s = go w.gtid
   where
     by-group : (g : Group) → IsLotOf p.no (lot_by_group p.no f s g)
     by-group (group.Follow at) = refl
@@ -152,10 +155,10 @@ module _ (f : ServerNo) (lot : Stopped → Lot) where
 
 module _ (w : World) (b : BookState) (now : Moment) (r : Recovery) (ts : List Task) (c : CoversAt w (record r { queue = task.Choosing ∷ ts }) stage.Idle) (p : Stopped) (is : chosen_of w b now r.failed r.drained ≡ Some p) where
   abbrev lot : Stopped → Lot
-  lot = lot_of w b r.failed p
+  lot = lot_by r.means w b r.failed p
 
-  each : (s : Stopped) → IsLotOf p.no (lot_of w b r.failed p s)
-  each s = lot-is w b r.failed p s
+  each : (s : Stopped) → IsLotOf p.no (lot_by r.means w b r.failed p s)
+  each s = lot-is r.means w b r.failed p s
 
   abbrev rest : List Stopped
   rest = without_stopped r.drained p.no

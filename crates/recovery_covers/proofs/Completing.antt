@@ -9,8 +9,8 @@ use Rattle.orch_base.specs.declared.server.ServerNo.{ServerNo}
 use Rattle.orch_base.specs.declared.server.SourceState.{SourceState}
 use Rattle.orch_base.specs.declared.server.SourceState.TheVariants.{Without, Attached, Detached}
 use Rattle.server_model.specs.Worlds.{World, source_no, has_source}
-use Rattle.commands.specs.declared.line.Lost.{Lost}
-use Rattle.commands.specs.declared.line.Lost.TheVariants as lost
+use Rattle.recovery_plans.specs.declared.why.Why.{Why}
+use Rattle.recovery_plans.specs.Whys as lost
 use Rattle.instance_keeper.specs.declared.bridge.Bridge.{Bridge}
 use Rattle.operations.specs.declared.op.Op.{Op}
 use Rattle.operations.specs.declared.op.Op.TheVariants as op
@@ -65,7 +65,7 @@ module _ (w : World) where
 
   -- ---- one more is lost
 
-  pub lose-covers : (r : Recovery) (s s' : Stage) (n : ServerNo) (why : Lost) (core : Job) → CoversAt w r s → of_stage s ≡ n ∷ [] → of_stage s' ≡ [] → is_late s ≡ false
+  pub lose-covers : (r : Recovery) (s s' : Stage) (n : ServerNo) (why : Why) (core : Job) → CoversAt w r s → of_stage s ≡ n ∷ [] → of_stage s' ≡ [] → is_late s ≡ false
       → (expels r.purpose (Some why) ≡ true → IsSourced w n.0) → Stands w (record (loses r n why) { stage = s'; core = core }) s' → CoversAt w (record (loses r n why) { stage = s'; core = core }) s'
   lose-covers r s s' n why core c same none late sourced stands = record {
     replicas = c.replicas;
@@ -97,48 +97,48 @@ module _ (w : World) where
   }
 
   -- it is left, or started
-  pub left-covers : (r : Recovery) (s : Stage) (n : ServerNo) (why : Lost) → CoversAt w r s → of_stage s ≡ n ∷ [] → is_late s ≡ false → (expels r.purpose (Some why) ≡ true → IsSourced w n.0)
+  pub left-covers : (r : Recovery) (s : Stage) (n : ServerNo) (why : Why) → CoversAt w r s → of_stage s ≡ n ∷ [] → is_late s ≡ false → (expels r.purpose (Some why) ≡ true → IsSourced w n.0)
       → CoversSoFar w (idle (loses r n why))
   left-covers r s n why c same late sourced = at-rest w (idle (loses r n why)) refl (lose-covers r s stage.Idle n why r.core c same refl late sourced tt)
 
-  pub freed-covers : (r : Recovery) (s : Stage) (n : ServerNo) (why : Lost) → CoversAt w r s → of_stage s ≡ n ∷ [] → is_late s ≡ false → (expels r.purpose (Some why) ≡ true → IsSourced w n.0)
+  pub freed-covers : (r : Recovery) (s : Stage) (n : ServerNo) (why : Why) → CoversAt w r s → of_stage s ≡ n ∷ [] → is_late s ≡ false → (expels r.purpose (Some why) ≡ true → IsSourced w n.0)
       → CoversSoFar w (frees r n why)
   freed-covers r s n why c same late sourced =
       so-far w (frees r n why) (stage.Release n) (op.Start n) [] refl refl (λ m by h. cc)
       (lose-covers r s (stage.Release n) n why (record r.core { ops = op.Start n ∷ []; waited = 0 }) c same refl late sourced tt)
 
-  expels-unreachable : (u : Purpose) → expels u (Some lost.Unreachable) ≡ false
+  expels-unreachable : (u : Purpose) → expels u (Some lost.unreachable) ≡ false
   expels-unreachable purpose.Regroup = refl
   expels-unreachable purpose.Master = refl
   expels-unreachable (purpose.Intermediate s) = refl
   expels-unreachable (purpose.Takeover d) = refl
 
-  expels-moved : (u : Purpose) (x : _) → expels u (Some (lost.Moved x)) ≡ false
+  expels-moved : (u : Purpose) (x : _) → expels u (Some (lost.moved x)) ≡ false
   expels-moved purpose.Regroup x = refl
   expels-moved purpose.Master x = refl
   expels-moved (purpose.Intermediate s) x = refl
   expels-moved (purpose.Takeover d) x = refl
 
-  pub unreached : (u : Purpose) (n : ℕ) → expels u (Some lost.Unreachable) ≡ true → IsSourced w n
+  pub unreached : (u : Purpose) (n : ℕ) → expels u (Some lost.unreachable) ≡ true → IsSourced w n
   unreached u n h = absurd (false≢true (sym (expels-unreachable u) ∙ h))
 
   -- ---- a replica that was stopped and read
 
   -- where it isn't below the failed server it stays as it is
-  stray-leaves : (u : Purpose) (f : ServerNo) (o : Option Position) (why : Lost) → by.stray f o ≡ Some why → expels u (Some why) ≡ false
-  stray-leaves u f None why h = subst (λ (y : Lost). expels u (Some y) ≡ false) (same_Some lost.Unreachable why h) (expels-unreachable u)
+  stray-leaves : (u : Purpose) (f : ServerNo) (o : Option Position) (why : Why) → by.stray f o ≡ Some why → expels u (Some why) ≡ false
+  stray-leaves u f None why h = subst (λ (y : Why). expels u (Some y) ≡ false) (same_Some lost.unreachable why h) (expels-unreachable u)
   stray-leaves u f (Some s) why h = go (is_below s f) h
     where
-      go : (a : Bool) → cond a None (Some (lost.Moved (spot_seen s.source s.exec))) ≡ Some why → expels u (Some why) ≡ false
+      go : (a : Bool) → cond a None (Some (lost.moved (spot_seen s.source s.exec))) ≡ Some why → expels u (Some why) ≡ false
       go true e = cc
-      go false e = subst (λ (y : Lost). expels u (Some y) ≡ false) (same_Some (lost.Moved (spot_seen s.source s.exec)) why e) (expels-moved u (spot_seen s.source s.exec))
+      go false e = subst (λ (y : Why). expels u (Some y) ≡ false) (same_Some (lost.moved (spot_seen s.source s.exec)) why e) (expels-moved u (spot_seen s.source s.exec))
 
   -- else it was seen there
   not-stray : (f : ServerNo) (o : Option Position) → by.stray f o ≡ None → (s : Position) × (o ≡ Some s) × (is_below s f ≡ true)
   not-stray f None h = cc
   not-stray f (Some s) h = (s, refl, go (is_below s f) refl h)
     where
-      go : (a : Bool) → is_below s f ≡ a → cond a None (Some (lost.Moved (spot_seen s.source s.exec))) ≡ None → is_below s f ≡ true
+      go : (a : Bool) → is_below s f ≡ a → cond a None (Some (lost.moved (spot_seen s.source s.exec))) ≡ None → is_below s f ≡ true
       go true e h = e
       go false e h = cc
 

@@ -14,6 +14,8 @@ use Rattle.recovery_plans.specs.declared.purpose.Purpose.{Purpose}
 use Rattle.recovery_plans.specs.declared.purpose.Purpose.TheVariants as purpose
 use Rattle.recovery_plans.specs.declared.stage.Stage.{Stage}
 use Rattle.recovery_plans.specs.declared.stage.Stage.TheVariants as stage
+use Rattle.recovery_plans.specs.declared.task.Way.{Way}
+use Rattle.recovery_plans.specs.declared.task.Way.TheVariants as way
 use Rattle.recovery_plans.specs.declared.task.Task.{Task}
 use Rattle.recovery_plans.specs.declared.task.Task.TheVariants as task
 use Rattle.recovery_plans.specs.Beginning.{is_master}
@@ -167,7 +169,7 @@ restaged w r s s' core c same late stands = carried w w r s s' core c same late 
 abbrev pub is_seen : Stage → Bool
 is_seen (stage.Judged n) = true
 is_seen (stage.Looked n b) = true
-is_seen (stage.Move n by) = true
+is_seen (stage.Move n (way.Up b)) = true
 is_seen s = false
 
 module _ (w w' : World) (r : Recovery) (core : Job) (keeps : (n : ℕ) → 0 < times n (owed r.purpose r.failed r.replicas) → Stays w w' n) where
@@ -191,13 +193,19 @@ module _ (w w' : World) (r : Recovery) (core : Job) (keeps : (n : ℕ) → 0 < t
   as-seen n same st h =
       subst (λ (xs : List Sight). IsSourcedAsSeen w' xs n) (sym same) (λ x e b. Sourced-keeps w w' n.0 (Stays-keeps w w' n.0 st) (h x e b))
 
+  reads-on : (n : ServerNo) (by : Way) → (is_seen (stage.Move n by) ≡ true → core.seen ≡ r.core.seen) → Reads r.core.seen by → Reads core.seen by
+  reads-on n (way.Down b) seen h = tt
+  reads-on n (way.Up b) seen h = subst (λ (xs : List Sight). Reads xs (way.Up b)) (sym (seen refl)) h
+  reads-on n (way.Auto to exec) seen h = tt
+  reads-on n (way.Match to exec every) seen h = tt
+
   stands-on : (s0 s : Stage) → CoversAt w r s → (is_seen s ≡ true → core.seen ≡ r.core.seen) → Stands w r s → Stands w' (record r { stage = s0; core = core }) s
   stands-on s0 (stage.Drain n) c seen h = h
   stands-on s0 (stage.Judged n) c seen h = (h.0, as-seen n (seen refl) (placed-keeps (stage.Judged n) c n [] refl) h.1)
   stands-on s0 (stage.Move n by) c seen h = (
     h.0,
     Sourced-keeps w w' n.0 (Stays-keeps w w' n.0 (placed-keeps (stage.Move n by) c n [] refl)) h.1,
-    subst (λ (xs : List Sight). Reads xs by) (sym (seen refl)) h.2,
+    reads-on n by seen h.2,
   )
   stands-on s0 (stage.Join n p) c seen h = (h.0, Under-keeps w w' n.0 p.0 (Stays-keeps w w' n.0 (placed-keeps (stage.Join n p) c n [] refl)) h.1)
   stands-on s0 (stage.Expel n) c seen h = (h.0, Sourced-keeps w w' n.0 (Stays-keeps w w' n.0 (lost-keeps (stage.Expel n) c n.0 h.0)) h.1)

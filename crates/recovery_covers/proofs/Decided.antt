@@ -19,7 +19,7 @@ use Rattle.recovery_plans.specs.declared.stage.Stage.{Stage}
 use Rattle.recovery_plans.specs.declared.stage.Stage.TheVariants as stage
 use Rattle.recovery_plans.specs.declared.task.Task.{Task}
 use Rattle.recovery_plans.specs.declared.task.Task.TheVariants as task
-use Rattle.recovery_plans.specs.declared.task.Way.{Way}
+use Rattle.recovery_plans.specs.declared.task.Way.TheVariants as way
 use Rattle.recovery_plans.specs.Beginning.{first_source, is_master}
 use Rattle.recovery_plans.specs.Recoveries.{Recovery, working}
 use Rattle.recovery_plans.specs.Stages.{level, tail_of}
@@ -35,7 +35,7 @@ use Rattle.recovery_covers.specs.SoFar.{of_task, of_queue, of_stage, chooses, de
 use Rattle.recovery_covers.proofs.Times.{one, times-append, self-all}
 use Rattle.recovery_covers.proofs.Covering.{queue-as}
 use Rattle.recovery_covers.proofs.Chosen.{unnamed, unnamed-apart, chosen-covers}
-use Rattle.recovery_covers.proofs.Handed.{way-reads, handed-over, hands-covers, leaves-covers}
+use Rattle.recovery_covers.proofs.Handed.{ops_in, some-op, way-reads, handed-over, hands-covers, leaves-covers}
 
 -- without an operation, a task and a new source
 pub record IsStuck (r : Recovery) : Type 0 where
@@ -193,7 +193,7 @@ module _ (w : World) where
   }
 
   -- a stage that is no move begins with operations
-  pub so-far : (r : Recovery) (s : Stage) (x : Op) (xs : List Op) → r.stage ≡ s → r.core.ops ≡ x ∷ xs → ((n : ServerNo) (by : Way) → s ≡ stage.Move n by → ⊥) → CoversAt w r s → CoversSoFar w r
+  pub so-far : (r : Recovery) (s : Stage) (x : Op) (xs : List Op) → r.stage ≡ s → r.core.ops ≡ x ∷ xs → ((n : ServerNo) (x : Bridge) → s ≡ stage.Move n (way.Up x) → ⊥) → CoversAt w r s → CoversSoFar w r
   so-far r s x xs at ops still c = record {
     at = subst (λ (y : Stage). CoversAt w r y) (sym at) c;
     rests = λ h. let bad : x ∷ xs ≡ [] = sym ops ∙ h in cc;
@@ -205,7 +205,7 @@ module _ (w : World) where
   at-rest r idle c = record {
     at = subst (λ (s : Stage). CoversAt w r s) (sym idle) c;
     rests = λ h. idle;
-    moves = λ n by h. let bad : stage.Idle ≡ stage.Move n by = sym idle ∙ h in cc;
+    moves = λ n x h. let bad : stage.Idle ≡ stage.Move n (way.Up x) = sym idle ∙ h in cc;
   }
 
   module _ (b : BookState) (now : Moment) where
@@ -268,7 +268,7 @@ module _ (w : World) where
       unswapped = record {
         at = subst (λ (s : Stage). CoversAt w (record r { stage = s; swaps = false }) s) (sym idle) (last-covers r stage.Idle r.core false c refl tt);
         rests = λ h. idle;
-        moves = λ n by h. let bad : stage.Idle ≡ stage.Move n by = sym idle ∙ h in cc;
+        moves = λ n x h. let bad : stage.Idle ≡ stage.Move n (way.Up x) = sym idle ∙ h in cc;
       }
 
       swapping : (p q : ServerNo) → is_master r.purpose ≡ true → r.chosen ≡ Some p → better_of w b now r.failed p (map (λ x. x.no) r.outcome.followers) ≡ Some q
@@ -325,12 +325,12 @@ module _ (w : World) where
         let at = next-covers r (task.Draining n) ts next c in
         let parts = and_parts (decides ts) (in_order ts) at.order in
         inl (so-far _ (stage.Drain n) _ _ refl refl (λ m way h. cc) (begins r (task.Draining n) ts (stage.Drain n) _ at refl refl refl (λ h. parts.1) parts.0))
-    decides-at r (by.Sends n way ts) next none idle c =
-        let awaits = awaited r (task.Moving n way) ts next c in
+    decides-at r (by.Sends n goes ts) next none idle c =
+        let awaits = awaited r (task.Moving n goes) ts next c in
         inl (record {
-          at = begins r (task.Moving n way) ts (stage.Move n way) _ (next-covers r (task.Moving n way) ts next c) refl refl refl (λ h. h) (awaits.0, awaits.1, way-reads r.core.seen way);
-          rests = λ h. cc;
-          moves = λ m x h. ap tail_of h;
+          at = begins r (task.Moving n goes) ts (stage.Move n goes) _ (next-covers r (task.Moving n goes) ts next c) refl refl refl (λ h. h) (awaits.0, awaits.1, way-reads r.core.seen goes);
+          rests = λ h. absurd (some-op n goes h);
+          moves = λ m x h. ap ops_in h;
         })
     decides-at r (by.Expels n ts) next none idle c =
         inl (so-far _ (stage.Expel n) _ _ refl refl (λ m way h. cc)

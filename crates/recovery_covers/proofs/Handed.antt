@@ -1,5 +1,5 @@
 -- What is decided covers the replicas as far as before: how the next drained one goes below a successor.
-use Rattle.std.proofs.Common.{◌≡◌, Bool, true, false, cond, List, [], ◌∷◌, refl, sym, ◌∙◌, ap, subst, Option, Some, None, ◌&&◌, inl, inr, arith}
+use Rattle.std.proofs.Common.{◌≡◌, Bool, true, false, cond, List, [], ◌∷◌, ◌++◌, refl, sym, ◌∙◌, ap, subst, Option, Some, None, ◌&&◌, inl, inr, arith}
 use Rattle.std.specs.Prelude.{◌==◌, is_some, option_map}
 use Rattle.std.specs.List.{All}
 use Rattle.std.proofs.lemmas.Bool.{false≢true, and_parts, eqb-true, eq-eqb}
@@ -8,7 +8,7 @@ use Rattle.std.proofs.lemmas.List.Elements.{All-nil, All-cons, All-head, All-tai
 use Rattle.binlog_coords.specs.Log.{same_coord}
 use Rattle.orch_base.specs.declared.server.ServerNo.{ServerNo}
 use Rattle.server_model.specs.Worlds.{World}
-use Rattle.commands.specs.declared.line.Lost.TheVariants as lost
+use Rattle.recovery_plans.specs.Whys as lost
 use Rattle.instance_keeper.specs.declared.bridge.Bridge.{Bridge}
 use Rattle.instance_keeper.specs.Book.{BookState}
 use Rattle.instance_keeper.specs.Bridges.{has_own, latest_that, ring_at}
@@ -16,8 +16,10 @@ use Rattle.operations.specs.declared.sight.Sight.{Sight}
 use Rattle.operations.specs.Jobs.{seen_of}
 use Rattle.job_laws.specs.Footing.{source_shown}
 use Rattle.job_laws.proofs.Sights.{seen-at}
+use Rattle.operations.specs.declared.op.Op.{Op}
 use Rattle.recovery_plans.specs.declared.outcome.LostReplica.{LostReplica}
 use Rattle.recovery_plans.specs.declared.outcome.Stopped.{Stopped}
+use Rattle.recovery_plans.specs.declared.stage.Stage.{Stage}
 use Rattle.recovery_plans.specs.declared.stage.Stage.TheVariants as stage
 use Rattle.recovery_plans.specs.declared.task.Task.{Task}
 use Rattle.recovery_plans.specs.declared.task.Task.TheVariants as task
@@ -25,7 +27,7 @@ use Rattle.recovery_plans.specs.declared.task.Way.{Way}
 use Rattle.recovery_plans.specs.declared.task.Way.TheVariants as way
 use Rattle.recovery_plans.specs.Deciding.{expels, logs_at, moving, way_by_set, way_below}
 use Rattle.recovery_plans.specs.Recoveries.{Recovery, loses, sight_of}
-use Rattle.recovery_plans.specs.Stages.{tail_of, target, with_way}
+use Rattle.recovery_plans.specs.Stages.{before, tail_of, target, with_way}
 use Rattle.recovery_plans.specs.Moves.{IsHanding}
 use Rattle.recovery_plans.proofs.Choices.{same-no}
 use Rattle.recovery_laws.proofs.Choosing.{All-latest}
@@ -42,6 +44,18 @@ way-reads xs (way.Down b) = tt
 way-reads xs (way.Up b) =
     ap source_shown (seen-at xs b.no (sight_of b) b.no.0 ∙ ap (λ (x : Bool). cond x (Some (sight_of b)) (seen_of xs b.no.0)) (eq-eqb b.no.0 b.no.0 refl))
 way-reads xs (way.Auto to exec) = tt
+way-reads xs (way.Match to exec every) = tt
+
+-- the operations of a replica that goes some way
+abbrev pub ops_in : Stage → List Op
+ops_in (stage.Move n by) = before by n ++ tail_of (stage.Move n by)
+ops_in s = []
+
+pub some-op : (n : ServerNo) (by : Way) → ops_in (stage.Move n by) ≡ [] → ⊥
+some-op n (way.Down b) h = cc
+some-op n (way.Up b) h = cc
+some-op n (way.Auto to exec) h = cc
+some-op n (way.Match to exec every) h = cc
 
 -- a way below the successor leads there
 pub way-leads : (w : World) (b : BookState) (xs : List Sight) (x s : ServerNo) (d : Stopped) (by : Way) → way_below w b xs x s d ≡ Some by → target by ≡ s
@@ -98,12 +112,12 @@ module _ (w : World) (b : BookState) where
       first (inr x) = absurd (false≢true x.0)
 
   -- the next one has no way
-  stays : (r : Recovery) (d : Stopped) (ds : List Stopped) → Hands r (d ∷ ds) → Hands (loses r d.no (lost.Behind d.exec)) ds
+  stays : (r : Recovery) (d : Stopped) (ds : List Stopped) → Hands r (d ∷ ds) → Hands (loses r d.no (lost.behind d.exec)) ds
   stays r d ds c = record {
     replicas = c.replicas;
     once = λ n.
         let e = c.once n in
-        let p = times-push (λ (l : LostReplica). l.no) n r.outcome.lost (record { no = d.no; why = lost.Behind d.exec; detached = false }) in
+        let p = times-push (λ (l : LostReplica). l.no) n r.outcome.lost (record { no = d.no; why = lost.behind d.exec; detached = false }) in
         omega (arith, e, p);
     order = c.order;
     unchosen = c.unchosen;
@@ -118,7 +132,7 @@ module _ (w : World) (b : BookState) where
           purpose = refl;
           chosen = refl;
           lost = λ n h.
-              let p = times-push (λ (l : LostReplica). l.no) n r.outcome.lost (record { no = d.no; why = lost.Behind d.exec; detached = false }) in
+              let p = times-push (λ (l : LostReplica). l.no) n r.outcome.lost (record { no = d.no; why = lost.behind d.exec; detached = false }) in
               omega (arith, p, h);
         }) (task.Handing ∷ r.queue) c.queue;
     stage = tt;
@@ -131,7 +145,7 @@ module _ (w : World) (b : BookState) where
   }
     where
       new : Recovery
-      new = record (loses r d.no (lost.Behind d.exec)) { queue = task.Handing ∷ r.queue; drained = ds }
+      new = record (loses r d.no (lost.behind d.exec)) { queue = task.Handing ∷ r.queue; drained = ds }
 
       first : Leads (record r { queue = task.Handing ∷ r.queue; drained = d ∷ ds }) stage.Idle → Leads new stage.Idle
       first (inl e) = inl e
@@ -159,15 +173,12 @@ module _ (w : World) (b : BookState) where
       sourced = c.sourced;
       apart = c.apart;
     };
-    rests = λ h. cc;
-    moves = λ n x h. same n x h;
+    rests = λ h. absurd (some-op d.no by h);
+    moves = λ n b' h. ap ops_in h;
   }
     where
       new : Recovery
       new = moving (record r { queue = task.Handing ∷ r.queue; drained = ds }) d.no by
-
-      same : (n : ServerNo) (x : Way) → stage.Move d.no by ≡ stage.Move n x → new.core.ops ≡ tail_of (stage.Move n x)
-      same n x h = ap tail_of h
 
       first : Leads (record r { queue = task.Handing ∷ r.queue; drained = d ∷ ds }) stage.Idle → Leads new (stage.Move d.no by)
       first (inl e) = inl e
@@ -183,9 +194,9 @@ module _ (w : World) (b : BookState) where
   handed-over r ts queue drained c = handed (record r { queue = ts }) (handing r [] ts queue drained c)
 
   pub leaves-covers : (r : Recovery) (d : Stopped) (ds : List Stopped) (o : Option Way) (ts : List Task) → IsHanding w b r d ds o ts → CoversAt w r stage.Idle
-      → CoversAt w (record (loses r d.no (lost.Behind d.exec)) { drained = ds }) stage.Idle
+      → CoversAt w (record (loses r d.no (lost.behind d.exec)) { drained = ds }) stage.Idle
   leaves-covers r d ds o ts g c =
-      subst (λ (q : List Task). CoversAt w (record (loses r d.no (lost.Behind d.exec)) { queue = q; drained = ds }) stage.Idle) (sym g.next.queue)
+      subst (λ (q : List Task). CoversAt w (record (loses r d.no (lost.behind d.exec)) { queue = q; drained = ds }) stage.Idle) (sym g.next.queue)
       (stays (record r { queue = ts }) d ds (handing r (d ∷ ds) ts g.next.queue g.drained c))
 
   pub hands-covers : (r : Recovery) (d : Stopped) (ds : List Stopped) (by : Way) (ts : List Task) → IsHanding w b r d ds (Some by) ts → CoversAt w r stage.Idle

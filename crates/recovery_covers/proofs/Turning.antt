@@ -9,8 +9,10 @@ use Rattle.server_model.specs.Safe.{Placed}
 use Rattle.server_model.specs.Worlds.{World, server_at}
 use Rattle.commands.specs.declared.cause.Cause.{Cause}
 use Rattle.commands.specs.declared.cause.Cause.TheVariants as cause
-use Rattle.commands.specs.declared.line.Lost.{Lost}
-use Rattle.commands.specs.declared.line.Lost.TheVariants as lost
+use Rattle.recovery_plans.specs.declared.why.Miss.{Miss}
+use Rattle.recovery_plans.specs.declared.why.Miss.TheVariants as miss
+use Rattle.recovery_plans.specs.declared.why.Why.{Why}
+use Rattle.recovery_plans.specs.Whys as lost
 use Rattle.kept_rows.specs.declared.observation.Observation.{Observation}
 use Rattle.operations.specs.declared.op.Crossing.TheVariants as cross
 use Rattle.operations.specs.declared.op.Op.{Op}
@@ -19,7 +21,9 @@ use Rattle.operations.specs.Deeds.{deed_of}
 use Rattle.operations.specs.Jobs.{Job}
 use Rattle.operations.specs.Turns as attempt
 use Rattle.operations.specs.Turns.{Attempt, by_deed, is_going}
+use Rattle.instance_keeper.specs.declared.bridge.Bridge.{Bridge}
 use Rattle.job_laws.specs.Footing.{footing, finds}
+use Rattle.job_laws.specs.Matched.{finds_match, matched_in}
 use Rattle.recovery_plans.specs.declared.purpose.Purpose.{Purpose}
 use Rattle.recovery_plans.specs.declared.purpose.Purpose.TheVariants as purpose
 use Rattle.recovery_plans.specs.declared.stage.Stage.{Stage}
@@ -30,7 +34,7 @@ use Rattle.recovery_plans.specs.Recoveries.{Recovery, follows_no_more, working}
 use Rattle.recovery_plans.specs.Stages.{ends, leaver, move, moved, moves, tail_of, target}
 use Rattle.recovery_plans.specs.Deciding.{expels}
 use Rattle.recovery_plans.specs.Taking as taking
-use Rattle.recovery_plans.specs.Taking.{Fate, entered, stepped, fate_of_drain, fate_of_trail, lost_on_way, fate_of_errant, fate_of_move, fate, exec_by, place_on, spot_by, is_waiting, taken}
+use Rattle.recovery_plans.specs.Taking.{Fate, Loss, entered, stepped, fate_of_drain, fate_of_trail, lost_on_way, fate_of_errant, fate, loss_of, match_fate, missed_fate, move_fate, way_fate, exec_by, place_on, spot_by, is_waiting, taken}
 use Rattle.recovery_plans.specs.Moves as moving
 use Rattle.recovery_plans.specs.Moves.{Bearing, Decision, MayDecide, borne, decided_by, fate_of}
 use Rattle.recovery_plans.proofs.Walking.{Keeps, kept-along}
@@ -44,7 +48,7 @@ use Rattle.recovery_laws.proofs.Taking.{due, fits}
 use Rattle.standing_laws.specs.Standing.{IsApart, IsFree, IsSourced, IsWritable, KeepsSource, Stays, IsSourcedAsSeen}
 use Rattle.recovery_covers.specs.SoFar.{of_stage, is_late, is_takeover, Stands, CoversAt, CoversSoFar}
 use Rattle.standing_laws.proofs.Standing.{Stays-same}
-use Rattle.standing_laws.proofs.Effects.{After, IsMoved, IsOnce, Reads-true, deed-still, way-moves, way-once, about-moves, back-moves, detach-moves, reset-moves, shut-moves, open-moves, status-reads}
+use Rattle.standing_laws.proofs.Effects.{After, IsMoved, IsOnce, Reads-true, deed-still, way-moves, up-once, about-moves, back-moves, detach-moves, reset-moves, shut-moves, open-moves, status-reads}
 use Rattle.recovery_covers.proofs.Covering.{is_seen, last-on, restaged, stage-on}
 use Rattle.recovery_covers.proofs.Changing.{AllButOne, move-covers, expel-covers, swap-covers, return-covers, crown-covers, open-covers, shut-covers, yield-covers, switch-covers, level-covers}
 use Rattle.recovery_covers.proofs.Decided.{IsStuck, at-rest, decides-covers}
@@ -52,22 +56,18 @@ use Rattle.recovery_covers.proofs.Completing.{completes-covers, lose-covers, unr
 
 -- ---- moves
 
+-- to a bridge's source
 abbrev is_move : Stage → Bool
-is_move (stage.Move n by) = true
+is_move (stage.Move n (way.Up b)) = true
 is_move s = false
 
--- no stage's change begins a move
+-- no stage's change begins one
 moved-still : (s : Stage) → is_move (moved s) ≡ false
 moved-still (stage.Move n by) = refl
 moved-still s = refl
 
-no-move : (s : Stage) → is_move s ≡ false → (n : ServerNo) (by : Way) → s ≡ stage.Move n by → ⊥
-no-move s still n by e = false≢true (sym still ∙ ap is_move e)
-
-way-moving : (by : Way) (n : ServerNo) → moves (deed_of (move by n)) ≡ true
-way-moving (way.Down b) n = refl
-way-moving (way.Up b) n = refl
-way-moving (way.Auto to exec) n = refl
+no-move : (s : Stage) → is_move s ≡ false → (n : ServerNo) (b : Bridge) → s ≡ stage.Move n (way.Up b) → ⊥
+no-move s still n b e = false≢true (sym still ∙ ap is_move e)
 
 -- between a turn's operation and the end of its stage
 pub record Steps (w : World) (r : Recovery) : Type 0 where
@@ -79,7 +79,7 @@ continues-covers : (w : World) (r : Recovery) (x : Op) (xs : List Op) → r.core
 continues-covers w r x xs is st = record {
   at = st.at;
   rests = λ h. let bad : [] ≡ x ∷ xs = sym h ∙ is in cc;
-  moves = λ n way h. absurd (no-move r.stage st.still n way h);
+  moves = λ n b h. absurd (no-move r.stage st.still n b h);
 }
 
 -- the job goes with the recovery into the next stage
@@ -90,7 +90,7 @@ entered-core r s = go (leaver s)
     go None = refl
     go (Some n) = refl
 
-takeover-leaves : (u : Purpose) (why : Lost) → is_takeover u ≡ true → expels u (Some why) ≡ false
+takeover-leaves : (u : Purpose) (why : Why) → is_takeover u ≡ true → expels u (Some why) ≡ false
 takeover-leaves purpose.Regroup why h = absurd (false≢true h)
 takeover-leaves purpose.Master why h = absurd (false≢true h)
 takeover-leaves (purpose.Intermediate s) why h = absurd (false≢true h)
@@ -106,11 +106,18 @@ module _ (w : World) (read : ℕ) (now : Moment) (r : Recovery) (o : Op) (rest :
   found-as : (x : Op) → o ≡ x → finds (footing w r.core.seen) (deed_of x) ≡ true
   found-as x same = subst (λ (y : Op). finds (footing w r.core.seen) (deed_of y) ≡ true) same found
 
-  -- a stage that rests on what was seen is due, or a move
-  not-seen : ((n : ServerNo) (by' : Way) → o ≡ move by' n → ⊥) → (s : Stage) → r.stage ≡ s → Fits s (o ∷ rest) → is_seen s ≡ true → ⊥
+  matched-as : (x : Op) → o ≡ x → finds_match (matched_in r.core.matches) (deed_of x) ≡ true
+  matched-as x same = subst (λ (y : Op). finds_match (matched_in r.core.matches) (deed_of y) ≡ true) same (due w read now r o rest placed held is).match
+
+  -- it takes no replica to the source of a bridge
+  abbrev IsNoRise : Type 0
+  IsNoRise = (n : ServerNo) (b : Bridge) → o ≡ op.Cross cross.Up n b.no → ⊥
+
+  -- a stage that rests on what was seen is due, or goes to a bridge's source
+  not-seen : IsNoRise → (s : Stage) → r.stage ≡ s → Fits s (o ∷ rest) → is_seen s ≡ true → ⊥
   not-seen nowhere (stage.Judged n) at f h = let e : o ∷ rest ≡ [] = f.is ∙ ap (λ xs. xs ++ []) (f.due refl) in cc
   not-seen nowhere (stage.Looked n b) at f h = let e : o ∷ rest ≡ [] = f.is ∙ ap (λ xs. xs ++ []) (f.due refl) in cc
-  not-seen nowhere (stage.Move n by') at f h = nowhere n by' (same-head o (move by' n) rest _ (sym is ∙ c.moves n by' at))
+  not-seen nowhere (stage.Move n (way.Up b)) at f h = nowhere n b (same-head o (op.Cross cross.Up n b.no) rest _ (sym is ∙ c.moves n b at))
   not-seen nowhere s at f h = false≢true h
 
   -- ---- it goes on
@@ -155,7 +162,7 @@ module _ (w : World) (read : ℕ) (now : Moment) (r : Recovery) (o : Op) (rest :
     change-covers (stage.Move n by') t at =
         let same = same-head o (move by' n) rest _ t in
         move-covers w w' r k n by' at
-        (after-as (move by' n) (λ x. IsMoved w x n.0 (target by').0) same (way-moves w read now r.core rest held.core.shown by' n at.stage.2 (found-as (move by' n) same)))
+        (after-as (move by' n) (λ x. IsMoved w x n.0 (target by').0) same (way-moves w read now r.core rest held.core.shown by' n at.stage.2 (found-as (move by' n) same) held.core.ends (matched-as (move by' n) same)))
     change-covers (stage.Expel n) t at =
         let x = after-as (op.Detach n) (λ x. IsApart x n.0 × AllButOne w x n.0) (same-head o _ rest _ t) (detach-moves w read now r.core rest held.core.shown n at.stage.1) in
         expel-covers w w' r k n at x.0 x.1
@@ -211,12 +218,11 @@ module _ (w : World) (read : ℕ) (now : Moment) (r : Recovery) (o : Op) (rest :
     not-moves false b h = refl
 
     -- an operation that doesn't end the stage is no move
-    unmoved : ends r.stage (deed_of o) ≡ false → (n : ServerNo) (by' : Way) → o ≡ move by' n → ⊥
-    unmoved h n by' same =
-        false≢true (sym (not-moves (moves (deed_of o)) _ h) ∙ ap (λ (y : Op). moves (deed_of y)) same ∙ way-moving by' n)
+    unmoved : ends r.stage (deed_of o) ≡ false → IsNoRise
+    unmoved h n b same = false≢true (sym (not-moves (moves (deed_of o)) _ h) ∙ ap (λ (y : Op). moves (deed_of y)) same)
 
-    not-move : ((n : ServerNo) (by' : Way) → o ≡ move by' n → ⊥) → (s : Stage) → r.stage ≡ s → is_move s ≡ false
-    not-move nowhere (stage.Move n by') at = absurd (nowhere n by' (same-head o (move by' n) rest _ (sym is ∙ c.moves n by' at)))
+    not-move : IsNoRise → (s : Stage) → r.stage ≡ s → is_move s ≡ false
+    not-move nowhere (stage.Move n (way.Up b)) at = absurd (nowhere n b (same-head o (op.Cross cross.Up n b.no) rest _ (sym is ∙ c.moves n b at)))
     not-move nowhere s at = refl
 
     stepped-covers : is_waiting k ≡ false → Steps w' (stepped later o)
@@ -242,9 +248,9 @@ module _ (w : World) (read : ℕ) (now : Moment) (r : Recovery) (o : Op) (rest :
             })
 
     -- a move is no wait
-    unwaiting : is_waiting k ≡ true → (n : ServerNo) (by' : Way) → o ≡ move by' n → ⊥
-    unwaiting waits n by' same =
-        let once = way-once w read now r.core rest held.core.shown by' n (found-as (move by' n) same) in
+    unwaiting : is_waiting k ≡ true → IsNoRise
+    unwaiting waits n b same =
+        let once = up-once w read now r.core rest held.core.shown n b.no (found-as (op.Cross cross.Up n b.no) same) in
         let mine : is_waiting k ≡ false =
         subst (λ (a : Attempt). IsOnce w read now r.core rest held.core.shown a) e (subst (λ (y : Op). IsOnce w read now r.core rest held.core.shown (by y)) (sym same) once) in
         false≢true (sym mine ∙ waits)
@@ -257,7 +263,7 @@ module _ (w : World) (read : ℕ) (now : Moment) (r : Recovery) (o : Op) (rest :
               still-covers (λ n. Stays-same w w' n (ap (λ xs. server_at (run w xs) n) x.1))
               (not-seen (unwaiting waits) r.stage refl (fits w read now r o rest placed held is));
           rests = λ h. let bad : [] ≡ o ∷ rest = sym h ∙ x.0 ∙ is in cc;
-          moves = λ n by' h. x.0 ∙ c.moves n by' h;
+          moves = λ n b h. x.0 ∙ c.moves n b h;
         }
 
   -- ---- it stops
@@ -294,36 +300,56 @@ module _ (w : World) (read : ℕ) (now : Moment) (r : Recovery) (o : Op) (rest :
   drain-fine n (cause.Unreachable m) = (refl, refl, unreached w r.purpose n.0)
   drain-fine n x = tt
 
-  trail-fine : (s : Stage) (n : ServerNo) → of_stage s ≡ n ∷ [] → is_late s ≡ false → (expels r.purpose (Some (lost.Behind (exec_by (server_at w n.0)))) ≡ true → IsSourced w n.0) → (x : Cause) → IsFine s (fate_of_trail w n x)
+  trail-fine : (s : Stage) (n : ServerNo) → of_stage s ≡ n ∷ [] → is_late s ≡ false → (expels r.purpose (Some (lost.behind (exec_by (server_at w n.0)))) ≡ true → IsSourced w n.0) → (x : Cause) → IsFine s (fate_of_trail w n x)
   trail-fine s n same late behind (cause.Unreachable m) = (same, late, unreached w r.purpose n.0)
   trail-fine s n same late behind (cause.WaitSpent m) = (same, late, behind)
   trail-fine s n same late behind x = tt
 
-  lost-fine : (u : Purpose) (n : ServerNo) (by' : Way) (why : Lost) → CoversAt w r (stage.Move n by') → IsFine (stage.Move n by') (lost_on_way u n why)
+  lost-fine : (u : Purpose) (n : ServerNo) (by' : Way) (why : Why) → CoversAt w r (stage.Move n by') → IsFine (stage.Move n by') (lost_on_way u n why)
   lost-fine purpose.Regroup n by' why at = (refl, refl, λ h. at.stage.1)
   lost-fine purpose.Master n by' why at = (refl, refl, λ h. at.stage.1)
   lost-fine (purpose.Intermediate s) n by' why at = (refl, refl, λ h. at.stage.1)
   lost-fine (purpose.Takeover d) n by' why at = (refl, refl, λ h. at.stage.1)
 
   errant-fine : (u : Purpose) (n : ServerNo) (by' : Way) → CoversAt w r (stage.Move n by') → IsFine (stage.Move n by') (fate_of_errant u n by')
-  errant-fine u n (way.Auto to exec) at = lost-fine u n (way.Auto to exec) (lost.Ahead exec) at
+  errant-fine u n (way.Auto to exec) at = lost-fine u n (way.Auto to exec) (lost.ahead exec) at
   errant-fine u n (way.Down b) at = tt
   errant-fine u n (way.Up b) at = tt
+  errant-fine u n (way.Match to exec every) at = tt
 
-  move-fine : (u : Purpose) (n : ServerNo) (by' : Way) → CoversAt w r (stage.Move n by') → (x : Cause) → IsFine (stage.Move n by') (fate_of_move w u n by' x)
-  move-fine u n by' at (cause.Unreachable m) = lost-fine u n by' lost.Unreachable at
-  move-fine u n by' at (cause.Running m) = lost-fine u n by' (lost.Moved (spot_by (server_at w n.0))) at
-  move-fine u n by' at (cause.Interfered m expected there) = lost-fine u n by' (lost.Moved there) at
-  move-fine u n by' at (cause.Errant m set) = errant-fine u n by' at
-  move-fine u n by' at (cause.Purged m first) = lost-fine u n by' (lost.Purged (place_on by')) at
-  move-fine u n by' at x = tt
+  missed-fine : (u : Purpose) (n : ServerNo) (by' : Way) → CoversAt w r (stage.Move n by') → (m : Miss) → IsFine (stage.Move n by') (missed_fate w u n by' m)
+  missed-fine u n by' at (miss.Unreachable k) = lost-fine u n by' lost.unreachable at
+  missed-fine u n by' at miss.Running = lost-fine u n by' (lost.moved (spot_by (server_at w n.0))) at
+  missed-fine u n by' at (miss.Interfered expected there) = lost-fine u n by' (lost.moved there) at
+  missed-fine u n by' at miss.Loop = tt
+  missed-fine u n by' at (miss.Purged first) = lost-fine u n by' (lost.purged (place_on by')) at
+  missed-fine u n by' at miss.NoMark = tt
+  missed-fine u n by' at (miss.Mismatch entry) = tt
+
+  move-fine : (u : Purpose) (n : ServerNo) (by' : Way) → CoversAt w r (stage.Move n by') → (l : Option Loss) → IsFine (stage.Move n by') (move_fate w u n by' l)
+  move-fine u n by' at None = tt
+  move-fine u n by' at (Some taking.Spent) = tt
+  move-fine u n by' at (Some taking.Differs) = errant-fine u n by' at
+  move-fine u n by' at (Some (taking.Missed m)) = missed-fine u n by' at m
+
+  match-fine : (n : ServerNo) (by' : Way) → CoversAt w r (stage.Move n by') → (l : Option Loss) → IsFine (stage.Move n by') (match_fate n l)
+  match-fine n by' at None = tt
+  match-fine n by' at (Some taking.Spent) = tt
+  match-fine n by' at (Some taking.Differs) = tt
+  match-fine n by' at (Some (taking.Missed m)) = (refl, refl, λ h. at.stage.1)
+
+  way-fine : (u : Purpose) (n : ServerNo) (by' : Way) → CoversAt w r (stage.Move n by') → (l : Option Loss) → IsFine (stage.Move n by') (way_fate w u n by' l)
+  way-fine u n (way.Down b) at l = move-fine u n (way.Down b) at l
+  way-fine u n (way.Up b) at l = move-fine u n (way.Up b) at l
+  way-fine u n (way.Auto to exec) at l = move-fine u n (way.Auto to exec) at l
+  way-fine u n (way.Match to exec every) at l = match-fine n (way.Match to exec every) at l
 
   fate-fine : (s : Stage) → CoversAt w r s → (x : Cause) → IsFine s (fate w r.purpose s x)
   fate-fine (stage.Drain n) at x = drain-fine n x
-  fate-fine (stage.Move n by') at x = move-fine r.purpose n by' at x
+  fate-fine (stage.Move n by') at x = way-fine r.purpose n by' at (loss_of x)
   fate-fine (stage.Join n p) at x = (refl, refl, unreached w r.purpose n.0)
   fate-fine (stage.Look n b) at x =
-      trail-fine (stage.Look n b) n refl refl (λ h. absurd (false≢true (sym (takeover-leaves r.purpose (lost.Behind (exec_by (server_at w n.0))) at.stage.0) ∙ h))) x
+      trail-fine (stage.Look n b) n refl refl (λ h. absurd (false≢true (sym (takeover-leaves r.purpose (lost.behind (exec_by (server_at w n.0))) at.stage.0) ∙ h))) x
   fate-fine (stage.Trail n b) at x = trail-fine (stage.Trail n b) n refl refl (λ h. at.stage.1) x
   fate-fine stage.Check at x = (refl, refl)
   fate-fine (stage.Expel n) at x = (refl, refl)

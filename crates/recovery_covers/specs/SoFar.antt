@@ -2,6 +2,7 @@
 use Rattle.std.specs.Prelude.{◌≡◌, ℕ, ◌+◌, ◌<◌, Bool, true, false, ◌&&◌, ◌||◌, not, List, [], ◌∷◌, ◌++◌, map, Option, Some, None, IfSome, All, Contains, ◌⊎◌}
 use Rattle.orch_base.specs.declared.server.ServerNo.{ServerNo}
 use Rattle.server_model.specs.Worlds.{World}
+use Rattle.instance_keeper.specs.declared.bridge.Bridge.{Bridge}
 use Rattle.recovery_plans.specs.declared.outcome.Follower.{Follower}
 use Rattle.recovery_plans.specs.declared.outcome.Stopped.{Stopped}
 use Rattle.recovery_plans.specs.declared.purpose.Purpose.{Purpose}
@@ -10,7 +11,7 @@ use Rattle.recovery_plans.specs.declared.stage.Stage.{Stage}
 use Rattle.recovery_plans.specs.declared.stage.Stage.TheVariants as stage
 use Rattle.recovery_plans.specs.declared.task.Task.{Task}
 use Rattle.recovery_plans.specs.declared.task.Task.TheVariants as task
-use Rattle.recovery_plans.specs.declared.task.Way.{Way}
+use Rattle.recovery_plans.specs.declared.task.Way.TheVariants as way
 use Rattle.recovery_plans.specs.Beginning.{first_source, is_master}
 use Rattle.recovery_plans.specs.Deciding.{expels}
 use Rattle.recovery_plans.specs.Recoveries.{Recovery}
@@ -248,8 +249,9 @@ pub record CoversAt (w : World) (r : Recovery) (s : Stage) : Type 0 where
   pub sourced : All (λ l. expels r.purpose (Some l.why) ≡ true → IsSourced w l.no.0) r.outcome.lost
   pub apart : All (λ l. l.detached ≡ true → IsApart w l.no.0) r.outcome.lost
 
--- a recovery under way does; where it has no operation it has no stage, and a move is made before anything else
+-- a recovery under way does; where it has no operation it has no stage, and a move to a bridge's source is made before
+-- anything else
 pub record CoversSoFar (w : World) (r : Recovery) : Type 0 where
   pub at : CoversAt w r r.stage
   pub rests : r.core.ops ≡ [] → r.stage ≡ stage.Idle
-  pub moves : (n : ServerNo) (by : Way) → r.stage ≡ stage.Move n by → r.core.ops ≡ tail_of (stage.Move n by)
+  pub moves : (n : ServerNo) (b : Bridge) → r.stage ≡ stage.Move n (way.Up b) → r.core.ops ≡ tail_of (stage.Move n (way.Up b))

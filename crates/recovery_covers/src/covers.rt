@@ -10,6 +10,7 @@ ghost use Rattle.server_model.specs.Run.{Exchange, after, run};
 ghost use Rattle.server_model.specs.Safe.{Placed};
 ghost use Rattle.server_model.specs.Worlds.{World};
 ghost use Rattle.job_laws.specs.Leases.{Leases, IsLeased};
+ghost use Rattle.recovery_plans.specs.declared.means.Means.{Means as AMeans};
 ghost use Rattle.recovery_plans.specs.declared.purpose.Purpose.{Purpose as APurpose};
 ghost use Rattle.recovery_plans.specs.Beginning.{begun_recovery};
 ghost use Rattle.recovery_plans.specs.Recoveries.{Recovery};
@@ -23,9 +24,9 @@ ghost use Rattle.standing_laws.specs.Standing.{is_outside};
 
 /// A recovery begins with its replicas covered so far, over any servers, where none of them is named twice.
 pub fn recoveries_begin_covered()
-    ensures { (w : World) (u : APurpose) (id wait : ℕ) (f : Number)
+    ensures { (w : World) (u : APurpose) (by : AMeans) (id wait : ℕ) (f : Number)
         (replicas order : List Number) →
-        AreReplicas u f replicas → CoversSoFar w (begun_recovery u id wait f replicas order) }
+        AreReplicas u f replicas → CoversSoFar w (begun_recovery u by id wait f replicas order) }
 {}
 
 /// A turn after which a recovery goes on leaves its replicas covered so far. Between its turns exchanges that are no

@@ -6,7 +6,7 @@ use Rattle.orch_base.specs.declared.server.Moment.{Moment}
 use Rattle.orch_base.specs.declared.server.ServerNo.{ServerNo}
 use Rattle.server_model.specs.Run.{Exchange}
 use Rattle.server_model.specs.Worlds.{World}
-use Rattle.commands.specs.declared.line.Lost.{Lost}
+use Rattle.recovery_plans.specs.declared.why.Why.{Why}
 use Rattle.instance_keeper.specs.declared.bridge.Bridge.{Bridge}
 use Rattle.kept_rows.specs.declared.observation.Observation.{Observation}
 use Rattle.instance_keeper.specs.Book.{BookState}
@@ -20,6 +20,7 @@ use Rattle.operations.specs.Turns as attempt
 use Rattle.operations.specs.Turns.{Attempt, by_deed, going, is_going}
 use Rattle.operations.proofs.Ending.{turn-moves}
 use Rattle.recovery_plans.specs.declared.outcome.Stopped.{Stopped}
+use Rattle.recovery_plans.specs.declared.means.Means.{Means}
 use Rattle.recovery_plans.specs.declared.purpose.Purpose.{Purpose}
 use Rattle.recovery_plans.specs.declared.purpose.Purpose.TheVariants as purpose
 use Rattle.recovery_plans.specs.declared.stage.Stage.{Stage}
@@ -27,11 +28,13 @@ use Rattle.recovery_plans.specs.declared.stage.Stage.TheVariants as stage
 use Rattle.recovery_plans.specs.declared.task.Task.{Task}
 use Rattle.recovery_plans.specs.declared.task.Task.TheVariants as task
 use Rattle.recovery_plans.specs.declared.task.Way.{Way}
+use Rattle.recovery_plans.specs.declared.task.Way.TheVariants as way
 use Rattle.recovery_plans.specs.Recoveries.{Recovery, follows, follows_no_more, loses, working}
-use Rattle.recovery_plans.specs.Stages.{ends, leaver, moved, tail_of}
+use Rattle.recovery_plans.specs.Stages.{before, ends, leaver, moved, tail_of}
+use Rattle.recovery_plans.specs.Table.{more_on}
 use Rattle.recovery_plans.specs.Beginning.{begun_recovery, first_stage}
 use Rattle.recovery_plans.specs.Deciding as deciding
-use Rattle.recovery_plans.specs.Deciding.{Lot, lot_of, move_of, moves_in, without_stopped, choose, why_of, expels, releases, sort, closing}
+use Rattle.recovery_plans.specs.Deciding.{Lot, lot_by, move_of, moves_in, without_stopped, choose, why_of, expels, releases, sort, closing}
 use Rattle.recovery_plans.specs.Taking as taking
 use Rattle.recovery_plans.specs.Taking.{idle, last_looks, entered, stepped, is_waiting, taken}
 use Rattle.recovery_plans.specs.Moves as by
@@ -85,6 +88,13 @@ pub record NoMore (r r' : Recovery) : Type 0 where
   pub wait : r'.core.wait ≡ r.core.wait
   pub calm : IsCalm r'
 
+-- whatever way it goes
+way-room : (by : Way) (n : ServerNo) → length (before by n ++ tail_of (stage.Move n by)) + ops_after (stage.Move n by) ≡ 3
+way-room (way.Down b) n = refl
+way-room (way.Up b) n = refl
+way-room (way.Auto to exec) n = refl
+way-room (way.Match to exec every) n = refl
+
 module _ (w : World) (b : BookState) (now : Moment) where
   -- of a recovery without an operation, which isn't at its last stages
   at-end : (r : Recovery) → r.core.ops ≡ [] → IsCalm r → ops_at_end r.purpose (closes r.stage) r.swaps ≡ ops_last r.purpose r.swaps
@@ -124,8 +134,8 @@ module _ (w : World) (b : BookState) (now : Moment) where
   choose-ends r (Some p) calm = record {
     ops =
         let others = without_stopped r.drained p.no in
-        let a = append-ops r.replicas (moves_in (lot_of w b r.failed p) others) r.queue in
-        let m = moves-ops r.replicas (lot_of w b r.failed p) others in
+        let a = append-ops r.replicas (moves_in (lot_by r.means w b r.failed p) others) r.queue in
+        let m = moves-ops r.replicas (lot_by r.means w b r.failed p) others in
         let f = filter-shorter (λ (s : Stopped). not (s.no.0 == p.no.0)) r.drained in
         omega (arith, a, m, f);
     wait = refl;
@@ -158,9 +168,9 @@ module _ (w : World) (b : BookState) (now : Moment) where
   decides-ends r (by.Drains n ts) next calm =
       begin-ends r (task.Draining n) ts (stage.Drain n) (op.StopReceiver n) (op.Settle n ∷ op.Stop n ∷ op.Status n None ∷ []) next calm refl (omega arith)
   decides-ends r (by.Sends n way ts) next calm = record {
-    ops = let a = at-end r next.rests calm in let q = of-next r (task.Moving n way) ts next in omega (arith, a, q);
+    ops = let a = at-end r next.rests calm in let q = of-next r (task.Moving n way) ts next in let u = way-room way n in omega (arith, a, q, u);
     wait = refl;
-    calm = record { waited = omega arith; rests = λ h. cc };
+    calm = record { waited = omega arith; rests = λ h. refl };
   }
   decides-ends r (by.Expels n ts) next calm = begin-ends r (task.Expelling n) ts (stage.Expel n) (op.Detach n) [] next calm refl (omega arith)
   decides-ends r (by.Releases n ts) next calm = begin-ends r (task.Releasing n) ts (stage.Release n) (op.Start n) [] next calm refl (omega arith)
@@ -178,9 +188,9 @@ module _ (w : World) (b : BookState) (now : Moment) where
       record { ops = omega (arith, h, q); wait = c.wait; calm = c.calm }
   decides-ends r (by.ChoosesNobody ts) g calm = record { ops = omega arith; wait = refl; calm = record { waited = calm.waited; rests = calm.rests } }
   decides-ends r (by.Hands d ds way ts) g calm = record {
-    ops = let a = at-end r g.next.rests calm in let e : length r.drained ≡ length (d ∷ ds) = ap length g.drained in omega (arith, a, e);
+    ops = let a = at-end r g.next.rests calm in let e : length r.drained ≡ length (d ∷ ds) = ap length g.drained in let u = way-room way d.no in omega (arith, a, e, u);
     wait = refl;
-    calm = record { waited = omega arith; rests = λ h. cc };
+    calm = record { waited = omega arith; rests = λ h. refl };
   }
   decides-ends r (by.Leaves d ds ts) g calm = record {
     ops = let e : length r.drained ≡ length (d ∷ ds) = ap length g.drained in omega (arith, e);
@@ -299,7 +309,7 @@ module _ (r : Recovery) (none : r.core.ops ≡ []) where
   idle-at : (s : Stage) → r.stage ≡ s → closes s ≡ false → Within r (idle r)
   idle-at s is no-end = let c = come-at r s is in let e = last-at r s no-end in idle-within r (idle r) refl none refl (omega (arith, c, e))
 
-  lost-at : (s : Stage) (n : ServerNo) (why : Lost) → r.stage ≡ s → closes s ≡ false → Within r (idle (loses r n why))
+  lost-at : (s : Stage) (n : ServerNo) (why : Why) → r.stage ≡ s → closes s ≡ false → Within r (idle (loses r n why))
   lost-at s n why is no-end = let c = come-at r s is in let e = last-at r s no-end in idle-within r (idle (loses r n why)) refl none refl (omega (arith, c, e))
 
   follows-at : (s : Stage) (n p : ServerNo) → r.stage ≡ s → closes s ≡ false → Within r (idle (follows r n p))
@@ -406,7 +416,7 @@ module _ (r : Recovery) (o : Op) (rest : List Op) (is : r.core.ops ≡ o ∷ res
   }
 
   -- beside, a replica may be lost
-  loses-at : (n : ServerNo) (why : Lost) (t : Stage) (ops : List Op) → Ends r (working r t ops) → Ends r (working (loses r n why) t ops)
+  loses-at : (n : ServerNo) (why : Why) (t : Stage) (ops : List Op) → Ends r (working r t ops) → Ends r (working (loses r n why) t ops)
   loses-at n why t ops e = record { fewer = e.fewer; calm = record { waited = e.calm.waited; rests = e.calm.rests } }
 
   bears-ends : (e : Bearing) → MayBear r.stage e → Ends r (borne r (fate_of e))
@@ -424,8 +434,8 @@ module _ (r : Recovery) (o : Op) (rest : List Op) (is : r.core.ops ≡ o ∷ res
       go (inr (inr (p, at))) = goes-at (stage.Join n p) stage.Idle [] at refl refl (omega arith)
   bears-ends (by.Lets n why) may = loses-at n why (stage.Release n) (op.Start n ∷ []) (go may)
     where
-      go : ((way : Way) × (r.stage ≡ stage.Move n way)) ⊎ ((x : Bridge) × ((r.stage ≡ stage.Look n x) ⊎ (r.stage ≡ stage.Trail n x))) → Ends r (working r (stage.Release n) (op.Start n ∷ []))
-      go (inl (way, at)) = goes-at (stage.Move n way) (stage.Release n) (op.Start n ∷ []) at refl refl (omega arith)
+      go : ((by' : Way) × (r.stage ≡ stage.Move n by') × (more_on by' ≡ 1)) ⊎ ((x : Bridge) × ((r.stage ≡ stage.Look n x) ⊎ (r.stage ≡ stage.Trail n x))) → Ends r (working r (stage.Release n) (op.Start n ∷ []))
+      go (inl (by', at, more)) = goes-at (stage.Move n by') (stage.Release n) (op.Start n ∷ []) at refl refl (omega (arith, more))
       go (inr (x, inl at)) = goes-at (stage.Look n x) (stage.Release n) (op.Start n ∷ []) at refl refl (omega arith)
       go (inr (x, inr at)) = goes-at (stage.Trail n x) (stage.Release n) (op.Start n ∷ []) at refl refl (omega arith)
   bears-ends (by.Restarts p q) may = goes-at (stage.Level p q) (stage.Release q) (op.Start q ∷ []) may refl refl (omega arith)
@@ -567,8 +577,8 @@ pub taken-shaped : (w : World) (b : BookState) (read : ℕ) (now : Moment) (r : 
     → IsShaped (taken w b read now r).recovery
 taken-shaped w b read now r shaped g = record { fits = taken-fits w b read now r shaped.fits g; calm = (taken-both w b read now r shaped g).calm }
 
-begun-calm : (u : Purpose) (id wait : ℕ) (f : ServerNo) (ns order : List ServerNo) → IsCalm (begun_recovery u id wait f ns order)
-begun-calm u id wait f ns order = record { waited = omega arith; rests = λ h. go u }
+begun-calm : (u : Purpose) (by : Means) (id wait : ℕ) (f : ServerNo) (ns order : List ServerNo) → IsCalm (begun_recovery u by id wait f ns order)
+begun-calm u by id wait f ns order = record { waited = omega arith; rests = λ h. go u }
   where
     go : (v : Purpose) → closes (first_stage v f) ≡ false
     go purpose.Regroup = refl
@@ -576,5 +586,5 @@ begun-calm u id wait f ns order = record { waited = omega arith; rests = λ h. g
     go (purpose.Intermediate s) = refl
     go (purpose.Takeover d) = refl
 
-pub begun-shaped : (u : Purpose) (id wait : ℕ) (f : ServerNo) (ns order : List ServerNo) → IsShaped (begun_recovery u id wait f ns order)
-begun-shaped u id wait f ns order = record { fits = begun-fits u f; calm = begun-calm u id wait f ns order }
+pub begun-shaped : (u : Purpose) (by : Means) (id wait : ℕ) (f : ServerNo) (ns order : List ServerNo) → IsShaped (begun_recovery u by id wait f ns order)
+begun-shaped u by id wait f ns order = record { fits = begun-fits u f; calm = begun-calm u by id wait f ns order }

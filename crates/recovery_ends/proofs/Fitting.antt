@@ -27,7 +27,7 @@ use Rattle.recovery_plans.specs.Moves as by
 use Rattle.recovery_plans.specs.Moves.{Bearing, Decision, Does, Ending, MayDecide, MayEnd, borne, decided_by, ended_by, fate_of}
 use Rattle.recovery_plans.proofs.Walking.{Keeps, decided-walks, decisions-keep, kept-along}
 use Rattle.recovery_ends.specs.Shapes.{Fits}
-use Rattle.recovery_ends.proofs.Shapes.{Went, WentOn, deed-went, fits-step, front-fits, moved-fits, tail-fits}
+use Rattle.recovery_ends.proofs.Shapes.{Went, WentOn, deed-went, fits-step, front-fits, moved-fits, tail-fits, way-fits}
 
 abbrev pub IsFit : Recovery → Type 0
 IsFit r = Fits r.stage r.core.ops
@@ -59,12 +59,12 @@ release-fits n = front-fits (stage.Release n) (op.Start n ∷ []) refl refl refl
 pub decides-fits : (w : World) (b : BookState) (now : Moment) (r : Recovery) (d : Decision) → MayDecide w b now r d → IsFit r → IsFit (decided_by w b now r d)
 decides-fits w b now r (by.Reads n ts) may fits = front-fits (stage.Read n) (op.Status n None ∷ []) refl refl refl
 decides-fits w b now r (by.Drains n ts) may fits = drain-fits n
-decides-fits w b now r (by.Sends n way ts) may fits = tail-fits (stage.Move n way)
+decides-fits w b now r (by.Sends n way ts) may fits = way-fits n way
 decides-fits w b now r (by.Expels n ts) may fits = tail-fits (stage.Expel n)
 decides-fits w b now r (by.Releases n ts) may fits = release-fits n
 decides-fits w b now r (by.Looks n x ts) may fits = tail-fits (stage.Look n x)
 decides-fits w b now r (by.Yields x ts) may fits = tail-fits (stage.Yield r.failed x.no)
-decides-fits w b now r (by.Hands d ds way ts) may fits = tail-fits (stage.Move d.no way)
+decides-fits w b now r (by.Hands d ds way ts) may fits = way-fits d.no way
 decides-fits w b now r (by.Levels p q) may fits = level-fits p q
 decides-fits w b now r (by.Crowns p) may fits = tail-fits (stage.Crown p)
 decides-fits w b now r (by.Rejoins p) may fits = start-fits r p

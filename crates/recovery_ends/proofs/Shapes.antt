@@ -30,8 +30,9 @@ use Rattle.operations.specs.Targets.{can_attach}
 use Rattle.operations.specs.Turns.{bridge_at, Attempt, Goes, Stops, Ends, next, saw, observed, is_moved, after_status, after_look, after_ask, aim_of, is_reached, until_by, after_until, after_wait_by, after_wait, holds_seen, settles, read_by, crossed, same_again, by_set, with_match, after_match, by_match, attach_answer_of, after_answer, after_attach, by_deed}
 use Rattle.recovery_plans.specs.declared.stage.Stage.{Stage}
 use Rattle.recovery_plans.specs.declared.stage.Stage.TheVariants as stage
+use Rattle.recovery_plans.specs.declared.task.Way.{Way}
 use Rattle.recovery_plans.specs.declared.task.Way.TheVariants as way
-use Rattle.recovery_plans.specs.Stages.{ends, gather, moved, tail_of}
+use Rattle.recovery_plans.specs.Stages.{before, ends, gather, moved, tail_of}
 use Rattle.recovery_plans.specs.Taking.{is_waiting}
 use Rattle.recovery_ends.specs.Shapes.{Fits, are_still, is_due}
 
@@ -162,6 +163,13 @@ front-fits s ops none due still = record {
   due = λ h. absurd (false≢true (sym due ∙ h));
 }
 
+-- those of a replica that goes some way
+pub way-fits : (n : ServerNo) (by : Way) → Fits (stage.Move n by) (before by n ++ tail_of (stage.Move n by))
+way-fits n (way.Down b) = tail-fits (stage.Move n (way.Down b))
+way-fits n (way.Up b) = tail-fits (stage.Move n (way.Up b))
+way-fits n (way.Auto to exec) = tail-fits (stage.Move n (way.Auto to exec))
+way-fits n (way.Match to exec every) = record { front = op.Match n to every ∷ []; still = refl; is = refl; due = λ h. cc }
+
 -- once the operation that ends a stage is done, what is left is the next stage's
 moved-by : (s : Stage) (x : Op) (xs : List Op) (o : Op) (rest : List Op) → o ∷ rest ≡ x ∷ xs → ends s (deed_of x) ≡ true → Fits (moved s) xs → (ends s (deed_of o) ≡ true) × Fits (moved s) rest
 moved-by s x xs o rest h e f = (
@@ -179,6 +187,8 @@ moved-fits (stage.Move n (way.Up b)) o rest h =
     moved-by (stage.Move n (way.Up b)) (op.Cross cross.Up n b.no) (op.Start n ∷ []) o rest h refl (front-fits (stage.Join n b.source) (op.Start n ∷ []) refl refl refl)
 moved-fits (stage.Move n (way.Auto to exec)) o rest h =
     moved-by (stage.Move n (way.Auto to exec)) (op.Auto n to) (op.Start n ∷ []) o rest h refl (front-fits (stage.Join n to) (op.Start n ∷ []) refl refl refl)
+moved-fits (stage.Move n (way.Match to exec every)) o rest h =
+    moved-by (stage.Move n (way.Match to exec every)) (op.CrossMatch n to) (op.Start n ∷ []) o rest h refl (front-fits (stage.Join n to) (op.Start n ∷ []) refl refl refl)
 moved-fits (stage.Expel n) o rest h = moved-by (stage.Expel n) (op.Detach n) [] o rest h refl (tail-fits (stage.Expelled n))
 moved-fits (stage.Level p q) o rest h =
     moved-by (stage.Level p q) (op.Reset q) (op.Cross cross.About p q ∷ []) o rest h refl (tail-fits (stage.Swap p q))

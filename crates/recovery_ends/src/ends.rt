@@ -6,6 +6,7 @@ ghost use Rattle.orch_base.specs.declared.server.ServerNo.{ServerNo as Number};
 ghost use Rattle.instance_keeper.specs.Book.{BookState};
 ghost use Rattle.operations.specs.Turns.{is_going};
 ghost use Rattle.server_model.specs.Worlds.{World};
+ghost use Rattle.recovery_plans.specs.declared.means.Means.{Means as AMeans};
 ghost use Rattle.recovery_plans.specs.declared.purpose.Purpose.{Purpose as APurpose};
 ghost use Rattle.recovery_plans.specs.Beginning.{begun_recovery};
 ghost use Rattle.recovery_plans.specs.Recoveries.{Recovery};
@@ -15,8 +16,9 @@ ghost use Rattle.recovery_ends.specs.Ends.{IsShaped, turns_to_end};
 /// A turn after which a recovery goes on leaves it fewer turns, whatever the servers and the book: it has ended an
 /// operation, or was one more of a limited number of waits.
 pub fn recoveries_end()
-    ensures begun { (u : APurpose) (id wait : ℕ) (f : Number) (replicas order : List Number) →
-        IsShaped (begun_recovery u id wait f replicas order) }
+    ensures begun { (u : APurpose) (by : AMeans) (id wait : ℕ) (f : Number)
+        (replicas order : List Number) →
+        IsShaped (begun_recovery u by id wait f replicas order) }
     ensures shaped { (w : World) (b : BookState) (read : ℕ) (now : AMoment) (r : Recovery) →
         IsShaped r → is_going (taken w b read now r).step ≡ true →
         IsShaped (taken w b read now r).recovery }

@@ -29,6 +29,7 @@ use Rattle.operations.specs.Deeds.{deed_of}
 use Rattle.promotion_rules.specs.Choice.{is_barred}
 use Rattle.recovery_plans.specs.declared.outcome.Follower.{Follower}
 use Rattle.recovery_plans.specs.declared.outcome.Stopped.{Stopped}
+use Rattle.recovery_plans.specs.declared.means.Means.{Means}
 use Rattle.recovery_plans.specs.declared.purpose.Purpose.{Purpose}
 use Rattle.recovery_plans.specs.declared.purpose.Purpose.TheVariants as purpose
 use Rattle.recovery_plans.specs.Beginning.{begun_recovery}
@@ -145,8 +146,8 @@ kept-run w es r placed allowed kept p is =
     All-weaker (λ (s : Stopped). Keeps w r.failed.0 s.exec p.0) (λ (s : Stopped). Keeps (run w es) r.failed.0 s.exec p.0)
     (λ s h. Keeps-run w es r.failed.0 s.exec p.0 placed allowed h) r.eligible (kept p is)
 
-pub begun-kept : (w : World) (u : Purpose) (id wait : ℕ) (f : ServerNo) (ns order : List ServerNo) → KeptByChosen w (begun_recovery u id wait f ns order)
-begun-kept w u id wait f ns order p h = All-nil (λ (s : Stopped). Keeps w f.0 s.exec p.0)
+pub begun-kept : (w : World) (u : Purpose) (by : Means) (id wait : ℕ) (f : ServerNo) (ns order : List ServerNo) → KeptByChosen w (begun_recovery u by id wait f ns order)
+begun-kept w u by id wait f ns order p h = All-nil (λ (s : Stopped). Keeps w f.0 s.exec p.0)
 
 -- nobody is drained twice
 abbrev IsDrainedOnce : Recovery → Type 0

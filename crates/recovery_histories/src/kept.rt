@@ -8,6 +8,7 @@ ghost use Rattle.instance_keeper.specs.Book.{BookState};
 ghost use Rattle.server_model.specs.Run.{Exchange, run, AllAllowed};
 ghost use Rattle.server_model.specs.Safe.{Safe, Placed};
 ghost use Rattle.server_model.specs.Worlds.{World};
+ghost use Rattle.recovery_plans.specs.declared.means.Means.{Means as AMeans};
 ghost use Rattle.recovery_plans.specs.declared.purpose.Purpose.{Purpose as APurpose};
 ghost use Rattle.recovery_plans.specs.declared.purpose.Purpose.TheVariants as purpose;
 ghost use Rattle.recovery_plans.specs.Beginning.{begun_recovery};
@@ -24,9 +25,9 @@ ghost use Rattle.recovery_histories.specs.Kept.{Keeps, KeptByChosen, IsBeginning
 /// and, where the recovery is done in a safe world, of what the promoted one has, with or without a swap; and what the
 /// old master of a takeover has is a beginning of what the designated one has.
 pub fn recoveries_keep_histories()
-    ensures begun { (w : World) (u : APurpose) (id wait : ℕ) (f : Number)
+    ensures begun { (w : World) (u : APurpose) (by : AMeans) (id wait : ℕ) (f : Number)
         (replicas order : List Number) →
-        KeptByChosen w (begun_recovery u id wait f replicas order) }
+        KeptByChosen w (begun_recovery u by id wait f replicas order) }
     ensures taken { (w : World) (b : BookState) (read : ℕ) (now : AMoment) (r : Recovery) →
         Placed w → HeldRings w b.rings → SoundRings w b.rings → HeldRecovery w r →
         SoundRecovery w r → CoversSoFar w r → KeptByChosen w r →

@@ -4,14 +4,14 @@ ghost use Rattle.std.specs.Prelude.{◌≡◌, ◌≢◌, ◌<◌, [], None, Opt
 ghost use Rattle.orch_base.specs.Names.{HostPort};
 ghost use Rattle.commands.specs.declared.line.HookPhase.TheVariants as phase;
 ghost use Rattle.hook_texts.specs.declared.hooks.Hook.{Hook as AHook};
-ghost use Rattle.hook_texts.specs.declared.hooks.Hooks.{Hooks as Any};
+ghost use Rattle.hook_texts.specs.declared.hooks.Hooks.{Hooks as SomeHooks};
 ghost use Rattle.hook_texts.specs.declared.values.Values.{Values as AValues};
 ghost use Rattle.recovery_hooks.specs.Runs.{after_lines, before_lines, begun_hooks, checked, due_after, due_before, hooks_left, lines_of, ran_after, ran_before, running_before, when_done, AreInOrder, HookState, Passes};
 
 /// Hooks are in order as a recovery begins, and stay so: where it looks at its failed server, where one runs before it
 /// and passes, and where one runs behind it, when none is due before it. Each that runs leaves one less to run.
 pub fn hooks_run_in_order()
-    ensures begun { (hooks : Any) (told : AValues) → AreInOrder (begun_hooks hooks told) }
+    ensures begun { (hooks : SomeHooks) (told : AValues) → AreInOrder (begun_hooks hooks told) }
     ensures checked { (s : HookState) → AreInOrder s → AreInOrder (checked s) }
     ensures before { (s : HookState) (h : AHook) → due_before s ≡ Some h → Passes h →
         AreInOrder s → AreInOrder (ran_before s) }

@@ -6,6 +6,7 @@ use Rattle.orch_base.specs.declared.server.ServerNo.{ServerNo}
 use Rattle.server_model.specs.Worlds.{World}
 use Rattle.job_laws.specs.Footing.{footing, are_held}
 use Rattle.job_laws.specs.Matched.{IsPlaced, Meets, are_matched, matched_in}
+use Rattle.recovery_plans.specs.declared.means.Means.{Means}
 use Rattle.recovery_plans.specs.declared.purpose.Purpose.{Purpose}
 use Rattle.recovery_plans.specs.declared.purpose.Purpose.TheVariants as purpose
 use Rattle.recovery_plans.specs.declared.stage.Stage.TheVariants as stage
@@ -46,8 +47,8 @@ first-free purpose.Master f = refl
 first-free (purpose.Intermediate s) f = refl
 first-free (purpose.Takeover d) f = refl
 
-pub begun-held : (w : World) (u : Purpose) (id wait : ℕ) (f : ServerNo) (ns order : List ServerNo) → HeldRecovery w (begun_recovery u id wait f ns order)
-begun-held w u id wait f ns order = record {
+pub begun-held : (w : World) (u : Purpose) (by : Means) (id wait : ℕ) (f : ServerNo) (ns order : List ServerNo) → HeldRecovery w (begun_recovery u by id wait f ns order)
+begun-held w u by id wait f ns order = record {
   core = record { left = first-held w u f; shown = λ n s h. cc; matched = first-free u f; ends = All-nil (IsPlaced w) };
   stage = first-ready w u f;
   fits = first-fits u f;
@@ -62,8 +63,8 @@ first-sound w purpose.Master f = tt
 first-sound w (purpose.Intermediate s) f = tt
 first-sound w (purpose.Takeover d) f = tt
 
-pub begun-sound : (w : World) (u : Purpose) (id wait : ℕ) (f : ServerNo) (ns order : List ServerNo) → SoundRecovery w (begun_recovery u id wait f ns order)
-begun-sound w u id wait f ns order = record {
+pub begun-sound : (w : World) (u : Purpose) (by : Means) (id wait : ℕ) (f : ServerNo) (ns order : List ServerNo) → SoundRecovery w (begun_recovery u by id wait f ns order)
+begun-sound w u by id wait f ns order = record {
   core = λ n s h. cc;
   met = All-nil (Meets w);
   stage = first-sound w u f;

@@ -20,11 +20,13 @@ use Rattle.job_laws.specs.Held.{Spans}
 use Rattle.job_laws.proofs.Lists.{All-at}
 use Rattle.replica_groups.specs.declared.groups.Group.TheVariants as group
 use Rattle.replica_groups.specs.Groups.{by_bridge, group_of}
+use Rattle.recovery_plans.specs.declared.means.Means.{Means}
+use Rattle.recovery_plans.specs.declared.means.Means.TheVariants as means
 use Rattle.recovery_plans.specs.declared.outcome.Stopped.{Stopped}
 use Rattle.recovery_plans.specs.declared.task.Task.TheVariants as task
 use Rattle.recovery_plans.specs.declared.task.Way.TheVariants as way
 use Rattle.recovery_plans.specs.Deciding as deciding
-use Rattle.recovery_plans.specs.Deciding.{Lot, logs_at, drained_of, follower_of, stopped_in, chosen_of, better_of, lot_by_group, own_end_of, lot_of, move_of, moves_in}
+use Rattle.recovery_plans.specs.Deciding.{Lot, logs_at, drained_of, follower_of, stopped_in, chosen_of, better_of, lot_by_group, own_end_of, lot_by, move_of, moves_in}
 use Rattle.recovery_laws.specs.Rings.{HeldRings}
 use Rattle.recovery_laws.specs.HeldRecoveries.{IsReadyWay, IsReady, IsStopped, stopped_bridge}
 
@@ -95,8 +97,9 @@ module _ (w : World) (seen : List Sight) where
         level true e = record { own = own-spans.own; exec = subst (λ (c : Coord). IsTarget w f.0 c) (sym (same_coord-true s.exec p.exec e)) own-spans.exec }
         level false e = later (is_before p.exec s.exec)
 
-    pub lot-ready : (s : Stopped) → IsReadyLot (lot_of w b f p s)
-    lot-ready s = go w.gtid refl
+    pub lot-ready : (m : Means) (s : Stopped) → IsReadyLot (lot_by m w b f p s)
+    lot-ready (means.Matches every) s = logs
+    lot-ready means.Bridges s = go w.gtid refl
       where
         go : (g : Bool) → w.gtid ≡ g
             → IsReadyLot (cond g (deciding.Goes (way.Auto p.no s.exec)) (lot_by_group p.no f s (group_of b.rings p.no (own_end_of p) p.exec f s.exec)))

@@ -30,9 +30,9 @@ use Rattle.recovery_plans.specs.declared.task.Task.TheVariants as task
 use Rattle.recovery_plans.specs.declared.task.Way.{Way}
 use Rattle.recovery_plans.specs.declared.task.Way.TheVariants as way
 use Rattle.recovery_plans.specs.Recoveries.{Recovery, sight_of, working}
-use Rattle.recovery_plans.specs.Stages.{drain, level, move, with_bridge, with_way}
+use Rattle.recovery_plans.specs.Stages.{before, drain, level, move, with_bridge, with_way}
 use Rattle.recovery_plans.specs.Telling.{told}
-use Rattle.recovery_plans.specs.Deciding.{logs_at, chosen_of, better_of, lot_of, moves_in, without_stopped, choose, moving, way_below, way_by_set, why_of, expels, releases, sort, decided}
+use Rattle.recovery_plans.specs.Deciding.{logs_at, chosen_of, better_of, lot_by, moves_in, without_stopped, choose, moving, way_below, way_by_set, why_of, expels, releases, sort, decided}
 use Rattle.recovery_laws.specs.Rings.{HeldRings}
 use Rattle.recovery_ends.specs.Shapes.{Fits}
 use Rattle.recovery_plans.specs.Moves as by
@@ -42,7 +42,7 @@ use Rattle.recovery_laws.specs.HeldRecoveries.{IsReadyWay, IsReady, IsReadyStage
 use Rattle.recovery_laws.proofs.Choosing.{self, All-latest, moves-ready, lot-ready}
 use Rattle.recovery_plans.proofs.Choices.{All-chosen, All-better, chosen-logs}
 use Rattle.recovery_laws.proofs.Ready.{spans-logs, bridge-shown, way-read, queue-more, stopped-more}
-use Rattle.recovery_ends.proofs.Shapes.{front-fits, tail-fits}
+use Rattle.recovery_ends.proofs.Shapes.{front-fits, tail-fits, way-fits}
 use Rattle.recovery_laws.proofs.StaysRead.{saw-read}
 
 or-true : (b : Bool) → (b || true) ≡ true
@@ -83,27 +83,30 @@ module _ (w : World) where
       (both (is_under (source_shown (seen_of (with_bridge xs b) b.no.0)) f.0) (logs_at w b.no)
       (ap (λ o. is_under o f.0) under ∙ eq-eqb b.source.0 f.0 lead.below) (spans-logs w b lead.spans)) refl
 
-  way-held : (xs : List Sight) (n : ServerNo) (by : Way) → IsReadyWay w xs by → are_held (footing w (with_way xs by)) (move by n ∷ op.Start n ∷ []) ≡ true
+  way-held : (xs : List Sight) (n : ServerNo) (by : Way) → IsReadyWay w xs by → are_held (footing w (with_way xs by)) (before by n ++ move by n ∷ op.Start n ∷ []) ≡ true
   way-held xs n (way.Down b) s = both (finds (footing w (with_bridge xs b)) (deed_of (op.Cross cross.Down n b.no))) true (down-found xs b n s) refl
   way-held xs n (way.Up b) s = both (finds (footing w (with_bridge xs b)) (deed_of (op.Cross cross.Up n b.no))) true (down-found xs b n s) refl
   way-held xs n (way.Auto to exec) s =
       both (finds (footing w xs) (deed_of (op.Auto n to))) true (both w.gtid _ s.gtid (both (is_some (seen_of xs to.0)) (logs_at w to) s.read s.logs)) refl
+  way-held xs n (way.Match to exec every) s = both (logs_at w to) true s refl
 
-  way-free : (by : Way) (n : ServerNo) (has : Matched) → are_matched has (move by n ∷ op.Start n ∷ []) ≡ true
+  way-free : (by : Way) (n : ServerNo) (has : Matched) → are_matched has (before by n ++ move by n ∷ op.Start n ∷ []) ≡ true
   way-free (way.Down b) n has = refl
   way-free (way.Up b) n has = refl
   way-free (way.Auto to exec) n has = refl
+  way-free (way.Match to exec every) n has = simp self refl
 
   way-shown : (r : Recovery) (by : Way) → HeldRecovery w r → IsReadyWay w r.core.seen by → Rattle.job_laws.specs.Held.AllShow w (with_way r.core.seen by)
   way-shown r (way.Down b) held s = bridge-shown w r.core.seen b held.core.shown s
   way-shown r (way.Up b) held s = bridge-shown w r.core.seen b held.core.shown s
   way-shown r (way.Auto to exec) held s = held.core.shown
+  way-shown r (way.Match to exec every) held s = held.core.shown
 
   pub moving-held : (r : Recovery) (n : ServerNo) (by : Way) → HeldRecovery w r → IsReadyWay w r.core.seen by → HeldRecovery w (moving r n by)
   moving-held r n by held ready = record {
     core = record { left = way-held r.core.seen n by ready; shown = way-shown r by held ready; matched = way-free by n (matched_in r.core.matches); ends = held.core.ends };
     stage = tt;
-    fits = tail-fits (stage.Move n by);
+    fits = way-fits n by;
     queue = queue-more w r.core.seen (with_way r.core.seen by) (way-read r.core.seen by) r.queue held.queue;
     drained = stopped-more w r.core.seen (with_way r.core.seen by) (way-read r.core.seen by) r.failed r.drained held.drained;
     lead = held.lead;
@@ -160,9 +163,9 @@ module _ (w : World) (b : BookState) (now : Moment) (rings : HeldRings w b.rings
   chooses-held r p held e =
       let one = All-chosen w b now r.failed (IsStopped w r.core.seen r.failed) r.drained p held.drained e in
       let logs = chosen-logs w b now r.failed r.drained p e in
-      queued-held r (moves_in (lot_of w b r.failed p) (without_stopped r.drained p.no) ++ r.queue) [] held
-      (All-append (IsReady w r.core.seen) (moves_in (lot_of w b r.failed p) (without_stopped r.drained p.no)) r.queue
-      (moves-ready w r.core.seen (lot_of w b r.failed p) (without_stopped r.drained p.no) (lot-ready w r.core.seen b r.failed p rings one logs)) held.queue)
+      queued-held r (moves_in (lot_by r.means w b r.failed p) (without_stopped r.drained p.no) ++ r.queue) [] held
+      (All-append (IsReady w r.core.seen) (moves_in (lot_by r.means w b r.failed p) (without_stopped r.drained p.no)) r.queue
+      (moves-ready w r.core.seen (lot_by r.means w b r.failed p) (without_stopped r.drained p.no) (lot-ready w r.core.seen b r.failed p rings one logs r.means)) held.queue)
       (All-nil (IsStopped w r.core.seen r.failed))
 
   sort-held : (r : Recovery) → HeldRecovery w r → HeldRecovery w (sort r)

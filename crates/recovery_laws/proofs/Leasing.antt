@@ -7,6 +7,7 @@ use Rattle.orch_base.specs.declared.server.ServerNo.{ServerNo}
 use Rattle.server_model.specs.Worlds.{World}
 use Rattle.instance_keeper.specs.Book.{BookState}
 use Rattle.job_laws.specs.Leases.{Leases, IsLeased, MayChange, HasLeases}
+use Rattle.recovery_plans.specs.declared.means.Means.{Means}
 use Rattle.recovery_plans.specs.declared.purpose.Purpose.{Purpose}
 use Rattle.recovery_plans.specs.Beginning.{begun_recovery}
 use Rattle.recovery_plans.specs.Named.{IsOpOf}
@@ -26,6 +27,6 @@ job-leased l id r has = record {
   hands = subst (λ (i : ℕ). All (λ n. IsLeased l i n.0) r.core.hands) (sym has.number) has.hands;
 }
 
-pub begun-leased : (l : Leases) (u : Purpose) (id wait : ℕ) (f : ServerNo) (ns order : List ServerNo) → All (λ n. IsLeased l id n.0) ns → IsLeasedList l id u f
-    → LeasedRecovery l id (begun_recovery u id wait f ns order)
-begun-leased l u id wait f ns order all h = begun-of (IsLeased l id) IsAny u id wait f ns order all tt h
+pub begun-leased : (l : Leases) (u : Purpose) (by : Means) (id wait : ℕ) (f : ServerNo) (ns order : List ServerNo) → All (λ n. IsLeased l id n.0) ns → IsLeasedList l id u f
+    → LeasedRecovery l id (begun_recovery u by id wait f ns order)
+begun-leased l u by id wait f ns order all h = begun-of (IsLeased l id) IsAny u by id wait f ns order all tt h

@@ -59,12 +59,14 @@ pub way-read : (xs : List Sight) (by : Way) → StaysRead xs (with_way xs by)
 way-read xs (way.Down b) = saw-read xs b.no (sight_of b)
 way-read xs (way.Up b) = saw-read xs b.no (sight_of b)
 way-read xs (way.Auto to exec) = λ n h. h
+way-read xs (way.Match to exec every) = λ n h. h
 
 module _ (w : World) (xs ys : List Sight) (more : StaysRead xs ys) where
   ready-way-more : (by : Way) → IsReadyWay w xs by → IsReadyWay w ys by
   ready-way-more (way.Down b) h = h
   ready-way-more (way.Up b) h = h
   ready-way-more (way.Auto to exec) h = record { gtid = h.gtid; logs = h.logs; read = more to.0 h.read }
+  ready-way-more (way.Match to exec every) h = h
 
   ready-more : (t : Task) → IsReady w xs t → IsReady w ys t
   ready-more (task.Moving n by) h = ready-way-more by h
@@ -98,6 +100,7 @@ module _ (w : World) (es : List Exchange) (placed : Placed w) (allowed : AllAllo
   ready-way-run xs (way.Down b) h = spans-run b h
   ready-way-run xs (way.Up b) h = spans-run b h
   ready-way-run xs (way.Auto to exec) h = record { gtid = gtid-run w es ∙ h.gtid; logs = logs-run to.0 h.logs; read = h.read }
+  ready-way-run xs (way.Match to exec every) h = logs-run to.0 h
 
   ready-run : (xs : List Sight) (t : Task) → IsReady w xs t → IsReady (run w es) xs t
   ready-run xs (task.Moving n by) h = ready-way-run xs by h

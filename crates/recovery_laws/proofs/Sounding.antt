@@ -38,6 +38,8 @@ use Rattle.job_laws.proofs.Matching.{AllMeet-run}
 use Rattle.job_laws.proofs.Turns.{with-one, goes-kept, goes-sound, restarts-join, AllBridged-run}
 use Rattle.replica_groups.specs.declared.groups.Group.TheVariants as group
 use Rattle.replica_groups.specs.Groups.{by_bridge, group_of}
+use Rattle.recovery_plans.specs.declared.means.Means.{Means}
+use Rattle.recovery_plans.specs.declared.means.Means.TheVariants as means
 use Rattle.recovery_plans.specs.declared.outcome.Stopped.{Stopped}
 use Rattle.recovery_plans.specs.declared.purpose.Purpose.{Purpose}
 use Rattle.recovery_plans.specs.declared.purpose.Purpose.TheVariants as purpose
@@ -51,10 +53,11 @@ use Rattle.recovery_plans.specs.Recoveries.{Recovery, follows, follows_no_more, 
 use Rattle.recovery_plans.specs.Stages.{drain, ends, gather, leaver, level, moved, with_bridge, with_way}
 use Rattle.recovery_plans.specs.Telling.{told}
 use Rattle.recovery_plans.specs.Deciding as deciding
-use Rattle.recovery_plans.specs.Deciding.{Lot, chosen_of, lot_by_group, own_end_of, lot_of, move_of, moves_in, without_stopped, choose, moving, way_below, way_by_set, why_of, expels, releases, sort, logs_at}
+use Rattle.recovery_plans.specs.Deciding.{Lot, chosen_of, lot_by_group, own_end_of, lot_by, move_of, moves_in, without_stopped, choose, moving, way_below, way_by_set, why_of, expels, releases, sort, logs_at}
 use Rattle.recovery_plans.specs.Taking.{lead_under, idle, entered, stepped, swapped, that_can, takes_writes, goes_back, way_back, undone, last_looks, last_exchanges, taken}
 use Rattle.recovery_plans.specs.Moves as by
 use Rattle.recovery_plans.specs.Moves.{Bearing, Decision, Does, Ending, IsHanding, IsNext, MayDecide, MayEnd, borne, decided_by, ended_by, fate_of}
+use Rattle.recovery_plans.proofs.Leading.{moved-leads}
 use Rattle.recovery_plans.proofs.Walking.{Keeps, kept-along, made-along}
 use Rattle.recovery_laws.specs.Rings.{HeldRings, SoundRings}
 use Rattle.recovery_ends.specs.Shapes.{Fits}
@@ -78,6 +81,7 @@ way-bridged : (w : World) (xs : List Sight) (by : Way) → AllBridged w xs → I
 way-bridged w xs (way.Down b) all s = seen-bridged w xs b all s
 way-bridged w xs (way.Up b) all s = seen-bridged w xs b all s
 way-bridged w xs (way.Auto to exec) all s = all
+way-bridged w xs (way.Match to exec every) all s = all
 
 -- ---- a stage begins
 
@@ -109,8 +113,9 @@ module _ (w : World) (b : BookState) (now : Moment) (rings : HeldRings w b.rings
       go (deciding.Goes by) h = All-cons (IsSoundTask w) (task.Moving s.no by) [] h (All-nil (IsSoundTask w))
       go (deciding.Stays why) h = All-nil (IsSoundTask w)
 
-  lot-sound : (seen : List Sight) (f : ServerNo) (p : Stopped) → IsStopped w seen f p → logs_at w p.no ≡ true → IsSoundStop w f p → (s : Stopped) → IsSoundLot (lot_of w b f p s)
-  lot-sound seen f p stopped logs sound s = go w.gtid
+  lot-sound : (seen : List Sight) (f : ServerNo) (p : Stopped) → IsStopped w seen f p → logs_at w p.no ≡ true → IsSoundStop w f p → (m : Means) (s : Stopped) → IsSoundLot (lot_by m w b f p s)
+  lot-sound seen f p stopped logs sound (means.Matches every) s = tt
+  lot-sound seen f p stopped logs sound means.Bridges s = go w.gtid
     where
       own-stands : StandsIn w (stopped_bridge f p (own_end_of p))
       own-stands = sound (own_end_of p) (own-is w seen b f p rings stopped logs)
@@ -160,9 +165,9 @@ module _ (w : World) (b : BookState) (now : Moment) (rings : HeldRings w b.rings
   chooses-sound r p stopped s e =
       let one = All-chosen w b now r.failed (IsStopped w r.core.seen r.failed) r.drained p stopped e in
       let stop = All-chosen w b now r.failed (IsSoundStop w r.failed) r.drained p s.drained e in
-      queued-sound r (moves_in (lot_of w b r.failed p) (without_stopped r.drained p.no) ++ r.queue) [] s
-      (All-append (IsSoundTask w) (moves_in (lot_of w b r.failed p) (without_stopped r.drained p.no)) r.queue
-      (moves-sound (lot_of w b r.failed p) (without_stopped r.drained p.no) (lot-sound r.core.seen r.failed p one (chosen-logs w b now r.failed r.drained p e) stop)) s.queue)
+      queued-sound r (moves_in (lot_by r.means w b r.failed p) (without_stopped r.drained p.no) ++ r.queue) [] s
+      (All-append (IsSoundTask w) (moves_in (lot_by r.means w b r.failed p) (without_stopped r.drained p.no)) r.queue
+      (moves-sound (lot_by r.means w b r.failed p) (without_stopped r.drained p.no) (lot-sound r.core.seen r.failed p one (chosen-logs w b now r.failed r.drained p e) stop r.means)) s.queue)
       (All-nil (IsSoundStop w r.failed))
 
   below-sound : (seen : List Sight) (x k : ServerNo) (d : Stopped) (o : Option Way) → way_below w b seen x k d ≡ o → IfSome o (IsSoundWay w)
@@ -190,7 +195,8 @@ module _ (w : World) (b : BookState) (now : Moment) (rings : HeldRings w b.rings
       let out = filter (λ (n : ServerNo). expels r.purpose (why_of r.outcome.lost n)) r.replicas in
       let free = filter (λ (n : ServerNo). releases r.purpose (why_of r.outcome.lost n)) r.replicas in
       record {
-        core = s.core; met = s.met;
+        core = s.core;
+        met = s.met;
         stage = s.stage;
         queue =
             All-append (IsSoundTask w) (map task.Expelling out) (map task.Releasing free ++ r.queue) (sound-map task.Expelling out (λ n. tt))
@@ -234,6 +240,7 @@ way-on : (w : World) (es : List Exchange) → Placed w → AllAllowed w es → (
 way-on w es placed allowed (way.Down b) h = Stands-grows w (run w es) b.no.0 b.source.0 b.own b.exec (Grows-run w es placed allowed) h
 way-on w es placed allowed (way.Up b) h = Stands-grows w (run w es) b.no.0 b.source.0 b.own b.exec (Grows-run w es placed allowed) h
 way-on w es placed allowed (way.Auto to exec) h = tt
+way-on w es placed allowed (way.Match to exec every) h = tt
 
 module _ (w : World) (es : List Exchange) (placed : Placed w) (allowed : AllAllowed w es) where
   stands-on : (b : Bridge) → StandsIn w b → StandsIn (run w es) b
@@ -293,7 +300,8 @@ module _ (w : World) where
   completes-sound : (r : Recovery) (e : Ending) → MayEnd r e → SoundRecovery w r → SoundRecovery w (ended_by r e)
   completes-sound r by.Rests may s = idle-sound w r s
   completes-sound r (by.Stays n x) may s = record {
-    core = s.core; met = s.met;
+    core = s.core;
+    met = s.met;
     stage = tt;
     queue = s.queue;
     drained = All-push (IsSoundStop w r.failed) r.drained _ s.drained (λ own end. s.core n.0 x may.1 r.failed.0 own (source-is (source_no x.source) r.failed may.2) end);
@@ -315,12 +323,7 @@ module _ (w : World) where
 
   -- the bridge of a stage is that of the next
   moved-sound : (x : Stage) → IsSoundStage w x → IsSoundStage w (moved x)
-  moved-sound (stage.Look n b) h = h
-  moved-sound (stage.Trail n b) h = h
-  moved-sound (stage.Looked n b) h = h
-  moved-sound (stage.Halted n b) h = h
-  moved-sound (stage.Move n by) h = tt
-  moved-sound x h = tt
+  moved-sound x h = subst (λ (o : Option Bridge). IfSome o (StandsIn w)) (sym (moved-leads x)) h
 
   stepped-sound : (r : Recovery) (o : Op) → SoundRecovery w r → SoundRecovery w (stepped r o)
   stepped-sound r o s = go (ends r.stage (deed_of o))

@@ -8,7 +8,7 @@ use Rattle.orch_base.specs.declared.server.ServerNo.{ServerNo}
 use Rattle.server_model.specs.Run.{Exchange, run, AllAllowed}
 use Rattle.server_model.specs.Safe.{Placed}
 use Rattle.server_model.specs.Worlds.{World, source_no}
-use Rattle.commands.specs.declared.line.Lost.{Lost}
+use Rattle.recovery_plans.specs.declared.why.Why.{Why}
 use Rattle.instance_keeper.specs.declared.bridge.Bridge.{Bridge}
 use Rattle.kept_rows.specs.declared.observation.Observation.{Observation}
 use Rattle.instance_keeper.specs.Book.{BookState}
@@ -40,6 +40,7 @@ use Rattle.recovery_plans.specs.Taking.{is_source, is_below, swapped, lead_under
 use Rattle.recovery_plans.proofs.Allowed.{taken-allowed}
 use Rattle.recovery_plans.specs.Moves as by
 use Rattle.recovery_plans.specs.Moves.{Bearing, Does, Ending, MayBear, MayEnd, borne, ended_by, fate_of, stray}
+use Rattle.recovery_plans.proofs.Leading.{moved-leads}
 use Rattle.recovery_plans.proofs.Walking.{Keeps, kept-along}
 use Rattle.recovery_laws.specs.Rings.{HeldRings}
 use Rattle.recovery_ends.specs.Shapes.{Fits}
@@ -104,7 +105,7 @@ module _ (w : World) where
         spans = λ own end. record { own = shown.own own end; exec = shown.under r.failed.0 (source-is (source_no s.source) r.failed f) };
       }
 
-  frees-held : (r : Recovery) (n : ServerNo) (why : Lost) → HeldRecovery w r → HeldRecovery w (frees r n why)
+  frees-held : (r : Recovery) (n : ServerNo) (why : Why) → HeldRecovery w r → HeldRecovery w (frees r n why)
   frees-held r n why held = working-held w (loses r n why) (stage.Release n) (op.Start n ∷ []) held tt refl (λ has. refl) (front-fits (stage.Release n) (op.Start n ∷ []) refl refl refl)
 
   -- the bridge that was seen of the designated replica
@@ -203,15 +204,6 @@ module _ (w : World) (read : ℕ) (now : Moment) (r : Recovery) (o : Op) (rest :
       lead = lead-run w es placed allowed r.failed r.lead held.lead;
     }
 
-    -- the bridge of a stage is that of the next
-    moved-ready : (s : Stage) → IsReadyStage w s → IsReadyStage w (moved s)
-    moved-ready (stage.Look n b) ready = ready
-    moved-ready (stage.Trail n b) ready = ready
-    moved-ready (stage.Looked n b) ready = ready
-    moved-ready (stage.Halted n b) ready = ready
-    moved-ready (stage.Move n by) ready = tt
-    moved-ready s ready = tt
-
     pub stepped-held : j.ops ≡ rest → HeldRecovery (run w es) (stepped later o)
     stepped-held left = go (fits-step r.stage o rest fits)
       where
@@ -223,7 +215,7 @@ module _ (w : World) (read : ℕ) (now : Moment) (r : Recovery) (o : Op) (rest :
             let m = moved-fits r.stage o rest e in
             subst (λ (b : Bool). HeldRecovery (run w es) (cond b (entered later (moved r.stage)) later)) (sym m.0)
             (entered-held (run w es) later (moved r.stage)
-            (later-held (moved r.stage) (moved-ready r.stage held.stage) (subst (λ (ops : List Op). Fits (moved r.stage) ops) (sym left) m.1)))
+            (later-held (moved r.stage) (subst (λ (x : Option Bridge). IfSome x (Spans w)) (sym (moved-leads r.stage)) held.stage) (subst (λ (ops : List Op). Fits (moved r.stage) ops) (sym left) m.1)))
 
   -- ---- it stops
 

@@ -28,11 +28,12 @@ pub record IsAutoSource (w : World) (seen : List Sight) (n : ServerNo) : Type 0 
   pub logs : logs_at w n.0 ≡ true
   pub read : is_some (seen_of seen n.0) ≡ true
 
--- a way can be tried: both ends of its bridge have places, or its new source is one by GTIDs
+-- a way can be tried: both ends of its bridge have places, or its new source is one by GTIDs, or logs
 abbrev pub IsReadyWay : World → List Sight → Way → Type 0
 IsReadyWay w seen (way.Down b) = Spans w b
 IsReadyWay w seen (way.Up b) = Spans w b
 IsReadyWay w seen (way.Auto to exec) = IsAutoSource w seen to
+IsReadyWay w seen (way.Match to exec every) = logs_at w to.0 ≡ true
 
 abbrev pub IsReady : World → List Sight → Task → Type 0
 IsReady w seen (task.Moving n by) = IsReadyWay w seen by

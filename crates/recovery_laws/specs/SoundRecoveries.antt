@@ -26,6 +26,7 @@ abbrev pub IsSoundWay : World → Way → Type 0
 IsSoundWay w (way.Down b) = StandsIn w b
 IsSoundWay w (way.Up b) = StandsIn w b
 IsSoundWay w (way.Auto to exec) = Unit {0}
+IsSoundWay w (way.Match to exec every) = Unit {0}
 
 abbrev pub IsSoundTask : World → Task → Type 0
 IsSoundTask w (task.Moving n by) = IsSoundWay w by

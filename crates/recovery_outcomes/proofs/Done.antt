@@ -211,17 +211,13 @@ module _ (w : World) (read : ℕ) (now : Moment) (r : Recovery) (o : Op) (rest :
       first : (x : Op) (xs : List Op) → o ∷ rest ≡ x ∷ xs → ends-so x
       first x xs h = sym (ap deed_of (same-head o x rest xs h)) ∙ d
 
-      lines-of : Deed → List Line
-      lines-of (deed.Finish xs) = xs
-      lines-of y = []
-
       leader-of : (ls : List Line) → Leads r (stage.Close ls) → (r.outcome.promoted ≡ r.chosen) ⊎ HasSwapped r
       leader-of ls (inl l) = inl l
       leader-of ls (inr l) = inr l.1
 
       go : (x : Stage) → o ∷ rest ≡ tail_of x → CoversAt w r x → IsClosing w r lines
       go (stage.Close ls) t a = record {
-        told = record { covers = close-covers w r ls a; told = sym (ap lines-of (first (op.Finish ls) [] t)) ∙ a.stage.1; leads = leader-of ls a.leads };
+        told = record { covers = close-covers w r ls a; told = (let same = first (op.Finish ls) [] t in let e : lines ≡ ls = cc in e) ∙ a.stage.1; leads = leader-of ls a.leads };
         chain = close-chain w r ls a;
       }
       go (stage.Drain n) t a = let bad = first (op.Status n None) _ t in cc
@@ -230,6 +226,7 @@ module _ (w : World) (read : ℕ) (now : Moment) (r : Recovery) (o : Op) (rest :
       go (stage.Move n (way.Down b)) t a = let bad = first (op.Cross cross.Down n b.no) _ t in cc
       go (stage.Move n (way.Up b)) t a = let bad = first (op.Cross cross.Up n b.no) _ t in cc
       go (stage.Move n (way.Auto to exec)) t a = let bad = first (op.Auto n to) _ t in cc
+      go (stage.Move n (way.Match to exec every)) t a = let bad = first (op.CrossMatch n to) _ t in cc
       go (stage.Expel n) t a = let bad = first (op.Detach n) _ t in cc
       go (stage.Level p q) t a = let bad = first (op.Reset q) _ t in cc
       go (stage.Swap p q) t a = let bad = first (op.Cross cross.About p q) _ t in cc

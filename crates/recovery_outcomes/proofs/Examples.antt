@@ -16,7 +16,9 @@ use Rattle.server_model.specs.Worlds.{World, has_source, server_at}
 use Rattle.commands.specs.declared.line.Lost.TheVariants as lost
 use Rattle.recovery_plans.specs.declared.outcome.Follower.{Follower}
 use Rattle.recovery_plans.specs.declared.outcome.LostReplica.{LostReplica}
+use Rattle.recovery_plans.specs.declared.means.Means.TheVariants as means
 use Rattle.recovery_plans.specs.declared.purpose.Purpose.TheVariants as purpose
+use Rattle.recovery_plans.specs.declared.why.Why.TheVariants as why
 use Rattle.recovery_plans.specs.Beginning.{begun_recovery}
 use Rattle.recovery_plans.specs.Recoveries.{Outcome}
 use Rattle.recovery_plans.specs.Taking.{Taken}
@@ -122,7 +124,7 @@ module _ (st : Settings) where
       rounds (book (109 ∷ 97 ∷ 98 ∷ 99 ∷ []) ([] ∷ (bridge 1 0 2 ∷ bridge 1 0 3 ∷ []) ∷ (bridge 2 0 2 ∷ []) ∷ (bridge 3 0 3 ∷ []) ∷ []) (rule.Neutral ∷ rule.Neutral ∷ rule.Prefer ∷ rule.Neutral ∷ []))
       (each_turn (Fetch 1 ∷ Apply 1 ∷ Fetch 2 ∷ Apply 2 ∷ Fetch 3 ∷ Apply 3 ∷ [])) 0 80
       (world st (server st 0 Without 3 false ∷ server st 1 (Attached (server_no 0)) 3 true ∷ server st 2 (Attached (server_no 0)) 2 true ∷ server st 3 (Attached (server_no 0)) 3 true ∷ []))
-      (begun_recovery purpose.Master 1 5 (server_no 0) three three)
+      (begun_recovery purpose.Master means.Bridges 1 5 (server_no 0) three three)
 
   abbrev mastered : Outcome
   mastered = record { promoted = Some (server_no 2); followers = follower 3 1 ∷ follower 1 2 ∷ []; lost = [] }
@@ -158,10 +160,10 @@ module _ (st : Settings) where
       rounds (book (109 ∷ 120 ∷ 113 ∷ 114 ∷ []) ([] ∷ (bridge 1 0 3 ∷ []) ∷ (bridge 2 1 3 ∷ []) ∷ (bridge 3 1 1 ∷ []) ∷ []) (rule.Neutral ∷ rule.Neutral ∷ rule.Neutral ∷ rule.Neutral ∷ []))
       (each_turn []) 0 60
       (world st (server st 0 Without 3 true ∷ server st 1 (Attached (server_no 0)) 3 false ∷ server st 2 (Attached (server_no 1)) 3 true ∷ server st 3 (Attached (server_no 1)) 1 true ∷ []))
-      (begun_recovery (purpose.Intermediate (server_no 0)) 1 5 (server_no 1) two two)
+      (begun_recovery (purpose.Intermediate (server_no 0)) means.Bridges 1 5 (server_no 1) two two)
 
   abbrev left_behind : LostReplica
-  left_behind = record { no = server_no 3; why = lost.Behind (end 1); detached = true }
+  left_behind = record { no = server_no 3; why = why.Lost (lost.Behind (end 1)); detached = true }
 
   abbrev bridged : Outcome
   bridged = record { promoted = Some (server_no 0); followers = follower 2 0 ∷ []; lost = left_behind ∷ [] }
@@ -195,10 +197,10 @@ module _ (st : Settings) where
       (world st (
       record (server st 0 Without 2 true) { read_only = false } ∷ server st 1 (Attached (server_no 0)) 2 true ∷ server st 2 (Attached (server_no 0)) 2 true
       ∷ record (server st 3 (Attached (server_no 0)) 1 true) { read = end 2; feed = false } ∷ []))
-      (begun_recovery (purpose.Takeover (server_no 1)) 1 5 (server_no 0) three (server_no 0 ∷ three))
+      (begun_recovery (purpose.Takeover (server_no 1)) means.Bridges 1 5 (server_no 0) three (server_no 0 ∷ three))
 
   abbrev too_late : LostReplica
-  too_late = record { no = server_no 3; why = lost.Behind (end 1); detached = false }
+  too_late = record { no = server_no 3; why = why.Lost (lost.Behind (end 1)); detached = false }
 
   abbrev taken_over : Outcome
   taken_over = record { promoted = Some (server_no 1); followers = follower 2 1 ∷ follower 0 1 ∷ []; lost = too_late ∷ [] }
@@ -239,13 +241,13 @@ module _ (st : Settings) where
       (world st (
       server st 0 Without 4 false ∷ server st 1 (Attached (server_no 0)) 3 true ∷ server st 2 (Attached (server_no 0)) 3 true
       ∷ server st 3 (Attached (server_no 0)) 2 true ∷ server st 4 (Attached (server_no 0)) 1 true ∷ server st 5 (Attached (server_no 0)) 4 true ∷ []))
-      (begun_recovery purpose.Regroup 1 5 (server_no 0) five five)
+      (begun_recovery purpose.Regroup means.Bridges 1 5 (server_no 0) five five)
 
   abbrev left : LostReplica
-  left = record { no = server_no 4; why = lost.Behind (end 1); detached = false }
+  left = record { no = server_no 4; why = why.Lost (lost.Behind (end 1)); detached = false }
 
   abbrev ahead : LostReplica
-  ahead = record { no = server_no 5; why = lost.Ahead (end 4); detached = false }
+  ahead = record { no = server_no 5; why = why.Lost (lost.Ahead (end 4)); detached = false }
 
   abbrev gathered : Outcome
   gathered = record { promoted = Some (server_no 1); followers = follower 2 1 ∷ follower 3 1 ∷ []; lost = left ∷ ahead ∷ [] }

@@ -14,7 +14,7 @@ use Rattle.recovery_plans.specs.declared.outcome.LostReplica.{LostReplica}
 use Rattle.recovery_plans.specs.declared.purpose.Purpose.{Purpose}
 use Rattle.recovery_plans.specs.declared.purpose.Purpose.TheVariants as purpose
 use Rattle.recovery_plans.specs.Recoveries.{Outcome}
-use Rattle.recovery_plans.specs.Telling.{follower_line, lost_line, or_line, replica_line, lines_apart, told_by}
+use Rattle.recovery_plans.specs.Telling.{follower_line, lost_line, or_line, replica_line, lines_apart, told_by, told_why}
 use Rattle.recovery_plans.proofs.Choices.{same-no}
 use Rattle.recovery_covers.specs.Covers.{times, follower_nos, listed, owed, leader, HasOnePlace, Covers}
 use Rattle.recovery_outcomes.specs.Told.{leader_line, IsToldOf}
@@ -149,9 +149,9 @@ module _ (w : World) (u : Purpose) (f : ServerNo) (ns : List ServerNo) (o : Outc
             l.item,
             l.within,
             l.named,
-            replica-told u o order n (line.Lost l.item.no l.item.why l.item.detached) has (inr (
+            replica-told u o order n (told_why l.item.no l.item.detached l.item.why) has (inr (
               ap (option_map (λ (y : Follower). line.Follows y.no y.source)) (missed-by (λ (y : Follower). y.no) n o.followers none),
-              ap (option_map (λ (y : LostReplica). line.Lost y.no y.why y.detached)) l.found,
+              ap (option_map (λ (y : LostReplica). told_why y.no y.detached y.why)) l.found,
             )),
           ))
 

@@ -8,6 +8,7 @@ use Rattle.recovery_plans.specs.declared.outcome.LostReplica.{LostReplica}
 use Rattle.recovery_plans.specs.declared.purpose.Purpose.{Purpose}
 use Rattle.recovery_plans.specs.declared.purpose.Purpose.TheVariants as purpose
 use Rattle.recovery_plans.specs.Recoveries.{Outcome}
+use Rattle.recovery_plans.specs.Telling.{told_why}
 
 -- the line of the promoted server
 abbrev pub leader_line : Purpose → ServerNo → Line
@@ -21,4 +22,4 @@ abbrev pub IsToldOf : Purpose → Outcome → List Line → ServerNo → Type 0
 IsToldOf u o lines n =
     ((o.promoted ≡ Some n) × Contains lines (leader_line u n))
     ⊎ (((x : Follower) × Contains o.followers x × (x.no ≡ n) × Contains lines (line.Follows x.no x.source))
-    ⊎ ((l : LostReplica) × Contains o.lost l × (l.no ≡ n) × Contains lines (line.Lost l.no l.why l.detached)))
+    ⊎ ((l : LostReplica) × Contains o.lost l × (l.no ≡ n) × Contains lines (told_why l.no l.detached l.why)))

@@ -3,23 +3,23 @@ use Rattle.std.proofs.Common.{◌≡◌, ℕ, ◌+◌, ◌<◌, List, [], ◌∷
 use Rattle.std.specs.Prelude.{is_ok}
 use Rattle.std.proofs.lemmas.Bool.{false≢true}
 use Rattle.std.proofs.lemmas.List.{take_more, append_assoc, append-nil}
-use Rattle.commands.specs.declared.line.Lost.{Lost}
 use Rattle.recovery_plans.specs.Deciding.{Lot, Goes, Stays, stay_of, losses_in, move_of, moves_in}
 use Rattle.recovery_plans.specs.declared.outcome.LostReplica.{LostReplica}
 use Rattle.recovery_plans.specs.declared.outcome.Stopped.{Stopped}
 use Rattle.recovery_plans.specs.declared.task.Task.{Task}
 use Rattle.recovery_plans.specs.declared.task.Task.TheVariants as task
 use Rattle.recovery_plans.specs.declared.task.Way.{Way}
+use Rattle.recovery_plans.specs.declared.why.Why.{Why}
 use Rattle.recovery_parts.specs.Lots.{by_lot}
 
 abbrev pub none : Stopped
 none = record { no = record { 0 = 0 }; exec = record { file = 0; pos = 0 }; own_end = None }
 
-way_or : Way → Result Way Lost → Way
+way_or : Way → Result Way Why → Way
 way_or d (Ok way) = way
 way_or d (Err why) = d
 
-why_or : Lost → Result Way Lost → Lost
+why_or : Why → Result Way Why → Why
 why_or d (Ok way) = d
 why_or d (Err why) = why
 
@@ -81,7 +81,7 @@ one-goes lot before xs k ts us ls ms by within so_far goes moves lost = next lot
     unmade (Stays why) h = absurd (false≢true (ap is_ok h))
 
 -- one more is lost
-pub one-stays : (lot : Stopped → Lot) (before : List LostReplica) (xs : List Stopped) (k : ℕ) (ts us : List Task) (ls ms : List LostReplica) (why : Lost) → k < length xs
+pub one-stays : (lot : Stopped → Lot) (before : List LostReplica) (xs : List Stopped) (k : ℕ) (ts us : List Task) (ls ms : List LostReplica) (why : Why) → k < length xs
     → Divided lot before (take k xs) ts ls → by_lot (lot (get_or xs k none)) ≡ Err why
     → us ≡ ts → ms ≡ ls ++ record { no = (get_or xs k none).no; why = why; detached = false } ∷ []
     → Divided lot before (take (k + 1) xs) us ms
@@ -93,7 +93,7 @@ one-stays lot before xs k ts us ls ms why within so_far stays moves lost = next 
     s = get_or xs k none
 
     made : (l : Lot) → by_lot l ≡ Err why → record { no = s.no; why = why; detached = false } ∷ [] ≡ stay_of s l
-    made (Stays other) h = ap (λ (l : Lost). record { no = s.no; why = l; detached = false } ∷ []) (sym (ap (why_or why) h))
+    made (Stays other) h = ap (λ (l : Why). record { no = s.no; why = l; detached = false } ∷ []) (sym (ap (why_or why) h))
     made (Goes way) h = absurd (false≢true (sym (ap is_ok h)))
 
     unmade : (l : Lot) → by_lot l ≡ Err why → [] ≡ move_of s l

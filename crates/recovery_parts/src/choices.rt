@@ -3,7 +3,7 @@
 ghost use Rattle.std.specs.Prelude.{◌≡◌, ◌<◌, ◌==◌, All, IfOk, find, length, map};
 ghost use Rattle.std.specs.Option.{option_copied};
 ghost use Rattle.server_model.specs.Worlds.{server_at};
-ghost use Rattle.recovery_plans.specs.Deciding.{better_of, center_in, chosen_of, drained_of, expels, follower_of, is_apart, is_elsewhere, is_near, is_reached, logs_at, lot_of, may_lead, releases, stopped_in, unfit, way_below};
+ghost use Rattle.recovery_plans.specs.Deciding.{better_of, center_in, chosen_of, drained_of, expels, follower_of, is_apart, is_elsewhere, is_near, is_reached, logs_at, lot_by, may_lead, releases, stopped_in, unfit, way_below};
 ghost use Rattle.recovery_plans.specs.declared.outcome.Follower.{Follower as AFollower};
 ghost use Rattle.recovery_parts.specs.Lots.{by_lot};
 
@@ -13,7 +13,7 @@ use instance_keeper::{Book, Bridge};
 use job_plans::JobView;
 use orch_base::{Memory, Moment, Rule, ServerNo};
 use promotion_rules::{Drained, better, most_advanced};
-use recovery_plans::{Follower, LostReplica, Purpose, Stopped, Way};
+use recovery_plans::{Follower, LostReplica, Means, Purpose, Stopped, Way, Why};
 use replica_groups::{Group, Lines, group_of};
 use server_model::World;
 use std::alloc::Global;
@@ -171,17 +171,26 @@ pub fn better_of(
     Ok(better(&of, &all, by.book.names()))
 }
 
-/// How a drained replica goes below the chosen one; `Err` is why it is left.
-pub fn lot_of(
+/// How a drained replica goes below the chosen one by these means; `Err` is why it is left.
+pub fn lot_by(
     by: &Ground<'_>,
+    means: Means,
     failed: ServerNo,
     chosen: &Stopped,
     replica: &Stopped,
-) -> Result<Way, Lost>
+) -> Result<Way, Why>
     requires { chosen.now.no.0 < length by.now.book.now.names }
-    ensures { result ≡ by_lot (lot_of by.now.world.now by.now.book.now failed chosen.now replica.now) }
+    ensures { result ≡ by_lot (lot_by means by.now.world.now by.now.book.now failed
+        chosen.now replica.now) }
 {
     let (no, exec) = (chosen.no, replica.exec);
+    if let Means::Matches(every) = means {
+        return Ok(Way::Match {
+            to: no,
+            exec,
+            every,
+        });
+    }
     if by.world.gtid() {
         return Ok(Way::Auto { to: no, exec });
     }
@@ -197,8 +206,8 @@ pub fn lot_of(
             own,
             exec,
         })),
-        Group::Ahead => Err(Lost::Ahead(exec)),
-        Group::Behind => Err(Lost::Behind(exec)),
+        Group::Ahead => Err(Why::Lost(Lost::Ahead(exec))),
+        Group::Behind => Err(Why::Lost(Lost::Behind(exec))),
     }
 }
 
@@ -208,11 +217,11 @@ pub(crate) fn unfit(world: &World, replica: &Stopped) -> LostReplica
 {
     LostReplica {
         no: replica.no,
-        why: if logs_at(world, replica.no) {
+        why: Why::Lost(if logs_at(world, replica.no) {
             Lost::MustNot
         } else {
             Lost::NotLogging
-        },
+        }),
         detached: false,
     }
 }
@@ -240,52 +249,61 @@ pub fn way_below(
 }
 
 // Whether a lost one executed what the new source didn't, or less, or was to go on in a purged file.
-fn is_apart(why: Option<Lost>) -> bool
+fn is_apart(why: Option<Why>) -> bool
     ensures { result ≡ is_apart why }
 {
     match why {
-        Some(Lost::Ahead(_) | Lost::Behind(_) | Lost::Purged(_)) => true,
-        Some(Lost::Unreachable | Lost::Moved(_) | Lost::NotLogging | Lost::MustNot) | None => false,
+        Some(Why::Lost(Lost::Ahead(_) | Lost::Behind(_) | Lost::Purged(_))) => true,
+        Some(
+            Why::Lost(Lost::Unreachable | Lost::Moved(_) | Lost::NotLogging | Lost::MustNot)
+            | Why::Unmatched(_),
+        )
+        | None => false,
     }
 }
 
-// Whether a lost one stands elsewhere.
-fn is_elsewhere(why: Option<Lost>) -> bool
+// Whether a lost one stands elsewhere, or where it stood before it was to be matched.
+fn is_elsewhere(why: Option<Why>) -> bool
     ensures { result ≡ is_elsewhere why }
 {
     match why {
-        Some(Lost::Moved(_)) => true,
+        Some(Why::Lost(Lost::Moved(_)) | Why::Unmatched(_)) => true,
         Some(
-            Lost::Ahead(_)
-            | Lost::Behind(_)
-            | Lost::Purged(_)
-            | Lost::Unreachable
-            | Lost::NotLogging
-            | Lost::MustNot,
+            Why::Lost(
+                Lost::Ahead(_)
+                | Lost::Behind(_)
+                | Lost::Purged(_)
+                | Lost::Unreachable
+                | Lost::NotLogging
+                | Lost::MustNot,
+            ),
         )
         | None => false,
     }
 }
 
 // Whether a lost one was reached.
-fn is_reached(why: Option<Lost>) -> bool
+fn is_reached(why: Option<Why>) -> bool
     ensures { result ≡ is_reached why }
 {
     match why {
         Some(
-            Lost::Ahead(_)
-            | Lost::Behind(_)
-            | Lost::Purged(_)
-            | Lost::Moved(_)
-            | Lost::NotLogging
-            | Lost::MustNot,
+            Why::Lost(
+                Lost::Ahead(_)
+                | Lost::Behind(_)
+                | Lost::Purged(_)
+                | Lost::Moved(_)
+                | Lost::NotLogging
+                | Lost::MustNot,
+            )
+            | Why::Unmatched(_),
         ) => true,
-        Some(Lost::Unreachable) | None => false,
+        Some(Why::Lost(Lost::Unreachable)) | None => false,
     }
 }
 
 /// Whether a replica that is lost so is detached.
-pub fn expels(purpose: Purpose, why: Option<Lost>) -> bool
+pub fn expels(purpose: Purpose, why: Option<Why>) -> bool
     ensures { result ≡ expels purpose why }
 {
     match purpose {
@@ -295,7 +313,7 @@ pub fn expels(purpose: Purpose, why: Option<Lost>) -> bool
 }
 
 /// Whether a replica that is lost so is started.
-pub fn releases(purpose: Purpose, why: Option<Lost>) -> bool
+pub fn releases(purpose: Purpose, why: Option<Why>) -> bool
     ensures { result ≡ releases purpose why }
 {
     match purpose {

@@ -1,11 +1,11 @@
 //! Drained replicas divided by where they go.
 
 ghost use Rattle.std.specs.Prelude.{◌≡◌, ◌<◌, ◌++◌, All, IfOk, OnOk, filter, length, map};
-ghost use Rattle.recovery_plans.specs.Deciding.{losses_in, lot_of, may_lead, moves_in, unfit, without_stopped};
+ghost use Rattle.recovery_plans.specs.Deciding.{losses_in, lot_by, may_lead, moves_in, unfit, without_stopped};
 
-use crate::choices::{Ground, lot_of, may_lead, unfit};
+use crate::choices::{Ground, lot_by, may_lead, unfit};
 use orch_base::{Memory, ServerNo};
-use recovery_plans::{LostReplica, Stopped, Task};
+use recovery_plans::{LostReplica, Means, Stopped, Task};
 use server_model::World;
 use std::alloc::Global;
 
@@ -37,25 +37,26 @@ pub fn without(alloc: Global, list: &[Stopped], no: ServerNo) -> Result<Vec<Stop
     Ok(others)
 }
 
-/// Where the others go beside the chosen one: their moves, and those that are lost behind the ones that are.
+/// Where the others go beside the chosen one, by these means: their moves, and those that are lost behind the ones that are.
 pub fn divide(
     alloc: Global,
     by: &Ground<'_>,
+    means: Means,
     failed: ServerNo,
     chosen: &Stopped,
     others: &[Stopped],
     lost: &mut Vec<LostReplica>,
 ) -> Result<Vec<Task>, Memory>
     requires { chosen.now.no.0 < length by.now.book.now.names }
-    ensures moves { IfOk result (λ v. v.items ≡ moves_in (lot_of by.now.world.now
+    ensures moves { IfOk result (λ v. v.items ≡ moves_in (lot_by means by.now.world.now
         by.now.book.now failed chosen.now) others.now) }
-    ensures lost { OnOk result (lost.new.items ≡ lost.old.items ++ losses_in (lot_of
+    ensures lost { OnOk result (lost.new.items ≡ lost.old.items ++ losses_in (lot_by means
         by.now.world.now by.now.book.now failed chosen.now) others.now) }
 {
     let mut moves = Vec::new(alloc);
     for replica in others {
         let no = replica.no;
-        match lot_of(by, failed, chosen, replica) {
+        match lot_by(by, means, failed, chosen, replica) {
             Ok(way) => moves.push(Task::Moving(no, way))?,
             Err(why) => lost.push(LostReplica {
                 no,

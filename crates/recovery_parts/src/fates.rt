@@ -2,13 +2,14 @@
 
 ghost use Rattle.std.specs.Prelude.{◌≡◌};
 ghost use Rattle.server_model.specs.Worlds.{server_at};
-ghost use Rattle.recovery_plans.specs.Taking.{exec_by, fate, fate_of_drain, fate_of_move, fate_of_trail, lost_on_way, place_on, spot_by, spot_seen};
+ghost use Rattle.recovery_plans.specs.Taking.{exec_by, fate, fate_of_drain, fate_of_move, fate_of_trail, loss_of, lost_on_way, match_fate, move_fate, place_on, spot_by, spot_seen};
+ghost use Rattle.recovery_plans.specs.declared.why.Why.{Why as AWhy};
 ghost use Rattle.recovery_parts.specs.Fates.{fate_told};
 
 use binlog_coords::Coord;
 use commands::{Cause, Lost};
 use orch_base::{ServerNo, SourceState};
-use recovery_plans::{Purpose, Stage, Way};
+use recovery_plans::{Miss, Purpose, Stage, Way, Why};
 use server_model::World;
 use server_words::Spot;
 
@@ -20,8 +21,8 @@ pub enum Fate {
     /// Nothing more is done with the server.
     Drops,
     /// The replica is lost; or it is started, too.
-    Loses(ServerNo, Lost),
-    Frees(ServerNo, Lost),
+    Loses(ServerNo, Why),
+    Frees(ServerNo, Why),
     /// The better one is started where it stands.
     Releases(ServerNo),
     /// The second goes back below the first.
@@ -63,7 +64,7 @@ fn of_drain(no: ServerNo, cause: &Cause) -> Fate
     ensures { fate_told result ≡ fate_of_drain no cause.now }
 {
     match cause {
-        Cause::Unreachable(_) => Fate::Loses(no, Lost::Unreachable),
+        Cause::Unreachable(_) => Fate::Loses(no, Why::Lost(Lost::Unreachable)),
         Cause::WaitSpent(_)
         | Cause::Interfered { .. }
         | Cause::Running(_)
@@ -84,8 +85,8 @@ fn of_trail(world: &World, no: ServerNo, cause: &Cause) -> Fate
     ensures { fate_told result ≡ fate_of_trail world.now no cause.now }
 {
     match cause {
-        Cause::Unreachable(_) => Fate::Frees(no, Lost::Unreachable),
-        Cause::WaitSpent(_) => Fate::Frees(no, Lost::Behind(exec_at(world, no))),
+        Cause::Unreachable(_) => Fate::Frees(no, Why::Lost(Lost::Unreachable)),
+        Cause::WaitSpent(_) => Fate::Frees(no, Why::Lost(Lost::Behind(exec_at(world, no)))),
         Cause::Interfered { .. }
         | Cause::Running(_)
         | Cause::Loop(_)
@@ -102,27 +103,30 @@ fn of_trail(world: &World, no: ServerNo, cause: &Cause) -> Fate
 
 // A replica that is lost on its way is started at once in a takeover, and is looked after later else.
 fn on_way(purpose: Purpose, no: ServerNo, why: Lost) -> Fate
-    ensures { fate_told result ≡ lost_on_way purpose no why }
+    ensures { fate_told result ≡ lost_on_way purpose no (AWhy.Lost why) }
 {
     match purpose {
-        Purpose::Regroup | Purpose::Master | Purpose::Intermediate(_) => Fate::Loses(no, why),
-        Purpose::Takeover(_) => Fate::Frees(no, why),
+        Purpose::Regroup | Purpose::Master | Purpose::Intermediate(_) => {
+            Fate::Loses(no, Why::Lost(why))
+        }
+        Purpose::Takeover(_) => Fate::Frees(no, Why::Lost(why)),
     }
 }
 
-// Where a replica was to be attached; by GTIDs, where it stands.
+// Where a replica was to be attached; by GTIDs or a match, where it stands.
 fn place_on(way: Way) -> Coord
     ensures { result ≡ place_on way }
 {
     match way {
         Way::Down(bridge) => bridge.own,
         Way::Up(bridge) => bridge.exec,
-        Way::Auto { exec, .. } => exec,
+        Way::Auto { exec, .. } | Way::Match { exec, .. } => exec,
     }
 }
 
-fn of_move(world: &World, purpose: Purpose, no: ServerNo, way: Way, cause: &Cause) -> Fate
-    ensures { fate_told result ≡ fate_of_move world.now purpose no way cause.now }
+// A replica that goes its way at once.
+fn of_attach(world: &World, purpose: Purpose, no: ServerNo, way: Way, cause: &Cause) -> Fate
+    ensures { fate_told result ≡ move_fate world.now purpose no way (loss_of cause.now) }
 {
     match cause {
         Cause::Unreachable(_) => on_way(purpose, no, Lost::Unreachable),
@@ -130,7 +134,7 @@ fn of_move(world: &World, purpose: Purpose, no: ServerNo, way: Way, cause: &Caus
         Cause::Interfered { found, .. } => on_way(purpose, no, Lost::Moved(*found)),
         Cause::Errant(_, _) => match way {
             Way::Auto { exec, .. } => on_way(purpose, no, Lost::Ahead(exec)),
-            Way::Down(_) | Way::Up(_) => Fate::Fails,
+            Way::Down(_) | Way::Up(_) | Way::Match { .. } => Fate::Fails,
         },
         Cause::Purged(_, _) => on_way(purpose, no, Lost::Purged(place_on(way))),
         Cause::WaitSpent(_)
@@ -144,6 +148,44 @@ fn of_move(world: &World, purpose: Purpose, no: ServerNo, way: Way, cause: &Caus
     }
 }
 
+// One that goes by a match.
+fn of_match(no: ServerNo, cause: &Cause) -> Fate
+    ensures { fate_told result ≡ match_fate no (loss_of cause.now) }
+{
+    let miss = match cause {
+        Cause::Unreachable(away) => Miss::Unreachable(*away),
+        Cause::Running(_) => Miss::Running,
+        Cause::Interfered {
+            expected,
+            found,
+            ..
+        } => Miss::Interfered {
+            expected: *expected,
+            found: *found,
+        },
+        Cause::Loop(_) => Miss::Loop,
+        Cause::Purged(_, first) => Miss::Purged(*first),
+        Cause::NoMark(_) => Miss::NoMark,
+        Cause::Mismatch(_, entry) => Miss::Mismatch(*entry),
+        Cause::WaitSpent(_)
+        | Cause::Errant(_, _)
+        | Cause::Moved(_, _)
+        | Cause::Reachable(_)
+        | Cause::NoCandidate
+        | Cause::HookFailed { .. } => return Fate::Fails,
+    };
+    Fate::Loses(no, Why::Unmatched(miss))
+}
+
+fn of_move(world: &World, purpose: Purpose, no: ServerNo, way: Way, cause: &Cause) -> Fate
+    ensures { fate_told result ≡ fate_of_move world.now purpose no way cause.now }
+{
+    match way {
+        Way::Match { .. } => of_match(no, cause),
+        Way::Down(_) | Way::Up(_) | Way::Auto { .. } => of_attach(world, purpose, no, way, cause),
+    }
+}
+
 /// What becomes of a stage whose operation fails for a cause.
 pub fn fate_of(world: &World, purpose: Purpose, stage: &Stage, cause: &Cause) -> Fate
     ensures { fate_told result ≡ fate world.now purpose stage.now cause.now }
@@ -151,7 +193,7 @@ pub fn fate_of(world: &World, purpose: Purpose, stage: &Stage, cause: &Cause) ->
     match stage {
         Stage::Drain(n) => of_drain(*n, cause),
         Stage::Move(n, way) => of_move(world, purpose, *n, *way, cause),
-        Stage::Join(n, _) => Fate::Loses(*n, Lost::Unreachable),
+        Stage::Join(n, _) => Fate::Loses(*n, Why::Lost(Lost::Unreachable)),
         Stage::Look(n, _) | Stage::Trail(n, _) => of_trail(world, *n, cause),
         Stage::Check | Stage::Expel(_) | Stage::Release(_) => Fate::Drops,
         Stage::Level(_, q) => Fate::Releases(*q),

@@ -10,7 +10,7 @@ mod ops;
 mod stages;
 mod threads;
 
-pub use choices::{Ground, better_of, chosen_of, expels, lot_of, releases, way_below};
+pub use choices::{Ground, better_of, chosen_of, expels, lot_by, releases, way_below};
 pub use dividing::{divide, leaders, lose_all, without};
 pub use doing::{Change, Doing, doing_of, only, perform, then_starts};
 pub use fates::{Fate, fate_of, spot_seen};

@@ -1,8 +1,8 @@
 //! The operations of stages.
 
-ghost use Rattle.std.specs.Prelude.{◌≡◌, ◌≤◌, ◌∷◌, [], IfOk, true, vec_capacity};
+ghost use Rattle.std.specs.Prelude.{◌≡◌, ◌≤◌, ◌∷◌, ◌++◌, [], IfOk, true, vec_capacity};
 ghost use Rattle.recovery_plans.specs.Recoveries.{sight_of};
-ghost use Rattle.recovery_plans.specs.Stages.{drain, gather, level, move, target, trail};
+ghost use Rattle.recovery_plans.specs.Stages.{before, drain, gather, level, move, target, trail};
 
 use gtid_sets::GtidSet;
 use instance_keeper::Bridge;
@@ -118,15 +118,24 @@ fn going(way: Way, no: ServerNo) -> Op
         Way::Down(bridge) => Op::Cross(Crossing::Down, no, bridge.no),
         Way::Up(bridge) => Op::Cross(Crossing::Up, no, bridge.no),
         Way::Auto { to, exec: _ } => Op::Auto(no, to),
+        Way::Match {
+            to,
+            exec: _,
+            every: _,
+        } => Op::CrossMatch(no, to),
     }
 }
 
-/// A replica goes a way, and is started.
+/// A replica goes a way, perhaps behind a match of its log, and is started.
 pub fn moving(ops: Vec<Op>, no: ServerNo, way: Way) -> Vec<Op>
     requires { 8 ≤ vec_capacity ops }
-    ensures { result.items ≡ move way no ∷ Op.Start no ∷ [] }
+    ensures { result.items ≡ before way no ++ move way no ∷ Op.Start no ∷ [] }
 {
-    two(ops, going(way, no), Op::Start(no))
+    let (go, start) = (going(way, no), Op::Start(no));
+    match way {
+        Way::Match { to, exec: _, every } => three(ops, Op::Match(no, to, every), go, start),
+        Way::Down(_) | Way::Up(_) | Way::Auto { to: _, exec: _ } => two(ops, go, start),
+    }
 }
 
 /// The new source to which a way goes.
@@ -137,6 +146,11 @@ pub(crate) fn target(way: Way) -> ServerNo
         Way::Down(bridge) => bridge.no,
         Way::Up(bridge) => bridge.source,
         Way::Auto { to, exec: _ } => to,
+        Way::Match {
+            to,
+            exec: _,
+            every: _,
+        } => to,
     }
 }
 

@@ -6,6 +6,7 @@ use Rattle.std.proofs.lemmas.List.Elements.{All-nil, All-cons, All-append, All-f
 use Rattle.orch_base.specs.declared.server.ServerNo.{ServerNo}
 use Rattle.recovery_plans.specs.declared.outcome.Follower.{Follower}
 use Rattle.recovery_plans.specs.declared.outcome.Stopped.{Stopped}
+use Rattle.recovery_plans.specs.declared.means.Means.{Means}
 use Rattle.recovery_plans.specs.declared.purpose.Purpose.{Purpose}
 use Rattle.recovery_plans.specs.declared.purpose.Purpose.TheVariants as purpose
 use Rattle.recovery_plans.specs.declared.task.Task.{Task}
@@ -53,8 +54,8 @@ module _ (P Q : ℕ → Type 0) where
       (λ d. All-filter (λ (n : ServerNo). not (n.0 == d.0)) (λ n. P n.0) ns all)
       (λ d e. let listed : IsListOf P Q (purpose.Takeover d) f = subst (λ (v : Purpose). IsListOf P Q v f) e h in listed.0)
 
-  pub begun-of : (u : Purpose) (id wait : ℕ) (f : ServerNo) (ns order : List ServerNo) → All (λ n. P n.0) ns → Q f.0 → IsListOf P Q u f → IsOf P Q id (begun_recovery u id wait f ns order)
-  begun-of u id wait f ns order all q h = record {
+  pub begun-of : (u : Purpose) (by : Means) (id wait : ℕ) (f : ServerNo) (ns order : List ServerNo) → All (λ n. P n.0) ns → Q f.0 → IsListOf P Q u f → IsOf P Q id (begun_recovery u by id wait f ns order)
+  begun-of u by id wait f ns order all q h = record {
     number = refl;
     ops = first-changes u f q;
     hands = All-nil (λ n. P n.0);

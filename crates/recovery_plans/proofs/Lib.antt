@@ -6,4 +6,5 @@ pub mod Worlds
 pub mod Masters
 pub mod Others
 pub mod Walking
+pub mod Leading
 pub mod Promoting

@@ -1,5 +1,5 @@
 -- Regroups and recoveries of dead masters that go their whole way.
-use Rattle.std.proofs.Common.{◌≡◌, ℕ, true, false, List, [], ◌∷◌, map, refl, Some, None}
+use Rattle.std.proofs.Common.{◌≡◌, ℕ, Bool, ◌&&◌, Option, true, false, List, [], ◌∷◌, map, refl, Some, None}
 use Rattle.orch_base.specs.declared.rule.Rule.{Rule}
 use Rattle.orch_base.specs.declared.rule.Rule.TheVariants as rule
 use Rattle.orch_base.specs.declared.server.ServerNo.{ServerNo}
@@ -8,17 +8,27 @@ use Rattle.orch_base.specs.declared.server.SourceState.TheVariants.{Without, Att
 use Rattle.server_words.specs.declared.changes.Ask.TheVariants as asking
 use Rattle.server_model.specs.declared.server.Server.{Server}
 use Rattle.server_model.specs.Run.{Exchange, Write, Fetch, Apply, Request}
-use Rattle.server_model.specs.Worlds.{World, sources}
+use Rattle.server_model.specs.Worlds.{World, server_at, sources}
 use Rattle.commands.specs.declared.cause.Cause.TheVariants as cause
 use Rattle.commands.specs.declared.line.Line.TheVariants as line
 use Rattle.commands.specs.declared.line.Lost.TheVariants as lost
 use Rattle.instance_keeper.specs.declared.bridge.Bridge.{Bridge}
 use Rattle.instance_keeper.specs.Book.{BookState}
 use Rattle.operations.specs.declared.step.JobStep.TheVariants as step
+use Rattle.recovery_plans.specs.declared.means.Means.TheVariants as means
 use Rattle.recovery_plans.specs.declared.purpose.Purpose.TheVariants as purpose
+use Rattle.recovery_plans.specs.declared.why.Why.TheVariants as why
 use Rattle.recovery_plans.specs.Beginning.{begun_recovery}
 use Rattle.recovery_plans.specs.Taking.{Taken}
 use Rattle.recovery_plans.proofs.Worlds.{server_no, end, bridge, server, world, book, rounds, each_turn}
+
+-- both threads of a server are on
+abbrev runs_by : Option Server → Bool
+runs_by None = false
+runs_by (Some s) = s.receiver && s.applier
+
+abbrev runs : World → ℕ → Bool
+runs w n = runs_by (server_at w n)
 
 module _ (st : Settings) where
   -- ---- a regroup: m is down with four transactions; a executed three, b 3, c 2, d 1, and e, which is barred, 4
@@ -37,7 +47,7 @@ module _ (st : Settings) where
   five = server_no 1 ∷ server_no 2 ∷ server_no 3 ∷ server_no 4 ∷ server_no 5 ∷ []
 
   abbrev gathering : Taken × ℕ × World
-  gathering = rounds gathered_book (each_turn []) 0 60 gathered_servers (begun_recovery purpose.Regroup 1 5 (server_no 0) five five)
+  gathering = rounds gathered_book (each_turn []) 0 60 gathered_servers (begun_recovery purpose.Regroup means.Bridges 1 5 (server_no 0) five five)
 
   gathers : gathering.0.step ≡ step.Done (
       line.Server (server_no 1) ∷ line.Follows (server_no 2) (server_no 1) ∷ line.Follows (server_no 3) (server_no 1)
@@ -54,18 +64,39 @@ module _ (st : Settings) where
   -- by GTIDs each but the barred one goes below the chosen one, which e is ahead of
   abbrev gathering_by_sets : Taken × ℕ × World
   gathering_by_sets =
-      rounds gathered_book (each_turn []) 0 60 (record gathered_servers { gtid = true }) (begun_recovery purpose.Regroup 1 5 (server_no 0) five five)
+      rounds gathered_book (each_turn []) 0 60 (record gathered_servers { gtid = true }) (begun_recovery purpose.Regroup means.Bridges 1 5 (server_no 0) five five)
 
   gathers-by-sets : gathering_by_sets.0.step ≡ step.Done (
       line.Server (server_no 1) ∷ line.Follows (server_no 2) (server_no 1) ∷ line.Follows (server_no 3) (server_no 1)
       ∷ line.Follows (server_no 4) (server_no 1) ∷ line.Lost (server_no 5) (lost.Ahead (end 4)) false ∷ [])
   gathers-by-sets = refl
 
+  -- by matches, with each second transaction a mark: d has none, and a lacks the last of e; both are started where they
+  -- stood
+  abbrev gathering_by_matches : Taken × ℕ × World
+  gathering_by_matches = rounds gathered_book (each_turn []) 0 60 gathered_servers (begun_recovery purpose.Regroup (means.Matches 2) 1 5 (server_no 0) five five)
+
+  gathers-by-matches : gathering_by_matches.0.step ≡ step.Done (
+      line.Server (server_no 1) ∷ line.Follows (server_no 2) (server_no 1) ∷ line.Follows (server_no 3) (server_no 1)
+      ∷ line.Unmatched (server_no 4) (cause.NoMark (server_no 4)) ∷ line.Unmatched (server_no 5) (cause.NoMark (server_no 5)) ∷ [])
+  gathers-by-matches = refl
+
+  -- five drains, two matches with their moves, two that fail, two starts of lost ones, the chosen one's start and the
+  -- end
+  gathers-by-matches-in : gathering_by_matches.1 ≡ 32
+  gathers-by-matches-in = refl
+
+  gathers-by-matches-sources : map (sources gathering_by_matches.2) (1 ∷ 2 ∷ 3 ∷ 4 ∷ 5 ∷ []) ≡ Some 0 ∷ Some 1 ∷ Some 1 ∷ Some 0 ∷ Some 0 ∷ []
+  gathers-by-matches-sources = refl
+
+  gathers-by-matches-runs : map (runs gathering_by_matches.2) (1 ∷ 2 ∷ 3 ∷ 4 ∷ 5 ∷ []) ≡ true ∷ true ∷ true ∷ true ∷ true ∷ []
+  gathers-by-matches-runs = refl
+
   -- where each is barred, those that were stopped are started in the turn behind the last drain
   abbrev barring : Taken × ℕ × World
   barring =
       rounds (book (109 ∷ 97 ∷ 98 ∷ []) ([] ∷ [] ∷ [] ∷ []) (rule.Neutral ∷ rule.MustNot ∷ rule.MustNot ∷ [])) (each_turn []) 0 60 gathered_servers
-      (begun_recovery purpose.Regroup 1 5 (server_no 0) (server_no 1 ∷ server_no 2 ∷ []) [])
+      (begun_recovery purpose.Regroup means.Bridges 1 5 (server_no 0) (server_no 1 ∷ server_no 2 ∷ []) [])
 
   bars : barring.0.step ≡ step.Failed cause.NoCandidate []
   bars = refl
@@ -77,7 +108,7 @@ module _ (st : Settings) where
   bars-starts = refl
 
   bars-lost : barring.0.recovery.outcome.lost
-      ≡ record { no = server_no 1; why = lost.MustNot; detached = false } ∷ record { no = server_no 2; why = lost.MustNot; detached = false } ∷ []
+      ≡ record { no = server_no 1; why = why.Lost lost.MustNot; detached = false } ∷ record { no = server_no 2; why = why.Lost lost.MustNot; detached = false } ∷ []
   bars-lost = refl
 
   -- ---- a dead master: m with three transactions; a and c executed three, b, which is preferred, two
@@ -100,7 +131,7 @@ module _ (st : Settings) where
   replicates = Fetch 1 ∷ Apply 1 ∷ Fetch 2 ∷ Apply 2 ∷ Fetch 3 ∷ Apply 3 ∷ []
 
   abbrev mastering : Rule → List Exchange → Taken × ℕ × World
-  mastering r es = rounds (mastered_book r) (each_turn es) 0 80 mastered_servers (begun_recovery purpose.Master 1 5 (server_no 0) three three)
+  mastering r es = rounds (mastered_book r) (each_turn es) 0 80 mastered_servers (begun_recovery purpose.Master means.Bridges 1 5 (server_no 0) three three)
 
   -- a is chosen, then b takes its place
   swaps : (mastering rule.Prefer replicates).0.step ≡ step.Done (
@@ -131,13 +162,13 @@ module _ (st : Settings) where
       server st 0 Without 3 false ∷ elsewhere (server st 1 (Attached (server_no 0)) 3 true) ∷ server st 2 (Attached (server_no 0)) 2 true
       ∷ server st 3 (Attached (server_no 0)) 3 true ∷ [])
 
-  chooses-near : (rounds (mastered_book rule.Neutral) (each_turn []) 0 80 scattered_servers (begun_recovery purpose.Master 1 5 (server_no 0) three three)).0.step
+  chooses-near : (rounds (mastered_book rule.Neutral) (each_turn []) 0 80 scattered_servers (begun_recovery purpose.Master means.Bridges 1 5 (server_no 0) three three)).0.step
       ≡ step.Done (line.Promoted (server_no 3) ∷ line.Follows (server_no 1) (server_no 3) ∷ line.Lost (server_no 2) (lost.Behind (end 2)) true ∷ [])
   chooses-near = refl
 
   -- a reached master hasn't failed
   abbrev living : Taken × ℕ × World
-  living = rounds (mastered_book rule.Neutral) (each_turn []) 0 9 (world st (server st 0 Without 3 true ∷ [])) (begun_recovery purpose.Master 1 5 (server_no 0) three three)
+  living = rounds (mastered_book rule.Neutral) (each_turn []) 0 9 (world st (server st 0 Without 3 true ∷ [])) (begun_recovery purpose.Master means.Bridges 1 5 (server_no 0) three three)
 
   lives : living.0.step ≡ step.Failed (cause.Reachable (server_no 0)) []
   lives = refl
@@ -151,7 +182,7 @@ module _ (st : Settings) where
       ∷ server st 3 (Attached (server_no 0)) 1 true ∷ [])
 
   abbrev losing : Rule → Taken × ℕ × World
-  losing r = rounds (mastered_book r) (each_turn []) 0 80 lossy_servers (begun_recovery purpose.Master 1 5 (server_no 0) three three)
+  losing r = rounds (mastered_book r) (each_turn []) 0 80 lossy_servers (begun_recovery purpose.Master means.Bridges 1 5 (server_no 0) three three)
 
   loses-behind : (losing rule.Neutral).0.step ≡ step.Done (
       line.Promoted (server_no 2) ∷ line.Lost (server_no 1) lost.Unreachable false ∷ line.Lost (server_no 3) (lost.Behind (end 1)) true ∷ [])
@@ -165,7 +196,7 @@ module _ (st : Settings) where
   -- ---- by GTIDs
 
   abbrev by_sets : Rule → List Exchange → Taken × ℕ × World
-  by_sets r es = rounds (mastered_book r) (each_turn es) 0 80 (record lossy_servers { gtid = true }) (begun_recovery purpose.Master 1 5 (server_no 0) three three)
+  by_sets r es = rounds (mastered_book r) (each_turn es) 0 80 (record lossy_servers { gtid = true }) (begun_recovery purpose.Master means.Bridges 1 5 (server_no 0) three three)
 
   sets : (by_sets rule.Neutral []).0.step ≡ step.Done (
       line.Promoted (server_no 2) ∷ line.Follows (server_no 3) (server_no 2) ∷ line.Lost (server_no 1) lost.Unreachable false ∷ [])
@@ -175,7 +206,7 @@ module _ (st : Settings) where
       line.Promoted (server_no 3) ∷ line.Lost (server_no 1) lost.Unreachable false ∷ line.Lost (server_no 2) (lost.Ahead (end 3)) true ∷ [])
   sets-ahead = refl
 
-  sets-swap : (rounds (mastered_book rule.Prefer) (each_turn replicates) 0 80 (record mastered_servers { gtid = true }) (begun_recovery purpose.Master 1 5 (server_no 0) three three)).0.step
+  sets-swap : (rounds (mastered_book rule.Prefer) (each_turn replicates) 0 80 (record mastered_servers { gtid = true }) (begun_recovery purpose.Master means.Bridges 1 5 (server_no 0) three three)).0.step
       ≡ step.Done (line.Promoted (server_no 2) ∷ line.Follows (server_no 1) (server_no 2) ∷ line.Follows (server_no 3) (server_no 1) ∷ [])
   sets-swap = refl
 
@@ -187,7 +218,7 @@ module _ (st : Settings) where
   abbrev written : Taken × ℕ × World
   written =
       rounds (mastered_book rule.Prefer) (each_turn (Fetch 2 ∷ Apply 2 ∷ Write 1 10 ∷ [])) 0 80 (record mastered_servers { servers = map loosened mastered_servers.servers })
-      (begun_recovery purpose.Master 1 5 (server_no 0) three three)
+      (begun_recovery purpose.Master means.Bridges 1 5 (server_no 0) three three)
 
   goes-back : written.0.step ≡ step.Done (
       line.Promoted (server_no 1) ∷ line.Follows (server_no 2) (server_no 1) ∷ line.Follows (server_no 3) (server_no 1) ∷ [])

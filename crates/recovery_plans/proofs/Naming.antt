@@ -14,7 +14,7 @@ use Rattle.server_words.specs.declared.changes.Ask.TheVariants as asking
 use Rattle.operations.specs.declared.sight.Position.{Position}
 use Rattle.server_model.specs.Run.{Exchange, Request, Attach}
 use Rattle.server_model.specs.Worlds.{World}
-use Rattle.commands.specs.declared.line.Lost.{Lost}
+use Rattle.recovery_plans.specs.declared.why.Why.{Why}
 use Rattle.instance_keeper.specs.declared.bridge.Bridge.{Bridge}
 use Rattle.kept_rows.specs.declared.observation.Observation.{Observation}
 use Rattle.instance_keeper.specs.Book.{BookState}
@@ -41,13 +41,13 @@ use Rattle.recovery_plans.specs.declared.task.Task.TheVariants as task
 use Rattle.recovery_plans.specs.declared.task.Way.{Way}
 use Rattle.recovery_plans.specs.declared.task.Way.TheVariants as way
 use Rattle.recovery_plans.specs.Recoveries.{Recovery, follows, follows_no_more, loses, without_follower, working}
-use Rattle.recovery_plans.specs.Stages.{drain, gather, leaver, level, move, moved, trail, with_way}
+use Rattle.recovery_plans.specs.Stages.{before, drain, gather, leaver, level, move, moved, trail, with_way}
 use Rattle.recovery_plans.specs.Telling.{told}
 use Rattle.recovery_plans.specs.Moves as by
 use Rattle.recovery_plans.specs.Moves.{Bearing, Decision, Does, Ending, IsHanding, IsNext, MayBear, MayDecide, MayEnd, borne, decided_by, ended_by, fate_of, stopped_at}
 use Rattle.recovery_plans.proofs.Walking.{KeepsAlways, always, decided-walks, decisions-keep, kept-along, made-along, once-walks}
 use Rattle.recovery_plans.specs.Deciding as deciding
-use Rattle.recovery_plans.specs.Deciding.{Lot, chosen_of, lot_of, move_of, moves_in, without_stopped, choose, moving, why_of, expels, releases, sort, once, decided}
+use Rattle.recovery_plans.specs.Deciding.{Lot, chosen_of, lot_by, move_of, moves_in, without_stopped, choose, moving, why_of, expels, releases, sort, once, decided}
 use Rattle.recovery_plans.specs.Taking.{swapped, lead_under, idle, frees, last_looks, entered, that_can, takes_writes, goes_back, way_back, undone, last_exchanges, taken}
 use Rattle.recovery_plans.specs.Named.{changed_by, IsOpOf, IsTaskOf, AreSourcesOf, IsOf, KeepsOf}
 use Rattle.recovery_plans.proofs.Choices.{All-chosen, All-better}
@@ -112,10 +112,11 @@ module _ (P Q : ℕ → Type 0) (id : ℕ) (pq : (n : ℕ) → P n → Q n) wher
   drain-of : (n : ServerNo) → Mine n → All Changes (drain n)
   drain-of n h = each-of (drain n) (does n h, (sees n h, (does n h, (sees n h, tt))))
 
-  move-of : (by : Way) (n : ServerNo) → Mine n → All Changes (move by n ∷ op.Start n ∷ [])
+  move-of : (by : Way) (n : ServerNo) → Mine n → All Changes (before by n ++ move by n ∷ op.Start n ∷ [])
   move-of (way.Down b) n h = each-of (move (way.Down b) n ∷ op.Start n ∷ []) (does n h, (does n h, tt))
   move-of (way.Up b) n h = each-of (move (way.Up b) n ∷ op.Start n ∷ []) (does n h, (does n h, tt))
   move-of (way.Auto to exec) n h = each-of (move (way.Auto to exec) n ∷ op.Start n ∷ []) (does n h, (does n h, tt))
+  move-of (way.Match to exec every) n h = each-of (op.Match n to every ∷ op.CrossMatch n to ∷ op.Start n ∷ []) ((tt, tt), (does n h, (does n h, tt)))
 
   level-of : (p q : ServerNo) → Mine p → Mine q → All Changes (level p q)
   level-of p q h k = each-of (level p q) (sees p h, (sees q k, (does q k, (sees q k, (does q k, (sees q k, (does q k, (does p h, tt))))))))
@@ -197,7 +198,7 @@ module _ (P Q : ℕ → Type 0) (id : ℕ) (pq : (n : ℕ) → P n → Q n) wher
   -- what was seen besides names no more
   moving-of : (r : Recovery) (n : ServerNo) (by : Way) → IsOf P Q id r → Mine n → IsOf P Q id (moving r n by)
   moving-of r n by has h =
-      working-of (record r { core = record r.core { seen = with_way r.core.seen by } }) (stage.Move n by) (move by n ∷ op.Start n ∷ []) (acting-of r (record r.core { seen = with_way r.core.seen by }) r.stage has has.number has.ops has.hands has.stage) (one n h) (move-of by n h)
+      working-of (record r { core = record r.core { seen = with_way r.core.seen by } }) (stage.Move n by) (before by n ++ move by n ∷ op.Start n ∷ []) (acting-of r (record r.core { seen = with_way r.core.seen by }) r.stage has has.number has.ops has.hands has.stage) (one n h) (move-of by n h)
 
   restage-of : (r : Recovery) (s : Stage) → IsOf P Q id r → All Mine (changed_by s) → IsOf P Q id (record r { stage = s })
   restage-of r s has changed = acting-of r r.core s has has.number has.ops has.hands changed
@@ -205,7 +206,7 @@ module _ (P Q : ℕ → Type 0) (id : ℕ) (pq : (n : ℕ) → P n → Q n) wher
   idle-of : (r : Recovery) → IsOf P Q id r → IsOf P Q id (idle r)
   idle-of r has = restage-of r stage.Idle has (All-nil Mine)
 
-  frees-of : (r : Recovery) (n : ServerNo) (why : Lost) → Mine n → IsOf P Q id r → IsOf P Q id (frees r n why)
+  frees-of : (r : Recovery) (n : ServerNo) (why : Why) → Mine n → IsOf P Q id r → IsOf P Q id (frees r n why)
   frees-of r n why h has = working-of (loses r n why) (stage.Release n) (op.Start n ∷ []) has (one n h) (each-of (op.Start n ∷ []) (does n h, tt))
 
   follows-of : (r : Recovery) (n p : ServerNo) → Mine n → IsOf P Q id r → IsOf P Q id (follows r n p)
@@ -270,9 +271,9 @@ module _ (P Q : ℕ → Type 0) (id : ℕ) (pq : (n : ℕ) → P n → Q n) wher
 
   chooses-of : (w : World) (b : BookState) (now : Moment) (r : Recovery) (p : Stopped) → IsOf P Q id r → chosen_of w b now r.failed r.drained ≡ Some p → IsOf P Q id (choose w b now r (Some p))
   chooses-of w b now r p has e =
-      queued-of r (moves_in (lot_of w b r.failed p) (without_stopped r.drained p.no) ++ r.queue) [] (Some p.no) has
-      (All-append (IsTaskOf P Q r.failed) (moves_in (lot_of w b r.failed p) (without_stopped r.drained p.no)) r.queue
-      (moves-of r.failed (lot_of w b r.failed p) (without_stopped r.drained p.no)
+      queued-of r (moves_in (lot_by r.means w b r.failed p) (without_stopped r.drained p.no) ++ r.queue) [] (Some p.no) has
+      (All-append (IsTaskOf P Q r.failed) (moves_in (lot_by r.means w b r.failed p) (without_stopped r.drained p.no)) r.queue
+      (moves-of r.failed (lot_by r.means w b r.failed p) (without_stopped r.drained p.no)
       (All-filter (λ (d : Stopped). not (d.no.0 == p.no.0)) (λ (d : Stopped). P d.no.0) r.drained has.drained)) has.queue) (All-nil (λ (d : Stopped). P d.no.0))
       (one-chosen r.purpose r.failed p.no r.chosen has.sources (All-chosen w b now r.failed (λ (d : Stopped). P d.no.0) r.drained p has.drained e))
 
@@ -459,7 +460,7 @@ module _ (P Q : ℕ → Type 0) (id : ℕ) (pq : (n : ℕ) → P n → Q n) wher
   bears-of : (r : Recovery) (e : Bearing) → MayBear r.stage e → IsOf P Q id r → IsOf P Q id (borne r (fate_of e))
   bears-of r by.Drops may has = working-of r stage.Idle [] has (All-nil Mine) (All-nil Changes)
   bears-of r (by.Misses n why) may has = working-of (loses r n why) stage.Idle [] has (All-nil Mine) (All-nil Changes)
-  bears-of r (by.Lets n why) (inl (way, is)) has = frees-of r n why (only n (stage-of r (stage.Move n way) is has)) has
+  bears-of r (by.Lets n why) (inl (way, is, more)) has = frees-of r n why (only n (stage-of r (stage.Move n way) is has)) has
   bears-of r (by.Lets n why) (inr (x, inl is)) has = frees-of r n why (only n (stage-of r (stage.Look n x) is has)) has
   bears-of r (by.Lets n why) (inr (x, inr is)) has = frees-of r n why (only n (stage-of r (stage.Trail n x) is has)) has
   bears-of r (by.Restarts p q) is has =

@@ -14,6 +14,7 @@ use Rattle.commands.specs.declared.line.Line.TheVariants as line
 use Rattle.commands.specs.declared.line.Lost.TheVariants as lost
 use Rattle.instance_keeper.specs.Book.{BookState}
 use Rattle.operations.specs.declared.step.JobStep.TheVariants as step
+use Rattle.recovery_plans.specs.declared.means.Means.TheVariants as means
 use Rattle.recovery_plans.specs.declared.purpose.Purpose.TheVariants as purpose
 use Rattle.recovery_plans.specs.Beginning.{begun_recovery}
 use Rattle.recovery_plans.specs.Taking.{Taken}
@@ -35,7 +36,7 @@ module _ (st : Settings) where
   two = server_no 2 ∷ server_no 3 ∷ []
 
   abbrev bridging : World → Taken × ℕ × World
-  bridging w = rounds chain_book (each_turn []) 0 60 w (begun_recovery (purpose.Intermediate (server_no 0)) 1 5 (server_no 1) two two)
+  bridging w = rounds chain_book (each_turn []) 0 60 w (begun_recovery (purpose.Intermediate (server_no 0)) means.Bridges 1 5 (server_no 1) two two)
 
   -- the bridge of x that is kept serves q, and none serves r
   bridges : (bridging chain).0.step ≡ step.Done (
@@ -70,7 +71,7 @@ module _ (st : Settings) where
 
   abbrev taking : (ℕ → List Exchange) → List ServerNo → Taken × ℕ × World
   taking between rs =
-      rounds taking_book between 0 80 taking_servers (begun_recovery (purpose.Takeover (server_no 1)) 1 5 (server_no 0) rs (server_no 0 ∷ rs))
+      rounds taking_book between 0 80 taking_servers (begun_recovery (purpose.Takeover (server_no 1)) means.Bridges 1 5 (server_no 0) rs (server_no 0 ∷ rs))
 
   takes : (taking (each_turn []) (server_no 1 ∷ server_no 2 ∷ [])).0.step ≡ step.Done (
       line.Promoted (server_no 1) ∷ line.Follows (server_no 0) (server_no 1) ∷ line.Follows (server_no 2) (server_no 1) ∷ [])
@@ -124,6 +125,6 @@ module _ (st : Settings) where
   rotated-sources = refl
 
   -- a master with a source has no place to give
-  has-source : (rounds taking_book (each_turn []) 0 9 chain (begun_recovery (purpose.Takeover (server_no 3)) 1 5 (server_no 2) (server_no 3 ∷ []) [])).0.step
+  has-source : (rounds taking_book (each_turn []) 0 9 chain (begun_recovery (purpose.Takeover (server_no 3)) means.Bridges 1 5 (server_no 2) (server_no 3 ∷ []) [])).0.step
       ≡ step.Failed (cause.Moved (server_no 2) (Attached (server_no 1))) []
   has-source = refl

@@ -10,8 +10,10 @@ use Rattle.server_model.specs.Worlds.{World, server_at}
 use Rattle.commands.specs.declared.cause.Cause.{Cause}
 use Rattle.commands.specs.declared.cause.Cause.TheVariants as cause
 use Rattle.commands.specs.declared.line.Line.{Line}
-use Rattle.commands.specs.declared.line.Lost.{Lost}
-use Rattle.commands.specs.declared.line.Lost.TheVariants as lost
+use Rattle.recovery_plans.specs.declared.why.Miss.{Miss}
+use Rattle.recovery_plans.specs.declared.why.Miss.TheVariants as miss
+use Rattle.recovery_plans.specs.declared.why.Why.{Why}
+use Rattle.recovery_plans.specs.Whys as lost
 use Rattle.instance_keeper.specs.declared.bridge.Bridge.{Bridge}
 use Rattle.instance_keeper.specs.Book.{BookState}
 use Rattle.kept_rows.specs.declared.observation.Observation.{Observation}
@@ -32,9 +34,10 @@ use Rattle.recovery_plans.specs.declared.task.Way.{Way}
 use Rattle.recovery_plans.specs.declared.task.Way.TheVariants as way
 use Rattle.recovery_plans.specs.Recoveries.{Recovery, loses, working}
 use Rattle.recovery_plans.specs.Stages.{ends, moved, trail, with_bridge}
+use Rattle.recovery_plans.specs.Table.{more_on}
 use Rattle.recovery_plans.specs.Deciding.{better_of, by_queue, by_task, at_last, choose, chosen_of, crown, decided, hand, hand_by, hand_over, look_at, moving, once, rejoin, swap, swap_by, swap_or_crown, way_below, yield}
 use Rattle.recovery_plans.specs.Taking as taking
-use Rattle.recovery_plans.specs.Taking.{Fate, Taken, acted, at_end, attempted, barred_by, completed, entered, exec_by, fate, fate_of_drain, fate_of_errant, fate_of_move, fate_of_trail, frees, goes_on, halted, idle, is_below, is_waiting, judged, last_exchanges, looked, lost_on_way, met, on_going, progressed, spot_by, spot_seen, stepped, taken, place_on}
+use Rattle.recovery_plans.specs.Taking.{Fate, Loss, Taken, acted, at_end, attempted, barred_by, completed, entered, exec_by, fate, fate_of_drain, fate_of_errant, fate_of_trail, loss_of, match_fate, missed_fate, move_fate, way_fate, frees, goes_on, halted, idle, is_below, is_waiting, judged, last_exchanges, looked, lost_on_way, met, on_going, progressed, spot_by, spot_seen, stepped, taken, place_on}
 use Rattle.recovery_plans.specs.Moves as move
 use Rattle.recovery_plans.specs.Moves.{AtEnd, Decision, Decisions, Does, Ending, FailsFor, HasNoBetter, IsHanding, IsNext, IsOver, MayDecide, MayEnd, Stops, Turning, MayBear, Bearing, borne, decided_by, ended_by, fate_of, late, rests, stray}
 
@@ -55,14 +58,14 @@ module _ (w : World) (b : BookState) (now : Moment) where
       one (record r { queue = task.Handing ∷ ts; drained = [] }) (move.HandedOver ts)
       (record { rests = none; queue = refl }, refl, λ h. let bad : None ≡ Some k = sym h ∙ chosen in cc)
   hand-walks k ts (d ∷ ds) r none chosen =
-      go (way_below w b r.core.seen r.failed k d) refl (hand-walks k ts ds (loses r d.no (lost.Behind d.exec)) none chosen)
+      go (way_below w b r.core.seen r.failed k d) refl (hand-walks k ts ds (loses r d.no (lost.behind d.exec)) none chosen)
     where
       handing : (o : Option Way) → way_below w b r.core.seen r.failed k d ≡ o → IsHanding w b (record r { queue = task.Handing ∷ ts; drained = d ∷ ds }) d ds o ts
       handing o e = record { next = record { rests = none; queue = refl }; drained = refl; source = k; chosen = chosen; way = e }
 
       go : (o : Option Way) → way_below w b r.core.seen r.failed k d ≡ o
-          → Decisions w b now (record (loses r d.no (lost.Behind d.exec)) { queue = task.Handing ∷ ts; drained = ds }) (hand w b k (loses (record r { queue = ts }) d.no (lost.Behind d.exec)) ds)
-          → Decisions w b now (record r { queue = task.Handing ∷ ts; drained = d ∷ ds }) (hand_by (record r { queue = ts }) d ds o (hand w b k (loses (record r { queue = ts }) d.no (lost.Behind d.exec)) ds))
+          → Decisions w b now (record (loses r d.no (lost.behind d.exec)) { queue = task.Handing ∷ ts; drained = ds }) (hand w b k (loses (record r { queue = ts }) d.no (lost.behind d.exec)) ds)
+          → Decisions w b now (record r { queue = task.Handing ∷ ts; drained = d ∷ ds }) (hand_by (record r { queue = ts }) d ds o (hand w b k (loses (record r { queue = ts }) d.no (lost.behind d.exec)) ds))
       go None e rest = move.Then (move.Leaves d ds ts) (handing None e) rest
       go (Some by) e rest = one (record r { queue = task.Handing ∷ ts; drained = d ∷ ds }) (move.Hands d ds by ts) (handing (Some by) e)
 
@@ -152,34 +155,34 @@ module _ (r : Recovery) (none : r.core.ops ≡ []) where
   over-at : (e : Ending) → MayEnd r e → AtEnd r (ended_by r e)
   over-at e may = move.Completes e none may
 
-  stray-at : (s : Position) → is_below s r.failed ≡ false → stray r.failed (Some s) ≡ Some (lost.Moved (spot_seen s.source s.exec))
-  stray-at s f = ap (λ a. cond a None (Some (lost.Moved (spot_seen s.source s.exec)))) f
+  stray-at : (s : Position) → is_below s r.failed ≡ false → stray r.failed (Some s) ≡ Some (lost.moved (spot_seen s.source s.exec))
+  stray-at s f = ap (λ a. cond a None (Some (lost.moved (spot_seen s.source s.exec)))) f
 
   judged-ends : (n : ServerNo) → r.stage ≡ stage.Judged n → (o : Option Position) → seen_of r.core.seen n.0 ≡ o → AtEnd r (idle (judged r n o))
-  judged-ends n is None e = over-at (move.Loses n lost.Unreachable) (inl is, ap (stray r.failed) e)
+  judged-ends n is None e = over-at (move.Loses n lost.unreachable) (inl is, ap (stray r.failed) e)
   judged-ends n is (Some s) e = go (is_below s r.failed) refl
     where
       go : (a : Bool) → is_below s r.failed ≡ a
-          → AtEnd r (idle (cond a (record r { drained = r.drained ++ record { no = n; exec = s.exec; own_end = s.own_end } ∷ [] }) (loses r n (lost.Moved (spot_seen s.source s.exec)))))
+          → AtEnd r (idle (cond a (record r { drained = r.drained ++ record { no = n; exec = s.exec; own_end = s.own_end } ∷ [] }) (loses r n (lost.moved (spot_seen s.source s.exec)))))
       go true f = over-at (move.Stays n s) (is, e, f)
-      go false f = over-at (move.Loses n (lost.Moved (spot_seen s.source s.exec))) (inl is, ap (stray r.failed) e ∙ stray-at s f)
+      go false f = over-at (move.Loses n (lost.moved (spot_seen s.source s.exec))) (inl is, ap (stray r.failed) e ∙ stray-at s f)
 
   looked-ends : (n : ServerNo) (x : Bridge) → r.stage ≡ stage.Looked n x → (o : Option Position) → seen_of r.core.seen n.0 ≡ o → AtEnd r (looked r n x o)
-  looked-ends n x is None e = over-at (move.Loses n lost.Unreachable) (inr (x, is), ap (stray r.failed) e)
+  looked-ends n x is None e = over-at (move.Loses n lost.unreachable) (inr (x, is), ap (stray r.failed) e)
   looked-ends n x is (Some s) e = go (is_below s r.failed) refl
     where
       go : (a : Bool) → is_below s r.failed ≡ a
-          → AtEnd r (cond a (working (record r { core = record r.core { seen = with_bridge r.core.seen x } }) (stage.Trail n x) (trail n x.no)) (idle (loses r n (lost.Moved (spot_seen s.source s.exec)))))
-      go true f = over-at (move.Trails n x) (is, ap (stray r.failed) e ∙ ap (λ a. cond a None (Some (lost.Moved (spot_seen s.source s.exec)))) f)
-      go false f = over-at (move.Loses n (lost.Moved (spot_seen s.source s.exec))) (inr (x, is), ap (stray r.failed) e ∙ stray-at s f)
+          → AtEnd r (cond a (working (record r { core = record r.core { seen = with_bridge r.core.seen x } }) (stage.Trail n x) (trail n x.no)) (idle (loses r n (lost.moved (spot_seen s.source s.exec)))))
+      go true f = over-at (move.Trails n x) (is, ap (stray r.failed) e ∙ ap (λ a. cond a None (Some (lost.moved (spot_seen s.source s.exec)))) f)
+      go false f = over-at (move.Loses n (lost.moved (spot_seen s.source s.exec))) (inr (x, is), ap (stray r.failed) e ∙ stray-at s f)
 
   halted-ends : (n : ServerNo) (x : Bridge) → r.stage ≡ stage.Halted n x → (o : Option Position) → seen_of r.core.seen n.0 ≡ o → AtEnd r (halted r n x o)
-  halted-ends n x is None e = over-at (move.Frees n lost.Unreachable) (x, is, ap (late x) e)
+  halted-ends n x is None e = over-at (move.Frees n lost.unreachable) (x, is, ap (late x) e)
   halted-ends n x is (Some s) e = go (same_coord s.exec x.exec) refl
     where
-      go : (a : Bool) → same_coord s.exec x.exec ≡ a → AtEnd r (cond a (moving r n (way.Down x)) (frees r n (lost.Behind s.exec)))
-      go true f = over-at (move.Joins n x) (is, ap (late x) e ∙ ap (λ a. cond a None (Some (lost.Behind s.exec))) f)
-      go false f = over-at (move.Frees n (lost.Behind s.exec)) (x, is, ap (late x) e ∙ ap (λ a. cond a None (Some (lost.Behind s.exec))) f)
+      go : (a : Bool) → same_coord s.exec x.exec ≡ a → AtEnd r (cond a (moving r n (way.Down x)) (frees r n (lost.behind s.exec)))
+      go true f = over-at (move.Joins n x) (is, ap (late x) e ∙ ap (λ a. cond a None (Some (lost.behind s.exec))) f)
+      go false f = over-at (move.Frees n (lost.behind s.exec)) (x, is, ap (late x) e ∙ ap (λ a. cond a None (Some (lost.behind s.exec))) f)
 
   completed-ends : (s : Stage) → r.stage ≡ s → AtEnd r (completed r s)
   completed-ends (stage.Judged n) is = judged-ends n is (seen_of r.core.seen n.0) refl
@@ -210,37 +213,57 @@ data Fated (s : Stage) : Fate → Type 0 where
   Borne : (e : Bearing) → MayBear s e → Fated s (fate_of e)
 
 drain-fated : (n : ServerNo) (c : Cause) → Fated (stage.Drain n) (fate_of_drain n c)
-drain-fated n (cause.Unreachable m) = Borne (move.Misses n lost.Unreachable) (inl refl)
+drain-fated n (cause.Unreachable m) = Borne (move.Misses n lost.unreachable) (inl refl)
 drain-fated n c = Fatal
 
 trail-fated : (w : World) (n : ServerNo) (x : Bridge) (s : Stage) → (s ≡ stage.Look n x) ⊎ (s ≡ stage.Trail n x) → (c : Cause) → Fated s (fate_of_trail w n c)
-trail-fated w n x s at (cause.Unreachable m) = Borne (move.Lets n lost.Unreachable) (inr (x, at))
-trail-fated w n x s at (cause.WaitSpent m) = Borne (move.Lets n (lost.Behind (exec_by (server_at w n.0)))) (inr (x, at))
+trail-fated w n x s at (cause.Unreachable m) = Borne (move.Lets n lost.unreachable) (inr (x, at))
+trail-fated w n x s at (cause.WaitSpent m) = Borne (move.Lets n (lost.behind (exec_by (server_at w n.0)))) (inr (x, at))
 trail-fated w n x s at c = Fatal
 
-lost-fated : (u : Purpose) (n : ServerNo) (by : Way) (why : Lost) → Fated (stage.Move n by) (lost_on_way u n why)
-lost-fated purpose.Regroup n by why = Borne (move.Misses n why) (inr (inl (by, refl)))
-lost-fated purpose.Master n by why = Borne (move.Misses n why) (inr (inl (by, refl)))
-lost-fated (purpose.Intermediate s) n by why = Borne (move.Misses n why) (inr (inl (by, refl)))
-lost-fated (purpose.Takeover d) n by why = Borne (move.Lets n why) (inl (by, refl))
+lost-fated : (u : Purpose) (n : ServerNo) (by : Way) (why : Why) → more_on by ≡ 1 → Fated (stage.Move n by) (lost_on_way u n why)
+lost-fated purpose.Regroup n by why more = Borne (move.Misses n why) (inr (inl (by, refl)))
+lost-fated purpose.Master n by why more = Borne (move.Misses n why) (inr (inl (by, refl)))
+lost-fated (purpose.Intermediate s) n by why more = Borne (move.Misses n why) (inr (inl (by, refl)))
+lost-fated (purpose.Takeover d) n by why more = Borne (move.Lets n why) (inl (by, refl, more))
 
 errant-fated : (u : Purpose) (n : ServerNo) (by : Way) → Fated (stage.Move n by) (fate_of_errant u n by)
-errant-fated u n (way.Auto to exec) = lost-fated u n (way.Auto to exec) (lost.Ahead exec)
+errant-fated u n (way.Auto to exec) = lost-fated u n (way.Auto to exec) (lost.ahead exec) refl
 errant-fated u n (way.Down x) = Fatal
 errant-fated u n (way.Up x) = Fatal
+errant-fated u n (way.Match to exec every) = Fatal
 
-move-fated : (w : World) (u : Purpose) (n : ServerNo) (by : Way) (c : Cause) → Fated (stage.Move n by) (fate_of_move w u n by c)
-move-fated w u n by (cause.Unreachable m) = lost-fated u n by lost.Unreachable
-move-fated w u n by (cause.Running m) = lost-fated u n by (lost.Moved (spot_by (server_at w n.0)))
-move-fated w u n by (cause.Interfered m expected found) = lost-fated u n by (lost.Moved found)
-move-fated w u n by (cause.Errant m set) = errant-fated u n by
-move-fated w u n by (cause.Purged m first) = lost-fated u n by (lost.Purged (place_on by))
-move-fated w u n by c = Fatal
+missed-fated : (w : World) (u : Purpose) (n : ServerNo) (by : Way) → more_on by ≡ 1 → (m : Miss) → Fated (stage.Move n by) (missed_fate w u n by m)
+missed-fated w u n by more (miss.Unreachable k) = lost-fated u n by lost.unreachable more
+missed-fated w u n by more miss.Running = lost-fated u n by (lost.moved (spot_by (server_at w n.0))) more
+missed-fated w u n by more (miss.Interfered expected found) = lost-fated u n by (lost.moved found) more
+missed-fated w u n by more miss.Loop = Fatal
+missed-fated w u n by more (miss.Purged first) = lost-fated u n by (lost.purged (place_on by)) more
+missed-fated w u n by more miss.NoMark = Fatal
+missed-fated w u n by more (miss.Mismatch entry) = Fatal
+
+move-fated : (w : World) (u : Purpose) (n : ServerNo) (by : Way) → more_on by ≡ 1 → (l : Option Loss) → Fated (stage.Move n by) (move_fate w u n by l)
+move-fated w u n by more None = Fatal
+move-fated w u n by more (Some taking.Spent) = Fatal
+move-fated w u n by more (Some taking.Differs) = errant-fated u n by
+move-fated w u n by more (Some (taking.Missed m)) = missed-fated w u n by more m
+
+match-fated : (n : ServerNo) (by : Way) (l : Option Loss) → Fated (stage.Move n by) (match_fate n l)
+match-fated n by None = Fatal
+match-fated n by (Some taking.Spent) = Fatal
+match-fated n by (Some taking.Differs) = Fatal
+match-fated n by (Some (taking.Missed m)) = Borne (move.Misses n (lost.unmatched m)) (inr (inl (by, refl)))
+
+way-fated : (w : World) (u : Purpose) (n : ServerNo) (by : Way) (l : Option Loss) → Fated (stage.Move n by) (way_fate w u n by l)
+way-fated w u n (way.Down x) l = move-fated w u n (way.Down x) refl l
+way-fated w u n (way.Up x) l = move-fated w u n (way.Up x) refl l
+way-fated w u n (way.Auto to exec) l = move-fated w u n (way.Auto to exec) refl l
+way-fated w u n (way.Match to exec every) l = match-fated n (way.Match to exec every) l
 
 fated : (w : World) (u : Purpose) (s : Stage) (c : Cause) → Fated s (fate w u s c)
 fated w u (stage.Drain n) c = drain-fated n c
-fated w u (stage.Move n by) c = move-fated w u n by c
-fated w u (stage.Join n p) c = Borne (move.Misses n lost.Unreachable) (inr (inr (p, refl)))
+fated w u (stage.Move n by) c = way-fated w u n by (loss_of c)
+fated w u (stage.Join n p) c = Borne (move.Misses n lost.unreachable) (inr (inr (p, refl)))
 fated w u (stage.Look n x) c = trail-fated w n x (stage.Look n x) (inl refl) c
 fated w u (stage.Trail n x) c = trail-fated w n x (stage.Trail n x) (inr refl) c
 fated w u stage.Check c = Borne move.Drops (inl refl)

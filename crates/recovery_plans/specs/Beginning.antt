@@ -4,6 +4,7 @@ use Rattle.orch_base.specs.declared.server.ServerNo.{ServerNo}
 use Rattle.operations.specs.declared.op.Op.{Op}
 use Rattle.operations.specs.declared.op.Op.TheVariants as op
 use Rattle.operations.specs.Jobs.{job_with}
+use Rattle.recovery_plans.specs.declared.means.Means.{Means}
 use Rattle.recovery_plans.specs.declared.purpose.Purpose.{Purpose}
 use Rattle.recovery_plans.specs.declared.purpose.Purpose.TheVariants as purpose
 use Rattle.recovery_plans.specs.declared.stage.Stage.{Stage}
@@ -47,11 +48,12 @@ is_master purpose.Master = true
 is_master (purpose.Intermediate s) = false
 is_master (purpose.Takeover d) = false
 
--- A recovery begins, as the job of this number, whose operations may wait so often each: of this server, with these
--- replicas, and telling of those.
-abbrev pub begun_recovery : Purpose → ℕ → ℕ → ServerNo → List ServerNo → List ServerNo → Recovery
-begun_recovery u id wait failed replicas order = record {
+-- A recovery begins, by whose means the others go, as the job of this number, whose operations may wait so often each:
+-- of this server, with these replicas, and telling of those.
+abbrev pub begun_recovery : Purpose → Means → ℕ → ℕ → ServerNo → List ServerNo → List ServerNo → Recovery
+begun_recovery u by id wait failed replicas order = record {
   purpose = u;
+  means = by;
   core = job_with id wait (first_ops u failed);
   stage = first_stage u failed;
   queue = first_tasks u replicas;

@@ -6,7 +6,6 @@ use Rattle.orch_base.specs.declared.server.Moment.{Moment}
 use Rattle.orch_base.specs.declared.server.ServerNo.{ServerNo}
 use Rattle.server_model.specs.declared.server.Server.{Server}
 use Rattle.server_model.specs.Worlds.{World, server_at}
-use Rattle.commands.specs.declared.line.Lost.{Lost}
 use Rattle.commands.specs.declared.line.Lost.TheVariants as lost
 use Rattle.instance_keeper.specs.declared.bridge.Bridge.{Bridge}
 use Rattle.instance_keeper.specs.Book.{BookState, rule_at}
@@ -22,6 +21,8 @@ use Rattle.promotion_rules.specs.Choice.{better, is_barred, most_advanced}
 use Rattle.replica_groups.specs.declared.groups.Group.{Group}
 use Rattle.replica_groups.specs.declared.groups.Group.TheVariants as group
 use Rattle.replica_groups.specs.Groups.{group_of}
+use Rattle.recovery_plans.specs.declared.means.Means.{Means}
+use Rattle.recovery_plans.specs.declared.means.Means.TheVariants as means
 use Rattle.recovery_plans.specs.declared.outcome.LostReplica.{LostReplica}
 use Rattle.recovery_plans.specs.declared.outcome.Stopped.{Stopped}
 use Rattle.recovery_plans.specs.declared.purpose.Purpose.{Purpose}
@@ -31,9 +32,12 @@ use Rattle.recovery_plans.specs.declared.task.Task.{Task}
 use Rattle.recovery_plans.specs.declared.task.Task.TheVariants as task
 use Rattle.recovery_plans.specs.declared.task.Way.{Way}
 use Rattle.recovery_plans.specs.declared.task.Way.TheVariants as way
+use Rattle.recovery_plans.specs.declared.why.Why.{Why}
+use Rattle.recovery_plans.specs.declared.why.Why.TheVariants as why
 use Rattle.recovery_plans.specs.Recoveries.{Recovery, working, loses}
-use Rattle.recovery_plans.specs.Stages.{drain, level, move, with_bridge, with_way}
+use Rattle.recovery_plans.specs.Stages.{before, drain, level, move, with_bridge, with_way}
 use Rattle.recovery_plans.specs.Telling.{told}
+use Rattle.recovery_plans.specs.Whys as whys
 
 -- ---- which is promoted
 
@@ -89,13 +93,13 @@ better_of w b now f p qs = better b.names (follower_of w b now f p) (map (follow
 -- a drained replica goes some way, or is lost
 pub data Lot : Type 0 where
   Goes : (by : Way) → Lot
-  Stays : (why : Lost) → Lot
+  Stays : (why : Why) → Lot
 
 -- below the chosen one, from where it stands under their source
 abbrev pub lot_by_group : ServerNo → ServerNo → Stopped → Group → Lot
 lot_by_group p f s (group.Follow at) = Goes (way.Down (record { no = p; source = f; own = at; exec = s.exec }))
-lot_by_group p f s group.Ahead = Stays (lost.Ahead s.exec)
-lot_by_group p f s group.Behind = Stays (lost.Behind s.exec)
+lot_by_group p f s group.Ahead = Stays (whys.ahead s.exec)
+lot_by_group p f s group.Behind = Stays (whys.behind s.exec)
 
 -- the chosen one logs, so that its own end was seen
 abbrev pub own_end_of : Stopped → Coord
@@ -105,6 +109,11 @@ abbrev pub lot_of : World → BookState → ServerNo → Stopped → Stopped →
 lot_of w b f p s =
     if w.gtid then Goes (way.Auto p.no s.exec)
     else lot_by_group p.no f s (group_of b.rings p.no (own_end_of p) p.exec f s.exec)
+
+-- by these means
+abbrev pub lot_by : Means → World → BookState → ServerNo → Stopped → Stopped → Lot
+lot_by means.Bridges w b f p s = lot_of w b f p s
+lot_by (means.Matches every) w b f p s = Goes (way.Match p.no s.exec every)
 
 abbrev pub move_of : Stopped → Lot → List Task
 move_of s (Goes by) = task.Moving s.no by ∷ []
@@ -135,7 +144,7 @@ choose_by r p lot others = record r {
 
 -- where none may be promoted, each drained one is lost
 abbrev pub unfit : World → Stopped → LostReplica
-unfit w s = record { no = s.no; why = if logs_at w s.no then lost.MustNot else lost.NotLogging; detached = false }
+unfit w s = record { no = s.no; why = if logs_at w s.no then whys.must_not else whys.not_logging; detached = false }
 
 -- nothing is left to do, and there is no new source
 abbrev pub stuck : Recovery → Recovery
@@ -147,12 +156,12 @@ choose w b now r None = record (stuck r) {
   outcome = record { promoted = None; followers = r.outcome.followers; lost = r.outcome.lost ++ map (unfit w) r.drained };
 }
 choose w b now r (Some p) =
-    choose_by (record r { eligible = filter (may_lead w b now) r.drained }) p.no (lot_of w b r.failed p) (without_stopped r.drained p.no)
+    choose_by (record r { eligible = filter (may_lead w b now) r.drained }) p.no (lot_by r.means w b r.failed p) (without_stopped r.drained p.no)
 
 -- a move begins: what it goes by was seen
 abbrev pub moving : Recovery → ServerNo → Way → Recovery
 moving r n by =
-    working (record r { core = record r.core { seen = with_way r.core.seen by } }) (stage.Move n by) (move by n ∷ op.Start n ∷ [])
+    working (record r { core = record r.core { seen = with_way r.core.seen by } }) (stage.Move n by) (before by n ++ move by n ∷ op.Start n ∷ [])
 
 -- below a successor that logs and was read, as it is and was; by its GTIDs
 abbrev pub way_by_set : World → List Sight → ServerNo → Stopped → Option Way
@@ -171,7 +180,7 @@ hand_by r d ds (Some by) without = moving (record r { queue = task.Handing ∷ r
 
 abbrev pub hand : World → BookState → ServerNo → Recovery → List Stopped → Recovery
 hand w b s r [] = record r { drained = [] }
-hand w b s r (d ∷ ds) = hand_by r d ds (way_below w b r.core.seen r.failed s d) (hand w b s (loses r d.no (lost.Behind d.exec)) ds)
+hand w b s r (d ∷ ds) = hand_by r d ds (way_below w b r.core.seen r.failed s d) (hand w b s (loses r d.no (whys.behind d.exec)) ds)
 
 abbrev pub hand_over : World → BookState → Recovery → Option ServerNo → Recovery
 hand_over w b r None = r
@@ -179,7 +188,7 @@ hand_over w b r (Some s) = hand w b s r r.drained
 
 -- ---- what becomes of the lost
 
-abbrev pub why_of : List LostReplica → ServerNo → Option Lost
+abbrev pub why_of : List LostReplica → ServerNo → Option Why
 why_of xs n = option_map (λ l. l.why) (find (λ l. l.no.0 == n.0) xs)
 
 -- What a reason tells of a lost one: whether it executed what the new source didn't, or less, or its place is purged
@@ -189,34 +198,36 @@ pub record Care : Type 0 where
   pub elsewhere : Bool
   pub reached : Bool
 
-abbrev pub care_of : Lost → Care
-care_of (lost.Ahead c) = record { apart = true; elsewhere = false; reached = true }
-care_of (lost.Behind c) = record { apart = true; elsewhere = false; reached = true }
-care_of (lost.Purged c) = record { apart = true; elsewhere = false; reached = true }
-care_of lost.Unreachable = record { apart = false; elsewhere = false; reached = false }
-care_of (lost.Moved s) = record { apart = false; elsewhere = true; reached = true }
-care_of lost.NotLogging = record { apart = false; elsewhere = false; reached = true }
-care_of lost.MustNot = record { apart = false; elsewhere = false; reached = true }
+-- one that wasn't matched stands where it stood
+abbrev pub care_of : Why → Care
+care_of (why.Lost (lost.Ahead c)) = record { apart = true; elsewhere = false; reached = true }
+care_of (why.Lost (lost.Behind c)) = record { apart = true; elsewhere = false; reached = true }
+care_of (why.Lost (lost.Purged c)) = record { apart = true; elsewhere = false; reached = true }
+care_of (why.Lost lost.Unreachable) = record { apart = false; elsewhere = false; reached = false }
+care_of (why.Lost (lost.Moved s)) = record { apart = false; elsewhere = true; reached = true }
+care_of (why.Lost lost.NotLogging) = record { apart = false; elsewhere = false; reached = true }
+care_of (why.Lost lost.MustNot) = record { apart = false; elsewhere = false; reached = true }
+care_of (why.Unmatched m) = record { apart = false; elsewhere = true; reached = true }
 
-abbrev pub is_apart : Option Lost → Bool
+abbrev pub is_apart : Option Why → Bool
 is_apart None = false
 is_apart (Some why) = (care_of why).apart
 
-abbrev pub is_elsewhere : Option Lost → Bool
+abbrev pub is_elsewhere : Option Why → Bool
 is_elsewhere None = false
 is_elsewhere (Some why) = (care_of why).elsewhere
 
-abbrev pub is_reached : Option Lost → Bool
+abbrev pub is_reached : Option Why → Bool
 is_reached None = false
 is_reached (Some why) = (care_of why).reached
 
-abbrev pub expels : Purpose → Option Lost → Bool
+abbrev pub expels : Purpose → Option Why → Bool
 expels purpose.Regroup why = false
 expels purpose.Master why = is_apart why
 expels (purpose.Intermediate s) why = is_apart why
 expels (purpose.Takeover d) why = false
 
-abbrev pub releases : Purpose → Option Lost → Bool
+abbrev pub releases : Purpose → Option Why → Bool
 releases purpose.Regroup why = is_reached why
 releases purpose.Master why = is_elsewhere why
 releases (purpose.Intermediate s) why = is_elsewhere why

@@ -1,3 +1,4 @@
+pub mod Whys
 pub mod Recoveries
 pub mod Table
 pub mod Stages

@@ -9,8 +9,6 @@ use Rattle.server_model.specs.Worlds.{World}
 use Rattle.commands.specs.declared.cause.Cause.{Cause}
 use Rattle.commands.specs.declared.cause.Cause.TheVariants as cause
 use Rattle.commands.specs.declared.line.Line.{Line}
-use Rattle.commands.specs.declared.line.Lost.{Lost}
-use Rattle.commands.specs.declared.line.Lost.TheVariants as lost
 use Rattle.instance_keeper.specs.declared.bridge.Bridge.{Bridge}
 use Rattle.instance_keeper.specs.Book.{BookState}
 use Rattle.kept_rows.specs.declared.observation.Observation.{Observation}
@@ -32,8 +30,10 @@ use Rattle.recovery_plans.specs.declared.task.Task.{Task}
 use Rattle.recovery_plans.specs.declared.task.Task.TheVariants as task
 use Rattle.recovery_plans.specs.declared.task.Way.{Way}
 use Rattle.recovery_plans.specs.declared.task.Way.TheVariants as way
+use Rattle.recovery_plans.specs.declared.why.Why.{Why}
+use Rattle.recovery_plans.specs.Whys as lost
 use Rattle.recovery_plans.specs.Recoveries.{Recovery, follows, loses, working}
-use Rattle.recovery_plans.specs.Table.{info, is_nothing}
+use Rattle.recovery_plans.specs.Table.{info, is_nothing, more_on}
 use Rattle.recovery_plans.specs.Stages.{drain, gather, level, trail, with_bridge}
 use Rattle.recovery_plans.specs.Deciding.{better_of, choose, chosen_of, closing, crown, look_at, moving, rejoin, sort, stuck, way_below, yield}
 use Rattle.recovery_plans.specs.Taking as taking
@@ -84,7 +84,7 @@ decided_by w b now r (Sticks t ts) = stuck r
 decided_by w b now r (Chooses p ts) = choose w b now (record r { queue = ts }) (Some p)
 decided_by w b now r (ChoosesNobody ts) = choose w b now (record r { queue = ts }) None
 decided_by w b now r (Hands d ds by ts) = moving (record r { drained = ds }) d.no by
-decided_by w b now r (Leaves d ds ts) = record (loses r d.no (lost.Behind d.exec)) { drained = ds }
+decided_by w b now r (Leaves d ds ts) = record (loses r d.no (lost.behind d.exec)) { drained = ds }
 decided_by w b now r (HandedOver ts) = record r { queue = ts; drained = [] }
 decided_by w b now r (Passes ts) = record r { queue = ts }
 decided_by w b now r (Sorts ts) = sort (record r { queue = ts })
@@ -182,8 +182,8 @@ pub data Ending : Type 0 where
   Rests : Ending
   -- a replica is drained, where it was seen; is lost; is lost and started
   Stays : (n : ServerNo) (s : Position) → Ending
-  Loses : (n : ServerNo) (why : Lost) → Ending
-  Frees : (n : ServerNo) (why : Lost) → Ending
+  Loses : (n : ServerNo) (why : Why) → Ending
+  Frees : (n : ServerNo) (why : Why) → Ending
   -- a replica follows its new source; a lost one is marked as detached
   Follows : (n p : ServerNo) → Ending
   Marks : (n : ServerNo) → Ending
@@ -223,14 +223,14 @@ abbrev pub rests : Stage → Bool
 rests s = is_nothing (info s).made
 
 -- a replica that was read: that wasn't reached, or stands elsewhere
-abbrev pub stray : ServerNo → Option Position → Option Lost
-stray f None = Some lost.Unreachable
-stray f (Some s) = if is_below s f then None else Some (lost.Moved (spot_seen s.source s.exec))
+abbrev pub stray : ServerNo → Option Position → Option Why
+stray f None = Some lost.unreachable
+stray f (Some s) = if is_below s f then None else Some (lost.moved (spot_seen s.source s.exec))
 
 -- one that was to come to where another stopped: that wasn't reached, or is behind
-abbrev pub late : Bridge → Option Position → Option Lost
-late x None = Some lost.Unreachable
-late x (Some s) = if same_coord s.exec x.exec then None else Some (lost.Behind s.exec)
+abbrev pub late : Bridge → Option Position → Option Why
+late x None = Some lost.unreachable
+late x (Some s) = if same_coord s.exec x.exec then None else Some (lost.behind s.exec)
 
 -- the replica of a stage at whose end it was read
 abbrev pub WasRead : Stage → ServerNo → Type 0
@@ -272,8 +272,8 @@ pub data Bearing : Type 0 where
   -- nothing more is done with the server
   Drops : Bearing
   -- the replica is lost; is lost and started
-  Misses : (n : ServerNo) (why : Lost) → Bearing
-  Lets : (n : ServerNo) (why : Lost) → Bearing
+  Misses : (n : ServerNo) (why : Why) → Bearing
+  Lets : (n : ServerNo) (why : Why) → Bearing
   -- the better one is started again where it is, or goes back below the promoted one
   Restarts : (p q : ServerNo) → Bearing
   Returns : (p q : ServerNo) → Bearing
@@ -289,7 +289,7 @@ fate_of (Returns p q) = taking.Goes (stage.Return p q) (op.Cross cross.Back q p 
 abbrev pub MayBear : Stage → Bearing → Type 0
 MayBear s Drops = (s ≡ stage.Check) ⊎ ((n : ServerNo) × ((s ≡ stage.Expel n) ⊎ (s ≡ stage.Release n)))
 MayBear s (Misses n why) = (s ≡ stage.Drain n) ⊎ (((by : Way) × (s ≡ stage.Move n by)) ⊎ ((p : ServerNo) × (s ≡ stage.Join n p)))
-MayBear s (Lets n why) = ((by : Way) × (s ≡ stage.Move n by)) ⊎ ((x : Bridge) × ((s ≡ stage.Look n x) ⊎ (s ≡ stage.Trail n x)))
+MayBear s (Lets n why) = ((by : Way) × (s ≡ stage.Move n by) × (more_on by ≡ 1)) ⊎ ((x : Bridge) × ((s ≡ stage.Look n x) ⊎ (s ≡ stage.Trail n x)))
 MayBear s (Restarts p q) = s ≡ stage.Level p q
 MayBear s (Returns p q) = s ≡ stage.Swap p q
 

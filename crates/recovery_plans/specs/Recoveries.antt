@@ -2,17 +2,18 @@
 use Rattle.std.specs.Prelude.{Bool, false, ◌==◌, not, List, [], ◌∷◌, ◌++◌, filter, Option, Some, None}
 use Rattle.orch_base.specs.declared.server.ServerNo.{ServerNo}
 use Rattle.orch_base.specs.declared.server.SourceState.TheVariants.{Attached}
-use Rattle.commands.specs.declared.line.Lost.{Lost}
 use Rattle.instance_keeper.specs.declared.bridge.Bridge.{Bridge}
 use Rattle.operations.specs.declared.op.Op.{Op}
 use Rattle.operations.specs.declared.sight.Position.{Position}
 use Rattle.operations.specs.Jobs.{Job}
+use Rattle.recovery_plans.specs.declared.means.Means.{Means}
 use Rattle.recovery_plans.specs.declared.outcome.Follower.{Follower}
 use Rattle.recovery_plans.specs.declared.outcome.LostReplica.{LostReplica}
 use Rattle.recovery_plans.specs.declared.outcome.Stopped.{Stopped}
 use Rattle.recovery_plans.specs.declared.purpose.Purpose.{Purpose}
 use Rattle.recovery_plans.specs.declared.stage.Stage.{Stage}
 use Rattle.recovery_plans.specs.declared.task.Task.{Task}
+use Rattle.recovery_plans.specs.declared.why.Why.{Why}
 
 -- what a recovery comes to: which server is promoted, who follows, and who is lost
 pub record Outcome : Type 0 where
@@ -20,13 +21,14 @@ pub record Outcome : Type 0 where
   pub followers : List Follower
   pub lost : List LostReplica
 
--- A recovery: what it is for; its job, whose operations are those that are left of its stage; what is still to do; the
+-- A recovery: what it is for, and how the others go; its job, whose operations are those that are left of its stage; what is still to do; the
 -- server that failed, or gives up its place; the replicas that the book had of it, and those of whom it tells, both in
 -- name order; the replicas that are drained and of which nothing is decided yet; the new source of the others; where a
 -- designated replica stopped; the drained ones that might have been chosen; whether a better one is still to be looked
 -- for; and what it came to so far.
 pub record Recovery : Type 0 where
   pub purpose : Purpose
+  pub means : Means
   pub core : Job
   pub stage : Stage
   pub queue : List Task
@@ -50,7 +52,7 @@ working r s ops = record r { stage = s; core = record r.core { ops = ops; waited
 
 -- ---- entries of the outcome
 
-abbrev pub loses : Recovery → ServerNo → Lost → Recovery
+abbrev pub loses : Recovery → ServerNo → Why → Recovery
 loses r n why = record r { outcome = record r.outcome { lost = r.outcome.lost ++ record { no = n; why = why; detached = false } ∷ [] } }
 
 abbrev pub follows : Recovery → ServerNo → ServerNo → Recovery

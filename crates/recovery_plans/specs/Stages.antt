@@ -14,7 +14,7 @@ use Rattle.recovery_plans.specs.declared.task.Way.{Way}
 use Rattle.recovery_plans.specs.declared.task.Way.TheVariants as way
 use Rattle.recovery_plans.specs.Recoveries.{sight_of}
 use Rattle.recovery_plans.specs.Table.{info}
-pub use Rattle.recovery_plans.specs.Table.{drain, gather, level, move, target, trail}
+pub use Rattle.recovery_plans.specs.Table.{before, drain, gather, level, move, target, trail}
 
 -- ---- ways
 
@@ -26,6 +26,7 @@ abbrev pub with_way : List Sight → Way → List Sight
 with_way seen (way.Down b) = with_bridge seen b
 with_way seen (way.Up b) = with_bridge seen b
 with_way seen (way.Auto to exec) = seen
+with_way seen (way.Match to exec every) = seen
 
 -- ---- how a stage ends
 

@@ -18,12 +18,36 @@ abbrev pub target : Way → ServerNo
 target (way.Down b) = b.no
 target (way.Up b) = b.source
 target (way.Auto to exec) = to
+target (way.Match to exec every) = to
 
 -- the operation that goes a way
 abbrev pub move : Way → ServerNo → Op
 move (way.Down b) n = op.Cross cross.Down n b.no
 move (way.Up b) n = op.Cross cross.Up n b.no
 move (way.Auto to exec) n = op.Auto n to
+move (way.Match to exec every) n = op.CrossMatch n to
+
+-- those before it: its log is matched with the new source's
+abbrev pub before : Way → ServerNo → List Op
+before (way.Down b) n = []
+before (way.Up b) n = []
+before (way.Auto to exec) n = []
+before (way.Match to exec every) n = op.Match n to every ∷ []
+
+-- the replica with which alone they speak; a match speaks with two
+abbrev pub alone : Way → ServerNo → Option ServerNo
+alone (way.Down b) n = Some n
+alone (way.Up b) n = Some n
+alone (way.Auto to exec) n = Some n
+alone (way.Match to exec every) n = None
+
+-- so many operations may come after them: a replica of a takeover that is lost on its way is started, which none is
+-- that goes by a match
+abbrev pub more_on : Way → ℕ
+more_on (way.Down b) = 1
+more_on (way.Up b) = 1
+more_on (way.Auto to exec) = 1
+more_on (way.Match to exec every) = 0
 
 -- ---- operations
 
@@ -170,8 +194,8 @@ info (stage.Judged n) = record (plain (stage.Judged n) (n ∷ [])) { due = true;
 info (stage.Move n by) = record (plain (stage.Join n (target by)) (n ∷ [])) {
   tail = move by n ∷ op.Start n ∷ [];
   places = n ∷ [];
-  speaks = Some n;
-  more = 1;
+  speaks = alone by n;
+  more = more_on by;
   failing = Moves n by;
 }
 info (stage.Join n p) = record (plain (stage.Join n p) (n ∷ [])) { places = n ∷ []; speaks = Some n; failing = Joins n; made = Follows n p }

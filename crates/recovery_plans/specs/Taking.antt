@@ -15,8 +15,6 @@ use Rattle.server_model.specs.Run.{Exchange, Request}
 use Rattle.server_model.specs.Worlds.{World, has_source, server_at, source_no}
 use Rattle.commands.specs.declared.cause.Cause.{Cause}
 use Rattle.commands.specs.declared.cause.Cause.TheVariants as cause
-use Rattle.commands.specs.declared.line.Lost.{Lost}
-use Rattle.commands.specs.declared.line.Lost.TheVariants as lost
 use Rattle.instance_keeper.specs.declared.bridge.Bridge.{Bridge}
 use Rattle.kept_rows.specs.declared.observation.Observation.{Observation}
 use Rattle.instance_keeper.specs.Book.{BookState}
@@ -39,6 +37,10 @@ use Rattle.recovery_plans.specs.declared.stage.Stage.{Stage}
 use Rattle.recovery_plans.specs.declared.stage.Stage.TheVariants as stage
 use Rattle.recovery_plans.specs.declared.task.Way.{Way}
 use Rattle.recovery_plans.specs.declared.task.Way.TheVariants as way
+use Rattle.recovery_plans.specs.declared.why.Miss.{Miss}
+use Rattle.recovery_plans.specs.declared.why.Miss.TheVariants as miss
+use Rattle.recovery_plans.specs.declared.why.Why.{Why}
+use Rattle.recovery_plans.specs.Whys as lost
 use Rattle.recovery_plans.specs.Recoveries.{Recovery, follows, follows_no_more, loses, working}
 use Rattle.recovery_plans.specs.Stages.{ends, gather, leaver, moved, trail, with_bridge}
 use Rattle.recovery_plans.specs.Table as table
@@ -81,10 +83,10 @@ is_below s f = is_source (source_no s.source) f
 
 -- a replica that was stopped is drained where its source is the failed server; else it is lost
 abbrev pub judged : Recovery → ServerNo → Option Position → Recovery
-judged r n None = loses r n lost.Unreachable
+judged r n None = loses r n lost.unreachable
 judged r n (Some s) =
     if is_below s r.failed then record r { drained = r.drained ++ record { no = n; exec = s.exec; own_end = s.own_end } ∷ [] }
-    else loses r n (lost.Moved (spot_seen s.source s.exec))
+    else loses r n (lost.moved (spot_seen s.source s.exec))
 
 -- a lost one is marked as detached
 abbrev pub marked : ServerNo → LostReplica → LostReplica
@@ -109,20 +111,20 @@ abbrev pub idle : Recovery → Recovery
 idle r = record r { stage = stage.Idle }
 
 -- a lost one is started at once
-abbrev pub frees : Recovery → ServerNo → Lost → Recovery
+abbrev pub frees : Recovery → ServerNo → Why → Recovery
 frees r n why = working (loses r n why) (stage.Release n) (op.Start n ∷ [])
 
 -- a replica of the master goes to where the designated one stopped; one that stands elsewhere is lost
 abbrev pub looked : Recovery → ServerNo → Bridge → Option Position → Recovery
-looked r n b None = idle (loses r n lost.Unreachable)
+looked r n b None = idle (loses r n lost.unreachable)
 looked r n b (Some s) =
     if is_below s r.failed then working (record r { core = record r.core { seen = with_bridge r.core.seen b } }) (stage.Trail n b) (trail n b.no)
-    else idle (loses r n (lost.Moved (spot_seen s.source s.exec)))
+    else idle (loses r n (lost.moved (spot_seen s.source s.exec)))
 
 -- one that stands there goes below the designated one; another is behind
 abbrev pub halted : Recovery → ServerNo → Bridge → Option Position → Recovery
-halted r n b None = frees r n lost.Unreachable
-halted r n b (Some s) = if same_coord s.exec b.exec then moving r n (way.Down b) else frees r n (lost.Behind s.exec)
+halted r n b None = frees r n lost.unreachable
+halted r n b (Some s) = if same_coord s.exec b.exec then moving r n (way.Down b) else frees r n (lost.behind s.exec)
 
 -- the last readings, before the lines
 abbrev pub last_looks : Recovery → Purpose → ServerNo → List Op
@@ -171,45 +173,49 @@ pub data Fate : Type 0 where
   -- nothing more is done with the server
   Drops : Fate
   -- the replica is lost; or it is started, too
-  Loses : (n : ServerNo) (why : Lost) → Fate
-  Frees : (n : ServerNo) (why : Lost) → Fate
+  Loses : (n : ServerNo) (why : Why) → Fate
+  Frees : (n : ServerNo) (why : Why) → Fate
   -- another stage takes its place
   Goes : (s : Stage) (ops : List Op) → Fate
 
--- What a failing operation tells of the replica that it speaks with: it isn't reached; it took too long; it stands
--- where it does, or at this spot; it has transactions of its own; what comes where it was to be attached is purged.
+-- What a failing operation tells of the replica that it speaks with: it took too long; it has transactions of its own;
+-- or why it isn't matched or attached.
 pub data Loss : Type 0 where
-  OutOfReach : Loss
   Spent : Loss
-  Runs : Loss
-  Stands : (found : Spot) → Loss
   Differs : Loss
-  Gone : Loss
+  Missed : (m : Miss) → Loss
 
 -- and nothing, where the recovery fails
 abbrev pub loss_of : Cause → Option Loss
-loss_of (cause.Unreachable n) = Some OutOfReach
+loss_of (cause.Unreachable n) = Some (Missed (miss.Unreachable n))
 loss_of (cause.WaitSpent n) = Some Spent
-loss_of (cause.Running n) = Some Runs
-loss_of (cause.Interfered n expected found) = Some (Stands found)
+loss_of (cause.Running n) = Some (Missed miss.Running)
+loss_of (cause.Interfered n expected found) = Some (Missed (miss.Interfered expected found))
 loss_of (cause.Errant n set) = Some Differs
-loss_of (cause.Purged n first) = Some Gone
-loss_of (cause.Loop n) = None
+loss_of (cause.Purged n first) = Some (Missed (miss.Purged first))
+loss_of (cause.Loop n) = Some (Missed miss.Loop)
 loss_of (cause.Moved n source) = None
 loss_of (cause.Reachable n) = None
 loss_of cause.NoCandidate = None
-loss_of (cause.NoMark n) = None
-loss_of (cause.Mismatch n entry) = None
+loss_of (cause.NoMark n) = Some (Missed miss.NoMark)
+loss_of (cause.Mismatch n entry) = Some (Missed (miss.Mismatch entry))
 loss_of (cause.HookFailed number exit) = None
+
+-- whether a miss is that the server wasn't reached
+abbrev pub is_away : Miss → Bool
+is_away (miss.Unreachable n) = true
+is_away miss.Running = false
+is_away (miss.Interfered expected found) = false
+is_away miss.Loop = false
+is_away (miss.Purged first) = false
+is_away miss.NoMark = false
+is_away (miss.Mismatch entry) = false
 
 abbrev pub drain_fate : ServerNo → Option Loss → Fate
 drain_fate n None = Fails
-drain_fate n (Some OutOfReach) = Loses n lost.Unreachable
 drain_fate n (Some Spent) = Fails
-drain_fate n (Some Runs) = Fails
-drain_fate n (Some (Stands found)) = Fails
 drain_fate n (Some Differs) = Fails
-drain_fate n (Some Gone) = Fails
+drain_fate n (Some (Missed m)) = if is_away m then Loses n lost.unreachable else Fails
 
 abbrev pub fate_of_drain : ServerNo → Cause → Fate
 fate_of_drain n c = drain_fate n (loss_of c)
@@ -217,18 +223,15 @@ fate_of_drain n c = drain_fate n (loss_of c)
 -- a replica that comes to where another stopped: one that takes too long is behind, where it stands
 abbrev pub trail_fate : World → ServerNo → Option Loss → Fate
 trail_fate w n None = Fails
-trail_fate w n (Some OutOfReach) = Frees n lost.Unreachable
-trail_fate w n (Some Spent) = Frees n (lost.Behind (exec_by (server_at w n.0)))
-trail_fate w n (Some Runs) = Fails
-trail_fate w n (Some (Stands found)) = Fails
+trail_fate w n (Some Spent) = Frees n (lost.behind (exec_by (server_at w n.0)))
 trail_fate w n (Some Differs) = Fails
-trail_fate w n (Some Gone) = Fails
+trail_fate w n (Some (Missed m)) = if is_away m then Frees n lost.unreachable else Fails
 
 abbrev pub fate_of_trail : World → ServerNo → Cause → Fate
 fate_of_trail w n c = trail_fate w n (loss_of c)
 
 -- a replica that is lost on its way is started at once in a takeover, and is looked after later else
-abbrev pub lost_on_way : Purpose → ServerNo → Lost → Fate
+abbrev pub lost_on_way : Purpose → ServerNo → Why → Fate
 lost_on_way purpose.Regroup n why = Loses n why
 lost_on_way purpose.Master n why = Loses n why
 lost_on_way (purpose.Intermediate s) n why = Loses n why
@@ -236,34 +239,55 @@ lost_on_way (purpose.Takeover d) n why = Frees n why
 
 -- only an attachment by GTIDs may find transactions that the new source lacks
 abbrev pub fate_of_errant : Purpose → ServerNo → Way → Fate
-fate_of_errant u n (way.Auto to exec) = lost_on_way u n (lost.Ahead exec)
+fate_of_errant u n (way.Auto to exec) = lost_on_way u n (lost.ahead exec)
 fate_of_errant u n (way.Down b) = Fails
 fate_of_errant u n (way.Up b) = Fails
+fate_of_errant u n (way.Match to exec every) = Fails
 
--- where a replica was to be attached; by GTIDs, where it stands
+-- where a replica was to be attached; by GTIDs or a match, where it stands
 abbrev pub place_on : Way → Coord
 place_on (way.Down b) = b.own
 place_on (way.Up b) = b.exec
 place_on (way.Auto to exec) = exec
+place_on (way.Match to exec every) = exec
+
+abbrev pub missed_fate : World → Purpose → ServerNo → Way → Miss → Fate
+missed_fate w u n by (miss.Unreachable k) = lost_on_way u n lost.unreachable
+missed_fate w u n by miss.Running = lost_on_way u n (lost.moved (spot_by (server_at w n.0)))
+missed_fate w u n by (miss.Interfered expected found) = lost_on_way u n (lost.moved found)
+missed_fate w u n by miss.Loop = Fails
+missed_fate w u n by (miss.Purged first) = lost_on_way u n (lost.purged (place_on by))
+missed_fate w u n by miss.NoMark = Fails
+missed_fate w u n by (miss.Mismatch entry) = Fails
 
 abbrev pub move_fate : World → Purpose → ServerNo → Way → Option Loss → Fate
 move_fate w u n by None = Fails
-move_fate w u n by (Some OutOfReach) = lost_on_way u n lost.Unreachable
 move_fate w u n by (Some Spent) = Fails
-move_fate w u n by (Some Runs) = lost_on_way u n (lost.Moved (spot_by (server_at w n.0)))
-move_fate w u n by (Some (Stands found)) = lost_on_way u n (lost.Moved found)
 move_fate w u n by (Some Differs) = fate_of_errant u n by
-move_fate w u n by (Some Gone) = lost_on_way u n (lost.Purged (place_on by))
+move_fate w u n by (Some (Missed m)) = missed_fate w u n by m
+
+-- one that goes by a match is left where it stands, for whatever cause
+abbrev pub match_fate : ServerNo → Option Loss → Fate
+match_fate n None = Fails
+match_fate n (Some Spent) = Fails
+match_fate n (Some Differs) = Fails
+match_fate n (Some (Missed m)) = Loses n (lost.unmatched m)
+
+abbrev pub way_fate : World → Purpose → ServerNo → Way → Option Loss → Fate
+way_fate w u n (way.Down b) l = move_fate w u n (way.Down b) l
+way_fate w u n (way.Up b) l = move_fate w u n (way.Up b) l
+way_fate w u n (way.Auto to exec) l = move_fate w u n (way.Auto to exec) l
+way_fate w u n (way.Match to exec every) l = match_fate n l
 
 abbrev pub fate_of_move : World → Purpose → ServerNo → Way → Cause → Fate
-fate_of_move w u n by c = move_fate w u n by (loss_of c)
+fate_of_move w u n by c = way_fate w u n by (loss_of c)
 
 abbrev pub fate_by : World → Purpose → Failing → Cause → Fate
 fate_by w u table.All c = Fails
 fate_by w u table.Passes c = Drops
 fate_by w u (table.Drains n) c = fate_of_drain n c
 fate_by w u (table.Moves n by) c = fate_of_move w u n by c
-fate_by w u (table.Joins n) c = Loses n lost.Unreachable
+fate_by w u (table.Joins n) c = Loses n lost.unreachable
 fate_by w u (table.Trails n) c = fate_of_trail w n c
 fate_by w u (table.Instead s ops) c = Goes s ops
 

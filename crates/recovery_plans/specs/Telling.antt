@@ -1,18 +1,26 @@
 -- What a recovery tells when it is done.
-use Rattle.std.specs.Prelude.{◌==◌, List, ◌++◌, filter_map, find, Option, Some, None, option_map}
+use Rattle.std.specs.Prelude.{Bool, ◌==◌, List, ◌++◌, filter_map, find, Option, Some, None, option_map}
 use Rattle.std.specs.Option.{option_to_list}
 use Rattle.orch_base.specs.declared.server.ServerNo.{ServerNo}
 use Rattle.commands.specs.declared.line.Line.{Line}
 use Rattle.commands.specs.declared.line.Line.TheVariants as line
 use Rattle.recovery_plans.specs.declared.purpose.Purpose.{Purpose}
 use Rattle.recovery_plans.specs.declared.purpose.Purpose.TheVariants as purpose
+use Rattle.recovery_plans.specs.declared.why.Why.{Why}
+use Rattle.recovery_plans.specs.declared.why.Why.TheVariants as why
 use Rattle.recovery_plans.specs.Recoveries.{Outcome, Recovery}
+use Rattle.recovery_plans.specs.Whys.{cause_of}
 
 abbrev pub follower_line : Outcome → ServerNo → Option Line
 follower_line o n = option_map (λ x. line.Follows x.no x.source) (find (λ x. x.no.0 == n.0) o.followers)
 
+-- the line of a lost one, detached or not; that of one that met a cause has that cause
+abbrev pub told_why : ServerNo → Bool → Why → Line
+told_why n detached (why.Lost l) = line.Lost n l detached
+told_why n detached (why.Unmatched m) = line.Unmatched n (cause_of n m)
+
 abbrev pub lost_line : Outcome → ServerNo → Option Line
-lost_line o n = option_map (λ x. line.Lost x.no x.why x.detached) (find (λ x. x.no.0 == n.0) o.lost)
+lost_line o n = option_map (λ x. told_why x.no x.detached x.why) (find (λ x. x.no.0 == n.0) o.lost)
 
 abbrev pub or_line : Option Line → Option Line → Option Line
 or_line None other = other

@@ -3,14 +3,20 @@
 #![tactic(auto)]
 
 mod laws;
+mod means;
 mod outcome;
 mod purpose;
 mod stage;
 mod task;
 mod threads;
+mod why;
 
-pub use laws::{recoveries_are_allowed, recoveries_stay_named, turns_are_walks};
+pub use laws::{
+    recoveries_are_allowed, recoveries_stay_named, turns_are_walks, unmatched_replicas_are_started,
+};
+pub use means::Means;
 pub use outcome::{Follower, LostReplica, Stopped};
 pub use purpose::Purpose;
 pub use stage::Stage;
 pub use task::{Task, Way};
+pub use why::{Miss, Why};

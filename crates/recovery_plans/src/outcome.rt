@@ -1,7 +1,7 @@
 //! What becomes of replicas.
 
+use crate::Why;
 use binlog_coords::Coord;
-use commands::Lost;
 use orch_base::ServerNo;
 
 /// A replica that was stopped below its source, as it was seen then.
@@ -30,7 +30,7 @@ pub struct LostReplica {
     /// The replica.
     pub no: ServerNo,
     /// Why it was left.
-    pub why: Lost,
+    pub why: Why,
     /// Whether it was detached from its source.
     pub detached: bool,
 }

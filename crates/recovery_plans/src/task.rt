@@ -17,6 +17,14 @@ pub enum Way {
         /// How far the replica has executed the log of its source so far.
         exec: Coord,
     },
+    /// By a match of their logs, below this server.
+    Match {
+        to: ServerNo,
+        /// How far the replica has executed the log of its source so far.
+        exec: Coord,
+        /// Each transaction is a mark whose number is divisible by this.
+        every: u64,
+    },
 }
 
 /// A part of a recovery, in the order in which they are done. A decision has no operation of its own and takes no turn.

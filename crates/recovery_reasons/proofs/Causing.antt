@@ -31,6 +31,8 @@ use Rattle.kept_rows.specs.Seeing.{seen_in}
 use Rattle.operations.specs.declared.op.Crossing.{Crossing}
 use Rattle.operations.specs.declared.op.Crossing.TheVariants as cross
 use Rattle.operations.specs.declared.matching.Match.{Match}
+use Rattle.operations.specs.declared.matching.MatchFault.{MatchFault}
+use Rattle.operations.specs.Matching.{match_logs, standing_at}
 use Rattle.operations.specs.declared.op.Op.{Op}
 use Rattle.operations.specs.declared.sight.Position.{Position}
 use Rattle.operations.specs.Deeds as deed
@@ -38,9 +40,9 @@ use Rattle.operations.specs.Deeds.{Deed}
 use Rattle.operations.specs.Jobs.{Job, match_found, seen_of}
 use Rattle.operations.specs.Targets.{can_attach}
 use Rattle.operations.specs.Turns as attempt
-use Rattle.operations.specs.Turns.{bridge_at, Attempt, next, saw, observed, is_moved, after_status, after_look, after_ask, aim_of, is_reached, until_by, after_until, after_wait_by, after_wait, holds_seen, settles, by_deed, read_by, crossed, attached_anew, same_again, by_set, by_match, attach_answer_of, cause_by, after_answer, after_attach}
+use Rattle.operations.specs.Turns.{bridge_at, Attempt, next, saw, observed, is_moved, after_status, after_look, after_ask, aim_of, is_reached, until_by, after_until, after_wait_by, after_wait, holds_seen, settles, by_deed, read_by, crossed, attached_anew, same_again, by_set, by_match, after_match, attach_answer_of, cause_by, after_answer, after_attach}
 use Rattle.recovery_plans.specs.Named.{spoken_to}
-use Rattle.recovery_reasons.specs.Causes.{IsUnreached, IsTrueOf}
+use Rattle.recovery_reasons.specs.Causes.{IsMatchCause, IsUnreached, IsTrueOf}
 
 -- what isn't seen isn't reached
 unseen-unreached : (w : World) (n : ℕ) → seen_in (status w n) ≡ None → IsUnreached w n
@@ -216,3 +218,17 @@ module _ (w : World) (j : Job) (rest : List Op) (n : ServerNo) where
 
 pub cause-true : (w : World) (read : ℕ) (now : Moment) (j : Job) (rest : List Op) (d : Deed) (n : ServerNo) (c : Cause) (ob : Option Observation) → spoken_to d ≡ Some n → by_deed w read now j rest d ≡ attempt.Stops c ob → IsTrueOf w n c
 cause-true w read now j rest d n c ob on e = subst (λ (a : Attempt). StopsTruly w n a) e (deed-true w j rest n read now d on)
+
+-- that of a match
+abbrev StopsUnmatched : World → ServerNo → ServerNo → ℕ → Attempt → Type 0
+StopsUnmatched w n m every (attempt.Goes o es k) = Unit {0}
+StopsUnmatched w n m every (attempt.Stops c o) = IsMatchCause w n m every c
+StopsUnmatched w n m every (attempt.Ends lines) = Unit {0}
+
+pub match-cause : (w : World) (read : ℕ) (now : Moment) (j : Job) (rest : List Op) (n m : ServerNo) (every : ℕ) (c : Cause) (ob : Option Observation) → by_deed w read now j rest (deed.Match n m every) ≡ attempt.Stops c ob
+    → IsMatchCause w n m every c
+match-cause w read now j rest n m every c ob e = subst (λ (a : Attempt). StopsUnmatched w n m every a) e (go (match_logs w n m every) refl)
+  where
+    go : (r : Result Coord MatchFault) → match_logs w n m every ≡ r → StopsUnmatched w n m every (after_match j rest n m (standing_at (server_at w n.0)) r)
+    go (Ok at) is = tt
+    go (Err f) is = (f, refl, is)

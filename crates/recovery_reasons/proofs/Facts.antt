@@ -1,5 +1,5 @@
 -- What a recovery drained, chose and promoted so far has facts that count.
-use Rattle.std.proofs.Common.{◌≡◌, ℕ, Bool, true, false, cond, List, [], ◌∷◌, filter, refl, sym, ◌∙◌, ap, subst, Option, Some, None, inl, inr}
+use Rattle.std.proofs.Common.{◌≡◌, ℕ, Bool, true, false, cond, List, [], ◌∷◌, filter, map, refl, sym, ◌∙◌, ap, subst, Option, Some, None, inl, inr}
 use Rattle.std.proofs.lemmas.Bool.{false≢true}
 use Rattle.std.proofs.lemmas.Option.{same_Some}
 use Rattle.std.proofs.lemmas.List.Elements.{All-filter, All-nil, All-push, All-tail}
@@ -12,7 +12,10 @@ use Rattle.operations.specs.declared.sight.Position.{Position}
 use Rattle.operations.specs.Deeds.{deed_of}
 use Rattle.operations.specs.Jobs.{position_of, seen_of}
 use Rattle.operations.specs.Turns.{ended}
+use Rattle.promotion_rules.specs.Choice.{is_better, nearer_order}
+use Rattle.promotion_rules.proofs.Choosing.{chosen-first}
 use Rattle.recovery_plans.specs.declared.outcome.Stopped.{Stopped}
+use Rattle.recovery_plans.specs.declared.means.Means.{Means}
 use Rattle.recovery_plans.specs.declared.purpose.Purpose.{Purpose}
 use Rattle.recovery_plans.specs.declared.purpose.Purpose.TheVariants as purpose
 use Rattle.recovery_plans.specs.declared.stage.Stage.{Stage}
@@ -22,14 +25,16 @@ use Rattle.recovery_plans.specs.Moves as by
 use Rattle.recovery_plans.specs.Moves.{Bearing, Decision, Decisions, Ending, MayDecide, MayEnd, borne, decided_by, ended_by, fate_of, stopped_at}
 use Rattle.recovery_plans.specs.Recoveries.{Recovery, follows_no_more}
 use Rattle.recovery_plans.specs.Stages.{ends, leaver, moved}
-use Rattle.recovery_plans.specs.Deciding.{may_lead}
+use Rattle.recovery_plans.specs.Deciding.{follower_of, may_lead}
 use Rattle.recovery_plans.specs.Taking.{entered, is_below, stepped, taken}
 use Rattle.recovery_plans.proofs.Walking.{Keeps, joined, kept-whole}
 use Rattle.recovery_laws.specs.HeldRecoveries.{HeldRecovery}
 use Rattle.recovery_laws.specs.Rings.{HeldRings}
 use Rattle.recovery_laws.proofs.Deciding.{decides-held}
-use Rattle.recovery_reasons.specs.Reasons.{AllDrained, Betters, Chooses, Drains, ExplainsTruly, Fact, IsBetter, IsChosen, IsDrained, IsExplained, IsPromoted, IsSwapping, Speaks, chooses}
+use Rattle.recovery_reasons.specs.Reasons.{AllDrained, Betters, Chooses, Drains, ExplainsTruly, Fact, IsBetter, IsChosen, IsDrained, IsExplained, IsPromoted, IsSwapping, Speaks}
+use Rattle.recovery_reasons.specs.OnWay.{chooses}
 use Rattle.recovery_reasons.proofs.Readings.{Reading, fits-of, reader_of, stepped-reading}
+use Rattle.recovery_reasons.proofs.Choosing.{chosen-most}
 use Rattle.recovery_reasons.proofs.Reasoning.{taken-lost}
 
 -- ---- changes of place
@@ -102,7 +107,7 @@ module _ (w : World) (b : BookState) (now : Moment) (r : Recovery) (P : Fact →
   module _ (x : Recovery) (so : Decisions w b now r x) where
     decided-stands : (d : Decision) → MayDecide w b now x d → Going x → Going (decided_by w b now x d)
     decided-stands (by.Chooses p ts) m h =
-        let told : P (IsChosen p.no (filter (may_lead w b now) x.drained)) ≡ true = why x (IsChosen p.no (filter (may_lead w b now) x.drained)) so (Chooses p (ts, m.0) m.1) in
+        let told : P (IsChosen p.no (filter (may_lead w b now) x.drained)) ≡ true = why x (IsChosen p.no (filter (may_lead w b now) x.drained)) so (Chooses p (ts, m.0) m.1 (chosen-most w b now x.failed x.drained p m.1)) in
         let this : (n : ServerNo) → Some p.no ≡ Some n → P (IsChosen n (filter (may_lead w b now) x.drained)) ≡ true =
         λ n e. subst (λ (k : ServerNo). P (IsChosen k (filter (may_lead w b now) x.drained)) ≡ true) (same_Some p.no n e) told in
         rests x _ (record {
@@ -141,7 +146,7 @@ module _ (w : World) (b : BookState) (now : Moment) (r : Recovery) (P : Fact →
       λ busy m' n' e.
           let same = same_Some (p, q) (m', n') (swaps-so (stage.Level p q) m' n' e) in
           subst (λ (y : ServerNo × ServerNo). (P (IsChosen y.0 x.eligible) ≡ true) × (P (IsBetter y.0 y.1) ≡ true)) same
-          (h.0.chosen p (ap chooses m.0.purpose) m.2, why x (IsBetter p q) so (Betters m.2 m.3)),
+          (h.0.chosen p (ap chooses m.0.purpose) m.2, why x (IsBetter p q) so (Betters m.2 m.3 (chosen-first (nearer_order b.names) (is_better (follower_of w b now x.failed p)) (map (follower_of w b now x.failed) (map (λ y. y.no) x.outcome.followers)) q m.3))),
     )
     decided-stands (by.Passes ts) m h = rests x _ (like x _ refl refl refl refl refl h.0) m.0.rests
     decided-stands (by.Sorts ts) m h = rests x _ (like x _ refl refl refl refl refl h.0) m.rests
@@ -236,8 +241,8 @@ taken-explained w b read now r P rings held speaks why x =
       swaps = λ p q h busy. y.1 busy p q h;
     }
 
-pub begun-explained : (P : Fact → Bool) (u : Purpose) (id wait : ℕ) (f : ServerNo) (ns order : List ServerNo) → IsExplained P (begun_recovery u id wait f ns order)
-begun-explained P u id wait f ns order = by-purpose u
+pub begun-explained : (P : Fact → Bool) (u : Purpose) (by : Means) (id wait : ℕ) (f : ServerNo) (ns order : List ServerNo) → IsExplained P (begun_recovery u by id wait f ns order)
+begun-explained P u by id wait f ns order = by-purpose u
   where
     none : AllDrained P []
     none = All-nil (λ (s : Stopped). P (IsDrained s) ≡ true)
@@ -245,7 +250,7 @@ begun-explained P u id wait f ns order = by-purpose u
     nowhere : (n : ServerNo) → None ≡ Some n → ⊥
     nowhere n e = cc
 
-    by-purpose : (v : Purpose) → IsExplained P (begun_recovery v id wait f ns order)
+    by-purpose : (v : Purpose) → IsExplained P (begun_recovery v by id wait f ns order)
     by-purpose purpose.Regroup = record {
       lost = All-nil _;
       drained = none;

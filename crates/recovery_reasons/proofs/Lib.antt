@@ -1,3 +1,7 @@
+pub mod Choosing
+pub mod Tasks
+pub mod Fates
+pub mod OnWay
 pub mod Causing
 pub mod Sights
 pub mod Speaking
@@ -5,3 +9,4 @@ pub mod Coordinates
 pub mod Reasoning
 pub mod Readings
 pub mod Facts
+pub mod Nobody

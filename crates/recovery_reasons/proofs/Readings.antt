@@ -29,7 +29,7 @@ use Rattle.recovery_laws.specs.HeldRecoveries.{HeldRecovery}
 use Rattle.recovery_ends.specs.Shapes.{Fits}
 use Rattle.recovery_ends.proofs.Shapes.{same-head, fits-step, moved-fits}
 use Rattle.recovery_reasons.specs.Reasons.{speaks_of, lead_of}
-use Rattle.recovery_reasons.proofs.Speaking.{moved-leads}
+use Rattle.recovery_plans.proofs.Leading.{moved-leads}
 
 -- the replica whose reading a stage has just made
 abbrev pub reader_of : Stage → Option ServerNo
@@ -69,12 +69,12 @@ unread s o rest n f h = cc
 abbrev pub ShowsNow : World → List Sight → ServerNo → Type 0
 ShowsNow w seen n = (s : Status) × (seen_in (status w n.0) ≡ Some s) × (seen_of seen n.0 ≡ Some (position_of s))
 
-abbrev ReadsNow : World → ServerNo → Attempt → Type 0
+abbrev pub ReadsNow : World → ServerNo → Attempt → Type 0
 ReadsNow w n (attempt.Goes o es k) = ShowsNow w k.seen n
 ReadsNow w n (attempt.Stops c o) = Unit {0}
 ReadsNow w n (attempt.Ends lines) = Unit {0}
 
-read-now : (w : World) (read : ℕ) (now : Moment) (j : Job) (rest : List Op) (n : ServerNo) → ReadsNow w n (by_deed w read now j rest (deed_of (op.Status n None)))
+pub read-now : (w : World) (read : ℕ) (now : Moment) (j : Job) (rest : List Op) (n : ServerNo) → ReadsNow w n (by_deed w read now j rest (deed_of (op.Status n None)))
 read-now w read now j rest n = go (seen_in (status w n.0)) refl
   where
     go : (x : Option Status) → seen_in (status w n.0) ≡ x → ReadsNow w n (after_look j rest n None (observed w read now n) x)

@@ -15,11 +15,11 @@ use Rattle.operations.specs.declared.op.Aim.{Aim}
 use Rattle.gtid_sets.specs.declared.interval.Interval.{Interval}
 use Rattle.binlog_coords.specs.declared.Coord.{Coord}
 use Rattle.std.proofs.Common.{◌≡◌, ℕ, Bool, true, false, cond, not, List, [], ◌∷◌, ◌++◌, map, refl, sym, ◌∙◌, ap, subst, Option, Some, None, ◌&&◌, ◌⊎◌, inl, inr, Ok, Err, Result, ◌+◌}
-use Rattle.std.specs.Prelude.{◌==◌, find, is_some, option_map, nat_lt}
+use Rattle.std.specs.Prelude.{◌==◌, is_some, option_map, nat_lt}
 use Rattle.std.specs.List.{All, Contains}
-use Rattle.std.proofs.lemmas.Bool.{false≢true, eq-eqb, eqb-true}
+use Rattle.std.proofs.lemmas.Bool.{false≢true}
 use Rattle.std.proofs.lemmas.Option.{same_Some}
-use Rattle.std.proofs.lemmas.List.Elements.{All-nil, All-cons, All-head, All-tail, All-append, All-push, All-contains, All-filter, All-contains_itself}
+use Rattle.std.proofs.lemmas.List.Elements.{All-nil, All-cons, All-head, All-tail, All-append, All-push, All-filter, All-contains_itself}
 use Rattle.binlog_coords.specs.Log.{is_before, same_coord, is_at_or_before}
 use Rattle.orch_base.specs.declared.server.Moment.{Moment}
 use Rattle.orch_base.specs.declared.server.ServerNo.{ServerNo}
@@ -29,25 +29,26 @@ use Rattle.server_model.specs.Run.{Exchange}
 use Rattle.server_model.specs.Worlds.{World, server_at}
 use Rattle.commands.specs.declared.cause.Cause.{Cause}
 use Rattle.commands.specs.declared.cause.Cause.TheVariants as cause
-use Rattle.commands.specs.declared.line.Lost.{Lost}
-use Rattle.commands.specs.declared.line.Lost.TheVariants as lost
+use Rattle.recovery_plans.specs.declared.why.Miss.{Miss}
+use Rattle.recovery_plans.specs.declared.why.Why.{Why}
+use Rattle.recovery_plans.specs.Whys as lost
 use Rattle.instance_keeper.specs.declared.bridge.Bridge.{Bridge}
 use Rattle.kept_rows.specs.declared.observation.Observation.{Observation}
 use Rattle.instance_keeper.specs.Book.{BookState, rule_at}
 use Rattle.instance_keeper.specs.Bridges.{has_exec, has_own, latest_that, ring_at}
 use Rattle.kept_rows.specs.Seeing.{seen_in}
 use Rattle.operations.specs.declared.op.Op.{Op}
+use Rattle.operations.specs.declared.op.Op.TheVariants as op
 use Rattle.operations.specs.declared.sight.Sight.{Sight}
 use Rattle.operations.specs.Deeds.{deed_of, Deed}
 use Rattle.operations.specs.Jobs.{Job, position_of, seen_of, match_found}
 use Rattle.operations.specs.Turns as attempt
-use Rattle.operations.specs.Turns.{Attempt, after_look, by_deed, observed, aim_of, is_reached, next, saw, is_moved, after_status, after_ask, until_by, after_until, after_wait_by, after_wait, settles, holds_seen, crossing_of, same_again, by_set, by_match, attach_answer_of, after_answer, after_attach, cause_by}
-use Rattle.promotion_rules.specs.declared.drained.Drained.{Drained}
-use Rattle.promotion_rules.specs.Choice.{advance_order, is_barred, is_eligible, most_advanced}
-use Rattle.promotion_rules.proofs.Choosing.{chosen-first, none-chosen}
-use Rattle.promotion_rules.proofs.Orders.{advance_total}
+use Rattle.operations.specs.Turns.{Attempt, after_look, by_deed, observed, aim_of, is_reached, next, saw, is_moved, after_status, after_ask, until_by, after_until, after_wait_by, after_wait, crossing_of, same_again, by_set, by_match, attach_answer_of, after_answer, after_attach, cause_by}
+use Rattle.promotion_rules.specs.Choice.{is_barred}
 use Rattle.replica_groups.specs.declared.groups.Group.TheVariants as group
 use Rattle.replica_groups.specs.Groups.{by_bridge, group_of}
+use Rattle.recovery_plans.specs.declared.means.Means.{Means}
+use Rattle.recovery_plans.specs.declared.means.Means.TheVariants as means
 use Rattle.recovery_plans.specs.declared.outcome.LostReplica.{LostReplica}
 use Rattle.recovery_plans.specs.declared.outcome.Stopped.{Stopped}
 use Rattle.recovery_plans.specs.declared.purpose.Purpose.{Purpose}
@@ -58,11 +59,12 @@ use Rattle.recovery_plans.specs.declared.task.Task.TheVariants as task
 use Rattle.recovery_plans.specs.declared.task.Way.{Way}
 use Rattle.recovery_plans.specs.declared.task.Way.TheVariants as way
 use Rattle.recovery_plans.specs.Recoveries.{Recovery, follows_no_more, loses}
-use Rattle.recovery_plans.specs.Stages.{ends, leaver, moved, is_look}
+use Rattle.recovery_plans.specs.Stages.{before, ends, leaver, move, moved, is_look, tail_of}
+use Rattle.recovery_plans.specs.Table.{alone, info, more_on}
 use Rattle.recovery_plans.specs.Deciding as deciding
-use Rattle.recovery_plans.specs.Deciding.{Lot, logs_at, drained_of, may_lead, stopped_in, chosen_of, lot_by_group, own_end_of, lot_of, stay_of, losses_in, without_stopped, unfit, way_by_set, way_below, stay_of}
+use Rattle.recovery_plans.specs.Deciding.{Lot, logs_at, may_lead, chosen_of, lot_by, lot_by_group, own_end_of, stay_of, losses_in, without_stopped, unfit, way_by_set, way_below, stay_of}
 use Rattle.recovery_plans.specs.Taking as taking
-use Rattle.recovery_plans.specs.Taking.{Fate, spot_seen, is_below, marked, entered, stepped, fate_of_drain, fate_of_trail, lost_on_way, fate_of_errant, fate_of_move, fate, met, taken, exec_by, spot_by, place_on}
+use Rattle.recovery_plans.specs.Taking.{Fate, Loss, spot_seen, is_below, marked, entered, stepped, fate_of_drain, fate_of_trail, lost_on_way, fate_of_errant, fate_of_move, fate, loss_of, match_fate, move_fate, met, taken, exec_by, spot_by, place_on}
 use Rattle.recovery_plans.specs.Moves as by
 use Rattle.recovery_plans.specs.Moves.{Decision, Ending, MayDecide, MayEnd, WasRead, borne, decided_by, ended_by, fate_of, Decisions}
 use Rattle.recovery_plans.proofs.Walking.{Keeps, kept-whole, joined}
@@ -71,12 +73,16 @@ use Rattle.recovery_laws.specs.Rings.{HeldRings}
 use Rattle.recovery_ends.specs.Shapes.{Fits}
 use Rattle.recovery_laws.proofs.Deciding.{decides-held}
 use Rattle.recovery_ends.proofs.Fitting.{went-of}
+use Rattle.recovery_ends.proofs.Shapes.{same-head}
 use Rattle.recovery_reasons.specs.Causes.{IsTrueOf, IsUnreached}
-use Rattle.recovery_reasons.specs.Reasons.{BelowSuccessor, AllLost, speaks_of, lead_of, Speaks, ExplainsTruly, WaitsFor, IsAsked, AimsAt, IsDue, IsTrailing, Reason, IsRefusedOn, Beside, Without, Below, Unreached, Running, Interfered, Errant, Purged, Strayed, Halted, Late, Fact, IsLost, Loses}
-use Rattle.recovery_reasons.proofs.Causing.{StopsTruly, deed-true}
+use Rattle.recovery_reasons.specs.Reasons.{BelowSuccessor, AllLost, speaks_of, lead_of, Speaks, SpeaksWith, ExplainsTruly, WaitsFor, IsAsked, AimsAt, IsDue, IsTrailing, Reason, IsRefusedOn, Beside, Without, Below, Unreached, Running, Interfered, Errant, Purged, Unmatched, Unattached, Strayed, Halted, Late, Fact, IsLost, Loses}
+use Rattle.recovery_reasons.proofs.Causing.{StopsTruly, deed-true, match-cause}
 use Rattle.recovery_reasons.proofs.Coordinates.{before-other}
+use Rattle.recovery_reasons.specs.OnWay.{IsOnCourse, IsOnWay}
+use Rattle.recovery_reasons.proofs.OnWay.{Fine, decides-fine, still-on, stepped-course}
 use Rattle.recovery_reasons.proofs.Readings.{Reading, fits-of, reader_of, stepped-reading}
-use Rattle.recovery_reasons.proofs.Speaking.{decides-speaks, due-speaks, stepped-speaks, due-waits, due-asked, due-looks, due-goes, move-refused}
+use Rattle.recovery_reasons.proofs.Speaking.{decides-speaks, due-speaks, stepped-speaks, due-waits, due-asked, due-looks, due-goes, match-refused, move-refused}
+use Rattle.recovery_reasons.proofs.Choosing.{none-may}
 
 -- ---- waits that are spent
 
@@ -262,35 +268,7 @@ shown-exec w n s h = go (server_at w n) h
 
 -- ---- the decisions
 
--- the choice's search
 module _ (w : World) (b : BookState) (now : Moment) where
-  -- a number that one of the list has is found
-  found-some : (f : ServerNo) (xs : List Stopped) (n : ServerNo) → find (λ (x : Stopped). x.no.0 == n.0) xs ≡ None → All (λ (d : Drained). d.no ≡ n → ⊥) (map (drained_of w b now f) xs)
-  found-some f [] n h = All-nil (λ (d : Drained). d.no ≡ n → ⊥)
-  found-some f (x ∷ xs) n h = go (x.no.0 == n.0) refl h (found-some f xs n)
-    where
-      go : (a : Bool) → (x.no.0 == n.0) ≡ a → cond a (Some x) (find (λ (y : Stopped). y.no.0 == n.0) xs) ≡ None
-          → (find (λ (y : Stopped). y.no.0 == n.0) xs ≡ None → All (λ (d : Drained). d.no ≡ n → ⊥) (map (drained_of w b now f) xs)) → All (λ (d : Drained). d.no ≡ n → ⊥) (map (drained_of w b now f) (x ∷ xs))
-      go true e g rest = cc
-      go false e g rest =
-          All-cons (λ (d : Drained). d.no ≡ n → ⊥) (drained_of w b now f x) (map (drained_of w b now f) xs) (λ same. false≢true (sym e ∙ eq-eqb x.no.0 n.0 (ap (λ (k : ServerNo). k.0) same))) (rest g)
-
-  -- where none is chosen none may be
-  none-may : (f : ServerNo) (xs : List Stopped) → chosen_of w b now f xs ≡ None → All (λ s. may_lead w b now s ≡ false) xs
-  none-may f xs h = go (most_advanced b.names (map (drained_of w b now f) xs)) refl h
-    where
-      back : (ys : List Stopped) → All (λ (d : Drained). is_eligible d ≡ false) (map (drained_of w b now f) ys) → All (λ s. may_lead w b now s ≡ false) ys
-      back [] all = All-nil (λ (s : Stopped). may_lead w b now s ≡ false)
-      back (y ∷ ys) all =
-          All-cons (λ (s : Stopped). may_lead w b now s ≡ false) y ys (All-head (λ (d : Drained). is_eligible d ≡ false) (drained_of w b now f y) (map (drained_of w b now f) ys) all)
-          (back ys (All-tail (λ (d : Drained). is_eligible d ≡ false) (drained_of w b now f y) (map (drained_of w b now f) ys) all))
-
-      go : (o : Option ServerNo) → most_advanced b.names (map (drained_of w b now f) xs) ≡ o → stopped_in xs o ≡ None → All (λ s. may_lead w b now s ≡ false) xs
-      go None e g = back xs ((none-chosen (advance_order b.names) is_eligible (map (drained_of w b now f) xs) (advance_total b.names)).0 e)
-      go (Some n) e g =
-          let first = chosen-first (advance_order b.names) is_eligible (map (drained_of w b now f) xs) n e in
-          absurd (All-contains (λ (d : Drained). d.no ≡ n → ⊥) (map (drained_of w b now f) xs) first.1 (found-some f xs n g) (first.0, first.2, first.3) first.4.named)
-
   -- a drained one that doesn't go below the successor
   below-of : (seen : List Sight) (f n : ServerNo) (s : Stopped) → way_below w b seen f n s ≡ None → BelowSuccessor w b seen f n s
   below-of seen f n s h = go w.gtid refl h
@@ -329,20 +307,21 @@ module _ (w : World) (b : BookState) (now : Moment) (r : Recovery) (P : Fact →
 
   -- one decision more
   module _ (x : Recovery) (so : Decisions w b now r x) where
-    because : (n : ServerNo) (y : Lost) → Reason w b now x n y → P (IsLost n y) ≡ true
+    because : (n : ServerNo) (y : Why) → Reason w b now x n y → P (IsLost n y) ≡ true
     because n y h = why x (IsLost n y) so (Loses h)
 
-    lot-explained : (p s : Stopped) → IsDue task.Choosing x → chosen_of w b now x.failed x.drained ≡ Some p → Contains x.drained s → MayStay s (lot_of w b x.failed p s)
-    lot-explained p s due is there = go w.gtid
+    lot-explained : (m : Means) (p s : Stopped) → IsDue task.Choosing x → chosen_of w b now x.failed x.drained ≡ Some p → Contains x.drained s → MayStay s (lot_by m w b x.failed p s)
+    lot-explained (means.Matches every) p s due is there = tt
+    lot-explained means.Bridges p s due is there = go w.gtid
       where
         kept : same_coord s.exec p.exec ≡ false → is_before p.exec s.exec ≡ false → (o : Option Bridge) → latest_that (has_exec x.failed s.exec) (ring_at b.rings p.no) ≡ o
             → MayStay s (lot_by_group p.no x.failed s (by_bridge o))
-        kept other later None e = because s.no (lost.Behind s.exec) (Beside p s due is there (refl, before-other s.exec p.exec later other, e))
+        kept other later None e = because s.no (lost.behind s.exec) (Beside p s due is there (refl, before-other s.exec p.exec later other, e))
         kept other later (Some y) e = tt
 
         later : same_coord s.exec p.exec ≡ false → (a : Bool) → is_before p.exec s.exec ≡ a
             → MayStay s (lot_by_group p.no x.failed s (cond a group.Ahead (by_bridge (latest_that (has_exec x.failed s.exec) (ring_at b.rings p.no)))))
-        later other true e = because s.no (lost.Ahead s.exec) (Beside p s due is there (refl, e))
+        later other true e = because s.no (lost.ahead s.exec) (Beside p s due is there (refl, e))
         later other false e = kept other e (latest_that (has_exec x.failed s.exec) (ring_at b.rings p.no)) refl
 
         level : (a : Bool) → same_coord s.exec p.exec ≡ a
@@ -355,10 +334,10 @@ module _ (w : World) (b : BookState) (now : Moment) (r : Recovery) (P : Fact →
         go false = level (same_coord s.exec p.exec) refl
 
     lots-explained : (p : Stopped) (ss : List Stopped) → IsDue task.Choosing x → chosen_of w b now x.failed x.drained ≡ Some p → All (Contains x.drained) ss
-        → All (λ s. MayStay s (lot_of w b x.failed p s)) ss
-    lots-explained p [] due is there = All-nil (λ (s : Stopped). MayStay s (lot_of w b x.failed p s))
+        → All (λ s. MayStay s (lot_by x.means w b x.failed p s)) ss
+    lots-explained p [] due is there = All-nil (λ (s : Stopped). MayStay s (lot_by x.means w b x.failed p s))
     lots-explained p (s ∷ ss) due is there =
-        All-cons (λ (y : Stopped). MayStay y (lot_of w b x.failed p y)) s ss (lot-explained p s due is (All-head (Contains x.drained) s ss there))
+        All-cons (λ (y : Stopped). MayStay y (lot_by x.means w b x.failed p y)) s ss (lot-explained x.means p s due is (All-head (Contains x.drained) s ss there))
         (lots-explained p ss due is (All-tail (Contains x.drained) s ss there))
 
     unfit-explained : (ss : List Stopped) → IsDue task.Choosing x → chosen_of w b now x.failed x.drained ≡ None → All (Contains x.drained) ss
@@ -375,21 +354,21 @@ module _ (w : World) (b : BookState) (now : Moment) (r : Recovery) (P : Fact →
         mine : Contains x.drained s
         mine = All-head (Contains x.drained) s ss there
 
-        go : (a : Bool) → logs_at w s.no ≡ a → (a && not (is_barred (rule_at b s.no now))) ≡ false → P (IsLost s.no (cond a lost.MustNot lost.NotLogging)) ≡ true
-        go true e h = because s.no lost.MustNot (Without s due is mine (e, barred (is_barred (rule_at b s.no now)) h))
-        go false e h = because s.no lost.NotLogging (Without s due is mine e)
+        go : (a : Bool) → logs_at w s.no ≡ a → (a && not (is_barred (rule_at b s.no now))) ≡ false → P (IsLost s.no (cond a lost.must_not lost.not_logging)) ≡ true
+        go true e h = because s.no lost.must_not (Without s due is mine (e, barred (is_barred (rule_at b s.no now)) h))
+        go false e h = because s.no lost.not_logging (Without s due is mine e)
 
     decision-explained : (d : Decision) → MayDecide w b now x d → Good x → Good (decided_by w b now x d)
     decision-explained (by.Chooses p ts) m good =
-        All-append Each x.outcome.lost (losses_in (lot_of w b x.failed p) (without_stopped x.drained p.no)) good
-        (losses-explained (lot_of w b x.failed p) (without_stopped x.drained p.no)
+        All-append Each x.outcome.lost (losses_in (lot_by x.means w b x.failed p) (without_stopped x.drained p.no)) good
+        (losses-explained (lot_by x.means w b x.failed p) (without_stopped x.drained p.no)
         (lots-explained p (without_stopped x.drained p.no) (ts, m.0) m.1 (All-filter (λ s. not (s.no.0 == p.no.0)) (Contains x.drained) x.drained (All-contains_itself x.drained))))
     decision-explained (by.ChoosesNobody ts) m good =
         All-append Each x.outcome.lost (map (unfit w) x.drained) good
         (unfit-explained x.drained (ts, m.0) m.1 (All-contains_itself x.drained) (none-may w b now x.failed x.drained m.1))
     decision-explained (by.Leaves d ds ts) m good =
         All-push Each x.outcome.lost _ good
-        (because d.no (lost.Behind d.exec) (Below m.source d ds (ts, m.next) m.chosen m.drained (below-of w b now x.core.seen x.failed m.source d m.way)))
+        (because d.no (lost.behind d.exec) (Below m.source d ds (ts, m.next) m.chosen m.drained (below-of w b now x.core.seen x.failed m.source d m.way)))
     decision-explained d m good = good
 
   -- ---- the operation
@@ -402,51 +381,58 @@ module _ (w : World) (b : BookState) (now : Moment) (r : Recovery) (P : Fact →
       go true = All-head Each l ls all
       go false = All-head Each l ls all
 
-  strayed : (z : Recovery) (n : ServerNo) (y : Lost) → Reading w b now r z → reader_of z.stage ≡ Some n → by.stray z.failed (seen_of z.core.seen n.0) ≡ Some y → P (IsLost n y) ≡ true
+  strayed : (z : Recovery) (n : ServerNo) (y : Why) → Reading w b now r z → reader_of z.stage ≡ Some n → by.stray z.failed (seen_of z.core.seen n.0) ≡ Some y → P (IsLost n y) ≡ true
   strayed z n y h on lost-so = let s = h.shows n on in go s.0 s.1 (is_below (position_of s.0) z.failed) refl (ap (by.stray z.failed) (sym s.2) ∙ lost-so)
     where
-      go : (s : Status) → seen_in (status w n.0) ≡ Some s → (a : Bool) → is_below (position_of s) z.failed ≡ a → cond a None (Some (lost.Moved (spot_seen s.source s.exec))) ≡ Some y → P (IsLost n y) ≡ true
+      go : (s : Status) → seen_in (status w n.0) ≡ Some s → (a : Bool) → is_below (position_of s) z.failed ≡ a → cond a None (Some (lost.moved (spot_seen s.source s.exec))) ≡ Some y → P (IsLost n y) ≡ true
       go s is true e f = cc
       go s is false e f =
-          subst (λ (q : Lost). P (IsLost n q) ≡ true) (same_Some (lost.Moved (spot_seen s.source s.exec)) y f)
-          (because h.first h.so n (lost.Moved (spot_seen s.source s.exec)) (Strayed s (h.told n on) (h.reads n on) is (ap (is_below (position_of s)) (sym h.failed) ∙ e)))
+          subst (λ (q : Why). P (IsLost n q) ≡ true) (same_Some (lost.moved (spot_seen s.source s.exec)) y f)
+          (because h.first h.so n (lost.moved (spot_seen s.source s.exec)) (Strayed s (h.told n on) (h.reads n on) is (ap (is_below (position_of s)) (sym h.failed) ∙ e)))
 
-  halts : (z : Recovery) (n : ServerNo) (x : Bridge) (y : Lost) → Reading w b now r z → reader_of z.stage ≡ Some n → lead_of z.stage ≡ Some x → z.lead ≡ Some x → by.late x (seen_of z.core.seen n.0) ≡ Some y → P (IsLost n y) ≡ true
-  halts z n x y h on led lead late-so = let s = h.shows n on in go s.0 s.1 (same_coord s.0.exec x.exec) refl (ap (by.late x) (sym s.2) ∙ late-so)
+  halts : (z : Recovery) (n : ServerNo) (x : Bridge) (y : Why) → Reading w b now r z → reader_of z.stage ≡ Some n → lead_of z.stage ≡ Some x → z.lead ≡ Some x → (n.0 ≡ x.no.0 → ⊥) → by.late x (seen_of z.core.seen n.0) ≡ Some y
+      → P (IsLost n y) ≡ true
+  halts z n x y h on led lead apart late-so = let s = h.shows n on in go s.0 s.1 (same_coord s.0.exec x.exec) refl (ap (by.late x) (sym s.2) ∙ late-so)
     where
-      go : (s : Status) → seen_in (status w n.0) ≡ Some s → (a : Bool) → same_coord s.exec x.exec ≡ a → cond a None (Some (lost.Behind s.exec)) ≡ Some y → P (IsLost n y) ≡ true
+      go : (s : Status) → seen_in (status w n.0) ≡ Some s → (a : Bool) → same_coord s.exec x.exec ≡ a → cond a None (Some (lost.behind s.exec)) ≡ Some y → P (IsLost n y) ≡ true
       go s is true e f = cc
       go s is false e f =
-          subst (λ (q : Lost). P (IsLost n q) ≡ true) (same_Some (lost.Behind s.exec) y f)
-          (because h.first h.so n (lost.Behind s.exec)
-          (Halted x s (record { speaks = h.told n on; leads = sym h.led ∙ led; lead = sym h.lead ∙ lead }) (h.reads n on) is e))
+          subst (λ (q : Why). P (IsLost n q) ≡ true) (same_Some (lost.behind s.exec) y f)
+          (because h.first h.so n (lost.behind s.exec)
+          (Halted x s (record { speaks = h.told n on; leads = sym h.led ∙ led; lead = sym h.lead ∙ lead; apart = apart }) (h.reads n on) is e))
 
-  completes-good : (z : Recovery) (e : Ending) → MayEnd z e → Speaks z → Reading w b now r z → Good z → Good (ended_by z e)
-  completes-good z (by.Loses n y) may speaks h good = All-push Each z.outcome.lost _ good (strayed z n y h (read-at may.0) may.1)
+  completes-good : (z : Recovery) (e : Ending) → MayEnd z e → SpeaksWith z → IsOnCourse z → Reading w b now r z → Good z → Good (ended_by z e)
+  completes-good z (by.Loses n y) may speaks course h good = All-push Each z.outcome.lost _ good (strayed z n y h (read-at may.0) may.1)
     where
       read-at : WasRead z.stage n → reader_of z.stage ≡ Some n
       read-at (inl is) = ap reader_of is
       read-at (inr (x, is)) = ap reader_of is
-  completes-good z (by.Frees n y) may speaks h good =
+  completes-good z (by.Frees n y) may speaks course h good =
       All-push Each z.outcome.lost _ good
-      (halts z n may.0 y h (ap reader_of may.1) (ap lead_of may.1) (speaks.lead may.0 (ap lead_of may.1)) may.2)
-  completes-good z (by.Marks n) may speaks h good = marked-good n z.outcome.lost good
-  completes-good z e may speaks h good = good
+      (halts z n may.0 y h (ap reader_of may.1) (ap lead_of may.1) (speaks.lead may.0 (ap lead_of may.1))
+      (course.stage.apart n may.0 (ap lead_of may.1) (ap (λ (s : Stage). (info s).places) may.1)) may.2)
+  completes-good z (by.Marks n) may speaks course h good = marked-good n z.outcome.lost good
+  completes-good z e may speaks course h good = good
 
-  module _ (read : ℕ) (x : Recovery) (so : Decisions w b now r x) (o : Op) (rest : List Op) (fits : Fits x.stage (o ∷ rest)) (speaks : Speaks x) (is : x.core.ops ≡ o ∷ rest) (good : Good x) where
+  module _ (read : ℕ) (x : Recovery) (so : Decisions w b now r x) (o : Op) (rest : List Op) (fits : Fits x.stage (o ∷ rest)) (speaks : SpeaksWith x) (going : IsOnWay x) (is : x.core.ops ≡ o ∷ rest) (good : Good x) where
     -- it goes where the designated one stopped
-    trailing : (n : ServerNo) (y : Bridge) → speaks_of x.stage ≡ Some n → lead_of x.stage ≡ Some y → IsTrailing x n y
-    trailing n y on led = record { speaks = on; leads = led; lead = speaks.lead y led }
+    trailing : (n : ServerNo) (y : Bridge) → x.stage ≡ stage.Trail n y → IsTrailing x n y
+    trailing n y at = record {
+      speaks = ap speaks_of at;
+      leads = ap lead_of at;
+      lead = speaks.lead y (ap lead_of at);
+      apart = going.course.stage.apart n y (ap lead_of at) (ap (λ (s : Stage). (info s).places) at);
+    }
 
     -- one more is lost for a true reason, and is started or not
     module _ (c : Cause) (ob : Option Observation) (e : by_deed w read now x.core rest (deed_of o) ≡ attempt.Stops c ob) where
       abbrev Met : Fate → Type 0
       Met g = Good (met w x c ob g).recovery
 
-      missed : (n : ServerNo) (y : Lost) → Reason w b now x n y → Good (loses x n y)
+      missed : (n : ServerNo) (y : Why) → Reason w b now x n y → Good (loses x n y)
       missed n y h = All-push Each x.outcome.lost _ good (because x so n y h)
 
-      by-purpose : (u : Purpose) (n : ServerNo) (y : Lost) → Reason w b now x n y → Met (lost_on_way u n y)
+      by-purpose : (u : Purpose) (n : ServerNo) (y : Why) → Reason w b now x n y → Met (lost_on_way u n y)
       by-purpose purpose.Regroup n y h = missed n y h
       by-purpose purpose.Master n y h = missed n y h
       by-purpose (purpose.Intermediate s) n y h = missed n y h
@@ -457,46 +443,79 @@ module _ (w : World) (b : BookState) (now : Moment) (r : Recovery) (P : Fact →
       truth n h = subst (λ (a : Attempt). StopsTruly w n a) e (deed-true w x.core rest n read now (deed_of o) (due-speaks w read now x o rest fits speaks is n h))
 
       drain-met : (n : ServerNo) → speaks_of x.stage ≡ Some n → (y : Cause) → IsTrueOf w n y → Met (fate_of_drain n y)
-      drain-met n on (cause.Unreachable m) t = missed n lost.Unreachable (Unreached on t.1)
+      drain-met n on (cause.Unreachable m) t = missed n lost.unreachable (Unreached on t.1)
       drain-met n on y t = good
 
       errant-met : (n : ServerNo) (by : Way) (set : List Interval) → x.stage ≡ stage.Move n by → IsRefusedOn w n by (attaching.Errant set) → Met (fate_of_errant x.purpose n by)
-      errant-met n (way.Auto to exec) set at refused = by-purpose x.purpose n (lost.Ahead exec) (Errant to exec set at refused)
+      errant-met n (way.Auto to exec) set at refused = by-purpose x.purpose n (lost.ahead exec) (Errant to exec set at refused)
       errant-met n (way.Down y) set at refused = good
       errant-met n (way.Up y) set at refused = good
+      errant-met n (way.Match to exec every) set at refused = good
 
-      move-met : (n : ServerNo) (by : Way) → x.stage ≡ stage.Move n by → (f : AttachFault) → IsRefusedOn w n by f → IsTrueOf w n (cause_by n f) → Met (fate_of_move w x.purpose n by (cause_by n f))
-      move-met n by at attaching.Unreachable refused t = by-purpose x.purpose n lost.Unreachable (Unreached (ap speaks_of at) t.1)
-      move-met n by at (attaching.Running spot) refused t = by-purpose x.purpose n (lost.Moved (spot_by (server_at w n.0))) (Running by spot at refused t.1)
-      move-met n by at (attaching.Interfered expected found) refused t = by-purpose x.purpose n (lost.Moved found) (Interfered by expected found at refused)
-      move-met n by at attaching.Loop refused t = good
-      move-met n by at (attaching.Errant set) refused t = errant-met n by set at refused
-      move-met n by at (attaching.Purged first) refused t = by-purpose x.purpose n (lost.Purged (place_on by)) (Purged by first at refused)
-      move-met n by at attaching.Memory refused t = by-purpose x.purpose n lost.Unreachable (Unreached (ap speaks_of at) t.1)
+      move-met : (n : ServerNo) (by : Way) → x.stage ≡ stage.Move n by → alone by n ≡ Some n → (f : AttachFault) → IsRefusedOn w n by f → IsTrueOf w n (cause_by n f)
+          → Met (move_fate w x.purpose n by (loss_of (cause_by n f)))
+      move-met n by at spoken attaching.Unreachable refused t = by-purpose x.purpose n lost.unreachable (Unreached (ap speaks_of at ∙ spoken) t.1)
+      move-met n by at spoken (attaching.Running spot) refused t = by-purpose x.purpose n (lost.moved (spot_by (server_at w n.0))) (Running by spot at refused t.1)
+      move-met n by at spoken (attaching.Interfered expected found) refused t = by-purpose x.purpose n (lost.moved found) (Interfered by expected found at refused)
+      move-met n by at spoken attaching.Loop refused t = good
+      move-met n by at spoken (attaching.Errant set) refused t = errant-met n by set at refused
+      move-met n by at spoken (attaching.Purged first) refused t = by-purpose x.purpose n (lost.purged (place_on by)) (Purged by first at refused)
+      move-met n by at spoken attaching.Memory refused t = by-purpose x.purpose n lost.unreachable (Unreached (ap speaks_of at ∙ spoken) t.1)
 
-      moving-met : (n : ServerNo) (by : Way) → x.stage ≡ stage.Move n by → Met (fate_of_move w x.purpose n by c)
-      moving-met n by at =
-          let g = due-goes w read now x o rest fits speaks is n by at in
-          let h = move-refused w read now x.core rest n by c ob g.1 (subst (λ (y : Op). by_deed w read now x.core rest (deed_of y) ≡ attempt.Stops c ob) g.0 e) in
-          subst (λ (y : Cause). Met (fate_of_move w x.purpose n by y)) (sym h.1) (move-met n by at h.0 h.2 (subst (λ (y : Cause). IsTrueOf w n y) h.1 (truth n (ap speaks_of at))))
-
-      -- it was before where the designated one stopped, unless it is that one
-      late-by : (n : ServerNo) (z : Bridge) (s : Status) → AimsAt x.core.seen n z → is_reached (aim_of x.core.seen (ExecOf z.no)) s.exec ≡ false → (n.0 ≡ z.no.0) ⊎ (is_at_or_before z.exec s.exec ≡ false)
-      late-by n z s aims h = go (n.0 == z.no.0) refl
+      -- a replica that goes its way at once
+      moving-met : (n : ServerNo) (by : Way) → x.stage ≡ stage.Move n by → alone by n ≡ Some n → more_on by ≡ 1 → before by n ≡ [] → Met (move_fate w x.purpose n by (loss_of c))
+      moving-met n by at spoken more none = go (due-goes w read now x o rest fits speaks is n by at).0
         where
-          go : (a : Bool) → (n.0 == z.no.0) ≡ a → (n.0 ≡ z.no.0) ⊎ (is_at_or_before z.exec s.exec ≡ false)
-          go true f = inl (eqb-true n.0 z.no.0 f)
-          go false f = inr (sym (ap (λ q. is_reached q s.exec) (aims (λ same. false≢true (sym f ∙ eq-eqb n.0 z.no.0 same)))) ∙ h)
+          go : (o ≡ move by n) ⊎ ((before by n ≡ o ∷ []) × (rest ≡ tail_of (stage.Move n by))) → Met (move_fate w x.purpose n by (loss_of c))
+          go (inl same) =
+              let h = move-refused w read now x.core rest n by c ob more (due-goes w read now x o rest fits speaks is n by at).1 (subst (λ (y : Op). by_deed w read now x.core rest (deed_of y) ≡ attempt.Stops c ob) same e) in
+              subst (λ (y : Cause). Met (move_fate w x.purpose n by (loss_of y))) (sym h.1)
+              (move-met n by at spoken h.0 h.2 (subst (λ (y : Cause). IsTrueOf w n y) h.1 (truth n (ap speaks_of at ∙ spoken))))
+          go (inr f) = let bad : [] ≡ o ∷ [] = sym none ∙ f.0 in cc
+
+      -- one that goes by a match
+      matched-met : (n : ServerNo) → ((m : Miss) → loss_of c ≡ Some (taking.Missed m) → Reason w b now x n (lost.unmatched m)) → Met (match_fate n (loss_of c))
+      matched-met n why = go (loss_of c) refl
+        where
+          go : (l : Option Loss) → loss_of c ≡ l → Met (match_fate n l)
+          go None same = good
+          go (Some taking.Spent) same = good
+          go (Some taking.Differs) same = good
+          go (Some (taking.Missed m)) same = missed n (lost.unmatched m) (why m same)
+
+      matching-met : (n to : ServerNo) (exec : Coord) (every : ℕ) → x.stage ≡ stage.Move n (way.Match to exec every) → Met (match_fate n (loss_of c))
+      matching-met n to exec every at = go (due-goes w read now x o rest fits speaks is n (way.Match to exec every) at).0
+        where
+          stops-as : (y : Op) → o ≡ y → by_deed w read now x.core rest (deed_of y) ≡ attempt.Stops c ob
+          stops-as y same = subst (λ (z : Op). by_deed w read now x.core rest (deed_of z) ≡ attempt.Stops c ob) same e
+
+          go : (o ≡ op.CrossMatch n to) ⊎ ((op.Match n to every ∷ [] ≡ o ∷ []) × (rest ≡ tail_of (stage.Move n (way.Match to exec every)))) → Met (match_fate n (loss_of c))
+          go (inl same) =
+              let h = match-refused w read now x.core rest n to c ob (stops-as (op.CrossMatch n to) same) in
+              matched-met n (λ m l. Unattached to exec every h.0 h.2.0 m at h.1 h.2.2 (ap loss_of (sym h.2.1) ∙ l))
+          go (inr f) =
+              let h = match-cause w read now x.core rest n to every c ob (stops-as (op.Match n to every) (sym (same-head (op.Match n to every) o [] [] f.0))) in
+              matched-met n (λ m l. Unmatched to exec every h.0 m at h.2 (ap loss_of (sym h.1) ∙ l))
+
+      way-met : (n : ServerNo) (by : Way) → x.stage ≡ stage.Move n by → Met (fate_of_move w x.purpose n by c)
+      way-met n (way.Down y) at = moving-met n (way.Down y) at refl refl refl
+      way-met n (way.Up y) at = moving-met n (way.Up y) at refl refl refl
+      way-met n (way.Auto to exec) at = moving-met n (way.Auto to exec) at refl refl refl
+      way-met n (way.Match to exec every) at = matching-met n to exec every at
+
+      -- it was before where the designated one stopped
+      late-by : (n : ServerNo) (z : Bridge) (s : Status) → (n.0 ≡ z.no.0 → ⊥) → AimsAt x.core.seen n z → is_reached (aim_of x.core.seen (ExecOf z.no)) s.exec ≡ false → is_at_or_before z.exec s.exec ≡ false
+      late-by n z s apart aims h = sym (ap (λ q. is_reached q s.exec) (aims apart)) ∙ h
 
       trail-met : (n : ServerNo) (z : Bridge) → IsTrailing x n z → AimsAt x.core.seen n z → (y : Cause) → IsTrueOf w n y → IsLate w n (aim_of x.core.seen (ExecOf z.no)) y → Met (fate_of_trail w n y)
-      trail-met n z on aims (cause.Unreachable m) t l = missed n lost.Unreachable (Unreached on.speaks t.1)
+      trail-met n z on aims (cause.Unreachable m) t l = missed n lost.unreachable (Unreached on.speaks t.1)
       trail-met n z on aims (cause.WaitSpent m) t l =
-          missed n (lost.Behind (exec_by (server_at w n.0)))
-          (subst (λ (q : Coord). Reason w b now x n (lost.Behind q)) (shown-exec w n.0 l.0 l.1) (Late z l.0 on l.1 (late-by n z l.0 aims l.2)))
+          missed n (lost.behind (exec_by (server_at w n.0)))
+          (subst (λ (q : Coord). Reason w b now x n (lost.behind q)) (shown-exec w n.0 l.0 l.1) (Late z l.0 on l.1 (late-by n z l.0 on.apart aims l.2)))
       trail-met n z on aims y t l = good
 
       look-met : (n : ServerNo) → speaks_of x.stage ≡ Some n → (y : Cause) → IsTrueOf w n y → IsUnspent y → Met (fate_of_trail w n y)
-      look-met n on (cause.Unreachable m) t l = missed n lost.Unreachable (Unreached on t.1)
+      look-met n on (cause.Unreachable m) t l = missed n lost.unreachable (Unreached on t.1)
       look-met n on (cause.WaitSpent m) t l = absurd l
       look-met n on y t l = good
 
@@ -507,12 +526,12 @@ module _ (w : World) (b : BookState) (now : Moment) (r : Recovery) (P : Fact →
 
       stage-met : (s : Stage) → x.stage ≡ s → Met (fate w x.purpose s c)
       stage-met (stage.Drain n) at = drain-met n (ap speaks_of at) c (truth n (ap speaks_of at))
-      stage-met (stage.Move n by) at = moving-met n by at
+      stage-met (stage.Move n by) at = way-met n by at
       stage-met (stage.Join n p) at =
-          missed n lost.Unreachable
+          missed n lost.unreachable
           (Unreached (ap speaks_of at) (subst (λ (a : Attempt). StopsUnreached w n a) e (asked-unreached w read now x.core rest (deed_of o) n (due-speaks w read now x o rest fits speaks is n (ap speaks_of at)) (due-asked w read now x o rest fits speaks is n p at))))
       stage-met (stage.Trail n z) at =
-          trail-met n z (trailing n z (ap speaks_of at) (ap lead_of at)) (speaks.aims n z at) c (truth n (ap speaks_of at)) (late n z (ap speaks_of at) (ap lead_of at))
+          trail-met n z (trailing n z at) (speaks.aims n z at) c (truth n (ap speaks_of at)) (late n z (ap speaks_of at) (ap lead_of at))
       stage-met (stage.Look n z) at =
           look-met n (ap speaks_of at) c (truth n (ap speaks_of at)) (subst (λ (a : Attempt). StopsUnspent a) e (look-unspent w read now x.core rest (deed_of o) (due-looks w read now x o rest fits speaks is n z at)))
       stage-met s at = good
@@ -533,31 +552,36 @@ module _ (w : World) (b : BookState) (now : Moment) (r : Recovery) (P : Fact →
   borne-good x c ob f h = h
 
   abbrev Before : Recovery → Type 0
-  Before x = HeldRecovery w x × Speaks x × (Decisions w b now r x × Good x)
+  Before x = HeldRecovery w x × SpeaksWith x × (Fine x × (Decisions w b now r x × Good x))
 
-  keeps-good : (read : ℕ) → HeldRings w b.rings → Keeps w b read now Before (λ v x. Speaks x × (Reading w b now r x × Good x)) (λ v x. Good x)
+  keeps-good : (read : ℕ) → HeldRings w b.rings → Keeps w b read now Before (λ v x. SpeaksWith x × (IsOnCourse x × (Reading w b now r x × Good x))) (λ v x. Good x)
   keeps-good read rings = record {
     decides = λ x d may h. (
       decides-held w b now rings x d may h.0,
       decides-speaks w b now x d may h.1,
-      (joined w b now h.2.0 (by.Then d may by.Still), decision-explained x h.2.0 d may h.2.1),
+      (decides-fine w b now x d may h.2.0, (joined w b now h.2.1.0 (by.Then d may by.Still), decision-explained x h.2.1.0 d may h.2.1.1)),
     );
-    waits = λ x o rest ob es j did e h. h.2.1;
+    waits = λ x o rest ob es j did e h. h.2.1.1;
     acts = λ x o rest ob es j did e h.
         let fits = fits-of w x o rest did.ops h.0 in
-        let on = went-of w read now x o rest ob es j did in (
+        let on = went-of w read now x o rest ob es j did in
+        let going = still-on x o rest did.ops h.2.0 in (
           stepped-speaks w read now x o rest fits h.1 did.ops ob es j did.goes on e,
-          (stepped-reading w b now r read x h.2.0 o rest fits ob es j did.goes, stepped-good (record x { core = j }) o h.2.1),
+          (
+            stepped-course w read now x o rest did.ops fits going.course ob es j did.goes (on.done e),
+            (stepped-reading w b now r read x h.2.1.0 o rest fits ob es j did.goes, stepped-good (record x { core = j }) o h.2.1.1),
+          ),
         );
-    continues = λ v x y ys is whole. whole.1.1;
-    completes = λ v x e none may whole. completes-good x e may whole.0 whole.1.0 whole.1.1;
+    continues = λ v x y ys is whole. whole.1.1.1;
+    completes = λ v x e none may whole. completes-good x e may whole.0 whole.1.0 whole.1.1.0 whole.1.1.1;
     bears = λ x o rest c ob e stops is may h.
         borne-good x c ob (fate_of e)
-        (subst (λ (f : Fate). Good (met w x c ob f).recovery) is (stage-met read x h.2.0 o rest (fits-of w x o rest stops.ops h.0) h.1 stops.ops h.2.1 c ob stops.stops x.stage refl));
+        (subst (λ (f : Fate). Good (met w x c ob f).recovery) is
+        (stage-met read x h.2.1.0 o rest (fits-of w x o rest stops.ops h.0) h.1 (still-on x o rest stops.ops h.2.0) stops.ops h.2.1.1 c ob stops.stops x.stage refl));
   }
 
 pub taken-lost : (w : World) (b : BookState) (read : ℕ) (now : Moment) (r : Recovery) (P : Fact → Bool) → HeldRings w b.rings → HeldRecovery w r → Speaks r → ExplainsTruly w b now r P
     → AllLost P r.outcome.lost → AllLost P (taken w b read now r).recovery.outcome.lost
 taken-lost w b read now r P rings held speaks why all =
-    kept-whole w b read now (Before w b now r P why) (λ v x. Speaks x × (Reading w b now r x × AllLost P x.outcome.lost)) (λ v x. AllLost P x.outcome.lost) (keeps-good w b now r P why read rings)
-    (record { fails = λ x c ob f h. h.2.1; finishes = λ x o rest lines is e h. h.2.1 }) r (held, speaks, (by.Still, all))
+    kept-whole w b read now (Before w b now r P why) (λ v x. SpeaksWith x × (IsOnCourse x × (Reading w b now r x × AllLost P x.outcome.lost))) (λ v x. AllLost P x.outcome.lost)
+    (keeps-good w b now r P why read rings) (record { fails = λ x c ob f h. h.2.1.1; finishes = λ x o rest lines is e h. h.2.1.1 }) r (held, speaks.says, (inl speaks.way, (by.Still, all)))

@@ -2,7 +2,7 @@
 use Rattle.job_laws.proofs.Sights.{seen-at}
 use Rattle.operations.specs.declared.sight.Position.{Position}
 use Rattle.operations.specs.declared.sight.Sight.{Sight}
-use Rattle.std.proofs.Common.{◌≡◌, ℕ, Bool, true, false, cond, List, [], ◌∷◌, refl, sym, ◌∙◌, ap, subst, Option, Some, None, option_map, ◌⊎◌, inl, inr, Ok, Err, Result}
+use Rattle.std.proofs.Common.{◌≡◌, ℕ, Bool, true, false, cond, List, [], ◌∷◌, ◌++◌, arith, refl, sym, ◌∙◌, ap, subst, Option, Some, None, option_map, ◌⊎◌, inl, inr, Ok, Err, Result}
 use Rattle.std.specs.List.{All}
 use Rattle.std.proofs.lemmas.Bool.{eq-eqb, false≢true}
 use Rattle.std.proofs.lemmas.Option.{same_Some}
@@ -10,21 +10,27 @@ use Rattle.std.proofs.lemmas.List.Elements.{All-nil, All-cons, All-head, All-tai
 use Rattle.orch_base.specs.declared.server.Moment.{Moment}
 use Rattle.orch_base.specs.declared.server.ServerNo.{ServerNo}
 use Rattle.server_model.specs.Run.{Exchange, Attach, AttachAuto}
-use Rattle.server_model.specs.Worlds.{World}
+use Rattle.binlog_coords.specs.declared.Coord.{Coord}
+use Rattle.server_words.specs.declared.attach.Spot.{Spot}
+use Rattle.server_model.specs.Worlds.{World, server_at}
 use Rattle.instance_keeper.specs.declared.bridge.Bridge.{Bridge}
 use Rattle.kept_rows.specs.declared.observation.Observation.{Observation}
 use Rattle.instance_keeper.specs.Book.{BookState}
 use Rattle.operations.specs.declared.op.Op.{Op}
 use Rattle.operations.specs.declared.op.Op.TheVariants as op
 use Rattle.operations.specs.Deeds.{deed_of}
-use Rattle.operations.specs.Jobs.{Job, seen_of}
+use Rattle.operations.specs.declared.matching.Match.{Match}
+use Rattle.operations.specs.declared.matching.MatchFault.{MatchFault}
+use Rattle.operations.specs.Jobs.{Job, match_found, seen_of}
+use Rattle.operations.specs.Matching.{match_logs, standing_at}
 use Rattle.operations.specs.Turns as attempt
 use Rattle.commands.specs.declared.cause.Cause.{Cause}
 use Rattle.server_words.specs.declared.attach.Spot.TheVariants as spot
 use Rattle.server_words.specs.declared.attach.AttachFault.{AttachFault}
 use Rattle.operations.specs.declared.op.Crossing.TheVariants as cross
 use Rattle.operations.specs.Targets.{can_attach}
-use Rattle.operations.specs.Turns.{Attempt, by_deed, is_going, after_answer, after_attach, attach_answer_of, bridge_at, by_set, cause_by, crossed, crossing_of}
+use Rattle.operations.specs.Turns.{Attempt, by_deed, is_going, after_answer, after_attach, after_match, attach_answer_of, bridge_at, by_match, by_set, cause_by, crossed, crossing_of}
+use Rattle.recovery_plans.specs.declared.means.Means.{Means}
 use Rattle.recovery_plans.specs.declared.purpose.Purpose.{Purpose}
 use Rattle.recovery_plans.specs.declared.purpose.Purpose.TheVariants as purpose
 use Rattle.recovery_plans.specs.declared.stage.Stage.{Stage}
@@ -34,11 +40,13 @@ use Rattle.recovery_plans.specs.declared.task.Way.TheVariants as way
 use Rattle.recovery_plans.specs.Beginning.{begun_recovery}
 use Rattle.recovery_plans.specs.Named.{spoken_to}
 use Rattle.recovery_plans.specs.Recoveries.{Recovery, follows_no_more, sight_of}
-use Rattle.recovery_plans.specs.Stages.{drain, ends, leaver, move, moved, trail, with_bridge, is_look, tail_of, with_way}
+use Rattle.recovery_plans.specs.Stages.{before, drain, ends, leaver, move, moved, trail, with_bridge, is_look, tail_of, with_way}
+use Rattle.recovery_plans.specs.Table.{alone, more_on}
 use Rattle.recovery_plans.specs.Deciding.{moving}
 use Rattle.recovery_plans.specs.Taking.{entered, stepped, is_waiting, taken}
 use Rattle.recovery_plans.specs.Moves as by
 use Rattle.recovery_plans.specs.Moves.{Bearing, Decision, Does, Ending, MayDecide, MayEnd, borne, decided_by, ended_by, fate_of}
+use Rattle.recovery_plans.proofs.Leading.{moved-leads}
 use Rattle.recovery_plans.proofs.Walking.{Keeps, kept-along}
 use Rattle.recovery_laws.specs.HeldRecoveries.{HeldRecovery}
 use Rattle.recovery_laws.specs.Rings.{HeldRings}
@@ -46,7 +54,8 @@ use Rattle.recovery_ends.specs.Shapes.{Fits}
 use Rattle.recovery_laws.proofs.Deciding.{decides-held}
 use Rattle.recovery_ends.proofs.Fitting.{went-of}
 use Rattle.recovery_ends.proofs.Shapes.{WentOn, fits-step, moved-fits, same-tail, same-head}
-use Rattle.recovery_reasons.specs.Reasons.{speaks_of, lead_of, WaitsFor, IsAsked, AimsAt, Speaks, ShowsWay, GoesBy, IsRefusedOn}
+use Rattle.recovery_reasons.specs.Reasons.{speaks_of, lead_of, WaitsFor, IsAsked, AimsAt, Speaks, SpeaksWith, ShowsWay, GoesBy, IsRefusedOn}
+use Rattle.recovery_reasons.proofs.OnWay.{begun-way, taken-way}
 use Rattle.recovery_reasons.proofs.Sights.{SeesOnly, deed-sees}
 
 abbrev With : ServerNo → Op → Type 0
@@ -66,25 +75,29 @@ abbrev way_in : Stage → Option Way
 way_in (stage.Move n by) = Some by
 way_in s = None
 
+abbrev mover : Stage → Option ServerNo
+mover (stage.Move n by) = Some n
+mover s = None
+
 same-way : (j : Job) (n m : ServerNo) (x y : Way) → stage.Move n x ≡ stage.Move m y → GoesBy j n x → GoesBy j m y
 same-way j n m x y e h =
-    subst (λ (k : ServerNo). GoesBy j k y) (same_Some n m (ap speaks_of e)) (subst (λ (way : Way). GoesBy j n way) (same_Some x y (ap way_in e)) h)
+    subst (λ (k : ServerNo). GoesBy j k y) (same_Some n m (ap mover e)) (subst (λ (way : Way). GoesBy j n way) (same_Some x y (ap way_in e)) h)
 
 -- of a stage that places none
-silent : (r : Recovery) → speaks_of r.stage ≡ None → lead_of r.stage ≡ None → Speaks r
-silent r none led = record {
+silent : (r : Recovery) → speaks_of r.stage ≡ None → mover r.stage ≡ None → lead_of r.stage ≡ None → SpeaksWith r
+silent r none still led = record {
   ops = λ n e. let bad : None ≡ Some n = sym none ∙ e in cc;
   lead = λ x e. let bad : None ≡ Some x = sym led ∙ e in cc;
   waits = λ x e. let bad : None ≡ Some x = sym led ∙ e in cc;
   aims = λ n x e. let bad : None ≡ Some x = sym led ∙ ap lead_of e in cc;
-  goes = λ n way e. let bad : None ≡ Some n = sym none ∙ ap speaks_of e in cc;
+  goes = λ n way e. let bad : None ≡ Some n = sym still ∙ ap mover e in cc;
   asked = λ n p e. let bad : None ≡ Some n = sym none ∙ ap speaks_of e in cc;
   looks = λ n x e. let bad : None ≡ Some x = sym led ∙ ap lead_of e in cc;
 }
 
 -- of one that does
 speaking : (r : Recovery) (m : ServerNo) → speaks_of r.stage ≡ Some m → All (With m) r.core.ops → lead_of r.stage ≡ None
-    → ((n : ServerNo) (way : Way) → r.stage ≡ stage.Move n way → GoesBy r.core n way) → ((n p : ServerNo) → r.stage ≡ stage.Join n p → ⊥) → Speaks r
+    → ((n : ServerNo) (way : Way) → r.stage ≡ stage.Move n way → GoesBy r.core n way) → ((n p : ServerNo) → r.stage ≡ stage.Join n p → ⊥) → SpeaksWith r
 speaking r m is all led goes apart = record {
   ops = λ n e. subst (λ (x : ServerNo). All (With x) r.core.ops) (same_Some m n (sym is ∙ e)) all;
   lead = λ x e. let bad : None ≡ Some x = sym led ∙ e in cc;
@@ -96,7 +109,7 @@ speaking r m is all led goes apart = record {
 }
 
 -- the same in a recovery with the same job, stage and bridge
-alike : (r r' : Recovery) → r'.core ≡ r.core → r'.stage ≡ r.stage → r'.lead ≡ r.lead → Speaks r → Speaks r'
+alike : (r r' : Recovery) → r'.core ≡ r.core → r'.stage ≡ r.stage → r'.lead ≡ r.lead → SpeaksWith r → SpeaksWith r'
 alike r r' core at lead s = record {
   ops = λ n e. subst (λ (j : Job). All (With n) j.ops) (sym core) (s.ops n (sym (ap speaks_of at) ∙ e));
   lead = λ x e. lead ∙ s.lead x (sym (ap lead_of at) ∙ e);
@@ -137,26 +150,34 @@ way-shows : (xs : List Sight) (by : Way) → ShowsWay (with_way xs by) by
 way-shows xs (way.Down b) = bridge-seen xs b
 way-shows xs (way.Up b) = bridge-seen xs b
 way-shows xs (way.Auto to exec) = tt
+way-shows xs (way.Match to exec every) = tt
 
-way-speaks : (by : Way) (n : ServerNo) → spoken_to (deed_of (move by n)) ≡ Some n
-way-speaks (way.Down b) n = refl
-way-speaks (way.Up b) n = refl
-way-speaks (way.Auto to exec) n = refl
+way-speaks : (by : Way) (n m : ServerNo) → alone by n ≡ Some m → All (With m) (before by n ++ tail_of (stage.Move n by))
+way-speaks (way.Down b) n m e = All-cons (With m) (op.Cross cross.Down n b.no) (op.Start n ∷ []) e (All-cons (With m) (op.Start n) [] e (All-nil (With m)))
+way-speaks (way.Up b) n m e = All-cons (With m) (op.Cross cross.Up n b.no) (op.Start n ∷ []) e (All-cons (With m) (op.Start n) [] e (All-nil (With m)))
+way-speaks (way.Auto to exec) n m e = All-cons (With m) (op.Auto n to) (op.Start n ∷ []) e (All-cons (With m) (op.Start n) [] e (All-nil (With m)))
+way-speaks (way.Match to exec every) n m e = cc
 
-moving-speaks : (r : Recovery) (n : ServerNo) (by : Way) → Speaks (moving r n by)
-moving-speaks r n by =
-    speaking (moving r n by) n refl (All-cons (With n) (move by n) (op.Start n ∷ []) (way-speaks by n) (All-cons (With n) (op.Start n) [] refl (All-nil (With n)))) refl
-    (λ m to e. same-way (moving r n by).core n m by to e (refl, way-shows r.core.seen by)) (λ m p e. cc)
+moving-speaks : (r : Recovery) (n : ServerNo) (by : Way) → SpeaksWith (moving r n by)
+moving-speaks r n by = record {
+  ops = λ m e. way-speaks by n m e;
+  lead = λ x e. cc;
+  waits = λ x e. cc;
+  aims = λ m x e. cc;
+  goes = λ m to e. same-way (moving r n by).core n m by to e (inr refl, way-shows r.core.seen by);
+  asked = λ m p e. cc;
+  looks = λ m x e. cc;
+}
 
 -- ---- what is decided
 
 module _ (w : World) (b : BookState) (now : Moment) where
-  pub decides-speaks : (r : Recovery) (d : Decision) → MayDecide w b now r d → Speaks r → Speaks (decided_by w b now r d)
-  decides-speaks r (by.Reads n ts) may s = silent _ refl refl
+  pub decides-speaks : (r : Recovery) (d : Decision) → MayDecide w b now r d → SpeaksWith r → SpeaksWith (decided_by w b now r d)
+  decides-speaks r (by.Reads n ts) may s = silent _ refl refl refl
   decides-speaks r (by.Drains n ts) may s = speaking _ n refl (drain-speaks n) refl (λ m way e. cc) (λ m p e. cc)
   decides-speaks r (by.Sends n way ts) may s = moving-speaks (record r { queue = ts }) n way
-  decides-speaks r (by.Expels n ts) may s = silent _ refl refl
-  decides-speaks r (by.Releases n ts) may s = silent _ refl refl
+  decides-speaks r (by.Expels n ts) may s = silent _ refl refl refl
+  decides-speaks r (by.Releases n ts) may s = silent _ refl refl refl
   decides-speaks r (by.Looks n x ts) may s = record {
     ops = λ m f. subst (λ (k : ServerNo). All (With k) (op.Status n None ∷ [])) (same_Some n m f) (All-cons (With n) (op.Status n None) [] refl (All-nil (With n)));
     lead = λ y f. may.1 ∙ f;
@@ -166,17 +187,17 @@ module _ (w : World) (b : BookState) (now : Moment) where
     asked = λ m p f. cc;
     looks = λ m y f. All-cons Looks (op.Status n None) [] refl (All-nil Looks);
   }
-  decides-speaks r (by.Yields x ts) may s = silent _ refl refl
+  decides-speaks r (by.Yields x ts) may s = silent _ refl refl refl
   decides-speaks r (by.Hands d ds way ts) may s = moving-speaks (record r { drained = ds }) d.no way
-  decides-speaks r (by.Levels p q) may s = silent _ refl refl
-  decides-speaks r (by.Crowns p) may s = silent _ refl refl
-  decides-speaks r (by.Rejoins p) may s = silent _ refl refl
-  decides-speaks r by.Closes may s = silent _ refl refl
+  decides-speaks r (by.Levels p q) may s = silent _ refl refl refl
+  decides-speaks r (by.Crowns p) may s = silent _ refl refl refl
+  decides-speaks r (by.Rejoins p) may s = silent _ refl refl refl
+  decides-speaks r by.Closes may s = silent _ refl refl refl
   decides-speaks r d may s = alike r _ refl refl refl s
 
 -- ---- the end of a stage
 
-completes-speaks : (r : Recovery) (e : Ending) → MayEnd r e → Speaks r → Speaks (ended_by r e)
+completes-speaks : (r : Recovery) (e : Ending) → MayEnd r e → SpeaksWith r → SpeaksWith (ended_by r e)
 completes-speaks r (by.Trails n b) may s =
     let lead = s.lead b (ap lead_of may.0) in
     record {
@@ -189,23 +210,17 @@ completes-speaks r (by.Trails n b) may s =
       looks = λ m x e. cc;
     }
 completes-speaks r (by.Joins n b) may s = moving-speaks r n (way.Down b)
-completes-speaks r e may s = silent _ refl refl
+completes-speaks r e may s = silent _ refl refl refl
 
-bears-speaks : (r : Recovery) (e : Bearing) → Speaks (borne r (fate_of e))
-bears-speaks r by.Drops = silent _ refl refl
-bears-speaks r e = silent _ refl refl
+bears-speaks : (r : Recovery) (e : Bearing) → SpeaksWith (borne r (fate_of e))
+bears-speaks r by.Drops = silent _ refl refl refl
+bears-speaks r e = silent _ refl refl refl
 
-moved-speaks : (s : Stage) (n : ServerNo) → speaks_of (moved s) ≡ Some n → speaks_of s ≡ Some n
-moved-speaks (stage.Move m by) n e = e
-moved-speaks (stage.Join m p) n e = e
-moved-speaks s n e = cc
-
-pub moved-leads : (s : Stage) → lead_of (moved s) ≡ lead_of s
-moved-leads (stage.Look n b) = refl
-moved-leads (stage.Looked n b) = refl
-moved-leads (stage.Trail n b) = refl
-moved-leads (stage.Halted n b) = refl
-moved-leads s = refl
+-- what is left of a stage that places a replica, once it is ended, speaks with that one
+moved-with : (s : Stage) (o : Op) (rest : List Op) (n : ServerNo) → o ∷ rest ≡ tail_of s → speaks_of (moved s) ≡ Some n → All (With n) rest
+moved-with (stage.Move m by) o rest n t e =
+    subst (λ (xs : List Op). All (With n) xs) (sym (same-tail o (move by m) rest (op.Start m ∷ []) t)) (All-cons (With n) (op.Start m) [] e (All-nil (With n)))
+moved-with s o rest n t e = cc
 
 pub entered-core : (r : Recovery) (s : Stage) → (entered r s).core ≡ r.core
 entered-core r s = go (leaver s)
@@ -268,12 +283,34 @@ move-unwaited : (w : World) (read : ℕ) (now : Moment) (j : Job) (rest : List O
 move-unwaited w read now j rest n (way.Down b) = attach-unwaited w j rest n (crossing_of j.seen cross.Down n b.no)
 move-unwaited w read now j rest n (way.Up b) = attach-unwaited w j rest n (crossing_of j.seen cross.Up n b.no)
 move-unwaited w read now j rest n (way.Auto to exec) = attach-unwaited w j rest n (by_set n to (seen_of j.seen to.0))
+move-unwaited w read now j rest n (way.Match to exec every) = attach-unwaited w j rest n (by_match n to (match_found j.matches n to))
+
+-- nor does a match
+match-unwaited : (j : Job) (rest : List Op) (n m : ServerNo) (at : Spot) (r : Result Coord MatchFault) → Unwaited (after_match j rest n m at r)
+match-unwaited j rest n m at (Ok c) = refl
+match-unwaited j rest n m at (Err f) = tt
+
+before-unwaited : (w : World) (read : ℕ) (now : Moment) (j : Job) (rest : List Op) (n : ServerNo) (by : Way) (o : Op) → before by n ≡ o ∷ [] → Unwaited (by_deed w read now j rest (deed_of o))
+before-unwaited w read now j rest n (way.Down b) o e = cc
+before-unwaited w read now j rest n (way.Up b) o e = cc
+before-unwaited w read now j rest n (way.Auto to exec) o e = cc
+before-unwaited w read now j rest n (way.Match to exec every) o e =
+    subst (λ (x : Op). Unwaited (by_deed w read now j rest (deed_of x))) (same-head (op.Match n to every) o [] [] e)
+    (match-unwaited j rest n to (standing_at (server_at w n.0)) (match_logs w n to every))
+
+-- it goes by what was seen in whatever the job saw
+before-shows : (by : Way) (n : ServerNo) (o : Op) (xs : List Sight) → before by n ≡ o ∷ [] → ShowsWay xs by
+before-shows (way.Down b) n o xs e = cc
+before-shows (way.Up b) n o xs e = cc
+before-shows (way.Auto to exec) n o xs e = cc
+before-shows (way.Match to exec every) n o xs e = tt
 
 -- it ends its stage
 move-ends : (n : ServerNo) (by : Way) → ends (stage.Move n by) (deed_of (move by n)) ≡ true
 move-ends n (way.Down b) = refl
 move-ends n (way.Up b) = refl
 move-ends n (way.Auto to exec) = refl
+move-ends n (way.Match to exec every) = refl
 
 -- what stops a job whose attachment is refused
 record Refuses (w : World) (n : ServerNo) (c : Cause) (x : Exchange) : Type 0 where
@@ -298,21 +335,32 @@ attach-refuses w j rest n x c ob e = by (can_attach w x) e
     by false h = cc
 
 -- a replica that is to go some way stops its job only where that attachment is refused
-pub move-refused : (w : World) (read : ℕ) (now : Moment) (j : Job) (rest : List Op) (n : ServerNo) (by : Way) (c : Cause) (ob : Option Observation) → ShowsWay j.seen by
+pub move-refused : (w : World) (read : ℕ) (now : Moment) (j : Job) (rest : List Op) (n : ServerNo) (by : Way) (c : Cause) (ob : Option Observation) → more_on by ≡ 1 → ShowsWay j.seen by
     → by_deed w read now j rest (deed_of (move by n)) ≡ attempt.Stops c ob → (f : AttachFault) × (c ≡ cause_by n f) × IsRefusedOn w n by f
-move-refused w read now j rest n (way.Down b) c ob shown e =
+move-refused w read now j rest n (way.Down b) c ob more shown e =
     let h = attach-refuses w j rest n (Attach n.0 (spot.At b.source b.exec) b.no b.own) c ob (sym (ap (λ o. after_attach w j rest n (crossed cross.Down n (bridge_at b.no o))) shown) ∙ e) in
     (h.fault, h.cause, h.answer)
-move-refused w read now j rest n (way.Up b) c ob shown e =
+move-refused w read now j rest n (way.Up b) c ob more shown e =
     let h = attach-refuses w j rest n (Attach n.0 (spot.At b.no b.own) b.source b.exec) c ob (sym (ap (λ o. after_attach w j rest n (crossed cross.Up n (bridge_at b.no o))) shown) ∙ e) in
     (h.fault, h.cause, h.answer)
-move-refused w read now j rest n (way.Auto to exec) c ob shown e = go (seen_of j.seen to.0) e
+move-refused w read now j rest n (way.Auto to exec) c ob more shown e = go (seen_of j.seen to.0) e
   where
     go : (o : Option Position) → after_attach w j rest n (by_set n to o) ≡ attempt.Stops c ob → (f : AttachFault) × (c ≡ cause_by n f) × IsRefusedOn w n (way.Auto to exec) f
     go None h = cc
     go (Some s) h = let y = attach-refuses w j rest n (AttachAuto n.0 s.set to) c ob h in (y.fault, y.cause, (s.set, y.answer))
+move-refused w read now j rest n (way.Match to exec every) c ob more shown e = absurd (omega (arith, more))
 
-module _ (w : World) (read : ℕ) (now : Moment) (r : Recovery) (o : Op) (rest : List Op) (fits : Fits r.stage (o ∷ rest)) (s : Speaks r) (is : r.core.ops ≡ o ∷ rest) where
+-- by the match that was found
+pub match-refused : (w : World) (read : ℕ) (now : Moment) (j : Job) (rest : List Op) (n to : ServerNo) (c : Cause) (ob : Option Observation) → by_deed w read now j rest (deed_of (op.CrossMatch n to)) ≡ attempt.Stops c ob
+    → (x : Match) × (match_found j.matches n to ≡ Some x) × ((f : AttachFault) × (c ≡ cause_by n f) × (attach_answer_of w (Attach n.0 x.spot to x.at) ≡ Err f))
+match-refused w read now j rest n to c ob e = go (match_found j.matches n to) refl e
+  where
+    go : (o : Option Match) → match_found j.matches n to ≡ o → after_attach w j rest n (by_match n to o) ≡ attempt.Stops c ob
+        → (x : Match) × (match_found j.matches n to ≡ Some x) × ((f : AttachFault) × (c ≡ cause_by n f) × (attach_answer_of w (Attach n.0 x.spot to x.at) ≡ Err f))
+    go None is h = cc
+    go (Some x) is h = let y = attach-refuses w j rest n (Attach n.0 x.spot to x.at) c ob h in (x, is, (y.fault, y.cause, y.answer))
+
+module _ (w : World) (read : ℕ) (now : Moment) (r : Recovery) (o : Op) (rest : List Op) (fits : Fits r.stage (o ∷ rest)) (s : SpeaksWith r) (is : r.core.ops ≡ o ∷ rest) where
   behind : (Q : Op → Type 0) → All Q r.core.ops → All Q rest
   behind Q all = All-tail Q o rest (subst (λ (xs : List Op). All Q xs) is all)
 
@@ -325,9 +373,20 @@ module _ (w : World) (read : ℕ) (now : Moment) (r : Recovery) (o : Op) (rest :
   pub due-looks : (n : ServerNo) (x : Bridge) → r.stage ≡ stage.Look n x → is_look (deed_of o) ≡ true
   due-looks n x e = All-head Looks o rest (subst (λ (xs : List Op). All Looks xs) is (s.looks n x e))
 
-  -- the operation of a stage that goes some way is its change of source
-  pub due-goes : (n : ServerNo) (by : Way) → r.stage ≡ stage.Move n by → (o ≡ move by n) × ShowsWay r.core.seen by
-  due-goes n by at = let g = s.goes n by at in (same-head o (move by n) rest (op.Start n ∷ []) (sym is ∙ g.0), g.1)
+  -- the operation of a stage that goes some way is its change of source, or that before it
+  pub due-goes : (n : ServerNo) (by : Way) → r.stage ≡ stage.Move n by → ((o ≡ move by n) ⊎ ((before by n ≡ o ∷ []) × (rest ≡ tail_of (stage.Move n by)))) × ShowsWay r.core.seen by
+  due-goes n by at = let g = s.goes n by at in (go by g.0, g.1)
+    where
+      go : (x : Way) → ((r.core.ops ≡ tail_of (stage.Move n x)) ⊎ (r.core.ops ≡ before x n ++ tail_of (stage.Move n x)))
+          → (o ≡ move x n) ⊎ ((before x n ≡ o ∷ []) × (rest ≡ tail_of (stage.Move n x)))
+      go x (inl e) = inl (same-head o (move x n) rest (op.Start n ∷ []) (sym is ∙ e))
+      go (way.Down b) (inr e) = inl (same-head o (op.Cross cross.Down n b.no) rest (op.Start n ∷ []) (sym is ∙ e))
+      go (way.Up b) (inr e) = inl (same-head o (op.Cross cross.Up n b.no) rest (op.Start n ∷ []) (sym is ∙ e))
+      go (way.Auto to exec) (inr e) = inl (same-head o (op.Auto n to) rest (op.Start n ∷ []) (sym is ∙ e))
+      go (way.Match to exec every) (inr e) = inr (
+        ap (λ (x : Op). x ∷ []) (sym (same-head o (op.Match n to every) rest (op.CrossMatch n to ∷ op.Start n ∷ []) (sym is ∙ e))),
+        same-tail o (op.Match n to every) rest (op.CrossMatch n to ∷ op.Start n ∷ []) (sym is ∙ e),
+      )
 
   pub due-asked : (n p : ServerNo) → r.stage ≡ stage.Join n p → IsAsked (deed_of o)
   due-asked n p e = All-head Asked o rest (subst (λ (xs : List Op). All Asked xs) is (s.asked n p e))
@@ -343,37 +402,44 @@ module _ (w : World) (read : ℕ) (now : Moment) (r : Recovery) (o : Op) (rest :
         (subst (λ (a : Attempt). SeesOnly r.core x.no.0 a) e (deed-sees w read now r.core rest (deed_of o) n x.no.0 (due-speaks n (ap speaks_of at)) (λ same. apart (sym same))))
         ∙ s.aims n x at apart
 
-    -- a stage that goes some way ends with its first operation
+    -- a stage that goes some way waits for nothing, and ends with its change of source
     unwaited : (n : ServerNo) (by : Way) → r.stage ≡ stage.Move n by → is_waiting k ≡ false
-    unwaited n by at =
-        subst (λ (a : Attempt). Unwaited a) e (subst (λ (y : Op). Unwaited (by_deed w read now r.core rest (deed_of y))) (sym (due-goes n by at).0) (move-unwaited w read now r.core rest n by))
+    unwaited n by at = subst (λ (a : Attempt). Unwaited a) e (go (due-goes n by at).0)
+      where
+        go : (o ≡ move by n) ⊎ ((before by n ≡ o ∷ []) × (rest ≡ tail_of (stage.Move n by))) → Unwaited (by_deed w read now r.core rest (deed_of o))
+        go (inl f) = subst (λ (y : Op). Unwaited (by_deed w read now r.core rest (deed_of y))) (sym f) (move-unwaited w read now r.core rest n by)
+        go (inr f) = before-unwaited w read now r.core rest n by o f.0
 
-    ended : (n : ServerNo) (by : Way) → r.stage ≡ stage.Move n by → ends r.stage (deed_of o) ≡ true
-    ended n by at = ap (λ (x : Stage). ends x (deed_of o)) at ∙ ap (λ (y : Op). ends (stage.Move n by) (deed_of y)) (due-goes n by at).0 ∙ move-ends n by
+    goes-on : k.ops ≡ rest → ends r.stage (deed_of o) ≡ false → (n : ServerNo) (by : Way) → r.stage ≡ stage.Move n by → GoesBy k n by
+    goes-on left not-yet n by at = go (due-goes n by at).0
+      where
+        go : (o ≡ move by n) ⊎ ((before by n ≡ o ∷ []) × (rest ≡ tail_of (stage.Move n by))) → GoesBy k n by
+        go (inl f) = absurd (false≢true (sym not-yet ∙ (ap (λ (x : Stage). ends x (deed_of o)) at ∙ ap (λ (y : Op). ends (stage.Move n by) (deed_of y)) f ∙ move-ends n by)))
+        go (inr f) = (inl (left ∙ f.1), before-shows by n o k.seen f.0)
 
-    same-speaks : (xs : List Op) → k.ops ≡ xs → ((n : ServerNo) (way : Way) → r.stage ≡ stage.Move n way → ⊥) → ((Q : Op → Type 0) → All Q r.core.ops → All Q xs) → Speaks later
-    same-speaks xs left apart on = record {
+    same-speaks : (xs : List Op) → k.ops ≡ xs → ((n : ServerNo) (way : Way) → r.stage ≡ stage.Move n way → GoesBy k n way) → ((Q : Op → Type 0) → All Q r.core.ops → All Q xs) → SpeaksWith later
+    same-speaks xs left goes on = record {
       ops = λ n h. subst (λ (ys : List Op). All (With n) ys) (sym left) (on (With n) (s.ops n h));
       lead = s.lead;
       waits = λ x h. subst (λ (ys : List Op). All (Waits x) ys) (sym left) (on (Waits x) (s.waits x h));
       aims = aims-on;
-      goes = λ n way h. absurd (apart n way h);
+      goes = goes;
       asked = λ n p h. subst (λ (ys : List Op). All Asked ys) (sym left) (on Asked (s.asked n p h));
       looks = λ n x h. subst (λ (ys : List Op). All Looks ys) (sym left) (on Looks (s.looks n x h));
     }
 
-    pub stepped-speaks : is_waiting k ≡ false → Speaks (stepped later o)
+    pub stepped-speaks : is_waiting k ≡ false → SpeaksWith (stepped later o)
     stepped-speaks done = go (fits-step r.stage o rest fits)
       where
         on : (Q : Op → Type 0) → All Q rest → All Q (entered later (moved r.stage)).core.ops
         on Q all = subst (λ (j : Job). All Q j.ops) (sym (entered-core later (moved r.stage))) (subst (λ (xs : List Op). All Q xs) (sym (went.done done)) all)
 
-        go : ((ends r.stage (deed_of o) ≡ false) × Fits r.stage rest) ⊎ (o ∷ rest ≡ tail_of r.stage) → Speaks (stepped later o)
-        go (inl p) = subst (λ (x : Bool). Speaks (cond x (entered later (moved r.stage)) later)) (sym p.0) (same-speaks rest (went.done done) (λ n way at. false≢true (sym p.0 ∙ ended n way at)) behind)
+        go : ((ends r.stage (deed_of o) ≡ false) × Fits r.stage rest) ⊎ (o ∷ rest ≡ tail_of r.stage) → SpeaksWith (stepped later o)
+        go (inl p) = subst (λ (x : Bool). SpeaksWith (cond x (entered later (moved r.stage)) later)) (sym p.0) (same-speaks rest (went.done done) (goes-on (went.done done) p.0) behind)
         go (inr t) =
-            subst (λ (x : Bool). Speaks (cond x (entered later (moved r.stage)) later)) (sym (moved-fits r.stage o rest t).0)
+            subst (λ (x : Bool). SpeaksWith (cond x (entered later (moved r.stage)) later)) (sym (moved-fits r.stage o rest t).0)
             (record {
-              ops = λ n h. on (With n) (behind (With n) (s.ops n (moved-speaks r.stage n h)));
+              ops = λ n h. on (With n) (moved-with r.stage o rest n t h);
               lead = λ x h. entered-lead later (moved r.stage) ∙ s.lead x (sym (moved-leads r.stage) ∙ h);
               waits = λ x h. on (Waits x) (behind (Waits x) (s.waits x (sym (moved-leads r.stage) ∙ h)));
               aims = λ n x h. absurd (moved-trails r.stage n x h);
@@ -386,12 +452,12 @@ module _ (w : World) (b : BookState) (read : ℕ) (now : Moment) (rings : HeldRi
   fits-of : (r : Recovery) (o : Op) (rest : List Op) → r.core.ops ≡ o ∷ rest → HeldRecovery w r → Fits r.stage (o ∷ rest)
   fits-of r o rest is held = subst (λ (xs : List Op). Fits r.stage xs) is held.fits
 
-  keeps-speaks : Keeps w b read now (λ r. HeldRecovery w r × Speaks r) (λ v r. Speaks r) (λ v r. Speaks r)
+  keeps-speaks : Keeps w b read now (λ r. HeldRecovery w r × SpeaksWith r) (λ v r. SpeaksWith r) (λ v r. SpeaksWith r)
   keeps-speaks = record {
     decides = λ r d may h. (decides-held w b now rings r d may h.0, decides-speaks w b now r d may h.1);
     waits = λ r o rest ob es j did e h.
         let on = went-of w read now r o rest ob es j did in
-        same-speaks w read now r o rest (fits-of r o rest did.ops h.0) h.1 did.ops ob es j did.goes on r.core.ops (on.waits e).0 (λ n way at. false≢true (sym (unwaited w read now r o rest (fits-of r o rest did.ops h.0) h.1 did.ops ob es j did.goes on n way at) ∙ e)) (λ Q all. all);
+        same-speaks w read now r o rest (fits-of r o rest did.ops h.0) h.1 did.ops ob es j did.goes on r.core.ops (on.waits e).0 (λ n way at. absurd (false≢true (sym (unwaited w read now r o rest (fits-of r o rest did.ops h.0) h.1 did.ops ob es j did.goes on n way at) ∙ e))) (λ Q all. all);
     acts = λ r o rest ob es j did e h.
         stepped-speaks w read now r o rest (fits-of r o rest did.ops h.0) h.1 did.ops ob es j did.goes (went-of w read now r o rest ob es j did) e;
     continues = λ v r x xs is s. s;
@@ -401,11 +467,16 @@ module _ (w : World) (b : BookState) (read : ℕ) (now : Moment) (rings : HeldRi
 
 pub taken-speaks : (w : World) (b : BookState) (read : ℕ) (now : Moment) (r : Recovery) → HeldRings w b.rings → HeldRecovery w r → Speaks r → is_going (taken w b read now r).step ≡ true
     → Speaks (taken w b read now r).recovery
-taken-speaks w b read now r rings held s =
-    kept-along w b read now (λ x. HeldRecovery w x × Speaks x) (λ v x. Speaks x) (λ v x. Speaks x) (keeps-speaks w b read now rings) r (held, s)
+taken-speaks w b read now r rings held s going = record {
+  says = kept-along w b read now (λ x. HeldRecovery w x × SpeaksWith x) (λ v x. SpeaksWith x) (λ v x. SpeaksWith x) (keeps-speaks w b read now rings) r (held, s.says) going;
+  way = taken-way w b read now r held.fits s.way going;
+}
 
-pub begun-speaks : (u : Purpose) (id wait : ℕ) (f : ServerNo) (ns order : List ServerNo) → Speaks (begun_recovery u id wait f ns order)
-begun-speaks purpose.Regroup id wait f ns order = silent (begun_recovery purpose.Regroup id wait f ns order) refl refl
-begun-speaks purpose.Master id wait f ns order = silent (begun_recovery purpose.Master id wait f ns order) refl refl
-begun-speaks (purpose.Intermediate s) id wait f ns order = silent (begun_recovery (purpose.Intermediate s) id wait f ns order) refl refl
-begun-speaks (purpose.Takeover d) id wait f ns order = silent (begun_recovery (purpose.Takeover d) id wait f ns order) refl refl
+begun-says : (u : Purpose) (by : Means) (id wait : ℕ) (f : ServerNo) (ns order : List ServerNo) → SpeaksWith (begun_recovery u by id wait f ns order)
+begun-says purpose.Regroup by id wait f ns order = silent (begun_recovery purpose.Regroup by id wait f ns order) refl refl refl
+begun-says purpose.Master by id wait f ns order = silent (begun_recovery purpose.Master by id wait f ns order) refl refl refl
+begun-says (purpose.Intermediate s) by id wait f ns order = silent (begun_recovery (purpose.Intermediate s) by id wait f ns order) refl refl refl
+begun-says (purpose.Takeover d) by id wait f ns order = silent (begun_recovery (purpose.Takeover d) by id wait f ns order) refl refl refl
+
+pub begun-speaks : (u : Purpose) (by : Means) (id wait : ℕ) (f : ServerNo) (ns order : List ServerNo) → Speaks (begun_recovery u by id wait f ns order)
+begun-speaks u by id wait f ns order = record { says = begun-says u by id wait f ns order; way = begun-way u by id wait f ns order }

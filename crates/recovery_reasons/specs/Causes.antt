@@ -14,6 +14,9 @@ use Rattle.server_model.specs.Gtids.{status, attach_auto_answer}
 use Rattle.server_model.specs.Worlds.{World, server_at}
 use Rattle.commands.specs.declared.cause.Cause.{Cause}
 use Rattle.commands.specs.declared.cause.Cause.TheVariants as cause
+use Rattle.operations.specs.declared.matching.MatchFault.{MatchFault}
+use Rattle.operations.specs.Matching.{match_logs}
+use Rattle.operations.specs.Turns.{cause_of_match}
 
 abbrev pub IsUnreached : World → ℕ → Type 0
 IsUnreached w n = desk_answer (server_at w n) ≡ Err (record {})
@@ -30,7 +33,7 @@ IsPurgedFor w n first =
     ((expect : Spot) × (to : ServerNo) × (at : Coord) × (attach_answer w n.0 expect to.0 at (server_at w n.0) ≡ Err (attaching.Purged first)))
     ⊎ ((observed : List Interval) × (to : ServerNo) × (attach_auto_answer w n.0 observed to.0 (server_at w n.0) ≡ Err (attaching.Purged first)))
 
--- What the cause of an operation that spoke with server n says. No operation matches logs or runs hooks.
+-- What the cause of an operation that spoke with server n alone says. None of them matches logs or runs hooks.
 abbrev pub IsTrueOf : World → ServerNo → Cause → Type 0
 IsTrueOf w n (cause.Unreachable m) = (m ≡ n) × IsUnreached w n.0
 IsTrueOf w n (cause.WaitSpent m) = (m ≡ n) × ((s : Status) × (seen_in (status w n.0) ≡ Some s))
@@ -46,3 +49,7 @@ IsTrueOf w n cause.NoCandidate = ⊥
 IsTrueOf w n (cause.NoMark m) = ⊥
 IsTrueOf w n (cause.Mismatch m entry) = ⊥
 IsTrueOf w n (cause.HookFailed number exit) = ⊥
+
+-- What the cause of a match says: the logs of the two don't match, for what it tells.
+abbrev pub IsMatchCause : World → ServerNo → ServerNo → ℕ → Cause → Type 0
+IsMatchCause w n m every c = (fault : MatchFault) × (c ≡ cause_of_match n fault) × (match_logs w n m every ≡ Err fault)

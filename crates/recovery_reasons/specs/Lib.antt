@@ -1,2 +1,4 @@
 pub mod Causes
+pub mod OnWay
 pub mod Reasons
+pub mod Nobody

@@ -1,22 +1,30 @@
 //! Why replicas are lost, and who is chosen.
 
-ghost use Rattle.std.specs.Prelude.{◌≡◌, ℕ, Bool, true, List};
+ghost use Rattle.std.specs.Prelude.{◌≡◌, ℕ, Bool, true, List, []};
 ghost use Rattle.orch_base.specs.declared.server.Moment.{Moment as AMoment};
 ghost use Rattle.orch_base.specs.declared.server.ServerNo.{ServerNo as Number};
+ghost use Rattle.commands.specs.declared.line.Line.{Line as ALine};
 ghost use Rattle.instance_keeper.specs.Book.{BookState};
+ghost use Rattle.operations.specs.declared.step.JobStep.TheVariants as step;
 ghost use Rattle.operations.specs.Turns.{is_going};
 ghost use Rattle.server_model.specs.Worlds.{World};
+ghost use Rattle.recovery_plans.specs.declared.means.Means.{Means as AMeans};
 ghost use Rattle.recovery_plans.specs.declared.purpose.Purpose.{Purpose as APurpose};
 ghost use Rattle.recovery_plans.specs.Beginning.{begun_recovery};
+ghost use Rattle.recovery_plans.specs.Deciding.{decided};
 ghost use Rattle.recovery_plans.specs.Recoveries.{Recovery};
 ghost use Rattle.recovery_plans.specs.Taking.{taken};
 ghost use Rattle.recovery_laws.specs.HeldRecoveries.{HeldRecovery};
 ghost use Rattle.recovery_laws.specs.Rings.{HeldRings};
+ghost use Rattle.recovery_reasons.specs.Nobody.{HasNobody};
+ghost use Rattle.recovery_reasons.specs.OnWay.{AllFit};
 ghost use Rattle.recovery_reasons.specs.Reasons.{ExplainsTruly, Fact, IsExplained, Speaks};
 
 /// What a recovery came to so far has true facts: each entry of its lost, each of its drained, whom it chose and among
 /// whom, and whom it promoted were so before the turn, or are true of its world and its book. Whatever holds of what was
 /// so and of each fact that is true of this turn holds of all afterwards, whether the recovery goes on, is done or fails.
+/// A recovery whose decisions leave no operation found nobody; and one that is done has lost nobody since none of the
+/// drained may be promoted.
 pub fn recoveries_tell_the_truth()
     ensures told { (w : World) (b : BookState) (read : ℕ) (now : AMoment) (r : Recovery)
         (P : Fact → Bool) →
@@ -26,9 +34,15 @@ pub fn recoveries_tell_the_truth()
         HeldRings w b.rings → HeldRecovery w r → Speaks r →
         is_going (taken w b read now r).step ≡ true →
         Speaks (taken w b read now r).recovery }
-    ensures begun { (u : APurpose) (id wait : ℕ) (f : Number) (replicas order : List Number) →
-        Speaks (begun_recovery u id wait f replicas order) }
-    ensures untold { (P : Fact → Bool) (u : APurpose) (id wait : ℕ) (f : Number)
+    ensures begun { (u : APurpose) (by : AMeans) (id wait : ℕ) (f : Number)
         (replicas order : List Number) →
-        IsExplained P (begun_recovery u id wait f replicas order) }
+        Speaks (begun_recovery u by id wait f replicas order) }
+    ensures untold { (P : Fact → Bool) (u : APurpose) (by : AMeans) (id wait : ℕ) (f : Number)
+        (replicas order : List Number) →
+        IsExplained P (begun_recovery u by id wait f replicas order) }
+    ensures nobody { (w : World) (b : BookState) (now : AMoment) (r : Recovery) → Speaks r →
+        (decided w b now r).core.ops ≡ [] → HasNobody w b now r (decided w b now r) }
+    ensures fit { (w : World) (b : BookState) (read : ℕ) (now : AMoment) (r : Recovery) →
+        Speaks r → (lines : List ALine) → (taken w b read now r).step ≡ step.Done lines →
+        AllFit (taken w b read now r).recovery.outcome.lost }
 {}

@@ -1,8 +1,12 @@
 -- What a turn begins is plans, and recoveries as they begin, which name no replica twice.
-use Rattle.std.proofs.Common.{◌≡◌, ℕ, ◌+◌, ◌<◌, true, List, [], ◌∷◌, length, map, refl, subst, Option, Some, None, Result, Ok, Err}
-use Rattle.std.specs.Prelude.{All}
+use Rattle.std.proofs.Common.{◌≡◌, ℕ, ◌+◌, ◌<◌, true, List, [], ◌∷◌, length, map, ◌∙◌, ◌⊎◌, inl, inr, ap, refl, sym, subst, Option, Some, None, Result, Ok, Err, arith}
+use Rattle.std.specs.Prelude.{All, slice_get, get_or, ◌≤◌}
+use Rattle.std.specs.Option.{option_map}
 use Rattle.std.proofs.lemmas.Bool.{ltb-true}
-use Rattle.std.proofs.lemmas.List.Elements.{All-cons, All-head, All-nil, All-tail}
+use Rattle.std.proofs.lemmas.List.Elements.{All-cons, All-contains, All-head, All-nil, All-tail}
+use Rattle.std.proofs.lemmas.Option.{slice_get_cases}
+use Rattle.orch_base.specs.Names.{HostPort}
+use Rattle.orch_base.specs.declared.code.Code.{Code}
 use Rattle.orch_base.specs.declared.server.ServerNo.{ServerNo}
 use Rattle.server_words.specs.declared.status.Status.{Status as Seen}
 use Rattle.kept_rows.specs.declared.observation.Observation.{Observation}
@@ -25,6 +29,8 @@ use Rattle.asking_commands.specs.Answers.{allowed, lines_of, permitted}
 use Rattle.book_views.specs.Sources.{label_at, replicas_of}
 use Rattle.permission.specs.Views.{source_of}
 use Rattle.recovery_permits.specs.Recoveries.{purpose_by}
+use Rattle.recovery_plans.specs.declared.means.Means.{Means}
+use Rattle.recovery_plans.specs.declared.means.Means.TheVariants as means
 use Rattle.recovery_plans.specs.Beginning.{begun_recovery}
 use Rattle.run_laws.proofs.Aims.{scan-each}
 use Rattle.audit_log.specs.Audits.{AuditState}
@@ -32,12 +38,16 @@ use Rattle.audit_log.specs.Audits.{begun as begun_audit}
 use Rattle.book_commands.specs.declared.decided.Decided.{Decided}
 use Rattle.book_commands.specs.Decisions.{decided_of}
 use Rattle.recovery_permits.specs.declared.attempt.Attempt.{Attempt}
-use Rattle.recovery_permits.specs.Recoveries.{recovery_refusal}
+use Rattle.recovery_permits.specs.Recoveries.{recovery_purpose, recovery_refusal, refusal_by as recovery_refusal_by}
 use Rattle.recovery_permits.specs.Takeovers.{takeover_refusal}
 use Rattle.recovery_core.specs.Begun.{BeginInTurn, IsFresh}
 use Rattle.recovery_core.specs.Tries.{Begins as RecoveryBegins, recovery_begins, recovery_try, takeover_begins, takeover_try}
 use Rattle.recovery_core.proofs.Beginning.{unrefused}
+use Rattle.recovery_core.proofs.Entries.{actionable-entries}
 use Rattle.recovery_core.proofs.InTurn.{scan-in-turn}
+use Rattle.recovery_core.specs.Scans.{IsEntryIn, actionable_in}
+use Rattle.recovery_hooks.specs.Runs.{begun_hooks}
+use Rattle.recovery_permits.specs.Checks.{code_at}
 use Rattle.run_laws.specs.Begins.{NamesReplicasOnce}
 use Rattle.run_laws.proofs.Naming.{recovery-names, regroup-are, scan-names, takeover-names}
 use Rattle.scenarios.specs.Turns.{IsAct, IsCommand, IsTurn}
@@ -47,15 +57,17 @@ use Rattle.turns.specs.declared.turn.Act.TheVariants as act
 use Rattle.turns.specs.declared.turn.Turn.{Turn}
 use Rattle.turns.specs.declared.turn.Turn.TheVariants as turn
 use Rattle.unended_jobs.specs.declared.unended.Unended.{Unended}
+use Rattle.orch_core.specs.HookTelling.{hooks_by, told_of, told_try, with_told}
 use Rattle.orch_core.specs.Knowing.{recovery_job}
+use Rattle.orch_core.specs.declared.configuration.Configuration.{Configuration}
 use Rattle.orch_core.specs.Commands.{Outcome, about as given_or, asked, begun, by_hand, decided, discovered, forgotten, outcome_by, outcome_of, question, recovered, recovery_begun, refusal, removal_refusal, taken_over}
 use Rattle.orch_core.specs.Polls.{command_outcome, numbers_of, reading, scan_outcome}
 use Rattle.orch_core.specs.States.{State}
-use Rattle.run_laws.specs.Entries.{attempt_in, recoveries_scanned}
+use Rattle.run_laws.specs.Entries.{attempt_in, scan_in}
 use Rattle.run_laws.specs.Ready.{AreShort, Ready}
 use Rattle.run_laws.proofs.Periods.{short-by}
 use Rattle.run_laws.proofs.ReadyOutcomes.{within-book}
-use Rattle.recovery_runs.specs.Begun.{BeginsOnce, TellsAll, jobs_begun, jobs_of, jobs_in_act}
+use Rattle.recovery_runs.specs.Begun.{AreHooksOf, BeginsOnce, HasHooks, TellsAll, jobs_begun, jobs_of, jobs_in_act}
 use Rattle.recovery_runs.proofs.Tellings.{listed, tells-own}
 
 -- what an outcome begins in a state
@@ -63,8 +75,11 @@ module _ (state : State) where
   abbrev b : BookState
   b = state.book
 
+  abbrev c : Configuration
+  c = state.configuration
+
   abbrev Once : Unended → Type 0
-  Once u = BeginsOnce b u
+  Once u = BeginsOnce state u
 
   abbrev New : Outcome → Type 0
   New o = All Once (jobs_of state o)
@@ -94,68 +109,111 @@ module _ (state : State) where
   new-begun (Some why) list job once = none-new
   new-begun None list job once = All-cons Once job [] once none-new
 
-  job-once : (w : World) (c : Command) (p : Planner) (id wait : ℕ) → Once (job_by w b c p id wait)
-  job-once w c (Coordinates kind) id wait = tt
-  job-once w c (Gtids kind) id wait = tt
-  job-once w c (Paths kind) id wait = tt
-  job-once w c (Matches kind) id wait = tt
-  job-once w c (Regroups ByMatches) id wait = tt
-  job-once w c (Regroups ByBridges) id wait = go c.i
-    where
-      go : (i : Option ServerNo) → Once (regroup_about b id wait i)
-      go None = tt
-      go (Some i) = record { fresh = refl; replicas = refl; once = regroup-are b i; tells = tells-own None (replicas_of b i) }
+  regroup-once : (by : Means) (id wait : ℕ) (i : Option ServerNo) → Once (regroup_about b by id wait i)
+  regroup-once by id wait None = tt
+  regroup-once by id wait (Some i) = record { fresh = refl; replicas = refl; once = regroup-are b i; tells = tells-own None (replicas_of b i); hooks = refl }
+
+  job-once : (w : World) (c : Command) (p : Planner) (id wait every : ℕ) → Once (job_by w b c p id wait every)
+  job-once w c (Coordinates kind) id wait every = tt
+  job-once w c (Gtids kind) id wait every = tt
+  job-once w c (Paths kind) id wait every = tt
+  job-once w c (Matches kind) id wait every = tt
+  job-once w c (Regroups ByMatches) id wait every = regroup-once (means.Matches every) id wait c.i
+  job-once w c (Regroups ByBridges) id wait every = regroup-once means.Bridges id wait c.i
 
   -- ---- recoveries
 
-  new-recovery : (r : Result RecoveryBegins Refusal) → ((x : RecoveryBegins) → r ≡ Ok x → Once (recovery_job x)) → New (recovery_begun (numbers_of state) r)
-  new-recovery (Ok x) once = All-cons Once (recovery_job x) [] (once x refl) none-new
+  abbrev Hooked : RecoveryBegins → Type 0
+  Hooked x = HasHooks state x.job.purpose x.job.failed (hooks_by c b x x.code)
+
+  new-recovery : (r : Result RecoveryBegins Refusal) → ((x : RecoveryBegins) → r ≡ Ok x → Once (recovery_job (with_told c b x))) → New (recovery_begun (numbers_of state) (told_try c b r))
+  new-recovery (Ok x) once = All-cons Once (recovery_job (with_told c b x)) [] (once x refl) none-new
   new-recovery (Err why) once = none-new
 
-  begins-once : (x : RecoveryBegins) → IsFresh x.job → NamesReplicasOnce b x → TellsAll x.job → Once (recovery_job x)
-  begins-once x fresh names tells = record { fresh = fresh; replicas = names.replicas; once = names.once; tells = tells }
+  begins-once : (x : RecoveryBegins) → IsFresh x.job → NamesReplicasOnce b x → TellsAll x.job → Hooked x → Once (recovery_job (with_told c b x))
+  begins-once x fresh names tells hooks = record { fresh = fresh; replicas = names.replicas; once = names.once; tells = tells; hooks = hooks }
+
+  -- of a server that is there and has an analysis
+  module _ (audit : AuditState) (a : Attempt) (wait job : ℕ) (f : ServerNo) where
+    abbrev new : RecoveryBegins
+    new = recovery_begins b audit a.now a.block wait job f
+
+    are-hooks : (code : Code) → f.0 < length b.names → code_at b f ≡ Some code → AreHooksOf state f (hooks_by c b new new.code)
+    are-hooks code here at = go (slice_get_cases b.names f.0).1
+      where
+        go : ((n : HostPort) × (f.0 < length b.names) × (slice_get b.names f.0 ≡ Some n) × (get_or b.names f.0 n ≡ n)) ⊎ ((length b.names ≤ f.0) × (slice_get b.names f.0 ≡ None)) → AreHooksOf state f (hooks_by c b new new.code)
+        go (inl (n, within, got, same)) = record {
+          code = code;
+          name = n;
+          is_code = at;
+          is_name = got;
+          hooks = ap (hooks_by c b new) at ∙ ap (option_map (λ m. begun_hooks c.hooks (told_of c m (label_at b f) code))) got;
+        }
+        go (inr (past, none)) = absurd (omega (arith, past, here))
+
+    -- by whether it has a source
+    hooks-by : (o : Option ServerNo) (code : Code) → f.0 < length b.names → code_at b f ≡ Some code → HasHooks state (purpose_by o) f (hooks_by c b new new.code)
+    hooks-by None code here at = are-hooks code here at
+    hooks-by (Some s) code here at = are-hooks code here at
 
   -- by whether the failed server has a source
-  tells-by : (o : Option ServerNo) (job wait : ℕ) (f : ServerNo) → TellsAll (begun_recovery (purpose_by o) job wait f (replicas_of b f) (replicas_of b f))
+  tells-by : (o : Option ServerNo) (job wait : ℕ) (f : ServerNo) → TellsAll (begun_recovery (purpose_by o) means.Bridges job wait f (replicas_of b f) (replicas_of b f))
   tells-by None job wait f = tells-own None (replicas_of b f)
   tells-by (Some s) job wait f = tells-own (Some s) (replicas_of b f)
 
   module _ (w : World) (audit : AuditState) (a : Attempt) (wait job : ℕ) where
-    recovery-once : (f : ServerNo) (x : RecoveryBegins) → recovery_try w b audit a wait job f ≡ Ok x → Once (recovery_job x)
-    recovery-once f x h =
+    -- what isn't refused has an analysis
+    analysed : (f : ServerNo) → recovery_refusal w b audit a f ≡ None → (code : Code) × (code_at b f ≡ Some code)
+    analysed f free = go (code_at b f) refl free
+      where
+        go : (o : Option Code) → code_at b f ≡ o → recovery_refusal_by w b audit a f o ≡ None → (code : Code) × (code_at b f ≡ Some code)
+        go None at h = absurd cc
+        go (Some code) at h = (code, at)
+
+    recovery-once : (f : ServerNo) (x : RecoveryBegins) → f.0 < length b.names → recovery_try w b audit a wait job f ≡ Ok x → Once (recovery_job (with_told c b x))
+    recovery-once f x here h =
         begins-once x
         (subst (λ (y : RecoveryBegins). IsFresh y.job) (unrefused (recovery_refusal w b audit a f) (recovery_begins b audit a.now a.block wait job f) x h).1 refl)
         (recovery-names w b audit a wait job f x h)
         (subst (λ (y : RecoveryBegins). TellsAll y.job) (unrefused (recovery_refusal w b audit a f) (recovery_begins b audit a.now a.block wait job f) x h).1 (tells-by (source_of b f) job wait f))
+        (let free = unrefused (recovery_refusal w b audit a f) (recovery_begins b audit a.now a.block wait job f) x h in
+        let has = analysed f free.0 in
+        subst Hooked free.1 (hooks-by audit a wait job f (source_of b f) has.0 here has.1))
 
-    takeover-once : (i d : ServerNo) (x : RecoveryBegins) → i.0 < length b.names → d.0 < length b.names → takeover_try w b audit a wait job i d ≡ Ok x → Once (recovery_job x)
+    takeover-once : (i d : ServerNo) (x : RecoveryBegins) → i.0 < length b.names → d.0 < length b.names → takeover_try w b audit a wait job i d ≡ Ok x → Once (recovery_job (with_told c b x))
     takeover-once i d x here there h =
         begins-once x
         (subst (λ (y : RecoveryBegins). IsFresh y.job) (unrefused (takeover_refusal w b audit a i d) (takeover_begins b audit a.now a.block wait job i d) x h).1 refl)
         (takeover-names w b audit a wait job i d x there h)
         (subst (λ (y : RecoveryBegins). TellsAll y.job) (unrefused (takeover_refusal w b audit a i d) (takeover_begins b audit a.now a.block wait job i d) x h).1 (listed b i d here))
+        (subst Hooked (unrefused (takeover_refusal w b audit a i d) (takeover_begins b audit a.now a.block wait job i d) x h).1 refl)
 
   -- of several, each as it begins
   all-once : (count : ℕ) (leases : List (Option ℕ)) (a : AuditState) (last : ℕ) (xs : List RecoveryBegins) → BeginInTurn count leases a last xs → All (NamesReplicasOnce b) xs
-      → All (λ x. TellsAll x.job) xs → All Once (map recovery_job xs)
-  all-once count leases a last [] each names tells = none-new
-  all-once count leases a last (x ∷ xs) each names tells =
-      All-cons Once (recovery_job x) (map recovery_job xs) (begins-once x each.0.fresh (All-head (NamesReplicasOnce b) x xs names) (All-head (λ (y : RecoveryBegins). TellsAll y.job) x xs tells))
+      → All (λ x. TellsAll x.job) xs → All Hooked xs → All Once (map recovery_job (map (with_told c b) xs))
+  all-once count leases a last [] each names tells hooks = none-new
+  all-once count leases a last (x ∷ xs) each names tells hooks =
+      All-cons Once (recovery_job (with_told c b x)) (map recovery_job (map (with_told c b) xs))
+      (begins-once x each.0.fresh (All-head (NamesReplicasOnce b) x xs names) (All-head (λ (y : RecoveryBegins). TellsAll y.job) x xs tells) (All-head Hooked x xs hooks))
       (all-once count (taken leases x.list x.job.core.id) (begun_audit a x.entry) x.job.core.id xs each.1 (All-tail (NamesReplicasOnce b) x xs names)
-      (All-tail (λ (y : RecoveryBegins). TellsAll y.job) x xs tells))
+      (All-tail (λ (y : RecoveryBegins). TellsAll y.job) x xs tells) (All-tail Hooked x xs hooks))
 
 -- ---- in a state
 
 module _ (s : State) (is : IsBook s.book) where
   abbrev Begins_new : Outcome → Type 0
-  Begins_new o = All (BeginsOnce s.book) (jobs_of s o)
+  Begins_new o = All (BeginsOnce s) (jobs_of s o)
 
   scan-new : AreShort s.configuration → Begins_new (scan_outcome s)
   scan-new periods =
-      all-once s (length s.book.names) s.book.leases s.audit s.last_job (recoveries_scanned s)
+      all-once s (length s.book.names) s.book.leases s.audit s.last_job (scan_in s).begun
       (scan-in-turn s.world s.book (attempt_in s) s.configuration.wait s.audit s.last_job is (λ n. short-by s.configuration periods (label_at s.book n)))
       (scan-names s.world s.book (attempt_in s) s.configuration.wait s.audit s.last_job)
       (scan-each s.world s.book (attempt_in s) s.configuration.wait (λ x. TellsAll x.job) (λ z e asks. tells-by s (source_of s.book e.no) (z.last + 1) s.configuration.wait e.no) s.audit s.last_job)
+      (scan-each s.world s.book (attempt_in s) s.configuration.wait (Hooked s)
+      (λ z e asks.
+      let in_book = All-contains (IsEntryIn s.book) (actionable_in s.book) e (actionable-entries s.book) asks in
+      hooks-by s z.audit (attempt_in s e.no) s.configuration.wait (z.last + 1) e.no (source_of s.book e.no) e.code in_book.within in_book.code) s.audit s.last_job)
 
   -- ---- any command
 
@@ -172,10 +230,10 @@ module _ (s : State) (is : IsBook s.book) where
     given-within none some here each None within = here
     given-within none some here each (Some i) within = each i (ltb-true i.0 (length s.book.names) within)
 
-    new-recovered : (i : ServerNo) → Begins_new (recovered s.world s.book s.audit s.configuration (numbers_of s) i)
-    new-recovered i =
+    new-recovered : (i : ServerNo) → i.0 < length s.book.names → Begins_new (recovered s.world s.book s.audit s.configuration (numbers_of s) i)
+    new-recovered i here =
         new-recovery s (recovery_try s.world s.book s.audit (by_hand s.book s.configuration (numbers_of s) i) s.configuration.wait (s.last_job + 1) i)
-        (recovery-once s s.world s.audit (by_hand s.book s.configuration (numbers_of s) i) s.configuration.wait (s.last_job + 1) i)
+        (λ x h. recovery-once s s.world s.audit (by_hand s.book s.configuration (numbers_of s) i) s.configuration.wait (s.last_job + 1) i x here h)
 
     new-taken_over : (d : Option ServerNo) → is_within (length s.book.names) d ≡ true → (i : ServerNo) → i.0 < length s.book.names
         → Begins_new (taken_over s.world s.book s.audit s.configuration (numbers_of s) d i)
@@ -195,23 +253,24 @@ module _ (s : State) (is : IsBook s.book) where
     new-route (Decides d) =
         new-decided s s.reads s.audit (permitted s.book t.command) (decided_of s.book s.audit (record { 0 = s.moment }) t.keys t.command.i d)
     new-route (Begins p) =
-        new-begun s (refusal_by s.world s.book (record { 0 = s.moment }) t.command p) (leases_by s.world s.book t.command p)
-        (job_by s.world s.book t.command p (s.last_job + 1) s.configuration.wait) (job-once s s.world t.command p (s.last_job + 1) s.configuration.wait)
-    new-route Recovers = given (refusal s.reads UnknownInstance) (recovered s.world s.book s.audit s.configuration (numbers_of s)) (none-new s) new-recovered t.command.i
+        new-begun s (refusal_by s.world s.book (record { 0 = s.moment }) s.configuration.every t.command p) (leases_by s.world s.book t.command p)
+        (job_by s.world s.book t.command p (s.last_job + 1) s.configuration.wait s.configuration.every) (job-once s s.world t.command p (s.last_job + 1) s.configuration.wait s.configuration.every)
+    new-route Recovers =
+        given-within (refusal s.reads UnknownInstance) (recovered s.world s.book s.audit s.configuration (numbers_of s)) (none-new s) new-recovered t.command.i i_within
     new-route TakesOver =
         given-within (refusal s.reads UnknownInstance) (taken_over s.world s.book s.audit s.configuration (numbers_of s) t.command.d) (none-new s) (new-taken_over t.command.d d_within)
         t.command.i i_within
 
 -- ---- any turn
 
-pub command-once : (count : ℕ) (s : State) → Ready count s → (c : CommandTurn) → IsCommand count c → All (BeginsOnce s.book) (jobs_of s (command_outcome s c))
+pub command-once : (count : ℕ) (s : State) → Ready count s → (c : CommandTurn) → IsCommand count c → All (BeginsOnce s) (jobs_of s (command_outcome s c))
 unfolding outcome_of
 command-once count s ready c command = let within = within-book count s ready c command in new-route s ready.book c within.0 within.1 (route_of c.command.name)
 
-pub scan-once : (count : ℕ) (s : State) → Ready count s → All (BeginsOnce s.book) (jobs_of s (scan_outcome s))
+pub scan-once : (count : ℕ) (s : State) → Ready count s → All (BeginsOnce s) (jobs_of s (scan_outcome s))
 scan-once count s ready = scan-new s ready.book ready.periods
 
-act-once : (count : ℕ) (s : State) (a : Act) → Ready count s → IsAct count a → All (BeginsOnce s.book) (jobs_in_act s a)
+act-once : (count : ℕ) (s : State) (a : Act) → Ready count s → IsAct count a → All (BeginsOnce s) (jobs_in_act s a)
 act-once count s (act.PollRead p n) ready is = none-new s
 act-once count s (act.PollStore p) ready is = none-new s
 act-once count s (act.Command c) ready is = command-once count s ready c is
@@ -219,7 +278,7 @@ act-once count s (act.Job job) ready is = none-new s
 act-once count s act.Scan ready is = scan-once count s ready
 act-once count s act.Restart ready is = none-new s
 
-pub begun-once : (count : ℕ) (s : State) (t : Turn) → Ready count s → IsTurn count t → All (BeginsOnce s.book) (jobs_begun s t)
+pub begun-once : (count : ℕ) (s : State) (t : Turn) → Ready count s → IsTurn count t → All (BeginsOnce s) (jobs_begun s t)
 begun-once count s (turn.Step x) ready is = none-new s
 begun-once count s (turn.Tick seconds) ready is = none-new s
 begun-once count s (turn.Act a) ready is = act-once count s a ready is

@@ -8,7 +8,10 @@ use Rattle.kept_rows.specs.declared.row.Row.{Row}
 use Rattle.job_laws.proofs.Lists.{All-find}
 use Rattle.jobs_in_flight.specs.Jobs.{job_at, jobs_turned}
 use Rattle.operations.specs.Turns.{is_going}
+use Rattle.hook_laws.proofs.Staying.{of-docket}
+use Rattle.recovery_histories.specs.Kept.{SameAim}
 use Rattle.recovery_histories.proofs.Staying.{same-aim, taken-aim}
+use Rattle.recovery_plans.specs.Taking.{taken}
 use Rattle.turns.specs.declared.turn.Act.{Act}
 use Rattle.turns.specs.declared.turn.Act.TheVariants as act
 use Rattle.turns.specs.declared.turn.Turn.{Turn}
@@ -16,7 +19,9 @@ use Rattle.turns.specs.declared.turn.Turn.TheVariants as turn
 use Rattle.unended_jobs.specs.declared.unended.Unended.{Unended}
 use Rattle.unended_jobs.specs.declared.unended.Unended.TheVariants as unended
 use Rattle.unended_jobs.specs.Unended.{IsReady, number_of}
+use Rattle.unended_jobs.specs.Hooked.{promoted_in}
 use Rattle.unended_jobs.proofs.Going.{flown-number}
+use Rattle.unended_jobs.proofs.Hooked.{hooked-has}
 use Rattle.covered_laws.proofs.Turning.{all-turned}
 use Rattle.orch_core.specs.Jobs.{turn_of}
 use Rattle.orch_core.specs.Polls.{command_outcome, scan_outcome}
@@ -31,7 +36,7 @@ use Rattle.recovery_runs.proofs.Joining.{command-joins, joined, scan-joins}
 
 of-itself : (us : List Unended) (u : Unended) → Contains us u → ComesOf us u
 of-itself us (unended.Plan j) among = tt
-of-itself us (unended.Recovery r entry) among = record { was = r; among = among; number = refl; aim = same-aim r }
+of-itself us (unended.Recovery r docket) among = record { was = r; had = docket; among = among; number = refl; aim = same-aim r; same = record { entry = refl; hooks = refl } }
 
 module _ (us vs : List Unended) where
   all-stay : All (ComesOf (us ++ vs)) us
@@ -48,11 +53,17 @@ come-joined us vs ws is = joined (ComesOf (us ++ vs)) us vs ws is (all-stay us v
 module _ (count : ℕ) (s : State) (id : ℕ) (ready : Ready count s) where
   next-comes : (u : Unended) → Contains s.jobs u → IsReady count u → is_going (turn_of s u).step ≡ true → ComesOf (s.jobs ++ []) (turn_of s u).next
   next-comes (unended.Plan j) among is going = tt
-  next-comes (unended.Recovery r entry) among is going = record {
+  next-comes (unended.Recovery r docket) among is going = record {
     was = r;
-    among = Contains-append_left s.jobs [] (unended.Recovery r entry) among;
-    number = flown-number count s.world s.book (next_count s.reads) (moment_at s) (unended.Recovery r entry) is going;
-    aim = taken-aim s.world s.book (next_count s.reads) (moment_at s) r;
+    had = docket;
+    among = Contains-append_left s.jobs [] (unended.Recovery r docket) among;
+    number = flown-number count s.world s.book (next_count s.reads) (moment_at s) (unended.Recovery r docket) is going;
+    aim =
+        let t = taken s.world s.book (next_count s.reads) (moment_at s) r in
+        hooked-has (λ x. SameAim r x.recovery) docket (promoted_in s.book t) r t (λ told g. taken-aim s.world s.book (next_count s.reads) (moment_at s) r) (λ told. same-aim r);
+    same =
+        let t = taken s.world s.book (next_count s.reads) (moment_at s) r in
+        of-docket docket (promoted_in s.book t) r t;
   }
 
   turn-come : (o : Option Unended) → job_at s.jobs id ≡ o → All (ComesOf (s.jobs ++ [])) (jobs_turned s.jobs id (option_map (turn_of s) o))

@@ -3,7 +3,6 @@ use Rattle.std.proofs.Common.{ℕ, List, refl, sym, subst}
 use Rattle.std.specs.Prelude.{All}
 use Rattle.std.proofs.lemmas.List.Elements.{All-weaker}
 use Rattle.orch_base.specs.Memory.{next_count}
-use Rattle.instance_keeper.specs.Book.{BookState}
 use Rattle.kept_rows.specs.declared.row.Row.{Row}
 use Rattle.commands.specs.declared.turn.CommandTurn.{CommandTurn}
 use Rattle.server_model.specs.Worlds.{World}
@@ -45,29 +44,29 @@ use Rattle.recovery_runs.proofs.Joining.{command-joins, joined, scan-joins}
 
 -- ---- what begins
 
-once-covered : (w : World) (b : BookState) (u : Unended) → BeginsOnce b u → IsCoveredBeside w u
-once-covered w b (unended.Plan j) once = tt
-once-covered w b (unended.Recovery r entry) once =
-    subst (λ (x : Recovery). IsCoveredBeside w (unended.Recovery x entry)) (sym once.fresh)
-    (recovery-covered w r.purpose r.core.id r.core.wait r.failed r.replicas r.order entry once.once)
+once-covered : (w : World) (s : State) (u : Unended) → BeginsOnce s u → IsCoveredBeside w u
+once-covered w s (unended.Plan j) once = tt
+once-covered w s (unended.Recovery r docket) once =
+    subst (λ (x : Recovery). IsCoveredBeside w (unended.Recovery x docket)) (sym once.fresh)
+    (recovery-covered w r.purpose r.means r.core.id r.core.wait r.failed r.replicas r.order docket once.once)
 
-once-kept : (w : World) (b : BookState) (u : Unended) → BeginsOnce b u → IsKeptBeside w u
-once-kept w b (unended.Plan j) once = tt
-once-kept w b (unended.Recovery r entry) once =
-    subst (λ (x : Recovery). IsKeptBeside w (unended.Recovery x entry)) (sym once.fresh) (recovery-kept w r.purpose r.core.id r.core.wait r.failed r.replicas r.order entry)
+once-kept : (w : World) (s : State) (u : Unended) → BeginsOnce s u → IsKeptBeside w u
+once-kept w s (unended.Plan j) once = tt
+once-kept w s (unended.Recovery r docket) once =
+    subst (λ (x : Recovery). IsKeptBeside w (unended.Recovery x docket)) (sym once.fresh) (recovery-kept w r.purpose r.means r.core.id r.core.wait r.failed r.replicas r.order docket)
 
-once-speaks : (b : BookState) (u : Unended) → BeginsOnce b u → IsSpeakingBeside u
-once-speaks b (unended.Plan j) once = tt
-once-speaks b (unended.Recovery r entry) once =
-    subst (λ (x : Recovery). IsSpeakingBeside (unended.Recovery x entry)) (sym once.fresh) (recovery-speaks r.purpose r.core.id r.core.wait r.failed r.replicas r.order entry)
+once-speaks : (s : State) (u : Unended) → BeginsOnce s u → IsSpeakingBeside u
+once-speaks s (unended.Plan j) once = tt
+once-speaks s (unended.Recovery r docket) once =
+    subst (λ (x : Recovery). IsSpeakingBeside (unended.Recovery x docket)) (sym once.fresh) (recovery-speaks r.purpose r.means r.core.id r.core.wait r.failed r.replicas r.order docket)
 
 -- with what a command or a scan begins
-module _ (P : Unended → Type 0) (count : ℕ) (s : State) (fits : (u : Unended) → BeginsOnce s.book u → P u) (ready : Ready count s) (all : All P s.jobs) where
-  with-command : (c : CommandTurn) → IsCommand count c → All P (updated (known_of s) (command_outcome s c).book).jobs
-  with-command c is = joined P s.jobs (jobs_of s (command_outcome s c)) (updated (known_of s) (command_outcome s c).book).jobs (command-joins s c) all (All-weaker (BeginsOnce s.book) P fits (jobs_of s (command_outcome s c)) (command-once count s ready c is))
+module _ (P : Unended → Type 0) (count : ℕ) (s : State) (fits : (u : Unended) → BeginsOnce s u → P u) (ready : Ready count s) (all : All P s.jobs) where
+  pub with-command : (c : CommandTurn) → IsCommand count c → All P (updated (known_of s) (command_outcome s c).book).jobs
+  with-command c is = joined P s.jobs (jobs_of s (command_outcome s c)) (updated (known_of s) (command_outcome s c).book).jobs (command-joins s c) all (All-weaker (BeginsOnce s) P fits (jobs_of s (command_outcome s c)) (command-once count s ready c is))
 
-  with-scan : All P (updated (known_of s) (scan_outcome s).book).jobs
-  with-scan = joined P s.jobs (jobs_of s (scan_outcome s)) (updated (known_of s) (scan_outcome s).book).jobs (scan-joins s) all (All-weaker (BeginsOnce s.book) P fits (jobs_of s (scan_outcome s)) (scan-once count s ready))
+  pub with-scan : All P (updated (known_of s) (scan_outcome s).book).jobs
+  with-scan = joined P s.jobs (jobs_of s (scan_outcome s)) (updated (known_of s) (scan_outcome s).book).jobs (scan-joins s) all (All-weaker (BeginsOnce s) P fits (jobs_of s (scan_outcome s)) (scan-once count s ready))
 
 -- what befalls a server is outside, and may pass
 step-outside : (x : Step) → IsOutside (pass.Exchanging (exchange_of x))
@@ -86,11 +85,11 @@ step-outside (step.Purge n file) = refl
 covered-act : (count : ℕ) (rows : List Row) (s : State) (a : Act) → Ready count s → HeldState s → IsAct count a → CoveredState s → CoveredState (after_act rows s a)
 covered-act count rows s (act.PollRead p n) ready held is covered = record { jobs = covered.jobs }
 covered-act count rows s (act.PollStore p) ready held is covered = record { jobs = covered.jobs }
-covered-act count rows s (act.Command c) ready held is covered = record { jobs = with-command (IsCoveredBeside s.world) count s (once-covered s.world s.book) ready covered.jobs c is }
+covered-act count rows s (act.Command c) ready held is covered = record { jobs = with-command (IsCoveredBeside s.world) count s (once-covered s.world s) ready covered.jobs c is }
 covered-act count rows s (act.Job id) ready held is covered =
     subst (λ (f : Flight). CoveredJobs f (after_act rows s (act.Job id)).jobs) (sym (flown count rows s (turn.Act (act.Job id)) ready is))
     (number-covered (flight_of s) s.jobs s.book id (next_count s.reads) (moment_at s) refl held (takes s.book) (job_at s.jobs id) refl covered)
-covered-act count rows s act.Scan ready held is covered = record { jobs = with-scan (IsCoveredBeside s.world) count s (once-covered s.world s.book) ready covered.jobs }
+covered-act count rows s act.Scan ready held is covered = record { jobs = with-scan (IsCoveredBeside s.world) count s (once-covered s.world s) ready covered.jobs }
 covered-act count rows s act.Restart ready held is covered = none-covered (flight_of (after_act rows s act.Restart))
 
 pub covered-step : (count : ℕ) (rows : List Row) (s : State) (t : Turn) → Ready count s → HeldState s → IsTurn count t → CoveredState s → CoveredState (turn_step rows s t)
@@ -106,11 +105,11 @@ covered-step count rows s (turn.Release node) ready held is covered = absurd is
 kept-act : (count : ℕ) (rows : List Row) (s : State) (a : Act) → Ready count s → HeldState s → SoundState s → IsAct count a → CoveredState s → KeptState s → KeptState (after_act rows s a)
 kept-act count rows s (act.PollRead p n) ready held sound is covered kept = record { jobs = kept.jobs }
 kept-act count rows s (act.PollStore p) ready held sound is covered kept = record { jobs = kept.jobs }
-kept-act count rows s (act.Command c) ready held sound is covered kept = record { jobs = with-command (IsKeptBeside s.world) count s (once-kept s.world s.book) ready kept.jobs c is }
+kept-act count rows s (act.Command c) ready held sound is covered kept = record { jobs = with-command (IsKeptBeside s.world) count s (once-kept s.world s) ready kept.jobs c is }
 kept-act count rows s (act.Job id) ready held sound is covered kept =
     subst (λ (f : Flight). KeptJobs f (after_act rows s (act.Job id)).jobs) (sym (flown count rows s (turn.Act (act.Job id)) ready is))
     (number-kept (flight_of s) s.jobs s.book id (next_count s.reads) (moment_at s) refl held (takes s.book) (job_at s.jobs id) refl sound covered kept)
-kept-act count rows s act.Scan ready held sound is covered kept = record { jobs = with-scan (IsKeptBeside s.world) count s (once-kept s.world s.book) ready kept.jobs }
+kept-act count rows s act.Scan ready held sound is covered kept = record { jobs = with-scan (IsKeptBeside s.world) count s (once-kept s.world s) ready kept.jobs }
 kept-act count rows s act.Restart ready held sound is covered kept = none-kept (flight_of (after_act rows s act.Restart))
 
 pub kept-step : (count : ℕ) (rows : List Row) (s : State) (t : Turn) → Ready count s → HeldState s → SoundState s → IsTurn count t → CoveredState s → KeptState s → KeptState (turn_step rows s t)
@@ -126,10 +125,10 @@ kept-step count rows s (turn.Release node) ready held sound is covered kept = ab
 speaking-act : (count : ℕ) (rows : List Row) (s : State) (a : Act) → Ready count s → HeldState s → IsAct count a → SpeakingState s → SpeakingState (after_act rows s a)
 speaking-act count rows s (act.PollRead p n) ready held is speaking = speaking
 speaking-act count rows s (act.PollStore p) ready held is speaking = speaking
-speaking-act count rows s (act.Command c) ready held is speaking = record { jobs = with-command IsSpeakingBeside count s (once-speaks s.book) ready speaking.jobs c is }
+speaking-act count rows s (act.Command c) ready held is speaking = record { jobs = with-command IsSpeakingBeside count s (once-speaks s) ready speaking.jobs c is }
 speaking-act count rows s (act.Job id) ready held is speaking =
     number-speaking (flight_of s) s.jobs s.book id (next_count s.reads) (moment_at s) refl held (job_at s.jobs id) refl speaking
-speaking-act count rows s act.Scan ready held is speaking = record { jobs = with-scan IsSpeakingBeside count s (once-speaks s.book) ready speaking.jobs }
+speaking-act count rows s act.Scan ready held is speaking = record { jobs = with-scan IsSpeakingBeside count s (once-speaks s) ready speaking.jobs }
 speaking-act count rows s act.Restart ready held is speaking = none-speak
 
 pub speaking-step : (count : ℕ) (rows : List Row) (s : State) (t : Turn) → Ready count s → HeldState s → IsTurn count t → SpeakingState s → SpeakingState (turn_step rows s t)

@@ -15,20 +15,23 @@ use Rattle.kept_rows.specs.declared.row.Change.{Change}
 use Rattle.kept_rows.specs.declared.row.Row.{Row}
 use Rattle.jobs_in_flight.specs.Jobs.{job_observation}
 use Rattle.operations.specs.declared.step.JobStep.{JobStep}
+use Rattle.operations.specs.declared.step.JobStep.TheVariants as job_step
 use Rattle.recovery_core.specs.Endings.{done_with, is_takeover}
 use Rattle.recovery_plans.specs.Recoveries.{Recovery}
 use Rattle.recovery_plans.specs.declared.purpose.Purpose.{Purpose}
 use Rattle.turns.specs.declared.turn.Act.TheVariants as act
 use Rattle.turns.specs.declared.turn.Turn.TheVariants as turn
+use Rattle.unended_jobs.specs.Hooked.{own_turn, Hooked}
+use Rattle.unended_jobs.specs.declared.docket.Docket.{Docket}
 use Rattle.unended_jobs.specs.declared.unended.Unended.{Unended}
-use Rattle.orch_core.specs.Closings.{closed_by, closing_at, closing_changes, closing_of}
+use Rattle.orch_core.specs.Closings.{closed_by, closing_at, closing_changes, closing_for, closing_of}
 use Rattle.orch_core.specs.Jobs.{turn_of, turned_at}
 use Rattle.orch_core.specs.Polls.{changes_by, changes_of}
 use Rattle.orch_core.specs.After.{step}
 use Rattle.orch_core.specs.States.{State}
 use Rattle.run_laws.specs.Flights.{moment_at}
-use Rattle.recovery_runs.specs.Finishes.{finished_so, recovery_after, IsFinish}
-use Rattle.recovery_runs.proofs.Finishing.{aim-at}
+use Rattle.recovery_runs.specs.Finishes.{finished_so, promoted_then, recovery_after, turn_hooked, turn_taken, IsFinish}
+use Rattle.recovery_runs.proofs.Finishing.{aim-at, own-turned}
 
 -- ---- an entry by its id
 
@@ -82,17 +85,29 @@ closed_so now b o k = if b then acked_so (ended_so now o k) else ended_so now o 
 abbrev audit_so : AuditState → ℕ → Moment → Bool → Ending → AuditState
 audit_so a e now b o = if b then acknowledged_at (ended a e now o) e else ended a e now o
 
-module _ (s : State) (id e : ℕ) (r : Recovery) (lines : List Line) (n : ServerNo) (is : IsFinish s id r (Some e) lines) (promoted : (recovery_after s r).outcome.promoted ≡ Some n) where
+module _ (s : State) (id e : ℕ) (r : Recovery) (docket : Docket) (lines : List Line) (n : ServerNo) (entry : docket.entry ≡ Some e) (is : IsFinish s id r docket lines) (promoted : (recovery_after s r).outcome.promoted ≡ Some n) where
   same-purpose : (recovery_after s r).purpose ≡ r.purpose
-  same-purpose = (aim-at s id r (Some e) is.found).purpose
+  same-purpose = (aim-at s id r docket is.found).purpose
+
+  -- by its own turn
+  abbrev own : Hooked
+  own = own_turn docket (promoted_then s r) (turn_taken s r)
+
+  turned : turn_hooked s r docket ≡ own
+  turned = own-turned s id r docket lines is
+
+  told : own.taken.step ≡ job_step.Done lines
+  told = subst (λ (h : Hooked). h.taken.step ≡ job_step.Done lines) turned is.done
 
   pub audit-ends : (rows : List Row) → recovery_at (step rows s (turn.Act (act.Job id))).audit e ≡ option_map (finished_so (moment_at s) r.purpose n) (recovery_at s.audit e)
   audit-ends rows =
       ap (λ (o : Option Unended). recovery_at (closed_by s.audit (moment_at s) (closing_of (option_map (turn_of s) o))) e) is.found
-      ∙ (ap (λ (x : JobStep). recovery_at (closed_by s.audit (moment_at s) (closing_at (recovery_after s r) x e)) e) is.done
+      ∙ (ap (λ (h : Hooked). recovery_at (closed_by s.audit (moment_at s) (closing_for h.taken.recovery h.taken.step h.docket.entry)) e) turned
+      ∙ (ap (λ (o : Option ℕ). recovery_at (closed_by s.audit (moment_at s) (closing_for (recovery_after s r) own.taken.step o)) e) entry
+      ∙ (ap (λ (x : JobStep). recovery_at (closed_by s.audit (moment_at s) (closing_at (recovery_after s r) x e)) e) told
       ∙ (ap (λ (o : Option ServerNo). recovery_at (audit_so s.audit e (moment_at s) (is_takeover (recovery_after s r).purpose) (done_with o)) e) promoted
       ∙ (ap (λ (u : Purpose). recovery_at (audit_so s.audit e (moment_at s) (is_takeover u) (ending.Promoted n)) e) same-purpose
-      ∙ finished-at s.audit e (moment_at s) n (is_takeover r.purpose))))
+      ∙ finished-at s.audit e (moment_at s) n (is_takeover r.purpose))))))
 
   closed-same : (k : KeptRecovery) (b : Bool) → closed_so (moment_at s) b (ending.Promoted n) k ≡ promoted_so (moment_at s) n b k
   closed-same k true = refl
@@ -109,11 +124,13 @@ module _ (s : State) (id e : ℕ) (r : Recovery) (lines : List Line) (n : Server
       → changes_of rows s (turn.Act (act.Job id)) ≡ before ++ put_recovery (finished_so (moment_at s) r.purpose n k) ∷ []
   changes-are rows k at =
       ap (λ (o : Option Unended). before ++ closing_changes s.audit (moment_at s) (closing_of (option_map (turn_of s) o))) is.found
-      ∙ (ap (λ (x : JobStep). before ++ closing_changes s.audit (moment_at s) (closing_at (recovery_after s r) x e)) is.done
+      ∙ (ap (λ (h : Hooked). before ++ closing_changes s.audit (moment_at s) (closing_for h.taken.recovery h.taken.step h.docket.entry)) turned
+      ∙ (ap (λ (o : Option ℕ). before ++ closing_changes s.audit (moment_at s) (closing_for (recovery_after s r) own.taken.step o)) entry
+      ∙ (ap (λ (x : JobStep). before ++ closing_changes s.audit (moment_at s) (closing_at (recovery_after s r) x e)) told
       ∙ (ap (λ (o : Option ServerNo). before ++ kept_as (is_takeover (recovery_after s r).purpose) (done_with o) (recovery_at s.audit e)) promoted
       ∙ (ap (λ (u : Purpose). before ++ kept_as (is_takeover u) (ending.Promoted n) (recovery_at s.audit e)) same-purpose
       ∙ (ap (λ (o : Option KeptRecovery). before ++ kept_as (is_takeover r.purpose) (ending.Promoted n) o) at
-      ∙ ap (λ (x : KeptRecovery). before ++ put_recovery x ∷ []) (closed-same k (is_takeover r.purpose))))))
+      ∙ ap (λ (x : KeptRecovery). before ++ put_recovery x ∷ []) (closed-same k (is_takeover r.purpose))))))))
 
   pub entry-kept : (rows : List Row) (k : KeptRecovery) → recovery_at s.audit e ≡ Some k
       → Contains (changes_of rows s (turn.Act (act.Job id))) (put_recovery (finished_so (moment_at s) r.purpose n k))

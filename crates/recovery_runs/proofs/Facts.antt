@@ -4,7 +4,6 @@ use Rattle.std.specs.Prelude.{◌==◌, All}
 use Rattle.std.specs.Option.{option_map}
 use Rattle.std.proofs.lemmas.List.Elements.{All-nil, All-weaker}
 use Rattle.orch_base.specs.Memory.{next_count}
-use Rattle.instance_keeper.specs.Book.{BookState}
 use Rattle.kept_rows.specs.declared.row.Row.{Row}
 use Rattle.job_laws.proofs.Lists.{All-find}
 use Rattle.jobs_in_flight.specs.Jobs.{job_at, jobs_turned}
@@ -19,10 +18,13 @@ use Rattle.turns.specs.declared.turn.Act.{Act}
 use Rattle.turns.specs.declared.turn.Act.TheVariants as act
 use Rattle.turns.specs.declared.turn.Turn.{Turn}
 use Rattle.turns.specs.declared.turn.Turn.TheVariants as turn
+use Rattle.unended_jobs.specs.declared.docket.Docket.{Docket}
 use Rattle.unended_jobs.specs.declared.unended.Unended.{Unended}
 use Rattle.unended_jobs.specs.declared.unended.Unended.TheVariants as unended
 use Rattle.unended_jobs.specs.Unended.{IsReady, number_of}
+use Rattle.unended_jobs.specs.Hooked.{promoted_in}
 use Rattle.unended_jobs.proofs.Going.{flown-number}
+use Rattle.unended_jobs.proofs.Hooked.{hooked-has}
 use Rattle.covered_laws.proofs.Turning.{all-turned}
 use Rattle.orch_core.specs.Jobs.{turn_of}
 use Rattle.orch_core.specs.Polls.{command_outcome, scan_outcome}
@@ -38,7 +40,7 @@ use Rattle.recovery_runs.specs.Begun.{BeginsOnce, jobs_of}
 use Rattle.recovery_runs.specs.States.{SpeakingState}
 use Rattle.recovery_runs.proofs.Begun.{command-once, scan-once}
 use Rattle.recovery_runs.proofs.Joining.{command-joins, joined, scan-joins}
-use Rattle.recovery_runs.specs.Finishes.{recovery_after}
+use Rattle.recovery_runs.specs.Finishes.{recovery_after, turn_taken}
 use Rattle.recovery_runs.specs.Facts.{ExplainedState, ExplainsAct, ExplainsTurn, HasFacts}
 use Rattle.recovery_runs.proofs.Finishing.{facts-true}
 
@@ -47,32 +49,35 @@ module _ (P : Fact → Bool) (id : ℕ) where
   Explained u = number_of u ≡ id → HasFacts P u
 
   -- what begins tells nothing yet
-  once-explained : (b : BookState) (u : Unended) → BeginsOnce b u → Explained u
-  once-explained b (unended.Plan j) once e = tt
-  once-explained b (unended.Recovery r entry) once e =
-      subst (IsExplained P) (sym once.fresh) (begun-explained P r.purpose r.core.id r.core.wait r.failed r.replicas r.order)
+  once-explained : (s : State) (u : Unended) → BeginsOnce s u → Explained u
+  once-explained s (unended.Plan j) once e = tt
+  once-explained s (unended.Recovery r docket) once e =
+      subst (IsExplained P) (sym once.fresh) (begun-explained P r.purpose r.means r.core.id r.core.wait r.failed r.replicas r.order)
 
-  with-begun : (s : State) (vs ws : List Unended) → ws ≡ s.jobs ++ vs → All (BeginsOnce s.book) vs → ExplainedState P id s → All Explained ws
-  with-begun s vs ws is once explained = joined Explained s.jobs vs ws is explained (All-weaker (BeginsOnce s.book) Explained (once-explained s.book) vs once)
+  with-begun : (s : State) (vs ws : List Unended) → ws ≡ s.jobs ++ vs → All (BeginsOnce s) vs → ExplainedState P id s → All Explained ws
+  with-begun s vs ws is once explained = joined Explained s.jobs vs ws is explained (All-weaker (BeginsOnce s) Explained (once-explained s) vs once)
 
-  pub last-explained : (s : State) (r : Recovery) (entry : Option ℕ) → job_at s.jobs id ≡ Some (unended.Recovery r entry) → HeldState s → SpeakingState s
+  pub last-explained : (s : State) (r : Recovery) (docket : Docket) → job_at s.jobs id ≡ Some (unended.Recovery r docket) → HeldState s → SpeakingState s
       → ExplainsTruly s.world s.book (moment_at s) r P → ExplainedState P id s → IsExplained P (recovery_after s r)
-  last-explained s r entry found held speaking explains explained =
-      facts-true s id r entry found P held speaking explains
-      (All-find Explained (λ (k : Unended). number_of k == id) s.jobs (unended.Recovery r entry) explained found (found-number s.jobs id (unended.Recovery r entry) found))
+  last-explained s r docket found held speaking explains explained =
+      facts-true s id r docket found P held speaking explains
+      (All-find Explained (λ (k : Unended). number_of k == id) s.jobs (unended.Recovery r docket) explained found (found-number s.jobs id (unended.Recovery r docket) found))
 
   -- ---- a job's turn
 
   module _ (count : ℕ) (s : State) (job : ℕ) (ready : Ready count s) (held : HeldState s) (speaking : SpeakingState s) (explained : ExplainedState P id s)
-      (explains : job ≡ id → (r : Recovery) (entry : Option ℕ) → job_at s.jobs id ≡ Some (unended.Recovery r entry) → ExplainsTruly s.world s.book (moment_at s) r P) where
+      (explains : job ≡ id → (r : Recovery) (docket : Docket) → job_at s.jobs id ≡ Some (unended.Recovery r docket) → ExplainsTruly s.world s.book (moment_at s) r P) where
     next-explained : (u : Unended) → job_at s.jobs job ≡ Some u → is_going (turn_of s u).step ≡ true → Explained (turn_of s u).next
     next-explained (unended.Plan j) at going e = tt
-    next-explained (unended.Recovery r entry) at going e =
-        let u = unended.Recovery r entry in
+    next-explained (unended.Recovery r docket) at going e =
+        let u = unended.Recovery r docket in
         let fits = All-find (IsReady count) (λ (k : Unended). number_of k == job) s.jobs u ready.jobs at in
         let same : job ≡ id = sym (found-number s.jobs job u at) ∙ (sym (flown-number count s.world s.book (next_count s.reads) (moment_at s) u fits going) ∙ e) in
-        let found : job_at s.jobs id ≡ Some (unended.Recovery r entry) = subst (λ (n : ℕ). job_at s.jobs n ≡ Some (unended.Recovery r entry)) same at in
-        last-explained s r entry found held speaking (explains same r entry found) explained
+        let found : job_at s.jobs id ≡ Some (unended.Recovery r docket) = subst (λ (n : ℕ). job_at s.jobs n ≡ Some (unended.Recovery r docket)) same at in
+        let t = turn_taken s r in
+        let own = last-explained s r docket found held speaking (explains same r docket found) explained in
+        let was = All-find Explained (λ (k : Unended). number_of k == id) s.jobs u explained found (found-number s.jobs id u found) in
+        hooked-has (λ x. IsExplained P x.recovery) docket (promoted_in s.book t) r t (λ told g. own) (λ told. was)
 
     turn-explained : (o : Option Unended) → job_at s.jobs job ≡ o → All Explained (jobs_turned s.jobs job (option_map (turn_of s) o))
     turn-explained None at = explained

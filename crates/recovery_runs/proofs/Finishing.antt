@@ -1,11 +1,12 @@
 -- The turn of a recovery in a state is one of its flight.
-use Rattle.std.proofs.Common.{◌≡◌, ◌∙◌, ℕ, Bool, List, refl, sym, ap, subst, Option, Some}
+use Rattle.std.proofs.Common.{◌≡◌, ◌∙◌, ◌++◌, ℕ, Bool, List, refl, sym, ap, subst, Option, Some}
 use Rattle.std.specs.Prelude.{◌==◌, All}
 use Rattle.std.specs.Option.{option_map}
 use Rattle.orch_base.specs.Memory.{next_count}
 use Rattle.commands.specs.declared.line.Line.{Line}
 use Rattle.kept_rows.specs.declared.row.Row.{Row}
 use Rattle.operations.specs.declared.step.JobStep.{JobStep}
+use Rattle.operations.specs.declared.step.JobStep.TheVariants as job_step
 use Rattle.server_model.specs.Run.{run}
 use Rattle.server_model.specs.Safe.{Safe}
 use Rattle.server_model.specs.Worlds.{World}
@@ -15,13 +16,18 @@ use Rattle.recovery_covers.specs.Covers.{IsTold}
 use Rattle.recovery_histories.specs.Kept.{IsBeginning, Keeps, SameAim}
 use Rattle.recovery_plans.specs.Named.{IsNamedRecovery}
 use Rattle.recovery_plans.specs.Recoveries.{Recovery}
+use Rattle.recovery_reasons.specs.OnWay.{AllFit}
+use Rattle.recovery_reasons.proofs.OnWay.{done-fit}
+use Rattle.covered_laws.specs.Beside.{IsSpeakingBeside}
 use Rattle.recovery_reasons.specs.Reasons.{ExplainsTruly, Fact, IsExplained}
 use Rattle.turns.specs.declared.reply.Reply.TheVariants as answered
 use Rattle.turns.specs.declared.turn.Act.TheVariants as act
 use Rattle.turns.specs.declared.turn.Turn.TheVariants as turn
+use Rattle.unended_jobs.specs.declared.docket.Docket.{Docket}
 use Rattle.unended_jobs.specs.declared.unended.Unended.{Unended}
 use Rattle.unended_jobs.specs.declared.unended.Unended.TheVariants as unended
 use Rattle.unended_jobs.specs.Unended.{IsReady, number_of}
+use Rattle.unended_jobs.specs.Hooked.{own_turn, Hooked}
 use Rattle.covered_laws.specs.Turns.{RecoveryTurn}
 use Rattle.covered_laws.proofs.Ending.{done-chain, done-named, done-old, done-placed, done-promoted, done-told, last-aim, turn-aim, turn-explained}
 use Rattle.orch_core.specs.Jobs.{turn_of}
@@ -32,19 +38,20 @@ use Rattle.run_laws.specs.Ready.{Ready}
 use Rattle.run_laws.specs.Flights.{flight_of, moment_at}
 use Rattle.run_laws.specs.States.{HeldState, SoundState}
 use Rattle.recovery_runs.specs.States.{AimedState, CoveredState, KeptState, SpeakingState}
-use Rattle.recovery_runs.specs.Finishes.{recovery_after, turn_taken, IsFinish, KeepsHistories, OwesNothing}
+use Rattle.recovery_runs.specs.Finishes.{own_lines, promoted_then, ran_lines, recovery_after, turn_hooked, turn_taken, IsFinish, KeepsHistories, OwesNothing}
+use Rattle.recovery_runs.proofs.Hooks.{done-own, done-with}
 
-module _ (s : State) (id : ℕ) (r : Recovery) (entry : Option ℕ) where
-  module _ (found : job_at s.jobs id ≡ Some (unended.Recovery r entry)) where
+module _ (s : State) (id : ℕ) (r : Recovery) (docket : Docket) where
+  module _ (found : job_at s.jobs id ≡ Some (unended.Recovery r docket)) where
     abbrev turn_in : RecoveryTurn (flight_of s) s.jobs
-    turn_in = record { id = id; recovery = r; entry = entry; found = found; book = s.book; rings = refl; at_read = next_count s.reads; at_moment = moment_at s }
+    turn_in = record { id = id; recovery = r; docket = docket; found = found; book = s.book; rings = refl; at_read = next_count s.reads; at_moment = moment_at s }
 
-    world-then : (rows : List Row) → (step rows s (turn.Act (act.Job id))).world ≡ run s.world (turn_taken s r).exchanges
-    world-then rows = ap (λ (o : Option Unended). run s.world (job_exchanges (option_map (turn_of s) o))) found
+    pub world-hooked : (rows : List Row) → (step rows s (turn.Act (act.Job id))).world ≡ run s.world (turn_hooked s r docket).taken.exchanges
+    world-hooked rows = ap (λ (o : Option Unended). run s.world (job_exchanges (option_map (turn_of s) o))) found
 
     -- its servers are there
     named-at : (count : ℕ) → Ready count s → IsNamedRecovery count r
-    named-at count ready = (All-find (IsReady count) (λ (k : Unended). number_of k == id) s.jobs (unended.Recovery r entry) ready.jobs found).named
+    named-at count ready = (All-find (IsReady count) (λ (k : Unended). number_of k == id) s.jobs (unended.Recovery r docket) ready.jobs found).named
 
     pub aim-at : SameAim r (recovery_after s r)
     aim-at = turn-aim (flight_of s) s.jobs turn_in
@@ -53,30 +60,52 @@ module _ (s : State) (id : ℕ) (r : Recovery) (entry : Option ℕ) where
         → IsExplained P (recovery_after s r)
     facts-true P held speaking explains lost = turn-explained (flight_of s) s.jobs turn_in held P speaking explains lost
 
-  module _ (lines : List Line) (is : IsFinish s id r entry lines) where
+  module _ (lines : List Line) (is : IsFinish s id r docket lines) where
+    -- its turn is its own
+    pub own-turned : turn_hooked s r docket ≡ own_turn docket (promoted_then s r) (turn_taken s r)
+    own-turned = done-own docket (promoted_then s r) r (turn_taken s r) lines is.done
+
+    own-done : (own_turn docket (promoted_then s r) (turn_taken s r)).taken.step ≡ job_step.Done lines
+    own-done = subst (λ (h : Hooked). h.taken.step ≡ job_step.Done lines) own-turned is.done
+
+    taken-done : (turn_taken s r).step ≡ job_step.Done (own_lines s r)
+    taken-done = (done-with docket.hooks (promoted_then s r) (turn_taken s r).step lines own-done).0
+
+    -- nobody is lost since none may be promoted
+    pub lost-fit : SpeakingState s → AllFit (recovery_after s r).outcome.lost
+    lost-fit speaking =
+        done-fit s.world s.book (next_count s.reads) (moment_at s) r
+        (All-find IsSpeakingBeside (λ (k : Unended). number_of k == id) s.jobs (unended.Recovery r docket) speaking.jobs is.found).way (own_lines s r) taken-done
+
+    pub lines-own : lines ≡ own_lines s r ++ ran_lines docket.hooks (promoted_then s r)
+    lines-own = (done-with docket.hooks (promoted_then s r) (turn_taken s r).step lines own-done).1
+
+    world-then : (rows : List Row) → (step rows s (turn.Act (act.Job id))).world ≡ run s.world (turn_taken s r).exchanges
+    world-then rows = world-hooked is.found rows ∙ ap (λ (h : Hooked). run s.world h.taken.exchanges) own-turned
+
     pub reply-told : reply_of s (turn.Act (act.Job id)) ≡ answered.Told lines
     reply-told = ap (λ (o : Option Unended). job_reply (option_map (turn_of s) o)) is.found ∙ ap (λ (x : JobStep). step_reply x) is.done
 
-    pub owes-nothing : (count : ℕ) (rows : List Row) → Ready count s → HeldState s → CoveredState s → OwesNothing count (step rows s (turn.Act (act.Job id))).world r (recovery_after s r) lines
+    pub owes-nothing : (count : ℕ) (rows : List Row) → Ready count s → HeldState s → CoveredState s → OwesNothing count (step rows s (turn.Act (act.Job id))).world r (recovery_after s r) (own_lines s r)
     owes-nothing count rows ready held covered = record {
       aim = aim-at is.found;
       told =
-          subst (λ (w : World). IsTold w (recovery_after s r) lines) (sym (world-then is.found rows))
-          (done-told (flight_of s) s.jobs (turn_in is.found) held covered lines is.done);
-      chain = done-chain (flight_of s) s.jobs (turn_in is.found) held covered lines is.done;
-      placed = done-placed (flight_of s) s.jobs (turn_in is.found) held covered lines is.done;
-      named = done-named (flight_of s) s.jobs (turn_in is.found) held covered lines is.done count (named-at is.found count ready);
+          subst (λ (w : World). IsTold w (recovery_after s r) (own_lines s r)) (sym (world-then rows))
+          (done-told (flight_of s) s.jobs (turn_in is.found) held covered (own_lines s r) taken-done);
+      chain = done-chain (flight_of s) s.jobs (turn_in is.found) held covered (own_lines s r) taken-done;
+      placed = done-placed (flight_of s) s.jobs (turn_in is.found) held covered (own_lines s r) taken-done;
+      named = done-named (flight_of s) s.jobs (turn_in is.found) held covered (own_lines s r) taken-done count (named-at is.found count ready);
     }
 
     pub keeps-histories : (rows : List Row) → HeldState s → SoundState s → CoveredState s → KeptState s → Safe (step rows s (turn.Act (act.Job id))).world
         → KeepsHistories (step rows s (turn.Act (act.Job id))).world r (recovery_after s r)
     keeps-histories rows held sound covered kept safe = record {
       promoted = λ n has.
-          subst (λ (w : World). All (λ x. Keeps w r.failed.0 x.exec n.0) (recovery_after s r).eligible) (sym (world-then is.found rows))
-          (done-promoted (flight_of s) s.jobs (turn_in is.found) held covered lines is.done n sound kept (subst Safe (world-then is.found rows) safe) has);
+          subst (λ (w : World). All (λ x. Keeps w r.failed.0 x.exec n.0) (recovery_after s r).eligible) (sym (world-then rows))
+          (done-promoted (flight_of s) s.jobs (turn_in is.found) held covered (own_lines s r) taken-done n sound kept (subst Safe (world-then rows) safe) has);
       old = λ d has.
-          subst (λ (w : World). IsBeginning w r.failed.0 d.0) (sym (world-then is.found rows))
-          (done-old (flight_of s) s.jobs (turn_in is.found) held covered lines is.done d (subst Safe (world-then is.found rows) safe) has);
+          subst (λ (w : World). IsBeginning w r.failed.0 d.0) (sym (world-then rows))
+          (done-old (flight_of s) s.jobs (turn_in is.found) held covered (own_lines s r) taken-done d (subst Safe (world-then rows) safe) has);
     }
 
     pub aim-began : (begun : ℕ → Recovery) → HeldState s → AimedState begun s → SameAim (begun id) (recovery_after s r)

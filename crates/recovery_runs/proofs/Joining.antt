@@ -22,6 +22,7 @@ use Rattle.unended_jobs.specs.declared.unended.Unended.{Unended}
 use Rattle.orch_core.specs.Commands.{Outcome, about as given_or, asked, begun, by_hand, decided, discovered, forgotten, outcome_by, outcome_of, question, recovered, recovery_begun, refusal, removal_refusal, taken_over}
 use Rattle.orch_core.specs.Polls.{command_outcome, numbers_of, reading, scan_outcome}
 use Rattle.orch_core.specs.States.{State}
+use Rattle.orch_core.specs.HookTelling.{told_try}
 use Rattle.orch_core.specs.Settling.{known_of}
 use Rattle.orch_core.specs.Knowing.{updated}
 use Rattle.recovery_runs.specs.Begun.{jobs_of}
@@ -62,7 +63,7 @@ module _ (s : State) where
 
   joins-taken_over : (d : Option ServerNo) (i : ServerNo) → Joins (taken_over s.world s.book s.audit s.configuration (numbers_of s) d i)
   joins-taken_over None i = none-joins
-  joins-taken_over (Some d) i = joins-recovery (takeover_try s.world s.book s.audit (by_hand s.book s.configuration (numbers_of s) i) s.configuration.wait (s.last_job + 1) i d)
+  joins-taken_over (Some d) i = joins-recovery (told_try s.configuration s.book (takeover_try s.world s.book s.audit (by_hand s.book s.configuration (numbers_of s) i) s.configuration.wait (s.last_job + 1) i d))
 
   pub scan-joins : (updated (known_of s) (scan_outcome s).book).jobs ≡ s.jobs ++ jobs_of s (scan_outcome s)
   scan-joins = refl
@@ -88,11 +89,11 @@ module _ (s : State) where
     joins-route (Decides d) =
         joins-decided s.reads (permitted s.book t.command) (decided_of s.book s.audit (record { 0 = s.moment }) t.keys t.command.i d)
     joins-route (Begins p) =
-        joins-begun (refusal_by s.world s.book (record { 0 = s.moment }) t.command p) (leases_by s.world s.book t.command p)
-        (job_by s.world s.book t.command p (s.last_job + 1) s.configuration.wait)
+        joins-begun (refusal_by s.world s.book (record { 0 = s.moment }) s.configuration.every t.command p) (leases_by s.world s.book t.command p)
+        (job_by s.world s.book t.command p (s.last_job + 1) s.configuration.wait s.configuration.every)
     joins-route Recovers =
         given (refusal s.reads UnknownInstance) (recovered s.world s.book s.audit s.configuration (numbers_of s)) none-joins
-        (λ i. joins-recovery (recovery_try s.world s.book s.audit (by_hand s.book s.configuration (numbers_of s) i) s.configuration.wait (s.last_job + 1) i)) t.command.i
+        (λ i. joins-recovery (told_try s.configuration s.book (recovery_try s.world s.book s.audit (by_hand s.book s.configuration (numbers_of s) i) s.configuration.wait (s.last_job + 1) i))) t.command.i
     joins-route TakesOver =
         given (refusal s.reads UnknownInstance) (taken_over s.world s.book s.audit s.configuration (numbers_of s) t.command.d) none-joins (joins-taken_over t.command.d) t.command.i
 

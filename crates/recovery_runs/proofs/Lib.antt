@@ -2,9 +2,16 @@ pub mod Tellings
 pub mod Begun
 pub mod Joining
 pub mod Covering
+pub mod Tended
 pub mod Coming
+pub mod Hooks
 pub mod Finishing
+pub mod HookTellings
 pub mod Entries
 pub mod Facts
 pub mod Origins
+pub mod Still
+pub mod Scenarios
 pub mod Tending
+pub mod Failing
+pub mod Ended

@@ -7,6 +7,8 @@ use Rattle.std.proofs.lemmas.List.Elements.{All-head, All-nil, All-tail}
 use Rattle.orch_base.specs.declared.server.ServerNo.{ServerNo}
 use Rattle.audit_log.specs.Audits.{recovery_at}
 use Rattle.commands.specs.declared.line.Line.{Line}
+use Rattle.hook_laws.specs.Tended.{IsEarly}
+use Rattle.recovery_hooks.specs.Runs.{HookState}
 use Rattle.kept_rows.specs.declared.row.Row.{Row}
 use Rattle.job_laws.proofs.Lists.{All-find}
 use Rattle.jobs_in_flight.specs.Jobs.{job_at}
@@ -20,6 +22,7 @@ use Rattle.scenarios.specs.declared.scenario.Scenario.{Scenario}
 use Rattle.turns.specs.declared.turn.Turn.{Turn}
 use Rattle.turns.specs.declared.turn.Act.TheVariants as act
 use Rattle.turns.specs.declared.turn.Turn.TheVariants as turn
+use Rattle.unended_jobs.specs.declared.docket.Docket.{Docket}
 use Rattle.unended_jobs.specs.declared.unended.Unended.{Unended}
 use Rattle.unended_jobs.specs.declared.unended.Unended.TheVariants as unended
 use Rattle.unended_jobs.specs.Unended.{number_of}
@@ -30,20 +33,24 @@ use Rattle.orch_core.specs.States.{State}
 use Rattle.orch_core.specs.Turns.{exchanges_at}
 use Rattle.run_laws.specs.Flights.{moment_at}
 use Rattle.covered_laws.proofs.Beside.{none-speak}
-use Rattle.recovery_runs.specs.Finishes.{IsFinish, finished_so, recovery_after}
+use Rattle.recovery_runs.specs.Finishes.{IsFinish, finished_so, own_lines, recovery_after}
 use Rattle.recovery_runs.specs.Facts.{ExplainedState, ExplainsTurn, HasFacts}
 use Rattle.recovery_covers.specs.Covers.{owed, times}
 use Rattle.recovery_outcomes.specs.Told.{IsToldOf}
 use Rattle.recovery_runs.proofs.Entries.{audit-ends}
 use Rattle.recovery_runs.proofs.Tellings.{told-then}
-use Rattle.recovery_runs.proofs.Finishing.{keeps-histories, owes-nothing, reply-told}
+use Rattle.recovery_runs.proofs.Finishing.{keeps-histories, lost-fit, owes-nothing, reply-told}
 use Rattle.recovery_runs.proofs.Facts.{explained-start, explained-step, last-explained}
-use Rattle.recovery_runs.specs.States.{CoveredState, KeptState, SpeakingState}
+use Rattle.recovery_runs.specs.States.{CoveredState, KeptState, SpeakingState, TendedState}
+use Rattle.recovery_runs.proofs.HookTellings.{early-still, finish-tells}
+use Rattle.recovery_runs.proofs.Scenarios.{are-scenarios}
+use Rattle.recovery_runs.proofs.Still.{still-step, HasStill}
+use Rattle.recovery_runs.proofs.Tended.{tended-start, tended-step}
 use Rattle.recovery_runs.proofs.Covering.{covered-start, covered-step, kept-start, kept-step, speaking-step}
 use Rattle.run_laws.specs.Runs.{ComesTo}
 use Rattle.run_laws.proofs.RunLaws.{Goes, Goes-start, Goes-step}
 use Rattle.run_laws.proofs.Worlds.{world-turn}
-use Rattle.recovery_runs.specs.RunFinishes.{FinishesWell}
+use Rattle.recovery_runs.specs.RunFinishes.{AreScenarios, FinishesWell}
 use Rattle.recovery_runs.specs.Origins.{Began, ExplainsAlong}
 use Rattle.recovery_runs.proofs.Origins.{HasOrigin, Step, origins-step, take-all}
 
@@ -54,6 +61,7 @@ pub record Cares (s : State) : Type 0 where
   pub covered : CoveredState s
   pub speaking : SpeakingState s
   pub kept : IsQuiet s.world → KeptState s
+  pub tended : TendedState s
 
 Cares-step : (count : ℕ) (rows : List Row) (s : State) (t : Turn) → IsTurn count t → Goes count s → Cares s → Cares (step rows s t)
 Cares-step count rows s t is goes cares = record {
@@ -62,6 +70,7 @@ Cares-step count rows s t is goes cares = record {
   kept = λ q.
       let before = exchanges.quiet-run s.world (exchanges_at s t) (subst IsQuiet (world-turn rows s t) q) in
       kept-step count rows s t goes.ready goes.held (goes.sound before) is cares.covered (cares.kept before);
+  tended = tended-step count rows s t goes.ready is cares.tended;
 }
 
 -- ---- along a run
@@ -81,6 +90,7 @@ module _ (count : ℕ) (from : State) where
     pub goes : Goes count s
     pub cares : Cares s
     pub origins : All (HasOrigin from xs) s.jobs
+    pub stills : All (HasStill from xs) s.jobs
 
   tends-step : (xs : List Step) (s : State) (x : Step) → IsTurn count x.1 → Tends xs s → Tends (xs ++ x ∷ []) (step x.0 s x.1)
   tends-step xs s x is t = record {
@@ -88,6 +98,7 @@ module _ (count : ℕ) (from : State) where
     goes = Goes-step count x.0 s x.1 is t.goes;
     cares = Cares-step count x.0 s x.1 is t.goes t.cares;
     origins = origins-step from count xs s x t.here t.goes.ready is t.origins;
+    stills = still-step from count xs s x.0 t.here t.goes.ready t.cares.tended t.stills x.1 is;
   }
 
   tends-run : (xs ys : List Step) (s : State) → All (IsTurn count) (turns_of ys) → Tends xs s → Tends (xs ++ ys) (run_turns engine s ys)
@@ -121,16 +132,17 @@ module _ (s : Scenario) (xs : List Step) (now : State) (comes : ComesTo s xs now
   opened = record {
     here = refl;
     goes = Goes-start s comes.wait comes.rows comes.scenario;
-    cares = record { covered = covered-start s comes.wait comes.rows; speaking = none-speak; kept = λ q. kept-start s comes.wait comes.rows };
+    cares = record { covered = covered-start s comes.wait comes.rows; speaking = none-speak; kept = λ q. kept-start s comes.wait comes.rows; tended = tended-start s comes.wait comes.rows };
     origins = All-nil (HasOrigin begun []);
+    stills = All-nil (HasStill begun []);
   }
 
   pub tends-comes : Tends (length s.opening.servers) begun xs now
   tends-comes = subst (λ (z : State). Tends (length s.opening.servers) begun xs z) (sym comes.state) (tends-run (length s.opening.servers) begun [] xs begun comes.turns opened)
 
   -- a recovery began in one of the turns
-  pub began-comes : (id : ℕ) (r : Recovery) (entry : Option ℕ) → job_at now.jobs id ≡ Some (unended.Recovery r entry) → Began begun xs r entry
-  began-comes id r entry at = All-find (HasOrigin begun xs) (λ (k : Unended). number_of k == id) now.jobs (unended.Recovery r entry) tends-comes.origins at
+  pub began-comes : (id : ℕ) (r : Recovery) (docket : Docket) → job_at now.jobs id ≡ Some (unended.Recovery r docket) → Began begun xs r docket
+  began-comes id r docket at = All-find (HasOrigin begun xs) (λ (k : Unended). number_of k == id) now.jobs (unended.Recovery r docket) tends-comes.origins at
 
   explained-comes : (P : Fact → Bool) (id : ℕ) → ExplainsAlong P id begun xs → ExplainedState P id now
   explained-comes P id explains =
@@ -138,43 +150,54 @@ module _ (s : Scenario) (xs : List Step) (now : State) (comes : ComesTo s xs now
       (explained-run (length s.opening.servers) begun P id [] xs begun comes.turns explains opened (explained-start P id s comes.wait comes.rows))
 
   -- each of its lost has a reason that counts
-  pub told-comes : (P : Fact → Bool) (id : ℕ) (r : Recovery) (entry : Option ℕ) → ExplainsAlong P id begun xs → job_at now.jobs id ≡ Some (unended.Recovery r entry) → IsExplained P r
-  told-comes P id r entry explains at =
-      All-find (λ (u : Unended). number_of u ≡ id → HasFacts P u) (λ (k : Unended). number_of k == id) now.jobs (unended.Recovery r entry) (explained-comes P id explains) at
-      (found-number now.jobs id (unended.Recovery r entry) at)
+  pub told-comes : (P : Fact → Bool) (id : ℕ) (r : Recovery) (docket : Docket) → ExplainsAlong P id begun xs → job_at now.jobs id ≡ Some (unended.Recovery r docket) → IsExplained P r
+  told-comes P id r docket explains at =
+      All-find (λ (u : Unended). number_of u ≡ id → HasFacts P u) (λ (k : Unended). number_of k == id) now.jobs (unended.Recovery r docket) (explained-comes P id explains) at
+      (found-number now.jobs id (unended.Recovery r docket) at)
 
   -- and so has each that its next turn makes
-  pub told-next : (P : Fact → Bool) (id : ℕ) (r : Recovery) (entry : Option ℕ) → ExplainsAlong P id begun xs → ExplainsTurn P id now (turn.Act (act.Job id)) → job_at now.jobs id ≡ Some (unended.Recovery r entry)
+  pub told-next : (P : Fact → Bool) (id : ℕ) (r : Recovery) (docket : Docket) → ExplainsAlong P id begun xs → ExplainsTurn P id now (turn.Act (act.Job id)) → job_at now.jobs id ≡ Some (unended.Recovery r docket)
       → IsExplained P (recovery_after now r)
-  told-next P id r entry explains here at =
+  told-next P id r docket explains here at =
       let t = tends-comes in
-      last-explained P id now r entry at t.goes.held t.cares.speaking (here refl r entry at) (explained-comes P id explains)
+      last-explained P id now r docket at t.goes.held t.cares.speaking (here refl r docket at) (explained-comes P id explains)
+
+  -- its hooks are the scenario's
+  pub scenarios-comes : (id : ℕ) (r : Recovery) (docket : Docket) (h : HookState) → job_at now.jobs id ≡ Some (unended.Recovery r docket) → docket.hooks ≡ Some h → AreScenarios s h
+  scenarios-comes id r docket h at has = are-scenarios s comes.wait comes.rows xs r docket (began-comes id r docket at) h has
+
+  -- a turn before all hooks have run that are to before it
+  pub still-comes : (rows : List Row) (id : ℕ) (r : Recovery) (docket : Docket) (h : HookState) → job_at now.jobs id ≡ Some (unended.Recovery r docket) → docket.hooks ≡ Some h → IsEarly h
+      → (step rows now (turn.Act (act.Job id))).world ≡ now.world
+  still-comes rows id r docket h found has early = early-still now id r docket tends-comes.cares.tended rows h found has early
 
   -- what the turn in which a recovery is done owes
-  pub finish-comes : (rows : List Row) (id : ℕ) (r : Recovery) (entry : Option ℕ) (lines : List Line) → IsFinish now id r entry lines → FinishesWell (length s.opening.servers) begun xs rows now id r entry lines
-  finish-comes rows id r entry lines is =
+  pub finish-comes : (rows : List Row) (id : ℕ) (r : Recovery) (docket : Docket) (lines : List Line) → IsFinish now id r docket lines → FinishesWell (length s.opening.servers) begun xs rows now id r docket lines
+  finish-comes rows id r docket lines is =
       let t = tends-comes in
       let goes = t.goes in
       record {
-        reply = reply-told now id r entry lines is;
-        owes = owes-nothing now id r entry lines is (length s.opening.servers) rows goes.ready goes.held t.cares.covered;
-        began = began-comes id r entry is.found;
-        tells = has-line rows id r entry lines is;
+        reply = reply-told now id r docket lines is;
+        hooks = finish-tells now id r docket t.cares.tended lines is;
+        owes = owes-nothing now id r docket lines is (length s.opening.servers) rows goes.ready goes.held t.cares.covered;
+        began = began-comes id r docket is.found;
+        tells = has-line rows id r docket lines is;
         histories = λ q.
             let before = exchanges.quiet-run now.world (exchanges_at now (turn.Act (act.Job id))) q in
-            keeps-histories now id r entry lines is rows goes.held (goes.sound before) t.cares.covered (t.cares.kept before)
+            keeps-histories now id r docket lines is rows goes.held (goes.sound before) t.cares.covered (t.cares.kept before)
             ((Goes-step (length s.opening.servers) rows now (turn.Act (act.Job id)) tt goes).sound q).flight.safe;
-        told = λ P explains here. told-next P id r entry explains here is.found;
-        ends = λ e n same promoted. ended rows id r entry lines is e n same promoted;
+        told = λ P explains here. told-next P id r docket explains here is.found;
+        fit = lost-fit now id r docket lines is t.cares.speaking;
+        ends = λ e n same promoted. ended rows id r docket lines is e n same promoted;
       }
     where
-      has-line : (rows : List Row) (id : ℕ) (r : Recovery) (entry : Option ℕ) (lines : List Line) → IsFinish now id r entry lines → (n : ServerNo) → 0 < times n.0 (owed r.purpose r.failed r.replicas)
-          → IsToldOf r.purpose (recovery_after now r).outcome lines n
-      has-line rows id r entry lines is n h =
+      has-line : (rows : List Row) (id : ℕ) (r : Recovery) (docket : Docket) (lines : List Line) → IsFinish now id r docket lines → (n : ServerNo) → 0 < times n.0 (owed r.purpose r.failed r.replicas)
+          → IsToldOf r.purpose (recovery_after now r).outcome (own_lines now r) n
+      has-line rows id r docket lines is n h =
           let t = tends-comes in
-          let owes = owes-nothing now id r entry lines is (length s.opening.servers) rows t.goes.ready t.goes.held t.cares.covered in
-          told-then (step rows now (turn.Act (act.Job id))).world r (recovery_after now r) lines owes.aim owes.told (began-comes id r entry is.found).begins.tells n h
+          let owes = owes-nothing now id r docket lines is (length s.opening.servers) rows t.goes.ready t.goes.held t.cares.covered in
+          told-then (step rows now (turn.Act (act.Job id))).world r (recovery_after now r) (own_lines now r) owes.aim owes.told (began-comes id r docket is.found).begins.tells n h
 
-      ended : (rows : List Row) (id : ℕ) (r : Recovery) (entry : Option ℕ) (lines : List Line) → IsFinish now id r entry lines → (e : ℕ) (n : ServerNo) → entry ≡ Some e → (recovery_after now r).outcome.promoted ≡ Some n
+      ended : (rows : List Row) (id : ℕ) (r : Recovery) (docket : Docket) (lines : List Line) → IsFinish now id r docket lines → (e : ℕ) (n : ServerNo) → docket.entry ≡ Some e → (recovery_after now r).outcome.promoted ≡ Some n
           → recovery_at (step rows now (turn.Act (act.Job id))).audit e ≡ option_map (finished_so (moment_at now) r.purpose n) (recovery_at now.audit e)
-      ended rows id r entry lines is e n same promoted = audit-ends now id e r lines n (subst (λ (o : Option ℕ). IsFinish now id r o lines) same is) promoted rows
+      ended rows id r docket lines is e n same promoted = audit-ends now id e r docket lines n same is promoted rows

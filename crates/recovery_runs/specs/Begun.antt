@@ -1,8 +1,11 @@
 -- The jobs that a turn begins.
-use Rattle.std.specs.Prelude.{◌≡◌, ◌<◌, ◌⊎◌, ℕ, Contains, List, [], Option, Some}
-use Rattle.book_views.specs.Sources.{replicas_of}
-use Rattle.instance_keeper.specs.Book.{BookState}
+use Rattle.std.specs.Prelude.{◌≡◌, ◌<◌, ◌⊎◌, ℕ, Contains, List, [], Option, Some, None, slice_get}
+use Rattle.book_views.specs.Sources.{label_at, replicas_of}
+use Rattle.hook_laws.specs.Tended.{IsOfDocket}
+use Rattle.orch_base.specs.Names.{HostPort}
+use Rattle.orch_base.specs.declared.code.Code.{Code}
 use Rattle.orch_core.specs.Commands.{Outcome}
+use Rattle.orch_core.specs.HookTelling.{told_of}
 use Rattle.orch_core.specs.Knowing.{updated}
 use Rattle.orch_core.specs.Polls.{command_outcome, scan_outcome}
 use Rattle.orch_core.specs.Settling.{known_of}
@@ -12,11 +15,16 @@ use Rattle.orch_base.specs.declared.server.ServerNo.{ServerNo}
 use Rattle.recovery_covers.specs.Covers.{AreReplicas, owed, times}
 use Rattle.recovery_histories.specs.Kept.{SameAim}
 use Rattle.recovery_plans.specs.Beginning.{first_source}
+use Rattle.recovery_hooks.specs.Runs.{HookState, begun_hooks}
+use Rattle.recovery_permits.specs.Checks.{code_at}
 use Rattle.recovery_plans.specs.Recoveries.{Recovery}
+use Rattle.recovery_plans.specs.declared.purpose.Purpose.{Purpose}
+use Rattle.recovery_plans.specs.declared.purpose.Purpose.TheVariants as purpose
 use Rattle.turns.specs.declared.turn.Act.{Act}
 use Rattle.turns.specs.declared.turn.Act.TheVariants as act
 use Rattle.turns.specs.declared.turn.Turn.{Turn}
 use Rattle.turns.specs.declared.turn.Turn.TheVariants as turn
+use Rattle.unended_jobs.specs.declared.docket.Docket.{Docket}
 use Rattle.unended_jobs.specs.declared.unended.Unended.{Unended}
 use Rattle.unended_jobs.specs.declared.unended.Unended.TheVariants as unended
 
@@ -45,26 +53,45 @@ jobs_begun s (turn.Release node) = []
 abbrev pub TellsAll : Recovery → Type 0
 TellsAll r = (n : ServerNo) → 0 < times n.0 (owed r.purpose r.failed r.replicas) → Contains r.order n ⊎ (first_source r.purpose ≡ Some n)
 
+-- the hooks of the scenario, none of which ran; they are told of the failed server, the label of its cluster, and its
+-- analysis as it is now
+pub record AreHooksOf (s : State) (f : ServerNo) (o : Option HookState) : Type 0 where
+  pub code : Code
+  pub name : HostPort
+  pub is_code : code_at s.book f ≡ Some code
+  pub is_name : slice_get s.book.names f.0 ≡ Some name
+  pub hooks : o ≡ Some (begun_hooks s.configuration.hooks (told_of s.configuration name (label_at s.book f) code))
+
+-- a regroup and a takeover run none
+abbrev pub HasHooks : State → Purpose → ServerNo → Option HookState → Type 0
+HasHooks s purpose.Regroup f o = o ≡ None
+HasHooks s purpose.Master f o = AreHooksOf s f o
+HasHooks s (purpose.Intermediate n) f o = AreHooksOf s f o
+HasHooks s (purpose.Takeover d) f o = o ≡ None
+
 -- a recovery as it begins, of the replicas that the book has of the failed server, which names none twice, and tells of
--- all
-pub record IsBegunOnce (b : BookState) (r : Recovery) : Type 0 where
+-- all; and with its hooks
+pub record IsBegunOnce (s : State) (r : Recovery) (docket : Docket) : Type 0 where
   pub fresh : IsFresh r
-  pub replicas : r.replicas ≡ replicas_of b r.failed
+  pub replicas : r.replicas ≡ replicas_of s.book r.failed
   pub once : AreReplicas r.purpose r.failed r.replicas
   pub tells : TellsAll r
+  pub hooks : HasHooks s r.purpose r.failed docket.hooks
 
 -- so a job begins
-abbrev pub BeginsOnce : BookState → Unended → Type 0
-BeginsOnce b (unended.Plan j) = Unit {0}
-BeginsOnce b (unended.Recovery r entry) = IsBegunOnce b r
+abbrev pub BeginsOnce : State → Unended → Type 0
+BeginsOnce s (unended.Plan j) = Unit {0}
+BeginsOnce s (unended.Recovery r docket) = IsBegunOnce s r docket
 
--- a recovery was one of these, with its number and its entry, and is about whom it was about
-pub record WasAmong (us : List Unended) (r : Recovery) (entry : Option ℕ) : Type 0 where
+-- a recovery was one of these, with its number, its entry and its hooks, and is about whom it was about
+pub record WasAmong (us : List Unended) (r : Recovery) (docket : Docket) : Type 0 where
   pub was : Recovery
-  pub among : Contains us (unended.Recovery was entry)
+  pub had : Docket
+  pub among : Contains us (unended.Recovery was had)
   pub number : r.core.id ≡ was.core.id
   pub aim : SameAim was r
+  pub same : IsOfDocket had docket
 
 abbrev pub ComesOf : List Unended → Unended → Type 0
 ComesOf us (unended.Plan j) = Unit {0}
-ComesOf us (unended.Recovery r entry) = WasAmong us r entry
+ComesOf us (unended.Recovery r docket) = WasAmong us r docket

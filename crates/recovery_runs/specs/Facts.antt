@@ -9,6 +9,7 @@ use Rattle.turns.specs.declared.turn.Act.{Act}
 use Rattle.turns.specs.declared.turn.Act.TheVariants as act
 use Rattle.turns.specs.declared.turn.Turn.{Turn}
 use Rattle.turns.specs.declared.turn.Turn.TheVariants as turn
+use Rattle.unended_jobs.specs.declared.docket.Docket.{Docket}
 use Rattle.unended_jobs.specs.declared.unended.Unended.{Unended}
 use Rattle.unended_jobs.specs.declared.unended.Unended.TheVariants as unended
 use Rattle.unended_jobs.specs.Unended.{number_of}
@@ -16,7 +17,7 @@ use Rattle.unended_jobs.specs.Unended.{number_of}
 -- what a recovery came to so far has facts that count
 abbrev pub HasFacts : (Fact → Bool) → Unended → Type 0
 HasFacts P (unended.Plan j) = Unit {0}
-HasFacts P (unended.Recovery r entry) = IsExplained P r
+HasFacts P (unended.Recovery r docket) = IsExplained P r
 
 -- of the job of this number
 abbrev pub ExplainedState : (Fact → Bool) → ℕ → State → Type 0
@@ -28,7 +29,7 @@ ExplainsAct P id s (act.PollRead p n) = Unit {0}
 ExplainsAct P id s (act.PollStore p) = Unit {0}
 ExplainsAct P id s (act.Command c) = Unit {0}
 ExplainsAct P id s (act.Job job) =
-    job ≡ id → (r : Recovery) (entry : Option ℕ) → job_at s.jobs id ≡ Some (unended.Recovery r entry) → ExplainsTruly s.world s.book (moment_at s) r P
+    job ≡ id → (r : Recovery) (docket : Docket) → job_at s.jobs id ≡ Some (unended.Recovery r docket) → ExplainsTruly s.world s.book (moment_at s) r P
 ExplainsAct P id s act.Scan = Unit {0}
 ExplainsAct P id s act.Restart = Unit {0}
 

@@ -1,28 +1,36 @@
 -- The turn in which a recovery is done, and what it owes then.
-use Rattle.std.specs.Prelude.{◌≡◌, ◌<◌, ◌||◌, ℕ, List, All, Option, Some}
+use Rattle.std.specs.Prelude.{◌≡◌, ◌<◌, ◌||◌, ◌++◌, true, false, ℕ, List, [], All, Option, Some, None}
 use Rattle.orch_base.specs.Memory.{next_count}
+use Rattle.orch_base.specs.Names.{HostPort}
 use Rattle.orch_base.specs.declared.recovery.Ending.TheVariants as ending
 use Rattle.orch_base.specs.declared.server.Moment.{Moment}
 use Rattle.orch_base.specs.declared.server.ServerNo.{ServerNo}
+use Rattle.commands.specs.declared.cause.Cause.{Cause}
+use Rattle.commands.specs.declared.cause.Cause.TheVariants as cause
 use Rattle.commands.specs.declared.line.Line.{Line}
+use Rattle.hook_laws.specs.Tended.{all_before, all_behind}
 use Rattle.covered_laws.specs.Turns.{IsNamedOutcome}
 use Rattle.run_laws.specs.Flights.{moment_at}
 use Rattle.kept_rows.specs.declared.recovery.Recovery.{Recovery as KeptRecovery}
 use Rattle.jobs_in_flight.specs.Jobs.{job_at}
+use Rattle.operations.specs.declared.step.JobStep.{JobStep}
 use Rattle.operations.specs.declared.step.JobStep.TheVariants as step
 use Rattle.orch_core.specs.States.{State}
 use Rattle.recovery_core.specs.Endings.{is_takeover}
 use Rattle.recovery_covers.specs.Covers.{HasOnePlace, IsTold, times}
 use Rattle.recovery_outcomes.specs.Chains.{IsChain}
 use Rattle.recovery_histories.specs.Kept.{IsBeginning, Keeps, SameAim}
+use Rattle.recovery_hooks.specs.Runs.{HookState, done_lines, unsuccessful_lines}
 use Rattle.recovery_plans.specs.Recoveries.{Recovery}
 use Rattle.recovery_plans.specs.Taking.{Taken, taken}
 use Rattle.recovery_plans.specs.declared.purpose.Purpose.{Purpose}
 use Rattle.recovery_plans.specs.declared.purpose.Purpose.TheVariants as purpose
 use Rattle.server_model.specs.Worlds.{World}
+use Rattle.unended_jobs.specs.declared.docket.Docket.{Docket}
+use Rattle.unended_jobs.specs.Hooked.{Hooked, hooked, promoted_in}
 use Rattle.unended_jobs.specs.declared.unended.Unended.TheVariants as unended
 
--- a recovery's turn in a state
+-- a recovery's own turn in a state
 abbrev pub turn_taken : State → Recovery → Taken
 turn_taken s r = taken s.world s.book (next_count s.reads) (moment_at s) r
 
@@ -30,13 +38,56 @@ turn_taken s r = taken s.world s.book (next_count s.reads) (moment_at s) r
 abbrev pub recovery_after : State → Recovery → Recovery
 recovery_after s r = (turn_taken s r).recovery
 
--- the job of this number is a recovery, with this entry in the audit, and its turn is the one in which it is done, with
--- these lines
-pub record IsFinish (s : State) (id : ℕ) (r : Recovery) (entry : Option ℕ) (lines : List Line) : Type 0 where
-  pub found : job_at s.jobs id ≡ Some (unended.Recovery r entry)
-  pub done : (turn_taken s r).step ≡ step.Done lines
+-- the turn of its job, which may be that of a hook
+abbrev pub turn_hooked : State → Recovery → Docket → Hooked
+turn_hooked s r d = hooked s.world s.book (next_count s.reads) (moment_at s) r d
 
--- What it owes, over so many servers: it is about whom it was about, its outcome covers the replicas and is what the
+-- the name of the server that it promoted, if there is one
+abbrev pub promoted_then : State → Recovery → Option HostPort
+promoted_then s r = promoted_in s.book (turn_taken s r)
+
+-- the lines with which a step is done
+abbrev pub done_with : JobStep → List Line
+done_with step.Going = []
+done_with (step.Done lines) = lines
+done_with (step.Failed c lines) = []
+
+-- its own lines, without those of its hooks
+abbrev pub own_lines : State → Recovery → List Line
+own_lines s r = done_with (turn_taken s r).step
+
+-- those of its hooks that ran
+abbrev pub ran_lines : Option HookState → Option HostPort → List Line
+ran_lines None promoted = []
+ran_lines (Some h) promoted = done_lines h promoted
+
+-- those of all that run where it is done: all before it up to the first with another exit than 0, and all behind it
+abbrev pub told_hooks : Option HookState → Option HostPort → List Line
+told_hooks None promoted = []
+told_hooks (Some h) promoted = all_before h ++ all_behind h promoted
+
+-- Those of all that run where it fails: none before it where its failed server was reached, else all that run before it;
+-- and all that run then.
+pub record FailsTelling (h : HookState) (f : ServerNo) (c : Cause) (lines : List Line) : Type 0 where
+  pub looked : h.checked ≡ true → lines ≡ all_before h ++ unsuccessful_lines h
+  pub reached : h.checked ≡ false → (c ≡ cause.Reachable f) × (lines ≡ unsuccessful_lines h)
+
+-- one without hooks tells none
+abbrev pub TellsFailed : Option HookState → ServerNo → Cause → List Line → Type 0
+TellsFailed None f c lines = lines ≡ []
+TellsFailed (Some h) f c lines = FailsTelling h f c lines
+
+-- the job of this number is a recovery with this docket, and its turn is the one in which it is done, with these lines
+pub record IsFinish (s : State) (id : ℕ) (r : Recovery) (docket : Docket) (lines : List Line) : Type 0 where
+  pub found : job_at s.jobs id ≡ Some (unended.Recovery r docket)
+  pub done : (turn_hooked s r docket).taken.step ≡ step.Done lines
+
+-- or it is the one in which it fails for this cause, with these lines
+pub record IsFailure (s : State) (id : ℕ) (r : Recovery) (docket : Docket) (c : Cause) (lines : List Line) : Type 0 where
+  pub found : job_at s.jobs id ≡ Some (unended.Recovery r docket)
+  pub failed : (turn_hooked s r docket).taken.step ≡ step.Failed c lines
+
+-- What it owes, over so many servers: it is about whom it was about, its outcome covers the replicas and is what its own
 -- lines tell, each follower follows the promoted server, but after a swap the chosen one, which does, each replica has
 -- one place, and the outcome names servers that are there.
 pub record OwesNothing (count : ℕ) (w : World) (before after : Recovery) (lines : List Line) : Type 0 where

@@ -6,4 +6,5 @@ pub mod Facts
 pub mod Finished
 pub mod Origins
 pub mod RunFinishes
+pub mod Failing
 pub mod Everywhere

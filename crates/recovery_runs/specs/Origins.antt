@@ -1,34 +1,48 @@
 -- Where the recoveries of a run began, and which facts were true in its turns.
 use Rattle.recovery_reasons.specs.Reasons.{Fact}
-use Rattle.std.specs.Prelude.{◌≡◌, ℕ, Bool, List, Option, Some, Contains, slice_get, take}
+use Rattle.std.specs.Prelude.{◌≡◌, ◌<◌, ℕ, Bool, List, Option, Some, Contains, slice_get, take}
 use Rattle.book_views.specs.Sources.{replicas_of}
+use Rattle.hook_laws.specs.Tended.{IsOfDocket}
 use Rattle.kept_rows.specs.declared.row.Row.{Row}
 use Rattle.recovery_histories.specs.Kept.{SameAim}
 use Rattle.recovery_plans.specs.Recoveries.{Recovery}
+use Rattle.turns.specs.declared.turn.Act.TheVariants as act
 use Rattle.turns.specs.declared.turn.Turn.{Turn}
+use Rattle.turns.specs.declared.turn.Turn.TheVariants as kind
+use Rattle.unended_jobs.specs.declared.docket.Docket.{Docket}
 use Rattle.unended_jobs.specs.declared.unended.Unended.TheVariants as unended
+use Rattle.orch_core.specs.After.{step}
 use Rattle.orch_core.specs.Runs.{engine, run_turns}
 use Rattle.orch_core.specs.States.{State}
 use Rattle.recovery_runs.specs.Facts.{ExplainsTurn}
-use Rattle.recovery_runs.specs.Begun.{TellsAll, jobs_begun}
+use Rattle.recovery_runs.specs.Begun.{HasHooks, TellsAll, jobs_begun}
 
--- A recovery is what one has become that began in a turn of this state, with this entry in the audit, if it has one: it
--- is about the same, its replicas are those that the book had attached to the failed server then, and it tells of all.
-pub record BeganIn (s : State) (t : Turn) (r : Recovery) (entry : Option ℕ) : Type 0 where
+-- A recovery is what one has become that began in a turn of this state, with its entry in the audit, if it has one: it
+-- is about the same, its replicas are those that the book had attached to the failed server then, and it tells of all;
+-- and its hooks are those that it had then, which were told of the failed server as it was then.
+pub record BeganIn (s : State) (t : Turn) (r : Recovery) (docket : Docket) : Type 0 where
   pub was : Recovery
-  pub among : Contains (jobs_begun s t) (unended.Recovery was entry)
+  pub had : Docket
+  pub among : Contains (jobs_begun s t) (unended.Recovery was had)
   pub number : r.core.id ≡ was.core.id
   pub aim : SameAim was r
   pub replicas : r.replicas ≡ replicas_of s.book r.failed
   pub tells : TellsAll r
+  pub same : IsOfDocket had docket
+  pub hooks : HasHooks s r.purpose r.failed had.hooks
 
 -- It began in one of these turns from this state on.
-pub record Began (from : State) (xs : List (List Row × Turn)) (r : Recovery) (entry : Option ℕ) : Type 0 where
+pub record Began (from : State) (xs : List (List Row × Turn)) (r : Recovery) (docket : Docket) : Type 0 where
   pub place : ℕ
   pub turn : List Row × Turn
   pub taken : slice_get xs place ≡ Some turn
-  pub begins : BeganIn (run_turns engine from (take place xs)) turn.1 r entry
+  pub begins : BeganIn (run_turns engine from (take place xs)) turn.1 r docket
 
 -- in each of these turns each fact that is true in it, if it is one of the job of this number, counts
 abbrev pub ExplainsAlong : (Fact → Bool) → ℕ → State → List (List Row × Turn) → Type 0
 ExplainsAlong P id from xs = (k : ℕ) (x : List Row × Turn) → slice_get xs k ≡ Some x → ExplainsTurn P id (run_turns engine from (take k xs)) x.1
+
+-- in each turn of the job of this number, from this place on, the servers stay as they are
+abbrev pub StaysStill : ℕ → ℕ → State → List (List Row × Turn) → Type 0
+StaysStill place id from xs = (k : ℕ) (x : List Row × Turn) → place < k → slice_get xs k ≡ Some x → x.1 ≡ kind.Act (act.Job id)
+    → (step x.0 (run_turns engine from (take k xs)) x.1).world ≡ (run_turns engine from (take k xs)).world

@@ -1,14 +1,20 @@
 -- What the turn of a run in which a recovery is done owes.
-use Rattle.std.specs.Prelude.{◌≡◌, ◌<◌, ℕ, Bool, List, Option, Some}
+use Rattle.std.specs.Prelude.{◌≡◌, ◌<◌, ◌++◌, ℕ, Bool, List, Option, Some}
 use Rattle.std.specs.Option.{option_map}
 use Rattle.orch_base.specs.declared.server.ServerNo.{ServerNo}
 use Rattle.audit_log.specs.Audits.{recovery_at}
+use Rattle.commands.specs.declared.cause.Cause.{Cause}
+use Rattle.commands.specs.declared.cause.Cause.TheVariants as cause
 use Rattle.commands.specs.declared.line.Line.{Line}
 use Rattle.kept_rows.specs.declared.row.Row.{Row}
 use Rattle.recovery_covers.specs.Covers.{owed, times}
 use Rattle.recovery_outcomes.specs.Told.{IsToldOf}
+use Rattle.recovery_hooks.specs.Runs.{HookState}
 use Rattle.recovery_plans.specs.Recoveries.{Recovery}
+use Rattle.recovery_reasons.specs.OnWay.{AllFit}
 use Rattle.recovery_reasons.specs.Reasons.{Fact, IsExplained}
+use Rattle.scenarios.specs.Aliases.{alias_of}
+use Rattle.scenarios.specs.declared.scenario.Scenario.{Scenario}
 use Rattle.server_model.specs.Safe.{IsQuiet}
 use Rattle.server_model.specs.Worlds.{World}
 use Rattle.turns.specs.declared.reply.Reply.TheVariants as answered
@@ -20,23 +26,39 @@ use Rattle.orch_core.specs.After.{step}
 use Rattle.orch_core.specs.States.{State}
 use Rattle.run_laws.specs.Flights.{moment_at}
 use Rattle.recovery_runs.specs.Facts.{ExplainsTurn}
-use Rattle.recovery_runs.specs.Finishes.{KeepsHistories, OwesNothing, finished_so, recovery_after}
-use Rattle.recovery_runs.specs.Origins.{Began, ExplainsAlong}
+use Rattle.recovery_runs.specs.Finishes.{KeepsHistories, OwesNothing, TellsFailed, finished_so, own_lines, promoted_then, recovery_after, told_hooks}
+use Rattle.recovery_runs.specs.Origins.{Began, ExplainsAlong, StaysStill}
+use Rattle.unended_jobs.specs.declared.docket.Docket.{Docket}
 
 -- the servers after it
 abbrev pub world_then : List Row → State → ℕ → World
 world_then rows s id = (step rows s (turn.Act (act.Job id))).world
 
--- Its reply is the lines; its outcome covers the replicas, which are those that the book had attached to the failed
+-- Its reply is the lines, its own and those of all its hooks; its outcome covers the replicas, which are those that the book had attached to the failed
 -- server when it began, and is what the lines tell; whoever is owed has a line in it, as promoted, following or lost; in a quiet state the promoted server has the histories; the reasons
 -- of its lost, what it drained, whom it chose and promoted are facts that were true in one of its turns: ones that count
--- where each that was true counts; and its entry ends with the promoted server.
-pub record FinishesWell (count : ℕ) (from : State) (xs : List (List Row × Turn)) (rows : List Row) (s : State) (id : ℕ) (r : Recovery) (entry : Option ℕ) (lines : List Line) : Type 0 where
+-- where each that was true counts; nobody is lost since none may be promoted; and its entry ends with the promoted server.
+pub record FinishesWell (count : ℕ) (from : State) (xs : List (List Row × Turn)) (rows : List Row) (s : State) (id : ℕ) (r : Recovery) (docket : Docket) (lines : List Line) : Type 0 where
   pub reply : reply_of s (turn.Act (act.Job id)) ≡ answered.Told lines
-  pub owes : OwesNothing count (world_then rows s id) r (recovery_after s r) lines
-  pub began : Began from xs r entry
-  pub tells : (n : ServerNo) → 0 < times n.0 (owed r.purpose r.failed r.replicas) → IsToldOf r.purpose (recovery_after s r).outcome lines n
+  pub hooks : lines ≡ own_lines s r ++ told_hooks docket.hooks (promoted_then s r)
+  pub owes : OwesNothing count (world_then rows s id) r (recovery_after s r) (own_lines s r)
+  pub began : Began from xs r docket
+  pub tells : (n : ServerNo) → 0 < times n.0 (owed r.purpose r.failed r.replicas) → IsToldOf r.purpose (recovery_after s r).outcome (own_lines s r) n
   pub histories : IsQuiet (world_then rows s id) → KeepsHistories (world_then rows s id) r (recovery_after s r)
   pub told : (P : Fact → Bool) → ExplainsAlong P id from xs → ExplainsTurn P id s (turn.Act (act.Job id)) → IsExplained P (recovery_after s r)
-  pub ends : (e : ℕ) (n : ServerNo) → entry ≡ Some e → (recovery_after s r).outcome.promoted ≡ Some n
+  pub fit : AllFit (recovery_after s r).outcome.lost
+  pub ends : (e : ℕ) (n : ServerNo) → docket.entry ≡ Some e → (recovery_after s r).outcome.promoted ≡ Some n
       → recovery_at (step rows s (turn.Act (act.Job id))).audit e ≡ option_map (finished_so (moment_at s) r.purpose n) (recovery_at s.audit e)
+
+-- Its reply is the cause and the lines of its hooks, and it began in one of the turns. Where a hook ended it neither this
+-- turn nor one of those since then has changed a server.
+pub record FailsWell (from : State) (xs : List (List Row × Turn)) (rows : List Row) (s : State) (id : ℕ) (r : Recovery) (docket : Docket) (c : Cause) (lines : List Line) : Type 0 where
+  pub reply : reply_of s (turn.Act (act.Job id)) ≡ answered.Failed (record { cause = c; lines = lines })
+  pub hooks : TellsFailed docket.hooks r.failed c lines
+  pub began : Began from xs r docket
+  pub still : (number exit : ℕ) → c ≡ cause.HookFailed number exit → StaysStill began.place id from xs × (world_then rows s id ≡ s.world)
+
+-- the hooks of a recovery are the scenario's, and the alias that they are told is that of its cluster's label
+pub record AreScenarios (s : Scenario) (h : HookState) : Type 0 where
+  pub hooks : h.hooks ≡ s.hooks
+  pub alias : h.told.alias ≡ alias_of s.aliases h.told.cluster

@@ -1,9 +1,13 @@
 -- What holds of a state's recoveries beside what is held and sound.
-use Rattle.std.specs.Prelude.{ℕ}
+use Rattle.std.specs.Prelude.{◌≡◌, ℕ, All, Some}
 use Rattle.covered_laws.specs.Flights.{AimedJobs, CoveredJobs, KeptJobs, SpeakingJobs}
 use Rattle.run_laws.specs.Flights.{flight_of}
 use Rattle.orch_core.specs.States.{State}
+use Rattle.hook_laws.specs.Tended.{IsTended}
+use Rattle.recovery_hooks.specs.Runs.{HookState}
 use Rattle.recovery_plans.specs.Recoveries.{Recovery}
+use Rattle.unended_jobs.specs.declared.unended.Unended.{Unended}
+use Rattle.unended_jobs.specs.declared.unended.Unended.TheVariants as unended
 
 -- in every state, quiet or not
 abbrev pub CoveredState : State → Type 0
@@ -20,3 +24,12 @@ SpeakingState s = SpeakingJobs s.jobs
 -- in every state, of what the recovery of each number began with
 abbrev pub AimedState : (ℕ → Recovery) → State → Type 0
 AimedState begun s = AimedJobs begun s.jobs
+
+-- the hooks of a recovery are in order, and it hasn't looked at its failed server yet where it is as it began
+abbrev pub IsTendedBeside : Unended → Type 0
+IsTendedBeside (unended.Plan j) = Unit {0}
+IsTendedBeside (unended.Recovery r docket) = (h : HookState) → docket.hooks ≡ Some h → IsTended r h
+
+-- in every state
+pub record TendedState (s : State) : Type 0 where
+  pub jobs : All IsTendedBeside s.jobs

@@ -13,9 +13,9 @@ use Rattle.run_laws.specs.States.{HeldState}
 use Rattle.recovery_runs.specs.Begun.{BeginsOnce, ComesOf, jobs_begun}
 use Rattle.recovery_runs.specs.States.{AimedState}
 
--- the jobs that a turn begins are plans, and recoveries as they begin
+-- the jobs that a turn begins are plans, and recoveries as they begin, with their hooks
 abbrev pub BeginsJobsOnce : State → Turn → Type 0
-BeginsJobsOnce s t = All (BeginsOnce s.book) (jobs_begun s t)
+BeginsJobsOnce s t = All (BeginsOnce s) (jobs_begun s t)
 
 -- each recovery after a turn was there before it, or begins in it
 abbrev pub RecoveriesComeOfThoseBegun : Type 0

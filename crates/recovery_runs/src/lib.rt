@@ -8,8 +8,12 @@ mod steps;
 
 pub use finished::{
     facts_are_true, finished_recoveries_end_their_entries, finished_recoveries_owe_nothing,
+    recoveries_tell_all_hooks,
 };
-pub use runs::{recoveries_began, recoveries_finish_well, recoveries_have_true_facts};
+pub use runs::{
+    recoveries_began, recoveries_finish_well, recoveries_have_true_facts,
+    recoveries_tell_hooks_in_runs,
+};
 pub use steps::{
     openings_cover, recoveries_come_of_those_begun, turns_begin_jobs_once, turns_cover,
 };

@@ -1,6 +1,8 @@
 //! Laws of the recoveries of runs.
 
-ghost use Rattle.recovery_runs.specs.Everywhere.{RecoveriesAreExplained, NextAreExplained, RecoveriesBegan, RecoveriesFinishWell};
+ghost use Rattle.run_laws.specs.Runs.{InEveryState};
+ghost use Rattle.recovery_runs.specs.Failing.{RecoveriesFailForWhatBefell};
+ghost use Rattle.recovery_runs.specs.Everywhere.{EarlyTurnsStayStill, HooksAreScenarios, NextAreExplained, RecoveriesAreExplained, RecoveriesBegan, RecoveriesFailWell, RecoveriesFinishWell};
 
 /// A recovery in flight began in one of the turns of its run, a command's or a scan's, with its entry in the audit. It
 /// is about what it began with, and its replicas are those that the book had attached to the failed server then.
@@ -9,14 +11,26 @@ pub fn recoveries_began()
 {}
 
 /// What a recovery came to was true of the servers and the book in one of its turns: where each fact that was true in a
-/// turn of the recovery counts, all that it came to so far count, and so do all to which it comes in its next turn.
+/// turn of the recovery counts, all that it came to so far count, and so do all to which it comes in its next turn. One
+/// that answers a failure fails for what befell it in that turn: no candidate only where a decision of it found nobody;
+/// reachable only where its check reached the failed server; moved where the master was seen with a source; else its
+/// operation stopped so; or the hook that was due before it ended it.
 pub fn recoveries_have_true_facts()
     ensures before { RecoveriesAreExplained }
     ensures after { NextAreExplained }
+    ensures failed { InEveryState RecoveriesFailForWhatBefell }
 {}
 
 /// The turn of a run in which a recovery is done leaves nothing owed, whatever rows the keeper hands back and in
 /// whatever order the turns came.
 pub fn recoveries_finish_well()
     ensures { RecoveriesFinishWell }
+{}
+
+/// The turn of a run in which a recovery fails answers its cause and the lines of its hooks. Until all before it have run
+/// that are to, no turn of it changes a server: so none has where one of these ended it. Its hooks are the scenario's.
+pub fn recoveries_tell_hooks_in_runs()
+    ensures failed { RecoveriesFailWell }
+    ensures still { EarlyTurnsStayStill }
+    ensures own { HooksAreScenarios }
 {}

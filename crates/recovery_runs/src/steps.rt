@@ -1,28 +1,30 @@
 //! Laws of single turns and of openings.
 
-ghost use Rattle.recovery_runs.specs.States.{CoveredState, KeptState, SpeakingState};
+ghost use Rattle.recovery_runs.specs.States.{CoveredState, KeptState, SpeakingState, TendedState};
 ghost use Rattle.recovery_runs.specs.Turns.{AtAnyOpening, BeginsJobsOnce, OpeningsAreAimed, RecoveriesComeOfThoseBegun, TurnsKeepAims};
 ghost use Rattle.run_laws.specs.Turns.{TurnKeeps, WhereHeld, WhereReady, WhereSound};
 
 /// The jobs that a turn begins are plans, and recoveries as they begin, of the replicas that the book has of their
-/// failed servers, of which none is named twice.
+/// failed servers, of which none is named twice; and with the scenario's hooks, which are told of the failed server, but
+/// for a regroup and a takeover, which run none.
 pub fn turns_begin_jobs_once()
     ensures { WhereReady (λ count. BeginsJobsOnce) }
 {}
 
-/// Each recovery after a turn was there before it, or begins in it, with its number and its entry in the audit, and is
-/// about the same servers.
+/// Each recovery after a turn was there before it, or begins in it, with its number, its entry in the audit and its
+/// hooks, and is about the same servers.
 pub fn recoveries_come_of_those_begun()
     ensures { RecoveriesComeOfThoseBegun }
 {}
 
 /// A turn leaves each recovery with its replicas covered so far, whatever rows the keeper hands back; where the state
 /// is sound, too, with what its chosen server is to have kept; with operations that speak with the replica of which
-/// they make an entry; and about what it began with.
+/// they make an entry; with its hooks in order; and about what it began with.
 pub fn turns_cover()
     ensures covered { WhereHeld (TurnKeeps CoveredState) }
     ensures kept { WhereSound (λ s t. CoveredState s → TurnKeeps KeptState s t) }
     ensures speaking { WhereHeld (TurnKeeps SpeakingState) }
+    ensures tended { WhereHeld (TurnKeeps TendedState) }
     ensures aimed { TurnsKeepAims }
 {}
 
@@ -31,5 +33,6 @@ pub fn openings_cover()
     ensures covered { AtAnyOpening CoveredState }
     ensures kept { AtAnyOpening KeptState }
     ensures speaking { AtAnyOpening SpeakingState }
+    ensures tended { AtAnyOpening TendedState }
     ensures aimed { OpeningsAreAimed }
 {}

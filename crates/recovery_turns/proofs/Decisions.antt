@@ -7,8 +7,8 @@ use Rattle.std.proofs.lemmas.List.Folds.{find-append}
 use Rattle.std.proofs.lemmas.List.{append_assoc, drop-drop}
 use Rattle.orch_base.specs.declared.server.Moment.{Moment}
 use Rattle.orch_base.specs.declared.server.ServerNo.{ServerNo}
-use Rattle.commands.specs.declared.line.Lost.{Lost}
-use Rattle.commands.specs.declared.line.Lost.TheVariants as lost
+use Rattle.recovery_plans.specs.declared.why.Why.{Why}
+use Rattle.recovery_plans.specs.Whys as lost
 use Rattle.instance_keeper.specs.Book.{BookState}
 use Rattle.server_model.specs.Worlds.{World}
 use Rattle.operations.specs.declared.op.Op.{Op}
@@ -18,7 +18,7 @@ use Rattle.recovery_plans.specs.declared.outcome.Stopped.{Stopped}
 use Rattle.recovery_plans.specs.declared.task.Task.{Task}
 use Rattle.recovery_plans.specs.declared.task.Task.TheVariants as task
 use Rattle.recovery_plans.specs.declared.task.Way.{Way}
-use Rattle.recovery_plans.specs.Deciding.{choose, expels, hand, hand_by, losses_in, lot_of, may_lead, moves_in, releases, sort, stuck, once, unfit, way_below, why_of, without_stopped}
+use Rattle.recovery_plans.specs.Deciding.{choose, expels, hand, hand_by, losses_in, may_lead, moves_in, releases, sort, stuck, once, unfit, way_below, why_of, without_stopped}
 use Rattle.recovery_plans.specs.Recoveries.{Recovery, loses}
 use Rattle.recovery_plans.specs.Telling.{follower_line}
 use Rattle.recovery_turns.specs.declared.decided.Decided.{Decided}
@@ -114,18 +114,18 @@ hand_way w b s r d m x j f o is more idle job at told =
     ∙ sym told
 
 -- one is lost: the others are fewer, and the task stays
-pub left_on : (r : Recovery) (d m e : Decided) (x : Stopped) (why : Lost) → m ≡ record d { handed = m.handed } → m.handed ≡ d.handed + 1 → d.work ≡ None
+pub left_on : (r : Recovery) (d m e : Decided) (x : Stopped) (why : Why) → m ≡ record d { handed = m.handed } → m.handed ≡ d.handed + 1 → d.work ≡ None
     → decided_on r e ≡ loses (decided_on r m) x.no why → decided_on r e ≡ loses (record (decided_on r d) { drained = drop 1 (decided_on r d).drained }) x.no why
 left_on r d m e x why is more idle left = left ∙ ap (λ (y : Recovery). loses y x.no why) (handed_on r d m is more idle)
 
-pub left_fewer : (r : Recovery) (d e : Decided) (x : Stopped) (why : Lost) → (decided_on r d).drained ≡ x ∷ drop 1 (decided_on r d).drained
+pub left_fewer : (r : Recovery) (d e : Decided) (x : Stopped) (why : Why) → (decided_on r d).drained ≡ x ∷ drop 1 (decided_on r d).drained
     → decided_on r e ≡ loses (record (decided_on r d) { drained = drop 1 (decided_on r d).drained }) x.no why → length (decided_on r e).drained < length (decided_on r d).drained
 left_fewer r d e x why head left =
     let same : length (decided_on r e).drained ≡ length (drop 1 (decided_on r d).drained) = ap (λ (y : Recovery). length y.drained) left in
     let long : length (decided_on r d).drained ≡ length (x ∷ drop 1 (decided_on r d).drained) = ap length head in
     omega (arith, same, long)
 
-pub left_task : (r : Recovery) (d e : Decided) (x : Stopped) (why : Lost) → (decided_on r d).queue ≡ task.Handing ∷ drop 1 (decided_on r d).queue
+pub left_task : (r : Recovery) (d e : Decided) (x : Stopped) (why : Why) → (decided_on r d).queue ≡ task.Handing ∷ drop 1 (decided_on r d).queue
     → decided_on r e ≡ loses (record (decided_on r d) { drained = drop 1 (decided_on r d).drained }) x.no why
     → (decided_on r e).queue ≡ task.Handing ∷ drop 1 (decided_on r e).queue
 left_task r d e x why queue left = subst (λ (ts : List Task). ts ≡ task.Handing ∷ drop 1 ts) (sym (ap (λ (y : Recovery). y.queue) left)) queue
@@ -134,11 +134,11 @@ left_task r d e x why queue left = subst (λ (ts : List Task). ts ≡ task.Handi
 pub hand_drained : (w : World) (b : BookState) (s : ServerNo) (r : Recovery) (xs ds : List Stopped) → hand w b s (record r { drained = xs }) ds ≡ hand w b s r ds
 hand_drained w b s r xs [] = refl
 hand_drained w b s r xs (d ∷ ds) =
-    ap (hand_by (record r { drained = xs }) d ds (way_below w b r.core.seen r.failed s d)) (hand_drained w b s (loses r d.no (lost.Behind d.exec)) xs ds)
+    ap (hand_by (record r { drained = xs }) d ds (way_below w b r.core.seen r.failed s d)) (hand_drained w b s (loses r d.no (lost.behind d.exec)) xs ds)
     ∙ either (way_below w b r.core.seen r.failed s d)
   where
-    either : (o : Option Way) → hand_by (record r { drained = xs }) d ds o (hand w b s (loses r d.no (lost.Behind d.exec)) ds)
-        ≡ hand_by r d ds o (hand w b s (loses r d.no (lost.Behind d.exec)) ds)
+    either : (o : Option Way) → hand_by (record r { drained = xs }) d ds o (hand w b s (loses r d.no (lost.behind d.exec)) ds)
+        ≡ hand_by r d ds o (hand w b s (loses r d.no (lost.behind d.exec)) ds)
     either None = refl
     either (Some by) = refl
 
@@ -148,15 +148,15 @@ pub hand_goes : (w : World) (b : BookState) (s : ServerNo) (r : Recovery) (d : S
     → Rattle.recovery_plans.specs.Deciding.moving (record r { drained = ds }) d.no by ≡ hand w b s (record r { queue = drop 1 r.queue }) r.drained
 hand_goes w b s r d ds by queue drained goes =
     ap (λ (ts : List Task). Rattle.recovery_plans.specs.Deciding.moving (record r { queue = ts; drained = ds }) d.no by) queue
-    ∙ ap (λ (o : Option Way). hand_by (record r { queue = drop 1 r.queue }) d ds o (hand w b s (loses (record r { queue = drop 1 r.queue }) d.no (lost.Behind d.exec)) ds)) (sym goes)
+    ∙ ap (λ (o : Option Way). hand_by (record r { queue = drop 1 r.queue }) d ds o (hand w b s (loses (record r { queue = drop 1 r.queue }) d.no (lost.behind d.exec)) ds)) (sym goes)
     ∙ ap (hand w b s (record r { queue = drop 1 r.queue })) (sym drained)
 
 -- one is lost, and the others are handed over
 pub hand_loses : (w : World) (b : BookState) (s : ServerNo) (r : Recovery) (d : Stopped) (ds : List Stopped) → r.drained ≡ d ∷ ds → way_below w b r.core.seen r.failed s d ≡ None
-    → hand w b s (record (loses r d.no (lost.Behind d.exec)) { queue = drop 1 r.queue; drained = ds }) ds ≡ hand w b s (record r { queue = drop 1 r.queue }) r.drained
+    → hand w b s (record (loses r d.no (lost.behind d.exec)) { queue = drop 1 r.queue; drained = ds }) ds ≡ hand w b s (record r { queue = drop 1 r.queue }) r.drained
 hand_loses w b s r d ds drained none =
-    hand_drained w b s (record (loses r d.no (lost.Behind d.exec)) { queue = drop 1 r.queue }) ds ds
-    ∙ ap (λ (o : Option Way). hand_by (record r { queue = drop 1 r.queue }) d ds o (hand w b s (loses (record r { queue = drop 1 r.queue }) d.no (lost.Behind d.exec)) ds)) (sym none)
+    hand_drained w b s (record (loses r d.no (lost.behind d.exec)) { queue = drop 1 r.queue }) ds ds
+    ∙ ap (λ (o : Option Way). hand_by (record r { queue = drop 1 r.queue }) d ds o (hand w b s (loses (record r { queue = drop 1 r.queue }) d.no (lost.behind d.exec)) ds)) (sym none)
     ∙ ap (hand w b s (record r { queue = drop 1 r.queue })) (sym drained)
 
 -- ---- where a decision takes the queue's place

@@ -18,7 +18,8 @@ use Rattle.recovery_turns.specs.declared.look.RecoveryLook.{RecoveryLook}
 use Rattle.recovery_turns.specs.declared.look.Then.{Then}
 use Rattle.recovery_turns.specs.declared.look.Then.TheVariants as then
 use Rattle.recovery_turns.specs.Deciding.{Fits, decided_on}
-use Rattle.recovery_turns.specs.Steps.{IsTold, borne, followed}
+use Rattle.recovery_plans.specs.Moves.{borne}
+use Rattle.recovery_turns.specs.Steps.{IsTold, followed}
 
 -- the recovery after what comes behind its decisions, where it goes on
 abbrev pub after_then : Recovery → Option Then → Recovery

@@ -7,6 +7,7 @@ use Rattle.recovery_turns.specs.Cores.{core_of}
 abbrev pub recovery_of : Inside → Recovery
 recovery_of a = record {
   purpose = a.purpose;
+  means = a.means;
   core = core_of a.core;
   stage = a.stage;
   queue = drop a.begun a.queue.items;

@@ -1,12 +1,11 @@
 -- A turn after which a recovery goes on, by whether its operation ended the stage.
-use Rattle.std.specs.Prelude.{◌≡◌, Bool, true, false, [], Option, Some, None}
+use Rattle.std.specs.Prelude.{◌≡◌, Bool, true, false, Option, Some, None}
 use Rattle.operations.specs.Jobs.{Job}
-use Rattle.recovery_plans.specs.declared.stage.Stage.TheVariants as stage
-use Rattle.recovery_plans.specs.Recoveries.{Recovery, loses, working}
+use Rattle.recovery_plans.specs.Recoveries.{Recovery}
 use Rattle.recovery_plans.specs.Stages.{moved}
 use Rattle.recovery_plans.specs.Telling.{told}
 use Rattle.recovery_turns.specs.declared.progress.LastLines.{LastLines}
-use Rattle.recovery_plans.specs.Taking.{Fate, Fails, Drops, Loses, Frees, Goes, at_end, entered, frees, is_waiting}
+use Rattle.recovery_plans.specs.Taking.{at_end, entered, is_waiting}
 
 abbrev pub stepped_by : Recovery → Bool → Recovery
 stepped_by r true = entered r (moved r.stage)
@@ -19,14 +18,6 @@ progressed_by r ending false = let s = stepped_by r ending in at_end s s.core.op
 -- its job is this one after an operation that ended the stage or didn't
 abbrev pub followed : Recovery → Bool → Job → Recovery
 followed r ending j = progressed_by (record r { core = j }) ending (is_waiting j)
-
--- a recovery that goes on where an operation fails
-abbrev pub borne : Recovery → Fate → Recovery
-borne r Fails = r
-borne r Drops = working r stage.Idle []
-borne r (Loses n why) = working (loses r n why) stage.Idle []
-borne r (Frees n why) = frees r n why
-borne r (Goes s ops) = working r s ops
 
 -- the lines are what a recovery tells
 abbrev pub IsTold : Recovery → Option LastLines → Type 0

@@ -10,7 +10,7 @@ use crate::RecoveryJob;
 use crate::job_parts::JobParts;
 use operations::Op;
 use orch_base::{Memory, ServerNo};
-use recovery_plans::{Purpose, Stage, Task};
+use recovery_plans::{Means, Purpose, Stage, Task};
 use std::alloc::Global;
 
 fn first_stage(purpose: Purpose, failed: ServerNo) -> Stage
@@ -130,11 +130,12 @@ fn first_job(
 }
 
 impl RecoveryJob {
-    /// A recovery begins, as the job of this number, whose operations may wait so often each: of this server, with
+    /// A recovery begins, by whose means the others go, as the job of this number, whose operations may wait so often each: of this server, with
     /// these replicas, and telling of those, both in name order.
     pub fn make(
         alloc: Global,
         purpose: Purpose,
+        means: Means,
         id: u64,
         wait: u32,
         failed: ServerNo,
@@ -142,12 +143,13 @@ impl RecoveryJob {
         order: Vec<ServerNo>,
     ) -> Result<RecoveryJob, Memory>
         ensures { IfOk result (λ r. r
-            ≡ begun_recovery purpose id wait failed replicas.items order.items) }
+            ≡ begun_recovery purpose means id wait failed replicas.items order.items) }
     {
         let room = replicas.len() + 8;
         let chosen = first_source(purpose);
         Ok(RecoveryJob {
             purpose,
+            means,
             core: first_job(alloc, purpose, id, wait, failed, room)?,
             stage: first_stage(purpose, failed),
             queue: first_tasks(alloc, purpose, &replicas)?,

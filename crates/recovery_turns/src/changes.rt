@@ -8,11 +8,10 @@ ghost use Rattle.recovery_plans.specs.Taking.{expelled, idle, marked};
 ghost use Rattle.recovery_turns.specs.RecoveriesBy.{room_for};
 
 use crate::RecoveryJob;
-use commands::Lost;
 use job_plans::Act;
 use operations::{Op, Sight};
 use orch_base::ServerNo;
-use recovery_plans::{Follower, LostReplica, Stage, Stopped};
+use recovery_plans::{Follower, LostReplica, Stage, Stopped, Why};
 
 // A replica follows no more.
 fn let_go(followers: &mut Vec<Follower>, no: ServerNo)
@@ -102,7 +101,7 @@ impl RecoveryJob {
     }
 
     // A replica is left.
-    pub(crate) fn lose(&mut self, no: ServerNo, why: Lost)
+    pub(crate) fn lose(&mut self, no: ServerNo, why: Why)
         requires { length self.old.outcome.lost < room_for self.old.replicas }
         ensures { self.new ≡ loses self.old no why }
     {

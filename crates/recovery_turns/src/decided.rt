@@ -7,13 +7,12 @@ ghost use Rattle.recovery_plans.specs.Deciding.{moving};
 ghost use Rattle.recovery_turns.specs.Deciding.{Fits, IsBusy, IsFirst, decided_on, seen_by, sights_of};
 
 use crate::RecoveryJob;
-use commands::Lost;
 use instance_keeper::Bridge;
 use job_plans::JobView;
 use operations::{Op, Sight};
 use orch_base::{Memory, ServerNo};
 use recovery_parts::{moving, one, room, sight_of};
-use recovery_plans::{LostReplica, Stage, Stopped, Task, Way};
+use recovery_plans::{LostReplica, Stage, Stopped, Task, Way, Why};
 use std::alloc::Global;
 use std::slice::from_ref;
 
@@ -193,7 +192,7 @@ impl Decided {
     }
 
     // A replica is left.
-    pub(crate) fn lose(&mut self, of: &RecoveryJob, no: ServerNo, why: Lost) -> Result<(), Memory>
+    pub(crate) fn lose(&mut self, of: &RecoveryJob, no: ServerNo, why: Why) -> Result<(), Memory>
         requires idle { self.old.work ≡ None }
         ensures value { OnOk result (decided_on of.now self.new
             ≡ loses (decided_on of.now self.old) no why) }
@@ -276,7 +275,12 @@ impl Decided {
         let stage = Stage::Move(no, way);
         match way {
             Way::Down(bridge) | Way::Up(bridge) => self.begin_by(alloc, of, bridge, stage, ops),
-            Way::Auto { to: _, exec: _ } => self.begin(of, stage, ops),
+            Way::Auto { to: _, exec: _ }
+            | Way::Match {
+                to: _,
+                exec: _,
+                every: _,
+            } => self.begin(of, stage, ops),
         }
         Ok(())
     }

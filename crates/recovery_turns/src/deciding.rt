@@ -13,7 +13,7 @@ use orch_base::{Memory, ServerNo};
 use recovery_parts::{
     Ground, chosen_of, divide, expels, leaders, lose_all, releases, way_below, without,
 };
-use recovery_plans::{Stage, Stopped, Task};
+use recovery_plans::{Stage, Stopped, Task, Why};
 use std::alloc::Global;
 
 fn push_if(tasks: &mut Vec<Task>, given: bool, task: Task) -> Result<(), Memory>
@@ -45,7 +45,15 @@ impl Decided {
         ensures idle { self.new.work ≡ None }
     {
         let others = without(alloc, drained, chosen.no)?;
-        let mut queue = divide(alloc, by, of.failed, &chosen, &others, &mut self.lost)?;
+        let mut queue = divide(
+            alloc,
+            by,
+            of.means,
+            of.failed,
+            &chosen,
+            &others,
+            &mut self.lost,
+        )?;
         queue.extend_from_slice(self.tasks(of))?;
         self.eligible = Some(leaders(alloc, by, drained)?);
         self.queue = Some(queue);
@@ -128,7 +136,7 @@ impl Decided {
         match way {
             Some(way) => self.go(alloc, of, first.no, way),
             None => {
-                self.lose(of, first.no, Lost::Behind(first.exec))?;
+                self.lose(of, first.no, Why::Lost(Lost::Behind(first.exec)))?;
                 self.hand(alloc, of, by, successor)
             }
         }
@@ -157,7 +165,7 @@ impl Decided {
     }
 
     // Why a replica is lost.
-    fn why_of(&self, of: &RecoveryJob, no: ServerNo) -> Option<Lost>
+    fn why_of(&self, of: &RecoveryJob, no: ServerNo) -> Option<Why>
         ensures { result ≡ why_of (decided_on of.now self.now).outcome.lost no }
     {
         let replica = self.lost_one(of, no)?;

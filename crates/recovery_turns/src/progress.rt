@@ -4,13 +4,14 @@ ghost use Rattle.std.specs.Prelude.{◌≡◌, ◌≤◌, vec_capacity};
 ghost use Rattle.orch_base.specs.declared.server.ServerNo.{ServerNo as Number};
 ghost use Rattle.operations.specs.Jobs.{seen_of};
 ghost use Rattle.recovery_plans.specs.Deciding.{closing, moving};
+ghost use Rattle.recovery_plans.specs.Moves.{borne};
 ghost use Rattle.recovery_plans.specs.Stages.{moved};
 ghost use Rattle.recovery_plans.specs.Taking.{completed, frees, gathered, halted, idle, is_below, last_looks, lead_under, looked, swapped};
 ghost use Rattle.recovery_plans.specs.Recoveries.{follows};
 ghost use Rattle.recovery_parts.specs.Fates.{fate_told};
 ghost use Rattle.recovery_turns.specs.Deciding.{seen_by};
 ghost use Rattle.recovery_turns.specs.RecoveriesBy.{IsRoomy};
-ghost use Rattle.recovery_turns.specs.Steps.{IsTold, borne, progressed_by, stepped_by};
+ghost use Rattle.recovery_turns.specs.Steps.{IsTold, progressed_by, stepped_by};
 
 use crate::RecoveryJob;
 use commands::{Lines, Lost};
@@ -20,7 +21,7 @@ use orch_base::{ServerNo, SourceState};
 use recovery_parts::{
     Fate, leaver, moved, moving, one, shut, sight_of, spot_seen, three, trail, two,
 };
-use recovery_plans::{Purpose, Stage, Stopped, Way};
+use recovery_plans::{Purpose, Stage, Stopped, Way, Why};
 use std::alloc::Global;
 
 /// The lines of a recovery that is done, twice: for its stage and its last operation.
@@ -55,14 +56,14 @@ impl RecoveryJob {
         ensures { self.new ≡ completed self.old (Stage.Judged no) }
     {
         let Some(seen) = self.sight(no) else {
-            self.lose(no, Lost::Unreachable);
+            self.lose(no, Why::Lost(Lost::Unreachable));
             return self.idle();
         };
         let (exec, own_end, source) = (seen.exec, seen.own_end, seen.source);
         if is_below(seen, self.failed) {
             self.drain(Stopped { no, exec, own_end });
         } else {
-            self.lose(no, Lost::Moved(spot_seen(source, exec)));
+            self.lose(no, Why::Lost(Lost::Moved(spot_seen(source, exec))));
         }
         self.idle();
     }
@@ -121,7 +122,7 @@ impl RecoveryJob {
     }
 
     // A lost one is started at once.
-    fn free(&mut self, no: ServerNo, why: Lost, ops: Vec<Op>)
+    fn free(&mut self, no: ServerNo, why: Why, ops: Vec<Op>)
         requires room { IsRoomy 1 self.old }
         requires ops { 8 ≤ vec_capacity ops }
         ensures { self.new ≡ frees self.old no why }
@@ -137,7 +138,7 @@ impl RecoveryJob {
         ensures { self.new ≡ looked self.old no lead (seen_of self.old.core.seen no.0) }
     {
         let Some(seen) = self.sight(no) else {
-            self.lose(no, Lost::Unreachable);
+            self.lose(no, Why::Lost(Lost::Unreachable));
             return self.idle();
         };
         let spot = spot_seen(seen.source, seen.exec);
@@ -145,7 +146,7 @@ impl RecoveryJob {
             self.see_bridge(alloc, lead);
             self.work(Stage::Trail(no, lead), trail(ops, no, lead.no));
         } else {
-            self.lose(no, Lost::Moved(spot));
+            self.lose(no, Why::Lost(Lost::Moved(spot)));
             self.idle();
         }
     }
@@ -157,13 +158,13 @@ impl RecoveryJob {
         ensures { self.new ≡ halted self.old no lead (seen_of self.old.core.seen no.0) }
     {
         let Some(seen) = self.sight(no) else {
-            return self.free(no, Lost::Unreachable, ops);
+            return self.free(no, Why::Lost(Lost::Unreachable), ops);
         };
         let exec = seen.exec;
         if exec == lead.exec {
             self.go_down(alloc, no, lead, ops);
         } else {
-            self.free(no, Lost::Behind(exec), ops);
+            self.free(no, Why::Lost(Lost::Behind(exec)), ops);
         }
     }
 

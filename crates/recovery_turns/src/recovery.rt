@@ -9,13 +9,15 @@ use instance_keeper::Bridge;
 use job_plans::JobView;
 use operations::Position;
 use orch_base::ServerNo;
-use recovery_plans::{Follower, LostReplica, Purpose, Stage, Stopped, Task};
+use recovery_plans::{Follower, LostReplica, Means, Purpose, Stage, Stopped, Task};
 use std::marker::Model;
 
 /// What is done with the replicas of a server that failed, or that gives up its place.
 #[derive(Drop)]
 pub struct RecoveryJob {
     pub(crate) purpose: Purpose,
+    // How the others go.
+    pub(crate) means: Means,
     // Its operations are those that are left of the stage.
     pub(crate) core: JobParts,
     pub(crate) stage: Stage,

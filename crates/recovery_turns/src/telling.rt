@@ -2,15 +2,16 @@
 
 ghost use Rattle.std.specs.Prelude.{◌≡◌, ◌++◌, IfOk, OnOk, filter_map};
 ghost use Rattle.std.specs.Option.{option_to_list};
-ghost use Rattle.recovery_plans.specs.Telling.{follower_line, lost_line, replica_line, told};
+ghost use Rattle.recovery_plans.specs.Telling.{follower_line, lost_line, replica_line, told, told_why};
+ghost use Rattle.recovery_plans.specs.Whys.{cause_of};
 ghost use Rattle.recovery_turns.specs.Deciding.{decided_on};
 ghost use Rattle.recovery_turns.specs.Lines.{source_line};
 
 use crate::RecoveryJob;
 use crate::decided::Decided;
-use commands::{Line, Lines};
+use commands::{Cause, Line, Lines};
 use orch_base::{Memory, ServerNo};
-use recovery_plans::Purpose;
+use recovery_plans::{Miss, Purpose, Why};
 use std::alloc::Global;
 
 fn follower_line(of: &RecoveryJob, no: ServerNo) -> Option<Line>
@@ -40,16 +41,43 @@ fn source_line(purpose: Purpose, no: ServerNo) -> Line
     }
 }
 
+fn cause_of(no: ServerNo, miss: Miss) -> Cause
+    ensures { result ≡ cause_of no miss }
+{
+    match miss {
+        Miss::Unreachable(away) => Cause::Unreachable(away),
+        Miss::Running => Cause::Running(no),
+        Miss::Interfered { expected, found } => Cause::Interfered {
+            no,
+            expected,
+            found,
+        },
+        Miss::Loop => Cause::Loop(no),
+        Miss::Purged(first) => Cause::Purged(no, first),
+        Miss::NoMark => Cause::NoMark(no),
+        Miss::Mismatch(entry) => Cause::Mismatch(no, entry),
+    }
+}
+
+// The line of a lost one, detached or not; that of one that met a cause has that cause.
+fn told_why(no: ServerNo, detached: bool, why: Why) -> Line
+    ensures { result ≡ told_why no detached why }
+{
+    match why {
+        Why::Lost(why) => Line::Lost { no, why, detached },
+        Why::Unmatched(miss) => Line::Unmatched {
+            no,
+            why: cause_of(no, miss),
+        },
+    }
+}
+
 impl Decided {
     fn lost_line(&self, of: &RecoveryJob, no: ServerNo) -> Option<Line>
         ensures { result ≡ lost_line (decided_on of.now self.now).outcome no }
     {
         let replica = self.lost_one(of, no)?;
-        Some(Line::Lost {
-            no: replica.no,
-            why: replica.why,
-            detached: replica.detached,
-        })
+        Some(told_why(replica.no, replica.detached, replica.why))
     }
 
     // The line of a replica that follows or is lost.

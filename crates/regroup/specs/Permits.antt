@@ -5,11 +5,11 @@ use Rattle.std.specs.Option.{option_or, option_to_list}
 use Rattle.orch_base.specs.declared.server.Moment.{Moment}
 use Rattle.orch_base.specs.declared.server.ServerNo.{ServerNo}
 use Rattle.commands.specs.declared.refusal.Refusal.{Refusal}
-use Rattle.commands.specs.declared.refusal.Refusal.TheVariants.{NoCandidate, NoPath}
+use Rattle.commands.specs.declared.refusal.Refusal.TheVariants.{NoPath}
 use Rattle.commands.specs.declared.turn.Command.{Command}
 use Rattle.instance_keeper.specs.Book.{BookState}
 use Rattle.book_views.specs.Sources.{replicas_of}
-use Rattle.promotion_candidates.specs.Candidates.{has_candidate}
+use Rattle.promotion_candidates.specs.Candidates.{without_candidate}
 use Rattle.server_model.specs.Worlds.{World}
 use Rattle.permission.specs.Checks.{Case, first_refusal}
 use Rattle.permission.specs.Lists.{first_about, only_if}
@@ -85,9 +85,6 @@ without_path b d n = only_if (not (is_some (path_to b d n))) NoPath
 abbrev pub astray : Bool → BookState → List ServerNo → Option ServerNo → Option Refusal
 astray true b movers d = None
 astray false b movers d = first_about (without_path b d) movers
-
-abbrev pub without_candidate : World → BookState → Moment → ServerNo → Option Refusal
-without_candidate w b now i = only_if (not (has_candidate w b now i)) NoCandidate
 
 -- a command's own check: with GTIDs no path is looked for
 abbrev pub own_refusal : World → BookState → Moment → RegroupCommand → ServerNo → Option ServerNo → Option Refusal

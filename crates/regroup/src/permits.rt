@@ -8,7 +8,7 @@ ghost use Rattle.commands.specs.Turns.{is_within};
 ghost use Rattle.permission.specs.Checks.{permit_fault, permitted};
 ghost use Rattle.permission.specs.Lists.{first_about};
 ghost use Rattle.regroup.specs.Commands.{regroup_command};
-ghost use Rattle.regroup.specs.Permits.{astray, case_of, crossed_by, last_row_of, leased_by, movers_of, own_refusal, passed_by, refusal_about, refusal_of, relocating, row_of, without_candidate, without_path};
+ghost use Rattle.regroup.specs.Permits.{astray, case_of, crossed_by, last_row_of, leased_by, movers_of, own_refusal, passed_by, refusal_about, refusal_of, relocating, row_of, without_path};
 
 use crate::command::{RegroupCommand, regroup_command};
 use crate::ways::{path_to, push_crossed, push_passed};
@@ -18,7 +18,7 @@ use commands::{Command, Refusal};
 use instance_keeper::Book;
 use orch_base::{Moment, ServerNo};
 use permission::{Check, Movers, answered, one_or_none, replicas_but, row_refusal, unknown_in};
-use promotion_candidates::has_candidate;
+use promotion_candidates::without_candidate;
 use server_model::World;
 use std::alloc::Global;
 use topology_tree::Forest;
@@ -226,22 +226,6 @@ fn astray(
         }
     }
     Ok(None)
-}
-
-fn without_candidate(
-    alloc: Global,
-    book: &Book,
-    world: &World,
-    i: ServerNo,
-    now: Moment,
-) -> Result<Option<Refusal>, Memory>
-    ensures { IfOk result (λ r. r ≡ without_candidate world.now book.now now i) }
-{
-    if has_candidate(book, world, &replicas(alloc, book, i)?, now) {
-        Ok(None)
-    } else {
-        Ok(Some(Refusal::NoCandidate))
-    }
 }
 
 // A command's own check.

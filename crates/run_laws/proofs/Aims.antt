@@ -1,7 +1,7 @@
 -- What a turn begins is about whom it was asked for.
 use Rattle.std.proofs.Common.{◌≡◌, ℕ, ◌+◌, List, [], ◌∷◌, refl, subst, false, Option, Some, None, Result, Ok, Err}
 use Rattle.std.specs.Prelude.{All, Contains}
-use Rattle.std.proofs.lemmas.List.Elements.{All-cons, All-contains_itself, All-head, All-nil, All-push, All-tail, All-weaker}
+use Rattle.std.proofs.lemmas.List.Elements.{All-cons, All-contains_itself, All-head, All-map, All-nil, All-push, All-tail, All-weaker}
 use Rattle.audit_log.specs.Audits.{AuditState}
 use Rattle.command_routes.specs.declared.route.Route.{Route}
 use Rattle.command_routes.specs.declared.route.Route.TheVariants.{Discovers, Forgets, Asks, Decides, Begins, Recovers, TakesOver}
@@ -29,10 +29,12 @@ use Rattle.turns.specs.declared.turn.Act.TheVariants as act
 use Rattle.turns.specs.declared.turn.Turn.{Turn}
 use Rattle.turns.specs.declared.turn.Turn.TheVariants as turn
 use Rattle.orch_core.specs.Commands.{by_hand}
+use Rattle.orch_core.specs.HookTelling.{told_try, with_told}
 use Rattle.orch_core.specs.Polls.{numbers_of}
+use Rattle.orch_core.specs.declared.configuration.Configuration.{Configuration}
 use Rattle.orch_core.specs.States.{State}
 use Rattle.run_laws.specs.Aims.{IsAbout, IsAimed, IsAskedBy, IsAskedIn, IsFor}
-use Rattle.run_laws.specs.Entries.{attempt_in, recoveries_begun, recoveries_by, recoveries_in_act, recoveries_of, takeovers_by, takeovers_of, tried}
+use Rattle.run_laws.specs.Entries.{attempt_in, recoveries_begun, recoveries_by, recoveries_in_act, recoveries_of, scan_in, takeovers_by, takeovers_of, tried}
 
 -- ---- by a scan
 
@@ -74,6 +76,20 @@ no-takeover : (o : Option ServerNo) → is_takeover (purpose_by o) ≡ false
 no-takeover None = refl
 no-takeover (Some s) = refl
 
+-- whatever hooks are told of it
+module _ (k : Configuration) (b : BookState) where
+  with-told-about : (x : RecoveryBegins) → IsAbout b x → IsAbout b (with_told k b x)
+  with-told-about x about = record { failed = about.failed; cluster = about.cluster; purpose = about.purpose }
+
+  with-told-asked : (c : Command) (r : Route) (x : RecoveryBegins) → IsAskedBy c r x → IsAskedBy c r (with_told k b x)
+  with-told-asked c Discovers x asked = absurd asked
+  with-told-asked c Forgets x asked = absurd asked
+  with-told-asked c (Asks question) x asked = absurd asked
+  with-told-asked c (Decides decision) x asked = absurd asked
+  with-told-asked c (Begins p) x asked = absurd asked
+  with-told-asked c Recovers x asked = asked
+  with-told-asked c TakesOver x asked = asked
+
 -- ---- by a command
 
 module _ (s : State) (c : Command) where
@@ -83,8 +99,8 @@ module _ (s : State) (c : Command) where
   abbrev attempt : ServerNo → Attempt
   attempt i = by_hand s.book s.configuration (numbers_of s) i
 
-  by-try : (r : Route) (x : Result RecoveryBegins Refusal) → ((y : RecoveryBegins) → x ≡ Ok y → Aimed r y) → All (Aimed r) (tried x)
-  by-try r (Ok y) each = All-cons (Aimed r) y [] (each y refl) (All-nil (Aimed r))
+  by-try : (r : Route) (x : Result RecoveryBegins Refusal) → ((y : RecoveryBegins) → x ≡ Ok y → Aimed r y) → All (Aimed r) (tried (told_try s.configuration s.book x))
+  by-try r (Ok y) each = All-cons (Aimed r) (with_told s.configuration s.book y) [] (with-told-asked s.configuration s.book c r y (each y refl).0, with-told-about s.configuration s.book y (each y refl).1) (All-nil (Aimed r))
   by-try r (Err why) each = All-nil (Aimed r)
 
   by-recovery : (i : Option ServerNo) → c.i ≡ i → All (Aimed Recovers) (recoveries_of s i)
@@ -125,13 +141,16 @@ AimedIn s a x = IsAskedIn s a x × IsAbout s.book x
 
 scan-aimed : (s : State) → All (AimedIn s act.Scan) (recoveries_in_act s act.Scan)
 scan-aimed s =
-    scan-each s.world s.book (attempt_in s) s.configuration.wait (AimedIn s act.Scan)
+    All-map (AimedIn s act.Scan) (with_told s.configuration s.book) (scan_in s).begun
+    (scan-each s.world s.book (attempt_in s) s.configuration.wait (λ x. AimedIn s act.Scan (with_told s.configuration s.book x))
     (λ z e asks. (
       (e, asks, refl, no-takeover (source_of s.book e.no)),
-      along z.leases (recovery_begins (record (s.book) { leases = z.leases }) z.audit (attempt_in s e.no).now (attempt_in s e.no).block s.configuration.wait (z.last + 1) e.no)
-          (recovery-about (record (s.book) { leases = z.leases }) z.audit (attempt_in s e.no).now (attempt_in s e.no).block s.configuration.wait (z.last + 1) e.no),
+      with-told-about s.configuration s.book
+          (recovery_begins (record (s.book) { leases = z.leases }) z.audit (attempt_in s e.no).now (attempt_in s e.no).block s.configuration.wait (z.last + 1) e.no)
+          (along z.leases (recovery_begins (record (s.book) { leases = z.leases }) z.audit (attempt_in s e.no).now (attempt_in s e.no).block s.configuration.wait (z.last + 1) e.no)
+          (recovery-about (record (s.book) { leases = z.leases }) z.audit (attempt_in s e.no).now (attempt_in s e.no).block s.configuration.wait (z.last + 1) e.no)),
     ))
-    s.audit s.last_job
+    s.audit s.last_job)
   where
     for : (leases : List (Option ℕ)) (f : ServerNo) (k : Kind) (u : Purpose) → IsFor (record (s.book) { leases = leases }) f k u → IsFor s.book f k u
     for leases f k purpose.Regroup is = is

@@ -63,6 +63,7 @@ use Rattle.recovery_core.specs.Begun.{audit_after}
 use Rattle.recovery_core.specs.Tries.{Begins as RecoveryBegins, recovery_begins, takeover_begins, unless_refused}
 use Rattle.recovery_permits.specs.Recoveries.{recovery_refusal}
 use Rattle.recovery_permits.specs.Takeovers.{takeover_refusal}
+use Rattle.orch_core.specs.HookTelling.{told_try}
 use Rattle.orch_core.specs.Jobs.{turn_of, turned_at}
 use Rattle.orch_core.specs.Polls.{act_changes, changes_by, changes_of, command_outcome, numbers_of, slot_at}
 use Rattle.orch_core.specs.Restarts.{interrupted_at, last_given, reloaded_audit, reloaded_rows, restart_changes}
@@ -193,8 +194,8 @@ module _ (count : ℕ) (few : count < 2 ^ 32) (rows : List Row) (k : Knowledge) 
   follow-decided (Err r) d fits = follow
 
   -- a recovery that begins, where nothing refuses it
-  follow-try : (s : State) (o : Option Refusal) (x : RecoveryBegins) → x.entry.id ≡ a.next → x.entry.block ≤ longest_block → (updated k (recovery_begun (numbers_of s) (unless_refused o x)).book).audit.next ≤ 2 ^ 64
-      → FollowsOutcome count rows k (recovery_begun (numbers_of s) (unless_refused o x))
+  follow-try : (s : State) (o : Option Refusal) (x : RecoveryBegins) → x.entry.id ≡ a.next → x.entry.block ≤ longest_block → (updated k (recovery_begun (numbers_of s) (told_try s.configuration s.book (unless_refused o x))).book).audit.next ≤ 2 ^ 64
+      → FollowsOutcome count rows k (recovery_begun (numbers_of s) (told_try s.configuration s.book (unless_refused o x)))
   follow-try s None x next short most = follow-entry count rows a x.entry next short follow most
   follow-try s (Some why) x next short most = follow
 
@@ -217,7 +218,7 @@ follow-command rows count s c ready most command follow = by (route_of c.command
     given some each None within = asks
     given some each (Some i) within = each i within
 
-    begins : (p : Planner) (r : Option Refusal) → FollowsOutcome count rows (known_of s) (begun (numbers_of s) r (leases_by s.world s.book c.command p) (job_by s.world s.book c.command p (s.last_job + 1) s.configuration.wait))
+    begins : (p : Planner) (r : Option Refusal) → FollowsOutcome count rows (known_of s) (begun (numbers_of s) r (leases_by s.world s.book c.command p) (job_by s.world s.book c.command p (s.last_job + 1) s.configuration.wait s.configuration.every))
     begins p (Some why) = follow
     begins p None = follow
 
@@ -252,7 +253,7 @@ follow-command rows count s c ready most command follow = by (route_of c.command
     by (Decides d) most =
         follow-decided count few rows (known_of s) s.reads ready.book ready.names follow (permitted s.book c.command) (decided_of s.book s.audit (moment_at s) c.keys c.command.i d)
         (decided-effect s.book (length s.book.names) ready.book.small s.audit (moment_at s) c.keys c.command.i d (within-given count s c ready command))
-    by (Begins p) most = begins p (refusal_by s.world s.book (moment_at s) c.command p)
+    by (Begins p) most = begins p (refusal_by s.world s.book (moment_at s) s.configuration.every c.command p)
     by Recovers most = recovers c.command.i most
     by TakesOver most = takes-over c.command.i c.command.d most
 

@@ -2,7 +2,7 @@
 use Rattle.std.proofs.Common.{◌≡◌, ◌∙◌, ℕ, ◌+◌, ◌<◌, ◌≤◌, ◌^◌, true, List, [], ◌∷◌, length, refl, sym, ap, subst, Option, Some, None, Result, Ok, Err, arith}
 use Rattle.std.specs.Prelude.{All}
 use Rattle.std.proofs.lemmas.Bool.{ltb-true}
-use Rattle.std.proofs.lemmas.List.Elements.{All-cons, All-nil, All-weaker}
+use Rattle.std.proofs.lemmas.List.Elements.{All-cons, All-map, All-nil, All-weaker}
 use Rattle.audit_log.specs.Audits.{AuditState, begun, longest_block}
 use Rattle.command_routes.specs.declared.route.Route.{Route}
 use Rattle.command_routes.specs.declared.route.Route.TheVariants.{Discovers, Forgets, Asks, Decides, Begins, Recovers, TakesOver}
@@ -20,7 +20,7 @@ use Rattle.recovery_core.proofs.InTurn.{scan-blocks, scan-in-turn}
 use Rattle.recovery_permits.specs.declared.attempt.Attempt.{Attempt}
 use Rattle.recovery_permits.specs.Recoveries.{recovery_refusal}
 use Rattle.recovery_permits.specs.Takeovers.{takeover_refusal}
-use Rattle.recovery_core.specs.Begun.{BeginInTurn, audit_after}
+use Rattle.recovery_core.specs.Begun.{BeginInTurn, CanBegin, audit_after}
 use Rattle.recovery_core.specs.Tries.{Begins as RecoveryBegins, recovery_begins, recovery_try, takeover_begins, takeover_try}
 use Rattle.scenarios.specs.Turns.{IsAct, IsCommand, IsTurn}
 use Rattle.turns.specs.declared.turn.Act.{Act}
@@ -28,23 +28,26 @@ use Rattle.turns.specs.declared.turn.Act.TheVariants as act
 use Rattle.turns.specs.declared.turn.Turn.{Turn}
 use Rattle.turns.specs.declared.turn.Turn.TheVariants as turn
 use Rattle.orch_core.specs.Commands.{by_hand}
+use Rattle.orch_core.specs.HookTelling.{told_try, with_told}
 use Rattle.orch_core.specs.Periods.{period_by}
+use Rattle.orch_core.proofs.HookTold.{told-can, told-in-turn}
 use Rattle.orch_core.specs.Polls.{numbers_of}
 use Rattle.orch_core.specs.States.{State}
 use Rattle.run_laws.proofs.ReadyOutcomes.{within-both}
 use Rattle.run_laws.specs.Ready.{Ready}
 use Rattle.run_laws.proofs.Periods.{short-by}
 use Rattle.run_laws.proofs.Apart.{recovery-apart, scan-apart, takeover-apart}
-use Rattle.run_laws.specs.Begins.{BeginApartInTurn, entries_of}
-use Rattle.run_laws.specs.Entries.{attempt_in, entries_begun, recoveries_begun, recoveries_by, recoveries_in_act, recoveries_of, takeovers_by, takeovers_of, tried}
+use Rattle.run_laws.proofs.Told.{told-entries}
+use Rattle.run_laws.specs.Begins.{BeginApartInTurn, BeginsApart, entries_of}
+use Rattle.run_laws.specs.Entries.{attempt_in, entries_begun, recoveries_begun, recoveries_by, recoveries_in_act, recoveries_of, scan_in, takeovers_by, takeovers_of, tried}
 
 -- ---- what a command begins: nothing, a recovery that isn't refused, or a takeover that isn't
 
 module _ (s : State) (c : Command) (P : List RecoveryBegins → Type 0) (none : P [])
-    (recovers : (i : ServerNo) → c.i ≡ Some i → (x : RecoveryBegins) → recovery_try s.world s.book s.audit (by_hand s.book s.configuration (numbers_of s) i) s.configuration.wait (s.last_job + 1) i ≡ Ok x → P (x ∷ []))
+    (recovers : (i : ServerNo) → c.i ≡ Some i → (x : RecoveryBegins) → recovery_try s.world s.book s.audit (by_hand s.book s.configuration (numbers_of s) i) s.configuration.wait (s.last_job + 1) i ≡ Ok x → P (with_told s.configuration s.book x ∷ []))
     (takes : (i d : ServerNo) → c.i ≡ Some i → c.d ≡ Some d → (x : RecoveryBegins)
-    → takeover_try s.world s.book s.audit (by_hand s.book s.configuration (numbers_of s) i) s.configuration.wait (s.last_job + 1) i d ≡ Ok x → P (x ∷ [])) where
-  begun-try : (r : Result RecoveryBegins Refusal) → ((x : RecoveryBegins) → r ≡ Ok x → P (x ∷ [])) → P (tried r)
+    → takeover_try s.world s.book s.audit (by_hand s.book s.configuration (numbers_of s) i) s.configuration.wait (s.last_job + 1) i d ≡ Ok x → P (with_told s.configuration s.book x ∷ [])) where
+  begun-try : (r : Result RecoveryBegins Refusal) → ((x : RecoveryBegins) → r ≡ Ok x → P (with_told s.configuration s.book x ∷ [])) → P (tried (told_try s.configuration s.book r))
   begun-try (Ok x) each = each x refl
   begun-try (Err why) each = none
 
@@ -82,17 +85,16 @@ command-can count s c ready command =
     let there = subst (λ (n : ℕ). IsCommand n c) (sym ready.names) command in
     let within = within-both (length s.book.names) c there in
     command-begins s c.command (Can s) tt
-    (λ i at x is. (
-      recovery-begins s.world s.book s.audit (by_hand s.book s.configuration (numbers_of s) i) s.configuration.wait s.last_job ready.book (short-by s.configuration ready.periods (label_at s.book i)) i x
-          (within-of (length s.book.names) c.command.i i at within.0) is,
-      tt,
-    ))
-    (λ i d at by x is. (
-      takeover-begins s.world s.book s.audit (by_hand s.book s.configuration (numbers_of s) i) s.configuration.wait s.last_job ready.book (short-by s.configuration ready.periods (label_at s.book i)) i d x
-          (within-of (length s.book.names) c.command.i i at within.0) (within-of (length s.book.names) c.command.d d by within.1) is,
-      tt,
-    ))
+    (λ i at x is. one x
+    (recovery-begins s.world s.book s.audit (by_hand s.book s.configuration (numbers_of s) i) s.configuration.wait s.last_job ready.book (short-by s.configuration ready.periods (label_at s.book i)) i x
+    (within-of (length s.book.names) c.command.i i at within.0) is))
+    (λ i d at by x is. one x
+    (takeover-begins s.world s.book s.audit (by_hand s.book s.configuration (numbers_of s) i) s.configuration.wait s.last_job ready.book (short-by s.configuration ready.periods (label_at s.book i)) i d x
+    (within-of (length s.book.names) c.command.i i at within.0) (within-of (length s.book.names) c.command.d d by within.1) is))
     (route_of c.command.name)
+  where
+    one : (x : RecoveryBegins) → CanBegin (length s.book.names) s.book.leases s.audit s.last_job x → Can s (with_told s.configuration s.book x ∷ [])
+    one x can = (told-can s.configuration s.book (length s.book.names) s.book.leases s.audit s.last_job x can, tt)
 
 act-can : (count : ℕ) (s : State) (a : Act) → Ready count s → IsAct count a → Can s (recoveries_in_act s a)
 act-can count s (act.PollRead p n) ready is = tt
@@ -100,7 +102,8 @@ act-can count s (act.PollStore p) ready is = tt
 act-can count s (act.Command c) ready is = command-can count s c ready is
 act-can count s (act.Job job) ready is = tt
 act-can count s act.Scan ready is =
-    scan-in-turn s.world s.book (attempt_in s) s.configuration.wait s.audit s.last_job ready.book (λ n. short-by s.configuration ready.periods (label_at s.book n))
+    told-in-turn s.configuration s.book (length s.book.names) s.book.leases s.audit s.last_job (scan_in s).begun
+    (scan-in-turn s.world s.book (attempt_in s) s.configuration.wait s.audit s.last_job ready.book (λ n. short-by s.configuration ready.periods (label_at s.book n)))
 act-can count s act.Restart ready is = tt
 
 pub turn-can : (count : ℕ) (s : State) (t : Turn) → Ready count s → IsTurn count t → Can s (recoveries_begun s t)
@@ -121,11 +124,16 @@ act-apart s (act.PollRead p n) = tt
 act-apart s (act.PollStore p) = tt
 act-apart s (act.Command c) =
     command-begins s c.command (Apart s) tt
-    (λ i at x is. (recovery-apart s.world s.book s.audit (by_hand s.book s.configuration (numbers_of s) i) s.configuration.wait (s.last_job + 1) i x is, tt))
-    (λ i d at by x is. (takeover-apart s.world s.book s.audit (by_hand s.book s.configuration (numbers_of s) i) s.configuration.wait (s.last_job + 1) i d x is, tt))
+    (λ i at x is. one x (recovery-apart s.world s.book s.audit (by_hand s.book s.configuration (numbers_of s) i) s.configuration.wait (s.last_job + 1) i x is))
+    (λ i d at by x is. one x (takeover-apart s.world s.book s.audit (by_hand s.book s.configuration (numbers_of s) i) s.configuration.wait (s.last_job + 1) i d x is))
     (route_of c.command.name)
+  where
+    one : (x : RecoveryBegins) → BeginsApart (record { 0 = s.moment }) s.audit x.entry → Apart s (with_told s.configuration s.book x ∷ [])
+    one x apart = (apart, tt)
 act-apart s (act.Job job) = tt
-act-apart s act.Scan = scan-apart s.world s.book (attempt_in s) s.configuration.wait (record { 0 = s.moment }) (λ n. refl) s.audit s.last_job
+act-apart s act.Scan =
+    subst (BeginApartInTurn (record { 0 = s.moment }) s.audit) (sym (told-entries s.configuration s.book (scan_in s).begun))
+    (scan-apart s.world s.book (attempt_in s) s.configuration.wait (record { 0 = s.moment }) (λ n. refl) s.audit s.last_job)
 act-apart s act.Restart = tt
 
 pub turn-apart : (s : State) (t : Turn) → Apart s (recoveries_begun s t)
@@ -168,11 +176,13 @@ act-periods s (act.PollRead p n) = none-periods s
 act-periods s (act.PollStore p) = none-periods s
 act-periods s (act.Command c) =
     command-begins s c.command (HavePeriods s) (none-periods s)
-    (λ i at x is. one-period s x (recovery-period s i x is))
-    (λ i d at by x is. one-period s x (takeover-period s i d x is))
+    (λ i at x is. one-period s (with_told s.configuration s.book x) (recovery-period s i x is))
+    (λ i d at by x is. one-period s (with_told s.configuration s.book x) (takeover-period s i d x is))
     (route_of c.command.name)
 act-periods s (act.Job job) = none-periods s
-act-periods s act.Scan = scan-blocks s.world s.book (attempt_in s) s.configuration.wait s.audit s.last_job (period_by s.configuration) (λ n. refl)
+act-periods s act.Scan =
+    All-map (HasPeriod s) (with_told s.configuration s.book) (scan_in s).begun
+    (scan-blocks s.world s.book (attempt_in s) s.configuration.wait s.audit s.last_job (period_by s.configuration) (λ n. refl))
 act-periods s act.Restart = none-periods s
 
 pub turn-periods : (s : State) (t : Turn) → HavePeriods s (recoveries_begun s t)

@@ -61,7 +61,7 @@ module _ (count : ℕ) where
   begun-ready leases a last x can = record {
     named = can.named;
     promoted = subst (λ (r : Recovery). IfSome r.outcome.promoted IsThere) (sym can.fresh) (source-there x.list x.job.purpose x.job.failed can.within can.listed);
-    shaped = subst IsShaped (sym can.fresh) (begun-shaped x.job.purpose x.job.core.id x.job.core.wait x.job.failed x.job.replicas x.job.order);
+    shaped = subst IsShaped (sym can.fresh) (begun-shaped x.job.purpose x.job.means x.job.core.id x.job.core.wait x.job.failed x.job.replicas x.job.order);
   }
 
   pub all-ready : (leases : List (Option ℕ)) (a : AuditState) (last : ℕ) (xs : List Begins) → BeginInTurn count leases a last xs → All (IsReady count) (map recovery_job xs)

@@ -209,7 +209,6 @@ module _ (count : ℕ) (s : State) (id : ℕ) (P : AuditState → List Change �
   flown-ends (unended.Plan j) is = none
   flown-ends (unended.Recovery r d) is = by (hooked s.world s.book (next_count s.reads) now r d).docket.entry
     where
-
       promotes : Ready count s → IfSome (hooked s.world s.book (next_count s.reads) now r d).taken.recovery.outcome.promoted (λ n. n.0 < count)
       promotes ready =
           let t = taken s.world s.book (next_count s.reads) now r in

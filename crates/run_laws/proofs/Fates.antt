@@ -36,18 +36,21 @@ use Rattle.recovery_core.specs.Begun.{audit_after}
 use Rattle.recovery_core.specs.Endings.{done_with, is_takeover}
 use Rattle.recovery_core.specs.Tries.{Begins as RecoveryBegins, recovery_try, takeover_try}
 use Rattle.recovery_plans.specs.Recoveries.{Recovery}
-use Rattle.recovery_plans.specs.Taking.{taken}
+use Rattle.recovery_plans.specs.Taking.{Taken}
 use Rattle.scenarios.specs.declared.scenario.Scenario.{Scenario}
 use Rattle.server_words.specs.declared.status.Status.{Status as Seen}
 use Rattle.turns.specs.declared.turn.Act.{Act}
 use Rattle.turns.specs.declared.turn.Act.TheVariants as act
 use Rattle.turns.specs.declared.turn.Turn.{Turn}
 use Rattle.turns.specs.declared.turn.Turn.TheVariants as turn
+use Rattle.unended_jobs.specs.Hooked.{hooked}
 use Rattle.unended_jobs.specs.declared.unended.Unended.{Unended}
 use Rattle.unended_jobs.specs.declared.unended.Unended.TheVariants as unended
 use Rattle.orch_core.specs.After.{after_act}
-use Rattle.orch_core.specs.Closings.{closed_by, closing_by, closing_of}
+use Rattle.orch_core.proofs.Closed.{flown-entry}
+use Rattle.orch_core.specs.Closings.{closed_by, closing_at, closing_for, closing_of}
 use Rattle.orch_core.specs.Commands.{Outcome, about as given_or, asked, begun as job_begun, by_hand, decided, discovered, forgotten, next_reading, outcome_by, outcome_of, question, recovered, recovery_begun, refusal, removal_refusal, taken_over}
+use Rattle.orch_core.specs.HookTelling.{told_try}
 use Rattle.orch_core.specs.Jobs.{turn_of}
 use Rattle.orch_core.specs.Keeping.{act_asks, asks}
 use Rattle.orch_core.specs.Knowing.{updated}
@@ -59,7 +62,7 @@ use Rattle.run_laws.proofs.Closings.{ended-map, ended_as, ended_in, ended_with}
 use Rattle.run_laws.proofs.Reloads.{reloaded-comes}
 use Rattle.run_laws.specs.Begins.{entries_of}
 use Rattle.run_laws.specs.Entries.{recoveries_by, recoveries_in_act, recoveries_of, recoveries_scanned, takeovers_by, takeovers_of, tried}
-use Rattle.run_laws.specs.Fates.{AuditIs, RestartKeepsAll, acked_in, cluster_acked, cluster_decided, cluster_of, entry_by_job, entry_in_act, entry_then}
+use Rattle.run_laws.specs.Fates.{AuditIs, RestartKeepsAll, acked_in, cluster_acked, cluster_decided, cluster_of, entry_by_job, entry_in_act, entry_of_turn, entry_then}
 use Rattle.run_laws.specs.Runs.{ComesTo}
 
 -- ---- lists
@@ -119,11 +122,11 @@ module _ (s : State) (c : CommandTurn) where
 
   by-recovery : (i : Option ServerNo) → By None (recoveries_of s i) (given_or (refusal s.reads UnknownInstance) (recovered s.world s.book s.audit s.configuration (numbers_of s)) i)
   by-recovery None = none
-  by-recovery (Some i) = by-try (recovery_try s.world s.book s.audit (by_hand s.book s.configuration (numbers_of s) i) s.configuration.wait (s.last_job + 1) i)
+  by-recovery (Some i) = by-try (told_try s.configuration s.book (recovery_try s.world s.book s.audit (by_hand s.book s.configuration (numbers_of s) i) s.configuration.wait (s.last_job + 1) i))
 
   by-taken : (i : ServerNo) (d : Option ServerNo) → By None (takeovers_by s i d) (taken_over s.world s.book s.audit s.configuration (numbers_of s) d i)
   by-taken i None = none
-  by-taken i (Some d) = by-try (takeover_try s.world s.book s.audit (by_hand s.book s.configuration (numbers_of s) i) s.configuration.wait (s.last_job + 1) i d)
+  by-taken i (Some d) = by-try (told_try s.configuration s.book (takeover_try s.world s.book s.audit (by_hand s.book s.configuration (numbers_of s) i) s.configuration.wait (s.last_job + 1) i d))
 
   by-takeover : (i d : Option ServerNo) → By None (takeovers_of s i d) (given_or (refusal s.reads UnknownInstance) (taken_over s.world s.book s.audit s.configuration (numbers_of s) d) i)
   by-takeover None d = none
@@ -176,8 +179,8 @@ module _ (s : State) (c : CommandTurn) where
   by-route (Asks q) = by-question
   by-route (Decides d) = by-decision (permitted s.book c.command) refl c.command.i refl d
   by-route (Begins p) =
-      by-job (refusal_by s.world s.book (record { 0 = s.moment }) c.command p) (leases_by s.world s.book c.command p)
-      (job_by s.world s.book c.command p (s.last_job + 1) s.configuration.wait)
+      by-job (refusal_by s.world s.book (record { 0 = s.moment }) s.configuration.every c.command p) (leases_by s.world s.book c.command p)
+      (job_by s.world s.book c.command p (s.last_job + 1) s.configuration.wait s.configuration.every)
   by-route Recovers = by-recovery c.command.i
   by-route TakesOver = by-takeover c.command.i c.command.d
 
@@ -220,16 +223,22 @@ module _ (s : State) where
         by true false = refl
         by false acked = refl
 
-    by-step : (x : JobStep) → Ends (closed_by s.audit now (closing_by (unended.Recovery r (Some e)) x)) (becomes x)
+    by-step : (x : JobStep) → Ends (closed_by s.audit now (closing_at r x e)) (becomes x)
     by-step step.Going = stays s.audit.recoveries ∙ ap (λ (ys : List KeptRecovery). ys ++ []) (map-alike (λ k. k) (becomes step.Going) (λ k. sym (goes k)) s.audit.recoveries)
     by-step (step.Done lines) = ends e (done_with r.outcome.promoted) (is_takeover r.purpose) (becomes (step.Done lines)) (is-done lines)
     by-step (step.Failed c lines) = ends e (ending.Failed (cause_name c)) false (becomes (step.Failed c lines)) (λ k. refl)
 
+  by-entry : (t : Taken) (o : Option ℕ) → Ends (closed_by s.audit now (closing_for t.recovery t.step o)) (entry_of_turn now o t)
+  by-entry t None = stays s.audit.recoveries
+  by-entry t (Some e) = by-step e t.recovery t.step
+
   by-job-turn : (o : Option Unended) → Ends (closed_by s.audit now (closing_of (option_map (turn_of s) o))) (entry_by_job s o)
   by-job-turn None = stays s.audit.recoveries
   by-job-turn (Some (unended.Plan j)) = stays s.audit.recoveries
-  by-job-turn (Some (unended.Recovery r None)) = stays s.audit.recoveries
-  by-job-turn (Some (unended.Recovery r (Some e))) = let t = taken s.world s.book (next_count s.reads) now r in by-step e t.recovery t.step
+  by-job-turn (Some (unended.Recovery r d)) =
+      let h = hooked s.world s.book (next_count s.reads) now r d in
+      subst (λ (o : Option ℕ). Ends (closed_by s.audit now (closing_for h.taken.recovery h.taken.step o)) (entry_of_turn now d.entry h.taken))
+      (sym (flown-entry s.world s.book (next_count s.reads) now (unended.Recovery r d))) (by-entry h.taken d.entry)
 
 -- ---- each turn
 

@@ -1,7 +1,7 @@
 -- A command or a scan leaves what its passages leave.
 use Rattle.std.proofs.Common.{◌≡◌, ◌∙◌, ℕ, ◌+◌, ◌<◌, ◌≤◌, Bool, true, false, List, [], ◌∷◌, ◌++◌, length, refl, sym, ap, subst, Option, Some, None, Result, Ok, Err}
 use Rattle.std.specs.Prelude.{All, ◌&&◌, ◌==◌, is_some, map, nat_lt, not, if◌then◌else◌}
-use Rattle.std.proofs.lemmas.Bool.{false≢true, ltb-true}
+use Rattle.std.proofs.lemmas.Bool.{ltb-true}
 use Rattle.orch_base.specs.declared.server.ServerNo.{ServerNo}
 use Rattle.orch_base.specs.Memory.{next_count}
 use Rattle.server_words.specs.declared.status.Status.{Status as Seen}
@@ -48,10 +48,16 @@ use Rattle.job_laws.specs.Passages.{AllMayPass, AllPassWell, Passage, passing}
 use Rattle.job_laws.proofs.Listed.{taken-leases}
 use Rattle.move_laws.proofs.Begun as coords
 use Rattle.move_laws.proofs.BegunGtid as gtids
+use Rattle.move_laws.proofs.BegunMatch as matches
 use Rattle.path_laws.proofs.Begun as paths
 use Rattle.operations.specs.Jobs.{Job, job_with}
 use Rattle.permission.specs.Rows.{about as about_given, about_one}
+use Rattle.recovery_plans.specs.declared.means.Means.{Means}
+use Rattle.recovery_plans.specs.declared.means.Means.TheVariants as means
 use Rattle.recovery_plans.specs.declared.purpose.Purpose.TheVariants as purpose
+use Rattle.pseudo_match.specs.Permits.{list_of as match_list}
+use Rattle.pseudo_match.specs.declared.command.PseudoCommand.{PseudoCommand}
+use Rattle.pseudo_match.specs.declared.command.PseudoCommand.TheVariants as matching
 use Rattle.regroup.specs.Permits.{list_of}
 use Rattle.regroup.specs.declared.command.RegroupCommand.{RegroupCommand}
 use Rattle.regroup.specs.declared.command.RegroupCommand.TheVariants as command
@@ -64,20 +70,22 @@ use Rattle.recovery_core.specs.Begun.{BeginInTurn, CanBegin, leases_after}
 use Rattle.recovery_core.specs.Tries.{Begins as RecoveryBegins, recovery_try, takeover_try}
 use Rattle.orch_core.specs.Knowing.{recovery_job, updated}
 use Rattle.orch_core.specs.Commands.{Outcome, about as given_or, asked, begun, by_hand, decided, discovered, forgotten, outcome_by, outcome_of, question, recovered, recovery_begun, refusal, removal_refusal, taken_over}
+use Rattle.orch_core.specs.HookTelling.{told_try, with_told}
 use Rattle.orch_core.specs.Periods.{period_by}
+use Rattle.orch_core.proofs.HookTold.{told-can, told-in-turn}
 use Rattle.orch_core.specs.Polls.{command_outcome, numbers_of, reading, scan_outcome}
 use Rattle.orch_core.specs.States.{State}
 use Rattle.orch_core.proofs.Beginnings.{may-take}
 use Rattle.orch_core.specs.Settling.{known_of}
 use Rattle.scenarios.specs.Turns.{IsCommand}
-use Rattle.run_laws.specs.Entries.{attempt_in, recoveries_scanned}
+use Rattle.run_laws.specs.Entries.{attempt_in, recoveries_scanned, scan_in}
 use Rattle.run_laws.proofs.Periods.{short-by}
 use Rattle.run_laws.specs.Flights.{by_command, by_discovery, by_instance, by_permission, by_recoveries, by_recovery, by_removal, by_route, by_takeover, by_try, flight_of, moment_at, takes_first}
 use Rattle.run_laws.specs.States.{HeldState, SoundState}
 use Rattle.run_laws.specs.Ready.{AreShort, Ready}
 use Rattle.run_laws.proofs.ReadyOutcomes.{within-book}
-use Rattle.run_laws.proofs.Routed.{regroups-only}
-use Rattle.unended_jobs.specs.declared.unended.Unended.TheVariants as unended
+use Rattle.run_laws.proofs.Routed.{matched-regroups-only, regroups-only}
+use Rattle.unended_jobs.specs.Hooked.{no_docket}
 use Rattle.unended_jobs.specs.Unended.{core_of, number_of}
 use Rattle.unended_laws.specs.Beside.{IsHeldBeside, IsSoundBeside}
 use Rattle.unended_laws.specs.Flights.{HeldJobs, SoundJobs}
@@ -160,54 +168,64 @@ module _ (b : BookState) where
   decided-still a now k i decision.EnableRecoveries = put-still (row.Switch true) refl refl
   decided-still a now k i decision.AckRecoveries = about-still (acked b a) (λ n. tt) i
 
--- a job that does nothing may begin without leases
-unmatched-begin : (w : World) (js : List Job) (b : BookState) (id wait : ℕ) → JobBegins w js (leases_of b.leases) [] (core_of (unended.Plan (job_with id wait [])))
-unmatched-begin w js b id wait = record { seen = refl; hands = refl; left = refl; found = refl; matched = refl; listed = refl; free = λ n listed. absurd (false≢true listed) }
-
 -- the job of a command that isn't refused may begin: a regroup has no operations yet
-permitted-begin : (w : World) (b : BookState) (now : Moment) (js : List Job) (c : Command) (p : Planner) (id wait : ℕ) → refusal_by w b now c p ≡ None
-    → JobBegins w js (leases_of b.leases) (leases_by w b c p) (core_of (job_by w b c p id wait))
-permitted-begin w b now js c (Coordinates kind) id wait h = coords.permitted-begin w b js c id wait h
-permitted-begin w b now js c (Gtids kind) id wait h = gtids.permitted-begin w b js c id wait h
-permitted-begin w b now js c (Paths kind) id wait h = paths.permitted-begin w b now js c id wait h
-permitted-begin w b now js c (Regroups ByMatches) id wait h = unmatched-begin w js b id wait
-permitted-begin w b now js c (Matches kind) id wait h = unmatched-begin w js b id wait
-permitted-begin w b now js c (Regroups ByBridges) id wait h = go c.i
+permitted-begin : (w : World) (b : BookState) (now : Moment) (js : List Job) (c : Command) (p : Planner) (id wait every : ℕ) → refusal_by w b now every c p ≡ None
+    → JobBegins w js (leases_of b.leases) (leases_by w b c p) (core_of (job_by w b c p id wait every))
+permitted-begin w b now js c (Coordinates kind) id wait every h = coords.permitted-begin w b js c id wait h
+permitted-begin w b now js c (Gtids kind) id wait every h = gtids.permitted-begin w b js c id wait h
+permitted-begin w b now js c (Paths kind) id wait every h = paths.permitted-begin w b now js c id wait h
+permitted-begin w b now js c (Matches kind) id wait every h = matches.permitted-begin w b js now every c id wait h
+permitted-begin w b now js c (Regroups ByMatches) id wait every h = go c.i
+  where
+    free : (n : ℕ) → list_any (λ k. k.0 == n) (leases_by w b c (Regroups ByMatches)) ≡ true → leases_of b.leases n ≡ None
+    free = (matches.permitted-begin w b js now every c id wait h).free
+
+    go : (i : Option ServerNo) → JobBegins w js (leases_of b.leases) (leases_by w b c (Regroups ByMatches)) (core_of (regroup_about b (means.Matches every) id wait i))
+    go None = record { seen = refl; hands = refl; left = refl; found = refl; matched = refl; listed = refl; free = free }
+    go (Some i) = record { seen = refl; hands = refl; left = refl; found = refl; matched = refl; listed = refl; free = free }
+permitted-begin w b now js c (Regroups ByBridges) id wait every h = go c.i
   where
     free : (n : ℕ) → list_any (λ k. k.0 == n) (leases_by w b c (Regroups ByBridges)) ≡ true → leases_of b.leases n ≡ None
     free = (paths.permitted-begin w b now js c id wait h).free
 
-    go : (i : Option ServerNo) → JobBegins w js (leases_of b.leases) (leases_by w b c (Regroups ByBridges)) (core_of (regroup_about b id wait i))
+    go : (i : Option ServerNo) → JobBegins w js (leases_of b.leases) (leases_by w b c (Regroups ByBridges)) (core_of (regroup_about b means.Bridges id wait i))
     go None = record { seen = refl; hands = refl; left = refl; found = refl; matched = refl; listed = refl; free = free }
     go (Some i) = record { seen = refl; hands = refl; left = refl; found = refl; matched = refl; listed = refl; free = free }
 
 -- a regroup has the leases of the replicas
 regroup-beside : (w : World) (b : BookState) (l : Leases) (c : Command) (id wait : ℕ) (i d : Option ServerNo)
-    → IsHeldBeside w (leased_to l (about_one [] (list_of w b command.RegroupReplicas) i d) id) (regroup_about b id wait i)
+    → IsHeldBeside w (leased_to l (about_one [] (list_of w b command.RegroupReplicas) i d) id) (regroup_about b means.Bridges id wait i)
 regroup-beside w b l c id wait None d = tt
-regroup-beside w b l c id wait (Some i) d = recovery-held w l (i ∷ replicas_of b i) purpose.Regroup id wait i (replicas_of b i) (replicas_of b i) None (listed-behind i (replicas_of b i)) tt
+regroup-beside w b l c id wait (Some i) d = recovery-held w l (i ∷ replicas_of b i) purpose.Regroup means.Bridges id wait i (replicas_of b i) (replicas_of b i) no_docket (listed-behind i (replicas_of b i)) tt
 
-job-beside : (w : World) (b : BookState) (l : Leases) (c : Command) (p : Planner) (id wait : ℕ) → planner_for c.name ≡ Some p
-    → IsHeldBeside w (leased_to l (leases_by w b c p) id) (job_by w b c p id wait)
-job-beside w b l c (Coordinates kind) id wait by = tt
-job-beside w b l c (Gtids kind) id wait by = tt
-job-beside w b l c (Paths kind) id wait by = tt
-job-beside w b l c (Regroups ByMatches) id wait by = tt
-job-beside w b l c (Matches kind) id wait by = tt
-job-beside w b l c (Regroups ByBridges) id wait by =
-    subst (λ (r : Option RegroupCommand). IsHeldBeside w (leased_to l (about_given [] (list_of w b) r c) id) (regroup_about b id wait c.i)) (sym (regroups-only c.name by)) (regroup-beside w b l c id wait c.i c.d)
+-- and so has one by matches
+matched-beside : (w : World) (b : BookState) (l : Leases) (c : Command) (id wait every : ℕ) (i d : Option ServerNo)
+    → IsHeldBeside w (leased_to l (about_one [] (match_list b matching.RegroupReplicas) i d) id) (regroup_about b (means.Matches every) id wait i)
+matched-beside w b l c id wait every None d = tt
+matched-beside w b l c id wait every (Some i) d = recovery-held w l (i ∷ replicas_of b i) purpose.Regroup (means.Matches every) id wait i (replicas_of b i) (replicas_of b i) no_docket (listed-behind i (replicas_of b i)) tt
 
-regroup-sound : (w : World) (b : BookState) (id wait : ℕ) (i : Option ServerNo) → IsSoundBeside w (regroup_about b id wait i)
-regroup-sound w b id wait None = tt
-regroup-sound w b id wait (Some i) = recovery-sound w purpose.Regroup id wait i (replicas_of b i) (replicas_of b i) None
+job-beside : (w : World) (b : BookState) (l : Leases) (c : Command) (p : Planner) (id wait every : ℕ) → planner_for c.name ≡ Some p
+    → IsHeldBeside w (leased_to l (leases_by w b c p) id) (job_by w b c p id wait every)
+job-beside w b l c (Coordinates kind) id wait every by = tt
+job-beside w b l c (Gtids kind) id wait every by = tt
+job-beside w b l c (Paths kind) id wait every by = tt
+job-beside w b l c (Matches kind) id wait every by = tt
+job-beside w b l c (Regroups ByMatches) id wait every by =
+    subst (λ (r : Option PseudoCommand). IsHeldBeside w (leased_to l (about_given [] (match_list b) r c) id) (regroup_about b (means.Matches every) id wait c.i)) (sym (matched-regroups-only c.name by)) (matched-beside w b l c id wait every c.i c.d)
+job-beside w b l c (Regroups ByBridges) id wait every by =
+    subst (λ (r : Option RegroupCommand). IsHeldBeside w (leased_to l (about_given [] (list_of w b) r c) id) (regroup_about b means.Bridges id wait c.i)) (sym (regroups-only c.name by)) (regroup-beside w b l c id wait c.i c.d)
 
-job-sound : (w : World) (b : BookState) (c : Command) (p : Planner) (id wait : ℕ) → IsSoundBeside w (job_by w b c p id wait)
-job-sound w b c (Coordinates kind) id wait = tt
-job-sound w b c (Gtids kind) id wait = tt
-job-sound w b c (Paths kind) id wait = tt
-job-sound w b c (Regroups ByMatches) id wait = tt
-job-sound w b c (Matches kind) id wait = tt
-job-sound w b c (Regroups ByBridges) id wait = regroup-sound w b id wait c.i
+regroup-sound : (w : World) (b : BookState) (by : Means) (id wait : ℕ) (i : Option ServerNo) → IsSoundBeside w (regroup_about b by id wait i)
+regroup-sound w b by id wait None = tt
+regroup-sound w b by id wait (Some i) = recovery-sound w purpose.Regroup by id wait i (replicas_of b i) (replicas_of b i) no_docket
+
+job-sound : (w : World) (b : BookState) (c : Command) (p : Planner) (id wait every : ℕ) → IsSoundBeside w (job_by w b c p id wait every)
+job-sound w b c (Coordinates kind) id wait every = tt
+job-sound w b c (Gtids kind) id wait every = tt
+job-sound w b c (Paths kind) id wait every = tt
+job-sound w b c (Matches kind) id wait every = tt
+job-sound w b c (Regroups ByMatches) id wait every = regroup-sound w b (means.Matches every) id wait c.i
+job-sound w b c (Regroups ByBridges) id wait every = regroup-sound w b means.Bridges id wait c.i
 
 module _ (s : State) where
   -- what changes neither bridges nor leases nor jobs passes nothing
@@ -280,21 +298,21 @@ module _ (s : State) where
 
 module _ (s : State) (is : IsBook s.book) (periods : AreShort s.configuration) where
   -- a job begins
-  Leaves-begun : (t : CommandTurn) (p : Planner) (r : Option Refusal) → planner_for t.command.name ≡ Some p → refusal_by s.world s.book (moment_at s) t.command p ≡ r
+  Leaves-begun : (t : CommandTurn) (p : Planner) (r : Option Refusal) → planner_for t.command.name ≡ Some p → refusal_by s.world s.book (moment_at s) s.configuration.every t.command p ≡ r
       → is_within (length s.book.names) t.command.i ≡ true → is_within (length s.book.names) t.command.d ≡ true
-      → Leaves s (by_permission s t.command p r) (begun (numbers_of s) r (leases_by s.world s.book t.command p) (job_by s.world s.book t.command p (s.last_job + 1) s.configuration.wait))
+      → Leaves s (by_permission s t.command p r) (begun (numbers_of s) r (leases_by s.world s.book t.command p) (job_by s.world s.book t.command p (s.last_job + 1) s.configuration.wait s.configuration.every))
   Leaves-begun t p (Some why) by refuses i_within d_within = Leaves-refusal s s.reads why
   Leaves-begun t p None by refuses i_within d_within =
       let list = leases_by s.world s.book t.command p in
-      let job = job_by s.world s.book t.command p (s.last_job + 1) s.configuration.wait in
-      let free = may-take s.world s.book (moment_at s) t.command p is i_within d_within refuses in
+      let job = job_by s.world s.book t.command p (s.last_job + 1) s.configuration.wait s.configuration.every in
+      let free = may-take s.world s.book (moment_at s) s.configuration.every t.command p is i_within d_within refuses in
       let there : All (λ k. k.0 < length s.book.leases) list = subst (λ (n : ℕ). All (λ (k : ServerNo). k.0 < n) list) (sym is.leases) free.known in
-      let may = permitted-begin s.world s.book (moment_at s) (map core_of s.jobs) t.command p (s.last_job + 1) s.configuration.wait refuses in
-      let same : number_of job ≡ s.last_job + 1 = job-number s.world s.book t.command p (s.last_job + 1) s.configuration.wait in
+      let may = permitted-begin s.world s.book (moment_at s) (map core_of s.jobs) t.command p (s.last_job + 1) s.configuration.wait s.configuration.every refuses in
+      let same : number_of job ≡ s.last_job + 1 = job-number s.world s.book t.command p (s.last_job + 1) s.configuration.wait s.configuration.every in
       let beside : IsHeldBeside s.world (leased_to (leases_of s.book.leases) list (number_of job)) job =
       subst (λ (n : ℕ). IsHeldBeside s.world (leased_to (leases_of s.book.leases) list n) job) (sym same)
-      (job-beside s.world s.book (leases_of s.book.leases) t.command p (s.last_job + 1) s.configuration.wait by) in
-      let good = job-sound s.world s.book t.command p (s.last_job + 1) s.configuration.wait in
+      (job-beside s.world s.book (leases_of s.book.leases) t.command p (s.last_job + 1) s.configuration.wait s.configuration.every by) in
+      let good = job-sound s.world s.book t.command p (s.last_job + 1) s.configuration.wait s.configuration.every in
       record {
         flown = ap (λ (l : ℕ → Option ℕ). record (flight_of s) { jobs = map core_of (s.jobs ++ job ∷ []); leases = l }) (taken-leases s.book.leases list (number_of job) there)
             ∙ ap (λ (js : List Job). record (flight_of s) { jobs = js; leases = leased_to (leases_of s.book.leases) list (number_of job) }) (cores-joined s.jobs job);
@@ -323,10 +341,10 @@ module _ (s : State) (is : IsBook s.book) (periods : AreShort s.configuration) w
   short n = short-by s.configuration periods (label_at s.book n)
 
   Leaves-recovery : (r : Result RecoveryBegins Refusal) → ((x : RecoveryBegins) → r ≡ Ok x → CanBegin (length s.book.names) s.book.leases s.audit s.last_job x)
-      → Leaves s (by_try r) (recovery_begun (numbers_of s) r)
+      → Leaves s (by_try (told_try s.configuration s.book r)) (recovery_begun (numbers_of s) (told_try s.configuration s.book r))
   Leaves-recovery (Ok x) can =
-      let xs = x ∷ [] in
-      let each : BeginInTurn (length s.book.names) s.book.leases s.audit s.last_job xs = (can x refl, tt) in
+      let xs = with_told s.configuration s.book x ∷ [] in
+      let each : BeginInTurn (length s.book.names) s.book.leases s.audit s.last_job xs = (told-can s.configuration s.book (length s.book.names) s.book.leases s.audit s.last_job x (can x refl), tt) in
       record { flown = begun-flown xs each; may = begun-may xs each; well = recoveries-well (flight_of s) xs; held = begun-held xs each; sound = begun-sound xs each }
   Leaves-recovery (Err why) can = Leaves-refusal s s.reads why
 
@@ -347,7 +365,7 @@ module _ (s : State) (is : IsBook s.book) (periods : AreShort s.configuration) w
   scan-leaves : Leaves s (by_recoveries (recoveries_scanned s)) (scan_outcome s)
   scan-leaves =
       let xs = recoveries_scanned s in
-      let each = scan-in-turn s.world s.book (attempt_in s) s.configuration.wait s.audit s.last_job is short in
+      let each = told-in-turn s.configuration s.book (length s.book.names) s.book.leases s.audit s.last_job (scan_in s).begun (scan-in-turn s.world s.book (attempt_in s) s.configuration.wait s.audit s.last_job is short) in
       record { flown = begun-flown xs each; may = begun-may xs each; well = recoveries-well (flight_of s) xs; held = begun-held xs each; sound = begun-sound xs each }
 
   -- ---- any command
@@ -370,7 +388,7 @@ module _ (s : State) (is : IsBook s.book) (periods : AreShort s.configuration) w
     Leaves-route (Asks q) at = asks
     Leaves-route (Decides d) at =
         Leaves-decided s s.reads s.audit (permitted s.book t.command) (decided_of s.book s.audit (moment_at s) t.keys t.command.i d) (decided-still s.book s.audit (moment_at s) t.keys t.command.i d)
-    Leaves-route (Begins p) at = Leaves-begun t p (refusal_by s.world s.book (moment_at s) t.command p) (ap planner_of at) refl i_within d_within
+    Leaves-route (Begins p) at = Leaves-begun t p (refusal_by s.world s.book (moment_at s) s.configuration.every t.command p) (ap planner_of at) refl i_within d_within
     Leaves-route Recovers at =
         given (refusal s.reads UnknownInstance) (by_recovery s) (recovered s.world s.book s.audit s.configuration (numbers_of s)) (Leaves-refusal s s.reads UnknownInstance) Leaves-recovered t.command.i i_within
     Leaves-route TakesOver at =

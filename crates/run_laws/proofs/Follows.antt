@@ -42,6 +42,7 @@ use Rattle.orch_base.specs.declared.recovery.Ending.{Ending}
 use Rattle.orch_core.specs.Closings.{closing_changes, closing_of}
 use Rattle.orch_core.specs.Knowing.{Knowledge, updated}
 use Rattle.orch_core.specs.Commands.{Outcome, about as given_or, asked, begun, by_hand, decided, discovered, entries_put, forgotten, next_reading, outcome_by, outcome_of, question, recovered, recovery_begun, refusal, removal, removal_refusal, taken_over}
+use Rattle.orch_core.specs.HookTelling.{told_try}
 use Rattle.orch_core.specs.Restarts.{interrupted_at, last_given, reloaded_audit, reloaded_book, reloaded_rows, restart_changes}
 use Rattle.orch_core.specs.Periods.{period_by}
 use Rattle.opening_book.specs.Opening.{blocks_given, loading}
@@ -293,23 +294,23 @@ Follow-command rows count s c ready audit small most command follow = by (route_
     given some each None within = asks
     given some each (Some i) within = each i within
 
-    begins : (p : Planner) (r : Option Refusal) → Follows-outcome rows (known_of s) (begun (numbers_of s) r (leases_by s.world s.book c.command p) (job_by s.world s.book c.command p (s.last_job + 1) s.configuration.wait))
+    begins : (p : Planner) (r : Option Refusal) → Follows-outcome rows (known_of s) (begun (numbers_of s) r (leases_by s.world s.book c.command p) (job_by s.world s.book c.command p (s.last_job + 1) s.configuration.wait s.configuration.every))
     begins p (Some why) = follow
     begins p None =
         let list = leases_by s.world s.book c.command p in
-        let number = number_of (job_by s.world s.book c.command p (s.last_job + 1) s.configuration.wait) in
+        let number = number_of (job_by s.world s.book c.command p (s.last_job + 1) s.configuration.wait s.configuration.every) in
         Follow-leases rows s.book (taken s.book.leases list number) (length-taken list s.book.leases number) follow
 
     recovers : (i : Option ServerNo) → (updated (known_of s) (given_or (refusal s.reads UnknownInstance) (recovered s.world s.book s.audit s.configuration (numbers_of s)) i).book).audit.next ≤ 2 ^ 64
         → Follows-outcome rows (known_of s) (given_or (refusal s.reads UnknownInstance) (recovered s.world s.book s.audit s.configuration (numbers_of s)) i)
     recovers None most = follow
     recovers (Some i) most =
-        Follow-recovery rows (known_of s) s.reads follow s (recovery_try s.world s.book s.audit (by_hand s.book s.configuration (numbers_of s) i) s.configuration.wait (s.last_job + 1) i) most
+        Follow-recovery rows (known_of s) s.reads follow s (told_try s.configuration s.book (recovery_try s.world s.book s.audit (by_hand s.book s.configuration (numbers_of s) i) s.configuration.wait (s.last_job + 1) i)) most
 
     takes : (i : ServerNo) (d : Option ServerNo) → (updated (known_of s) (taken_over s.world s.book s.audit s.configuration (numbers_of s) d i).book).audit.next ≤ 2 ^ 64 → Follows-outcome rows (known_of s) (taken_over s.world s.book s.audit s.configuration (numbers_of s) d i)
     takes i None most = follow
     takes i (Some d) most =
-        Follow-recovery rows (known_of s) s.reads follow s (takeover_try s.world s.book s.audit (by_hand s.book s.configuration (numbers_of s) i) s.configuration.wait (s.last_job + 1) i d) most
+        Follow-recovery rows (known_of s) s.reads follow s (told_try s.configuration s.book (takeover_try s.world s.book s.audit (by_hand s.book s.configuration (numbers_of s) i) s.configuration.wait (s.last_job + 1) i d)) most
 
     takes-over : (i d : Option ServerNo) → (updated (known_of s) (given_or (refusal s.reads UnknownInstance) (taken_over s.world s.book s.audit s.configuration (numbers_of s) d) i).book).audit.next ≤ 2 ^ 64
         → Follows-outcome rows (known_of s) (given_or (refusal s.reads UnknownInstance) (taken_over s.world s.book s.audit s.configuration (numbers_of s) d) i)
@@ -326,7 +327,7 @@ Follow-command rows count s c ready audit small most command follow = by (route_
     by (Decides d) most =
         Follow-decided rows (known_of s) s.reads follow s.audit (permitted s.book c.command) (decided_of s.book s.audit (moment_at s) c.keys c.command.i d) audit small
         (decided-effect s.book (length s.book.names) follow.book.small s.audit (moment_at s) c.keys c.command.i d (within-given count s c ready command))
-    by (Begins p) most = begins p (refusal_by s.world s.book (moment_at s) c.command p)
+    by (Begins p) most = begins p (refusal_by s.world s.book (moment_at s) s.configuration.every c.command p)
     by Recovers most = recovers c.command.i most
     by TakesOver most = takes-over c.command.i c.command.d most
 

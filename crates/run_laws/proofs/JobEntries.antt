@@ -41,8 +41,10 @@ use Rattle.orch_base.specs.declared.server.ServerNo.{ServerNo}
 use Rattle.orch_core.proofs.Beginnings.{job-entry}
 use Rattle.orch_core.proofs.Joining.{joined-rising}
 use Rattle.orch_core.specs.After.{after_act, after_job, step as turn_step}
-use Rattle.orch_core.specs.Closings.{closed_by, closing_by, closing_of}
+use Rattle.orch_core.proofs.Closed.{flown-entry}
+use Rattle.orch_core.specs.Closings.{closed_by, closing_at, closing_for, closing_of}
 use Rattle.orch_core.specs.Commands.{Outcome, about as given_or, asked, begun as job_begun, by_hand, decided, discovered, forgotten, next_reading, outcome_by, outcome_of, question, recovered, recovery_begun, refusal, removal_refusal, taken_over}
+use Rattle.orch_core.specs.HookTelling.{told_try}
 use Rattle.orch_core.specs.Jobs.{turn_of}
 use Rattle.orch_core.specs.Knowing.{recovery_job, updated}
 use Rattle.orch_core.specs.Polls.{command_outcome, numbers_of}
@@ -56,7 +58,6 @@ use Rattle.recovery_core.specs.Begun.{BeginInTurn, audit_after}
 use Rattle.recovery_core.specs.Endings.{done_with, is_acknowledged}
 use Rattle.recovery_core.specs.Tries.{Begins as RecoveryBegins, recovery_try, takeover_try}
 use Rattle.recovery_plans.specs.Recoveries.{Recovery as RecoveryJob}
-use Rattle.recovery_plans.specs.Taking.{taken}
 use Rattle.scenarios.specs.Turns.{IsAct, IsTurn}
 use Rattle.scenarios.specs.declared.scenario.Scenario.{Scenario}
 use Rattle.server_words.specs.declared.status.Status.{Status as Seen}
@@ -65,7 +66,9 @@ use Rattle.turns.specs.declared.turn.Act.TheVariants as act
 use Rattle.turns.specs.declared.turn.Turn.{Turn}
 use Rattle.turns.specs.declared.turn.Turn.TheVariants as turn
 use Rattle.unended_jobs.proofs.Going.{flown-number}
+use Rattle.unended_jobs.specs.Hooked.{hooked, Hooked}
 use Rattle.unended_jobs.specs.Unended.{IsReady, number_of}
+use Rattle.unended_jobs.specs.declared.docket.Docket.{Docket}
 use Rattle.unended_jobs.specs.declared.unended.Unended.{Unended}
 use Rattle.unended_jobs.specs.declared.unended.Unended.TheVariants as unended
 use Rattle.run_laws.proofs.Beginnings.{turn-can}
@@ -360,11 +363,11 @@ module _ (s : State) (is : IsPaired s) (c : CommandTurn) where
 
   by-recovery : (i : Option ServerNo) → Can s (recoveries_of s i) → By (given_or (refusal s.reads UnknownInstance) (recovered s.world s.book s.audit s.configuration (numbers_of s)) i)
   by-recovery None can = is
-  by-recovery (Some i) can = by-try (recovery_try s.world s.book s.audit (by_hand s.book s.configuration (numbers_of s) i) s.configuration.wait (s.last_job + 1) i) can
+  by-recovery (Some i) can = by-try (told_try s.configuration s.book (recovery_try s.world s.book s.audit (by_hand s.book s.configuration (numbers_of s) i) s.configuration.wait (s.last_job + 1) i)) can
 
   by-taken : (i : ServerNo) (d : Option ServerNo) → Can s (takeovers_by s i d) → By (taken_over s.world s.book s.audit s.configuration (numbers_of s) d i)
   by-taken i None can = is
-  by-taken i (Some d) can = by-try (takeover_try s.world s.book s.audit (by_hand s.book s.configuration (numbers_of s) i) s.configuration.wait (s.last_job + 1) i d) can
+  by-taken i (Some d) can = by-try (told_try s.configuration s.book (takeover_try s.world s.book s.audit (by_hand s.book s.configuration (numbers_of s) i) s.configuration.wait (s.last_job + 1) i d)) can
 
   by-takeover : (i d : Option ServerNo) → Can s (takeovers_of s i d) → By (given_or (refusal s.reads UnknownInstance) (taken_over s.world s.book s.audit s.configuration (numbers_of s) d) i)
   by-takeover None d can = is
@@ -387,9 +390,9 @@ module _ (s : State) (is : IsPaired s) (c : CommandTurn) where
   by-route (Asks q) can = by-question
   by-route (Decides d) can = by-decided s.reads s.audit (permitted s.book c.command) (decided_of s.book s.audit (record { 0 = s.moment }) c.keys c.command.i d)
   by-route (Begins p) can =
-      by-job (refusal_by s.world s.book (record { 0 = s.moment }) c.command p) (leases_by s.world s.book c.command p)
-      (job_by s.world s.book c.command p (s.last_job + 1) s.configuration.wait)
-      (job-number s.world s.book c.command p (s.last_job + 1) s.configuration.wait) (job-entry s.world s.book c.command p (s.last_job + 1) s.configuration.wait)
+      by-job (refusal_by s.world s.book (record { 0 = s.moment }) s.configuration.every c.command p) (leases_by s.world s.book c.command p)
+      (job_by s.world s.book c.command p (s.last_job + 1) s.configuration.wait s.configuration.every)
+      (job-number s.world s.book c.command p (s.last_job + 1) s.configuration.wait s.configuration.every) (job-entry s.world s.book c.command p (s.last_job + 1) s.configuration.wait s.configuration.every)
   by-route Recovers can = by-recovery c.command.i can
   by-route TakesOver can = by-takeover c.command.i c.command.d can
 
@@ -435,26 +438,36 @@ module _ (count : ℕ) (s : State) (id : ℕ) (ready : IsReckoned count s) (is :
   by-plain j k (step.Failed c lines) found entry none number = passes j found entry
 
   -- a recovery with one
-  by-entry : (r next : RecoveryJob) (e : ℕ) (x : JobStep) → job_at s.jobs id ≡ Some (unended.Recovery r (Some e)) → (is_going x ≡ true → number_of (unended.Recovery next (Some e)) ≡ r.core.id)
-      → ArePaired (closed_by s.audit now (closing_by (unended.Recovery next (Some e)) x)) (if is_going x then with_job s.jobs id (unended.Recovery next (Some e)) else without_job s.jobs id) s.last_job
-  by-entry r next e step.Going found number = goes (unended.Recovery r (Some e)) (unended.Recovery next (Some e)) found refl (number refl)
-  by-entry r next e (step.Done lines) found number =
-      drops (unended.Recovery r (Some e)) e (done_with next.outcome.promoted) (is_acknowledged next (step.Done lines))
-      (ending-closed next (step.Done lines) (done_with next.outcome.promoted) refl) found refl
-  by-entry r next e (step.Failed c lines) found number =
-      drops (unended.Recovery r (Some e)) e (ending.Failed (cause_name c)) false (ending-closed next (step.Failed c lines) (ending.Failed (cause_name c)) refl) found refl
+  by-entry : (r next : RecoveryJob) (d after : Docket) (e : ℕ) (x : JobStep) → job_at s.jobs id ≡ Some (unended.Recovery r d) → d.entry ≡ Some e → after.entry ≡ Some e
+      → (is_going x ≡ true → number_of (unended.Recovery next after) ≡ r.core.id)
+      → ArePaired (closed_by s.audit now (closing_at next x e)) (if is_going x then with_job s.jobs id (unended.Recovery next after) else without_job s.jobs id) s.last_job
+  by-entry r next d after e step.Going found entry kept number = goes (unended.Recovery r d) (unended.Recovery next after) found (kept ∙ sym entry) (number refl)
+  by-entry r next d after e (step.Done lines) found entry kept number =
+      drops (unended.Recovery r d) e (done_with next.outcome.promoted) (is_acknowledged next (step.Done lines))
+      (ending-closed next (step.Done lines) (done_with next.outcome.promoted) refl) found entry
+  by-entry r next d after e (step.Failed c lines) found entry kept number =
+      drops (unended.Recovery r d) e (ending.Failed (cause_name c)) false (ending-closed next (step.Failed c lines) (ending.Failed (cause_name c)) refl) found entry
+
+  -- by the docket's entry
+  abbrev Pairs : Hooked → Option ℕ → Type 0
+  Pairs h o =
+      ArePaired (closed_by s.audit now (closing_for h.taken.recovery h.taken.step o))
+      (if is_going h.taken.step then with_job s.jobs id (unended.Recovery h.taken.recovery h.docket) else without_job s.jobs id) s.last_job
 
   by-flown : (j : Unended) → job_at s.jobs id ≡ Some j → IsReady count j
       → ArePaired (closed_by s.audit now (closing_of (Some (turn_of s j)))) (jobs_turned s.jobs id (Some (turn_of s j))) s.last_job
   by-flown (unended.Plan j) found able =
       by-plain (unended.Plan j) (turn_of s (unended.Plan j)).next (turn_of s (unended.Plan j)).step found refl refl
       (flown-number count s.world s.book (next_count s.reads) now (unended.Plan j) able)
-  by-flown (unended.Recovery r None) found able =
-      by-plain (unended.Recovery r None) (turn_of s (unended.Recovery r None)).next (turn_of s (unended.Recovery r None)).step found refl refl
-      (flown-number count s.world s.book (next_count s.reads) now (unended.Recovery r None) able)
-  by-flown (unended.Recovery r (Some e)) found able =
-      let t = taken s.world s.book (next_count s.reads) now r in
-      by-entry r t.recovery e t.step found (flown-number count s.world s.book (next_count s.reads) now (unended.Recovery r (Some e)) able)
+  by-flown (unended.Recovery r d) found able =
+      by (hooked s.world s.book (next_count s.reads) now r d) d.entry refl (flown-entry s.world s.book (next_count s.reads) now (unended.Recovery r d))
+      (flown-number count s.world s.book (next_count s.reads) now (unended.Recovery r d) able)
+    where
+      by : (h : Hooked) (o : Option ℕ) → d.entry ≡ o → h.docket.entry ≡ d.entry → (is_going h.taken.step ≡ true → number_of (unended.Recovery h.taken.recovery h.docket) ≡ r.core.id) → Pairs h h.docket.entry
+      by h None entry kept number =
+          subst (Pairs h) (sym (kept ∙ entry)) (by-plain (unended.Recovery r d) (unended.Recovery h.taken.recovery h.docket) h.taken.step found entry (kept ∙ entry) number)
+      by h (Some e) entry kept number =
+          subst (Pairs h) (sym (kept ∙ entry)) (by-entry r h.taken.recovery d h.docket e h.taken.step found entry (kept ∙ entry) number)
 
   paired-job : IsPaired (after_job s id)
   paired-job = go (job_at s.jobs id) refl

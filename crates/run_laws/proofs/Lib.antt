@@ -14,6 +14,7 @@ pub mod Openings
 pub mod Worlds
 pub mod Passing
 pub mod Periods
+pub mod Told
 pub mod Beginnings
 pub mod Logged
 pub mod Lines
@@ -31,6 +32,7 @@ pub mod Follows
 pub mod Audits
 pub mod Permissions
 pub mod Plain
+pub mod Marks
 pub mod RunLaws
 pub mod JobTurns
 pub mod Lowest

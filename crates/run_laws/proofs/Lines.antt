@@ -14,8 +14,10 @@ use Rattle.recovery_core.specs.Tries.{Begins, recovery_begins, unless_refused}
 use Rattle.recovery_permits.specs.declared.attempt.Attempt.{Attempt}
 use Rattle.server_model.specs.Worlds.{World}
 use Rattle.answer_laws.proofs.Trying.{tries}
+use Rattle.orch_core.specs.States.{State}
 use Rattle.run_laws.specs.Answering.{ScansTryByTable}
-use Rattle.run_laws.specs.Entries.{attempt_in}
+use Rattle.run_laws.proofs.Told.{told-lines, told-tries}
+use Rattle.run_laws.specs.Entries.{attempt_in, recoveries_scanned, scan_in}
 use Rattle.run_laws.specs.Lines.{AreLinesOf, TellsRefused}
 
 -- one more entry, which is refused
@@ -102,18 +104,24 @@ module _ (w : World) (b : BookState) (by : ServerNo → Attempt) (wait : ℕ) wh
     abbrev start : Staged
     start = from_start b audit last
 
-    pub scan-lines : AreLinesOf last (actionable_in b) (scanned w b audit by wait last).begun (scanned w b audit by wait last).lines
+    scan-lines : AreLinesOf last (actionable_in b) (scanned w b audit by wait last).begun (scanned w b audit by wait last).lines
     scan-lines =
         subst (λ (xs : List Begins). AreLinesOf last (actionable_in b) xs (scanned w b audit by wait last).lines) (sym (all-begun start (actionable_in b)))
         (subst (AreLinesOf last (actionable_in b) (begun_over start (actionable_in b))) (sym (all-lines start (actionable_in b))) (lines-of start (actionable_in b)))
 
-    pub scan-counts : fold (λ k x. x.job.core.id) last (scanned w b audit by wait last).begun ≡ last + length (scanned w b audit by wait last).begun
-    scan-counts = counted last (actionable_in b) (scanned w b audit by wait last).begun (scanned w b audit by wait last).lines scan-lines
-
 -- of a state
+pub scan-told : (s : State) → AreLinesOf s.last_job (actionable_in s.book) (recoveries_scanned s) (scan_in s).lines
+scan-told s =
+    told-lines s.configuration s.book s.last_job (actionable_in s.book) (scan_in s).begun (scan_in s).lines
+    (scan-lines s.world s.book (attempt_in s) s.configuration.wait s.audit s.last_job)
+
+pub scanned-counts : (s : State) → fold (λ k x. x.job.core.id) s.last_job (recoveries_scanned s) ≡ s.last_job + length (recoveries_scanned s)
+scanned-counts s = counted s.last_job (actionable_in s.book) (recoveries_scanned s) (scan_in s).lines (scan-told s)
+
 pub scan-tries : ScansTryByTable
 scan-tries s = (
-  (scanned s.world s.book s.audit (attempt_in s) s.configuration.wait s.last_job).lines,
+  (scan_in s).lines,
   refl,
-  tries s.world s.book (attempt_in s) s.configuration.wait s.audit s.last_job,
+  told-tries s.configuration s.book (record { world = s.world; book = s.book; by = attempt_in s }) (record { leases = s.book.leases; audit = s.audit; last = s.last_job }) (actionable_in s.book) (scan_in s).begun
+      (scan_in s).lines (tries s.world s.book (attempt_in s) s.configuration.wait s.audit s.last_job),
 )

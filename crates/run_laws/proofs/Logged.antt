@@ -25,6 +25,7 @@ use Rattle.turns.specs.declared.turn.Act.TheVariants as act
 use Rattle.turns.specs.declared.turn.Turn.TheVariants as turn
 use Rattle.unended_jobs.specs.declared.unended.Unended.{Unended}
 use Rattle.orch_core.specs.Commands.{Outcome, about as given_or, asked, begun as job_begun, by_hand, decided, discovered, forgotten, next_reading, outcome_by, outcome_of, question, recovered, recovery_begun, refusal, removal_refusal, taken_over}
+use Rattle.orch_core.specs.HookTelling.{told_try}
 use Rattle.orch_core.specs.Polls.{command_outcome, numbers_of}
 use Rattle.orch_core.specs.States.{State}
 use Rattle.orch_core.specs.Settling.{known_of}
@@ -71,11 +72,11 @@ module _ (s : State) (c : CommandTurn) where
 
   by-recovery : (i : Option ServerNo) → By (recoveries_of s i) (given_or (refusal s.reads UnknownInstance) (recovered s.world s.book s.audit s.configuration (numbers_of s)) i)
   by-recovery None = inr refl
-  by-recovery (Some i) = by-try (recovery_try s.world s.book s.audit (by_hand s.book s.configuration (numbers_of s) i) s.configuration.wait (s.last_job + 1) i)
+  by-recovery (Some i) = by-try (told_try s.configuration s.book (recovery_try s.world s.book s.audit (by_hand s.book s.configuration (numbers_of s) i) s.configuration.wait (s.last_job + 1) i))
 
   by-taken : (i : ServerNo) (d : Option ServerNo) → By (takeovers_by s i d) (taken_over s.world s.book s.audit s.configuration (numbers_of s) d i)
   by-taken i None = inr refl
-  by-taken i (Some d) = by-try (takeover_try s.world s.book s.audit (by_hand s.book s.configuration (numbers_of s) i) s.configuration.wait (s.last_job + 1) i d)
+  by-taken i (Some d) = by-try (told_try s.configuration s.book (takeover_try s.world s.book s.audit (by_hand s.book s.configuration (numbers_of s) i) s.configuration.wait (s.last_job + 1) i d))
 
   by-takeover : (i d : Option ServerNo) → By (takeovers_of s i d) (given_or (refusal s.reads UnknownInstance) (taken_over s.world s.book s.audit s.configuration (numbers_of s) d) i)
   by-takeover None d = inr refl
@@ -98,8 +99,8 @@ module _ (s : State) (c : CommandTurn) where
   by-route (Asks q) = by-question
   by-route (Decides d) = by-decided s.reads s.audit (permitted s.book c.command) (decided_of s.book s.audit (record { 0 = s.moment }) c.keys c.command.i d)
   by-route (Begins p) =
-      by-job (refusal_by s.world s.book (record { 0 = s.moment }) c.command p) (leases_by s.world s.book c.command p)
-      (job_by s.world s.book c.command p (s.last_job + 1) s.configuration.wait)
+      by-job (refusal_by s.world s.book (record { 0 = s.moment }) s.configuration.every c.command p) (leases_by s.world s.book c.command p)
+      (job_by s.world s.book c.command p (s.last_job + 1) s.configuration.wait s.configuration.every)
   by-route Recovers = by-recovery c.command.i
   by-route TakesOver = by-takeover c.command.i c.command.d
 

@@ -1,10 +1,9 @@
 -- What refuses a command has the lowest number of what its checks refuse.
-use Rattle.std.proofs.Common.{◌≡◌, ℕ, ◌≤◌, Bool, true, false, List, [], ◌∷◌, refl, ap, subst, Option, Some, None, arith}
+use Rattle.std.proofs.Common.{◌≡◌, ℕ, ◌≤◌, Bool, true, false, List, [], ◌∷◌, refl, ap, Option, Some, None, arith}
 use Rattle.std.specs.Prelude.{Any, is_some, if◌then◌else◌}
-use Rattle.std.specs.Option.{option_or}
 use Rattle.std.proofs.lemmas.List.Elements.{All-cons, All-nil}
 use Rattle.std.proofs.lemmas.Option.{same_Some}
-use Rattle.answer_laws.proofs.Rising.{coords-lowest, gtid-lowest, path-lowest, recovery-lowest, takeover-lowest}
+use Rattle.answer_laws.proofs.Rising.{coords-lowest, gtid-lowest, match-lowest, path-lowest, recovery-lowest, takeover-lowest}
 use Rattle.answer_laws.specs.Lowest.{IsAnswer, IsNoLower}
 use Rattle.asking_commands.specs.Answers.{is_known, unknown_in}
 use Rattle.command_jobs.specs.Jobs.{refusal_by as planned_refusal}
@@ -63,27 +62,20 @@ two-checks false (Some r) more = record {
   lowest = All-cons (IsNoLower r) None (Some r ∷ []) (λ s e. cc) (All-cons (IsNoLower r) (Some r) [] (itself r) (All-nil (IsNoLower r)));
 }
 
-same-first : (x y : Option Refusal) → first_of x y ≡ option_or x y
-same-first None y = refl
-same-first (Some r) y = refl
-
 -- ---- each command
 
 module _ (s : State) (c : Command) where
   abbrev unknown : Bool
   unknown = is_unknown c (is_known s.book c.i) (is_known s.book c.d)
 
-  unmatched : IsAnswer (unknown_in s.book c ∷ Some refusal.PseudoOff ∷ []) (first_of (unknown_in s.book c) (Some refusal.PseudoOff))
-  unmatched = two-checks unknown (Some refusal.PseudoOff) (λ r e. let n : 31 ≡ number_of r = ap number_of (same_Some refusal.PseudoOff r e) in omega (arith, n))
-
   -- of a plan
-  by-plan : (p : Planner) → IsAnswer (plan_checks s c p) (planned_refusal s.world s.book (record { 0 = s.moment }) c p)
+  by-plan : (p : Planner) → IsAnswer (plan_checks s c p) (planned_refusal s.world s.book (record { 0 = s.moment }) s.configuration.every c p)
   by-plan (Coordinates kind) = coords-lowest s.world s.book c
   by-plan (Gtids kind) = gtid-lowest s.world s.book c
   by-plan (Paths kind) = path-lowest s.world s.book (record { 0 = s.moment }) c
   by-plan (Regroups ByBridges) = path-lowest s.world s.book (record { 0 = s.moment }) c
-  by-plan (Regroups ByMatches) = subst (IsAnswer (unknown_in s.book c ∷ Some refusal.PseudoOff ∷ [])) (same-first (unknown_in s.book c) (Some refusal.PseudoOff)) unmatched
-  by-plan (Matches kind) = subst (IsAnswer (unknown_in s.book c ∷ Some refusal.PseudoOff ∷ [])) (same-first (unknown_in s.book c) (Some refusal.PseudoOff)) unmatched
+  by-plan (Regroups ByMatches) = match-lowest s.world s.book (record { 0 = s.moment }) s.configuration.every c
+  by-plan (Matches kind) = match-lowest s.world s.book (record { 0 = s.moment }) s.configuration.every c
 
   by-recovery : (i : Option ServerNo) → IsAnswer (recover_checks s i) (recovery_refused s.world s.book s.audit s.configuration (numbers_of s) i)
   by-recovery None = one-check (Some refusal.UnknownInstance)

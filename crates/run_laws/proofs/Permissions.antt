@@ -31,6 +31,7 @@ use Rattle.command_routes.specs.declared.route.Route.{Route}
 use Rattle.command_routes.specs.declared.route.Route.TheVariants.{Discovers, Forgets, Asks, Decides, Begins, Recovers, TakesOver}
 use Rattle.command_routes.specs.Routes.{route_of}
 use Rattle.instance_keeper.specs.Leases.{taken}
+use Rattle.orch_core.specs.HookTelling.{told_try}
 use Rattle.orch_core.specs.Permission.{IsAnswer, IsDone, recovery_refused, refusal_at, refusal_by, takeover_given, takeover_refused, unreached}
 use Rattle.recovery_core.specs.Tries.{Begins as RecoveryBegins, recovery_begins, takeover_begins, unless_refused}
 use Rattle.recovery_permits.specs.Recoveries.{recovery_refusal}
@@ -160,8 +161,8 @@ begun_answers : (s : State) (r : Option Refusal) (list : List ServerNo) (job : U
 begun_answers s None list job = job_answers s.reads (s.last_job + 1) (begun (numbers_of s) None list job) refl
 begun_answers s (Some r) list job = refused_answers s.reads IsJob r
 
-try_answers : (s : State) (r : Option Refusal) (x : RecoveryBegins) → Answers s.reads IsJob r (recovery_begun (numbers_of s) (unless_refused r x))
-try_answers s None x = job_answers s.reads (s.last_job + 1) (recovery_begun (numbers_of s) (unless_refused None x)) refl
+try_answers : (s : State) (r : Option Refusal) (x : RecoveryBegins) → Answers s.reads IsJob r (recovery_begun (numbers_of s) (told_try s.configuration s.book (unless_refused r x)))
+try_answers s None x = job_answers s.reads (s.last_job + 1) (recovery_begun (numbers_of s) (told_try s.configuration s.book (unless_refused None x))) refl
 try_answers s (Some r) x = refused_answers s.reads IsJob r
 
 module _ (s : State) (c : CommandTurn) where
@@ -213,7 +214,7 @@ module _ (s : State) (c : CommandTurn) where
   answers_by (Asks q) is = asked_by s.reads (unknown c.command.i) lines
   answers_by (Decides d) is = decided_by s.reads s.audit (unknown c.command.i) (decided_of s.book s.audit (record { 0 = s.moment }) c.keys c.command.i d)
   answers_by (Begins p) is =
-      begun_answers s (planned_refusal s.world s.book (record { 0 = s.moment }) c.command p) (leases_by s.world s.book c.command p) (job_by s.world s.book c.command p (s.last_job + 1) s.configuration.wait)
+      begun_answers s (planned_refusal s.world s.book (record { 0 = s.moment }) s.configuration.every c.command p) (leases_by s.world s.book c.command p) (job_by s.world s.book c.command p (s.last_job + 1) s.configuration.wait s.configuration.every)
   answers_by Recovers is = at_recovery c.command.i
   answers_by TakesOver is = at_takeover c.command.i c.command.d
 
@@ -262,14 +263,14 @@ told_begins reads (Some why) o answers id begun = let refused : answered.Begun i
 
 module _ (s : State) (c : CommandTurn) where
   plan_leaves : (p : Planner) (r : Option Refusal)
-      → LeavesBegun s (of_plan r (leases_by s.world s.book c.command p) (job_by s.world s.book c.command p (s.last_job + 1) s.configuration.wait))
-      (begun (numbers_of s) r (leases_by s.world s.book c.command p) (job_by s.world s.book c.command p (s.last_job + 1) s.configuration.wait))
+      → LeavesBegun s (of_plan r (leases_by s.world s.book c.command p) (job_by s.world s.book c.command p (s.last_job + 1) s.configuration.wait s.configuration.every))
+      (begun (numbers_of s) r (leases_by s.world s.book c.command p) (job_by s.world s.book c.command p (s.last_job + 1) s.configuration.wait s.configuration.every))
   plan_leaves p None =
-      let same = job-number s.world s.book c.command p (s.last_job + 1) s.configuration.wait in
+      let same = job-number s.world s.book c.command p (s.last_job + 1) s.configuration.wait s.configuration.every in
       record { reply = refl; number = same; jobs = refl; last = same; leases = ap (taken s.book.leases (leases_by s.world s.book c.command p)) same; audit = refl; rows = refl }
   plan_leaves p (Some why) = refusal_begins s.reads why
 
-  try_leaves : (r : Option Refusal) (x : RecoveryBegins) → x.job.core.id ≡ s.last_job + 1 → LeavesBegun s (of_try (unless_refused r x)) (recovery_begun (numbers_of s) (unless_refused r x))
+  try_leaves : (r : Option Refusal) (x : RecoveryBegins) → x.job.core.id ≡ s.last_job + 1 → LeavesBegun s (of_try (told_try s.configuration s.book (unless_refused r x))) (recovery_begun (numbers_of s) (told_try s.configuration s.book (unless_refused r x)))
   try_leaves None x same = record { reply = refl; number = same; jobs = refl; last = same; leases = ap (taken s.book.leases x.list) same; audit = refl; rows = refl }
   try_leaves (Some why) x same = refusal_begins s.reads why
 
@@ -292,7 +293,7 @@ module _ (s : State) (c : CommandTurn) where
   route_leaves Forgets is = told_begins s.reads _ _ (answers_by s c Forgets is)
   route_leaves (Asks q) is = told_begins s.reads _ _ (answers_by s c (Asks q) is)
   route_leaves (Decides d) is = told_begins s.reads _ _ (answers_by s c (Decides d) is)
-  route_leaves (Begins p) is = plan_leaves p (planned_refusal s.world s.book (record { 0 = s.moment }) c.command p)
+  route_leaves (Begins p) is = plan_leaves p (planned_refusal s.world s.book (record { 0 = s.moment }) s.configuration.every c.command p)
   route_leaves Recovers is = recovery_leaves c.command.i
   route_leaves TakesOver is = takeover_leaves c.command.i c.command.d
 

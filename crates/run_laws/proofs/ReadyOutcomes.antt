@@ -41,7 +41,9 @@ use Rattle.unended_jobs.specs.declared.unended.Unended.{Unended}
 use Rattle.unended_jobs.specs.Unended.{IsReady, number_of}
 use Rattle.orch_core.specs.Knowing.{recovery_job, updated}
 use Rattle.orch_core.specs.Commands.{Outcome, about as given_or, asked, begun, by_hand, decided, discovered, forgotten, outcome_by, outcome_of, question, recovered, recovery_begun, refusal, removal, removal_refusal, taken_over, terms_of}
+use Rattle.orch_core.specs.HookTelling.{told_try, with_told}
 use Rattle.orch_core.specs.Periods.{period_by}
+use Rattle.orch_core.proofs.HookTold.{told-can, told-in-turn}
 use Rattle.orch_core.specs.Polls.{command_outcome, numbers_of, reading, scan_outcome}
 use Rattle.orch_core.specs.States.{State}
 use Rattle.orch_core.proofs.Outcomes.{IsEffectFor, decided-effect}
@@ -120,8 +122,10 @@ module _ (s : State) (is : IsBook s.book) (periods : AreShort s.configuration) (
   all-named : (xs : List RecoveryBegins) → BeginInTurn count s.book.leases s.audit s.last_job xs → All (IsReady count) (s.jobs ++ map recovery_job xs)
   all-named xs each = All-append (IsReady count) s.jobs (map recovery_job xs) jobs (all-ready count s.book.leases s.audit s.last_job xs each)
 
-  Keeps-recovery : (r : Result RecoveryBegins Refusal) → ((x : RecoveryBegins) → r ≡ Ok x → CanBegin count s.book.leases s.audit s.last_job x) → Keeps s (recovery_begun (numbers_of s) r)
-  Keeps-recovery (Ok x) can = record { book = IsBook-after s.book (x ∷ []) is; names = refl; jobs = all-named (x ∷ []) (can x refl, tt) }
+  Keeps-recovery : (r : Result RecoveryBegins Refusal) → ((x : RecoveryBegins) → r ≡ Ok x → CanBegin count s.book.leases s.audit s.last_job x) → Keeps s (recovery_begun (numbers_of s) (told_try s.configuration s.book r))
+  Keeps-recovery (Ok x) can =
+      let y = with_told s.configuration s.book x in
+      record { book = IsBook-after s.book (y ∷ []) is; names = refl; jobs = all-named (y ∷ []) (told-can s.configuration s.book count s.book.leases s.audit s.last_job x (can x refl), tt) }
   Keeps-recovery (Err why) can = Keeps-refusal s.reads why
 
   Keeps-recovered : (i : ServerNo) → i.0 < count → Keeps s (recovered s.world s.book s.audit s.configuration (numbers_of s) i)
@@ -140,8 +144,10 @@ module _ (s : State) (is : IsBook s.book) (periods : AreShort s.configuration) (
   pub Keeps-scan : Keeps s (scan_outcome s)
   Keeps-scan =
       let attempt = attempt_of s.configuration.master s.configuration.intermediate (period_by s.configuration) s.book (terms_of s.book (numbers_of s)) in
-      let xs = (scanned s.world s.book s.audit attempt s.configuration.wait s.last_job).begun in
-      record { book = IsBook-after s.book xs is; names = refl; jobs = all-named xs (scan-in-turn s.world s.book attempt s.configuration.wait s.audit s.last_job is short) }
+      let tried = (scanned s.world s.book s.audit attempt s.configuration.wait s.last_job).begun in
+      let xs = map (with_told s.configuration s.book) tried in
+      let each = told-in-turn s.configuration s.book count s.book.leases s.audit s.last_job tried (scan-in-turn s.world s.book attempt s.configuration.wait s.audit s.last_job is short) in
+      record { book = IsBook-after s.book xs is; names = refl; jobs = all-named xs each }
 
   -- ---- any command
 
@@ -167,8 +173,8 @@ module _ (s : State) (is : IsBook s.book) (periods : AreShort s.configuration) (
         Keeps-decided s.reads s.audit (permitted s.book t.command) (decided_of s.book s.audit (record { 0 = s.moment }) t.keys t.command.i d)
         (decided-effect s.book count is.small s.audit (record { 0 = s.moment }) t.keys t.command.i d i_within)
     Keeps-route (Begins p) =
-        Keeps-begun (refusal_by s.world s.book (record { 0 = s.moment }) t.command p) (leases_by s.world s.book t.command p) (job_by s.world s.book t.command p (s.last_job + 1) s.configuration.wait)
-        (job-ready s.world s.book t.command is i_within d_within p (s.last_job + 1) s.configuration.wait)
+        Keeps-begun (refusal_by s.world s.book (record { 0 = s.moment }) s.configuration.every t.command p) (leases_by s.world s.book t.command p) (job_by s.world s.book t.command p (s.last_job + 1) s.configuration.wait s.configuration.every)
+        (job-ready s.world s.book t.command is i_within d_within p (s.last_job + 1) s.configuration.wait s.configuration.every)
     Keeps-route Recovers =
         given (refusal s.reads UnknownInstance) (recovered s.world s.book s.audit s.configuration (numbers_of s)) (Keeps-refusal s.reads UnknownInstance) Keeps-recovered t.command.i i_within
     Keeps-route TakesOver =

@@ -78,14 +78,14 @@ module _ (count : ℕ) (leases : List (Option ℕ)) (a : AuditState) (last : ℕ
   job-beside : (w : World) (l : Leases) → IsHeldBeside w (leased_to l x.list x.job.core.id) (recovery_job x)
   job-beside w l =
       subst (λ (r : Recovery). IsHeldBeside w (leased_to l x.list x.job.core.id) (unended.Recovery r (record { entry = Some x.entry.id; hooks = x.hooks }))) (sym can.fresh)
-      (recovery-held w l x.list x.job.purpose x.job.core.id x.job.core.wait x.job.failed x.job.replicas x.job.order (record { entry = Some x.entry.id; hooks = x.hooks })
+      (recovery-held w l x.list x.job.purpose x.job.means x.job.core.id x.job.core.wait x.job.failed x.job.replicas x.job.order (record { entry = Some x.entry.id; hooks = x.hooks })
       (subst (λ (list : List ServerNo). All (λ (n : ServerNo). IsListed list n.0) x.job.replicas) (sym can.list) (listed-behind x.job.failed x.job.replicas))
       (listed-any (IsListed x.list) (λ n. n < count) x.job.purpose x.job.failed can.listed))
 
   job-sound : (w : World) → IsSoundBeside w (recovery_job x)
   job-sound w =
       subst (λ (r : Recovery). IsSoundBeside w (unended.Recovery r (record { entry = Some x.entry.id; hooks = x.hooks }))) (sym can.fresh)
-      (recovery-sound w x.job.purpose x.job.core.id x.job.core.wait x.job.failed x.job.replicas x.job.order (record { entry = Some x.entry.id; hooks = x.hooks }))
+      (recovery-sound w x.job.purpose x.job.means x.job.core.id x.job.core.wait x.job.failed x.job.replicas x.job.order (record { entry = Some x.entry.id; hooks = x.hooks }))
 
   -- its leases, as the list has them
   job-leases : length leases ≡ count → leased_to (leases_of leases) x.list x.job.core.id ≡ leases_of (taken leases x.list x.job.core.id)

@@ -46,6 +46,7 @@ use Rattle.operations.specs.Jobs.{Job}
 use Rattle.operations.proofs.Allowing.{turn-allowed}
 use Rattle.job_laws.specs.Leases.{job_at as core_at, leases_of}
 use Rattle.recovery_plans.proofs.Allowed.{taken-allowed}
+use Rattle.recovery_plans.specs.Taking.{taken}
 use Rattle.recovery_laws.proofs.Sounding.{taken-sound}
 use Rattle.unended_jobs.specs.declared.unended.Unended.{Unended}
 use Rattle.unended_jobs.specs.declared.unended.Unended.TheVariants as unended

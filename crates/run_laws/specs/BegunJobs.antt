@@ -16,6 +16,7 @@ use Rattle.recovery_core.specs.Tries.{Begins as RecoveryBegins, recovery_try, ta
 use Rattle.unended_jobs.specs.declared.unended.Unended.{Unended}
 use Rattle.orch_core.specs.Knowing.{recovery_job}
 use Rattle.orch_core.specs.Commands.{by_hand}
+use Rattle.orch_core.specs.HookTelling.{told_try}
 use Rattle.orch_core.specs.Polls.{numbers_of}
 use Rattle.orch_core.specs.States.{State}
 
@@ -37,18 +38,18 @@ of_try (Err r) = None
 
 abbrev pub planned : State → Command → Planner → Option BegunJob
 planned s c p =
-    of_plan (refusal_by s.world s.book (record { 0 = s.moment }) c p) (leases_by s.world s.book c p)
-    (job_by s.world s.book c p (s.last_job + 1) s.configuration.wait)
+    of_plan (refusal_by s.world s.book (record { 0 = s.moment }) s.configuration.every c p) (leases_by s.world s.book c p)
+    (job_by s.world s.book c p (s.last_job + 1) s.configuration.wait s.configuration.every)
 
 -- of the instance that is given
 abbrev pub recovering : State → Option ServerNo → Option BegunJob
 recovering s None = None
-recovering s (Some i) = of_try (recovery_try s.world s.book s.audit (by_hand s.book s.configuration (numbers_of s) i) s.configuration.wait (s.last_job + 1) i)
+recovering s (Some i) = of_try (told_try s.configuration s.book (recovery_try s.world s.book s.audit (by_hand s.book s.configuration (numbers_of s) i) s.configuration.wait (s.last_job + 1) i))
 
 -- by the designated server that is given
 abbrev pub taking_by : State → ServerNo → Option ServerNo → Option BegunJob
 taking_by s i None = None
-taking_by s i (Some d) = of_try (takeover_try s.world s.book s.audit (by_hand s.book s.configuration (numbers_of s) i) s.configuration.wait (s.last_job + 1) i d)
+taking_by s i (Some d) = of_try (told_try s.configuration s.book (takeover_try s.world s.book s.audit (by_hand s.book s.configuration (numbers_of s) i) s.configuration.wait (s.last_job + 1) i d))
 
 abbrev pub taking_over : State → Option ServerNo → Option ServerNo → Option BegunJob
 taking_over s None d = None

@@ -1,5 +1,5 @@
 -- The recoveries that a turn begins, and their entries in the audit.
-use Rattle.std.specs.Prelude.{◌+◌, List, [], ◌∷◌, Option, Some, None, Result, Ok, Err}
+use Rattle.std.specs.Prelude.{◌+◌, List, [], ◌∷◌, map, Option, Some, None, Result, Ok, Err}
 use Rattle.command_routes.specs.declared.route.Route.{Route}
 use Rattle.command_routes.specs.declared.route.Route.TheVariants.{Discovers, Forgets, Asks, Decides, Begins, Recovers, TakesOver}
 use Rattle.command_routes.specs.Routes.{route_of}
@@ -7,7 +7,7 @@ use Rattle.commands.specs.declared.refusal.Refusal.{Refusal}
 use Rattle.commands.specs.declared.turn.Command.{Command}
 use Rattle.kept_rows.specs.declared.recovery.Recovery.{Recovery}
 use Rattle.orch_base.specs.declared.server.ServerNo.{ServerNo}
-use Rattle.recovery_core.specs.Scans.{attempt_of, scanned}
+use Rattle.recovery_core.specs.Scans.{Staged, attempt_of, scanned}
 use Rattle.recovery_core.specs.Tries.{Begins as RecoveryBegins, recovery_try, takeover_try}
 use Rattle.recovery_permits.specs.declared.attempt.Attempt.{Attempt}
 use Rattle.turns.specs.declared.turn.Act.{Act}
@@ -16,13 +16,14 @@ use Rattle.turns.specs.declared.turn.Turn.{Turn}
 use Rattle.turns.specs.declared.turn.Turn.TheVariants as turn
 use Rattle.run_laws.specs.Begins.{entries_of}
 use Rattle.orch_core.specs.Commands.{by_hand, terms_of}
+use Rattle.orch_core.specs.HookTelling.{told_try, with_told}
 use Rattle.orch_core.specs.Periods.{period_by}
 use Rattle.orch_core.specs.Polls.{numbers_of}
 use Rattle.orch_core.specs.States.{State}
 
 -- ---- by a command
 
--- one, where nothing refuses it
+-- one, where nothing refuses it, whose hooks are told of it
 abbrev pub tried : Result RecoveryBegins Refusal → List RecoveryBegins
 tried (Ok x) = x ∷ []
 tried (Err why) = []
@@ -30,12 +31,12 @@ tried (Err why) = []
 -- of the instance that is given
 abbrev pub recoveries_of : State → Option ServerNo → List RecoveryBegins
 recoveries_of s None = []
-recoveries_of s (Some i) = tried (recovery_try s.world s.book s.audit (by_hand s.book s.configuration (numbers_of s) i) s.configuration.wait (s.last_job + 1) i)
+recoveries_of s (Some i) = tried (told_try s.configuration s.book (recovery_try s.world s.book s.audit (by_hand s.book s.configuration (numbers_of s) i) s.configuration.wait (s.last_job + 1) i))
 
 -- by the designated server that is given
 abbrev pub takeovers_by : State → ServerNo → Option ServerNo → List RecoveryBegins
 takeovers_by s i None = []
-takeovers_by s i (Some d) = tried (takeover_try s.world s.book s.audit (by_hand s.book s.configuration (numbers_of s) i) s.configuration.wait (s.last_job + 1) i d)
+takeovers_by s i (Some d) = tried (told_try s.configuration s.book (takeover_try s.world s.book s.audit (by_hand s.book s.configuration (numbers_of s) i) s.configuration.wait (s.last_job + 1) i d))
 
 abbrev pub takeovers_of : State → Option ServerNo → Option ServerNo → List RecoveryBegins
 takeovers_of s None d = []
@@ -57,9 +58,13 @@ recoveries_by s c TakesOver = takeovers_of s c.i c.d
 abbrev pub attempt_in : State → ServerNo → Attempt
 attempt_in s = attempt_of s.configuration.master s.configuration.intermediate (period_by s.configuration) s.book (terms_of s.book (numbers_of s))
 
--- one after another
+-- what the tries come to, one after another
+abbrev pub scan_in : State → Staged
+scan_in s = scanned s.world s.book s.audit (attempt_in s) s.configuration.wait s.last_job
+
+-- hooks are told of what begins
 abbrev pub recoveries_scanned : State → List RecoveryBegins
-recoveries_scanned s = (scanned s.world s.book s.audit (attempt_in s) s.configuration.wait s.last_job).begun
+recoveries_scanned s = map (with_told s.configuration s.book) (scan_in s).begun
 
 -- ---- by a turn
 

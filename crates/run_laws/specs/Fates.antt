@@ -25,11 +25,12 @@ use Rattle.orch_base.specs.declared.server.Moment.{Moment}
 use Rattle.orch_base.specs.declared.server.ServerNo.{ServerNo}
 use Rattle.recovery_core.specs.Endings.{done_with, is_takeover}
 use Rattle.recovery_plans.specs.Recoveries.{Recovery}
-use Rattle.recovery_plans.specs.Taking.{Taken, taken}
+use Rattle.recovery_plans.specs.Taking.{Taken}
 use Rattle.turns.specs.declared.turn.Act.{Act}
 use Rattle.turns.specs.declared.turn.Act.TheVariants as act
 use Rattle.turns.specs.declared.turn.Turn.{Turn}
 use Rattle.turns.specs.declared.turn.Turn.TheVariants as turn
+use Rattle.unended_jobs.specs.Hooked.{hooked}
 use Rattle.unended_jobs.specs.declared.unended.Unended.{Unended}
 use Rattle.unended_jobs.specs.declared.unended.Unended.TheVariants as unended
 use Rattle.orch_core.specs.After.{step as turn_step}
@@ -47,15 +48,15 @@ entry_then now r (step.Done lines) k = record k { ended = Some now; outcome = do
 entry_then now r (step.Failed c lines) k = record k { ended = Some now; outcome = ending.Failed (cause_name c) }
 
 -- after the turn of its own job, with this entry, and no other
-abbrev pub entry_of_turn : Moment → ℕ → Taken → KeptRecovery → KeptRecovery
-entry_of_turn now e t k = if k.id == e then entry_then now t.recovery t.step k else k
+abbrev pub entry_of_turn : Moment → Option ℕ → Taken → KeptRecovery → KeptRecovery
+entry_of_turn now None t k = k
+entry_of_turn now (Some e) t k = if k.id == e then entry_then now t.recovery t.step k else k
 
 abbrev pub entry_by_job : State → Option Unended → KeptRecovery → KeptRecovery
 entry_by_job s None k = k
 entry_by_job s (Some (unended.Plan j)) k = k
-entry_by_job s (Some (unended.Recovery r None)) k = k
-entry_by_job s (Some (unended.Recovery r (Some e))) k =
-    entry_of_turn (record { 0 = s.moment }) e (taken s.world s.book (next_count s.reads) (record { 0 = s.moment }) r) k
+entry_by_job s (Some (unended.Recovery r d)) k =
+    entry_of_turn (record { 0 = s.moment }) d.entry (hooked s.world s.book (next_count s.reads) (record { 0 = s.moment }) r d).taken k
 
 -- ---- with a command
 

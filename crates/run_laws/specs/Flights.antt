@@ -28,6 +28,7 @@ use Rattle.job_laws.specs.Passages.{Passage}
 use Rattle.job_laws.specs.Passages as pass
 use Rattle.orch_core.specs.Knowing.{recovery_job}
 use Rattle.orch_core.specs.Commands.{by_hand, removal_refusal}
+use Rattle.orch_core.specs.HookTelling.{told_try}
 use Rattle.jobs_in_flight.specs.Jobs.{job_at}
 use Rattle.orch_core.specs.Polls.{numbers_of, reading, slot_at}
 use Rattle.orch_core.specs.States.{State}
@@ -80,7 +81,7 @@ by_instance some None = []
 by_instance some (Some i) = some i
 
 abbrev pub by_permission : State → Command → Planner → Option Refusal → List Passage
-by_permission s c p None = pass.Beginning (leases_by s.world s.book c p) (core_of (job_by s.world s.book c p (s.last_job + 1) s.configuration.wait)) ∷ []
+by_permission s c p None = pass.Beginning (leases_by s.world s.book c p) (core_of (job_by s.world s.book c p (s.last_job + 1) s.configuration.wait s.configuration.every)) ∷ []
 by_permission s c p (Some r) = []
 
 -- recoveries that begin one after another
@@ -93,12 +94,12 @@ by_try (Ok x) = by_recoveries (x ∷ [])
 by_try (Err r) = []
 
 abbrev pub by_recovery : State → ServerNo → List Passage
-by_recovery s f = by_try (recovery_try s.world s.book s.audit (by_hand s.book s.configuration (numbers_of s) f) s.configuration.wait (s.last_job + 1) f)
+by_recovery s f = by_try (told_try s.configuration s.book (recovery_try s.world s.book s.audit (by_hand s.book s.configuration (numbers_of s) f) s.configuration.wait (s.last_job + 1) f))
 
 -- a replica takes a master's place, where one is given
 abbrev pub by_takeover : State → Option ServerNo → ServerNo → List Passage
 by_takeover s None i = []
-by_takeover s (Some d) i = by_try (takeover_try s.world s.book s.audit (by_hand s.book s.configuration (numbers_of s) i) s.configuration.wait (s.last_job + 1) i d)
+by_takeover s (Some d) i = by_try (told_try s.configuration s.book (takeover_try s.world s.book s.audit (by_hand s.book s.configuration (numbers_of s) i) s.configuration.wait (s.last_job + 1) i d))
 
 -- a job's turn, by the operations of its plan or as its recovery decides it
 abbrev pub by_job : State → ℕ → Option Unended → List Passage
@@ -110,7 +111,7 @@ by_route s c Discovers = by_instance (by_discovery s) c.i
 by_route s c Forgets = by_instance (by_removal (allowed (removal_refusal s.book c))) c.i
 by_route s c (Asks question) = []
 by_route s c (Decides decision) = []
-by_route s c (Begins p) = by_permission s c p (refusal_by s.world s.book (moment_at s) c p)
+by_route s c (Begins p) = by_permission s c p (refusal_by s.world s.book (moment_at s) s.configuration.every c p)
 by_route s c Recovers = by_instance (by_recovery s) c.i
 by_route s c TakesOver = by_instance (by_takeover s c.d) c.i
 

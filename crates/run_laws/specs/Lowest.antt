@@ -1,6 +1,6 @@
 -- The checks of the permission table for each command, in whatever order they are looked at.
 use Rattle.std.specs.Prelude.{List, [], ◌∷◌, Option, Some, None}
-use Rattle.answer_laws.specs.Lowest.{IsAnswer, coords_checks, gtid_checks, path_checks, recovery_checks, takeover_checks}
+use Rattle.answer_laws.specs.Lowest.{IsAnswer, coords_checks, gtid_checks, match_checks, path_checks, recovery_checks, takeover_checks}
 use Rattle.asking_commands.specs.Answers.{unknown_in}
 use Rattle.command_routes.specs.declared.kinds.Regrouping.TheVariants.{ByBridges, ByMatches}
 use Rattle.command_routes.specs.declared.route.Planner.{Planner}
@@ -17,14 +17,14 @@ use Rattle.orch_core.specs.Permission.{refusal_at, unreached}
 use Rattle.orch_core.specs.Polls.{numbers_of}
 use Rattle.orch_core.specs.States.{State}
 
--- a command that begins the job of a plan; no log has marks by which it could be matched
+-- a command that begins the job of a plan
 abbrev pub plan_checks : State → Command → Planner → List (Option Refusal)
 plan_checks s c (Coordinates kind) = coords_checks s.world s.book c
 plan_checks s c (Gtids kind) = gtid_checks s.world s.book c
 plan_checks s c (Paths kind) = path_checks s.world s.book (record { 0 = s.moment }) c
 plan_checks s c (Regroups ByBridges) = path_checks s.world s.book (record { 0 = s.moment }) c
-plan_checks s c (Regroups ByMatches) = unknown_in s.book c ∷ Some refusal.PseudoOff ∷ []
-plan_checks s c (Matches kind) = unknown_in s.book c ∷ Some refusal.PseudoOff ∷ []
+plan_checks s c (Regroups ByMatches) = match_checks s.world s.book (record { 0 = s.moment }) s.configuration.every c
+plan_checks s c (Matches kind) = match_checks s.world s.book (record { 0 = s.moment }) s.configuration.every c
 
 -- the recovery of the instance that is given
 abbrev pub recover_checks : State → Option ServerNo → List (Option Refusal)

@@ -1,7 +1,8 @@
 //! Laws of runs with jobs in flight.
 
-ghost use Rattle.run_laws.specs.Failures.{PlansAreDone, PlansFailForWhatBefell, RecoveriesFailForWhatBefell};
+ghost use Rattle.run_laws.specs.Failures.{PlansAreDone, PlansFailForWhatBefell};
 ghost use Rattle.run_laws.specs.Jobs.{JobsHaveLeases, JobsLeaveFewerTurns, JobsLeaveOthers, LeasesNameJobs};
+ghost use Rattle.run_laws.specs.Marks.{FoundMatchesEnd, MatchesEnd};
 ghost use Rattle.run_laws.specs.Runs.{AtEveryTurn, InEveryQuietState, InEveryState};
 ghost use Rattle.run_laws.specs.States.{HeldState, SoundState};
 ghost use Rattle.run_laws.specs.Turns.{IsItsPassages, TurnMayPass};
@@ -23,22 +24,24 @@ pub fn every_state_is_held()
 {}
 
 /// Each quiet state of each run is sound, with jobs in flight: it is safe, and each bridge that is kept, that a slot's
-/// reading shows, that a job saw or by which a recovery goes later stands.
+/// reading shows, that a job saw or by which a recovery goes later stands. Where the log of a server matches another's,
+/// the coordinate's place in the other's log is all that the server has executed, which is a beginning of what the other
+/// has. So it is of each match that a job found, as long as the server stands where it was matched.
 pub fn every_quiet_state_is_sound()
-    ensures { InEveryQuietState SoundState }
+    ensures sound { InEveryQuietState SoundState }
+    ensures matched { InEveryQuietState MatchesEnd }
+    ensures found { InEveryQuietState FoundMatchesEnd }
 {}
 
 /// In each state of each run a lease names a job that isn't ended, each job has the leases of the servers that it may
 /// still change, and its turn leaves every other server as it is. A plan's job that answers a failure was befallen by
-/// its cause, in that very turn, and one that nothing befalls is done. So was a recovery: no candidate only where its decisions left no operation; reachable only
-/// where its check went; moved where the master was seen with a source; else its operation stopped so.
+/// its cause, in that very turn, and one that nothing befalls is done.
 pub fn jobs_keep_to_their_leases()
     ensures named { InEveryState LeasesNameJobs }
     ensures leased { InEveryState JobsHaveLeases }
     ensures others { InEveryState JobsLeaveOthers }
     ensures fails { InEveryState PlansFailForWhatBefell }
     ensures done { InEveryState PlansAreDone }
-    ensures failed { InEveryState RecoveriesFailForWhatBefell }
 {}
 
 /// In each state of each run a job that goes on after its turn has fewer turns left: so rounds of its turns end it.

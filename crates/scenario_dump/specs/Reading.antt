@@ -41,7 +41,7 @@ unfoldable pub dumped_scenario : World → Scenario → ℕ → Scenario
 dumped_scenario w s now = record {
   opening = opening_of w;
   moment = record { 0 = now };
-  pseudo = 0;
+  pseudo = s.pseudo;
   nodes = 1;
   block = s.block;
   blocks = s.blocks;

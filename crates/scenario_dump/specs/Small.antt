@@ -102,4 +102,4 @@ abbrev one_hook : Hooks
 one_hook = record no_hooks { post_failover = record { text = codes "page {failedHost}"; exit = 0 } ∷ [] }
 
 abbrev pub named_scenario : Scenario
-named_scenario = record plain_scenario { blocks = record { cluster = codes "m:3306"; seconds = 60 } ∷ []; aliases = record { cluster = codes "m:3306"; alias = codes "a \"b\"" } ∷ []; hooks = one_hook }
+named_scenario = record plain_scenario { pseudo = 5; blocks = record { cluster = codes "m:3306"; seconds = 60 } ∷ []; aliases = record { cluster = codes "m:3306"; alias = codes "a \"b\"" } ∷ []; hooks = one_hook }

@@ -109,6 +109,7 @@ pub fn dump(
     out.extend_from_slice(b",\"pre_failover\":")?;
     print_hooks(alloc, hooks.pre_failover.as_slice(), &mut out)?;
     print_number(b"},\"now\":", now.0, &mut out)?;
+    print_number(b",\"pseudo\":", scenario.pseudo, &mut out)?;
     out.extend_from_slice(b",\"servers\":")?;
     print_servers(alloc, world, &mut out)?;
     out.extend_from_slice(b",\"turns\":[],\"version\":1}\n")?;

@@ -5,8 +5,8 @@ use Rattle.std.specs.List.{list_any}
 use Rattle.command_line.specs.Commands.{is_taken_word}
 
 abbrev pub built_keys : List (List ℕ)
-built_keys = codes "version" ∷ codes "now" ∷ codes "gtid" ∷ codes "block" ∷ codes "blocks" ∷ codes "aliases" ∷ codes "filters" ∷ codes "hooks"
-    ∷ codes "servers" ∷ codes "turns" ∷ []
+built_keys = codes "version" ∷ codes "now" ∷ codes "gtid" ∷ codes "pseudo" ∷ codes "block" ∷ codes "blocks" ∷ codes "aliases" ∷ codes "filters"
+    ∷ codes "hooks" ∷ codes "servers" ∷ codes "turns" ∷ []
 
 abbrev pub built_server_keys : List (List ℕ)
 built_server_keys = codes "name" ∷ codes "uuid" ∷ codes "server_id" ∷ codes "version" ∷ codes "cluster" ∷ codes "logs" ∷ codes "read_only" ∷ codes "limit"

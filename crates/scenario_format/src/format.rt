@@ -10,8 +10,8 @@ fn is_listed(what: &str) -> bool
     ensures { result ≡ is_listed built_names what.now }
 {
     [
-        "version", "now", "gtid", "block", "blocks", "aliases", "filters", "hooks", "servers", "turns", "name", "uuid", "server_id", "version",
-        "cluster", "logs", "read_only", "limit", "up", "desk", "feed", "known", "rule", "history", "source", "executed", "at", "read",
+        "version", "now", "gtid", "pseudo", "block", "blocks", "aliases", "filters", "hooks", "servers", "turns", "name", "uuid", "server_id",
+        "version", "cluster", "logs", "read_only", "limit", "up", "desk", "feed", "known", "rule", "history", "source", "executed", "at", "read",
         "io", "sql", "auto", "detached", "until", "flushes", "purged", "dc", "write", "fetch", "apply", "fail", "heal", "cut", "join",
         "rotate", "purge", "tick", "poll-read", "poll-store", "polls", "round", "command", "job", "scan", "restart",
     ]

@@ -221,7 +221,8 @@ head-has d h e =
     let version = bind-ok (needed (codes "version") one_in d) _ h e in
     let moment = bind-ok (optional (codes "now") (number_in 0 1000000000000000) 0 d) _ h version.2 in
     let gtid = bind-ok (optional (codes "gtid") bool_in _ d) _ h moment.2 in
-    let block = bind-ok (optional (codes "block") period_in 3600 d) _ h gtid.2 in
+    let pseudo = bind-ok (optional (codes "pseudo") (number_in 0 1000000) 0 d) _ h gtid.2 in
+    let block = bind-ok (optional (codes "block") period_in 3600 d) _ h pseudo.2 in
     let blocks = bind-ok (optional (codes "blocks") blocks_in [] d) _ h block.2 in
     let aliases = bind-ok (optional (codes "aliases") aliases_in [] d) _ h blocks.2 in
     let filters = bind-ok (optional (codes "filters") filters_in no_filters d) _ h aliases.2 in
@@ -229,7 +230,7 @@ head-has d h e =
     let made : Head = record {
       moment = moment.0;
       gtid = gtid.0;
-      pseudo = 0;
+      pseudo = pseudo.0;
       nodes = 1;
       block = block.0;
       blocks = blocks.0;
@@ -239,7 +240,7 @@ head-has d h e =
     } in
     subst AreSmall (same_Ok made h hooks.2) (record {
       moment = by 1000000000000000 0 moment.0 (omega arith) (optional-ok (codes "now") (number_in 0 1000000000000000) 0 d moment.0 moment.1);
-      pseudo = omega arith;
+      pseudo = by 1000000 0 pseudo.0 (omega arith) (optional-ok (codes "pseudo") (number_in 0 1000000) 0 d pseudo.0 pseudo.1);
       nodes = refl;
       block = by 1000000000 3600 block.0 (omega arith) (optional-ok (codes "block") period_in 3600 d block.0 block.1);
       blocks = listed blocks.0 (optional-ok (codes "blocks") blocks_in [] d blocks.0 blocks.1);

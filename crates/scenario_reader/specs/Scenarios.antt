@@ -37,8 +37,8 @@ json_in bytes = or_fails NotJson (if is_utf8 bytes then read bytes else None)
 -- ---- the top object
 
 abbrev pub top_keys : List (List ℕ)
-top_keys = codes "version" ∷ codes "now" ∷ codes "gtid" ∷ codes "block" ∷ codes "blocks" ∷ codes "aliases" ∷ codes "filters" ∷ codes "hooks"
-    ∷ codes "servers" ∷ codes "turns" ∷ []
+top_keys = codes "version" ∷ codes "now" ∷ codes "gtid" ∷ codes "pseudo" ∷ codes "block" ∷ codes "blocks" ∷ codes "aliases" ∷ codes "filters"
+    ∷ codes "hooks" ∷ codes "servers" ∷ codes "turns" ∷ []
 
 abbrev pub is_one : Option ℕ → Bool
 is_one None = false
@@ -68,6 +68,7 @@ head_in d = do
   version ← needed (codes "version") one_in d
   moment ← optional (codes "now") (number_in 0 1000000000000000) 0 d
   gtid ← optional (codes "gtid") bool_in false d
+  pseudo ← optional (codes "pseudo") (number_in 0 1000000) 0 d
   block ← optional (codes "block") period_in 3600 d
   blocks ← optional (codes "blocks") blocks_in [] d
   aliases ← optional (codes "aliases") aliases_in [] d
@@ -76,7 +77,7 @@ head_in d = do
   Ok (record {
     moment = moment;
     gtid = gtid;
-    pseudo = 0;
+    pseudo = pseudo;
     nodes = 1;
     block = block;
     blocks = blocks;

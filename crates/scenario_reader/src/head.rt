@@ -54,7 +54,7 @@ pub(crate) fn keys_in(alloc: Global, value: &Value) -> Result<(), ReadFault>
     ensures { Gives (λ _. tt) fault_of result (keys_in (view value.now)) }
 {
     let members = members_in(alloc, value)?;
-    only_keys(alloc, members, &["version", "now", "gtid", "block", "blocks", "aliases", "filters", "hooks", "servers", "turns"])?;
+    only_keys(alloc, members, &["version", "now", "gtid", "pseudo", "block", "blocks", "aliases", "filters", "hooks", "servers", "turns"])?;
     holds(alloc, FaultCode::Missing, is_there("version", value) && is_there("servers", value))
 }
 
@@ -137,6 +137,7 @@ pub(crate) fn head_in(alloc: Global, object: &Value) -> Result<Head, ReadFault>
     version_at(alloc, object)?;
     let moment = number_at(alloc, object, "now", 0, 1_000_000_000_000_000, 0)?;
     let gtid = bool_at(alloc, object, "gtid", false)?;
+    let pseudo = number_at(alloc, object, "pseudo", 0, 1_000_000, 0)?;
     let block = number_at(alloc, object, "block", 0, 1_000_000_000, 3600)?;
     let blocks = blocks_at(alloc, object)?;
     let aliases = aliases_at(alloc, object)?;
@@ -145,7 +146,7 @@ pub(crate) fn head_in(alloc: Global, object: &Value) -> Result<Head, ReadFault>
     Ok(Head {
         moment,
         gtid,
-        pseudo: 0,
+        pseudo,
         nodes: 1,
         block,
         blocks,

@@ -31,21 +31,23 @@ use Rattle.kept_rows.specs.declared.observation.Observation.{Observation}
 use Rattle.kept_rows.specs.Seeing.{seen_in}
 use Rattle.commands.specs.declared.cause.Cause.TheVariants as cause
 use Rattle.operations.specs.declared.op.Crossing.TheVariants as cross
+use Rattle.operations.specs.declared.matching.Match.{Match}
 use Rattle.operations.specs.declared.matching.MatchFault.{MatchFault}
 use Rattle.operations.specs.declared.op.Op.{Op}
 use Rattle.operations.specs.declared.op.Op.TheVariants as op
 use Rattle.operations.specs.declared.sight.Position.{Position}
 use Rattle.operations.specs.Deeds as deed
 use Rattle.operations.specs.Deeds.{Deed, deed_of}
-use Rattle.operations.specs.Jobs.{Job, position_of, seen_of}
+use Rattle.operations.specs.Jobs.{Job, match_found, position_of, seen_of}
 use Rattle.operations.specs.Turns as attempt
 use Rattle.operations.specs.Matching.{match_logs, standing_at}
-use Rattle.operations.specs.Turns.{bridge_at, Attempt, next, saw, observed, is_moved, after_status, after_look, after_ask, aim_of, is_reached, until_by, after_until, after_wait_by, after_wait, holds_seen, settles, crossed, crossing_of, by_set, after_match, attach_answer_of, after_answer, by_deed}
+use Rattle.operations.specs.Turns.{bridge_at, Attempt, next, saw, observed, is_moved, after_status, after_look, after_ask, aim_of, is_reached, until_by, after_until, after_wait_by, after_wait, holds_seen, settles, crossed, crossing_of, by_match, by_set, after_match, attach_answer_of, after_answer, by_deed}
 use Rattle.job_laws.specs.Footing.{footing, finds, is_under, logs_at, source_shown}
 use Rattle.job_laws.specs.Held.{AllShow}
+use Rattle.job_laws.specs.Matched.{ArePlaced, finds_match, matched_in}
 use Rattle.job_laws.proofs.Spanning.{bridge-parts}
 use Rattle.job_laws.proofs.Sights.{seen-at}
-use Rattle.job_laws.proofs.Trying.{cross-tried, auto-tried}
+use Rattle.job_laws.proofs.Trying.{cross-tried, auto-tried, match-tried}
 use Rattle.recovery_plans.specs.declared.task.Way.{Way}
 use Rattle.recovery_plans.specs.declared.task.Way.TheVariants as way
 use Rattle.recovery_plans.specs.Stages.{move, moves, moves_by, target}
@@ -288,10 +290,22 @@ module _ (w : World) (read : ℕ) (now : Moment) (j : Job) (rest : List Op) (sho
       go (Some s) e h =
           subst (λ (x : Exchange). Moves n p (after_answer j rest n x (attach_answer_of w x))) (same_Some (AttachAuto n.0 s.set p) e h) (auto-attaches w j rest n p s.set)
 
-  pub way-moves : (by' : Way) (n : ServerNo) → Reads j.seen by' → finds (footing w j.seen) (deed_of (move by' n)) ≡ true → Moves n (target by') (by (move by' n))
-  way-moves (way.Down b) n reads found = down-moves n b.no found
-  way-moves (way.Up b) n reads found = up-moves n b.no b.source reads found
-  way-moves (way.Auto to exec) n reads found = auto-moves n to found
+  match-moves : (n p : ServerNo) → ArePlaced w j.matches → matched_in j.matches n p ≡ true → Moves n p (by (op.CrossMatch n p))
+  match-moves n p placed found =
+      let t = match-tried w j rest read now n p placed found in
+      subst (λ (a : Attempt). Moves n p a) (sym t.attempt) (go (match_found j.matches n p) t.exchange t.found)
+    where
+      go : (o : Option Match) (e : Exchange) → by_match n p o ≡ Some e → Moves n p (after_answer j rest n e (attach_answer_of w e))
+      go None e h = cc
+      go (Some x) e h =
+          subst (λ (y : Exchange). Moves n p (after_answer j rest n y (attach_answer_of w y))) (same_Some (Attach n.0 x.spot p x.at) e h) (attach-moves w j rest n x.spot p x.at)
+
+  pub way-moves : (by' : Way) (n : ServerNo) → Reads j.seen by' → finds (footing w j.seen) (deed_of (move by' n)) ≡ true → ArePlaced w j.matches
+      → finds_match (matched_in j.matches) (deed_of (move by' n)) ≡ true → Moves n (target by') (by (move by' n))
+  way-moves (way.Down b) n reads found placed matched = down-moves n b.no found
+  way-moves (way.Up b) n reads found placed matched = up-moves n b.no b.source reads found
+  way-moves (way.Auto to exec) n reads found placed matched = auto-moves n to found
+  way-moves (way.Match to exec every) n reads found placed matched = match-moves n to placed matched
 
   -- a change of source is no wait
   abbrev pub IsOnce : Attempt → Type 0
@@ -303,13 +317,9 @@ module _ (w : World) (read : ℕ) (now : Moment) (j : Job) (rest : List Op) (sho
   answer-once n e (Ok t) = refl
   answer-once n e (Err f) = tt
 
-  pub way-once : (by' : Way) (n : ServerNo) → finds (footing w j.seen) (deed_of (move by' n)) ≡ true → IsOnce (by (move by' n))
-  way-once (way.Down b) n found =
-      let t = cross-tried w j rest read now cross.Down n b.no shown found in subst (λ (a : Attempt). IsOnce a) (sym t.attempt) (answer-once n t.exchange (attach_answer_of w t.exchange))
-  way-once (way.Up b) n found =
-      let t = cross-tried w j rest read now cross.Up n b.no shown found in subst (λ (a : Attempt). IsOnce a) (sym t.attempt) (answer-once n t.exchange (attach_answer_of w t.exchange))
-  way-once (way.Auto to exec) n found =
-      let t = auto-tried w j rest read now n to found in subst (λ (a : Attempt). IsOnce a) (sym t.attempt) (answer-once n t.exchange (attach_answer_of w t.exchange))
+  pub up-once : (n p : ServerNo) → finds (footing w j.seen) (deed.Cross cross.Up n p) ≡ true → IsOnce (by (op.Cross cross.Up n p))
+  up-once n p found =
+      let t = cross-tried w j rest read now cross.Up n p shown found in subst (λ (a : Attempt). IsOnce a) (sym t.attempt) (answer-once n t.exchange (attach_answer_of w t.exchange))
 
   -- ---- what is asked of a server
 

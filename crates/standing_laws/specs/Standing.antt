@@ -72,6 +72,7 @@ abbrev pub Reads : List Sight → Way → Type 0
 Reads seen (way.Down b) = Unit {0}
 Reads seen (way.Up b) = source_shown (seen_of seen b.no.0) ≡ Some b.source.0
 Reads seen (way.Auto to exec) = Unit {0}
+Reads seen (way.Match to exec every) = Unit {0}
 
 -- what isn't orchestrator's: writes, steps of replication, what befalls a server, a new file of a log, a purge
 abbrev pub is_outside : Exchange → Bool

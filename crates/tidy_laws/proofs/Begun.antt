@@ -53,7 +53,11 @@ use Rattle.permission.specs.Lists.{first_about, moves_to, only_if}
 use Rattle.permission.specs.Replicas.{replicas_but, siblings_of}
 use Rattle.permission.specs.Rows.{about as about_given, about_one, refused}
 use Rattle.permission.specs.Views.{has_log, is_valid, label_in, same_label, source_above, source_of}
-use Rattle.plan_parts.specs.Parts.{again_auto, autos, unders, ups}
+use Rattle.plan_parts.specs.Parts.{again_auto, autos, matching, matchings, unders, ups}
+use Rattle.pseudo_match.specs.Commands.{pseudo_command}
+use Rattle.pseudo_match.specs.Plans as match_plans
+use Rattle.pseudo_match.specs.declared.command.PseudoCommand.{PseudoCommand}
+use Rattle.pseudo_match.specs.declared.command.PseudoCommand.TheVariants as matches
 use Rattle.recovery_core.specs.Scans.{Staged, actionable_in, after_try, from_start, scan_step, scanned, scanned_over, staged_refusal}
 use Rattle.recovery_core.specs.Tries.{Begins, recovery_begins, recovery_try, takeover_begins, takeover_try, unless_refused}
 use Rattle.recovery_core.proofs.Beginning.{unrefused}
@@ -63,6 +67,8 @@ use Rattle.recovery_permits.specs.Recoveries.{held_off, purpose_by, recovery_pur
 use Rattle.recovery_permits.specs.Takeovers.{followers_of, takeover_refusal}
 use Rattle.recovery_plans.specs.Beginning.{begun_recovery, but}
 use Rattle.recovery_plans.specs.declared.outcome.Stopped.{Stopped}
+use Rattle.recovery_plans.specs.declared.means.Means.{Means}
+use Rattle.recovery_plans.specs.declared.means.Means.TheVariants as means
 use Rattle.recovery_plans.specs.declared.purpose.Purpose.{Purpose}
 use Rattle.recovery_plans.specs.declared.purpose.Purpose.TheVariants as purpose
 use Rattle.recovery_plans.specs.declared.task.Task.{Task}
@@ -120,7 +126,7 @@ module _ (c : Clusters) where
   due-more (deed.Cross d a b) A B f h = f h
   due-more (deed.Same n) A B f h = f h
   due-more (deed.Auto n m) A B f h = (h.0, f h.1)
-  due-more (deed.Match n m every) A B f h = f h
+  due-more (deed.Match n m every) A B f h = λ same. f (h same)
   due-more (deed.CrossMatch n m) A B f h = (h.0, f h.1)
   due-more (deed.Finish lines) A B f h = f h
 
@@ -148,6 +154,14 @@ module _ (c : Clusters) where
 
   again_auto-due : (i x : ServerNo) → AreDueWithin c (again_auto i x)
   again_auto-due i x = (tt, λ same. (same, (tt, tt)))
+
+  -- a match that is found tells that both are of one cluster
+  matching-due : (r d : ServerNo) (every : ℕ) → AreDueWithin c (matching r d every)
+  matching-due r d every = (tt, λ same. (same, (tt, tt)))
+
+  matchings-due : (rs : List ServerNo) (d : ServerNo) (every : ℕ) → AreDueWithin c (matchings rs d every)
+  matchings-due [] d every = tt
+  matchings-due (r ∷ rs) d every = due-append (matching r d every) (matchings rs d every) (matching-due r d every) (matchings-due rs d every)
 
   ups-due : (rs : List ServerNo) (i x : ServerNo) → AreDueWithin c (ups rs i x)
   ups-due [] i x = tt
@@ -283,6 +297,22 @@ module _ (c : Clusters) (w : World) (trim : IsTrim c w) (b : BookState) (i : Ser
   gtids-planned gtids.EnableGtid d h = enabled-planned (source_of b i)
   gtids-planned gtids.DisableGtid d h = disabled-planned (source_of b i)
 
+  -- ---- by matches
+
+  matched-planned : (every : ℕ) (d : Option ServerNo) → AreDueWithin c (match_plans.moved i every d)
+  matched-planned every None = tt
+  matched-planned every (Some d) = finished-due c (matching i d every) (Follows i d ∷ []) (matching-due c i d every)
+
+  each-matched : (rs : List ServerNo) (every : ℕ) (d : Option ServerNo) → AreDueWithin c (match_plans.replicas_moved rs every d)
+  each-matched rs every None = tt
+  each-matched rs every (Some d) = finished-due c (matchings rs d every) _ (matchings-due c rs d every)
+
+  matches-planned : (every : ℕ) (k : PseudoCommand) (d : Option ServerNo) → AreDueWithin c (match_plans.ops_of b every k i d)
+  matches-planned every matches.Match d = matched-planned every d
+  matches-planned every matches.MatchUp d = matched-planned every (source_above b i)
+  matches-planned every matches.MatchReplicas d = each-matched (replicas_but b i d) every d
+  matches-planned every matches.RegroupReplicas d = tt
+
   -- ---- by paths
 
   travel-planned : (gtid : Bool) (movers : List ServerNo) (d : Option ServerNo) → (gtid ≡ true → first_about (of_other_cluster w) (moves_to movers d) ≡ None) → AreDueWithin c (relocated gtid b movers d)
@@ -320,22 +350,22 @@ module _ (c : Clusters) (f : ServerNo) where
       All-append (IsTaskWithin c f chosen) (map t ns) (x ∷ y ∷ []) (mapped-within chosen t ns each)
       (All-cons (IsTaskWithin c f chosen) x (y ∷ []) one (All-cons (IsTaskWithin c f chosen) y [] two (All-nil (IsTaskWithin c f chosen))))
 
-  begun-within : (u : Purpose) (id wait : ℕ) (replicas order : List ServerNo) → IsAimWithin c u f → IsRecoveryWithin c (begun_recovery u id wait f replicas order)
-  begun-within purpose.Regroup id wait replicas order aim = record {
+  begun-within : (u : Purpose) (by : Means) (id wait : ℕ) (replicas order : List ServerNo) → IsAimWithin c u f → IsRecoveryWithin c (begun_recovery u by id wait f replicas order)
+  begun-within purpose.Regroup by id wait replicas order aim = record {
     core = planned-within c id wait [] tt;
     stage = tt;
     queue = behind-within None task.Draining replicas task.Choosing task.Sorting (λ n. tt) tt tt;
     drained = All-nil (λ (d : Stopped). AreAlike c d.no.0 f.0);
     lead = tt;
   }
-  begun-within purpose.Master id wait replicas order aim = record {
+  begun-within purpose.Master by id wait replicas order aim = record {
     core = planned-within c id wait (op.Status f None ∷ []) tt;
     stage = tt;
     queue = behind-within None task.Draining replicas task.Choosing task.Sorting (λ n. tt) tt tt;
     drained = All-nil (λ (d : Stopped). AreAlike c d.no.0 f.0);
     lead = tt;
   }
-  begun-within (purpose.Intermediate s) id wait replicas order aim = record {
+  begun-within (purpose.Intermediate s) by id wait replicas order aim = record {
     core = planned-within c id wait (op.Status f None ∷ []) tt;
     stage = tt;
     queue =
@@ -344,7 +374,7 @@ module _ (c : Clusters) (f : ServerNo) where
     drained = All-nil (λ (d : Stopped). AreAlike c d.no.0 f.0);
     lead = tt;
   }
-  begun-within (purpose.Takeover d) id wait replicas order aim = record {
+  begun-within (purpose.Takeover d) by id wait replicas order aim = record {
     core = planned-within c id wait (op.Status f None ∷ []) tt;
     stage = tt;
     queue =
@@ -356,7 +386,7 @@ module _ (c : Clusters) (f : ServerNo) where
 
 -- ---- the job of a command that isn't refused
 
-module _ (c : Clusters) (w : World) (trim : IsTrim c w) (b : BookState) (now : Moment) (given : Command) (id wait : ℕ) where
+module _ (c : Clusters) (w : World) (trim : IsTrim c w) (b : BookState) (now : Moment) (every : ℕ) (given : Command) (id wait : ℕ) where
   coords-begin : coords_permits.refusal_of w b given ≡ None → AreDueWithin c (coords_plans.plan_of w b given)
   coords-begin h = go (coords_command given.name) h
     where
@@ -392,17 +422,28 @@ module _ (c : Clusters) (w : World) (trim : IsTrim c w) (b : BookState) (now : M
       go None h = tt
       go (Some k) h = with_i k given.i (neither (unknown_in b given) (about_one None (path_permits.refusal_about w b now k) given.i given.d) h).1
 
-  regroup-within : (i : Option ServerNo) → IsUnendedWithin c (regroup_about b id wait i)
-  regroup-within None = planned-within c id wait [] tt
-  regroup-within (Some i) = begun-within c i purpose.Regroup id wait (replicas_of b i) (replicas_of b i) tt
+  matches-due : AreDueWithin c (match_plans.plan_of b every given)
+  matches-due = go (pseudo_command given.name)
+    where
+      with_i : (k : PseudoCommand) (o : Option ServerNo) → AreDueWithin c (about_one [] (match_plans.ops_of b every k) o given.d)
+      with_i k None = tt
+      with_i k (Some i) = matches-planned c w trim b i every k given.d
 
-  pub job-within : (p : Planner) → refusal_by w b now given p ≡ None → IsUnendedWithin c (job_by w b given p id wait)
+      go : (k : Option PseudoCommand) → AreDueWithin c (about_given [] (match_plans.ops_of b every) k given)
+      go None = tt
+      go (Some k) = with_i k given.i
+
+  regroup-within : (by : Means) (i : Option ServerNo) → IsUnendedWithin c (regroup_about b by id wait i)
+  regroup-within by None = planned-within c id wait [] tt
+  regroup-within by (Some i) = begun-within c i purpose.Regroup by id wait (replicas_of b i) (replicas_of b i) tt
+
+  pub job-within : (p : Planner) → refusal_by w b now every given p ≡ None → IsUnendedWithin c (job_by w b given p id wait every)
   job-within (Coordinates kind) h = planned-within c id wait (coords_plans.plan_of w b given) (coords-begin h)
   job-within (Gtids kind) h = planned-within c id wait (gtid_plans.plan_of b given) (gtids-begin h)
   job-within (Paths kind) h = planned-within c id wait (path_plans.plan_of w b given) (paths-begin h)
-  job-within (Regroups ByBridges) h = regroup-within given.i
-  job-within (Regroups ByMatches) h = planned-within c id wait [] tt
-  job-within (Matches kind) h = planned-within c id wait [] tt
+  job-within (Regroups ByBridges) h = regroup-within means.Bridges given.i
+  job-within (Regroups ByMatches) h = regroup-within (means.Matches every) given.i
+  job-within (Matches kind) h = planned-within c id wait (match_plans.plan_of b every given) matches-due
 
 -- ---- what a recovery is for
 
@@ -473,7 +514,7 @@ module _ (c : Clusters) (w : World) (trim : IsTrim c w) where
   IsBegunWithin x = IsRecoveryWithin c x.job
 
   begins-within : (b : BookState) (audit : AuditState) (a : Attempt) (now : Moment) (block wait job : ℕ) (f : ServerNo) → recovery_refusal w b audit a f ≡ None → IsBegunWithin (recovery_begins b audit now block wait job f)
-  begins-within b audit a now block wait job f free = begun-within c f (recovery_purpose b f) job wait (replicas_of b f) (replicas_of b f) (aim-within b audit a f free)
+  begins-within b audit a now block wait job f free = begun-within c f (recovery_purpose b f) means.Bridges job wait (replicas_of b f) (replicas_of b f) (aim-within b audit a f free)
 
   pub recovery-within : (b : BookState) (audit : AuditState) (a : Attempt) (wait job : ℕ) (f : ServerNo) (x : Begins) → recovery_try w b audit a wait job f ≡ Ok x → IsBegunWithin x
   recovery-within b audit a wait job f x h =
@@ -483,7 +524,7 @@ module _ (c : Clusters) (w : World) (trim : IsTrim c w) where
   pub takeover-within : (b : BookState) (audit : AuditState) (a : Attempt) (wait job : ℕ) (i d : ServerNo) (x : Begins) → takeover_try w b audit a wait job i d ≡ Ok x → IsBegunWithin x
   takeover-within b audit a wait job i d x h =
       let parts = unrefused (takeover_refusal w b audit a i d) (takeover_begins b audit a.now a.block wait job i d) x h in
-      subst IsBegunWithin parts.1 (begun-within c i (purpose.Takeover d) job wait (replicas_of b i) (followers_of b i d) tt)
+      subst IsBegunWithin parts.1 (begun-within c i (purpose.Takeover d) means.Bridges job wait (replicas_of b i) (followers_of b i d) tt)
 
   -- ---- by a scan
 

@@ -11,7 +11,7 @@ use Rattle.server_model.specs.Run.{Exchange, Request, after, run}
 use Rattle.server_model.specs.Safe.{Placed}
 use Rattle.server_model.specs.Worlds.{World, source_no}
 use Rattle.commands.specs.declared.cause.Cause.{Cause}
-use Rattle.commands.specs.declared.line.Lost.{Lost}
+use Rattle.recovery_plans.specs.declared.why.Why.{Why}
 use Rattle.instance_keeper.specs.declared.bridge.Bridge.{Bridge}
 use Rattle.kept_rows.specs.declared.observation.Observation.{Observation}
 use Rattle.instance_keeper.specs.Book.{BookState}
@@ -30,6 +30,8 @@ use Rattle.job_laws.proofs.Turns.{with-one}
 use Rattle.replica_groups.specs.declared.groups.Group.{Group}
 use Rattle.replica_groups.specs.declared.groups.Group.TheVariants as group
 use Rattle.replica_groups.specs.Groups.{group_of}
+use Rattle.recovery_plans.specs.declared.means.Means.{Means}
+use Rattle.recovery_plans.specs.declared.means.Means.TheVariants as means
 use Rattle.recovery_plans.specs.declared.outcome.Stopped.{Stopped}
 use Rattle.recovery_plans.specs.declared.purpose.Purpose.{Purpose}
 use Rattle.recovery_plans.specs.declared.purpose.Purpose.TheVariants as purpose
@@ -40,13 +42,14 @@ use Rattle.recovery_plans.specs.declared.task.Task.TheVariants as task
 use Rattle.recovery_plans.specs.declared.task.Way.{Way}
 use Rattle.recovery_plans.specs.declared.task.Way.TheVariants as way
 use Rattle.recovery_plans.specs.Recoveries.{Recovery, follows, follows_no_more, loses, sight_of, working}
-use Rattle.recovery_plans.specs.Stages.{drain, ends, gather, leaver, level, move, moved, with_bridge, with_way}
+use Rattle.recovery_plans.specs.Stages.{before, drain, ends, gather, leaver, level, move, moved, with_bridge, with_way}
 use Rattle.recovery_plans.specs.Telling.{told}
 use Rattle.recovery_plans.specs.Deciding as deciding
-use Rattle.recovery_plans.specs.Deciding.{Lot, chosen_of, lot_by_group, lot_of, move_of, moves_in, own_end_of, without_stopped, choose, moving, way_below, way_by_set, why_of, expels, releases, sort, logs_at}
+use Rattle.recovery_plans.specs.Deciding.{Lot, chosen_of, lot_by, lot_by_group, move_of, moves_in, own_end_of, without_stopped, choose, moving, way_below, way_by_set, why_of, expels, releases, sort, logs_at}
 use Rattle.recovery_plans.specs.Taking.{Taken, lead_under, last_looks, idle, frees, entered, stepped, swapped, that_can, takes_writes, goes_back, way_back, undone, last_exchanges, taken}
 use Rattle.recovery_plans.specs.Moves as by
 use Rattle.recovery_plans.specs.Moves.{Bearing, Decision, Does, Ending, FailsFor, IsHanding, IsNext, MayDecide, MayEnd, Turning, borne, decided_by, ended_by, fate_of}
+use Rattle.recovery_plans.proofs.Leading.{moved-leads}
 use Rattle.recovery_plans.proofs.Walking.{Keeps, decisions-keep, kept-along, made-along, taken-walks}
 use Rattle.recovery_plans.proofs.Choices.{All-chosen}
 use Rattle.recovery_laws.specs.HeldRecoveries.{HeldRecovery}
@@ -73,11 +76,13 @@ module _ (c : Clusters) where
   way-within xs n (way.Down b) all h = seen-within xs b all h
   way-within xs n (way.Up b) all h = seen-within xs b all h
   way-within xs n (way.Auto to exec) all h = all
+  way-within xs n (way.Match to exec every) all h = all
 
-  move-within : (n : ServerNo) (by : Way) → IsWayWithin c n by → AreDueWithin c (move by n ∷ op.Start n ∷ [])
+  move-within : (n : ServerNo) (by : Way) → IsWayWithin c n by → AreDueWithin c (before by n ++ move by n ∷ op.Start n ∷ [])
   move-within n (way.Down b) h = (tt, tt)
   move-within n (way.Up b) h = (tt, tt)
   move-within n (way.Auto to exec) h = (h, (tt, tt))
+  move-within n (way.Match to exec every) h = λ found. (found, (tt, tt))
 
   -- ---- stages that begin
 
@@ -133,8 +138,9 @@ module _ (c : Clusters) where
         go (deciding.Goes by) h = All-cons (IsTaskWithin c f chosen) (task.Moving s.no by) [] h (All-nil (IsTaskWithin c f chosen))
         go (deciding.Stays why) h = All-nil (IsTaskWithin c f chosen)
 
-    lot-within : (f : ServerNo) (p : Stopped) → AreAlike c p.no.0 f.0 → (s : Stopped) → AreAlike c s.no.0 f.0 → IsLotWithin s.no (lot_of w b f p s)
-    lot-within f p alike s also = go w.gtid
+    lot-within : (m : Means) (f : ServerNo) (p : Stopped) → AreAlike c p.no.0 f.0 → (s : Stopped) → AreAlike c s.no.0 f.0 → IsLotWithin s.no (lot_by m w b f p s)
+    lot-within (means.Matches every) f p alike s also = alike ∙ sym also
+    lot-within means.Bridges f p alike s also = go w.gtid
       where
         by : (g : Group) → IsLotWithin s.no (lot_by_group p.no f s g)
         by (group.Follow at) = sym alike
@@ -171,9 +177,9 @@ module _ (c : Clusters) where
     chooses-within : (r : Recovery) (p : Stopped) → IsRecoveryWithin c r → chosen_of w b now r.failed r.drained ≡ Some p → IsRecoveryWithin c (choose w b now r (Some p))
     chooses-within r p s e =
         let one = All-chosen w b now r.failed (λ (d : Stopped). AreAlike c d.no.0 r.failed.0) r.drained p s.drained e in
-        queued-within r (moves_in (lot_of w b r.failed p) (without_stopped r.drained p.no) ++ r.queue) [] (Some p.no) s
-        (All-append (IsTaskWithin c r.failed (Some p.no)) (moves_in (lot_of w b r.failed p) (without_stopped r.drained p.no)) r.queue
-        (moves-within r.failed (Some p.no) (lot_of w b r.failed p) (without_stopped r.drained p.no) (All-filter _ (λ (d : Stopped). AreAlike c d.no.0 r.failed.0) r.drained s.drained) (lot-within r.failed p one))
+        queued-within r (moves_in (lot_by r.means w b r.failed p) (without_stopped r.drained p.no) ++ r.queue) [] (Some p.no) s
+        (All-append (IsTaskWithin c r.failed (Some p.no)) (moves_in (lot_by r.means w b r.failed p) (without_stopped r.drained p.no)) r.queue
+        (moves-within r.failed (Some p.no) (lot_by r.means w b r.failed p) (without_stopped r.drained p.no) (All-filter _ (λ (d : Stopped). AreAlike c d.no.0 r.failed.0) r.drained s.drained) (lot-within r.means r.failed p one))
         (queue-rechosen r.failed r.chosen (Some p.no) r.queue one s.queue)) (All-nil (λ (d : Stopped). AreAlike c d.no.0 r.failed.0))
 
     below-within : (seen : List Sight) (x k : ServerNo) (d : Stopped) → AreAlike c k.0 d.no.0 → (o : Option Way) → way_below w b seen x k d ≡ o → IfSome o (IsWayWithin c d.no)
@@ -252,7 +258,7 @@ module _ (c : Clusters) where
           at true = bridge-within c r.core.seen s.core.seen d x e
           at false = tt
 
-  frees-within : (r : Recovery) (n : ServerNo) (why : Lost) → IsRecoveryWithin c r → IsRecoveryWithin c (frees r n why)
+  frees-within : (r : Recovery) (n : ServerNo) (why : Why) → IsRecoveryWithin c r → IsRecoveryWithin c (frees r n why)
   frees-within r n why s = working-within (loses r n why) (stage.Release n) (op.Start n ∷ []) s tt (tt, tt)
 
   looks-due : (r : Recovery) (u : Purpose) (n : ServerNo) → AreDueWithin c (last_looks r u n ++ op.Finish (told r) ∷ [])
@@ -288,12 +294,7 @@ module _ (c : Clusters) where
   completes-within r (by.Ends n) may s = working-within r (stage.Close (told r)) (last_looks r r.purpose n ++ op.Finish (told r) ∷ []) s tt (looks-due r r.purpose n)
 
   moved-within : (x : Stage) → IsStageWithin c x → IsStageWithin c (moved x)
-  moved-within (stage.Look n b) h = h
-  moved-within (stage.Trail n b) h = h
-  moved-within (stage.Looked n b) h = h
-  moved-within (stage.Halted n b) h = h
-  moved-within (stage.Move n by) h = tt
-  moved-within x h = tt
+  moved-within x h = subst (λ (o : Option Bridge). IfSome o (IsWithinCluster c)) (sym (moved-leads x)) h
 
   stepped-within : (r : Recovery) (o : Op) → IsRecoveryWithin c r → IsRecoveryWithin c (stepped r o)
   stepped-within r o s = go (ends r.stage (deed_of o))

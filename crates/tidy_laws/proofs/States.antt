@@ -26,6 +26,7 @@ use Rattle.kept_rows.specs.declared.row.Row.{Row}
 use Rattle.server_words.specs.declared.status.Status.{Status}
 use Rattle.operations.specs.Jobs.{Job}
 use Rattle.operations.specs.Turns.{is_going, turned}
+use Rattle.operations.specs.declared.step.JobStep.{JobStep}
 use Rattle.operations.proofs.Allowing.{turn-allowed}
 use Rattle.job_laws.specs.Flights.{Flight}
 use Rattle.job_laws.specs.Held.{HeldJob}
@@ -36,8 +37,7 @@ use Rattle.job_laws.proofs.Lists.{All-find}
 use Rattle.jobs_in_flight.specs.Jobs.{job_at, jobs_turned, with_job, without_job}
 use Rattle.recovery_core.specs.Tries.{Begins as RecoveryBegins, recovery_try, takeover_try}
 use Rattle.recovery_plans.specs.Recoveries.{Recovery}
-use Rattle.recovery_plans.specs.Taking.{taken}
-use Rattle.recovery_plans.proofs.Allowed.{taken-allowed}
+use Rattle.recovery_plans.specs.Taking.{taken, Taken}
 use Rattle.scenarios.specs.Turns.{IsStep, IsTurn}
 use Rattle.turns.specs.declared.turn.Act.{Act}
 use Rattle.turns.specs.declared.turn.Act.TheVariants as act
@@ -45,6 +45,10 @@ use Rattle.turns.specs.declared.turn.Step.{Step}
 use Rattle.turns.specs.declared.turn.Step.TheVariants as step
 use Rattle.turns.specs.declared.turn.Turn.{Turn}
 use Rattle.turns.specs.declared.turn.Turn.TheVariants as turn
+use Rattle.unended_jobs.proofs.Going.{flown-allowed}
+use Rattle.unended_jobs.proofs.Hooked.{hooked-has}
+use Rattle.unended_jobs.specs.Hooked.{hooked, promoted_in}
+use Rattle.unended_jobs.specs.declared.docket.Docket.{Docket}
 use Rattle.unended_jobs.specs.declared.unended.Unended.{Unended}
 use Rattle.unended_jobs.specs.declared.unended.Unended.TheVariants as unended
 use Rattle.unended_jobs.specs.Unended.{Flown, core_of, number_of}
@@ -54,12 +58,13 @@ use Rattle.job_laws.specs.Leases.{leases_of}
 use Rattle.orch_core.specs.After.{after_act, step as turn_step}
 use Rattle.orch_core.specs.Commands.{Outcome, about, asked, by_hand, begun, decided, discovered, forgotten, next_reading, outcome_by, outcome_of, question, recovered, recovery_begun, refusal, removal_refusal, taken_over}
 use Rattle.orch_core.specs.Jobs.{turn_of}
+use Rattle.orch_core.specs.HookTelling.{told_try, with_told}
 use Rattle.orch_core.specs.Knowing.{recovery_job}
 use Rattle.orch_core.specs.Polls.{command_outcome, numbers_of, reading, scan_outcome}
 use Rattle.orch_core.specs.Settling.{settled}
 use Rattle.orch_core.specs.States.{State}
 use Rattle.orch_core.specs.Turns.{exchange_of}
-use Rattle.run_laws.specs.Entries.{attempt_in, recoveries_scanned}
+use Rattle.run_laws.specs.Entries.{attempt_in, recoveries_scanned, scan_in}
 use Rattle.run_laws.specs.Flights.{act_passages, by_discovery, by_instance, by_job, by_permission, by_poll, by_recoveries, by_recovery, by_removal, by_route, by_takeover, by_try, discovers, flight_of, moment_at, passages_of}
 use Rattle.run_laws.specs.Ready.{Ready}
 use Rattle.run_laws.specs.States.{HeldState}
@@ -105,13 +110,20 @@ module _ (c : Clusters) (s : State) (held : HeldState s) (neat : IsNeatState c s
       (All-find (HeldJob s.world) is_job (map core_of s.jobs) j held.flight.jobs found)
       (All-find (IsUnendedWithin c) is_unended s.jobs (unended.Plan j) neat.jobs at)
 
-  recovery-turned : (id : ℕ) (r : Recovery) (entry : Option ℕ) → job_at s.jobs id ≡ Some (unended.Recovery r entry)
-      → KeepsWithin c s.world (taken s.world s.book (next_count s.reads) (moment_at s) r)
-  recovery-turned id r entry at =
+  -- whatever its hooks add to what it tells
+  retold : (t : Taken) (x : JobStep) → is_going x ≡ is_going t.step → KeepsWithin c s.world t → KeepsWithin c s.world (record t { step = x })
+  retold t x same keeps = record { orderly = keeps.orderly; recovery = λ going. keeps.recovery (sym same ∙ going); read = keeps.read }
+
+  recovery-turned : (id : ℕ) (r : Recovery) (d : Docket) → job_at s.jobs id ≡ Some (unended.Recovery r d)
+      → KeepsWithin c s.world (hooked s.world s.book (next_count s.reads) (moment_at s) r d).taken
+  recovery-turned id r d at =
       let is_unended : Unended → Bool = λ k. number_of k == id in
-      let here = All-find (IsHeldBeside s.world (leases_of s.book.leases)) is_unended s.jobs (unended.Recovery r entry) held.jobs at in
-      taken-within c s.world s.book (next_count s.reads) (moment_at s) r neat.flight.placed neat.flight.trim (record { spans = held.flight.rings; own = held.own }) neat.flight.rings here.0
-      (All-find (IsUnendedWithin c) is_unended s.jobs (unended.Recovery r entry) neat.jobs at)
+      let here = All-find (IsHeldBeside s.world (leases_of s.book.leases)) is_unended s.jobs (unended.Recovery r d) held.jobs at in
+      let mine = All-find (IsUnendedWithin c) is_unended s.jobs (unended.Recovery r d) neat.jobs at in
+      let t = taken s.world s.book (next_count s.reads) (moment_at s) r in
+      let keeps =
+      taken-within c s.world s.book (next_count s.reads) (moment_at s) r neat.flight.placed neat.flight.trim (record { spans = held.flight.rings; own = held.own }) neat.flight.rings here.0 mine in
+      hooked-has (KeepsWithin c s.world) d (promoted_in s.book t) r t (λ x same. retold t x same keeps) (λ x. record { orderly = tt; recovery = λ going. mine; read = tt })
 
   job-passages : (id : ℕ) (o : Option Unended) → job_at s.jobs id ≡ o → AreNeatPassages c (flight_of s) (by_job s id o)
   job-passages id None at = tt
@@ -125,9 +137,9 @@ module _ (c : Clusters) (s : State) (held : HeldState s) (neat : IsNeatState c s
             (record { allowed = turn-allowed s.world read now j; orderly = here.orderly; read = here.read }),
         tt,
       )
-  job-passages id (Some (unended.Recovery r entry)) at =
-      let here = recovery-turned id r entry at in
-      (record { allowed = taken-allowed s.world s.book (next_count s.reads) (moment_at s) r; orderly = here.orderly; read = here.read }, tt)
+  job-passages id (Some (unended.Recovery r d)) at =
+      let here = recovery-turned id r d at in
+      (record { allowed = flown-allowed s.world s.book (next_count s.reads) (moment_at s) (unended.Recovery r d); orderly = here.orderly; read = here.read }, tt)
 
   -- ---- commands and scans
 
@@ -161,17 +173,17 @@ module _ (c : Clusters) (s : State) (held : HeldState s) (neat : IsNeatState c s
   takeover-passages : (d : Option ServerNo) (i : ServerNo) → AreNeatPassages c (flight_of s) (by_takeover s d i)
   takeover-passages None i = tt
   takeover-passages (Some d) i =
-      try-passages (takeover_try s.world s.book s.audit (by_hand s.book s.configuration (numbers_of s) i) s.configuration.wait (s.last_job + 1) i d)
+      try-passages (told_try s.configuration s.book (takeover_try s.world s.book s.audit (by_hand s.book s.configuration (numbers_of s) i) s.configuration.wait (s.last_job + 1) i d))
 
   route-passages : (x : Command) (r : Route) → AreNeatPassages c (flight_of s) (by_route s x r)
   route-passages x Discovers = instance-passages (by_discovery s) discovery-passages x.i
   route-passages x Forgets = instance-passages (by_removal (allowed (removal_refusal s.book x))) (removal-passages (allowed (removal_refusal s.book x))) x.i
   route-passages x (Asks q) = tt
   route-passages x (Decides d) = tt
-  route-passages x (Begins p) = permission-passages x p (refusal_by s.world s.book (moment_at s) x p)
+  route-passages x (Begins p) = permission-passages x p (refusal_by s.world s.book (moment_at s) s.configuration.every x p)
   route-passages x Recovers =
       instance-passages (by_recovery s)
-      (λ i. try-passages (recovery_try s.world s.book s.audit (by_hand s.book s.configuration (numbers_of s) i) s.configuration.wait (s.last_job + 1) i)) x.i
+      (λ i. try-passages (told_try s.configuration s.book (recovery_try s.world s.book s.audit (by_hand s.book s.configuration (numbers_of s) i) s.configuration.wait (s.last_job + 1) i))) x.i
   route-passages x TakesOver = instance-passages (by_takeover s x.d) (takeover-passages x.d) x.i
 
   -- ---- every turn
@@ -222,7 +234,7 @@ module _ (c : Clusters) (s : State) (held : HeldState s) (neat : IsNeatState c s
   jobs-turned : (id : ℕ) (o : Option Unended) → job_at s.jobs id ≡ o → All P (jobs_turned s.jobs id (option_map (turn_of s) o))
   jobs-turned id None at = neat.jobs
   jobs-turned id (Some (unended.Plan j)) at = turned-by id (turn_of s (unended.Plan j)) (λ going. (plan-turned id j at).job)
-  jobs-turned id (Some (unended.Recovery r entry)) at = turned-by id (turn_of s (unended.Recovery r entry)) (λ going. (recovery-turned id r entry at).recovery going)
+  jobs-turned id (Some (unended.Recovery r d)) at = turned-by id (turn_of s (unended.Recovery r d)) (λ going. (recovery-turned id r d at).recovery going)
 
   -- ---- by commands
 
@@ -245,18 +257,20 @@ module _ (c : Clusters) (s : State) (held : HeldState s) (neat : IsNeatState c s
   decided-jobs reads a (Ok permit) d = neat.jobs
   decided-jobs reads a (Err r) d = neat.jobs
 
-  begun-jobs : (x : Command) (p : Planner) (r : Option Refusal) → refusal_by s.world s.book (moment_at s) x p ≡ r
-      → KeepsJobs (begun (numbers_of s) r (leases_by s.world s.book x p) (job_by s.world s.book x p (s.last_job + 1) s.configuration.wait))
+  begun-jobs : (x : Command) (p : Planner) (r : Option Refusal) → refusal_by s.world s.book (moment_at s) s.configuration.every x p ≡ r
+      → KeepsJobs (begun (numbers_of s) r (leases_by s.world s.book x p) (job_by s.world s.book x p (s.last_job + 1) s.configuration.wait s.configuration.every))
   begun-jobs x p None refuses =
-      All-push P s.jobs (job_by s.world s.book x p (s.last_job + 1) s.configuration.wait) neat.jobs
-      (job-within c s.world neat.flight.trim s.book (moment_at s) x (s.last_job + 1) s.configuration.wait p refuses)
+      All-push P s.jobs (job_by s.world s.book x p (s.last_job + 1) s.configuration.wait s.configuration.every) neat.jobs
+      (job-within c s.world neat.flight.trim s.book (moment_at s) s.configuration.every x (s.last_job + 1) s.configuration.wait p refuses)
   begun-jobs x p (Some r) refuses = neat.jobs
 
   recoveries-jobs : (xs : List RecoveryBegins) → All (λ x. IsRecoveryWithin c x.job) xs → All P (s.jobs ++ map recovery_job xs)
   recoveries-jobs xs all = All-append P s.jobs (map recovery_job xs) neat.jobs (All-map P recovery_job xs all)
 
-  tried-jobs : (r : Result RecoveryBegins Refusal) → ((x : RecoveryBegins) → r ≡ Ok x → IsRecoveryWithin c x.job) → KeepsJobs (recovery_begun (numbers_of s) r)
-  tried-jobs (Ok x) each = recoveries-jobs (x ∷ []) (All-cons (λ (y : RecoveryBegins). IsRecoveryWithin c y.job) x [] (each x refl) (All-nil (λ (y : RecoveryBegins). IsRecoveryWithin c y.job)))
+  tried-jobs : (r : Result RecoveryBegins Refusal) → ((x : RecoveryBegins) → r ≡ Ok x → IsRecoveryWithin c x.job) → KeepsJobs (recovery_begun (numbers_of s) (told_try s.configuration s.book r))
+  tried-jobs (Ok x) each =
+      let told = with_told s.configuration s.book x in
+      recoveries-jobs (told ∷ []) (All-cons (λ (y : RecoveryBegins). IsRecoveryWithin c y.job) told [] (each x refl) (All-nil (λ (y : RecoveryBegins). IsRecoveryWithin c y.job)))
   tried-jobs (Err r) each = neat.jobs
 
   recovered-jobs : (i : ServerNo) → KeepsJobs (recovered s.world s.book s.audit s.configuration (numbers_of s) i)
@@ -284,7 +298,7 @@ module _ (c : Clusters) (s : State) (held : HeldState s) (neat : IsNeatState c s
       (asked-jobs s.reads (permitted s.book t.command) (lines_of s.book s.audit.recoveries t t.command.name)) (forgotten-jobs s.reads (allowed (removal_refusal s.book t.command))) t.command.i
   route-jobs t (Asks q) = asked-jobs s.reads (permitted s.book t.command) (lines_of s.book s.audit.recoveries t t.command.name)
   route-jobs t (Decides d) = decided-jobs s.reads s.audit (permitted s.book t.command) (decided_of s.book s.audit (moment_at s) t.keys t.command.i d)
-  route-jobs t (Begins p) = begun-jobs t.command p (refusal_by s.world s.book (moment_at s) t.command p) refl
+  route-jobs t (Begins p) = begun-jobs t.command p (refusal_by s.world s.book (moment_at s) s.configuration.every t.command p) refl
   route-jobs t Recovers = about-jobs (refusal s.reads UnknownInstance) (recovered s.world s.book s.audit s.configuration (numbers_of s)) neat.jobs recovered-jobs t.command.i
   route-jobs t TakesOver = about-jobs (refusal s.reads UnknownInstance) (taken_over s.world s.book s.audit s.configuration (numbers_of s) t.command.d) neat.jobs (taken-jobs t.command.d) t.command.i
 
@@ -293,7 +307,10 @@ module _ (c : Clusters) (s : State) (held : HeldState s) (neat : IsNeatState c s
   command-jobs t = route-jobs t (route_of t.command.name)
 
   scan-jobs : KeepsJobs (scan_outcome s)
-  scan-jobs = recoveries-jobs (recoveries_scanned s) (scan-within c s.world neat.flight.trim s.book (attempt_in s) s.configuration.wait s.audit s.last_job)
+  scan-jobs =
+      recoveries-jobs (recoveries_scanned s)
+      (All-map (λ (y : RecoveryBegins). IsRecoveryWithin c y.job) (with_told s.configuration s.book) (scan_in s).begun
+      (scan-within c s.world neat.flight.trim s.book (attempt_in s) s.configuration.wait s.audit s.last_job))
 
   -- ---- every turn
 

@@ -10,6 +10,7 @@ use Rattle.orch_base.specs.declared.server.Moment.{Moment}
 use Rattle.orch_base.specs.declared.server.ServerNo.{ServerNo}
 use Rattle.orch_base.specs.declared.server.SourceState.{SourceState}
 use Rattle.orch_base.specs.declared.server.SourceState.TheVariants.{Without, Attached, Detached}
+use Rattle.orch_base.specs.declared.server.Txn.{Txn}
 use Rattle.kept_rows.specs.declared.observation.Observation.{Observation}
 use Rattle.kept_rows.specs.Seeing.{seen_in}
 use Rattle.server_words.specs.declared.status.Status.{Status}
@@ -22,7 +23,7 @@ use Rattle.server_words.specs.declared.changes.Ask.{Ask}
 use Rattle.server_words.specs.declared.changes.Ask.TheVariants as asking
 use Rattle.server_model.specs.declared.server.Server.{Server}
 use Rattle.server_model.specs.Attach.{live_spot, same_spot, spot_below}
-use Rattle.server_model.specs.Desk.{desk_answer}
+use Rattle.server_model.specs.Desk.{can_reach, desk_answer}
 use Rattle.server_model.specs.Gtids.{shown_of, status, status_in}
 use Rattle.server_model.specs.Run.{Exchange, Attach, AttachAuto, Request, after}
 use Rattle.server_model.specs.Safe.{Placed}
@@ -36,22 +37,25 @@ use Rattle.operations.specs.declared.op.Crossing.{Crossing}
 use Rattle.operations.specs.declared.op.Crossing.TheVariants as cross
 use Rattle.operations.specs.declared.matching.Match.{Match}
 use Rattle.operations.specs.declared.matching.MatchFault.{MatchFault}
+use Rattle.operations.specs.declared.matching.MatchFault.TheVariants as fault
 use Rattle.operations.specs.declared.op.Op.{Op}
 use Rattle.operations.specs.declared.sight.Position.{Position}
 use Rattle.operations.specs.declared.sight.Sight.{Sight}
 use Rattle.operations.specs.Deeds as deed
 use Rattle.operations.specs.Deeds.{Deed, deed_of}
 use Rattle.operations.specs.Jobs.{Job, position_of, seen_of, with_seen, match_found}
-use Rattle.operations.specs.Matching.{match_logs, standing_at}
+use Rattle.operations.specs.Matching.{match_between, match_logs, standing_at}
 use Rattle.operations.specs.Targets.{can_attach}
 use Rattle.operations.specs.Turns.{Attempt, Goes, Stops, after_answer, after_ask, after_attach, after_look, after_status, after_until, after_wait, after_wait_by, aim_of, attach_answer_of, attached_anew, bridge_at, by_deed, by_ops, by_set, after_match, by_match, crossed, failed, hands_after, holds_seen, is_moved, is_reached, next, observed, read_by, restarts, same_again, saw, settled, settles, turned, until_by}
 use Rattle.job_laws.specs.Footing.{finds, finds_crossing, footing, is_under, logs_at, source_shown}
 use Rattle.job_laws.specs.Held.{AllShow, HeldJob}
+use Rattle.job_laws.proofs.Marking.{match-parts}
 use Rattle.job_laws.proofs.Spanning.{bridge-parts}
 use Rattle.job_laws.proofs.Turns.{due-of, with-one}
 use Rattle.tidy_laws.specs.Clusters.{AreAlike, Clusters, label}
 use Rattle.tidy_laws.specs.Trim.{AllOrderly, IsOrderly, IsOrderlyAsk, IsTrim}
 use Rattle.tidy_laws.specs.Within.{AllWithin, AreDueWithin, GoesWithin, IsDueWithin, IsJobWithin, IsReadWithin, IsTriedWithin, IsTurnWithin, IsWithinCluster, StoodWithin}
+use Rattle.tidy_laws.proofs.Positions.{All-slot}
 use Rattle.tidy_laws.proofs.Tidying.{written-coords, written-target}
 use Rattle.scenario_dump.specs.Tidy.{IsWritten}
 
@@ -266,9 +270,31 @@ module _ (c : Clusters) (w : World) (j : Job) (rest : List Op) (placed : Placed 
       by true = go (attach_answer_of w e)
       by false = passed-within due
 
-  match-within : (n m : ServerNo) (at : Spot) (r : Result Coord MatchFault) → AreDueWithin c rest → IsTriedWithin c w (after_match j rest n m at r)
-  match-within n m at (Ok d) due = record { orderly = tt; job = record { seen = all; left = due }; read = tt }
-  match-within n m at (Err f) due = tt
+  match-within : (n m : ServerNo) (at : Spot) (r : Result Coord MatchFault) → ((d : Coord) → r ≡ Ok d → AreAlike c m.0 n.0) → (AreAlike c m.0 n.0 → AreDueWithin c rest)
+      → IsTriedWithin c w (after_match j rest n m at r)
+  match-within n m at (Ok d) alike due = record { orderly = tt; job = record { seen = all; left = due (alike d refl) }; read = tt }
+  match-within n m at (Err f) alike due = tt
+
+-- servers whose logs match are of one cluster: that of the origin of their mark
+matched-alike : (c : Clusters) (w : World) → IsTrim c w → (n m : ServerNo) (every : ℕ) (at : Coord) → match_logs w n m every ≡ Ok at → AreAlike c m.0 n.0
+matched-alike c w trim n m every at h = go (can_reach (server_at w n.0)) (can_reach (server_at w m.0)) h
+  where
+    by : (o p : Option Server) → server_at w n.0 ≡ o → server_at w m.0 ≡ p → match_between every o p ≡ Ok at → AreAlike c m.0 n.0
+    by None p at_n at_m h = cc
+    by (Some x) None at_n at_m h = cc
+    by (Some x) (Some y) at_n at_m h =
+        let found = match-parts every x y at h in
+        let one : c found.mark.origin.0 ≡ c n.0 = All-slot (λ (t : Txn). c t.origin.0 ≡ c n.0) x.history.txns found.i found.mark (trim.own n.0 x at_n).origins found.here.is in
+        let other : c found.other.origin.0 ≡ c m.0 = All-slot (λ (t : Txn). c t.origin.0 ≡ c m.0) y.history.txns found.j found.other (trim.own m.0 y at_m).origins found.there.is in
+        let same : found.other.origin.0 ≡ found.mark.origin.0 =
+        eqb-true found.other.origin.0 found.mark.origin.0 (and_parts (found.other.origin.0 == found.mark.origin.0) (found.other.seq == found.mark.seq) found.same).0
+        in
+        ap label (sym other ∙ ap c same ∙ one)
+
+    go : (a b : Bool) → cond (not a) (Err (fault.Unreachable n)) (cond (not b) (Err (fault.Unreachable m)) (match_between every (server_at w n.0) (server_at w m.0))) ≡ Ok at → AreAlike c m.0 n.0
+    go false b h = cc
+    go true false h = cc
+    go true true h = by (server_at w n.0) (server_at w m.0) refl refl h
 
 -- a change of source by a match stays within the cluster
 found-within : (c : Clusters) (w : World) (n m : ServerNo) → AreAlike c m.0 n.0 → (o : Option Match) (e : Exchange) → by_match n m o ≡ Some e → IsOrderly c w e
@@ -300,7 +326,7 @@ deed-within c w read now j rest (deed.Auto n m) placed trim shown all again foun
     let gtid : w.gtid ≡ true = (and_parts w.gtid ((footing w j.seen).read m.0 && (footing w j.seen).logs m.0) found).0 in
     attach-within c w j rest placed trim shown all again n (by_set n m (seen_of j.seen m.0)) (λ e h. auto-within c w trim j.seen all n m e gtid due.0 h) due.1
 deed-within c w read now j rest (deed.Match n m every) placed trim shown all again found due =
-    match-within c w j rest placed trim shown all again n m (standing_at (server_at w n.0)) (match_logs w n m every) due
+    match-within c w j rest placed trim shown all again n m (standing_at (server_at w n.0)) (match_logs w n m every) (matched-alike c w trim n m every) due
 deed-within c w read now j rest (deed.CrossMatch n m) placed trim shown all again found due =
     attach-within c w j rest placed trim shown all again n (by_match n m (match_found j.matches n m)) (found-within c w n m due.0 (match_found j.matches n m)) due.1
 deed-within c w read now j rest (deed.Finish lines) placed trim shown all again found due = tt

@@ -18,7 +18,7 @@ use Rattle.world_openings.specs.Opening.{opened_from}
 use Rattle.operations.proofs.Allowing.{turn-allowed}
 use Rattle.job_laws.proofs.Modes.{gtid-run}
 use Rattle.jobs_in_flight.specs.Jobs.{job_at, job_exchanges}
-use Rattle.recovery_plans.proofs.Allowed.{taken-allowed}
+use Rattle.unended_jobs.proofs.Going.{flown-allowed}
 use Rattle.unended_jobs.specs.declared.unended.Unended.{Unended}
 use Rattle.unended_jobs.specs.declared.unended.Unended.TheVariants as unended
 use Rattle.scenarios.specs.declared.scenario.Scenario.{Scenario}
@@ -62,7 +62,7 @@ same-settings (x ∷ xs) (y ∷ ys) long each =
 job-allowed : (s : State) (o : Option Unended) → AllAllowed s.world (job_exchanges (option_map (turn_of s) o))
 job-allowed s None = tt
 job-allowed s (Some (unended.Plan j)) = turn-allowed s.world (next_count s.reads) (moment_at s) j
-job-allowed s (Some (unended.Recovery r entry)) = taken-allowed s.world s.book (next_count s.reads) (moment_at s) r
+job-allowed s (Some (unended.Recovery r d)) = flown-allowed s.world s.book (next_count s.reads) (moment_at s) (unended.Recovery r d)
 
 act-allowed : (s : State) (a : Act) → AllAllowed s.world (act_exchanges s a)
 act-allowed s (act.PollRead p n) = tt

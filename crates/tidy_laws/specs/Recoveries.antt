@@ -25,6 +25,7 @@ abbrev pub IsWayWithin : Clusters → ServerNo → Way → Type 0
 IsWayWithin c n (way.Down b) = IsWithinCluster c b
 IsWayWithin c n (way.Up b) = IsWithinCluster c b
 IsWayWithin c n (way.Auto to exec) = AreAlike c to.0 n.0
+IsWayWithin c n (way.Match to exec every) = AreAlike c to.0 n.0
 
 -- of the tasks of a failed server: where drained ones are handed over, the new source is of its cluster
 abbrev pub IsTaskWithin : Clusters → ServerNo → Option ServerNo → Task → Type 0
@@ -65,4 +66,4 @@ pub record KeepsWithin (c : Clusters) (w : World) (t : Taken) : Type 0 where
 -- an unended job
 abbrev pub IsUnendedWithin : Clusters → Unended → Type 0
 IsUnendedWithin c (unended.Plan j) = IsJobWithin c j
-IsUnendedWithin c (unended.Recovery r entry) = IsRecoveryWithin c r
+IsUnendedWithin c (unended.Recovery r docket) = IsRecoveryWithin c r

@@ -36,7 +36,7 @@ IsWithinCluster c b = AreAlike c b.source.0 b.no.0
 -- ---- what is to be done
 
 -- an operation is due before others: an attachment by a set and one by a match stay within the cluster; a status that
--- names a source tells that the two are of one cluster
+-- names a source, and a match that is found, tell that the two are of one cluster
 abbrev pub IsDueWithin : Clusters → Deed → Type 0 → Type 0
 IsDueWithin c (deed.Look n None) rest = rest
 IsDueWithin c (deed.Look n (Some m)) rest = AreAlike c m.0 n.0 → rest
@@ -48,7 +48,7 @@ IsDueWithin c (deed.Settle n) rest = rest
 IsDueWithin c (deed.Cross d a b) rest = rest
 IsDueWithin c (deed.Same n) rest = rest
 IsDueWithin c (deed.Auto n m) rest = AreAlike c m.0 n.0 × rest
-IsDueWithin c (deed.Match n m every) rest = rest
+IsDueWithin c (deed.Match n m every) rest = AreAlike c m.0 n.0 → rest
 IsDueWithin c (deed.CrossMatch n m) rest = AreAlike c m.0 n.0 × rest
 IsDueWithin c (deed.Finish lines) rest = rest
 

@@ -34,17 +34,20 @@ use Rattle.run_laws.specs.Ready.{Ready}
 use Rattle.recovery_runs.specs.Finishes.{IsFinish}
 use Rattle.run_laws.specs.Runs.{ComesTo}
 use Rattle.run_laws.proofs.JobTurns.{named-job, others-stay}
-use Rattle.run_laws.proofs.Failures.{plans-done, plans-fail, recoveries-fail, spends-last}
+use Rattle.run_laws.proofs.Failures.{plans-done, plans-fail, spends-last}
 use Rattle.run_laws.proofs.Lines.{scan-tries}
 use Rattle.run_laws.proofs.Lowest.{lowest-refuses}
 use Rattle.run_laws.proofs.Counting.{apart-comes}
+use Rattle.run_laws.proofs.Marks.{found-end, matches-end}
 use Rattle.run_laws.proofs.Aims.{turn-aimed}
 use Rattle.run_laws.proofs.Fates.{restart-comes, turn-fates}
 use Rattle.run_laws.proofs.JobEntries.{jobs-comes}
 use Rattle.run_laws.proofs.Parts.{apart-in-turn, periods-in-turn}
 use Rattle.run_laws.proofs.Permissions.{answers_by_table, begun_joins, begun_kept, begun_leased, begun_logged, begun_number, begun_there, refused_changes_nothing}
 use Rattle.recovery_plans.specs.Recoveries.{Recovery}
-use Rattle.recovery_runs.proofs.Tending.{began-comes, finish-comes, told-next}
+use Rattle.recovery_runs.proofs.Failing.{fail-comes}
+use Rattle.recovery_runs.proofs.Tending.{began-comes, finish-comes, scenarios-comes, still-comes, told-next}
+use Rattle.recovery_runs.proofs.Ended.{failure-comes}
 use Rattle.run_laws.proofs.RunLaws.{Goes, Goes-comes}
 use Rattle.scenario_reader.proofs.Sound.{scenario_in_sound}
 use Rattle.tasks.specs.declared.asked.Asked.{Asked}
@@ -56,9 +59,10 @@ use Rattle.tasks.specs.Endings.{IsOn, IsOnRounds, IsOnTurns, course_of}
 use Rattle.tasks.specs.Works.{Comes, Work, turns_in}
 use Rattle.tasks.proofs.Courses.{run_state}
 use Rattle.tasks.proofs.Words.{asked_is}
+use Rattle.unended_jobs.specs.declared.docket.Docket.{Docket}
 use Rattle.unended_jobs.specs.declared.unended.Unended.TheVariants as unended
 use Rattle.top_call.specs.Ends.{IsTask}
-use Rattle.top_call.specs.Runs.{BeginApart, BeginsApart, Finishes, FinishWell, IsSafeRun, IsSafeState, OwnRestartKeepsAll, TellTruly, TellsTruly, ObeysTable, AreSoFar, Through}
+use Rattle.top_call.specs.Runs.{BeginApart, BeginsApart, Finishes, FinishWell, IsSafeRun, IsSafeState, OwnRestartKeepsAll, TellHooks, TellsHooks, TellTruly, TellsTruly, ObeysTable, AreSoFar, Through}
 
 -- ---- the turns
 
@@ -163,9 +167,11 @@ module _ (w : Work) (ts : List Turn) (kept : Option (List Row)) (run : Recorded)
     others = λ rows id n apart. others-stay rows run.state id n goes.held apart;
     fails = plans-fail run.state;
     done = plans-done (length w.scenario.opening.servers) run.state goes.ready;
-    failed = recoveries-fail run.state;
+    failed = fail-comes w.scenario found.xs run.state comes_to;
     sound = goes.sound;
     safe = λ q. (goes.sound q).flight.safe;
+    matched = λ q. matches-end run.state.world (goes.sound q).flight.safe;
+    met = λ q. found-end run.state.world (goes.sound q).flight.safe run.state.jobs (goes.sound q).flight.met;
   }
 
   ready : Ready (length w.scenario.opening.servers) run.state
@@ -194,16 +200,26 @@ module _ (w : Work) (ts : List Turn) (kept : Option (List Row)) (run : Recorded)
     scans = record { tries = scan-tries run.state; joins = refl; leases = refl; kept = refl };
   }
 
-  finishes : (rows : List Row) (id : ℕ) (r : Recovery) (entry : Option ℕ) (lines : List Line) → IsFinish run.state id r entry lines → Finishes w ts rows run.state id r entry lines
+  finishes : (rows : List Row) (id : ℕ) (r : Recovery) (docket : Docket) (lines : List Line) → IsFinish run.state id r docket lines → Finishes w ts rows run.state id r docket lines
   unfolding comes_by
-  finishes rows id r entry lines is = record { through = found; well = λ by. finish-comes w.scenario by.xs run.state (comes_by by) rows id r entry lines is }
+  finishes rows id r docket lines is = record { through = found; well = λ by. finish-comes w.scenario by.xs run.state (comes_by by) rows id r docket lines is }
 
-  loses : (id : ℕ) (r : Recovery) (entry : Option ℕ) → job_at run.state.jobs id ≡ Some (unended.Recovery r entry) → TellsTruly w ts run.state id r entry
+  loses : (id : ℕ) (r : Recovery) (docket : Docket) → job_at run.state.jobs id ≡ Some (unended.Recovery r docket) → TellsTruly w ts run.state id r docket
   unfolding comes_by
-  loses id r entry at = record {
+  loses id r docket at = record {
     through = found;
-    began = λ by. began-comes w.scenario by.xs run.state (comes_by by) id r entry at;
-    told = λ by P explains here. told-next w.scenario by.xs run.state (comes_by by) P id r entry explains here at;
+    began = λ by. began-comes w.scenario by.xs run.state (comes_by by) id r docket at;
+    told = λ by P explains here. told-next w.scenario by.xs run.state (comes_by by) P id r docket explains here at;
+  }
+
+  hooks : (rows : List Row) (id : ℕ) (r : Recovery) (docket : Docket) → job_at run.state.jobs id ≡ Some (unended.Recovery r docket) → TellsHooks w ts rows run.state id r docket
+  unfolding comes_by
+  hooks rows id r docket at = record {
+    through = found;
+    own = λ h has. scenarios-comes w.scenario found.xs run.state comes_to id r docket h at has;
+    done = λ lines is. (finish-comes w.scenario found.xs run.state comes_to rows id r docket lines is).hooks;
+    failed = λ c lines is by. failure-comes w.scenario by.xs run.state (comes_by by) rows id r docket c lines is;
+    still = λ h has early. still-comes w.scenario found.xs run.state comes_to rows id r docket h at has early;
   }
 
 -- the turns of rounds are turns over the servers
@@ -268,12 +284,16 @@ begin_apart words bytes = λ w run rows t is on.
     on_each words bytes w run is (BeginsApart w rows run.state t) (λ ts scenario all comes. begins w ts w.new run scenario all comes refl rows t) on
 
 pub finish_well : (words : List (List ℕ)) (bytes : List ℕ) → FinishWell words bytes
-finish_well words bytes = λ w run ts rows id r entry lines is on done.
-    so_far words bytes w run is (λ us. Finishes w us rows run.state id r entry lines) (λ us scenario all comes. finishes w us w.new run scenario all comes rows id r entry lines done) ts on
+finish_well words bytes = λ w run ts rows id r docket lines is on done.
+    so_far words bytes w run is (λ us. Finishes w us rows run.state id r docket lines) (λ us scenario all comes. finishes w us w.new run scenario all comes rows id r docket lines done) ts on
 
 pub tell_truly : (words : List (List ℕ)) (bytes : List ℕ) → TellTruly words bytes
-tell_truly words bytes = λ w run ts id r entry is on at.
-    so_far words bytes w run is (λ us. TellsTruly w us run.state id r entry) (λ us scenario all comes. loses w us w.new run scenario all comes id r entry at) ts on
+tell_truly words bytes = λ w run ts id r docket is on at.
+    so_far words bytes w run is (λ us. TellsTruly w us run.state id r docket) (λ us scenario all comes. loses w us w.new run scenario all comes id r docket at) ts on
+
+pub tell_hooks : (words : List (List ℕ)) (bytes : List ℕ) → TellHooks words bytes
+tell_hooks words bytes = λ w run ts rows id r docket is on at.
+    so_far words bytes w run is (λ us. TellsHooks w us rows run.state id r docket) (λ us scenario all comes. hooks w us w.new run scenario all comes rows id r docket at) ts on
 
 pub obeys : (words : List (List ℕ)) (bytes : List ℕ) → ObeysTable words bytes
 obeys words bytes = λ w k kept run rows c is comes here. record {

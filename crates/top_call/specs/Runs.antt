@@ -8,7 +8,9 @@ use Rattle.audit_log.specs.Audits.{closed}
 use Rattle.kept_rows.specs.Rows.{IsRising}
 use Rattle.orch_core.specs.Restarts.{interrupted_at}
 use Rattle.run_laws.specs.Begins.{BeginApartInTurn}
+use Rattle.run_laws.specs.Marks.{FoundMatchesEnd, MatchesEnd}
 use Rattle.command_routes.specs.Routes.{route_of}
+use Rattle.commands.specs.declared.cause.Cause.{Cause}
 use Rattle.commands.specs.declared.line.Line.{Line}
 use Rattle.commands.specs.declared.refusal.Refusal.{Refusal}
 use Rattle.commands.specs.declared.turn.CommandTurn.{CommandTurn}
@@ -18,7 +20,9 @@ use Rattle.turns.specs.declared.reply.Reply.TheVariants as answered
 use Rattle.turns.specs.declared.turn.Turn.{Turn}
 use Rattle.turns.specs.declared.turn.Act.TheVariants as act
 use Rattle.turns.specs.declared.turn.Turn.TheVariants as turn
-use Rattle.recovery_runs.specs.Finishes.{IsFinish, recovery_after}
+use Rattle.hook_laws.specs.Tended.{IsEarly}
+use Rattle.recovery_hooks.specs.Runs.{HookState}
+use Rattle.recovery_runs.specs.Finishes.{IsFailure, IsFinish, own_lines, promoted_then, recovery_after, told_hooks}
 use Rattle.recovery_runs.specs.Facts.{ExplainsTurn}
 use Rattle.run_laws.specs.Flights.{moment_at}
 use Rattle.run_laws.specs.States.{HeldState, SoundState}
@@ -33,7 +37,7 @@ use Rattle.run_laws.specs.Aims.{IsAimed}
 use Rattle.run_laws.specs.Entries.{entries_begun, recoveries_begun, recoveries_scanned}
 use Rattle.run_laws.specs.Fates.{AuditIs, RestartKeepsAll}
 use Rattle.run_laws.specs.JobEntries.{EntriesHaveJobs}
-use Rattle.run_laws.specs.Failures.{PlansAreDone, PlansFailForWhatBefell, RecoveriesFailForWhatBefell, SpendsWaitsLast}
+use Rattle.run_laws.specs.Failures.{PlansAreDone, PlansFailForWhatBefell, SpendsWaitsLast}
 use Rattle.run_laws.specs.Lowest.{RefusedByLowest}
 use Rattle.run_laws.specs.Jobs.{JobsHaveLeases, JobsLeaveOthers, LeasesNameJobs}
 use Rattle.orch_core.specs.Keeping.{asks}
@@ -46,11 +50,13 @@ use Rattle.orch_core.specs.Scenarios.{start}
 use Rattle.orch_core.specs.States.{State}
 use Rattle.recovery_plans.specs.Recoveries.{Recovery}
 use Rattle.recovery_reasons.specs.Reasons.{Fact, IsExplained}
-use Rattle.recovery_runs.specs.RunFinishes.{FinishesWell}
+use Rattle.recovery_runs.specs.Failing.{RecoveriesFailForWhatBefell}
+use Rattle.recovery_runs.specs.RunFinishes.{AreScenarios, FailsWell, FinishesWell}
 use Rattle.recovery_runs.specs.Origins.{Began, ExplainsAlong}
 use Rattle.tasks.specs.Closing.{closing}
 use Rattle.tasks.specs.Endings.{IsOn, IsOnRounds, IsOnTurns, course_of}
 use Rattle.tasks.specs.Works.{Comes, Work, turns_in}
+use Rattle.unended_jobs.specs.declared.docket.Docket.{Docket}
 use Rattle.unended_jobs.specs.declared.unended.Unended.TheVariants as unended
 use Rattle.top_call.specs.Ends.{IsTask}
 
@@ -60,7 +66,9 @@ use Rattle.top_call.specs.Ends.{IsTask}
 -- are apart: each cluster has at most one that isn't ended. Each of these has its unended job, and each job's entry
 -- isn't ended. A lease names an unended job, a job has the leases of all that it may still change, and its turn leaves
 -- every other server as it is; a plan's job that fails was befallen by its cause in that turn, one that nothing befalls
--- is done, and a recovery fails for what befell it, too. Where the state is quiet it is sound, and its servers are safe.
+-- is done, and a recovery fails for what befell it, too. Where the state is quiet it is sound, and its servers are safe;
+-- where the log of one matches another's, all that the first has executed is a beginning of what the other has and ends
+-- at that coordinate, and so it is of each match that a job found, as long as its server stands there.
 pub record IsSafeState (s : State) : Type 0 where
   pub placed : Placed s.world
   pub held : HeldState s
@@ -74,6 +82,8 @@ pub record IsSafeState (s : State) : Type 0 where
   pub failed : RecoveriesFailForWhatBefell s
   pub sound : IsQuiet s.world → SoundState s
   pub safe : IsQuiet s.world → Safe s.world
+  pub matched : IsQuiet s.world → MatchesEnd s
+  pub met : IsQuiet s.world → FoundMatchesEnd s
 
 -- So is every state: behind any of the scenario's turns and the command's own, and behind any turn of the rounds that
 -- follow until the job that it began has ended.
@@ -169,14 +179,14 @@ pub record Through (s : Scenario) (wait : ℕ) (ts : List Turn) (now : State) : 
 
 -- by whatever rows they lead there, the turn in which a recovery is done leaves nothing owed to its replicas, which are
 -- those that the book had attached to the failed server when it began in one of the turns so far
-pub record Finishes (w : Work) (ts : List Turn) (rows : List Row) (s : State) (id : ℕ) (r : Recovery) (entry : Option ℕ) (lines : List Line) : Type 0 where
+pub record Finishes (w : Work) (ts : List Turn) (rows : List Row) (s : State) (id : ℕ) (r : Recovery) (docket : Docket) (lines : List Line) : Type 0 where
   pub through : Through w.scenario w.task.waits ts s
-  pub well : (by : Through w.scenario w.task.waits ts s) → FinishesWell (length w.scenario.opening.servers) (start w.scenario w.task.waits by.rows) by.xs rows s id r entry lines
+  pub well : (by : Through w.scenario w.task.waits ts s) → FinishesWell (length w.scenario.opening.servers) (start w.scenario w.task.waits by.rows) by.xs rows s id r docket lines
 
 -- so each does, in the scenario's turns and in the rounds
 abbrev pub FinishWell : List (List ℕ) → List ℕ → Type 0
-FinishWell words bytes = (w : Work) (run : Recorded) (ts : List Turn) (rows : List Row) (id : ℕ) (r : Recovery) (entry : Option ℕ) (lines : List Line) → IsTask words bytes w → AreSoFar w run ts
-    → IsFinish run.state id r entry lines → Finishes w ts rows run.state id r entry lines
+FinishWell words bytes = (w : Work) (run : Recorded) (ts : List Turn) (rows : List Row) (id : ℕ) (r : Recovery) (docket : Docket) (lines : List Line) → IsTask words bytes w → AreSoFar w run ts
+    → IsFinish run.state id r docket lines → Finishes w ts rows run.state id r docket lines
 
 -- ---- why replicas are lost, and who is chosen
 
@@ -184,12 +194,33 @@ FinishWell words bytes = (w : Work) (run : Recorded) (ts : List Turn) (rows : Li
 -- and what it drained, whom it chose and among whom, and whom it promoted, are facts that were true of the servers and
 -- the book in one of its turns, from the one on in which it began: where each that was true counts, all of them count.
 -- So it is by whatever rows the turns lead there.
-pub record TellsTruly (w : Work) (ts : List Turn) (s : State) (id : ℕ) (r : Recovery) (entry : Option ℕ) : Type 0 where
+pub record TellsTruly (w : Work) (ts : List Turn) (s : State) (id : ℕ) (r : Recovery) (docket : Docket) : Type 0 where
   pub through : Through w.scenario w.task.waits ts s
-  pub began : (by : Through w.scenario w.task.waits ts s) → Began (start w.scenario w.task.waits by.rows) by.xs r entry
+  pub began : (by : Through w.scenario w.task.waits ts s) → Began (start w.scenario w.task.waits by.rows) by.xs r docket
   pub told : (by : Through w.scenario w.task.waits ts s) (P : Fact → Bool) → ExplainsAlong P id (start w.scenario w.task.waits by.rows) by.xs → ExplainsTurn P id s (turn.Act (act.Job id)) → IsExplained P (recovery_after s r)
 
 -- so each does, in the scenario's turns and in the rounds
 abbrev pub TellTruly : List (List ℕ) → List ℕ → Type 0
-TellTruly words bytes = (w : Work) (run : Recorded) (ts : List Turn) (id : ℕ) (r : Recovery) (entry : Option ℕ) → IsTask words bytes w → AreSoFar w run ts
-    → job_at run.state.jobs id ≡ Some (unended.Recovery r entry) → TellsTruly w ts run.state id r entry
+TellTruly words bytes = (w : Work) (run : Recorded) (ts : List Turn) (id : ℕ) (r : Recovery) (docket : Docket) → IsTask words bytes w → AreSoFar w run ts
+    → job_at run.state.jobs id ≡ Some (unended.Recovery r docket) → TellsTruly w ts run.state id r docket
+
+-- ---- hooks
+
+-- A recovery in flight that began by a command or by a scan has the scenario's hooks, which were told of its failed
+-- server when it began; a takeover and a regroup have none. The turn in which it is done tells, behind its own lines,
+-- those of all hooks before it, up to the first with another exit than 0, and of all behind it; the turn in which it
+-- fails those before it, none where its failed server was reached, which is why it fails, and of all that run then. Until
+-- all have run that are to before it, no turn of it changes a server, whatever rows the keeper hands back: so none has
+-- where one of these ended it. So it is by whatever rows the turns lead there.
+pub record TellsHooks (w : Work) (ts : List Turn) (rows : List Row) (s : State) (id : ℕ) (r : Recovery) (docket : Docket) : Type 0 where
+  pub through : Through w.scenario w.task.waits ts s
+  pub own : (h : HookState) → docket.hooks ≡ Some h → AreScenarios w.scenario h
+  pub done : (lines : List Line) → IsFinish s id r docket lines → lines ≡ own_lines s r ++ told_hooks docket.hooks (promoted_then s r)
+  pub failed : (c : Cause) (lines : List Line) → IsFailure s id r docket c lines
+      → (by : Through w.scenario w.task.waits ts s) → FailsWell (start w.scenario w.task.waits by.rows) by.xs rows s id r docket c lines
+  pub still : (h : HookState) → docket.hooks ≡ Some h → IsEarly h → (step rows s (turn.Act (act.Job id))).world ≡ s.world
+
+-- so each does, in the scenario's turns and in the rounds
+abbrev pub TellHooks : List (List ℕ) → List ℕ → Type 0
+TellHooks words bytes = (w : Work) (run : Recorded) (ts : List Turn) (rows : List Row) (id : ℕ) (r : Recovery) (docket : Docket) → IsTask words bytes w → AreSoFar w run ts
+    → job_at run.state.jobs id ≡ Some (unended.Recovery r docket) → TellsHooks w ts rows run.state id r docket

@@ -14,7 +14,7 @@ ghost use Rattle.top_call.specs.Ends.{AskToDraw, DrawEnds, EndsBy, EndsOf, EndsO
 ghost use Rattle.top_call.specs.Faults.{fault_text};
 ghost use Rattle.top_call.specs.Reads.{OfRead};
 ghost use Rattle.top_call.specs.Report.{ByReport, EndsAs, KeepsRows, WritesErr, WritesOut};
-ghost use Rattle.top_call.specs.Runs.{BeginApart, FinishWell, IsSafeRun, TellTruly, ObeysTable};
+ghost use Rattle.top_call.specs.Runs.{BeginApart, FinishWell, IsSafeRun, TellHooks, TellTruly, ObeysTable};
 
 use crate::fault::fault_line;
 use crate::reading::{Stop, scenario_from};
@@ -320,10 +320,12 @@ pub fn orch<S: Source, O: Sink, E: Sink, K: Keeper>(
     // entry is changed but by its own job's end or an acknowledgement. One that is done, by whatever turns and rows it
     // came so far, leaves each replica that the book had attached to the failed server when it began promoted,
     // following or lost for a true reason, and tells so; whom it drained, chose and promoted is so by what its turns
-    // showed and by the book that they had.
+    // showed and by the book that they had. One that ends tells the scenario's hooks that ran, in order; and until all
+    // before it have run it changes no server.
     ensures begins { (bytes : List ℕ) → BeginApart (map (λ w. w.items) words.now) bytes }
     ensures finishes { (bytes : List ℕ) → FinishWell (map (λ w. w.items) words.now) bytes }
     ensures losses { (bytes : List ℕ) → TellTruly (map (λ w. w.items) words.now) bytes }
+    ensures hooks { (bytes : List ℕ) → TellHooks (map (λ w. w.items) words.now) bytes }
 {
     match places(alloc, words) {
         Ok(places) => respond(alloc, &places, scenario, out, err, keeper).status(),

@@ -11,6 +11,7 @@ use Rattle.job_laws.specs.Passages as pass
 use Rattle.job_laws.specs.Passages.{MayPass, passed}
 use Rattle.job_laws.proofs.Begun.{Sound-begun}
 use Rattle.job_laws.proofs.Passages.{Held-passed}
+use Rattle.recovery_plans.specs.declared.means.Means.{Means}
 use Rattle.recovery_plans.specs.declared.purpose.Purpose.{Purpose}
 use Rattle.recovery_plans.specs.declared.purpose.Purpose.TheVariants as purpose
 use Rattle.recovery_plans.specs.Beginning.{begun_recovery}
@@ -60,16 +61,16 @@ listed-of l list id (purpose.Intermediate s) f h = h
 listed-of l list id (purpose.Takeover d) f h = (listed-leased l list id f.0 h.0, listed-leased l list id d.0 h.1)
 
 -- its replicas are of the list, and in a takeover the master and the replica that is to take its place
-pub recovery-held : (w : World) (l : Leases) (list : List ServerNo) (u : Purpose) (id wait : ℕ) (f : ServerNo) (replicas order : List ServerNo) (docket : Docket)
+pub recovery-held : (w : World) (l : Leases) (list : List ServerNo) (u : Purpose) (by : Means) (id wait : ℕ) (f : ServerNo) (replicas order : List ServerNo) (docket : Docket)
     → All (λ n. IsListed list n.0) replicas → IsListOf (IsListed list) IsAny u f
-    → IsHeldBeside w (leased_to l list id) (unended.Recovery (begun_recovery u id wait f replicas order) docket)
-recovery-held w l list u id wait f replicas order docket all also = (
-  begun-held w u id wait f replicas order,
-  begun-leased (leased_to l list id) u id wait f replicas order
+    → IsHeldBeside w (leased_to l list id) (unended.Recovery (begun_recovery u by id wait f replicas order) docket)
+recovery-held w l list u by id wait f replicas order docket all also = (
+  begun-held w u by id wait f replicas order,
+  begun-leased (leased_to l list id) u by id wait f replicas order
       (All-weaker (λ (n : ServerNo). IsListed list n.0) (λ (n : ServerNo). IsLeased (leased_to l list id) id n.0) (λ n h. listed-leased l list id n.0 h) replicas all)
       (listed-of l list id u f also),
 )
 
-pub recovery-sound : (w : World) (u : Purpose) (id wait : ℕ) (f : ServerNo) (replicas order : List ServerNo) (docket : Docket)
-    → IsSoundBeside w (unended.Recovery (begun_recovery u id wait f replicas order) docket)
-recovery-sound w u id wait f replicas order docket = begun-sound w u id wait f replicas order
+pub recovery-sound : (w : World) (u : Purpose) (by : Means) (id wait : ℕ) (f : ServerNo) (replicas order : List ServerNo) (docket : Docket)
+    → IsSoundBeside w (unended.Recovery (begun_recovery u by id wait f replicas order) docket)
+recovery-sound w u by id wait f replicas order docket = begun-sound w u by id wait f replicas order

@@ -6,6 +6,7 @@ use Rattle.operations.specs.Changes.{server_of}
 use Rattle.operations.specs.Turns.{is_going}
 use Rattle.job_laws.specs.Flights.{Flight}
 use Rattle.job_laws.specs.Leases.{IsLeased, Leases, MayChange}
+use Rattle.job_laws.specs.Matched.{IsPlaced, Meets}
 use Rattle.job_laws.specs.Passages.{MayTake, TakesWell}
 use Rattle.recovery_plans.specs.Named.{IsOpOf}
 use Rattle.recovery_plans.specs.Recoveries.{Recovery}
@@ -29,7 +30,7 @@ own-may f id t s same may =
 pub own-well : (f : Flight) (id : ℕ) (t : Taken) (s : JobStep) → is_going s ≡ is_going t.step → TakesWell f (as_turn id t) → TakesWell f (as_turn id (record t { step = s }))
 own-well f id t s same well =
     subst (λ (b : Bool). TakesWell f (record (as_turn id t) { step = s; job = core_by id t.recovery b })) (sym same) (record {
-      sound = record { joins = well.sound.joins; bridged = well.sound.bridged };
+      sound = record { joins = well.sound.joins; bridged = well.sound.bridged; met = well.sound.met };
       bridged = well.bridged;
     })
 
@@ -50,7 +51,7 @@ quiet-may f id r s mine leased = go (is_going s)
       shown = tt;
     }
     go false = record {
-      held = record { allowed = tt; held = record { left = refl; shown = λ n s h. cc } };
+      held = record { allowed = tt; held = record { left = refl; shown = λ n s h. cc; matched = refl; ends = All-nil (IsPlaced f.world) } };
       leases = record {
         id = refl;
         ops = All-nil (MayChange f.leases id);
@@ -64,5 +65,5 @@ pub quiet-well : (f : Flight) (id : ℕ) (r : Recovery) (s : JobStep) → SoundR
 quiet-well f id r s good = go (is_going s)
   where
     go : (b : Bool) → TakesWell f (record (as_turn id (quiet r s)) { job = core_by id r b })
-    go true = record { sound = record { joins = tt; bridged = good.core }; bridged = tt }
-    go false = record { sound = record { joins = tt; bridged = λ n s h. cc }; bridged = tt }
+    go true = record { sound = record { joins = tt; bridged = good.core; met = good.met }; bridged = tt }
+    go false = record { sound = record { joins = tt; bridged = λ n s h. cc; met = All-nil (Meets f.world) }; bridged = tt }

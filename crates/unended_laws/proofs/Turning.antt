@@ -176,7 +176,7 @@ module _ (f : Flight) (us : List Unended) (b : BookState) (id read : ℕ) (now :
     where
       own : is_going (taken f.world b read now r).step ≡ true
           → HeldRecovery (run f.world (taken f.world b read now r).exchanges) (taken f.world b read now r).recovery
-              × LeasedRecovery f.leases (taken f.world b read now r).recovery.core.id (taken f.world b read now r).recovery
+          × LeasedRecovery f.leases (taken f.world b read now r).recovery.core.id (taken f.world b read now r).recovery
       own g =
           let t = taken f.world b read now r in
           let kept = (taken-held f.world b read now r held.flight.placed rings-held mine.0).held g in

@@ -6,6 +6,7 @@ ghost use Rattle.server_model.specs.Worlds.{World};
 ghost use Rattle.job_laws.specs.Flights.{Flight, leased_to};
 ghost use Rattle.job_laws.specs.Leases.{Leases};
 ghost use Rattle.job_laws.specs.Passages.{Beginning, MayPass, passed};
+ghost use Rattle.recovery_plans.specs.declared.means.Means.{Means as AMeans};
 ghost use Rattle.recovery_plans.specs.declared.purpose.Purpose.{Purpose as APurpose};
 ghost use Rattle.recovery_plans.specs.Beginning.{begun_recovery};
 ghost use Rattle.recovery_plans.specs.Named.{IsListOf};
@@ -32,12 +33,12 @@ pub fn unended_jobs_begin()
 /// A recovery begins so, where the list has its replicas, and in a takeover the master and the replica that is to take
 /// its place.
 pub fn recoveries_begin_beside()
-    ensures held { (w : World) (l : Leases) (list : List Number) (u : APurpose) (id wait : ℕ)
-        (f : Number) (replicas order : List Number) (docket : ADocket) →
+    ensures held { (w : World) (l : Leases) (list : List Number) (u : APurpose) (by : AMeans) (id wait : ℕ) (f : Number)
+        (replicas order : List Number) (docket : ADocket) →
         All (λ n. IsListed list n.0) replicas → IsListOf (IsListed list) IsAny u f →
         IsHeldBeside w (leased_to l list id)
-        (Recovery (begun_recovery u id wait f replicas order) docket) }
-    ensures sound { (w : World) (u : APurpose) (id wait : ℕ) (f : Number)
+        (Recovery (begun_recovery u by id wait f replicas order) docket) }
+    ensures sound { (w : World) (u : APurpose) (by : AMeans) (id wait : ℕ) (f : Number)
         (replicas order : List Number) (docket : ADocket) →
-        IsSoundBeside w (Recovery (begun_recovery u id wait f replicas order) docket) }
+        IsSoundBeside w (Recovery (begun_recovery u by id wait f replicas order) docket) }
 {}

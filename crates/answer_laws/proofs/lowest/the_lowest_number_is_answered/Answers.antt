@@ -1,4 +1,4 @@
-use Rattle.answer_laws.proofs.Rising.{coords-lowest, gtid-lowest, path-lowest, recovery-lowest, takeover-lowest}
+use Rattle.answer_laws.proofs.Rising.{coords-lowest, gtid-lowest, match-lowest, path-lowest, recovery-lowest, takeover-lowest}
 use Rattle.answer_laws.proofs.lowest.the_lowest_number_is_answered.Goals as goal
 
 pub returns-clause-coords : goal.returns-clause-coords
@@ -9,6 +9,9 @@ returns-clause-gtids c = gtid-lowest
 
 pub returns-clause-paths : goal.returns-clause-paths
 returns-clause-paths c = path-lowest
+
+pub returns-clause-matches : goal.returns-clause-matches
+returns-clause-matches c = match-lowest
 
 pub returns-clause-recovery : goal.returns-clause-recovery
 returns-clause-recovery c = recovery-lowest

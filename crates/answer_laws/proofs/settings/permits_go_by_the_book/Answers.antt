@@ -1,4 +1,4 @@
-use Rattle.answer_laws.proofs.ByBook.{coords-same, gtids-same, paths-same, recovery-same, takeover-same}
+use Rattle.answer_laws.proofs.ByBook.{coords-same, gtids-same, matches-same, paths-same, recovery-same, takeover-same}
 use Rattle.answer_laws.proofs.settings.permits_go_by_the_book.Goals as goal
 
 pub returns-clause-coords : goal.returns-clause-coords
@@ -9,6 +9,9 @@ returns-clause-gtids c = λ w v b given same. gtids-same w v same b given
 
 pub returns-clause-paths : goal.returns-clause-paths
 returns-clause-paths c = λ w v b now given same. paths-same w v same b now given
+
+pub returns-clause-matches : goal.returns-clause-matches
+returns-clause-matches c = λ w v b now every given same. matches-same w v same b now every given
 
 pub returns-clause-recovery : goal.returns-clause-recovery
 returns-clause-recovery c = λ w v b audit a f same. recovery-same w v same b audit a f

@@ -25,10 +25,10 @@ returns-then-more-at c = λ x y at_x at_y.
     let unlike : p k ≡ false = elim c.then-more-at.branch [
       | then-more-at-via-then-more-at v ↦ alike-short c.args.every x y k ((k + c.args.j) - c.args.i) to (omega (arith, more, known.place, v.if-more-at.true))
       | then-more-at-via-else-more-at+then-not-shows_same v ↦
-        alike-at c.args.every x y k ((k + c.args.j) - c.args.i) v.transaction.result v.transaction-else-more-at.result from to
-        (txn-of w c.args.r.0 k x v.transaction.result at_x v.transaction.ensures)
-        (txn-of w c.args.d.0 ((k + c.args.j) - c.args.i) y v.transaction-else-more-at.result at_y (rw (sym known.place) v.transaction-else-more-at.ensures))
-        ∙ sym v.shows_same.ensures ∙ v.if-not-shows_same.true
+          alike-at c.args.every x y k ((k + c.args.j) - c.args.i) v.transaction.result v.transaction-else-more-at.result from to
+          (txn-of w c.args.r.0 k x v.transaction.result at_x v.transaction.ensures)
+          (txn-of w c.args.d.0 ((k + c.args.j) - c.args.i) y v.transaction-else-more-at.result at_y (rw (sym known.place) v.transaction-else-more-at.ensures))
+          ∙ sym v.shows_same.ensures ∙ v.if-not-shows_same.true
     ] in
     let left : length x.history.txns - k ≡ (length x.history.txns - (k + 1)) + 1 = omega (arith, many, c.loop-k-test.true) in
     sym (ap (matched_at x y c.args.i c.args.j) (known.left x y at_x at_y ∙ first-here p k (length x.history.txns - k) (length x.history.txns - (k + 1)) left unlike))
@@ -43,17 +43,17 @@ loop-k-preserved c =
       place = omega (arith, known.place, known.behind);
       within = omega (arith, c.if-more-at.false);
       left = λ x y at_x at_y.
-        let p : ℕ → Bool = λ n. alike c.args.every (logged_by x n) (logged_by y ((n + c.args.j) - c.args.i)) in
-        let many : length x.history.txns ≡ c.executed-count.result = count-of w c.args.r.0 c.executed-count.result x at_x c.executed-count.ensures in
-        let mark = c.requires.mark x at_x in
-        let same = c.requires.same y at_y in
-        let from : kept_from x ≤ k = omega (arith, mark.0, known.behind) in
-        let to : kept_from y ≤ (k + c.args.j) - c.args.i = omega (arith, same.0, known.behind) in
-        let like : p k ≡ true =
-        alike-at c.args.every x y k ((k + c.args.j) - c.args.i) c.transaction.result c.transaction-else-more-at.result from to
-        (txn-of w c.args.r.0 k x c.transaction.result at_x c.transaction.ensures)
-        (txn-of w c.args.d.0 ((k + c.args.j) - c.args.i) y c.transaction-else-more-at.result at_y (rw (sym known.place) c.transaction-else-more-at.ensures))
-        ∙ sym c.shows_same.ensures ∙ c.if-not-shows_same.false in
-        let left : length x.history.txns - k ≡ (length x.history.txns - (k + 1)) + 1 = omega (arith, many, c.loop-k-test.true) in
-        known.left x y at_x at_y ∙ first-after p k (length x.history.txns - k) (length x.history.txns - (k + 1)) left like;
+          let p : ℕ → Bool = λ n. alike c.args.every (logged_by x n) (logged_by y ((n + c.args.j) - c.args.i)) in
+          let many : length x.history.txns ≡ c.executed-count.result = count-of w c.args.r.0 c.executed-count.result x at_x c.executed-count.ensures in
+          let mark = c.requires.mark x at_x in
+          let same = c.requires.same y at_y in
+          let from : kept_from x ≤ k = omega (arith, mark.0, known.behind) in
+          let to : kept_from y ≤ (k + c.args.j) - c.args.i = omega (arith, same.0, known.behind) in
+          let like : p k ≡ true =
+          alike-at c.args.every x y k ((k + c.args.j) - c.args.i) c.transaction.result c.transaction-else-more-at.result from to
+          (txn-of w c.args.r.0 k x c.transaction.result at_x c.transaction.ensures)
+          (txn-of w c.args.d.0 ((k + c.args.j) - c.args.i) y c.transaction-else-more-at.result at_y (rw (sym known.place) c.transaction-else-more-at.ensures))
+          ∙ sym c.shows_same.ensures ∙ c.if-not-shows_same.false in
+          let left : length x.history.txns - k ≡ (length x.history.txns - (k + 1)) + 1 = omega (arith, many, c.loop-k-test.true) in
+          known.left x y at_x at_y ∙ first-after p k (length x.history.txns - k) (length x.history.txns - (k + 1)) left like;
     }

@@ -47,4 +47,4 @@ returns-in-Begins-default-clause-ids c =
     let given = c.args.t.now.command in
     let p = c.in-Begins-default.planner in
     IfOk-weaker c.begin_by.result (λ (out : Inside). outcome out ≡ begun_by w b n given p) (λ (out : Inside). LeavesIds out.book)
-    (λ out same. subst (λ (x : Outcome). LeavesIds x.book) (sym same) (begun-leaves n (refusal_by w b n.moment given p) (leases_by w b given p) (job_by w b given p (n.last_job + 1) n.wait))) c.begin_by.ensures
+    (λ out same. subst (λ (x : Outcome). LeavesIds x.book) (sym same) (begun-leaves n (refusal_by w b n.moment n.every given p) (leases_by w b given p) (job_by w b given p (n.last_job + 1) n.wait n.every))) c.begin_by.ensures

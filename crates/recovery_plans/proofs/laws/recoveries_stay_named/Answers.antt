@@ -5,7 +5,7 @@ use Rattle.recovery_plans.proofs.Naming.{taken-of, renumbered}
 use Rattle.recovery_plans.proofs.laws.recoveries_stay_named.Goals as goal
 
 pub returns-clause-begun : goal.returns-clause-begun
-returns-clause-begun c count u id wait f ns order all there h = begun-of (λ n. n < count) (λ n. n < count) u id wait f ns order all there h
+returns-clause-begun c count u by id wait f ns order all there h = begun-of (λ n. n < count) (λ n. n < count) u by id wait f ns order all there h
 
 pub returns-clause-turn : goal.returns-clause-turn
 returns-clause-turn c count w b read now r has g =

@@ -1,4 +1,6 @@
 use Rattle.recovery_reasons.proofs.Facts.{begun-explained, taken-explained}
+use Rattle.recovery_reasons.proofs.Nobody.{finds-nobody}
+use Rattle.recovery_reasons.proofs.OnWay.{done-fit}
 use Rattle.recovery_reasons.proofs.Speaking.{taken-speaks, begun-speaks}
 use Rattle.recovery_reasons.proofs.losses.recoveries_tell_the_truth.Goals as goal
 
@@ -13,3 +15,9 @@ returns-clause-begun c = begun-speaks
 
 pub returns-clause-untold : goal.returns-clause-untold
 returns-clause-untold c = begun-explained
+
+pub returns-clause-nobody : goal.returns-clause-nobody
+returns-clause-nobody c = λ w b now r speaks none. finds-nobody w b now r speaks.way none
+
+pub returns-clause-fit : goal.returns-clause-fit
+returns-clause-fit c = λ w b read now r speaks lines done. done-fit w b read now r speaks.way lines done

@@ -3,7 +3,7 @@ use Rattle.recovery_runs.proofs.Facts.{explained-start, explained-step, last-exp
 use Rattle.recovery_runs.proofs.finished.facts_are_true.Goals as goal
 
 pub returns-clause-turn : goal.returns-clause-turn
-returns-clause-turn c s id r entry P found held speaking explains lost = facts-true s id r entry found P held speaking explains lost
+returns-clause-turn c s id r docket P found held speaking explains lost = facts-true s id r docket found P held speaking explains lost
 
 pub returns-clause-opening : goal.returns-clause-opening
 returns-clause-opening c = explained-start

@@ -1,5 +1,6 @@
 use Rattle.covered_laws.proofs.Beside.{none-aimed, none-speak}
 use Rattle.recovery_runs.proofs.Covering.{covered-start, kept-start}
+use Rattle.recovery_runs.proofs.Tended.{tended-start}
 use Rattle.recovery_runs.proofs.steps.openings_cover.Goals as goal
 
 pub returns-clause-covered : goal.returns-clause-covered
@@ -10,6 +11,9 @@ returns-clause-kept c = kept-start
 
 pub returns-clause-speaking : goal.returns-clause-speaking
 returns-clause-speaking c s wait rows = none-speak
+
+pub returns-clause-tended : goal.returns-clause-tended
+returns-clause-tended c = tended-start
 
 pub returns-clause-aimed : goal.returns-clause-aimed
 returns-clause-aimed c begun s wait rows = none-aimed begun

@@ -1,6 +1,6 @@
 use Rattle.std.proofs.Common.{ap}
 use Rattle.std.specs.Prelude.{is_some, length}
-use Rattle.run_laws.proofs.Failures.{plans-done, plans-fail, recoveries-fail}
+use Rattle.run_laws.proofs.Failures.{plans-done, plans-fail}
 use Rattle.run_laws.proofs.JobTurns.{named-job, others-stay}
 use Rattle.run_laws.proofs.RunLaws.{Goes-comes}
 use Rattle.run_laws.proofs.flights.jobs_keep_to_their_leases.Goals as goal
@@ -16,9 +16,6 @@ returns-clause-others c = λ s xs now comes rows id n apart. others-stay rows no
 
 pub returns-clause-fails : goal.returns-clause-fails
 returns-clause-fails c = λ s xs now comes. plans-fail now
-
-pub returns-clause-failed : goal.returns-clause-failed
-returns-clause-failed c = λ s xs now comes. recoveries-fail now
 
 pub returns-clause-done : goal.returns-clause-done
 returns-clause-done c = λ s xs now comes. plans-done (length s.opening.servers) now (Goes-comes s xs now comes).ready

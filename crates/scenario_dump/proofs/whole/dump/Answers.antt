@@ -30,7 +30,8 @@ returns c =
     (First _ _ _ _ _ _ c.in_ok-extend_from_slice-6.ensures.items
     (First _ _ _ _ _ _ (c.in_ok-print_hooks-3.ensures ∙ ap (λ v. c.extend_from_slice-6.new.self.items ++ compact_text (list_data hook_data v)) c.as_slice-7.ensures)
     (First _ _ _ _ _ _ c.in_ok-print_number-2.ensures
+    (First _ _ _ _ _ _ c.in_ok-print_number-3.ensures
     (First _ _ _ _ _ _ c.in_ok-extend_from_slice-7.ensures.items
     (First _ _ _ _ _ _ c.in_ok-print_servers.ensures
-    (Once _ _ _ c.in_ok-extend_from_slice-8.ensures.items))))))))))))))))))))
+    (Once _ _ _ c.in_ok-extend_from_slice-8.ensures.items)))))))))))))))))))))
     ∙ sym (whole_text w s c.args.now.0)

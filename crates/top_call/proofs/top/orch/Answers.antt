@@ -5,7 +5,7 @@ use Rattle.top_call.specs.declared.way.Way.TheVariants as way
 use Rattle.top_call.specs.Ends.{DrawEnds, FaultsAs, IsComplete, IsUsage, StopsAtFirst, call}
 use Rattle.top_call.proofs.Ends.{bad_words, complete, draws_at, each, faults, idles, lifted, keeper_rose, known, no_usage, not_asked, of_four, of_three, read_whole, undrawn, unmoved}
 use Rattle.top_call.proofs.Reports.{both, err_by, kept_by_report, out_by, status_told}
-use Rattle.top_call.proofs.Runs.{begin_apart, finish_well, tell_truly, obeys, safe_run}
+use Rattle.top_call.proofs.Runs.{begin_apart, finish_well, tell_hooks, tell_truly, obeys, safe_run}
 use Rattle.top_call.proofs.top.orch.Goals as goal
 
 -- ---- the words are taken
@@ -74,6 +74,9 @@ returns-in-Ok-clause-finishes g c = finish_well (map (λ w. w.items) c.args.word
 pub returns-in-Ok-clause-losses : goal.returns-in-Ok-clause-losses
 returns-in-Ok-clause-losses g c = tell_truly (map (λ w. w.items) c.args.words.now)
 
+pub returns-in-Ok-clause-hooks : goal.returns-in-Ok-clause-hooks
+returns-in-Ok-clause-hooks g c = tell_hooks (map (λ w. w.items) c.args.words.now)
+
 -- ---- they aren't, or memory ran out
 
 pub returns-in-Err-BadWords-clause-keeper : goal.returns-in-Err-BadWords-clause-keeper
@@ -119,6 +122,9 @@ returns-in-Err-BadWords-clause-finishes g c = finish_well (map (λ w. w.items) c
 pub returns-in-Err-BadWords-clause-losses : goal.returns-in-Err-BadWords-clause-losses
 returns-in-Err-BadWords-clause-losses g c = tell_truly (map (λ w. w.items) c.args.words.now)
 
+pub returns-in-Err-BadWords-clause-hooks : goal.returns-in-Err-BadWords-clause-hooks
+returns-in-Err-BadWords-clause-hooks g c = tell_hooks (map (λ w. w.items) c.args.words.now)
+
 pub returns-in-Err-Memory-clause-safe : goal.returns-in-Err-Memory-clause-safe
 returns-in-Err-Memory-clause-safe g c = safe_run (map (λ w. w.items) c.args.words.now)
 
@@ -133,6 +139,9 @@ returns-in-Err-Memory-clause-finishes g c = finish_well (map (λ w. w.items) c.a
 
 pub returns-in-Err-Memory-clause-losses : goal.returns-in-Err-Memory-clause-losses
 returns-in-Err-Memory-clause-losses g c = tell_truly (map (λ w. w.items) c.args.words.now)
+
+pub returns-in-Err-Memory-clause-hooks : goal.returns-in-Err-Memory-clause-hooks
+returns-in-Err-Memory-clause-hooks g c = tell_hooks (map (λ w. w.items) c.args.words.now)
 
 -- ---- against the report
 

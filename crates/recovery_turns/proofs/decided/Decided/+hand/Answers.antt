@@ -1,7 +1,7 @@
 use Rattle.std.proofs.Common.{◌≡◌, ◌+◌, ◌∷◌, drop, refl, sym, ap, ◌∙◌, rules, arith}
 use Rattle.std.specs.Prelude.{slice_get}
 use Rattle.std.proofs.lemmas.Result.{on_ok_weaker}
-use Rattle.commands.specs.declared.line.Lost.TheVariants as lost
+use Rattle.recovery_plans.specs.Whys as lost
 use Rattle.recovery_plans.specs.Deciding.{hand, moving}
 use Rattle.recovery_plans.specs.Recoveries.{Recovery}
 use Rattle.recovery_turns.specs.Deciding.{decided_on}
@@ -16,9 +16,9 @@ hand-requires t c =
     let more : c.in_ok-self.field-0 ≡ d.handed + 1 = grind arith in
     let head : (decided_on r d).drained ≡ x ∷ drop 1 (decided_on r d).drained =
     first_is (decided_on r d).drained x (ap (λ xs. slice_get xs 0) (sym c.drained.ensures) ∙ sym c.first.ensures.value ∙ sym c.copied.ensures ∙ c.in-Some.is) in
-    let left = left_on r d (record d { handed = c.in_ok-self.field-0 }) c.lose.new.self x (lost.Behind x.exec) refl more c.requires.idle c.in_ok-lose-in-None.ensures.value in
-    let fewer = left_fewer r d c.lose.new.self x (lost.Behind x.exec) head left in
-    let queue = left_task r d c.lose.new.self x (lost.Behind x.exec) c.requires.task left in
+    let left = left_on r d (record d { handed = c.in_ok-self.field-0 }) c.lose.new.self x (lost.behind x.exec) refl more c.requires.idle c.in_ok-lose-in-None.ensures.value in
+    let fewer = left_fewer r d c.lose.new.self x (lost.behind x.exec) head left in
+    let queue = left_task r d c.lose.new.self x (lost.behind x.exec) c.requires.task left in
     search (rules, fewer, queue)
 
 pub returns-in-Some-way-clause-value : goal.returns-in-Some-way-clause-value
@@ -51,7 +51,7 @@ returns-in_ok-lose-in-None-clause-value t c =
     let more : c.in_ok-self.field-0 ≡ d.handed + 1 = grind arith in
     let head : (decided_on r d).drained ≡ x ∷ drop 1 (decided_on r d).drained =
     first_is (decided_on r d).drained x (ap (λ xs. slice_get xs 0) (sym c.drained.ensures) ∙ sym c.first.ensures.value ∙ sym c.copied.ensures ∙ c.in-Some.is) in
-    let left = left_on r d (record d { handed = c.in_ok-self.field-0 }) c.lose.new.self x (lost.Behind x.exec) refl more c.requires.idle c.in_ok-lose-in-None.ensures.value in
+    let left = left_on r d (record d { handed = c.in_ok-self.field-0 }) c.lose.new.self x (lost.behind x.exec) refl more c.requires.idle c.in_ok-lose-in-None.ensures.value in
     let none =
     hand_way w b s r d (record d { handed = c.in_ok-self.field-0 }) x c.job.result c.of.inside.failed c.way_below-way.result refl more c.requires.idle c.job.ensures
     (ap (λ (y : Recovery). y.failed) c.of.view_is) c.way_below-way.ensures

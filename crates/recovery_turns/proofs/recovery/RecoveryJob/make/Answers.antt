@@ -6,6 +6,7 @@ pub returns : goal.returns
 returns c =
     λ i. record {
       purpose = c.args.purpose;
+      means = c.args.means;
       core = c.in_ok-first_job.ensures.core i;
       stage = c.first_stage.ensures i;
       queue = (c.in_ok-first_tasks.ensures ∙ ap (first_tasks c.args.purpose) c.deref.ensures.value) i;

@@ -1,0 +1,82 @@
+-- Permitted commands by matches begin with operations that are held and have their matches, over servers that are free.
+use Rattle.std.proofs.Common.{◌≡◌, ℕ, true, List, [], ◌∷◌, ◌++◌, refl, Option, Some, None}
+use Rattle.std.specs.Prelude.{map}
+use Rattle.std.specs.Option.{option_to_list}
+use Rattle.orch_base.specs.declared.server.Moment.{Moment}
+use Rattle.orch_base.specs.declared.server.ServerNo.{ServerNo}
+use Rattle.commands.specs.declared.line.Line.TheVariants.{Follows}
+use Rattle.commands.specs.declared.turn.Command.{Command}
+use Rattle.instance_keeper.specs.Book.{BookState}
+use Rattle.book_views.specs.Sources.{replicas_of}
+use Rattle.server_model.specs.Worlds.{World}
+use Rattle.operations.specs.Jobs.{Job, job_with}
+use Rattle.operations.specs.Plans.{finished}
+use Rattle.job_laws.specs.Footing.{footing}
+use Rattle.job_laws.specs.Leases.{Begins, leases_of}
+use Rattle.job_laws.specs.Matched.{matched_in}
+use Rattle.job_laws.proofs.Matching.{each-matched, finished-matched}
+use Rattle.job_laws.proofs.Planned.{finished-held}
+use Rattle.permission.specs.Checks.{busy, first_refusal, refusal_by, unknown_in, without_log}
+use Rattle.permission.specs.Lists.{first_about}
+use Rattle.permission.specs.Replicas.{replicas_but}
+use Rattle.permission.specs.Rows.{about as about_given, about_one, refused}
+use Rattle.permission.specs.Views.{source_above}
+use Rattle.plan_parts.specs.Parts.{following, matching, matchings}
+use Rattle.pseudo_match.specs.Commands.{pseudo_command}
+use Rattle.pseudo_match.specs.Permits.{case_of, leased_by, list_of, refusal_about, refusal_of, rest_refusal, row_of, row_refusal, sources_over}
+use Rattle.pseudo_match.specs.Plans.{moved, ops_of, plan_of, replicas_moved}
+use Rattle.pseudo_match.specs.declared.command.PseudoCommand.{PseudoCommand}
+use Rattle.pseudo_match.specs.declared.command.PseudoCommand.TheVariants as command
+use Rattle.move_laws.proofs.Beginning.{begins-with, logging}
+use Rattle.move_laws.proofs.Firsts.{each-none, neither}
+use Rattle.move_laws.proofs.Lists.{Among, among-before, among-first, finished-listed, matching-held, matching-listed, matching-matched, matchings-held, matchings-listed}
+
+module _ (w : World) (b : BookState) (jobs : List Job) (id wait every : ℕ) where
+  moved-begins : (list : List ServerNo) (i : ServerNo) (d : Option ServerNo) → Among list i → first_about (without_log w) (option_to_list d) ≡ None
+      → first_about (busy b) list ≡ None → Begins w jobs (leases_of b.leases) list (job_with id wait (moved i every d))
+  moved-begins list i None among logs free = begins-with w b jobs list id wait [] refl refl refl free
+  moved-begins list i (Some d) among logs free =
+      begins-with w b jobs list id wait (finished (matching i d every) (Follows i d ∷ []))
+      (finished-held (footing w []) (matching i d every) (Follows i d ∷ []) (matching-held (footing w []) i d every (logging w b d [] logs)))
+      (finished-matched (matched_in []) (matching i d every) (Follows i d ∷ []) (matching-matched (matched_in []) i d every))
+      (finished-listed list (matching i d every) (Follows i d ∷ []) (matching-listed list i d every among)) free
+
+  replicas-begin : (rs : List ServerNo) (d : Option ServerNo) → first_about (without_log w) (option_to_list d) ≡ None
+      → first_about (busy b) (rs ++ option_to_list d) ≡ None
+      → Begins w jobs (leases_of b.leases) (rs ++ option_to_list d) (job_with id wait (replicas_moved rs every d))
+  replicas-begin rs None logs free = begins-with w b jobs (rs ++ []) id wait [] refl refl refl free
+  replicas-begin rs (Some d) logs free =
+      begins-with w b jobs (rs ++ d ∷ []) id wait (finished (matchings rs d every) (following rs d))
+      (finished-held (footing w []) (matchings rs d every) (following rs d) (matchings-held (footing w []) rs d every (logging w b d [] logs)))
+      (finished-matched (matched_in []) (matchings rs d every) (following rs d) (each-matched (λ r. matching r d every) rs (λ more r. matching-matched more r d every) (matched_in [])))
+      (finished-listed (rs ++ d ∷ []) (matchings rs d every) (following rs d) (matchings-listed (rs ++ d ∷ []) rs d every (among-before rs (d ∷ [])))) free
+
+  -- a command's job begins, where each check of its row passes
+  about : (c : PseudoCommand) (i : ServerNo) (d : Option ServerNo) → first_refusal w b (case_of b c i d) (row_of c) ≡ None
+      → Begins w jobs (leases_of b.leases) (list_of b c i d) (job_with id wait (ops_of b every c i d))
+  about command.Match i d h =
+      let t = each-none (map (refusal_by w b (case_of b command.Match i d)) (row_of command.Match)) h in
+      moved-begins (i ∷ option_to_list d) i d (among-first i (option_to_list d)) t.1.1.1.1.1.0 t.1.0
+  about command.MatchUp i d h =
+      let t = each-none (map (refusal_by w b (case_of b command.MatchUp i d)) (row_of command.MatchUp)) h in
+      moved-begins (i ∷ sources_over b i) i (source_above b i) (among-first i (sources_over b i)) t.1.1.1.1.1.0 t.0
+  about command.MatchReplicas i d h =
+      let t = each-none (map (refusal_by w b (case_of b command.MatchReplicas i d)) (row_of command.MatchReplicas)) h in
+      replicas-begin (replicas_but b i d) d t.1.1.1.1.1.0 t.1.0
+  about command.RegroupReplicas i d h =
+      let t = each-none (map (refusal_by w b (case_of b command.RegroupReplicas i d)) (row_of command.RegroupReplicas)) h in
+      begins-with w b jobs (i ∷ replicas_of b i) id wait [] refl refl refl t.0
+
+pub permitted-begin : (w : World) (b : BookState) (jobs : List Job) (now : Moment) (every : ℕ) (given : Command) (id wait : ℕ) → refusal_of w b now every given ≡ None
+    → Begins w jobs (leases_of b.leases) (leased_by b given) (job_with id wait (plan_of b every given))
+permitted-begin w b jobs now every given id wait h = go (pseudo_command given.name) h
+  where
+    with_i : (c : PseudoCommand) (o : Option ServerNo) → about_one None (refusal_about w b now every c) o given.d ≡ None
+        → Begins w jobs (leases_of b.leases) (about_one [] (list_of b c) o given.d) (job_with id wait (about_one [] (ops_of b every c) o given.d))
+    with_i c None h = begins-with w b jobs [] id wait [] refl refl refl refl
+    with_i c (Some i) h = about w b jobs id wait every c i given.d (neither (row_refusal w b c i given.d) (rest_refusal w b now every c i given.d) h).0
+
+    go : (c : Option PseudoCommand) → refused b (refusal_about w b now every) c given ≡ None
+        → Begins w jobs (leases_of b.leases) (about_given [] (list_of b) c given) (job_with id wait (about_given [] (ops_of b every) c given))
+    go None h = begins-with w b jobs [] id wait [] refl refl refl refl
+    go (Some c) h = with_i c given.i (neither (unknown_in b given) (about_one None (refusal_about w b now every c) given.i given.d) h).1

@@ -1,0 +1,33 @@
+//! The plans of permitted commands by matches.
+
+ghost use Rattle.std.specs.Prelude.{◌≡◌, ◌∷◌, [], ℕ, Some, None};
+ghost use Rattle.orch_base.specs.declared.server.Moment.{Moment as AMoment};
+ghost use Rattle.orch_base.specs.declared.server.ServerNo.{ServerNo as Number};
+ghost use Rattle.commands.specs.declared.line.Line.TheVariants.{Follows};
+ghost use Rattle.commands.specs.declared.name.CommandName.TheVariants.{Match, MatchReplicas, MatchUp};
+ghost use Rattle.instance_keeper.specs.Book.{BookState};
+ghost use Rattle.move_laws.specs.Given.{given};
+ghost use Rattle.operations.specs.Plans.{finished};
+ghost use Rattle.permission.specs.Replicas.{replicas_but};
+ghost use Rattle.permission.specs.Views.{attached_of, source_of};
+ghost use Rattle.plan_parts.specs.Parts.{following, matching, matchings};
+ghost use Rattle.pseudo_match.specs.Permits.{refusal_of};
+ghost use Rattle.pseudo_match.specs.Plans.{plan_of};
+ghost use Rattle.server_model.specs.Worlds.{World};
+
+/// A permitted command by matches has its whole plan: the instance, or each of its replicas but the destination, goes
+/// below the destination; or the instance goes up to the source to which its source is attached.
+pub fn permitted_matches_have_plans()
+    ensures one { (b : BookState) (every : ℕ) (i d : Number) →
+        plan_of b every (given Match i (Some d)) ≡
+        finished (matching i d every) (Follows i d ∷ []) }
+    ensures each { (b : BookState) (every : ℕ) (i d : Number) →
+        let rs = replicas_but b i (Some d) in
+        plan_of b every (given MatchReplicas i (Some d)) ≡
+        finished (matchings rs d every) (following rs d) }
+    ensures up { (w : World) (b : BookState) (now : AMoment) (every : ℕ) (i : Number) →
+        refusal_of w b now every (given MatchUp i None) ≡ None →
+        (x : Number) × (g : Number) × (source_of b i ≡ Some x) × (attached_of b x ≡ Some g) ×
+        (plan_of b every (given MatchUp i None) ≡
+        finished (matching i g every) (Follows i g ∷ [])) }
+{}

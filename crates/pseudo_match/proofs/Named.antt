@@ -1,0 +1,63 @@
+-- The operations of a plan, and the leases, are of the book's servers, where the command's instances are.
+use Rattle.std.proofs.Common.{◌≡◌, ℕ, ◌<◌, true, List, [], ◌∷◌, length, refl, Option, Some, None}
+use Rattle.std.specs.Prelude.{All, IsTrue}
+use Rattle.std.specs.Option.{option_to_list}
+use Rattle.std.proofs.lemmas.List.Elements.{All-append}
+use Rattle.orch_base.specs.declared.server.ServerNo.{ServerNo}
+use Rattle.commands.specs.declared.line.Line.TheVariants.{Follows}
+use Rattle.commands.specs.Turns.{is_within}
+use Rattle.commands.specs.declared.turn.Command.{Command}
+use Rattle.instance_keeper.specs.Book.{BookState, IsBook}
+use Rattle.book_views.specs.Sources.{replicas_of}
+use Rattle.operations.specs.Named.{are_named}
+use Rattle.permission.specs.Replicas.{replicas_but}
+use Rattle.permission.specs.Views.{source_above, source_of}
+use Rattle.permission.proofs.Rows.{about-is}
+use Rattle.permission.proofs.Within.{AllWithin, Within, above-within, but-within, cons-within, given-within, none-within, option-within, replicas-within, source-within}
+use Rattle.plan_parts.specs.Parts.{following, matching, matchings}
+use Rattle.plan_parts.proofs.Named.{finished-named, matching-named, matchings-named}
+use Rattle.pseudo_match.specs.Commands.{pseudo_command}
+use Rattle.pseudo_match.specs.Permits.{leased_by, list_of, sources_over}
+use Rattle.pseudo_match.specs.Plans.{moved, ops_of, plan_of, replicas_moved}
+use Rattle.pseudo_match.specs.declared.command.PseudoCommand.{PseudoCommand}
+use Rattle.pseudo_match.specs.declared.command.PseudoCommand.TheVariants as command
+
+module _ (b : BookState) (every : ℕ) where
+  moved-named : (i : ServerNo) (d : Option ServerNo) → i.0 < length b.names → are_named (length b.names) (moved i every d) ≡ true
+  moved-named i None at_i = refl
+  moved-named i (Some d) at_i = finished-named (length b.names) (matching i d every) (Follows i d ∷ []) (matching-named (length b.names) i d every at_i)
+
+  replicas-named : (rs : List ServerNo) (d : Option ServerNo) → AllWithin b rs → are_named (length b.names) (replicas_moved rs every d) ≡ true
+  replicas-named rs None at_rs = refl
+  replicas-named rs (Some d) at_rs = finished-named (length b.names) (matchings rs d every) (following rs d) (matchings-named (length b.names) rs d every at_rs)
+
+  ops-named : (c : PseudoCommand) (i : ServerNo) (d : Option ServerNo) → i.0 < length b.names → are_named (length b.names) (ops_of b every c i d) ≡ true
+  ops-named command.Match i d at_i = moved-named i d at_i
+  ops-named command.MatchUp i d at_i = moved-named i (source_above b i) at_i
+  ops-named command.MatchReplicas i d at_i = replicas-named (replicas_but b i d) d (but-within b i d)
+  ops-named command.RegroupReplicas i d at_i = refl
+
+pub plan-named : (b : BookState) (every : ℕ) (command : Command) → IsTrue (is_within (length b.names) command.i) → are_named (length b.names) (plan_of b every command) ≡ true
+plan-named b every command at_i =
+    about-is (λ ops. are_named (length b.names) ops ≡ true) [] (ops_of b every) b command refl (given-within b command.i at_i)
+    (λ c i at. ops-named b every c i command.d at) (pseudo_command command.name)
+
+-- ---- leases
+
+over-within : (b : BookState) (i : ServerNo) → IsBook b → i.0 < length b.names → AllWithin b (sources_over b i)
+over-within b i is at_i =
+    All-append (λ (n : ServerNo). n.0 < length b.names) (option_to_list (source_of b i)) (option_to_list (source_above b i))
+    (option-within b (source_of b i) (source-within b i is at_i)) (option-within b (source_above b i) (above-within b i is at_i))
+
+list-within : (b : BookState) → IsBook b → (c : PseudoCommand) (i : ServerNo) (d : Option ServerNo) → i.0 < length b.names → Within b d → AllWithin b (list_of b c i d)
+list-within b is command.Match i d at_i at_d = cons-within b i (option_to_list d) at_i (option-within b d at_d)
+list-within b is command.MatchUp i d at_i at_d = cons-within b i (sources_over b i) at_i (over-within b i is at_i)
+list-within b is command.MatchReplicas i d at_i at_d =
+    All-append (λ (n : ServerNo). n.0 < length b.names) (replicas_but b i d) (option_to_list d) (but-within b i d) (option-within b d at_d)
+list-within b is command.RegroupReplicas i d at_i at_d = cons-within b i (replicas_of b i) at_i (replicas-within b i)
+
+pub leases-within : (b : BookState) (command : Command) → IsBook b → IsTrue (is_within (length b.names) command.i) → IsTrue (is_within (length b.names) command.d)
+    → All (λ n. n.0 < length b.names) (leased_by b command)
+leases-within b command is at_i at_d =
+    about-is (AllWithin b) [] (list_of b) b command (none-within b) (given-within b command.i at_i)
+    (λ c i at. list-within b is c i command.d at (given-within b command.d at_d)) (pseudo_command command.name)

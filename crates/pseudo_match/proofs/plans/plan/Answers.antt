@@ -1,0 +1,12 @@
+use Rattle.std.proofs.Common.{◌≡◌, ap, ◌∙◌, true, length}
+use Rattle.std.proofs.lemmas.Result.{IfOk-weaker}
+use Rattle.operations.specs.Named.{are_named}
+use Rattle.pseudo_match.specs.Plans.{plan_of}
+use Rattle.pseudo_match.proofs.Named.{plan-named}
+use Rattle.pseudo_match.proofs.plans.plan.Goals as goal
+
+pub returns-clause-named : goal.returns-clause-named
+returns-clause-named c = λ at_i at_d.
+    IfOk-weaker c.plan_of.result (λ ops. ops.items ≡ plan_of c.args.book.now c.args.every c.args.command)
+    (λ ops. are_named (length c.args.book.now.names) ops.items ≡ true)
+    (λ ops is. ap (are_named (length c.args.book.now.names)) is ∙ plan-named c.args.book.now c.args.every c.args.command at_i) c.plan_of.ensures

@@ -1,0 +1,37 @@
+-- The plans of these commands.
+use Rattle.std.specs.Prelude.{ℕ, List, [], ◌∷◌, Option, Some, None}
+use Rattle.orch_base.specs.declared.server.ServerNo.{ServerNo}
+use Rattle.commands.specs.declared.line.Line.TheVariants.{Follows}
+use Rattle.commands.specs.declared.turn.Command.{Command}
+use Rattle.instance_keeper.specs.Book.{BookState}
+use Rattle.operations.specs.declared.op.Op.{Op}
+use Rattle.operations.specs.Plans.{finished}
+use Rattle.permission.specs.Replicas.{replicas_but}
+use Rattle.permission.specs.Rows.{about}
+use Rattle.permission.specs.Views.{source_above}
+use Rattle.plan_parts.specs.Parts.{following, matching, matchings}
+use Rattle.pseudo_match.specs.declared.command.PseudoCommand.{PseudoCommand}
+use Rattle.pseudo_match.specs.declared.command.PseudoCommand.TheVariants as command
+use Rattle.pseudo_match.specs.Commands.{pseudo_command}
+
+-- i goes below d, by marks of this distance
+abbrev pub moved : ServerNo → ℕ → Option ServerNo → List Op
+moved i every None = []
+moved i every (Some d) = finished (matching i d every) (Follows i d ∷ [])
+
+-- replicas go below d, one after another
+abbrev pub replicas_moved : List ServerNo → ℕ → Option ServerNo → List Op
+replicas_moved replicas every None = []
+replicas_moved replicas every (Some d) = finished (matchings replicas d every) (following replicas d)
+
+-- a command's operations, by the instance and the destination that is given; none of a regroup, whose operations go by
+-- what its replicas turn out to have
+abbrev pub ops_of : BookState → ℕ → PseudoCommand → ServerNo → Option ServerNo → List Op
+ops_of b every command.Match i d = moved i every d
+ops_of b every command.MatchUp i d = moved i every (source_above b i)
+ops_of b every command.MatchReplicas i d = replicas_moved (replicas_but b i d) every d
+ops_of b every command.RegroupReplicas i d = []
+
+-- the operations of one of these commands, where nothing refuses it, with marks at this distance
+abbrev pub plan_of : BookState → ℕ → Command → List Op
+plan_of b every given = about [] (ops_of b every) (pseudo_command given.name) given

@@ -1,0 +1,14 @@
+//! The commands that take servers below another one where their logs match (Pseudo-GTID): what refuses each, of which
+//! servers its job takes the leases, and the plans of those whose operations are known before.
+#![tactic(auto)]
+
+mod command;
+mod permits;
+mod plans;
+
+pub use command::{PseudoCommand, pseudo_command};
+/// Want of memory.
+pub use orch_base::Memory;
+pub use permission::PermitFault;
+pub use permits::{leases, permit};
+pub use plans::plan;

@@ -1,0 +1,45 @@
+-- Why a replica is lost.
+use Rattle.binlog_coords.specs.declared.Coord.{Coord}
+use Rattle.orch_base.specs.declared.server.ServerNo.{ServerNo}
+use Rattle.server_words.specs.declared.attach.Spot.{Spot}
+use Rattle.commands.specs.declared.cause.Cause.{Cause}
+use Rattle.commands.specs.declared.cause.Cause.TheVariants as cause
+use Rattle.commands.specs.declared.line.Lost.TheVariants as lost
+use Rattle.recovery_plans.specs.declared.why.Miss.{Miss}
+use Rattle.recovery_plans.specs.declared.why.Miss.TheVariants as miss
+use Rattle.recovery_plans.specs.declared.why.Why.{Why}
+use Rattle.recovery_plans.specs.declared.why.Why.TheVariants.{Lost, Unmatched}
+
+abbrev pub ahead : Coord → Why
+ahead c = Lost (lost.Ahead c)
+
+abbrev pub behind : Coord → Why
+behind c = Lost (lost.Behind c)
+
+abbrev pub purged : Coord → Why
+purged c = Lost (lost.Purged c)
+
+abbrev pub unreachable : Why
+unreachable = Lost lost.Unreachable
+
+abbrev pub moved : Spot → Why
+moved s = Lost (lost.Moved s)
+
+abbrev pub not_logging : Why
+not_logging = Lost lost.NotLogging
+
+abbrev pub must_not : Why
+must_not = Lost lost.MustNot
+
+abbrev pub unmatched : Miss → Why
+unmatched m = Unmatched m
+
+-- the cause that a replica met
+abbrev pub cause_of : ServerNo → Miss → Cause
+cause_of n (miss.Unreachable k) = cause.Unreachable k
+cause_of n miss.Running = cause.Running n
+cause_of n (miss.Interfered expected found) = cause.Interfered n expected found
+cause_of n miss.Loop = cause.Loop n
+cause_of n (miss.Purged first) = cause.Purged n first
+cause_of n miss.NoMark = cause.NoMark n
+cause_of n (miss.Mismatch entry) = cause.Mismatch n entry

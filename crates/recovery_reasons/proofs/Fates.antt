@@ -1,0 +1,156 @@
+-- Nobody is lost since none may be promoted, but where nobody is found.
+use Rattle.std.proofs.Common.{◌≡◌, ◌+◌, Bool, true, false, cond, not, List, [], ◌∷◌, ◌++◌, map, refl, sym, ap, Option, Some, None}
+use Rattle.std.specs.Prelude.{◌==◌}
+use Rattle.std.proofs.lemmas.Option.{same_Some}
+use Rattle.std.proofs.lemmas.List.Elements.{All-append, All-cons, All-head, All-nil, All-push, All-tail}
+use Rattle.orch_base.specs.declared.server.ServerNo.{ServerNo}
+use Rattle.binlog_coords.specs.Log.{same_coord}
+use Rattle.commands.specs.declared.cause.Cause.{Cause}
+use Rattle.commands.specs.declared.cause.Cause.TheVariants as cause
+use Rattle.instance_keeper.specs.declared.bridge.Bridge.{Bridge}
+use Rattle.instance_keeper.specs.Book.{BookState}
+use Rattle.server_model.specs.Worlds.{World, server_at}
+use Rattle.operations.specs.declared.sight.Position.{Position}
+use Rattle.replica_groups.specs.declared.groups.Group.{Group}
+use Rattle.replica_groups.specs.declared.groups.Group.TheVariants as group
+use Rattle.replica_groups.specs.Groups.{group_of}
+use Rattle.recovery_plans.specs.declared.outcome.LostReplica.{LostReplica}
+use Rattle.recovery_plans.specs.declared.outcome.Stopped.{Stopped}
+use Rattle.recovery_plans.specs.declared.purpose.Purpose.{Purpose}
+use Rattle.recovery_plans.specs.declared.purpose.Purpose.TheVariants as purpose
+use Rattle.recovery_plans.specs.declared.stage.Stage.{Stage}
+use Rattle.recovery_plans.specs.declared.stage.Stage.TheVariants as stage
+use Rattle.recovery_plans.specs.declared.task.Way.{Way}
+use Rattle.recovery_plans.specs.declared.task.Way.TheVariants as way
+use Rattle.recovery_plans.specs.Deciding as deciding
+use Rattle.recovery_plans.specs.Deciding.{Lot, losses_in, lot_by, lot_by_group, lot_of, own_end_of, stay_of}
+use Rattle.recovery_plans.specs.Moves.{late, stray}
+use Rattle.recovery_plans.specs.Taking as taking
+use Rattle.recovery_plans.specs.Taking.{Fate, Loss, fate, fate_of_drain, fate_of_errant, fate_of_trail, is_below, loss_of, lost_on_way, marked, match_fate, missed_fate, move_fate, place_on, spot_by, spot_seen, way_fate}
+use Rattle.recovery_reasons.specs.OnWay.{AllFit, is_unfit}
+use Rattle.recovery_plans.specs.declared.means.Means.{Means}
+use Rattle.recovery_plans.specs.declared.means.Means.TheVariants as means
+use Rattle.recovery_plans.specs.declared.why.Miss.{Miss}
+use Rattle.recovery_plans.specs.declared.why.Miss.TheVariants as miss
+use Rattle.recovery_plans.specs.declared.why.Why.{Why}
+use Rattle.recovery_plans.specs.Whys as lost
+
+-- ---- the lost
+
+abbrev pub IsFitLost : LostReplica → Type 0
+IsFitLost l = is_unfit l.why ≡ false
+
+pub one-more : (xs : List LostReplica) (n : ServerNo) (y : Why) → AllFit xs → is_unfit y ≡ false → AllFit (xs ++ record { no = n; why = y; detached = false } ∷ [])
+one-more xs n y all fit = All-push IsFitLost xs (record { no = n; why = y; detached = false }) all fit
+
+pub fit-lots : (lot : Stopped → Lot) → ((s : Stopped) → AllFit (stay_of s (lot s))) → (ss : List Stopped) → AllFit (losses_in lot ss)
+fit-lots lot each [] = All-nil IsFitLost
+fit-lots lot each (s ∷ ss) = All-append IsFitLost (stay_of s (lot s)) (losses_in lot ss) (each s) (fit-lots lot each ss)
+
+-- beside the chosen one each goes some way, or is ahead or behind
+fit-lot : (w : World) (b : BookState) (f : ServerNo) (p s : Stopped) → AllFit (stay_of s (lot_of w b f p s))
+fit-lot w b f p s = go w.gtid
+  where
+    single : (y : Why) → is_unfit y ≡ false → AllFit (record { no = s.no; why = y; detached = false } ∷ [])
+    single y fit = All-cons IsFitLost (record { no = s.no; why = y; detached = false }) [] fit (All-nil IsFitLost)
+
+    by-group : (g : Group) → AllFit (stay_of s (lot_by_group p.no f s g))
+    by-group (group.Follow at) = All-nil IsFitLost
+    by-group group.Ahead = single (lost.ahead s.exec) refl
+    by-group group.Behind = single (lost.behind s.exec) refl
+
+    go : (a : Bool) → AllFit (stay_of s (cond a (deciding.Goes (way.Auto p.no s.exec)) (lot_by_group p.no f s (group_of b.rings p.no (own_end_of p) p.exec f s.exec))))
+    go true = All-nil IsFitLost
+    go false = by-group (group_of b.rings p.no (own_end_of p) p.exec f s.exec)
+
+pub fit-lots-by : (u : Means) (w : World) (b : BookState) (f : ServerNo) (p s : Stopped) → AllFit (stay_of s (lot_by u w b f p s))
+fit-lots-by means.Bridges w b f p s = fit-lot w b f p s
+fit-lots-by (means.Matches every) w b f p s = All-nil IsFitLost
+
+pub fit-marked : (n : ServerNo) (xs : List LostReplica) → AllFit xs → AllFit (map (marked n) xs)
+fit-marked n [] all = All-nil IsFitLost
+fit-marked n (l ∷ ls) all = All-cons IsFitLost (marked n l) (map (marked n) ls) (go (l.no.0 == n.0)) (fit-marked n ls (All-tail IsFitLost l ls all))
+  where
+    go : (a : Bool) → IsFitLost (cond a (record l { detached = true }) l)
+    go true = All-head IsFitLost l ls all
+    go false = All-head IsFitLost l ls all
+
+pub fit-stray : (f : ServerNo) (o : Option Position) (y : Why) → stray f o ≡ Some y → is_unfit y ≡ false
+fit-stray f None y e = ap is_unfit (sym (same_Some lost.unreachable y e))
+fit-stray f (Some s) y e = go (is_below s f) e
+  where
+    go : (a : Bool) → cond a None (Some (lost.moved (spot_seen s.source s.exec))) ≡ Some y → is_unfit y ≡ false
+    go true h = cc
+    go false h = ap is_unfit (sym (same_Some (lost.moved (spot_seen s.source s.exec)) y h))
+
+pub fit-late : (x : Bridge) (o : Option Position) (y : Why) → late x o ≡ Some y → is_unfit y ≡ false
+fit-late x None y e = ap is_unfit (sym (same_Some lost.unreachable y e))
+fit-late x (Some s) y e = go (same_coord s.exec x.exec) e
+  where
+    go : (a : Bool) → cond a None (Some (lost.behind s.exec)) ≡ Some y → is_unfit y ≡ false
+    go true h = cc
+    go false h = ap is_unfit (sym (same_Some (lost.behind s.exec) y h))
+
+-- no failing operation tells of one that may not be promoted
+abbrev pub FitFate : Fate → Type 0
+FitFate taking.Fails = Unit {0}
+FitFate taking.Drops = Unit {0}
+FitFate (taking.Loses n y) = is_unfit y ≡ false
+FitFate (taking.Frees n y) = is_unfit y ≡ false
+FitFate (taking.Goes s ops) = Unit {0}
+
+fit-drain : (n : ServerNo) (c : Cause) → FitFate (fate_of_drain n c)
+fit-drain n (cause.Unreachable m) = refl
+fit-drain n c = tt
+
+fit-trail : (w : World) (n : ServerNo) (c : Cause) → FitFate (fate_of_trail w n c)
+fit-trail w n (cause.Unreachable m) = refl
+fit-trail w n (cause.WaitSpent m) = refl
+fit-trail w n c = tt
+
+fit-way : (u : Purpose) (n : ServerNo) (y : Why) → is_unfit y ≡ false → FitFate (lost_on_way u n y)
+fit-way purpose.Regroup n y h = h
+fit-way purpose.Master n y h = h
+fit-way (purpose.Intermediate s) n y h = h
+fit-way (purpose.Takeover d) n y h = h
+
+fit-errant : (u : Purpose) (n : ServerNo) (by : Way) → FitFate (fate_of_errant u n by)
+fit-errant u n (way.Auto to exec) = fit-way u n (lost.ahead exec) refl
+fit-errant u n (way.Down b) = tt
+fit-errant u n (way.Up b) = tt
+fit-errant u n (way.Match to exec every) = tt
+
+fit-missed : (w : World) (u : Purpose) (n : ServerNo) (by : Way) (m : Miss) → FitFate (missed_fate w u n by m)
+fit-missed w u n by (miss.Unreachable k) = fit-way u n lost.unreachable refl
+fit-missed w u n by miss.Running = fit-way u n (lost.moved (spot_by (server_at w n.0))) refl
+fit-missed w u n by (miss.Interfered expected found) = fit-way u n (lost.moved found) refl
+fit-missed w u n by miss.Loop = tt
+fit-missed w u n by (miss.Purged first) = fit-way u n (lost.purged (place_on by)) refl
+fit-missed w u n by miss.NoMark = tt
+fit-missed w u n by (miss.Mismatch entry) = tt
+
+fit-move : (w : World) (u : Purpose) (n : ServerNo) (by : Way) (l : Option Loss) → FitFate (move_fate w u n by l)
+fit-move w u n by None = tt
+fit-move w u n by (Some taking.Spent) = tt
+fit-move w u n by (Some taking.Differs) = fit-errant u n by
+fit-move w u n by (Some (taking.Missed m)) = fit-missed w u n by m
+
+fit-match : (n : ServerNo) (l : Option Loss) → FitFate (match_fate n l)
+fit-match n None = tt
+fit-match n (Some taking.Spent) = tt
+fit-match n (Some taking.Differs) = tt
+fit-match n (Some (taking.Missed m)) = refl
+
+fit-by : (w : World) (u : Purpose) (n : ServerNo) (by : Way) (l : Option Loss) → FitFate (way_fate w u n by l)
+fit-by w u n (way.Down x) l = fit-move w u n (way.Down x) l
+fit-by w u n (way.Up x) l = fit-move w u n (way.Up x) l
+fit-by w u n (way.Auto to exec) l = fit-move w u n (way.Auto to exec) l
+fit-by w u n (way.Match to exec every) l = fit-match n l
+
+pub fit-fate : (w : World) (u : Purpose) (s : Stage) (c : Cause) → FitFate (fate w u s c)
+fit-fate w u (stage.Drain n) c = fit-drain n c
+fit-fate w u (stage.Move n by) c = fit-by w u n by (loss_of c)
+fit-fate w u (stage.Join n p) c = refl
+fit-fate w u (stage.Look n x) c = fit-trail w n c
+fit-fate w u (stage.Trail n x) c = fit-trail w n c
+fit-fate w u s c = tt

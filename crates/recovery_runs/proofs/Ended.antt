@@ -1,0 +1,70 @@
+-- A recovery that a hook ended has changed no server.
+use Rattle.std.proofs.Common.{◌≡◌, ℕ, List, subst, Option, Some, None, ◌⊎◌, inl, inr}
+use Rattle.std.specs.Prelude.{◌==◌}
+use Rattle.commands.specs.declared.cause.Cause.{Cause}
+use Rattle.commands.specs.declared.cause.Cause.TheVariants as cause
+use Rattle.commands.specs.declared.line.Line.{Line}
+use Rattle.hook_laws.specs.Tended.{IsEarly}
+use Rattle.instance_keeper.specs.Book.{BookState}
+use Rattle.job_laws.proofs.Lists.{All-find}
+use Rattle.jobs_in_flight.proofs.Numbers.{found-number}
+use Rattle.kept_rows.specs.declared.row.Row.{Row}
+use Rattle.orch_base.specs.Memory.{next_count}
+use Rattle.orch_base.specs.declared.server.Moment.{Moment}
+use Rattle.orch_core.specs.States.{State}
+use Rattle.recovery_hooks.specs.Runs.{HookState}
+use Rattle.recovery_plans.specs.Deciding.{decided}
+use Rattle.recovery_plans.specs.Recoveries.{Recovery}
+use Rattle.run_laws.specs.Flights.{moment_at}
+use Rattle.run_laws.specs.Runs.{ComesTo}
+use Rattle.scenarios.specs.declared.scenario.Scenario.{Scenario}
+use Rattle.server_model.specs.Worlds.{World}
+use Rattle.unended_jobs.specs.Hooked.{front_hook}
+use Rattle.unended_jobs.specs.Unended.{number_of}
+use Rattle.unended_jobs.specs.declared.docket.Docket.{Docket}
+use Rattle.unended_jobs.specs.declared.unended.Unended.{Unended}
+use Rattle.unended_jobs.specs.declared.unended.Unended.TheVariants as unended
+use Rattle.recovery_runs.specs.Failing.{FailsTruly, IsEndedByHook, IsFailing, StopsTruly, Nobody, Reached, Sourced, Fatal}
+use Rattle.recovery_runs.specs.Finishes.{IsFailure}
+use Rattle.recovery_runs.specs.Origins.{StaysStill}
+use Rattle.recovery_runs.specs.RunFinishes.{FailsWell}
+use Rattle.recovery_runs.proofs.Failing.{fail-comes}
+use Rattle.recovery_runs.proofs.HookTellings.{early-still, failure-tells, failure-told}
+use Rattle.recovery_runs.proofs.Origins.{Step}
+use Rattle.recovery_runs.proofs.Still.{HasStill}
+use Rattle.recovery_runs.proofs.Tending.{begun, tends-comes}
+
+module _ (w : World) (b : BookState) (read : ℕ) (now : Moment) (r d : Recovery) (number exit : ℕ) where
+  no-hook : (c : Cause) → c ≡ cause.HookFailed number exit → FailsTruly w b read now r d c → ⊥
+  no-hook c is (Nobody none has) = cc
+  no-hook c is (Reached seen at shows) = cc
+  no-hook c is (Sourced x seen at shows has) = cc
+  no-hook c is (Fatal stops fatal) = (subst (λ (k : Cause). StopsTruly w read now d k) is stops).befell
+
+module _ (s : Scenario) (xs : List Step) (now : State) (comes : ComesTo s xs now) where
+  -- one of the hooks before it was due
+  hook-early : (id : ℕ) (r : Recovery) (docket : Docket) (c : Cause) (lines : List Line) (number exit : ℕ) → c ≡ cause.HookFailed number exit → IsFailure now id r docket c lines
+      → (h : HookState) × (docket.hooks ≡ Some h) × IsEarly h
+  hook-early id r docket c lines number exit same is =
+      go (fail-comes s xs now comes id r docket (record { cause = c; lines = lines }) is.found (failure-told now id r docket (tends-comes s xs now comes).cares.tended c lines is))
+    where
+      go : ((front_hook docket.hooks ≡ None) × IsFailing now.world now.book (next_count now.reads) (moment_at now) r c) ⊎ IsEndedByHook docket c → (h : HookState) × (docket.hooks ≡ Some h) × IsEarly h
+      go (inl (front, failing)) = absurd (no-hook now.world now.book (next_count now.reads) (moment_at now) r (decided now.world now.book (moment_at now) r) number exit c same failing)
+      go (inr ended) = (ended.hooks, ended.runs, inr (ended.hook, ended.due))
+
+  -- what the turn in which one fails tells
+  pub failure-comes : (rows : List Row) (id : ℕ) (r : Recovery) (docket : Docket) (c : Cause) (lines : List Line) → IsFailure now id r docket c lines
+      → FailsWell (begun s xs now comes) xs rows now id r docket c lines
+  failure-comes rows id r docket c lines is =
+      let t = tends-comes s xs now comes in
+      let mine = All-find (HasStill (begun s xs now comes) xs) (λ (k : Unended). number_of k == id) now.jobs (unended.Recovery r docket) t.stills is.found in
+      record {
+        reply = failure-told now id r docket t.cares.tended c lines is;
+        hooks = failure-tells now id r docket t.cares.tended c lines is;
+        began = mine.0;
+        still = λ number exit same.
+            let early = hook-early id r docket c lines number exit same is in (
+              subst (λ (n : ℕ). StaysStill mine.0.place n (begun s xs now comes) xs) (found-number now.jobs id (unended.Recovery r docket) is.found) (mine.1 early.0 early.1 early.2),
+              early-still now id r docket t.cares.tended rows early.0 is.found early.1 early.2,
+            );
+      }

@@ -1,0 +1,220 @@
+-- A recovery fails for what befell it.
+use Rattle.std.proofs.Common.{◌≡◌, ◌∙◌, ◌+◌, ℕ, Bool, true, false, cond, List, [], ◌∷◌, refl, sym, ap, subst, Option, Some, None, ◌⊎◌, inl, inr}
+use Rattle.std.specs.Option.{option_map}
+use Rattle.std.specs.Prelude.{◌==◌, IfSome, All}
+use Rattle.std.proofs.lemmas.Bool.{eq-eqb, false≢true}
+use Rattle.std.proofs.lemmas.Option.{same_Some}
+use Rattle.std.proofs.lemmas.List.Elements.{All-head}
+use Rattle.orch_base.specs.Memory.{next_count}
+use Rattle.orch_base.specs.Names.{HostPort}
+use Rattle.orch_base.specs.declared.server.Moment.{Moment}
+use Rattle.orch_base.specs.declared.server.ServerNo.{ServerNo}
+use Rattle.hook_texts.specs.declared.hooks.Hook.{Hook}
+use Rattle.server_words.specs.declared.status.Status.{Status}
+use Rattle.commands.specs.declared.cause.Cause.{Cause}
+use Rattle.commands.specs.declared.cause.Cause.TheVariants as cause
+use Rattle.commands.specs.declared.line.Line.{Line}
+use Rattle.kept_rows.specs.Seeing.{seen_in}
+use Rattle.kept_rows.specs.declared.observation.Observation.{Observation}
+use Rattle.instance_keeper.specs.Book.{BookState}
+use Rattle.server_model.specs.Gtids.{status}
+use Rattle.server_model.specs.Run.{Exchange}
+use Rattle.server_model.specs.Worlds.{World, has_source}
+use Rattle.operations.specs.declared.op.Op.{Op}
+use Rattle.operations.specs.declared.op.Op.TheVariants as op
+use Rattle.operations.specs.declared.sight.Position.{Position}
+use Rattle.operations.specs.declared.step.JobStep.{JobStep}
+use Rattle.operations.specs.declared.step.JobStep.TheVariants as step
+use Rattle.operations.specs.Deeds.{Deed, deed_of}
+use Rattle.operations.specs.Jobs.{Job, position_of, seen_of}
+use Rattle.operations.specs.Turns as attempt
+use Rattle.operations.specs.Turns.{Attempt, by_deed}
+use Rattle.job_laws.proofs.Lists.{All-find}
+use Rattle.cause_laws.proofs.Turning.{stopped-befell}
+use Rattle.recovery_plans.specs.declared.stage.Stage.{Stage}
+use Rattle.recovery_plans.specs.declared.stage.Stage.TheVariants as stage
+use Rattle.recovery_plans.specs.Deciding.{decided}
+use Rattle.recovery_plans.specs.Named.{spoken_to}
+use Rattle.recovery_plans.specs.Recoveries.{Recovery}
+use Rattle.recovery_plans.specs.Table as table
+use Rattle.recovery_plans.specs.Table.{info}
+use Rattle.recovery_plans.specs.Taking as taking
+use Rattle.recovery_plans.specs.Taking.{Fate, Taken, acted, attempted, barred_by, fate, met, on_going, source_cause, taken}
+use Rattle.recovery_plans.proofs.Walking.{decided-walks, decisions-keep}
+use Rattle.recovery_hooks.specs.Runs.{HookState, failed_lines, ran_before}
+use Rattle.recovery_reasons.specs.Causes.{IsTrueOf}
+use Rattle.recovery_reasons.specs.Nobody.{HasNobody}
+use Rattle.recovery_reasons.specs.OnWay.{IsOnWay}
+use Rattle.recovery_reasons.proofs.Causing.{cause-true}
+use Rattle.recovery_reasons.proofs.Nobody.{finds-nobody}
+use Rattle.recovery_reasons.proofs.OnWay.{Fine, decides-fine, still-on}
+use Rattle.recovery_reasons.proofs.Readings.{ReadsNow, ShowsNow, read-now}
+use Rattle.turns.specs.declared.reply.Failure.{Failure}
+use Rattle.turns.specs.declared.reply.Reply.TheVariants as answered
+use Rattle.turns.specs.declared.turn.Act.TheVariants as act
+use Rattle.turns.specs.declared.turn.Turn.TheVariants as turn
+use Rattle.scenarios.specs.declared.scenario.Scenario.{Scenario}
+use Rattle.unended_jobs.specs.declared.docket.Docket.{Docket}
+use Rattle.unended_jobs.specs.declared.unended.Unended.{Unended}
+use Rattle.unended_jobs.specs.declared.unended.Unended.TheVariants as unended
+use Rattle.unended_jobs.specs.Hooked.{front_hook, front_turn, promoted_in, rear_hook, rear_turn, step_before, step_with, with_hooks}
+use Rattle.unended_jobs.specs.Unended.{number_of}
+use Rattle.jobs_in_flight.specs.Jobs.{job_at, job_reply, step_reply}
+use Rattle.covered_laws.specs.Beside.{IsSpeakingBeside}
+use Rattle.orch_core.specs.Jobs.{turn_of}
+use Rattle.orch_core.specs.Replies.{reply_of}
+use Rattle.orch_core.specs.States.{State}
+use Rattle.run_laws.specs.Runs.{ComesTo}
+use Rattle.recovery_runs.specs.Failing as failing
+use Rattle.recovery_runs.specs.Failing.{FailsTruly, IsEndedByHook, IsFailing, RecoveriesFailForWhatBefell, ShowsFailed}
+use Rattle.recovery_runs.specs.States.{SpeakingState}
+use Rattle.recovery_runs.proofs.Origins.{Step}
+use Rattle.recovery_runs.proofs.Tending.{tends-comes}
+
+-- ---- its own turn
+
+-- as it was decided so
+module _ (w : World) (b : BookState) (read : ℕ) (now : Moment) (r so : Recovery) (fine : Fine so) (found : so.core.ops ≡ [] → HasNobody w b now r so) where
+  abbrev IsFirst : Op → Type 0
+  IsFirst x = x ≡ op.Status so.failed None
+
+  module _ (o : Op) (rest : List Op) (is : so.core.ops ≡ o ∷ rest) where
+    on : IsOnWay so
+    on = still-on so o rest is fine
+
+    -- where what is seen may end it, its operation is a status of the failed server
+    first : ((info so.stage).bar ≡ table.Never → ⊥) → IsFirst o
+    first barred = go on.course.stage.first
+      where
+        go : ((info so.stage).bar ≡ table.Never) ⊎ All IsFirst so.core.ops → IsFirst o
+        go (inl never) = absurd (barred never)
+        go (inr all) = All-head IsFirst o rest (subst (λ (xs : List Op). All IsFirst xs) is all)
+
+    -- which shows it, and notes where it stands
+    shown : IsFirst o → (ob : Option Observation) (es : List Exchange) (j : Job) → by_deed w read now so.core rest (deed_of o) ≡ attempt.Goes ob es j → ShowsNow w j.seen so.failed
+    shown same ob es j goes =
+        subst (λ (a : Attempt). ReadsNow w so.failed a) (subst (λ (x : Op). by_deed w read now so.core rest (deed_of x) ≡ attempt.Goes ob es j) same goes)
+        (read-now w read now so.core rest so.failed)
+
+    shows-failed : (same : IsFirst o) (s : Status) → seen_in (status w so.failed.0) ≡ Some s → ShowsFailed w so s
+    shows-failed same s shows = record { rest = rest; due = is ∙ ap (λ (x : Op). x ∷ rest) same; shows = shows }
+
+    barred-truly : (ob : Option Observation) (es : List Exchange) (j : Job) (c : Cause) → by_deed w read now so.core rest (deed_of o) ≡ attempt.Goes ob es j → (s : Stage) → so.stage ≡ s → barred_by s so.failed j.seen ≡ Some c
+        → FailsTruly w b read now r so c
+    barred-truly ob es j c goes stage.Check at h =
+        let same = first (λ never. let bad : table.Reached ≡ table.Never = sym (ap (λ (k : Stage). (info k).bar) at) ∙ never in cc) in
+        let y = shown same ob es j goes in
+        subst (FailsTruly w b read now r so) (same_Some (cause.Reachable so.failed) c h) (failing.Reached y.0 at (shows-failed same y.0 y.1))
+    barred-truly ob es j c goes (stage.Meet m x) at h =
+        let same = first (λ never. let bad : table.Sourced m ≡ table.Never = sym (ap (λ (k : Stage). (info k).bar) at) ∙ never in cc) in
+        let y = shown same ob es j goes in
+        let who : m ≡ so.failed = (on.course.stage.meets m x (inl at)).0 in
+        let there : so.stage ≡ stage.Meet so.failed x = at ∙ ap (λ (n : ServerNo). stage.Meet n x) who in
+        let seen : source_cause so.failed (Some (position_of y.0)) ≡ Some c = ap (source_cause so.failed) (sym y.2) ∙ (ap (λ (n : ServerNo). source_cause n (seen_of j.seen n.0)) (sym who) ∙ h) in
+        go y.0 (shows-failed same y.0 y.1) there (has_source y.0.source) refl seen
+      where
+        go : (s : Status) → ShowsFailed w so s → so.stage ≡ stage.Meet so.failed x → (a : Bool) → has_source s.source ≡ a → cond a (Some (cause.Moved so.failed s.source)) None ≡ Some c → FailsTruly w b read now r so c
+        go s shows there true has e = subst (FailsTruly w b read now r so) (same_Some (cause.Moved so.failed s.source) c e) (failing.Sourced x s there shows has)
+        go s shows there false has e = cc
+    barred-truly ob es j c goes s at h = cc
+
+    true-of : (x : Deed) (c : Cause) (ob : Option Observation) → by_deed w read now so.core rest x ≡ attempt.Stops c ob → (q : Option ServerNo) → spoken_to x ≡ q → IfSome q (λ n. IsTrueOf w n c)
+    true-of x c ob stops None e = tt
+    true-of x c ob stops (Some n) e = cause-true w read now so.core rest x n c ob e stops
+
+    stopped-truly : (c : Cause) (ob : Option Observation) → by_deed w read now so.core rest (deed_of o) ≡ attempt.Stops c ob → fate w so.purpose so.stage c ≡ taking.Fails → FailsTruly w b read now r so c
+    stopped-truly c ob stops fatal =
+        failing.Fatal
+        (record {
+          op = o;
+          rest = rest;
+          observation = ob;
+          stops = record { ops = is; stops = stops };
+          befell = stopped-befell w read now so.core rest (deed_of o) c ob stops;
+          truth = true-of (deed_of o) c ob stops (spoken_to (deed_of o)) refl;
+        })
+        fatal
+
+  module _ (c : Cause) (lines : List Line) where
+    abbrev Failed : JobStep → Type 0
+    Failed x = x ≡ step.Failed c lines
+
+    at-fate : (o : Op) (rest : List Op) (is : so.core.ops ≡ o ∷ rest) (k : Cause) (ob : Option Observation) → by_deed w read now so.core rest (deed_of o) ≡ attempt.Stops k ob → (f : Fate) → fate w so.purpose so.stage k ≡ f
+        → Failed (met w so k ob f).step → FailsTruly w b read now r so c
+    at-fate o rest is k ob stops taking.Fails e h = let same : k ≡ c = cc in subst (FailsTruly w b read now r so) same (stopped-truly o rest is k ob stops e)
+    at-fate o rest is k ob stops taking.Drops e h = cc
+    at-fate o rest is k ob stops (taking.Loses n y) e h = cc
+    at-fate o rest is k ob stops (taking.Frees n y) e h = cc
+    at-fate o rest is k ob stops (taking.Goes s ops) e h = cc
+
+    at-bar : (o : Op) (rest : List Op) (is : so.core.ops ≡ o ∷ rest) (ob : Option Observation) (es : List Exchange) (j : Job) → by_deed w read now so.core rest (deed_of o) ≡ attempt.Goes ob es j → (x : Option Cause)
+        → barred_by so.stage so.failed j.seen ≡ x → Failed (on_going w so o ob es j x).step → FailsTruly w b read now r so c
+    at-bar o rest is ob es j goes None e h = cc
+    at-bar o rest is ob es j goes (Some k) e h = let same : k ≡ c = cc in subst (FailsTruly w b read now r so) same (barred-truly o rest is ob es j k goes so.stage refl e)
+
+    at-op : (o : Op) (rest : List Op) (is : so.core.ops ≡ o ∷ rest) (a : Attempt) → by_deed w read now so.core rest (deed_of o) ≡ a → Failed (attempted w so o a).step → FailsTruly w b read now r so c
+    at-op o rest is (attempt.Goes ob es j) e h = at-bar o rest is ob es j e (barred_by so.stage so.failed j.seen) refl h
+    at-op o rest is (attempt.Stops k ob) e h = at-fate o rest is k ob e (fate w so.purpose so.stage k) refl h
+    at-op o rest is (attempt.Ends ls) e h = cc
+
+    at-ops : (ops : List Op) → so.core.ops ≡ ops → Failed (acted w read now so ops).step → FailsTruly w b read now r so c
+    at-ops [] is h = let same : cause.NoCandidate ≡ c = cc in subst (FailsTruly w b read now r so) same (failing.Nobody is (found is))
+    at-ops (o ∷ rest) is h = at-op o rest is (by_deed w read now so.core rest (deed_of o)) refl h
+
+fails-truly : (w : World) (b : BookState) (read : ℕ) (now : Moment) (r : Recovery) → IsOnWay r → (c : Cause) (lines : List Line) → (taken w b read now r).step ≡ step.Failed c lines → IsFailing w b read now r c
+fails-truly w b read now r way c lines h =
+    at-ops w b read now r (decided w b now r) (decisions-keep w b now Fine (decides-fine w b now) (decided-walks w b now r) (inl way)) (finds-nobody w b now r way) c lines
+    (decided w b now r).core.ops refl h
+
+-- ---- with hooks
+
+module _ (d : Docket) (promoted : Option HostPort) (r : Recovery) (t : Taken) (f : Failure) where
+  -- its own turn failed for the same, whatever lines it tells
+  abbrev OwnFails : JobStep → Type 0
+  OwnFails x = (lines : List Line) × (x ≡ step.Failed f.cause lines)
+
+  own-fails : (o : Option HookState) (x : JobStep) → step_reply (step_with o promoted x) ≡ answered.Failed f → OwnFails x
+  own-fails None step.Going h = absurd cc
+  own-fails None (step.Done lines) h = absurd cc
+  own-fails None (step.Failed c lines) h = let same : c ≡ f.cause = cc in (lines, ap (λ (k : Cause). step.Failed k lines) same)
+  own-fails (Some s) step.Going h = absurd cc
+  own-fails (Some s) (step.Done lines) h = absurd cc
+  own-fails (Some s) (step.Failed c lines) h = let same : c ≡ f.cause = cc in (lines, ap (λ (k : Cause). step.Failed k lines) same)
+
+  rear-fails : (o : Option Hook) → step_reply (rear_turn d promoted r t o).taken.step ≡ answered.Failed f → OwnFails t.step
+  rear-fails None h = own-fails d.hooks t.step h
+  rear-fails (Some k) h = absurd cc
+
+  -- or the hook before it ended it
+  hook-ends : (o : Option HookState) (k : Hook) → d.hooks ≡ o → front_hook o ≡ Some k → step_reply (step_before o k) ≡ answered.Failed f → IsEndedByHook d f.cause
+  hook-ends None k runs due h = absurd cc
+  hook-ends (Some s) k runs due h = go (k.exit == 0) refl h
+    where
+      go : (b : Bool) → (k.exit == 0) ≡ b → step_reply (cond b step.Going (step.Failed (cause.HookFailed (s.before + 1) k.exit) (failed_lines (ran_before s)))) ≡ answered.Failed f
+          → IsEndedByHook d f.cause
+      go true passes e = absurd cc
+      go false other e =
+          let same : cause.HookFailed (s.before + 1) k.exit ≡ f.cause = cc in
+          record { hooks = s; hook = k; runs = runs; due = due; exit = λ z. false≢true (sym other ∙ eq-eqb k.exit 0 z); told = sym same }
+
+  front-fails : (o : Option Hook) → front_hook d.hooks ≡ o → step_reply (front_turn d promoted r t o).taken.step ≡ answered.Failed f
+      → ((front_hook d.hooks ≡ None) × OwnFails t.step) ⊎ IsEndedByHook d f.cause
+  front-fails None due h = inl (due, rear-fails (rear_hook d.hooks t.step) h)
+  front-fails (Some k) due h = inr (hook-ends d.hooks k refl due h)
+
+recoveries-fail : (s : State) → SpeakingState s → RecoveriesFailForWhatBefell s
+recoveries-fail s speaking = λ id r d f found fails.
+    let now : Moment = record { 0 = s.moment } in
+    let t = taken s.world s.book (next_count s.reads) now r in
+    let way = (All-find IsSpeakingBeside (λ (k : Unended). number_of k == id) s.jobs (unended.Recovery r d) speaking.jobs found).way in
+    let said : step_reply (with_hooks d (promoted_in s.book t) r t).taken.step ≡ answered.Failed f = sym (ap (λ (o : Option Unended). job_reply (option_map (turn_of s) o)) found) ∙ fails in
+    go now r d f way (front-fails d (promoted_in s.book t) r t f (front_hook d.hooks) refl said)
+  where
+    go : (now : Moment) (r : Recovery) (d : Docket) (f : Failure) → IsOnWay r → ((front_hook d.hooks ≡ None) × OwnFails d None r (taken s.world s.book (next_count s.reads) now r) f (taken s.world s.book (next_count s.reads) now r).step) ⊎ IsEndedByHook d f.cause
+        → ((front_hook d.hooks ≡ None) × IsFailing s.world s.book (next_count s.reads) now r f.cause) ⊎ IsEndedByHook d f.cause
+    go now r d f way (inl x) = inl (x.0, fails-truly s.world s.book (next_count s.reads) now r way f.cause x.1.0 x.1.1)
+    go now r d f way (inr x) = inr x
+
+-- in every state of every run
+pub fail-comes : (s : Scenario) (xs : List Step) (now : State) → ComesTo s xs now → RecoveriesFailForWhatBefell now
+fail-comes s xs now comes = recoveries-fail now (tends-comes s xs now comes).cares.speaking

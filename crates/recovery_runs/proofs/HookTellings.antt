@@ -1,0 +1,67 @@
+-- What recoveries tell of their hooks in a state in which these are tended.
+use Rattle.std.proofs.Common.{◌≡◌, ◌∙◌, ◌+◌, ℕ, List, [], ◌++◌, refl, sym, ap, subst, Option, Some, None}
+use Rattle.std.specs.Prelude.{◌==◌}
+use Rattle.std.specs.Option.{option_map}
+use Rattle.commands.specs.declared.cause.Cause.{Cause}
+use Rattle.commands.specs.declared.line.Line.{Line}
+use Rattle.hook_laws.specs.Tended.{all_before, all_behind, IsEarly, IsTended}
+use Rattle.hook_laws.proofs.Checking.{tended-still}
+use Rattle.hook_laws.proofs.Telling.{done-docket, failed-docket, none-docket, reached-docket}
+use Rattle.job_laws.proofs.Lists.{All-find}
+use Rattle.jobs_in_flight.specs.Jobs.{job_at, job_reply, step_reply}
+use Rattle.kept_rows.specs.declared.row.Row.{Row}
+use Rattle.operations.specs.declared.step.JobStep.{JobStep}
+use Rattle.operations.specs.declared.step.JobStep.TheVariants as job_step
+use Rattle.orch_base.specs.Memory.{next_count}
+use Rattle.orch_core.specs.After.{step}
+use Rattle.orch_core.specs.Jobs.{turn_of}
+use Rattle.orch_core.specs.Replies.{reply_of}
+use Rattle.orch_core.specs.States.{State}
+use Rattle.recovery_hooks.specs.Runs.{HookState}
+use Rattle.recovery_plans.specs.Recoveries.{Recovery}
+use Rattle.run_laws.specs.Flights.{moment_at}
+use Rattle.server_model.specs.Run.{run, Exchange}
+use Rattle.turns.specs.declared.reply.Reply.TheVariants as answered
+use Rattle.turns.specs.declared.turn.Act.TheVariants as act
+use Rattle.turns.specs.declared.turn.Turn.TheVariants as turn
+use Rattle.unended_jobs.specs.Unended.{number_of}
+use Rattle.unended_jobs.specs.declared.docket.Docket.{Docket}
+use Rattle.unended_jobs.specs.declared.unended.Unended.{Unended}
+use Rattle.unended_jobs.specs.declared.unended.Unended.TheVariants as unended
+use Rattle.recovery_runs.specs.Finishes.{done_with, own_lines, promoted_then, ran_lines, told_hooks, turn_hooked, turn_taken, IsFailure, IsFinish, TellsFailed}
+use Rattle.recovery_runs.specs.States.{IsTendedBeside, TendedState}
+use Rattle.recovery_runs.proofs.Finishing.{lines-own, world-hooked}
+
+module _ (s : State) (id : ℕ) (r : Recovery) (docket : Docket) (tended : TendedState s) where
+  mine : job_at s.jobs id ≡ Some (unended.Recovery r docket) → (h : HookState) → docket.hooks ≡ Some h → IsTended r h
+  mine found = All-find IsTendedBeside (λ (k : Unended). number_of k == id) s.jobs (unended.Recovery r docket) tended.jobs found
+
+  pub finish-tells : (lines : List Line) → IsFinish s id r docket lines → lines ≡ own_lines s r ++ told_hooks docket.hooks (promoted_then s r)
+  finish-tells lines is = go docket.hooks refl
+    where
+      go : (o : Option HookState) → docket.hooks ≡ o → lines ≡ own_lines s r ++ told_hooks o (promoted_then s r)
+      go None none =
+          lines-own s id r docket lines is ∙ ap (λ (o : Option HookState). own_lines s r ++ ran_lines o (promoted_then s r)) none
+      go (Some h) has =
+          let told = done-docket s.world s.book (next_count s.reads) (moment_at s) r docket h has (mine is.found h has) lines is.done in
+          told.2 ∙ ap (λ (ls : List Line). ls ++ (all_before h ++ all_behind h (promoted_then s r))) (sym (ap done_with told.1))
+
+  module _ (c : Cause) (lines : List Line) (is : IsFailure s id r docket c lines) where
+    pub failure-told : reply_of s (turn.Act (act.Job id)) ≡ answered.Failed (record { cause = c; lines = lines })
+    failure-told = ap (λ (o : Option Unended). job_reply (option_map (turn_of s) o)) is.found ∙ ap (λ (x : JobStep). step_reply x) is.failed
+
+    pub failure-tells : TellsFailed docket.hooks r.failed c lines
+    failure-tells = go docket.hooks refl
+      where
+        go : (o : Option HookState) → docket.hooks ≡ o → TellsFailed o r.failed c lines
+        go None none = none-docket s.world s.book (next_count s.reads) (moment_at s) r docket c lines none is.failed
+        go (Some h) has = record {
+          looked = λ looked. failed-docket s.world s.book (next_count s.reads) (moment_at s) r docket h has (mine is.found h has) looked c lines is.failed;
+          reached = λ fresh. reached-docket s.world s.book (next_count s.reads) (moment_at s) r docket h has (mine is.found h has) fresh c lines is.failed;
+        }
+
+  pub early-still : (rows : List Row) (h : HookState) → job_at s.jobs id ≡ Some (unended.Recovery r docket) → docket.hooks ≡ Some h → IsEarly h
+      → (step rows s (turn.Act (act.Job id))).world ≡ s.world
+  early-still rows h found has early =
+      world-hooked s id r docket found rows
+      ∙ ap (λ (es : List Exchange). run s.world es) (tended-still s.world s.book (next_count s.reads) (moment_at s) r docket h has (mine found h has) early)

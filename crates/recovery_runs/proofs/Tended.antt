@@ -1,0 +1,104 @@
+-- Each turn leaves the hooks of recoveries tended.
+use Rattle.std.proofs.Common.{◌≡◌, ◌∙◌, ℕ, true, List, refl, sym, ap, subst, Option, Some, None}
+use Rattle.std.specs.Prelude.{◌==◌, All}
+use Rattle.std.specs.Option.{option_map}
+use Rattle.std.proofs.lemmas.List.Elements.{All-nil}
+use Rattle.std.proofs.lemmas.Option.{none-some, same_Some}
+use Rattle.hook_laws.specs.Tended.{plan_of, IsOfDead, IsTended}
+use Rattle.hook_laws.proofs.Staying.{begun-tended, of-docket, tended-turn}
+use Rattle.job_laws.proofs.Lists.{All-find}
+use Rattle.jobs_in_flight.specs.Jobs.{job_at, jobs_turned}
+use Rattle.kept_rows.specs.declared.row.Row.{Row}
+use Rattle.operations.specs.Turns.{is_going}
+use Rattle.orch_base.specs.Memory.{next_count}
+use Rattle.orch_core.specs.After.{after_act, step as turn_step}
+use Rattle.orch_core.specs.HookTelling.{told_of}
+use Rattle.orch_core.specs.Jobs.{turn_of}
+use Rattle.orch_core.specs.Scenarios.{start}
+use Rattle.orch_core.specs.States.{State}
+use Rattle.book_views.specs.Sources.{label_at}
+use Rattle.recovery_hooks.specs.Runs.{begun_hooks, HookState}
+use Rattle.recovery_plans.specs.Beginning.{begun_recovery}
+use Rattle.recovery_plans.specs.Recoveries.{Recovery}
+use Rattle.recovery_plans.specs.declared.purpose.Purpose.{Purpose}
+use Rattle.recovery_plans.specs.declared.purpose.Purpose.TheVariants as purpose
+use Rattle.recovery_plans.specs.Taking.{taken}
+use Rattle.run_laws.specs.Flights.{moment_at}
+use Rattle.run_laws.specs.Ready.{Ready}
+use Rattle.scenarios.specs.Turns.{IsAct, IsTurn}
+use Rattle.scenarios.specs.declared.scenario.Scenario.{Scenario}
+use Rattle.turns.specs.declared.turn.Act.{Act}
+use Rattle.turns.specs.declared.turn.Act.TheVariants as act
+use Rattle.turns.specs.declared.turn.Turn.{Turn}
+use Rattle.turns.specs.declared.turn.Turn.TheVariants as turn
+use Rattle.unended_jobs.specs.Hooked.{hooked, promoted_in}
+use Rattle.unended_jobs.specs.Unended.{number_of}
+use Rattle.unended_jobs.specs.declared.docket.Docket.{Docket}
+use Rattle.unended_jobs.specs.declared.unended.Unended.{Unended}
+use Rattle.unended_jobs.specs.declared.unended.Unended.TheVariants as unended
+use Rattle.covered_laws.proofs.Turning.{all-turned}
+use Rattle.recovery_runs.specs.Begun.{AreHooksOf, BeginsOnce, HasHooks}
+use Rattle.recovery_runs.specs.States.{IsTendedBeside, TendedState}
+use Rattle.recovery_runs.proofs.Covering.{with-command, with-scan}
+
+-- ---- as they begin
+
+once-tended : (s : State) (u : Unended) → BeginsOnce s u → IsTendedBeside u
+once-tended s (unended.Plan j) once = tt
+once-tended s (unended.Recovery r docket) once = λ h at. go h at r.purpose refl once.hooks
+  where
+    of-dead : (h : HookState) → docket.hooks ≡ Some h → IsOfDead r.purpose → AreHooksOf s r.failed docket.hooks → IsTended r h
+    of-dead h at dead are =
+        let told = told_of s.configuration are.name (label_at s.book r.failed) are.code in
+        let begun = begun_hooks s.configuration.hooks told in
+        let same : begun ≡ h = same_Some begun h (sym are.hooks ∙ at) in
+        subst (λ (x : Recovery). IsTended x h) (sym once.fresh)
+        (subst (IsTended (begun_recovery r.purpose r.means r.core.id r.core.wait r.failed r.replicas r.order)) same
+        (begun-tended r.purpose r.means r.core.id r.core.wait r.failed r.replicas r.order s.configuration.hooks told dead))
+
+    go : (h : HookState) → docket.hooks ≡ Some h → (u : Purpose) → r.purpose ≡ u → HasHooks s u r.failed docket.hooks → IsTended r h
+    go h at purpose.Regroup is none = absurd (none-some h (sym none ∙ at))
+    go h at purpose.Master is are = of-dead h at (subst IsOfDead (sym is) tt) are
+    go h at (purpose.Intermediate n) is are = of-dead h at (subst IsOfDead (sym is) tt) are
+    go h at (purpose.Takeover d) is none = absurd (none-some h (sym none ∙ at))
+
+-- ---- a job's turn
+
+module _ (s : State) (id : ℕ) (tended : TendedState s) where
+  next-tended : (u : Unended) → IsTendedBeside u → is_going (turn_of s u).step ≡ true → IsTendedBeside (turn_of s u).next
+  next-tended (unended.Plan j) was going = tt
+  next-tended (unended.Recovery r docket) was going = λ k at. go k at docket.hooks refl
+    where
+      go : (k : HookState) → (hooked s.world s.book (next_count s.reads) (moment_at s) r docket).docket.hooks ≡ Some k → (o : Option HookState) → docket.hooks ≡ o
+          → IsTended (hooked s.world s.book (next_count s.reads) (moment_at s) r docket).taken.recovery k
+      go k at None none =
+          let t = taken s.world s.book (next_count s.reads) (moment_at s) r in
+          absurd (none-some (k.hooks, k.told) (sym (ap plan_of none) ∙ (sym (of-docket docket (promoted_in s.book t) r t).hooks ∙ ap plan_of at)))
+      go k at (Some h) has = tended-turn s.world s.book (next_count s.reads) (moment_at s) r docket h k has (was h has) going at
+
+  turn-tended : (o : Option Unended) → job_at s.jobs id ≡ o → All IsTendedBeside (jobs_turned s.jobs id (option_map (turn_of s) o))
+  turn-tended None at = tended.jobs
+  turn-tended (Some u) at =
+      all-turned IsTendedBeside IsTendedBeside id (λ k apart h. h) s.jobs (turn_of s u)
+      (next-tended u (All-find IsTendedBeside (λ (k : Unended). number_of k == id) s.jobs u tended.jobs at)) tended.jobs
+
+-- ---- every turn
+
+tended-act : (count : ℕ) (rows : List Row) (s : State) (a : Act) → Ready count s → IsAct count a → TendedState s → TendedState (after_act rows s a)
+tended-act count rows s (act.PollRead p n) ready is tended = record { jobs = tended.jobs }
+tended-act count rows s (act.PollStore p) ready is tended = record { jobs = tended.jobs }
+tended-act count rows s (act.Command c) ready is tended = record { jobs = with-command IsTendedBeside count s (once-tended s) ready tended.jobs c is }
+tended-act count rows s (act.Job id) ready is tended = record { jobs = turn-tended s id tended (job_at s.jobs id) refl }
+tended-act count rows s act.Scan ready is tended = record { jobs = with-scan IsTendedBeside count s (once-tended s) ready tended.jobs }
+tended-act count rows s act.Restart ready is tended = record { jobs = All-nil IsTendedBeside }
+
+pub tended-step : (count : ℕ) (rows : List Row) (s : State) (t : Turn) → Ready count s → IsTurn count t → TendedState s → TendedState (turn_step rows s t)
+tended-step count rows s (turn.Step x) ready is tended = record { jobs = tended.jobs }
+tended-step count rows s (turn.Tick seconds) ready is tended = record { jobs = tended.jobs }
+tended-step count rows s (turn.Act a) ready is tended = tended-act count rows s a ready is tended
+tended-step count rows s (turn.As node a) ready is tended = absurd is
+tended-step count rows s (turn.Claim node) ready is tended = absurd is
+tended-step count rows s (turn.Release node) ready is tended = absurd is
+
+pub tended-start : (s : Scenario) (wait : ℕ) (rows : List Row) → TendedState (start s wait rows)
+tended-start s wait rows = record { jobs = All-nil IsTendedBeside }
